@@ -1,0 +1,35 @@
+-- What a call that may run out of memory answers.
+use Rattle.std.proofs.Common.{◌≡◌, ◌≢◌, Option, Some, None, Result, Ok, Err}
+use Rattle.std.specs.Prelude.{OnOk, IfOk, IfErr}
+use Rattle.base_values.specs.declared.error.EditError.{EditError}
+use Rattle.base_values.specs.declared.error.EditError.TheVariants.{NoMemory}
+
+-- the answer is the expected one, unless it is want of memory
+pub record Answers {T : Type 0} (result expected : Result T EditError) : Type 0 where
+  pub done : IfOk result (λ value. expected ≡ Ok value)
+  pub refused : IfErr result (λ error. error ≢ NoMemory → expected ≡ Err error)
+
+-- an edit makes the expected value, or refuses with the expected error, unless it is want of memory. A refusal leaves the value as it was
+pub record Edits {S : Type 0} (result : Result (Unit {0}) EditError) (old new : S) (expected : Result S EditError) : Type 0 where
+  pub done : OnOk result (expected ≡ Ok new)
+  pub refused : IfErr result (λ error. (new ≡ old) × (error ≢ NoMemory → expected ≡ Err error))
+
+-- the answer with a function of its value
+abbrev pub map_ok : {A B E : Type 0} → (A → B) → Result A E → Result B E
+map_ok f (Ok value) = Ok (f value)
+map_ok f (Err error) = Err error
+
+-- the value, or this error where there is none
+abbrev pub ok_or : {A E : Type 0} → E → Option A → Result A E
+ok_or error None = Err error
+ok_or error (Some value) = Ok value
+
+-- the answer of a second step on the value of the first
+abbrev pub and_then : {A B E : Type 0} → Result A E → (A → Result B E) → Result B E
+and_then (Ok value) f = f value
+and_then (Err error) f = Err error
+
+-- the value of an answer, if it has one
+abbrev pub value_of : {A E : Type 0} → Result A E → Option A
+value_of (Ok value) = Some value
+value_of (Err error) = None

@@ -1,0 +1,7 @@
+pub mod Answers
+pub mod Decided
+pub mod ErrorNames
+pub mod PositionEquals
+pub mod KeyMap
+pub mod Places
+pub mod CodedEq

@@ -1,0 +1,155 @@
+ghost use Rattle.std.specs.Prelude.{◌≡◌};
+ghost use Rattle.base_values.specs.declared.error.EditError.TheVariants.{NoMemory};
+
+use std::alloc::{AllocError, AllocFailed};
+use thiserror::Error;
+
+/// Why an edit, or a question about a workbook, is refused. A refused call changes nothing.
+#[derive(Clone, Copy, Debug, PartialEq, Eq, Error)]
+pub enum EditError {
+    #[error("there is not enough memory")]
+    NoMemory,
+    #[error("no sheet has that index")]
+    InvalidSheet,
+    #[error("the row is outside the sheet")]
+    InvalidRow,
+    #[error("the column is outside the sheet")]
+    InvalidColumn,
+    #[error("the area is empty, reaches outside the sheet, or is one cell where more are needed")]
+    InvalidArea,
+    #[error("the count of lines is below 1")]
+    BadCount,
+    #[error("stored cells would be pushed past the last line")]
+    OverEdge,
+    #[error("the lines or their target reach outside the sheet")]
+    TargetOutOfBounds,
+    #[error("an array would be split")]
+    SplitsArray,
+    #[error("a merge would be split")]
+    SplitsMerge,
+    #[error("a merge is partly inside")]
+    PartialMerge,
+    #[error("a repeated merge would be cut")]
+    CutMerge,
+    #[error("an array is partly inside")]
+    PartialArray,
+    #[error("the target is inside the source")]
+    NothingToFill,
+    #[error("the cell is covered by a merge")]
+    CoveredCell,
+    #[error("the place belongs to an entered array")]
+    ArrayCell,
+    #[error("the area meets a merge")]
+    MergeOverlap,
+    #[error("no merge is there")]
+    NoMerge,
+    #[error("the sheet name is not legal or is taken")]
+    SheetName,
+    #[error("the only sheet cannot go")]
+    OnlySheet,
+    #[error("no sheet id is left")]
+    SheetIds,
+    #[error("no defined name is equal to it in that scope")]
+    UnknownName,
+    #[error("a defined name of that scope is equal to it")]
+    NameTaken,
+    #[error("the defined name is not legal")]
+    BadName,
+    #[error("the formula is not legal")]
+    BadFormula,
+    #[error("no part of a style has that path")]
+    StylePath,
+    #[error("the part of the style cannot have that value")]
+    StyleValue,
+    #[error("the count of frozen lines is outside the sheet")]
+    FrozenCount,
+    #[error("the size is below 0")]
+    NegativeSize,
+    #[error("no locale has that name")]
+    LocaleName,
+    #[error("no language has that name")]
+    LanguageName,
+    #[error("no time zone has that name")]
+    ZoneName,
+    #[error("the rows of styles are empty, of several lengths, or have a font size below 1")]
+    StylesShape,
+    #[error("no rule has that index")]
+    RuleIndex,
+    #[error("no rule priority is left")]
+    RuleNumbers,
+    #[error("the bytes are no queue of diffs")]
+    ParseDiffs,
+    #[error("the bytes are no workbook")]
+    ParseWorkbook,
+    #[error("diff {diff} of entry {entry} does not fit the workbook")]
+    DiffRefused { entry: u64, diff: u64 },
+    #[error("the workbook breaks rule {rule} of well-formed workbooks")]
+    IllFormed { rule: u8 },
+}
+
+impl EditError {
+    ghost use Rattle.base_values.specs.ErrorNames.{name_of};
+
+    /// The name of the variant, as answers to script lines print it.
+    pub fn name(&self) -> &'static str
+        ensures { result.now ≡ name_of self.now }
+    {
+        match self {
+            EditError::NoMemory => "NoMemory",
+            EditError::InvalidSheet => "InvalidSheet",
+            EditError::InvalidRow => "InvalidRow",
+            EditError::InvalidColumn => "InvalidColumn",
+            EditError::InvalidArea => "InvalidArea",
+            EditError::BadCount => "BadCount",
+            EditError::OverEdge => "OverEdge",
+            EditError::TargetOutOfBounds => "TargetOutOfBounds",
+            EditError::SplitsArray => "SplitsArray",
+            EditError::SplitsMerge => "SplitsMerge",
+            EditError::PartialMerge => "PartialMerge",
+            EditError::CutMerge => "CutMerge",
+            EditError::PartialArray => "PartialArray",
+            EditError::NothingToFill => "NothingToFill",
+            EditError::CoveredCell => "CoveredCell",
+            EditError::ArrayCell => "ArrayCell",
+            EditError::MergeOverlap => "MergeOverlap",
+            EditError::NoMerge => "NoMerge",
+            EditError::SheetName => "SheetName",
+            EditError::OnlySheet => "OnlySheet",
+            EditError::SheetIds => "SheetIds",
+            EditError::UnknownName => "UnknownName",
+            EditError::NameTaken => "NameTaken",
+            EditError::BadName => "BadName",
+            EditError::BadFormula => "BadFormula",
+            EditError::StylePath => "StylePath",
+            EditError::StyleValue => "StyleValue",
+            EditError::FrozenCount => "FrozenCount",
+            EditError::NegativeSize => "NegativeSize",
+            EditError::LocaleName => "LocaleName",
+            EditError::LanguageName => "LanguageName",
+            EditError::ZoneName => "ZoneName",
+            EditError::StylesShape => "StylesShape",
+            EditError::RuleIndex => "RuleIndex",
+            EditError::RuleNumbers => "RuleNumbers",
+            EditError::ParseDiffs => "ParseDiffs",
+            EditError::ParseWorkbook => "ParseWorkbook",
+            EditError::DiffRefused { entry: _, diff: _ } => "DiffRefused",
+            EditError::IllFormed { rule: _ } => "IllFormed",
+        }
+    }
+}
+
+impl From<AllocError> for EditError {
+    ghost from_gives = { λ _ e. e ≡ NoMemory };
+
+    fn from(_refused: AllocError) -> EditError {
+        EditError::NoMemory
+    }
+}
+
+impl<T: Drop> From<AllocFailed<T>> for EditError {
+    ghost from_gives = { λ _ e. e ≡ NoMemory };
+
+    fn from(_refused: AllocFailed<T>) -> EditError {
+        EditError::NoMemory
+    }
+}

@@ -1,0 +1,19 @@
+//! The values that all layers share: texts, lists and maps that contracts see as their contents,
+//! places of a sheet, errors, and the words in which contracts say what a call answers.
+#![tactic(auto)]
+
+mod boxed;
+mod error;
+mod exact;
+mod items;
+mod place_map;
+mod position;
+mod text;
+
+pub use boxed::Boxed;
+pub use error::EditError;
+pub use exact::{Exact, copy_of, same};
+pub use items::Items;
+pub use place_map::PlaceMap;
+pub use position::{LAST_COLUMN, LAST_ROW, Position, line_of, place_of};
+pub use text::Text;

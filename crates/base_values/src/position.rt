@@ -1,0 +1,63 @@
+ghost use Rattle.std.specs.Prelude.{◌≡◌, IfOk, IsTrue};
+ghost use Rattle.base_values.specs.Places.{IsLine, IsPlace, is_line, line_of, place_of};
+
+use crate::error::EditError;
+use crate::exact::Exact;
+
+/// The last row of a sheet. Rows are counted from 1.
+pub const LAST_ROW: i32 = 1_048_576;
+
+/// The last column of a sheet, which is named XFD. Columns are counted from 1.
+pub const LAST_COLUMN: i32 = 16_384;
+
+/// A place of a sheet, by row and column. Positions are ordered by row, then by column.
+#[derive(Clone, Copy, Debug, PartialEq, Eq, PartialOrd, Ord)]
+pub struct Position {
+    pub row: i32,
+    pub column: i32,
+}
+
+impl Exact for Position {
+    ghost use Rattle.std.proofs.Common.{rules};
+    ghost use Rattle.base_values.specs.PositionEquals.{position_equals};
+
+    ghost copies = { λ a b h. Prim.search rules };
+
+    ghost equals = { position_equals };
+}
+
+fn is_line(last: i32, line: i32) -> bool
+    ensures value { result ≡ is_line last line }
+    ensures inside { IsTrue result → IsLine last line }
+{
+    1 <= line && line <= last
+}
+
+/// A line of an axis that ends at `last`. A line outside it is answered by the refusal.
+#[tactic(auto, unfolding(crate::specs::Places::line_of))]
+pub fn line_of(last: i32, line: i32, refusal: EditError) -> Result<i32, EditError>
+    ensures line { result ≡ line_of last line refusal }
+    ensures inside { IfOk result (IsLine last) }
+{
+    if !is_line(last, line) {
+        return Err(refusal);
+    }
+    Ok(line)
+}
+
+/// The place at a row and a column.
+///
+/// `InvalidRow` where the row is outside the sheet, else `InvalidColumn` where the column is.
+#[tactic(auto, unfolding(crate::specs::Places::place_of))]
+pub fn place_of(row: i32, column: i32) -> Result<Position, EditError>
+    ensures place { result ≡ place_of row column }
+    ensures inside { IfOk result IsPlace }
+{
+    if !is_line(LAST_ROW, row) {
+        return Err(EditError::InvalidRow);
+    }
+    if !is_line(LAST_COLUMN, column) {
+        return Err(EditError::InvalidColumn);
+    }
+    Ok(Position { row, column })
+}

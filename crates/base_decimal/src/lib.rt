@@ -1,0 +1,6 @@
+//! Exact decimal numbers.
+#![tactic(auto)]
+
+mod decimal;
+
+pub use decimal::Decimal;

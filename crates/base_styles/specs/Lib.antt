@@ -1,0 +1,5 @@
+pub mod AlignmentEquals
+pub mod BorderEquals
+pub mod ColorEquals
+pub mod DefaultStyle
+pub mod StyleEquals

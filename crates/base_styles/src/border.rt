@@ -1,0 +1,59 @@
+use crate::color::Color;
+use base_values::Exact;
+
+/// How the line of a border is drawn, from the lightest to the heaviest.
+#[derive(Clone, Copy, Debug, PartialEq, Eq)]
+pub enum BorderStyle {
+    Dotted,
+    Thin,
+    MediumDashDotDot,
+    MediumDashDot,
+    SlantDashDot,
+    MediumDashed,
+    Medium,
+    Thick,
+    Double,
+}
+
+impl Exact for BorderStyle {
+    ghost use Rattle.std.proofs.Common.{rules};
+    ghost use Rattle.base_styles.specs.BorderEquals.{border_style_equals};
+
+    ghost copies = { λ a b h. Prim.search rules };
+
+    ghost equals = { border_style_equals };
+}
+
+/// One side of a cell's border.
+#[derive(Clone, Copy, Debug, PartialEq, Eq)]
+pub struct BorderItem {
+    pub style: BorderStyle,
+    pub color: Color,
+}
+
+impl Exact for BorderItem {
+    ghost use Rattle.std.proofs.Common.{rules};
+    ghost use Rattle.base_styles.specs.BorderEquals.{border_item_equals};
+
+    ghost copies = { λ a b h. Prim.search rules };
+
+    ghost equals = { border_item_equals };
+}
+
+/// The border of a cell.
+#[derive(Clone, Copy, Debug, PartialEq, Eq)]
+pub struct Border {
+    pub left: Option<BorderItem>,
+    pub right: Option<BorderItem>,
+    pub top: Option<BorderItem>,
+    pub bottom: Option<BorderItem>,
+}
+
+impl Exact for Border {
+    ghost use Rattle.std.proofs.Common.{rules};
+    ghost use Rattle.base_styles.specs.BorderEquals.{border_equals};
+
+    ghost copies = { λ a b h. Prim.search rules };
+
+    ghost equals = { border_equals };
+}

@@ -1,0 +1,12 @@
+//! Styles of cells, compared by value.
+#![tactic(auto)]
+
+mod alignment;
+mod border;
+mod color;
+mod style;
+
+pub use alignment::{Alignment, HorizontalAlignment, VerticalAlignment};
+pub use border::{Border, BorderItem, BorderStyle};
+pub use color::{Color, ThemeColor};
+pub use style::{Font, Style};

@@ -1,0 +1,4 @@
+pub mod ErrorEquals
+pub mod LanguageEquals
+pub mod LocaleEquals
+pub mod ZoneEquals

@@ -1,0 +1,70 @@
+-- A sheet, as contracts see it.
+use Rattle.std.proofs.Common.{ℕ, ℤ, pos, List, Option, Some, None, Result, Bool, true}
+use Rattle.std.specs.FinMap as fin
+use Rattle.std.specs.FinMap.{FinMap}
+use Rattle.base_values.specs.declared.EditError.{EditError}
+use Rattle.base_values.specs.declared.Position.{Position}
+use Rattle.base_values.specs.Answers.{map_ok}
+use Rattle.base_values.specs.KeyMap.{with_entry}
+use Rattle.base_values.specs.Places.{position_cmp, place_of}
+use Rattle.base_styles.specs.declared.Color.{Color}
+use Rattle.base_styles.specs.declared.Color.TheVariants.{None as NoColor}
+use Rattle.base_styles.specs.declared.Style.{Style}
+use Rattle.base_styles.specs.DefaultStyle.{default_style}
+use Rattle.sheet_grid.specs.declared.state.SheetState.{SheetState}
+use Rattle.sheet_grid.specs.declared.state.SheetState.TheVariants.{Visible}
+use Rattle.sheet_grid.specs.declared.cell.Content.{Content}
+use Rattle.sheet_grid.specs.declared.cell.Content.TheVariants.{Empty}
+use Rattle.sheet_grid.specs.declared.cell.Cell.{Cell}
+
+pub record Sheet : Type 0 where
+  pub id : ℕ
+  pub name : List ℕ
+  pub state : SheetState
+  pub color : Color
+  pub show_grid_lines : Bool
+  pub frozen_rows : ℤ
+  pub frozen_columns : ℤ
+  pub cells : FinMap position_cmp Cell
+
+-- a visible sheet with grid lines and nothing else
+abbrev pub new_sheet : ℕ → List ℕ → Sheet
+new_sheet id name = record {
+  id = id;
+  name = name;
+  state = Visible;
+  color = NoColor;
+  show_grid_lines = true;
+  frozen_rows = pos 0;
+  frozen_columns = pos 0;
+  cells = fin.empty;
+}
+
+-- the cell at a row and a column, or the first of them that is outside
+abbrev pub cell_at : Sheet → ℤ → ℤ → Result (Option Cell) EditError
+cell_at sheet row column = map_ok (λ place. fin.get sheet.cells place) (place_of row column)
+
+-- the sheet with this cell at a place, or with none
+abbrev pub with_cell : Sheet → Position → Option Cell → Sheet
+with_cell sheet place entry = record sheet { cells = with_entry sheet.cells place entry }
+
+-- that cell is put, or the first of row and column that is outside is refused
+abbrev pub cell_put : Sheet → ℤ → ℤ → Option Cell → Result Sheet EditError
+cell_put sheet row column entry = map_ok (λ place. with_cell sheet place entry) (place_of row column)
+
+abbrev pub content_put : Sheet → ℤ → ℤ → Content → Style → Result Sheet EditError
+content_put sheet row column content style = cell_put sheet row column (Some (record { content = content; style = style }))
+
+-- the style of a cell, or the default where there is none
+abbrev pub style_of : Option Cell → Style
+style_of None = default_style
+style_of (Some cell) = cell.style
+
+-- the style that a place shows
+abbrev pub shown_style : Sheet → Position → Style
+shown_style sheet place = style_of (fin.get sheet.cells place)
+
+-- the content of a place goes, and the style that it shows stays
+abbrev pub content_cleared : Sheet → ℤ → ℤ → Result Sheet EditError
+content_cleared sheet row column =
+    map_ok (λ place. with_cell sheet place (Some (record { content = Empty; style = shown_style sheet place }))) (place_of row column)

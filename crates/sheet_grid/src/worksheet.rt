@@ -1,0 +1,304 @@
+ghost use Rattle.std.specs.Prelude.{◌≡◌, IfSome, All};
+ghost use Rattle.std.specs.FinMap as fin;
+ghost use Rattle.base_values.specs.Answers.{Answers, Edits};
+ghost use Rattle.base_values.specs.Places.{IsPlace};
+ghost use Rattle.base_decimal.specs.Kept.{IsKept};
+ghost use Rattle.sheet_grid.specs.KeptCell.{IsKeptCell, IsKeptContent};
+ghost use Rattle.sheet_grid.specs.Sheet.{Sheet, new_sheet, cell_at, cell_put, content_put, content_cleared, shown_style};
+ghost use Rattle.sheet_grid.specs.declared.cell.Content.TheVariants.{Empty, Number, Boolean, Error as ErrorValue, Text as TextValue};
+
+use crate::cell::{Cell, Content};
+use crate::state::SheetState;
+use base_decimal::Decimal;
+use base_styles::{Color, Style};
+use base_tables::Error;
+use base_values::{EditError, Exact, PlaceMap, Position, Text, copy_of, place_of};
+use std::alloc::{AllocError, Global};
+use std::collections::btree_map::Iter;
+use std::marker::Model;
+
+/// One sheet of a workbook.
+#[derive(PartialEq, Eq, Drop)]
+pub struct Worksheet {
+    id: u32,
+    name: Text,
+    state: SheetState,
+    color: Color,
+    show_grid_lines: bool,
+    frozen_rows: i32,
+    frozen_columns: i32,
+    cells: PlaceMap<Cell>,
+}
+
+impl Model for Worksheet {
+    ghost use Rattle.sheet_grid.specs.Sheet.{Sheet};
+    ghost use Rattle.std.specs.Coded.{codes};
+    ghost use Rattle.std.specs.FinMap as fin;
+    ghost use Rattle.base_values.specs.Places.{coded_position};
+
+    ghost Value = { Sheet };
+
+    ghost coded = { Prim.hlevel (codes, coded_position, fin.code) };
+
+    ghost view = { λ s. record {
+      id = s.id;
+      name = s.name;
+      state = s.state;
+      color = s.color;
+      show_grid_lines = s.show_grid_lines;
+      frozen_rows = s.frozen_rows;
+      frozen_columns = s.frozen_columns;
+      cells = s.cells;
+    } };
+
+    ghost inverse = { λ s. record {
+      id = s.id;
+      name = s.name;
+      state = s.state;
+      color = s.color;
+      show_grid_lines = s.show_grid_lines;
+      frozen_rows = s.frozen_rows;
+      frozen_columns = s.frozen_columns;
+      cells = s.cells;
+    } };
+}
+
+impl Worksheet {
+    /// A visible sheet with grid lines and without a cell. It takes no memory.
+    pub fn new(alloc: Global, id: u32, name: Text) -> Worksheet
+        ensures { result ≡ new_sheet id name }
+    {
+        Worksheet {
+            id,
+            name,
+            state: SheetState::Visible,
+            color: Color::None,
+            show_grid_lines: true,
+            frozen_rows: 0,
+            frozen_columns: 0,
+            cells: PlaceMap::new(alloc),
+        }
+    }
+
+    /// The name of the sheet.
+    pub fn get_name(&self) -> &str
+        ensures { result.now ≡ self.now.name }
+    {
+        self.name.as_str()
+    }
+
+    /// The id of the sheet, which stays when sheets are moved.
+    pub fn get_sheet_id(&self) -> u32
+        ensures { result ≡ self.now.id }
+    {
+        self.id
+    }
+
+    /// Whether the sheet is shown.
+    pub fn state(&self) -> SheetState
+        ensures { result ≡ self.now.state }
+    {
+        self.state
+    }
+
+    /// The colour of the sheet's tab.
+    pub fn color(&self) -> Color
+        ensures { result ≡ self.now.color }
+    {
+        self.color
+    }
+
+    /// Whether grid lines are drawn.
+    pub fn show_grid_lines(&self) -> bool
+        ensures { result ≡ self.now.show_grid_lines }
+    {
+        self.show_grid_lines
+    }
+
+    /// How many rows stay at the top.
+    pub fn frozen_rows(&self) -> i32
+        ensures { result ≡ self.now.frozen_rows }
+    {
+        self.frozen_rows
+    }
+
+    /// How many columns stay at the left.
+    pub fn frozen_columns(&self) -> i32
+        ensures { result ≡ self.now.frozen_columns }
+    {
+        self.frozen_columns
+    }
+
+    /// The cells with their places, by row and then by column.
+    pub fn cells(&self) -> Iter<'_, Position, Cell>
+        ensures entries { result ≡ fin.entries self.now.cells }
+        ensures inside { All (λ entry. IsPlace entry.0) result }
+    {
+        self.cells.iter()
+    }
+
+    /// A copy of the cell at a row and a column, if there is one.
+    ///
+    /// `InvalidRow` where the row is outside the sheet, else `InvalidColumn` where the column is.
+    pub fn cell(&self, row: i32, column: i32) -> Result<Option<Cell>, EditError>
+        ensures { Answers result (cell_at self.now row column) }
+    {
+        let place = place_of(row, column)?;
+        match self.cells.get(place) {
+            Some(cell) => Ok(Some(copy_of(cell)?)),
+            None => Ok(None),
+        }
+    }
+
+    /// A copy of the style that a place shows: its cell's, else the default.
+    fn style_at(&self, place: Position) -> Result<Style, EditError>
+        ensures { Answers result (Ok (shown_style self.now place)) }
+    {
+        match self.cells.get(place) {
+            Some(cell) => copy_of(&cell.style),
+            None => Style::new(self.name.allocator()),
+        }
+    }
+
+    /// Sets the cell at a row and a column, or takes it away.
+    ///
+    /// `InvalidRow` where the row is outside the sheet, else `InvalidColumn` where the column is.
+    /// To take a cell away needs no memory.
+    pub fn put_cell(&mut self, row: i32, column: i32, entry: Option<Cell>) -> Result<(), EditError>
+        requires { IfSome entry IsKeptCell }
+        ensures { Edits result self.old self.new (cell_put self.old row column entry) }
+    {
+        let place = place_of(row, column)?;
+        self.cells.put(place, entry)
+    }
+
+    fn put_content(
+        &mut self,
+        row: i32,
+        column: i32,
+        content: Content,
+        style: &Style,
+    ) -> Result<(), EditError>
+        requires { IsKeptContent content }
+        ensures { Edits result self.old self.new (content_put self.old row column content style.now) }
+    {
+        let place = place_of(row, column)?;
+        let style = copy_of(style)?;
+        self.cells.put(place, Some(Cell { content, style }))
+    }
+
+    /// Sets the cell at a row and a column to a number with a style.
+    ///
+    /// `InvalidRow` where the row is outside the sheet, else `InvalidColumn` where the column is.
+    pub fn set_cell_with_number(
+        &mut self,
+        row: i32,
+        column: i32,
+        value: Decimal,
+        style: &Style,
+    ) -> Result<(), EditError>
+        requires { IsKept value }
+        ensures { Edits result self.old self.new (content_put self.old row column (Number value) style.now) }
+    {
+        self.put_content(row, column, Content::Number(value), style)
+    }
+
+    /// Sets the cell at a row and a column to a boolean with a style.
+    ///
+    /// `InvalidRow` where the row is outside the sheet, else `InvalidColumn` where the column is.
+    pub fn set_cell_with_boolean(
+        &mut self,
+        row: i32,
+        column: i32,
+        value: bool,
+        style: &Style,
+    ) -> Result<(), EditError>
+        ensures { Edits result self.old self.new (content_put self.old row column (Boolean value) style.now) }
+    {
+        self.put_content(row, column, Content::Boolean(value), style)
+    }
+
+    /// Sets the cell at a row and a column to an error with a style.
+    ///
+    /// `InvalidRow` where the row is outside the sheet, else `InvalidColumn` where the column is.
+    pub fn set_cell_with_error(
+        &mut self,
+        row: i32,
+        column: i32,
+        value: Error,
+        style: &Style,
+    ) -> Result<(), EditError>
+        ensures { Edits result self.old self.new (content_put self.old row column (ErrorValue value) style.now) }
+    {
+        self.put_content(row, column, Content::Error(value), style)
+    }
+
+    /// Sets the cell at a row and a column to a text with a style.
+    ///
+    /// `InvalidRow` where the row is outside the sheet, else `InvalidColumn` where the column is.
+    pub fn set_cell_with_string(
+        &mut self,
+        row: i32,
+        column: i32,
+        value: &str,
+        style: &Style,
+    ) -> Result<(), EditError>
+        ensures { Edits result self.old self.new (content_put self.old row column (TextValue value.now) style.now) }
+    {
+        let _place = place_of(row, column)?;
+        let text = Text::new(String::from_str(self.name.allocator(), value)?);
+        self.put_content(row, column, Content::Text(text), style)
+    }
+
+    /// Empties the cell at a row and a column, and keeps the style that the place shows. A place
+    /// without a cell gets an empty one.
+    ///
+    /// `InvalidRow` where the row is outside the sheet, else `InvalidColumn` where the column is.
+    pub fn cell_clear_contents(&mut self, row: i32, column: i32) -> Result<(), EditError>
+        ensures { Edits result self.old self.new (content_cleared self.old row column) }
+    {
+        let place = place_of(row, column)?;
+        let style = self.style_at(place)?;
+        let content = Content::Empty;
+        self.cells.put(place, Some(Cell { content, style }))
+    }
+
+    /// Empties the cell at a row and a column, and gives it a style.
+    ///
+    /// `InvalidRow` where the row is outside the sheet, else `InvalidColumn` where the column is.
+    pub fn cell_clear_contents_with_style(
+        &mut self,
+        row: i32,
+        column: i32,
+        style: &Style,
+    ) -> Result<(), EditError>
+        ensures { Edits result self.old self.new (content_put self.old row column Empty style.now) }
+    {
+        self.put_content(row, column, Content::Empty, style)
+    }
+}
+
+impl Clone for Worksheet {
+    ghost is_clone = { λ s r. r ≡ s };
+
+    fn clone(&self) -> Result<Worksheet, AllocError> {
+        Ok(Worksheet {
+            id: self.id,
+            name: self.name.clone()?,
+            state: self.state,
+            color: self.color,
+            show_grid_lines: self.show_grid_lines,
+            frozen_rows: self.frozen_rows,
+            frozen_columns: self.frozen_columns,
+            cells: self.cells.clone()?,
+        })
+    }
+}
+
+impl Exact for Worksheet {
+    ghost use Rattle.sheet_grid.specs.SheetEquals.{worksheet_equals};
+
+    ghost copies = { λ a b h. h };
+
+    ghost equals = { worksheet_equals };
+}

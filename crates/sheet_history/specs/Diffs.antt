@@ -1,0 +1,65 @@
+-- What diffs do to a workbook, forward and back.
+use Rattle.std.proofs.Common.{ℕ, ◌+◌, List, [], ◌∷◌, Option, Result, Ok}
+use Rattle.std.specs.Prelude.{IfSome, All}
+use Rattle.base_values.specs.declared.EditError.{EditError}
+use Rattle.base_values.specs.declared.EditError.TheVariants.{DiffRefused}
+use Rattle.base_values.specs.declared.Position.{Position}
+use Rattle.base_values.specs.Answers.{and_then, ok_or, value_of}
+use Rattle.sheet_grid.specs.declared.Cell.{Cell}
+use Rattle.sheet_grid.specs.Book.{Book, edit_by_id}
+use Rattle.sheet_grid.specs.KeptCell.{IsKeptCell}
+use Rattle.sheet_grid.specs.Sheet.{cell_put}
+use Rattle.sheet_history.specs.declared.diff.Diff.{Diff}
+use Rattle.sheet_history.specs.declared.diff.Diff.TheVariants.{Cell as CellDiff}
+use Rattle.sheet_history.specs.declared.diff.DiffType.{DiffType}
+use Rattle.sheet_history.specs.declared.diff.DiffType.TheVariants.{Undo, Redo}
+use Rattle.sheet_history.specs.declared.diff.QueueDiffs.{QueueDiffs}
+
+-- the workbook with this cell at a place of the sheet of an id, or with none. Where no sheet has the id or the place is
+-- outside, the diff of that number is refused
+unfoldable pub put_in : ℕ → Book → ℕ → Position → Option Cell → Result Book EditError
+put_in at book id place entry =
+    ok_or (DiffRefused 0 at) (value_of (edit_by_id book id (λ sheet. cell_put sheet place.row place.column entry)))
+
+-- forward puts the new value
+abbrev pub step_forward : ℕ → Book → Diff → Result Book EditError
+step_forward at book (CellDiff sheet place old new) = put_in at book sheet place new
+
+-- back puts the old value
+abbrev pub step_back : ℕ → Book → Diff → Result Book EditError
+step_back at book (CellDiff sheet place old new) = put_in at book sheet place old
+
+-- the diffs in order, where the first has the number at
+abbrev pub forward_from : ℕ → Book → List Diff → Result Book EditError
+forward_from at book [] = Ok book
+forward_from at book (diff ∷ diffs) = and_then (step_forward at book diff) (λ next. forward_from (at + 1) next diffs)
+
+-- the diffs in reverse order, where the first has the number at
+abbrev pub back_from : ℕ → Book → List Diff → Result Book EditError
+back_from at book [] = Ok book
+back_from at book (diff ∷ diffs) = and_then (back_from (at + 1) book diffs) (λ next. step_back at next diff)
+
+-- the workbook with the changes of a list made in order
+abbrev pub forwarded : Book → List Diff → Result Book EditError
+forwarded book diffs = forward_from 0 book diffs
+
+-- the workbook with the changes of a list taken back, the last one first
+abbrev pub backed : Book → List Diff → Result Book EditError
+backed book diffs = back_from 0 book diffs
+
+-- a sent list followed in its direction
+abbrev pub follow : DiffType → Book → List Diff → Result Book EditError
+follow Undo book diffs = backed book diffs
+follow Redo book diffs = forwarded book diffs
+
+-- sent lists followed one after another
+abbrev pub replayed : Book → List QueueDiffs → Result Book EditError
+replayed book [] = Ok book
+replayed book (entry ∷ entries) = and_then (follow entry.kind book entry.list) (λ next. replayed next entries)
+
+-- the numbers of both cells are as a sheet keeps them
+abbrev pub IsKeptDiff : Diff → Type 0
+IsKeptDiff (CellDiff sheet place old new) = IfSome old IsKeptCell × IfSome new IsKeptCell
+
+abbrev pub IsKeptList : List Diff → Type 0
+IsKeptList diffs = All IsKeptDiff diffs

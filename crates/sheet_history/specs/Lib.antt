@@ -1,0 +1,3 @@
+pub mod DiffEquals
+pub mod Diffs
+pub mod Stacks

@@ -1,0 +1,60 @@
+use base_values::{Exact, Items, Position};
+use sheet_grid::Cell;
+
+/// One entry of a workbook that changed, with its value before and after.
+#[derive(Clone, Debug, PartialEq, Eq, Drop)]
+pub enum Diff {
+    /// The cell at a position of the sheet with that id. None stands for no cell.
+    Cell {
+        sheet: u32,
+        position: Position,
+        old: Option<Cell>,
+        new: Option<Cell>,
+    },
+}
+
+/// The record of one edit: the entries that it changed.
+pub type DiffList = Items<Diff>;
+
+/// In which direction a sent list of diffs is to be followed.
+#[derive(Clone, Copy, Debug, PartialEq, Eq)]
+pub enum DiffType {
+    /// The old values are put back, from the last diff to the first.
+    Undo,
+    /// The new values are put, from the first diff to the last.
+    Redo,
+}
+
+/// A list of diffs as it is sent to other copies.
+#[derive(Clone, Debug, PartialEq, Eq, Drop)]
+pub struct QueueDiffs {
+    pub kind: DiffType,
+    pub list: DiffList,
+}
+
+impl Exact for Diff {
+    ghost use Rattle.std.proofs.Common.{rules};
+    ghost use Rattle.sheet_history.specs.DiffEquals.{diff_equals};
+
+    ghost copies = { λ a b h. Prim.search rules };
+
+    ghost equals = { diff_equals };
+}
+
+impl Exact for DiffType {
+    ghost use Rattle.std.proofs.Common.{rules};
+    ghost use Rattle.sheet_history.specs.DiffEquals.{diff_type_equals};
+
+    ghost copies = { λ a b h. Prim.search rules };
+
+    ghost equals = { diff_type_equals };
+}
+
+impl Exact for QueueDiffs {
+    ghost use Rattle.std.proofs.Common.{rules};
+    ghost use Rattle.sheet_history.specs.DiffEquals.{queue_diffs_equals};
+
+    ghost copies = { λ a b h. Prim.search rules };
+
+    ghost equals = { queue_diffs_equals };
+}

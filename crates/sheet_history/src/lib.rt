@@ -1,0 +1,13 @@
+//! Diffs of a workbook, what they do forward and back, and the stacks of undo and redo.
+//!
+//! The layers above see a list of diffs as a function on workbooks in either direction, and a
+//! history as two lists of lists of diffs, the newest first.
+#![tactic(auto)]
+
+mod apply;
+mod diff;
+mod history;
+
+pub use apply::{back, back_in_place, forward, forward_in_place};
+pub use diff::{Diff, DiffList, DiffType, QueueDiffs};
+pub use history::History;

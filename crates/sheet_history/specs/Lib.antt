@@ -1,3 +1,4 @@
 pub mod DiffEquals
 pub mod Diffs
 pub mod Stacks
+pub mod Records

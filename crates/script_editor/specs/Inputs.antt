@@ -1,0 +1,44 @@
+-- What the input of a content does to a workbook.
+use Rattle.std.proofs.Common.{ℕ, ℤ, List, [], ◌∷◌, Option, Some, None, Result, Ok, Err, cond}
+use Rattle.std.specs.Prelude.{if◌then◌else◌}
+use Rattle.std.specs.FinMap as fin
+use Rattle.base_values.specs.declared.EditError.{EditError}
+use Rattle.base_values.specs.declared.Position.{Position}
+use Rattle.base_values.specs.Answers.{and_then, map_ok}
+use Rattle.base_values.specs.Places.{place_of}
+use Rattle.base_styles.specs.declared.Style.{Style}
+use Rattle.sheet_grid.specs.declared.Cell.{Cell}
+use Rattle.sheet_grid.specs.declared.Content.{Content}
+use Rattle.sheet_grid.specs.declared.Content.TheVariants.{Empty, Number, Boolean, Error, Text}
+use Rattle.sheet_grid.specs.CellEquals.{same_entry}
+use Rattle.sheet_grid.specs.Sheet.{Sheet, with_cell, shown_style}
+use Rattle.sheet_grid.specs.Book.{Book, sheet_at, sheet_edit}
+use Rattle.sheet_history.specs.declared.Diff.{Diff}
+use Rattle.sheet_history.specs.declared.Diff.TheVariants.{Cell as CellDiff}
+
+-- a new cell takes the style that its place shows; an empty input makes none
+abbrev pub new_cell : Content → Style → Option Cell
+new_cell Empty style = None
+new_cell content style = Some (record { content = content; style = style })
+
+-- a present cell keeps its style
+abbrev pub entered : Option Cell → Content → Style → Option Cell
+entered None content style = new_cell content style
+entered (Some cell) content style = Some (record { content = content; style = cell.style })
+
+-- the sheet after the input of a content at a place
+abbrev pub with_input : Sheet → Content → Position → Sheet
+with_input sheet content place = with_cell sheet place (entered (fin.get sheet.cells place) content (shown_style sheet place))
+
+-- the workbook after an input, or the first refusal: no such sheet, the row outside, the column outside
+abbrev pub input_put : ℕ → ℤ → ℤ → Content → Book → Result Book EditError
+input_put index row column content book = sheet_edit book index (λ sheet. map_ok (with_input sheet content) (place_of row column))
+
+-- the diff of one cell, or none where it stays
+abbrev pub cell_change : ℕ → Position → Option Cell → Option Cell → List Diff
+cell_change id place old new = if same_entry old new then [] else CellDiff id place old new ∷ []
+
+-- the diffs from one sheet to another at a place
+abbrev pub place_change : Result Sheet EditError → Result Sheet EditError → Result Position EditError → List Diff
+place_change (Ok earlier) (Ok later) (Ok place) = cell_change earlier.id place (fin.get earlier.cells place) (fin.get later.cells place)
+place_change _ _ _ = []

@@ -1,0 +1,6 @@
+use sheet_history::History;
+
+#[derive(Drop)]
+pub struct Editor {
+    history: History,
+}

@@ -1,0 +1,9 @@
+//! An editor of a workbook with undo, redo and a queue for other copies.
+//!
+//! It keeps diffs. The layer above sees the machine that keeps whole earlier and later workbooks:
+//! each call takes every state of the machine that the editor stands for to the machine's next one.
+#![tactic(auto)]
+
+mod editor;
+
+pub use editor::Editor;

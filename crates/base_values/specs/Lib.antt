@@ -1,4 +1,5 @@
 pub mod Answers
+pub mod formers
 pub mod Decided
 pub mod ErrorNames
 pub mod PositionEquals

@@ -2,3 +2,4 @@ pub mod DiffEquals
 pub mod Diffs
 pub mod Stacks
 pub mod Records
+pub mod RecordLaws

@@ -1,10 +1,9 @@
 -- The record of an edit: the entries in which two workbooks differ.
 use Rattle.std.proofs.Common.{◌≡◌, ℕ, List, [], ◌∷◌, map, Option, Some, None, Bool, cond}
-use Rattle.std.specs.Prelude.{slice_get, if◌then◌else◌}
+use Rattle.std.specs.Prelude.{slice_get, if◌then◌else◌, IsTrue}
 use Rattle.std.specs.Option.{option_map, option_and_then}
 use Rattle.std.specs.Ordering.{nat_cmp, ordering_then}
 use Rattle.std.specs.declared.cmp.Ordering.{Ordering}
-use Rattle.std.specs.List.Sorted.{IsStrictlySortedBy}
 use Rattle.std.specs.FinMap as fin
 use Rattle.base_values.specs.declared.Position.{Position}
 use Rattle.base_values.specs.Places.{position_cmp}
@@ -45,12 +44,9 @@ changed_entry _ _ = None
 abbrev pub change_of : Diff → EntryKey × (Option Cell × Option Cell)
 change_of (CellDiff sheet place old new) = (record { sheet = sheet; place = place }, (old, new))
 
-abbrev pub key_of : Diff → EntryKey
-key_of diff = (change_of diff).0
-
 -- a list has, in the order of their keys, exactly the entries in which the later workbook differs from the earlier one, which
 -- differ in nothing else
 pub record IsRecord (earlier later : Book) (diffs : List Diff) : Type 0 where
   pub frame : frame_of later ≡ frame_of earlier
-  pub ordered : IsStrictlySortedBy key_cmp (map key_of diffs)
+  pub ordered : IsTrue (fin.is_sorted key_cmp (map change_of diffs))
   pub changes : (key : EntryKey) → fin.find key_cmp key (map change_of diffs) ≡ changed_entry (entry_at earlier key) (entry_at later key)

@@ -92,6 +92,16 @@ with_cell-back sheet place entry =
     let same : with_entry (with_entry sheet.cells place entry) place (fin.get sheet.cells place) ≡ sheet.cells = with_entry-back position_total exact_positions sheet.cells place entry in
     λ i. record sheet { cells = same i }
 
+module _ (w : Book) (index : ℕ) (sheet : Sheet) (place : Position) (entry : Option Cell) (found : slice_get w.worksheets index ≡ Some sheet) where
+  with_sheet-same : with_sheet w index sheet ≡ w
+  with_sheet-same =
+      let same : slice_set w.worksheets index sheet ≡ w.worksheets = set_found w.worksheets index sheet found in
+      λ i. record w { worksheets = same i }
+
+  -- a cell put where the same entry stands changes nothing
+  pub unchanged : fin.get sheet.cells place ≡ entry → with_sheet w index (with_cell sheet place entry) ≡ w
+  unchanged same = ap (λ e. with_sheet w index (with_cell sheet place e)) (sym same) ∙ ap (with_sheet w index) (with_cell-same sheet place) ∙ with_sheet-same
+
 module _ (w : Book) (index : ℕ) (sheet : Sheet) (place : Position) (entry : Option Cell)
     (found : slice_get w.worksheets index ≡ Some sheet) (own : index_of w sheet.id ≡ Some index) (inside : place_of place.row place.column ≡ Ok place) where
   abbrev before : Option Cell
@@ -103,20 +113,12 @@ module _ (w : Book) (index : ℕ) (sheet : Sheet) (place : Position) (entry : Op
   abbrev changes : List Diff
   changes = cell_change sheet.id place before entry
 
-  with_sheet-same : with_sheet w index sheet ≡ w
-  with_sheet-same =
-      let same : slice_set w.worksheets index sheet ≡ w.worksheets = set_found w.worksheets index sheet found in
-      λ i. record w { worksheets = same i }
-
-  unchanged : before ≡ entry → later ≡ w
-  unchanged same = ap (λ e. with_sheet w index (with_cell sheet place e)) (sym same) ∙ ap (with_sheet w index) (with_cell-same sheet place) ∙ with_sheet-same
-
   -- the changes of one cell lead to the later workbook
   pub changes_forward : forwarded w changes ≡ Ok later
   changes_forward = split (same_entry before entry) refl
     where
       split : (b : Bool) → same_entry before entry ≡ b → forwarded w (cond b [] (CellDiff sheet.id place before entry ∷ [])) ≡ Ok later
-      split true e = ap Ok (sym (unchanged ((same_entry_decides before entry).0 e)))
+      split true e = ap Ok (sym (unchanged w index sheet place entry found ((same_entry_decides before entry).0 e)))
       split false e = ap (λ r. and_then r (λ next. Ok next)) (put_in_found w index sheet found own 0 place entry inside)
 
   -- and back
@@ -124,7 +126,7 @@ module _ (w : Book) (index : ℕ) (sheet : Sheet) (place : Position) (entry : Op
   changes_back = split (same_entry before entry) refl
     where
       split : (b : Bool) → same_entry before entry ≡ b → backed later (cond b [] (CellDiff sheet.id place before entry ∷ [])) ≡ Ok w
-      split true e = ap Ok (unchanged ((same_entry_decides before entry).0 e))
+      split true e = ap Ok (unchanged w index sheet place entry found ((same_entry_decides before entry).0 e))
       split false e =
           let twice : slice_set (slice_set w.worksheets index (with_cell sheet place entry)) index (with_cell (with_cell sheet place entry) place before) ≡ w.worksheets =
           set_twice w.worksheets index (with_cell sheet place entry) (with_cell (with_cell sheet place entry) place before)

@@ -1,1 +1,2 @@
 mod InputLaws
+mod InputRecord

@@ -1,47 +1,34 @@
-ghost use Rattle.std.specs.Prelude.{◌≡◌, ◌↔◌, ◌≤◌, length, take, min, Contains, IsErr, vec_len};
+ghost use Rattle.std.specs.Prelude.{◌≡◌, ◌↔◌, ◌≤◌, length, Contains, IsErr, OnOk, OnErr};
 ghost use Rattle.std.specs.declared.option.Option.TheVariants.{Some};
 ghost use Rattle.script_ends.specs.Faults.{HasCause, next_count};
 ghost use Rattle.script_ends.specs.Known.{Takes, Adds, UsesRoom};
 
-use crate::{Failed, Sink, Source};
+use crate::{Failed, Sink, Source, SureSink, SureSource};
 use base_values::EditError;
 
-/// A source in memory, of which the listed calls fail, the first call being 0. With no call listed
-/// none fails. The count of calls stands still at the greatest `u64`.
+/// A source in memory, of which the listed reads fail, the first read being 0. With no read listed
+/// none fails. The number of reads stands still at the greatest `u64`.
 #[derive(Drop)]
 pub struct MemorySource {
-    bytes: Vec<u8>,
-    at: usize,
-    calls: u64,
+    bytes: SureSource,
+    reads: u64,
     failing: Vec<u64>,
     faults: u64,
-    ghost within: { at ≤ vec_len bytes },
-}
-
-/// Copies as many first bytes as fit, and says how many.
-pub(crate) fn copy_front(from: &[u8], into: &mut [u8]) -> usize
-    ensures count { result ≡ min (length from.now) (length into.old) }
-    ensures bytes { take result into.new ≡ take result from.now }
-{
-    let count = from.len().min(into.len());
-    into[..count].copy_from_slice(&from[..count]);
-    count
 }
 
 impl MemorySource {
     ghost use Rattle.script_ends.specs.Memory.{reads, failing_reads};
 
-    /// A source of these bytes, and the numbers of the calls that fail.
+    /// A source of these bytes, and the numbers of the reads that fail.
     pub fn new(bytes: Vec<u8>, failing: Vec<u64>) -> Self
         ensures left { ⟦<MemorySource as Source>⟧.left result ≡ Some bytes.items }
         ensures faults { ⟦<MemorySource as Source>⟧.faults result ≡ 0 }
-        ensures calls { reads result ≡ 0 }
-        ensures plan { failing_reads result ≡ failing.items }
+        ensures reads { reads result ≡ 0 }
+        ensures failing { failing_reads result ≡ failing.items }
     {
         MemorySource {
-            bytes,
-            at: 0,
-            calls: 0,
+            bytes: SureSource::new(bytes),
+            reads: 0,
             failing,
             faults: 0,
         }
@@ -60,27 +47,28 @@ impl Source for MemorySource {
         ensures cause { HasCause (source_faults self.old) (source_faults self.new) result }
 
         ensures listed { IsErr result ↔ Contains (failing_reads self.old) (reads self.old) }
-        ensures calls { reads self.new ≡ next_count (reads self.old) }
-        ensures plan { failing_reads self.new ≡ failing_reads self.old }
+        ensures counted { OnErr result (source_faults self.new ≡ next_count (source_faults self.old)) }
+        ensures not_counted { OnOk result (source_faults self.new ≡ source_faults self.old) }
+
+        ensures reads { reads self.new ≡ next_count (reads self.old) }
+        ensures failing { failing_reads self.new ≡ failing_reads self.old }
     {
-        let call = self.calls;
-        self.calls = call.saturating_add(1);
-        if self.failing.contains(&call) {
+        let number = self.reads;
+        self.reads = number.saturating_add(1);
+        if self.failing.contains(&number) {
             self.faults = self.faults.saturating_add(1);
             return Err(Failed);
         }
-        let count = copy_front(&self.bytes[self.at..], into);
-        self.at += count;
-        Ok(count)
+        self.bytes.read(into)
     }
 }
 
 /// A sink in memory, of which the listed writes fail, the first write being 0. With no write listed
-/// none fails. The count of writes stands still at the greatest `u64`.
+/// none fails. The number of writes stands still at the greatest `u64`.
 #[derive(Drop)]
 pub struct MemorySink {
-    bytes: Vec<u8>,
-    calls: u64,
+    bytes: SureSink,
+    writes: u64,
     failing: Vec<u64>,
     faults: u64,
 }
@@ -92,12 +80,12 @@ impl MemorySink {
     pub fn new(bytes: Vec<u8>, failing: Vec<u64>) -> Self
         ensures taken { ⟦<MemorySink as Sink>⟧.taken result ≡ Some bytes.items }
         ensures faults { ⟦<MemorySink as Sink>⟧.faults result ≡ 0 }
-        ensures calls { writes result ≡ 0 }
-        ensures plan { failing_writes result ≡ failing.items }
+        ensures writes { writes result ≡ 0 }
+        ensures failing { failing_writes result ≡ failing.items }
     {
         MemorySink {
-            bytes,
-            calls: 0,
+            bytes: SureSink::new(bytes),
+            writes: 0,
             failing,
             faults: 0,
         }
@@ -107,7 +95,7 @@ impl MemorySink {
     pub fn bytes(&self) -> &[u8]
         ensures { ⟦<MemorySink as Sink>⟧.taken self.now ≡ Some result.now }
     {
-        &self.bytes
+        self.bytes.bytes()
     }
 }
 
@@ -121,8 +109,7 @@ impl Sink for MemorySink {
     ghost spare = { sink_spare };
 
     fn reserve(&mut self, more: usize) -> Result<(), EditError> {
-        self.bytes.reserve(more)?;
-        Ok(())
+        self.bytes.reserve(more)
     }
 
     fn write(&mut self, from: &[u8]) -> Result<usize, Failed>
@@ -132,18 +119,18 @@ impl Sink for MemorySink {
         ensures cause { HasCause (sink_faults self.old) (sink_faults self.new) result }
 
         ensures listed { IsErr result ↔ Contains (failing_writes self.old) (writes self.old) }
-        ensures calls { writes self.new ≡ next_count (writes self.old) }
-        ensures plan { failing_writes self.new ≡ failing_writes self.old }
+        ensures counted { OnErr result (sink_faults self.new ≡ next_count (sink_faults self.old)) }
+        ensures not_counted { OnOk result (sink_faults self.new ≡ sink_faults self.old) }
+
+        ensures writes { writes self.new ≡ next_count (writes self.old) }
+        ensures failing { failing_writes self.new ≡ failing_writes self.old }
     {
-        let call = self.calls;
-        self.calls = call.saturating_add(1);
-        if self.failing.contains(&call) {
+        let number = self.writes;
+        self.writes = number.saturating_add(1);
+        if self.failing.contains(&number) {
             self.faults = self.faults.saturating_add(1);
             return Err(Failed);
         }
-        match self.bytes.extend_from_slice(from) {
-            Ok(()) => Ok(from.len()),
-            Err(_) => unreachable!(),
-        }
+        self.bytes.write(from)
     }
 }

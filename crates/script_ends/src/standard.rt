@@ -13,6 +13,7 @@ pub struct StdSource<R> {
 }
 
 impl<R: Read> StdSource<R> {
+    /// A source over this reader, as `rt.reader()` for standard input.
     pub fn new(reader: R) -> Self
         ensures { ⟦<StdSource<R> as Source>⟧.faults result ≡ 0 }
     {
@@ -45,6 +46,7 @@ pub struct StdSink<W> {
 }
 
 impl<W: Write> StdSink<W> {
+    /// A sink over this writer, as `io::writer(&rt)` for standard output.
     pub fn new(writer: W) -> Self
         ensures { ⟦<StdSink<W> as Sink>⟧.faults result ≡ 0 }
     {

@@ -36,7 +36,8 @@ pub fn read_all<S: Source>(alloc: Global, input: &mut S) -> Result<Vec<u8>, RunE
         if count == 0 {
             return Ok(bytes);
         }
-        if bytes.len() + count > MOST_BYTES {
+        let is_too_long = bytes.len() + count > MOST_BYTES;
+        if is_too_long {
             return Err(RunError::TooLong);
         }
         bytes.extend_from_slice(&chunk[..count])?;

@@ -1,7 +1,8 @@
-ghost use Rattle.std.specs.Prelude.{◌≡◌, ◌-◌, ◌≤◌, drop, vec_capacity, vec_len};
+ghost use Rattle.std.specs.Prelude.{◌≡◌, ◌≤◌, length, take, min, IsOk, vec_len};
 ghost use Rattle.std.specs.declared.option.Option.TheVariants.{Some};
+ghost use Rattle.script_ends.specs.Faults.{HasCause};
+ghost use Rattle.script_ends.specs.Known.{Takes, Adds, UsesRoom};
 
-use crate::memory::copy_front;
 use crate::{Failed, Sink, Source};
 use base_values::EditError;
 
@@ -11,6 +12,16 @@ pub struct SureSource {
     bytes: Vec<u8>,
     at: usize,
     ghost within: { at ≤ vec_len bytes },
+}
+
+/// Copies as many first bytes as fit, and says how many.
+fn copy_front(from: &[u8], into: &mut [u8]) -> usize
+    ensures count { result ≡ min (length from.now) (length into.old) }
+    ensures bytes { take result into.new ≡ take result from.now }
+{
+    let count = from.len().min(into.len());
+    into[..count].copy_from_slice(&from[..count]);
+    count
 }
 
 impl SureSource {
@@ -24,11 +35,17 @@ impl SureSource {
 }
 
 impl Source for SureSource {
-    ghost left = { λ s. Some (drop s.at s.bytes.items) };
+    ghost use Rattle.script_ends.specs.Memory.{sure_left};
+
+    ghost left = { sure_left };
 
     ghost faults = { λ _. 0 };
 
-    fn read(&mut self, into: &mut [u8]) -> Result<usize, Failed> {
+    fn read(&mut self, into: &mut [u8]) -> Result<usize, Failed>
+        ensures bytes { Takes (sure_left self.old) (sure_left self.new) result into.new }
+        ensures cause { HasCause 0 0 result }
+        ensures sure { IsOk result }
+    {
         let count = copy_front(&self.bytes[self.at..], into);
         self.at += count;
         Ok(count)
@@ -59,18 +76,26 @@ impl SureSink {
 }
 
 impl Sink for SureSink {
-    ghost taken = { λ s. Some s.bytes.items };
+    ghost use Rattle.script_ends.specs.Memory.{sure_taken, sure_spare};
+
+    ghost taken = { sure_taken };
 
     ghost faults = { λ _. 0 };
 
-    ghost spare = { λ s. vec_capacity s.bytes - vec_len s.bytes };
+    ghost spare = { sure_spare };
 
     fn reserve(&mut self, more: usize) -> Result<(), EditError> {
         self.bytes.reserve(more)?;
         Ok(())
     }
 
-    fn write(&mut self, from: &[u8]) -> Result<usize, Failed> {
+    fn write(&mut self, from: &[u8]) -> Result<usize, Failed>
+        requires { length from.now ≤ sure_spare self.old }
+        ensures bytes { Adds (sure_taken self.old) (sure_taken self.new) result from.now }
+        ensures room { UsesRoom (sure_spare self.old) (sure_spare self.new) result }
+        ensures cause { HasCause 0 0 result }
+        ensures sure { IsOk result }
+    {
         match self.bytes.extend_from_slice(from) {
             Ok(()) => Ok(from.len()),
             Err(_) => unreachable!(),

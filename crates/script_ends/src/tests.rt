@@ -13,7 +13,10 @@ fn a_source_goes_on_after_a_failing_read(rt: HostRuntime) -> Result<(), Fail> {
     let mut buffer = [0u8; 4];
     assert_eq!(rt; source.read(&mut buffer), Ok(4));
     assert_eq!(rt; buffer, *b"abcd");
-    assert_eq!(rt; read_all(alloc, &mut source).err(), Some(RunError::ReadFault));
+    assert_eq!(rt;
+        read_all(alloc, &mut source).err(),
+        Some(RunError::ReadFault)
+    );
     let rest = read_all(alloc, &mut source)?;
     assert_eq!(rt; rest.as_slice(), b"ef".as_slice());
     Ok(())

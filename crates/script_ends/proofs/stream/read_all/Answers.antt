@@ -3,8 +3,8 @@ use Rattle.std.proofs.lemmas.List.{length-take}
 use Rattle.script_ends.proofs.Turns.{took_more, took_too_many}
 use Rattle.script_ends.proofs.stream.read_all.Goals as goal
 
-pub returns-then-len-count-gt-MOST_BYTES-clause-too_long : goal.returns-then-len-count-gt-MOST_BYTES-clause-too_long
-returns-then-len-count-gt-MOST_BYTES-clause-too_long g c = λ is.
+pub returns-then-is_too_long-clause-too_long : goal.returns-then-is_too_long-clause-too_long
+returns-then-is_too_long-clause-too_long g c = λ is.
     let read = c.in-Ok.ensures.bytes in
     took_too_many 16777217 c.in-Ok.count c.reads.bytes.items c.read.new.into _ _ _ c.reads.invariant.taken read.taken read.within (omega (arith, read.within, c.read.auto.into, length-take {A = ℕ}))
 

@@ -4,15 +4,8 @@ use Rattle.std.proofs.lemmas.List.{take_more}
 use Rattle.sheet_history.specs.declared.diff.Diff.{Diff}
 use Rattle.base_values.specs.Answers.{and_then}
 use Rattle.sheet_grid.specs.Book.{Book}
+use Rattle.sheet_history.specs.ReplayLaws.{and_then-Ok, and_then-and_then}
 use Rattle.sheet_history.specs.Diffs.{back_from, step_back}
-
-and_then-Ok : {A E : Type 0} (r : Result A E) → and_then r (λ x. Ok x) ≡ r
-and_then-Ok (Ok x) = refl
-and_then-Ok (Err e) = refl
-
-and_then-and_then : {A B C E : Type 0} (r : Result A E) (f : A → Result B E) (g : B → Result C E) → and_then (and_then r f) g ≡ and_then r (λ x. and_then (f x) g)
-and_then-and_then (Ok x) f g = refl
-and_then-and_then (Err e) f g = refl
 
 back_from-push : (n : ℕ) (book : Book) (ds : List Diff) (d : Diff) → back_from n book (ds ++ d ∷ []) ≡ and_then (step_back (n + length ds) book d) (λ next. back_from n next ds)
 back_from-push n book [] d =

@@ -1,1 +1,2 @@
 mod DiffLemmas
+mod ReplayLemmas

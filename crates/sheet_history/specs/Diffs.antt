@@ -1,8 +1,8 @@
 -- What diffs do to a workbook, forward and back.
-use Rattle.std.proofs.Common.{ℕ, ◌+◌, List, [], ◌∷◌, Option, Result, Ok}
-use Rattle.std.specs.Prelude.{IfSome, All}
+use Rattle.std.proofs.Common.{◌≡◌, ◌≢◌, ℕ, ◌+◌, List, [], ◌∷◌, take, Option, Result, Ok, Err}
+use Rattle.std.specs.Prelude.{IfSome, IfErr, OnOk, OnErr, All}
 use Rattle.base_values.specs.declared.EditError.{EditError}
-use Rattle.base_values.specs.declared.EditError.TheVariants.{DiffRefused}
+use Rattle.base_values.specs.declared.EditError.TheVariants.{DiffRefused, NoMemory}
 use Rattle.base_values.specs.declared.Position.{Position}
 use Rattle.base_values.specs.Answers.{and_then, ok_or, value_of}
 use Rattle.sheet_grid.specs.declared.Cell.{Cell}
@@ -52,10 +52,31 @@ abbrev pub follow : DiffType → Book → List Diff → Result Book EditError
 follow Undo book diffs = backed book diffs
 follow Redo book diffs = forwarded book diffs
 
--- sent lists followed one after another
+-- a refusal names the entry that it comes from
+abbrev pub in_entry : ℕ → Result Book EditError → Result Book EditError
+in_entry at (Err (DiffRefused entry diff)) = Err (DiffRefused at diff)
+in_entry at (Err error) = Err error
+in_entry at (Ok book) = Ok book
+
+-- sent lists followed one after another, where the first has the number at
+abbrev pub replayed_from : ℕ → Book → List QueueDiffs → Result Book EditError
+replayed_from at book [] = Ok book
+replayed_from at book (entry ∷ entries) = and_then (in_entry at (follow entry.kind book entry.list)) (λ next. replayed_from (at + 1) next entries)
+
+-- the workbook after all entries of a queue
 abbrev pub replayed : Book → List QueueDiffs → Result Book EditError
-replayed book [] = Ok book
-replayed book (entry ∷ entries) = and_then (follow entry.kind book entry.list) (λ next. replayed next entries)
+replayed book entries = replayed_from 0 book entries
+
+-- some first entries of a queue lead from one workbook to the other
+pub record IsFrontOf (entries : List QueueDiffs) (old new : Book) : Type 0 where
+  pub count : ℕ
+  pub led : replayed old (take count entries) ≡ Ok new
+
+-- a queue is followed to its end, or to the first entry that is refused; the entries before it stand
+pub record Replays (result : Result (Unit {0}) EditError) (old new : Book) (entries : List QueueDiffs) : Type 0 where
+  pub done : OnOk result (replayed old entries ≡ Ok new)
+  pub refused : IfErr result (λ error. error ≢ NoMemory → replayed old entries ≡ Err error)
+  pub stands : OnErr result (IsFrontOf entries old new)
 
 -- the numbers of both cells are as a sheet keeps them
 abbrev pub IsKeptDiff : Diff → Type 0
@@ -63,3 +84,7 @@ IsKeptDiff (CellDiff sheet place old new) = IfSome old IsKeptCell × IfSome new 
 
 abbrev pub IsKeptList : List Diff → Type 0
 IsKeptList diffs = All IsKeptDiff diffs
+
+-- so are those of every list of a queue
+abbrev pub IsKeptQueue : List QueueDiffs → Type 0
+IsKeptQueue entries = All (λ entry. IsKeptList entry.list) entries

@@ -3,3 +3,4 @@ pub mod Diffs
 pub mod Stacks
 pub mod Records
 pub mod RecordLaws
+pub mod ReplayLaws

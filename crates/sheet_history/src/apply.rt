@@ -1,9 +1,9 @@
 ghost use Rattle.base_values.specs.Answers.{Answers, Edits};
 ghost use Rattle.std.specs.Prelude.{IfSome};
 ghost use Rattle.sheet_grid.specs.KeptCell.{IsKeptCell};
-ghost use Rattle.sheet_history.specs.Diffs.{IsKeptDiff, IsKeptList, backed, forwarded, put_in, step_back, step_forward};
+ghost use Rattle.sheet_history.specs.Diffs.{IsKeptDiff, IsKeptList, IsKeptQueue, Replays, backed, follow, forwarded, in_entry, put_in, step_back, step_forward};
 
-use crate::diff::{Diff, DiffList};
+use crate::diff::{Diff, DiffList, DiffType, QueueDiffs};
 use base_values::{EditError, Position, copy_of};
 use sheet_grid::{Cell, Workbook};
 
@@ -118,4 +118,36 @@ pub fn back_in_place(workbook: &mut Workbook, list: &DiffList) -> Result<(), Edi
             Ok(())
         }
     }
+}
+
+/// Follows one entry of a queue. `at` is its number in the queue.
+fn follow_entry(workbook: &mut Workbook, entry: &QueueDiffs, at: u64) -> Result<(), EditError>
+    requires { IsKeptList entry.now.list }
+    ensures { Edits result workbook.old workbook.new (in_entry at (follow entry.now.kind workbook.old entry.now.list)) }
+{
+    let followed = match entry.kind {
+        DiffType::Undo => back_in_place(workbook, &entry.list),
+        DiffType::Redo => forward_in_place(workbook, &entry.list),
+    };
+    match followed {
+        Err(EditError::DiffRefused { entry: _, diff }) => {
+            Err(EditError::DiffRefused { entry: at, diff })
+        }
+        other => other,
+    }
+}
+
+/// Follows the entries of a queue one after another, in the workbook itself: an entry of undo takes
+/// its list back, an entry of redo makes its changes.
+///
+/// `DiffRefused` with the numbers of the first entry and diff that do not fit. The entries before
+/// it stand, that entry changes nothing; the same holds of want of memory.
+pub fn replay_in_place(workbook: &mut Workbook, queue: &[QueueDiffs]) -> Result<(), EditError>
+    requires { IsKeptQueue queue.now }
+    ensures { Replays result workbook.old workbook.new queue.now }
+{
+    for (index, entry) in queue.iter().enumerate() {
+        follow_entry(workbook, entry, index as u64)?;
+    }
+    Ok(())
 }

@@ -9,7 +9,7 @@ mod diff;
 mod history;
 mod laws;
 
-pub use apply::{back, back_in_place, forward, forward_in_place};
+pub use apply::{back, back_in_place, forward, forward_in_place, replay_in_place};
 pub use diff::{Diff, DiffList, DiffType, QueueDiffs};
 pub use history::History;
 pub use laws::records_are_unique;

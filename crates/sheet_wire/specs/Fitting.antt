@@ -1,0 +1,84 @@
+-- What bytes can carry: lists and queues of parts that fit, and the numbers in them.
+use Rattle.std.proofs.Common.{◌≡◌, ℕ, zero, suc, ◌+◌, ◌^◌, ◌<◌, List, [], ◌∷◌, ◌++◌, length, All, Option, Some, None, refl, arith}
+use Rattle.std.specs.Prelude.{IfSome, FitsSigned, codes}
+use Rattle.std.specs.List.{AllByRecursion}
+use Rattle.std.specs.Str.{IsAscii}
+use Rattle.std.proofs.lemmas.List.Elements.{All-from_recursion}
+use Rattle.std.proofs.lemmas.Str.{IsUtf8-from_ascii}
+use Rattle.base_values.specs.declared.Position.{Position}
+use Rattle.base_styles.specs.DefaultStyle.{default_style}
+use Rattle.sheet_grid.specs.declared.Content.{Content}
+use Rattle.sheet_grid.specs.declared.Content.TheVariants.{Empty, Number, Boolean, Error as ErrorValue, Text}
+use Rattle.sheet_grid.specs.declared.Cell.{Cell}
+use Rattle.sheet_grid.specs.KeptCell.{IsKeptContent, IsKeptCell}
+use Rattle.sheet_history.specs.declared.Diff.{Diff}
+use Rattle.sheet_history.specs.declared.Diff.TheVariants.{Cell as CellDiff}
+use Rattle.sheet_history.specs.declared.QueueDiffs.{QueueDiffs}
+use Rattle.sheet_history.specs.Diffs.{IsKeptDiff, IsKeptList}
+use Rattle.sheet_wire.specs.Spelling.{FitsText, FitsItems}
+use Rattle.sheet_wire.specs.StyleBytes.{FitsStyle}
+use Rattle.sheet_wire.specs.CellBytes.{FitsContent, FitsCell, FitsPosition}
+use Rattle.sheet_wire.specs.QueueBytes.{FitsCellDiff, FitsDiff, FitsList, FitsEntry, FitsQueue}
+
+-- ---- what fits
+
+ascii_by_items : (bytes : List ℕ) → AllByRecursion (λ b. b < 128) bytes → IsAscii bytes
+ascii_by_items [] all i = omega arith
+ascii_by_items (b ∷ bytes) all zero = all.0
+ascii_by_items (b ∷ bytes) all (suc i) = ascii_by_items bytes all.1 i
+
+general_ascii : AllByRecursion (λ b. b < 128) (codes "general")
+general_ascii = (omega arith, (omega arith, (omega arith, (omega arith, (omega arith, (omega arith, (omega arith, tt)))))))
+
+pub default_style_fits : FitsStyle default_style
+default_style_fits = record {
+  font = record { size = record { sfits = omega arith }; color = tt };
+  fill = tt;
+  border = record { left = tt; right = tt; top = tt; bottom = tt };
+  num_fmt = record { short = omega arith; utf8 = IsUtf8-from_ascii (codes "general") (ascii_by_items (codes "general") general_ascii) };
+}
+
+-- one cell diff
+pub cell_list_fits : (sheet : ℕ) (place : Position) (old new : Option Cell) → sheet < 2 ^ 32 → FitsPosition place → IfSome old FitsCell → IfSome new FitsCell → FitsList (CellDiff sheet place old new ∷ [])
+cell_list_fits sheet place old new id inside before later = record {
+  short = omega arith;
+  each = (record { sheet = id; place = inside; old = before; new = later }, tt);
+}
+
+pub empty_queue_fits : FitsQueue []
+empty_queue_fits = record { short = omega arith; each = tt }
+
+all_push : {A : Type 0} (P : A → Type 0) (xs : List A) (x : A) → AllByRecursion P xs → P x → AllByRecursion P (xs ++ x ∷ [])
+all_push P [] x all p = (p, tt)
+all_push P (y ∷ ys) x all p = (all.0, all_push P ys x all.1 p)
+
+-- one more entry
+pub queue_push_fits : (queue : List QueueDiffs) (entry : QueueDiffs) → FitsQueue queue → FitsEntry entry → length (queue ++ entry ∷ []) < 2 ^ 64 → FitsQueue (queue ++ entry ∷ [])
+queue_push_fits queue entry fits one short = record { short = short; each = all_push FitsEntry queue entry fits.each one }
+
+-- ---- what fits is kept
+
+pub kept_content_from_fits : (content : Content) → FitsContent content → IsKeptContent content
+kept_content_from_fits Empty fits = tt
+kept_content_from_fits (Number number) fits = fits
+kept_content_from_fits (Boolean value) fits = tt
+kept_content_from_fits (ErrorValue error) fits = tt
+kept_content_from_fits (Text text) fits = tt
+
+pub kept_cell_from_fits : (cell : Cell) → FitsCell cell → IsKeptCell cell
+kept_cell_from_fits cell fits = kept_content_from_fits cell.content fits.content
+
+kept_option : (entry : Option Cell) → IfSome entry FitsCell → IfSome entry IsKeptCell
+kept_option None fits = tt
+kept_option (Some cell) fits = kept_cell_from_fits cell fits
+
+pub kept_diff_from_fits : (diff : Diff) → FitsDiff diff → IsKeptDiff diff
+kept_diff_from_fits (CellDiff sheet place old new) fits = (kept_option old fits.old, kept_option new fits.new)
+
+kept_diffs : (diffs : List Diff) → AllByRecursion FitsDiff diffs → AllByRecursion IsKeptDiff diffs
+kept_diffs [] fits = tt
+kept_diffs (diff ∷ diffs) fits = (kept_diff_from_fits diff fits.0, kept_diffs diffs fits.1)
+
+-- so a list that was read can be followed
+pub kept_list_from_fits : (diffs : List Diff) → FitsList diffs → IsKeptList diffs
+kept_list_from_fits diffs fits = All-from_recursion IsKeptDiff diffs (kept_diffs diffs fits.each)

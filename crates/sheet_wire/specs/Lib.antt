@@ -1,0 +1,10 @@
+pub mod Reading
+pub mod Spelling
+pub mod StyleBytes
+pub mod CellBytes
+pub mod QueueBytes
+pub mod Again
+pub mod Sixteen
+pub mod PartsAgain
+pub mod QueueLaws
+pub mod Fitting

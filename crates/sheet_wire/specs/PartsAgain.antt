@@ -1,0 +1,268 @@
+-- What is spelled of styles, cells and diffs is read again.
+use Rattle.std.proofs.Common.{◌≡◌, ℕ, ℤ, ◌+◌, ◌^◌, ◌<◌, ◌≤◌, ◌&&◌, Bool, true, false, List, [], ◌∷◌, ◌++◌, length, Option, Some, None, Result, Ok, Err, refl, ap, ◌∙◌, arith}
+use Rattle.std.specs.Prelude.{IfSome, FitsSigned, unsigned_abs}
+use Rattle.std.proofs.lemmas.Bool.{leb-true, ltb-true}
+use Rattle.std.proofs.lemmas.Int.{fits_signed_from_abs}
+use Rattle.std.proofs.Math.Nat.{pow-le-pow_right}
+use Rattle.std.specs.Int.{w32, w64, w128, to_be_bytes}
+use Rattle.base_values.specs.declared.EditError.{EditError}
+use Rattle.base_values.specs.declared.Position.{Position}
+use Rattle.base_decimal.specs.declared.Decimal.{Decimal}
+use Rattle.base_decimal.specs.Kept.{is_kept, IsKept}
+use Rattle.base_tables.specs.declared.Error.{Error}
+use Rattle.base_tables.specs.declared.Error.TheVariants.{Ref, Name, Value, DivisionByZero, NotAvailable, Number as NumberError, General, NotImplemented, Spill, Calc, Circular, Null}
+use Rattle.base_styles.specs.declared.ThemeColor.{ThemeColor}
+use Rattle.base_styles.specs.declared.ThemeColor.TheVariants.{Light1, Dark1, Light2, Dark2, Accent1, Accent2, Accent3, Accent4, Accent5, Accent6, Hyperlink, FollowedHyperlink}
+use Rattle.base_styles.specs.declared.Color.{Color}
+use Rattle.base_styles.specs.declared.Color.TheVariants.{None as NoColor, Rgb, Theme}
+use Rattle.base_styles.specs.declared.BorderStyle.{BorderStyle}
+use Rattle.base_styles.specs.declared.BorderStyle.TheVariants.{Dotted, Thin, MediumDashDotDot, MediumDashDot, SlantDashDot, MediumDashed, Medium, Thick, Double}
+use Rattle.base_styles.specs.declared.BorderItem.{BorderItem}
+use Rattle.base_styles.specs.declared.Border.{Border}
+use Rattle.base_styles.specs.declared.HorizontalAlignment.{HorizontalAlignment}
+use Rattle.base_styles.specs.declared.HorizontalAlignment.TheVariants as horizontal
+use Rattle.base_styles.specs.declared.VerticalAlignment.{VerticalAlignment}
+use Rattle.base_styles.specs.declared.VerticalAlignment.TheVariants as vertical
+use Rattle.base_styles.specs.declared.Alignment.{Alignment}
+use Rattle.base_styles.specs.declared.Font.{Font}
+use Rattle.base_styles.specs.declared.Style.{Style}
+use Rattle.sheet_grid.specs.declared.Content.{Content}
+use Rattle.sheet_grid.specs.declared.Content.TheVariants.{Empty, Number, Boolean, Error as ErrorValue, Text}
+use Rattle.sheet_grid.specs.declared.Cell.{Cell}
+use Rattle.sheet_history.specs.declared.Diff.{Diff}
+use Rattle.sheet_history.specs.declared.Diff.TheVariants.{Cell as CellDiff}
+use Rattle.sheet_history.specs.declared.DiffType.{DiffType}
+use Rattle.sheet_history.specs.declared.DiffType.TheVariants.{Undo, Redo}
+use Rattle.sheet_history.specs.declared.QueueDiffs.{QueueDiffs}
+use Rattle.sheet_wire.specs.Reading.{Reader, map_at, number_at, ◌⊗◌, decoded, code_at, signed_at, text_at, list_at}
+use Rattle.sheet_wire.specs.Spelling.{spell_signed, spell_code, boolean_code, booleans, spell_text, spell_option, spell_list, FitsText}
+use Rattle.sheet_wire.specs.StyleBytes.{theme_code, theme_colors, spell_color, color_at, FitsColor, spell_font, boolean_at, font_made, font_at, FitsFont, border_code, border_styles, spell_border_item, border_item_made, border_item_at, FitsBorderItem, spell_border, border_made, side_at, border_at, FitsBorder, horizontal_code, horizontals, vertical_code, verticals, spell_alignment, alignment_made, alignment_at, alignment_option_at, spell_style, style_made, style_at, FitsStyle}
+use Rattle.sheet_wire.specs.CellBytes.{spell_position, position_made, position_at, FitsPosition, spell_decimal, decimal_made, decimal_at, error_code, errors, spell_content, content_at, FitsContent, spell_cell, cell_made, cell_at, FitsCell}
+use Rattle.sheet_wire.specs.QueueBytes.{spell_diff, cell_diff_made, entry_of_cell_at, cell_diff_at, diff_at, FitsCellDiff, FitsDiff, FitsList, direction_code, directions, spell_entry, entry_made, list_of_diffs_at, entry_at, FitsEntry}
+use Rattle.sheet_wire.specs.Again.{ReadsAgain, Any, both_again, map_again, check_again, byte_again, code_again, wide32, wide64, wide128, number_again, signed_again, text_again, option_again, list_again}
+
+-- ---- colours
+
+boolean_known : (x : Bool) → decoded boolean_code booleans (boolean_code x) ≡ Some x
+boolean_known false = refl
+boolean_known true = refl
+
+boolean_again : ReadsAgain Any (spell_code boolean_code) boolean_at
+boolean_again = code_again boolean_code booleans boolean_known
+
+theme_known : (x : ThemeColor) → decoded theme_code theme_colors (theme_code x) ≡ Some x
+theme_known Light1 = refl
+theme_known Dark1 = refl
+theme_known Light2 = refl
+theme_known Dark2 = refl
+theme_known Accent1 = refl
+theme_known Accent2 = refl
+theme_known Accent3 = refl
+theme_known Accent4 = refl
+theme_known Accent5 = refl
+theme_known Accent6 = refl
+theme_known Hyperlink = refl
+theme_known FollowedHyperlink = refl
+
+color_again : ReadsAgain FitsColor spell_color color_at
+unfolding color_at
+color_again = record { again = one }
+  where
+    one : (x : Color) (rest : List ℕ) → FitsColor x → color_at (spell_color x ++ rest) ≡ Ok (x, rest)
+    one NoColor rest fits = refl
+    one (Rgb red green blue) rest fits = refl
+    one (Theme theme) rest fits = rw (theme_known theme) refl
+
+-- ---- fonts
+
+font_again : ReadsAgain FitsFont spell_font font_at
+unfolding font_at
+font_again = record {
+  again = λ x rest fits.
+      (map_again (both_again boolean_again (both_again boolean_again (both_again boolean_again (both_again boolean_again (both_again (signed_again wide32) color_again)))))
+      font_made (λ font. (font.b, (font.i, (font.u, (font.strike, (font.sz, font.color)))))) (λ y. refl)).again x rest (tt, (tt, (tt, (tt, (fits.size, fits.color)))));
+}
+
+-- ---- borders
+
+border_known : (x : BorderStyle) → decoded border_code border_styles (border_code x) ≡ Some x
+border_known Dotted = refl
+border_known Thin = refl
+border_known MediumDashDotDot = refl
+border_known MediumDashDot = refl
+border_known SlantDashDot = refl
+border_known MediumDashed = refl
+border_known Medium = refl
+border_known Thick = refl
+border_known Double = refl
+
+border_item_again : ReadsAgain FitsBorderItem spell_border_item border_item_at
+unfolding border_item_at
+border_item_again = record {
+  again = λ x rest fits.
+      (map_again (both_again (code_again border_code border_styles border_known) color_again)
+      border_item_made (λ item. (item.style, item.color)) (λ y. refl)).again x rest (tt, fits);
+}
+
+side_again : ReadsAgain (λ side. IfSome side FitsBorderItem) (spell_option spell_border_item) side_at
+unfolding side_at
+side_again = option_again border_item_again
+
+border_again : ReadsAgain FitsBorder spell_border border_at
+unfolding border_at
+border_again = record {
+  again = λ x rest fits.
+      (map_again (both_again side_again (both_again side_again (both_again side_again side_again)))
+      border_made (λ border. (border.left, (border.right, (border.top, border.bottom)))) (λ y. refl)).again x rest (fits.left, (fits.right, (fits.top, fits.bottom)));
+}
+
+-- ---- alignments
+
+horizontal_known : (x : HorizontalAlignment) → decoded horizontal_code horizontals (horizontal_code x) ≡ Some x
+horizontal_known horizontal.General = refl
+horizontal_known horizontal.Left = refl
+horizontal_known horizontal.Center = refl
+horizontal_known horizontal.Right = refl
+horizontal_known horizontal.Fill = refl
+horizontal_known horizontal.Justify = refl
+horizontal_known horizontal.CenterContinuous = refl
+horizontal_known horizontal.Distributed = refl
+
+vertical_known : (x : VerticalAlignment) → decoded vertical_code verticals (vertical_code x) ≡ Some x
+vertical_known vertical.Bottom = refl
+vertical_known vertical.Center = refl
+vertical_known vertical.Distributed = refl
+vertical_known vertical.Justify = refl
+vertical_known vertical.Top = refl
+
+alignment_again : ReadsAgain Any spell_alignment alignment_at
+unfolding alignment_at
+alignment_again = record {
+  again = λ x rest fits.
+      (map_again (both_again (code_again horizontal_code horizontals horizontal_known) (both_again (code_again vertical_code verticals vertical_known) boolean_again))
+      alignment_made (λ alignment. (alignment.horizontal, (alignment.vertical, alignment.wrap_text))) (λ y. refl)).again x rest (tt, (tt, tt));
+}
+
+if_any : {A : Type 0} (o : Option A) → IfSome o Any
+if_any None = tt
+if_any (Some x) = tt
+
+alignment_option_again : ReadsAgain Any (spell_option spell_alignment) alignment_option_at
+unfolding alignment_option_at
+alignment_option_again = record { again = λ x rest fits. (option_again alignment_again).again x rest (if_any x) }
+
+-- ---- styles
+
+pub style_again : ReadsAgain FitsStyle spell_style style_at
+unfolding style_at
+style_again = record {
+  again = λ x rest fits.
+      (map_again (both_again font_again (both_again color_again (both_again border_again (both_again text_again alignment_option_again))))
+      style_made (λ style. (style.font, (style.fill, (style.border, (style.num_fmt, style.alignment))))) (λ y. refl)).again x rest (fits.font, (fits.fill, (fits.border, (fits.num_fmt, tt))));
+}
+
+-- ---- cells
+
+pub position_again : ReadsAgain FitsPosition spell_position position_at
+unfolding position_at
+position_again = record {
+  again = λ x rest fits.
+      (map_again (both_again (signed_again wide32) (signed_again wide32))
+      position_made (λ place. (place.row, place.column)) (λ y. refl)).again x rest (fits.row, fits.column);
+}
+
+both_hold : (a b c : Bool) → a && b && c ≡ true → (a ≡ true) × (b ≡ true)
+both_hold true true c h = (refl, refl)
+both_hold true false c h = absurd cc
+both_hold false b c h = absurd cc
+
+kept_places : (d : Decimal) → IsKept d → d.places ≤ 15
+unfolding is_kept
+kept_places d kept = leb-true d.places 15 (both_hold _ _ _ kept).0
+
+kept_mantissa : (d : Decimal) → IsKept d → FitsSigned w128 d.mantissa
+unfolding is_kept
+kept_mantissa d kept =
+    let few : 15 + d.places ≤ 30 = omega (arith, kept_places d kept) in
+    let below : unsigned_abs d.mantissa < 10 ^ (15 + d.places) = ltb-true (unsigned_abs d.mantissa) (10 ^ (15 + d.places)) (both_hold _ _ _ kept).1 in
+    let most : 10 ^ (15 + d.places) ≤ 10 ^ 30 = pow-le-pow_right (omega arith) few in
+    let within : unsigned_abs d.mantissa < 2 ^ 127 = omega arith in
+    fits_signed_from_abs w128 d.mantissa within
+
+pub decimal_again : ReadsAgain IsKept spell_decimal decimal_at
+unfolding decimal_at
+decimal_again = record {
+  again = λ x rest fits.
+      (check_again (map_again (both_again (signed_again wide128) byte_again) decimal_made (λ d. (d.mantissa, d.places)) (λ y. refl)) is_kept).again x rest
+      ((kept_mantissa x fits, omega (arith, kept_places x fits)), fits);
+}
+
+error_known : (x : Error) → decoded error_code errors (error_code x) ≡ Some x
+error_known Ref = refl
+error_known Name = refl
+error_known Value = refl
+error_known DivisionByZero = refl
+error_known NotAvailable = refl
+error_known NumberError = refl
+error_known General = refl
+error_known NotImplemented = refl
+error_known Spill = refl
+error_known Calc = refl
+error_known Circular = refl
+error_known Null = refl
+
+pub content_again : ReadsAgain FitsContent spell_content content_at
+unfolding content_at
+content_again = record { again = one }
+  where
+    one : (x : Content) (rest : List ℕ) → FitsContent x → content_at (spell_content x ++ rest) ≡ Ok (x, rest)
+    one Empty rest fits = refl
+    one (Number number) rest fits = rw (decimal_again.again number rest fits) refl
+    one (Boolean value) rest fits = rw (boolean_again.again value rest tt) refl
+    one (ErrorValue error) rest fits = rw (error_known error) refl
+    one (Text text) rest fits = rw (text_again.again text rest fits) refl
+
+pub cell_again : ReadsAgain FitsCell spell_cell cell_at
+unfolding cell_at
+cell_again = record {
+  again = λ x rest fits.
+      (map_again (both_again content_again style_again) cell_made (λ cell. (cell.content, cell.style)) (λ y. refl)).again x rest (fits.content, fits.style);
+}
+
+-- ---- diffs and queues
+
+cell_option_again : ReadsAgain (λ entry. IfSome entry FitsCell) (spell_option spell_cell) entry_of_cell_at
+unfolding entry_of_cell_at
+cell_option_again = option_again cell_again
+
+map_reads : {A B : Type 0} (f : A → B) (r : Reader A) (bytes : List ℕ) (x : A) (rest : List ℕ) → r bytes ≡ Ok (x, rest) → map_at f r bytes ≡ Ok (f x, rest)
+map_reads f r bytes x rest h = rw h refl
+
+pub diff_again : ReadsAgain FitsDiff spell_diff diff_at
+unfolding diff_at cell_diff_at
+diff_again = record { again = one }
+  where
+    one : (x : Diff) (rest : List ℕ) → FitsDiff x → diff_at (spell_diff x ++ rest) ≡ Ok (x, rest)
+    one (CellDiff sheet place old new) rest fits =
+        map_reads cell_diff_made (number_at w32 ⊗ position_at ⊗ entry_of_cell_at ⊗ entry_of_cell_at) ((to_be_bytes w32 sheet ++ (spell_position place ++ (spell_option spell_cell old ++ spell_option spell_cell new))) ++ rest) (sheet, (place, (old, new))) rest
+        ((both_again (number_again wide32) (both_again position_again (both_again cell_option_again cell_option_again))).again (sheet, (place, (old, new))) rest
+        (fits.sheet, (fits.place, (fits.old, fits.new))))
+
+some_byte : (x : Diff) → 1 ≤ length (spell_diff x)
+some_byte (CellDiff sheet place old new) = omega arith
+
+list_of_diffs_again : ReadsAgain FitsList (spell_list spell_diff) list_of_diffs_at
+unfolding list_of_diffs_at
+list_of_diffs_again = list_again diff_again some_byte
+
+direction_known : (x : DiffType) → decoded direction_code directions (direction_code x) ≡ Some x
+direction_known Undo = refl
+direction_known Redo = refl
+
+pub entry_again : ReadsAgain FitsEntry spell_entry entry_at
+unfolding entry_at
+entry_again = record {
+  again = λ x rest fits.
+      (map_again (both_again (code_again direction_code directions direction_known) list_of_diffs_again)
+      entry_made (λ entry. (entry.kind, entry.list)) (λ y. refl)).again x rest (tt, fits);
+}

@@ -1,0 +1,86 @@
+-- The bytes of a queue of diffs.
+use Rattle.std.specs.Prelude.{ℕ, ◌<◌, ◌^◌, List, [], ◌∷◌, ◌++◌, Option, Result, ◌==◌, if◌then◌else◌, IfSome, codes}
+use Rattle.std.specs.Int.{w32, to_be_bytes}
+use Rattle.base_values.specs.declared.EditError.{EditError}
+use Rattle.base_values.specs.declared.Position.{Position}
+use Rattle.sheet_grid.specs.declared.Cell.{Cell}
+use Rattle.sheet_history.specs.declared.Diff.{Diff}
+use Rattle.sheet_history.specs.declared.Diff.TheVariants.{Cell as CellDiff}
+use Rattle.sheet_history.specs.declared.DiffType.{DiffType}
+use Rattle.sheet_history.specs.declared.DiffType.TheVariants.{Undo, Redo}
+use Rattle.sheet_history.specs.declared.QueueDiffs.{QueueDiffs}
+use Rattle.sheet_wire.specs.Reading.{Reader, refused, map_at, ◌⊗◌, tagged_at, code_at, number_at, option_at, list_at, after, whole}
+use Rattle.sheet_wire.specs.Spelling.{spell_code, spell_option, spell_list, FitsItems}
+use Rattle.sheet_wire.specs.CellBytes.{spell_position, position_at, FitsPosition, spell_cell, cell_at, FitsCell}
+
+-- ---- diffs
+
+abbrev pub spell_diff : Diff → List ℕ
+spell_diff (CellDiff sheet place old new) =
+    1 ∷ (to_be_bytes w32 sheet ++ (spell_position place ++ (spell_option spell_cell old ++ spell_option spell_cell new)))
+
+abbrev pub cell_diff_made : ℕ × (Position × (Option Cell × Option Cell)) → Diff
+cell_diff_made x = CellDiff x.0 x.1.0 x.1.1.0 x.1.1.1
+
+unfoldable pub entry_of_cell_at : Reader (Option Cell)
+entry_of_cell_at = option_at cell_at
+
+unfoldable pub cell_diff_at : Reader Diff
+cell_diff_at = map_at cell_diff_made (number_at w32 ⊗ position_at ⊗ entry_of_cell_at ⊗ entry_of_cell_at)
+
+abbrev pub diff_of : ℕ → Reader Diff
+diff_of tag = if tag == 1 then cell_diff_at else refused
+
+unfoldable pub diff_at : Reader Diff
+diff_at = tagged_at diff_of
+
+pub record FitsCellDiff (id : ℕ) (position : Position) (before later : Option Cell) : Type 0 where
+  pub sheet : id < 2 ^ 32
+  pub place : FitsPosition position
+  pub old : IfSome before FitsCell
+  pub new : IfSome later FitsCell
+
+abbrev pub FitsDiff : Diff → Type 0
+FitsDiff (CellDiff sheet place old new) = FitsCellDiff sheet place old new
+
+abbrev pub FitsList : List Diff → Type 0
+FitsList = FitsItems FitsDiff
+
+-- ---- entries
+
+abbrev pub direction_code : DiffType → ℕ
+direction_code Undo = 0
+direction_code Redo = 1
+
+abbrev pub directions : List DiffType
+directions = Undo ∷ Redo ∷ []
+
+abbrev pub spell_entry : QueueDiffs → List ℕ
+spell_entry entry = spell_code direction_code entry.kind ++ spell_list spell_diff entry.list
+
+abbrev pub entry_made : DiffType × List Diff → QueueDiffs
+entry_made x = record { kind = x.0; list = x.1 }
+
+unfoldable pub list_of_diffs_at : Reader (List Diff)
+list_of_diffs_at = list_at diff_at
+
+unfoldable pub entry_at : Reader QueueDiffs
+entry_at = map_at entry_made (code_at direction_code directions ⊗ list_of_diffs_at)
+
+abbrev pub FitsEntry : QueueDiffs → Type 0
+FitsEntry entry = FitsList entry.list
+
+-- ---- queues
+
+-- the bytes that every queue begins with
+abbrev pub magic : List ℕ
+magic = codes "ICQ1"
+
+unfoldable pub spell_queue : List QueueDiffs → List ℕ
+spell_queue queue = magic ++ spell_list spell_entry queue
+
+unfoldable pub queue_of : List ℕ → Result (List QueueDiffs) EditError
+queue_of = whole (after magic (list_at entry_at))
+
+abbrev pub FitsQueue : List QueueDiffs → Type 0
+FitsQueue = FitsItems FitsEntry

@@ -1,0 +1,4 @@
+pub mod Digits
+pub mod Splitting
+pub mod Words
+pub mod Unescaping

@@ -1,0 +1,44 @@
+-- The names of cells, as B3: one to three letters for the column, one to seven digits for the row.
+use Rattle.std.specs.Prelude.{ℕ, ℤ, pos, ◌+◌, ◌-◌, ◌*◌, ◌^◌, Bool, ◌&&◌, ◌||◌, List, [], ◌∷◌, ◌++◌, length, take, drop, nat_le, if◌then◌else◌, decimal}
+use Rattle.std.specs.List.{prefix_len}
+use Rattle.std.specs.Option.{option_and_then, option_map}
+use Rattle.std.specs.declared.option.Option.{Option}
+use Rattle.std.specs.declared.option.Option.TheVariants.{Some, None}
+use Rattle.script_lines.specs.declared.reference.Reference.{Reference}
+use Rattle.script_lines.specs.Number.{are_digits, value_of}
+
+abbrev pub is_between : ℕ → ℕ → ℕ → Bool
+is_between low high b = nat_le low b && nat_le b high
+
+-- an ASCII letter of either case
+abbrev pub is_letter : ℕ → Bool
+is_letter b = is_between 65 90 b || is_between 97 122 b
+
+-- A is 1, and Z 26
+abbrev pub letter_value : ℕ → ℕ
+letter_value b = if nat_le 97 b then b - 96 else b - 64
+
+-- the number of letters, each by its power of 26: AA is 27
+abbrev pub letters_value : List ℕ → ℕ
+letters_value [] = 0
+letters_value (b ∷ letters) = letter_value b * 26 ^ length letters + letters_value letters
+
+-- the column of one to three letters
+abbrev pub read_column : List ℕ → Option ℕ
+read_column letters = if is_between 1 3 (length letters) then Some (letters_value letters) else None
+
+-- the row of one to seven digits
+abbrev pub read_row : List ℕ → Option ℕ
+read_row digits = if is_between 1 7 (length digits) && are_digits digits then Some (value_of digits) else None
+
+-- the letters at the front, and what follows them
+abbrev pub letters_of : List ℕ → List ℕ
+letters_of bytes = take (prefix_len is_letter bytes) bytes
+
+abbrev pub digits_of : List ℕ → List ℕ
+digits_of bytes = drop (prefix_len is_letter bytes) bytes
+
+-- the row and column that the bytes name
+abbrev pub reference_of : List ℕ → Option Reference
+reference_of bytes =
+    option_and_then (λ column. option_map (λ row. record { row = pos row; column = pos column }) (read_row (digits_of bytes))) (read_column (letters_of bytes))

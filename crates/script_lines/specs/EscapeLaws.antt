@@ -1,12 +1,12 @@
 -- Laws of escaped texts.
 use Rattle.std.proofs.Common.{◌≡◌, ◌≢◌, ℕ, ◌+◌, ◌/◌, ◌%◌, ◌<◌, ◌≤◌, ◌==◌, Bool, true, false, cond, List, [], ◌∷◌, ◌++◌, Option, Some, None, option_map, refl, sym, ap, subst, ◌∙◌, arith}
-use Rattle.std.specs.Prelude.{IfSome, ◌&&◌}
+use Rattle.std.specs.Prelude.{IfSome, ◌&&◌, not}
 use Rattle.std.specs.Str.{IsUtf8, encode_utf8_all, all_scalars}
 use Rattle.std.proofs.Math.Utf8.{encode}
 use Rattle.std.proofs.lemmas.Str.{IsUtf8-nil, IsUtf8-encode, IsUtf8-append, IsUtf8-from_ascii}
 use Rattle.std.proofs.lemmas.Bool.{ne_eqb, eqb-true, eqb-false, and_parts, ltb-false}
 use lib.Dec.{eqb, ltb}
-use Rattle.script_lines.specs.Escapes.{escape_byte, escaped, unescaped, onto}
+use Rattle.script_lines.specs.Escapes.{escape_byte, escaped, unescaped, onto, is_one_line}
 
 -- ---- bytes that are no backslash
 
@@ -129,3 +129,54 @@ unescaped-IsUtf8 bytes h = subst (λ b. IfSome (unescaped b) IsUtf8) h.1.1 (char
 pub unescaped-escaped : (text : List ℕ) → unescaped (escaped text) ≡ Some text
 unescaped-escaped [] = refl
 unescaped-escaped (b ∷ text) = undone_byte b (escaped text) text (unescaped-escaped text)
+
+-- ---- on one line nothing else stands for a text
+
+record Begins (b : ℕ) (o : Option (List ℕ)) (text : List ℕ) : Type 0 where
+  rest : List ℕ
+  is : o ≡ Some rest
+  whole : text ≡ b ∷ rest
+
+begins : (b : ℕ) (o : Option (List ℕ)) (text : List ℕ) → onto b o ≡ Some text → Begins b o text
+begins b None text e = absurd cc
+begins b (Some rest) text e = record { rest = rest; is = refl; whole = cc }
+
+other_byte : (b : ℕ) → b == 10 ≡ false → b == 92 ≡ false → b ∷ [] ≡ escape_byte b
+other_byte b e f = sym (ap (λ t. cond t (92 ∷ 110 ∷ []) (cond (b == 92) (92 ∷ 92 ∷ []) (b ∷ []))) e ∙ ap (λ t. cond t (92 ∷ 92 ∷ []) (b ∷ [])) f)
+
+onto_other : (b : ℕ) (bytes text rest : List ℕ) → b == 10 ≡ false → b == 92 ≡ false → text ≡ b ∷ rest → bytes ≡ escaped rest → b ∷ bytes ≡ escaped text
+onto_other b bytes text rest e f whole is = ap (λ l. b ∷ l) is ∙ ap (λ l. l ++ escaped rest) (other_byte b e f) ∙ ap escaped (sym whole)
+
+no_line_feed : (b : ℕ) (bytes : List ℕ) → is_one_line (b ∷ bytes) ≡ true → (b == 10 ≡ false) × (is_one_line bytes ≡ true)
+no_line_feed b bytes e = let h = and_parts (not (b == 10)) (is_one_line bytes) e in (not_true (b == 10) h.0, h.1)
+  where
+    not_true : (t : Bool) → not t ≡ true → t ≡ false
+    not_true true f = absurd cc
+    not_true false f = refl
+
+pub only_escaped : (bytes text : List ℕ) → is_one_line bytes ≡ true → unescaped bytes ≡ Some text → bytes ≡ escaped text
+only_escaped [] text l e = let is : [] ≡ text = cc in ap escaped is
+only_escaped (b ∷ []) text l e = go (b == 92) refl e
+  where
+    go : (t : Bool) → b == 92 ≡ t → cond t None (Some (b ∷ [])) ≡ Some text → b ∷ [] ≡ escaped text
+    go true f is = absurd cc
+    go false f is = let whole : text ≡ b ∷ [] = cc in onto_other b [] text [] (no_line_feed b [] l).0 f whole refl
+only_escaped (b ∷ c ∷ bytes) text l e =
+    let h = no_line_feed b (c ∷ bytes) l in
+    let k = no_line_feed c bytes h.1 in
+    go (λ rest is. only_escaped bytes rest k.1 is) (λ rest is. only_escaped (c ∷ bytes) rest h.1 is) (b == 92) refl e
+  where
+    escape : (n d : ℕ) (rest : List ℕ) → b ≡ 92 → c ≡ n → text ≡ d ∷ rest → escape_byte d ≡ 92 ∷ n ∷ [] → bytes ≡ escaped rest → b ∷ c ∷ bytes ≡ escaped text
+    escape n d rest back named whole written is =
+        (λ i. back i ∷ named i ∷ is i) ∙ ap (λ l. l ++ escaped rest) (sym written) ∙ ap escaped (sym whole)
+
+    behind_backslash : b ≡ 92 → ((rest : List ℕ) → unescaped bytes ≡ Some rest → bytes ≡ escaped rest) → (t s : Bool) → c == 110 ≡ t → c == 92 ≡ s
+        → cond t (onto 10 (unescaped bytes)) (cond s (onto 92 (unescaped bytes)) None) ≡ Some text → b ∷ c ∷ bytes ≡ escaped text
+    behind_backslash back more true s f g is = let x = begins 10 (unescaped bytes) text is in escape 110 10 x.rest back (eqb-true c 110 f) x.whole refl (more x.rest x.is)
+    behind_backslash back more false true f g is = let x = begins 92 (unescaped bytes) text is in escape 92 92 x.rest back (eqb-true c 92 g) x.whole refl (more x.rest x.is)
+    behind_backslash back more false false f g is = absurd cc
+
+    go : ((rest : List ℕ) → unescaped bytes ≡ Some rest → bytes ≡ escaped rest) → ((rest : List ℕ) → unescaped (c ∷ bytes) ≡ Some rest → c ∷ bytes ≡ escaped rest) → (t : Bool) → b == 92 ≡ t
+        → cond t (cond (c == 110) (onto 10 (unescaped bytes)) (cond (c == 92) (onto 92 (unescaped bytes)) None)) (onto b (unescaped (c ∷ bytes))) ≡ Some text → b ∷ c ∷ bytes ≡ escaped text
+    go more next true f is = behind_backslash (eqb-true b 92 f) more (c == 110) (c == 92) refl refl is
+    go more next false f is = let x = begins b (unescaped (c ∷ bytes)) text is in onto_other b (c ∷ bytes) text x.rest (no_line_feed b (c ∷ bytes) l).0 f x.whole (next x.rest x.is)

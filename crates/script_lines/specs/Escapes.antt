@@ -1,6 +1,6 @@
 -- Texts on one line: `\n` stands for a line feed, and `\\` for a backslash.
-use Rattle.std.specs.Prelude.{◌≡◌, ℕ, List, [], ◌∷◌, ◌==◌, if◌then◌else◌, codes}
-use Rattle.std.specs.List.{flat_map}
+use Rattle.std.specs.Prelude.{◌≡◌, ℕ, Bool, true, not, List, [], ◌∷◌, ◌==◌, if◌then◌else◌}
+use Rattle.std.specs.List.{flat_map, list_all}
 use Rattle.std.specs.Option.{option_map}
 use Rattle.std.specs.declared.option.Option.{Option}
 use Rattle.std.specs.declared.option.Option.TheVariants.{Some, None}
@@ -29,3 +29,11 @@ unescaped (b ∷ c ∷ bytes) =
 -- what is escaped stands for what it was
 abbrev pub IsUndone : Type 0
 IsUndone = (text : List ℕ) → unescaped (escaped text) ≡ Some text
+
+-- the bytes hold no line feed
+abbrev pub is_one_line : List ℕ → Bool
+is_one_line bytes = list_all (λ b. not (b == 10)) bytes
+
+-- on one line nothing else stands for a text
+abbrev pub IsOnlyWay : Type 0
+IsOnlyWay = (bytes text : List ℕ) → is_one_line bytes ≡ true → unescaped bytes ≡ Some text → bytes ≡ escaped text

@@ -1,10 +1,12 @@
 -- The names of cells, as B3: one to three letters for the column, one to seven digits for the row.
-use Rattle.std.specs.Prelude.{ℕ, ℤ, pos, ◌+◌, ◌-◌, ◌*◌, ◌^◌, Bool, ◌&&◌, ◌||◌, List, [], ◌∷◌, ◌++◌, length, take, drop, nat_le, if◌then◌else◌, decimal}
+use Rattle.std.specs.Prelude.{◌≡◌, ℕ, ℤ, pos, negsuc, ◌+◌, ◌-◌, ◌*◌, ◌/◌, ◌%◌, ◌^◌, Bool, ◌&&◌, ◌||◌, List, [], ◌∷◌, ◌++◌, length, take, drop, nat_le, if◌then◌else◌, decimal}
 use Rattle.std.specs.List.{prefix_len}
 use Rattle.std.specs.Option.{option_and_then, option_map}
 use Rattle.std.specs.declared.option.Option.{Option}
 use Rattle.std.specs.declared.option.Option.TheVariants.{Some, None}
 use Rattle.script_lines.specs.declared.reference.Reference.{Reference}
+use Rattle.base_values.specs.declared.position.Position.{Position}
+use Rattle.base_values.specs.Places.{IsPlace}
 use Rattle.script_lines.specs.Number.{are_digits, value_of}
 
 abbrev pub is_between : ℕ → ℕ → ℕ → Bool
@@ -42,3 +44,23 @@ digits_of bytes = drop (prefix_len is_letter bytes) bytes
 abbrev pub reference_of : List ℕ → Option Reference
 reference_of bytes =
     option_and_then (λ column. option_map (λ row. record { row = pos row; column = pos column }) (read_row (digits_of bytes))) (read_column (letters_of bytes))
+
+-- the letters of a column, from A to XFD
+abbrev pub letters_text : ℕ → List ℕ
+letters_text column =
+    if nat_le column 26 then (65 + (column - 1)) ∷ []
+    else (if nat_le column 702 then (65 + (column - 27) / 26) ∷ (65 + (column - 27) % 26) ∷ []
+    else (65 + (column - 703) / 26 / 26) ∷ (65 + (column - 703) / 26 % 26) ∷ (65 + (column - 703) % 26) ∷ [])
+
+-- a line of a sheet as a number without a sign: lines are counted from 1
+abbrev pub line_number : ℤ → ℕ
+line_number (pos n) = n
+line_number (negsuc n) = 0
+
+-- the name of a place
+abbrev pub reference_text : Position → List ℕ
+reference_text place = letters_text (line_number place.column) ++ decimal (line_number place.row)
+
+-- the name of a place names that place
+abbrev pub IsReadAgain : Type 0
+IsReadAgain = (place : Position) → IsPlace place → reference_of (reference_text place) ≡ Some (record { row = place.row; column = place.column })

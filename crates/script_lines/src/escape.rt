@@ -2,7 +2,7 @@ ghost use Rattle.std.specs.Prelude.{◌≡◌, ◌<◌, ◌++◌, ◌∷◌, len
 ghost use Rattle.std.specs.Str.{IsUtf8};
 ghost use Rattle.std.specs.Option.{option_map};
 ghost use Rattle.base_values.specs.declared.error.EditError.TheVariants.{NoMemory};
-ghost use Rattle.script_lines.specs.Escapes.{escape_byte, escaped, unescaped, onto, IsUndone};
+ghost use Rattle.script_lines.specs.Escapes.{escape_byte, escaped, unescaped, onto, IsUndone, IsOnlyWay};
 
 use base_values::{EditError, Text};
 use std::alloc::{AllocError, Global};
@@ -90,8 +90,9 @@ pub(crate) fn unescape(alloc: Global, text: &str) -> Result<Option<Text>, EditEr
     }
 }
 
-/// The law of escaping: an escaped text stands for that text.
-pub fn escaping_is_undone()
-    ensures { IsUndone }
+/// The laws of escaping: an escaped text stands for that text, and on one line nothing else does.
+pub fn escapes_read_back()
+    ensures undone { IsUndone }
+    ensures only { IsOnlyWay }
 {
 }

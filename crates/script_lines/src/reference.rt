@@ -1,8 +1,11 @@
-ghost use Rattle.std.specs.Prelude.{◌≡◌, ◌≤◌, ◌<◌, ◌^◌, true, length, pos, IfSome};
+ghost use Rattle.std.specs.Prelude.{◌≡◌, ◌≤◌, ◌≤ℤ◌, ◌<◌, ◌^◌, ◌++◌, true, decimal, length, pos, IfSome, OnOk};
 ghost use Rattle.std.specs.List.{list_all, prefix_len};
+ghost use Rattle.base_values.specs.Places.{IsPlace};
 ghost use Rattle.script_lines.specs.References as spec;
 
 use crate::number::read_u32;
+use base_values::Position;
+use std::alloc::{AllocError, Global};
 
 /// The row and column that a reference names, which may lie outside every sheet.
 #[derive(Clone, Copy, Debug, PartialEq, Eq)]
@@ -85,4 +88,56 @@ pub(crate) fn read_reference(bytes: &[u8]) -> Option<Reference>
         row: signed(row),
         column: signed(column),
     })
+}
+
+/// The column as a number without a sign.
+fn unsigned(line: i32) -> u32
+    requires { pos 1 ≤ℤ line }
+    ensures { line ≡ pos result }
+{
+    line as u32
+}
+
+fn push_letters(out: &mut Vec<u8>, column: u32) -> Result<(), AllocError>
+    requires low { 1 ≤ column }
+    requires high { column ≤ 16384 }
+    ensures { OnOk result (out.new.items ≡ out.old.items ++ spec.letters_text column) }
+{
+    if column <= 26 {
+        out.push(65 + (column - 1) as u8)?;
+    } else if column <= 702 {
+        out.push(65 + ((column - 27) / 26) as u8)?;
+        out.push(65 + ((column - 27) % 26) as u8)?;
+    } else {
+        out.push(65 + ((column - 703) / 26 / 26) as u8)?;
+        out.push(65 + ((column - 703) / 26 % 26) as u8)?;
+        out.push(65 + ((column - 703) % 26) as u8)?;
+    }
+    Ok(())
+}
+
+fn push_decimal(alloc: Global, out: &mut Vec<u8>, number: u32) -> Result<(), AllocError>
+    ensures { OnOk result (out.new.items ≡ out.old.items ++ decimal number) }
+{
+    let text = number.to_string(alloc)?;
+    out.extend_from_slice(text.as_bytes())
+}
+
+/// Writes the name of a place at the end: the letters of its column in capitals, then its row.
+pub fn push_reference(
+    alloc: Global,
+    out: &mut Vec<u8>,
+    place: Position,
+) -> Result<(), AllocError>
+    requires { IsPlace place }
+    ensures { OnOk result (out.new.items ≡ out.old.items ++ spec.reference_text place) }
+{
+    push_letters(out, unsigned(place.column))?;
+    push_decimal(alloc, out, unsigned(place.row))
+}
+
+/// The law of the names of places: the name of a place names that place.
+pub fn references_read_again()
+    ensures { spec.IsReadAgain }
+{
 }

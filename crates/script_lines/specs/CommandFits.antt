@@ -1,6 +1,6 @@
 -- Bounds of what a line can name.
-use Rattle.std.proofs.Common.{◌≡◌, ℕ, ℤ, pos, ◌+◌, ◌*◌, ◌^◌, ◌<◌, ◌≤◌, ◌≤ℤ◌, Bool, true, false, cond, List, [], ◌∷◌, ◌++◌, length, drop, Option, Some, None, refl, sym, ap, subst, ◌∙◌, arith}
-use Rattle.std.specs.Prelude.{IfSome, nat_lt, codes}
+use Rattle.std.proofs.Common.{◌≡◌, ℕ, ℤ, pos, ◌+◌, ◌^◌, ◌<◌, ◌≤◌, ◌≤ℤ◌, Bool, true, false, cond, List, [], ◌∷◌, ◌++◌, length, Option, Some, None, refl, sym, subst, arith}
+use Rattle.std.specs.Prelude.{IfSome, nat_lt}
 use Rattle.std.specs.Option.{option_and_then, option_map}
 use Rattle.std.specs.Str.{IsUtf8, is_utf8}
 use Rattle.std.specs.List.{list_all}
@@ -69,7 +69,6 @@ number_fits limit (b ∷ bytes) = either (λ v. v < limit) (are_digits (b ∷ by
 
 letter_fits : (b : ℕ) → is_letter b ≡ true → (1 ≤ letter_value b) × (letter_value b ≤ 26)
 letter_fits b e = (grind (arith, nat_tests), grind (arith, nat_tests))
-
 
 column_fits : (letters : List ℕ) → list_all is_letter letters ≡ true → IfSome (read_column letters) (λ column. (1 ≤ column) × (column ≤ 18278))
 column_fits [] e = tt

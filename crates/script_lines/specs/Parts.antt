@@ -1,5 +1,5 @@
 -- The parts of a script: its lines, and the words of a line.
-use Rattle.std.specs.Prelude.{ℕ, List, [], ◌∷◌, if◌then◌else◌, ◌==◌, ◌-◌, length, take, slice_index}
+use Rattle.std.specs.Prelude.{ℕ, List, [], if◌then◌else◌, ◌==◌, ◌-◌, length, take, slice_index}
 use Rattle.std.specs.List.{slice_split, join_with_byte}
 use Rattle.std.specs.declared.option.Option.{Option}
 use Rattle.std.specs.declared.option.Option.TheVariants.{Some, None}

@@ -12,7 +12,11 @@ pub enum Command {
         text: Text,
     },
     /// `get S REF`: answer the content of a cell.
-    Get { sheet: u32, row: i32, column: i32 },
+    Get {
+        sheet: u32,
+        row: i32,
+        column: i32,
+    },
     /// `undo`: take back the last edit.
     Undo,
     /// `redo`: do again what was taken back last.

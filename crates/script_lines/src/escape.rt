@@ -20,7 +20,8 @@ fn push_escaped_byte(out: &mut Vec<u8>, byte: u8) -> Result<(), AllocError>
     }
 }
 
-/// Writes a text at the end as answers print it: `\n` for a line feed, `\\` for a backslash.
+/// Writes a text at the end as answers print it: `\n` for a line feed, `\\` for a backslash. Where
+/// memory ends, a front of it may have been written.
 pub fn push_escaped(out: &mut Vec<u8>, text: &[u8]) -> Result<(), AllocError>
     ensures { OnOk result (out.new.items ≡ out.old.items ++ escaped text.now) }
 {
@@ -94,5 +95,4 @@ pub(crate) fn unescape(alloc: Global, text: &str) -> Result<Option<Text>, EditEr
 pub fn escapes_read_back()
     ensures undone { IsUndone }
     ensures only { IsOnlyWay }
-{
-}
+{}

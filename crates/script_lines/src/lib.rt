@@ -19,3 +19,6 @@ pub use escape::{escapes_read_back, push_escaped};
 pub use parse::read_command;
 pub use parts::{split_first, without_return};
 pub use reference::{push_reference, references_read_again};
+
+#[cfg(test)]
+mod tests;

@@ -66,6 +66,7 @@ fn row_of(digits: &[u8]) -> Option<u32>
     read_u32(digits)
 }
 
+/// A number as a line that may lie outside a sheet.
 fn signed(number: u32) -> i32
     requires { number < 2 ^ 31 }
     ensures { result ≡ pos number }
@@ -90,7 +91,7 @@ pub(crate) fn read_reference(bytes: &[u8]) -> Option<Reference>
     })
 }
 
-/// The column as a number without a sign.
+/// A line of a sheet as a number without a sign.
 fn unsigned(line: i32) -> u32
     requires { pos 1 ≤ℤ line }
     ensures { line ≡ pos result }
@@ -124,11 +125,8 @@ fn push_decimal(alloc: Global, out: &mut Vec<u8>, number: u32) -> Result<(), All
 }
 
 /// Writes the name of a place at the end: the letters of its column in capitals, then its row.
-pub fn push_reference(
-    alloc: Global,
-    out: &mut Vec<u8>,
-    place: Position,
-) -> Result<(), AllocError>
+/// Where memory ends, a front of it may have been written.
+pub fn push_reference(alloc: Global, out: &mut Vec<u8>, place: Position) -> Result<(), AllocError>
     requires { IsPlace place }
     ensures { OnOk result (out.new.items ≡ out.old.items ++ spec.reference_text place) }
 {
@@ -139,5 +137,4 @@ pub fn push_reference(
 /// The law of the names of places: the name of a place names that place.
 pub fn references_read_again()
     ensures { spec.IsReadAgain }
-{
-}
+{}

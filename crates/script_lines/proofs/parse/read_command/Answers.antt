@@ -1,6 +1,4 @@
-use Rattle.std.proofs.Common.{◌∙◌, ap}
-use Rattle.std.specs.Prelude.{IfOk}
-use Rattle.script_lines.proofs.Words.{is_text, no_text, same_found, found_fits}
+use Rattle.script_lines.proofs.Words.{no_text, same_found, found_fits}
 use Rattle.script_lines.proofs.parse.read_command.Goals as goal
 
 pub returns-in-Ok-clause-value : goal.returns-in-Ok-clause-value

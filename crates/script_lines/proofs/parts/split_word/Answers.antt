@@ -1,4 +1,4 @@
-use Rattle.std.proofs.Common.{Some, None, lit<, ap, ◌∙◌, ◌∷◌, sym, arith}
+use Rattle.std.proofs.Common.{Some, None, lit<, ◌∙◌, ◌∷◌, sym, arith}
 use Rattle.std.proofs.lemmas.Str.Pattern.{split_once_first}
 use Rattle.script_lines.specs.Parts.{parts_at}
 use Rattle.script_lines.proofs.Splitting.{one_part, more_parts}

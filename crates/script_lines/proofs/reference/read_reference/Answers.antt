@@ -1,4 +1,3 @@
-use Rattle.std.proofs.Common.{arith}
 use Rattle.script_lines.specs.Letters.{all_letters}
 use Rattle.script_lines.proofs.reference.read_reference.Goals as goal
 

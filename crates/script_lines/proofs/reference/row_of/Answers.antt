@@ -1,5 +1,4 @@
-use Rattle.std.proofs.Common.{◌∙◌, subst, sym, arith}
-use Rattle.std.specs.Prelude.{IfSome}
+use Rattle.std.proofs.Common.{◌∙◌, arith}
 use Rattle.script_lines.specs.ReferenceBounds.{row_is, read_row-lt}
 use Rattle.script_lines.proofs.reference.row_of.Goals as goal
 

@@ -15,14 +15,16 @@ use Rattle.script_lines.specs.declared.command.Command.TheVariants.{Set, Get, Un
 use Rattle.script_lines.specs.declared.parse.Keyword.{Keyword}
 use Rattle.script_lines.specs.declared.parse.Keyword.TheVariants as keyword
 
+-- the next step, if this one has a value
 infixl 10 ◌>>=◌
 abbrev pub ◌>>=◌ : {A B : Type 0} → Option A → (A → Option B) → Option B
 o >>= f = option_and_then f o
 
+-- the word is this one
 abbrev pub is_same : List ℕ → List ℕ → Bool
 is_same word name = pointwise nat_eq word name
 
--- the command that begins with a word
+-- which command begins with a word
 abbrev pub keyword_of : List ℕ → Option Keyword
 keyword_of word =
     if is_same word (codes "set") then Some keyword.Set
@@ -38,6 +40,7 @@ abbrev pub alone : Command → List (List ℕ) → Option Command
 alone command [] = Some command
 alone command (word ∷ words) = None
 
+-- `get` with a sheet and a reference
 abbrev pub get_at : List ℕ → List ℕ → Option Command
 get_at sheet reference = do
   index ← number_below (2 ^ 32) sheet
@@ -49,6 +52,7 @@ abbrev pub get_of : List (List ℕ) → Option Command
 get_of (sheet ∷ reference ∷ []) = get_at sheet reference
 get_of words = None
 
+-- `set` with a sheet, a reference and a text
 abbrev pub set_at : List ℕ → List ℕ → List ℕ → Option Command
 set_at sheet reference text = do
   index ← number_below (2 ^ 32) sheet
@@ -70,6 +74,7 @@ with_words keyword.Redo words = alone Redo words
 with_words keyword.Sync words = alone Sync words
 with_words keyword.Show words = alone Show words
 
+-- the command that words are: the first is its keyword
 abbrev pub from_words : List (List ℕ) → Option Command
 from_words [] = None
 from_words (word ∷ words) = option_and_then (λ keyword. with_words keyword words) (keyword_of word)

@@ -4,9 +4,11 @@ use Rattle.std.specs.List.{list_all}
 use Rattle.std.specs.declared.option.Option.{Option}
 use Rattle.std.specs.declared.option.Option.TheVariants.{Some, None}
 
+-- a decimal digit
 abbrev pub is_digit : ℕ → Bool
 is_digit b = nat_le 48 b && nat_lt b 58
 
+-- nothing but digits
 abbrev pub are_digits : List ℕ → Bool
 are_digits bytes = list_all is_digit bytes
 

@@ -9,6 +9,7 @@ use Rattle.base_values.specs.declared.position.Position.{Position}
 use Rattle.base_values.specs.Places.{IsPlace}
 use Rattle.script_lines.specs.Number.{are_digits, value_of}
 
+-- from the low one to the high one
 abbrev pub is_between : ℕ → ℕ → ℕ → Bool
 is_between low high b = nat_le low b && nat_le b high
 
@@ -33,10 +34,11 @@ read_column letters = if is_between 1 3 (length letters) then Some (letters_valu
 abbrev pub read_row : List ℕ → Option ℕ
 read_row digits = if is_between 1 7 (length digits) && are_digits digits then Some (value_of digits) else None
 
--- the letters at the front, and what follows them
+-- the letters at the front
 abbrev pub letters_of : List ℕ → List ℕ
 letters_of bytes = take (prefix_len is_letter bytes) bytes
 
+-- what follows the letters at the front
 abbrev pub digits_of : List ℕ → List ℕ
 digits_of bytes = drop (prefix_len is_letter bytes) bytes
 

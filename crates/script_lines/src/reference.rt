@@ -1,0 +1,140 @@
+ghost use Rattle.std.specs.Prelude.{◌≡◌, ◌≤◌, ◌≤ℤ◌, ◌<◌, ◌^◌, ◌++◌, true, decimal, length, pos, IfSome, OnOk};
+ghost use Rattle.std.specs.List.{list_all, prefix_len};
+ghost use Rattle.base_values.specs.Places.{IsPlace};
+ghost use Rattle.script_lines.specs.References as spec;
+
+use crate::number::read_u32;
+use base_values::Position;
+use std::alloc::{AllocError, Global};
+
+/// The row and column that a reference names, which may lie outside every sheet.
+#[derive(Clone, Copy, Debug, PartialEq, Eq)]
+pub(crate) struct Reference {
+    pub row: i32,
+    pub column: i32,
+}
+
+fn is_letter(byte: u8) -> bool
+    ensures { result ≡ spec.is_letter byte }
+{
+    (65 <= byte && byte <= 90) || (97 <= byte && byte <= 122)
+}
+
+/// How many letters stand at the front.
+fn letters_len(bytes: &[u8]) -> usize
+    ensures value { result ≡ prefix_len spec.is_letter bytes.now }
+    ensures within { result ≤ length bytes.now }
+{
+    for (at, byte) in bytes.iter().enumerate() {
+        if !is_letter(*byte) {
+            return at;
+        }
+    }
+    bytes.len()
+}
+
+fn letter_value(byte: u8) -> u32
+    requires { spec.is_letter byte ≡ true }
+    ensures value { result ≡ spec.letter_value byte }
+    ensures small { result ≤ 26 }
+{
+    u32::from(if byte >= 97 { byte - 96 } else { byte - 64 })
+}
+
+/// The column that one to three letters name.
+fn column_of(letters: &[u8]) -> Option<u32>
+    requires { list_all spec.is_letter letters.now ≡ true }
+    ensures value { result ≡ spec.read_column letters.now }
+    ensures small { IfSome result (λ column. column < 2 ^ 31) }
+{
+    match letters {
+        [a] => Some(letter_value(*a)),
+        [a, b] => Some(letter_value(*a) * 26 + letter_value(*b)),
+        [a, b, c] => Some((letter_value(*a) * 26 + letter_value(*b)) * 26 + letter_value(*c)),
+        _ => None,
+    }
+}
+
+/// The row that one to seven digits name.
+fn row_of(digits: &[u8]) -> Option<u32>
+    ensures value { result ≡ spec.read_row digits.now }
+    ensures small { IfSome result (λ row. row < 10000000) }
+{
+    if digits.is_empty() || digits.len() > 7 {
+        return None;
+    }
+    read_u32(digits)
+}
+
+/// A number as a line that may lie outside a sheet.
+fn signed(number: u32) -> i32
+    requires { number < 2 ^ 31 }
+    ensures { result ≡ pos number }
+{
+    number as i32
+}
+
+/// The row and column that the bytes name: letters, and then digits.
+pub(crate) fn read_reference(bytes: &[u8]) -> Option<Reference>
+    ensures { result ≡ spec.reference_of bytes.now }
+{
+    let (letters, digits) = bytes.split_at(letters_len(bytes));
+    let Some(column) = column_of(letters) else {
+        return None;
+    };
+    let Some(row) = row_of(digits) else {
+        return None;
+    };
+    Some(Reference {
+        row: signed(row),
+        column: signed(column),
+    })
+}
+
+/// A line of a sheet as a number without a sign.
+fn unsigned(line: i32) -> u32
+    requires { pos 1 ≤ℤ line }
+    ensures { line ≡ pos result }
+{
+    line as u32
+}
+
+fn push_letters(out: &mut Vec<u8>, column: u32) -> Result<(), AllocError>
+    requires low { 1 ≤ column }
+    requires high { column ≤ 16384 }
+    ensures { OnOk result (out.new.items ≡ out.old.items ++ spec.letters_text column) }
+{
+    if column <= 26 {
+        out.push(65 + (column - 1) as u8)?;
+    } else if column <= 702 {
+        out.push(65 + ((column - 27) / 26) as u8)?;
+        out.push(65 + ((column - 27) % 26) as u8)?;
+    } else {
+        out.push(65 + ((column - 703) / 26 / 26) as u8)?;
+        out.push(65 + ((column - 703) / 26 % 26) as u8)?;
+        out.push(65 + ((column - 703) % 26) as u8)?;
+    }
+    Ok(())
+}
+
+fn push_decimal(alloc: Global, out: &mut Vec<u8>, number: u32) -> Result<(), AllocError>
+    ensures { OnOk result (out.new.items ≡ out.old.items ++ decimal number) }
+{
+    let text = number.to_string(alloc)?;
+    out.extend_from_slice(text.as_bytes())
+}
+
+/// Writes the name of a place at the end: the letters of its column in capitals, then its row.
+/// Where memory ends, a front of it may have been written.
+pub fn push_reference(alloc: Global, out: &mut Vec<u8>, place: Position) -> Result<(), AllocError>
+    requires { IsPlace place }
+    ensures { OnOk result (out.new.items ≡ out.old.items ++ spec.reference_text place) }
+{
+    push_letters(out, unsigned(place.column))?;
+    push_decimal(alloc, out, unsigned(place.row))
+}
+
+/// The law of the names of places: the name of a place names that place.
+pub fn references_read_again()
+    ensures { spec.IsReadAgain }
+{}

@@ -1,4 +1,4 @@
-ghost use Rattle.std.specs.Prelude.{◌≡◌, [], ◌∷◌, ◌++◌, ◌<◌, ◌^◌, length, slice_get, slice_set, IsTrue, ◌↔◌, IfOk, OnOk, OnErr, OnSome};
+ghost use Rattle.std.specs.Prelude.{◌≡◌, [], ◌∷◌, ◌++◌, ◌<◌, ◌^◌, length, slice_get, slice_set, take, IsTrue, ◌↔◌, IfOk, OnOk, OnErr, OnSome};
 ghost use Rattle.std.specs.Option.{option_copied, option_copied_mut};
 ghost use Rattle.std.specs.Borrow.{sem, LendsIf};
 ghost use Rattle.base_values.specs.contracts.items.Items.{the_row};
@@ -87,6 +87,15 @@ impl<T: Drop> Items<T> {
     {
         self.items.push(item)?;
         Ok(())
+    }
+}
+
+impl<T: Drop> Items<T> {
+    /// Keeps the first items alone.
+    pub fn truncate(&mut self, len: usize)
+        ensures { self.new ≡ take len self.old }
+    {
+        self.items.truncate(len);
     }
 }
 

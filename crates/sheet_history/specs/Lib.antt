@@ -4,3 +4,4 @@ pub mod Stacks
 pub mod Records
 pub mod RecordLaws
 pub mod ReplayLaws
+pub mod KeptProps

@@ -1,15 +1,19 @@
-ghost use Rattle.std.specs.Prelude.{◌≡◌, ◌∷◌, [], ◌+◌, ◌<◌, ◌≤◌, IsOk, OnOk, OnErr, IfOk, IsOkUnless, MatchOption};
+ghost use Rattle.std.specs.Prelude.{◌≡◌, ◌∷◌, [], ◌+◌, ◌<◌, ◌≤◌, IsOk, All, OnOk, OnErr, IfOk, IfSome, IsOkUnless, MatchOption};
 ghost use Rattle.base_values.specs.declared.EditError.TheVariants.{NoMemory};
+ghost use Rattle.sheet_history.specs.Diffs.{IsKeptList};
+ghost use Rattle.sheet_history.specs.KeptProps.{kept_lists};
 
 use crate::diff::DiffList;
 use base_values::EditError;
 use std::alloc::Global;
 
-/// The stacks of undo and redo, of lists of diffs.
+/// The stacks of undo and redo, of lists of diffs whose numbers are as a sheet keeps them.
 #[derive(Drop)]
 pub struct History {
     undo: Vec<DiffList>,
     redo: Vec<DiffList>,
+    ghost undo_kept: { All IsKeptList undo.items } by { kept_lists undo.items },
+    ghost redo_kept: { All IsKeptList redo.items } by { kept_lists redo.items },
 }
 
 impl History {
@@ -42,6 +46,7 @@ impl History {
     /// Puts a list on the undo stack and empties the redo stack. Want of memory leaves both as
     /// they were.
     pub fn push(&mut self, list: DiffList) -> Result<(), EditError>
+        requires { IsKeptList list }
         ensures undo { OnOk result (undo_lists self.new ≡ list ∷ undo_lists self.old) }
         ensures redo { OnOk result (redo_lists self.new ≡ []) }
         ensures undo_kept { OnErr result (undo_lists self.new ≡ undo_lists self.old) }
@@ -57,14 +62,16 @@ impl History {
 
     /// The newest list to undo.
     pub fn last_undo(&self) -> Option<&DiffList>
-        ensures { MatchOption result (undo_lists self.now ≡ []) (λ list. (rest : _) × (undo_lists self.now ≡ list.now ∷ rest)) }
+        ensures kept { IfSome result (λ list. IsKeptList list.now) }
+        ensures newest { MatchOption result (undo_lists self.now ≡ []) (λ list. (rest : _) × (undo_lists self.now ≡ list.now ∷ rest)) }
     {
         self.undo.last()
     }
 
     /// The newest list to redo.
     pub fn last_redo(&self) -> Option<&DiffList>
-        ensures { MatchOption result (redo_lists self.now ≡ []) (λ list. (rest : _) × (redo_lists self.now ≡ list.now ∷ rest)) }
+        ensures kept { IfSome result (λ list. IsKeptList list.now) }
+        ensures newest { MatchOption result (redo_lists self.now ≡ []) (λ list. (rest : _) × (redo_lists self.now ≡ list.now ∷ rest)) }
     {
         self.redo.last()
     }

@@ -1,0 +1,58 @@
+-- What an editor keeps: the workbook, and diffs of what was there before.
+use Rattle.std.proofs.Common.{ℕ, ℤ, List, [], ◌∷◌, ◌++◌, map, Result, Ok, Err}
+use Rattle.base_values.specs.declared.EditError.{EditError}
+use Rattle.base_values.specs.Answers.{map_ok}
+use Rattle.sheet_grid.specs.declared.Content.{Content}
+use Rattle.sheet_grid.specs.Book.{Book}
+use Rattle.sheet_history.specs.declared.Diff.{Diff}
+use Rattle.sheet_history.specs.declared.DiffType.{DiffType}
+use Rattle.sheet_history.specs.declared.DiffType.TheVariants.{Undo, Redo}
+use Rattle.sheet_history.specs.declared.QueueDiffs.{QueueDiffs}
+use Rattle.sheet_history.specs.Diffs.{forwarded, backed}
+use Rattle.script_editor.specs.Machine.{Edit, State, changed, record_of, step_record, entry_of}
+
+pub record Document : Type 0 where
+  pub book : Book
+  -- the records that can be undone, and those that were undone, the newest first
+  pub undo : List (List Diff)
+  pub redo : List (List Diff)
+  -- what was not sent yet, the oldest first
+  pub queue : List QueueDiffs
+
+-- the document of a state has of each step its record alone
+abbrev pub document : State → Document
+document s = record { book = s.present; undo = map step_record s.past; redo = map step_record s.undone; queue = map entry_of s.sent }
+
+-- a document with one entry more to send
+abbrev pub sending : DiffType → List Diff → List QueueDiffs → List QueueDiffs
+sending kind list queue = queue ++ record { kind = kind; list = list } ∷ []
+
+-- a document after an accepted edit
+abbrev pub recorded : List Diff → Document → Book → Document
+recorded list doc later = record { book = later; undo = list ∷ doc.undo; redo = []; queue = sending Redo list doc.queue }
+
+-- an edit of a document
+abbrev pub document_edit : Edit → Document → Result Document EditError
+document_edit edit doc = map_ok (λ later. recorded (record_of edit doc.book later) doc later) (changed edit doc.book)
+
+-- a document after the newest list to undo was taken back
+abbrev pub taken_back : List Diff → List (List Diff) → Document → Book → Document
+taken_back list rest doc earlier = record { book = earlier; undo = rest; redo = list ∷ doc.redo; queue = sending Undo list doc.queue }
+
+abbrev pub undo_at : List (List Diff) → Document → Result Document EditError
+undo_at [] doc = Ok doc
+undo_at (list ∷ rest) doc = map_ok (taken_back list rest doc) (backed doc.book list)
+
+abbrev pub document_undo : Document → Result Document EditError
+document_undo doc = undo_at doc.undo doc
+
+-- a document after the newest list to redo was made again
+abbrev pub made_again : List Diff → List (List Diff) → Document → Book → Document
+made_again list rest doc later = record { book = later; undo = list ∷ doc.undo; redo = rest; queue = sending Redo list doc.queue }
+
+abbrev pub redo_at : List (List Diff) → Document → Result Document EditError
+redo_at [] doc = Ok doc
+redo_at (list ∷ rest) doc = map_ok (made_again list rest doc) (forwarded doc.book list)
+
+abbrev pub document_redo : Document → Result Document EditError
+document_redo doc = redo_at doc.redo doc

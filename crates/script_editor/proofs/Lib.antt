@@ -1,2 +1,5 @@
+mod Fits
 mod InputLaws
 mod InputRecord
+mod InputSteps
+mod Sounds

@@ -42,3 +42,13 @@ cell_change id place old new = if same_entry old new then [] else CellDiff id pl
 abbrev pub place_change : Result Sheet EditError → Result Sheet EditError → Result Position EditError → List Diff
 place_change (Ok earlier) (Ok later) (Ok place) = cell_change earlier.id place (fin.get earlier.cells place) (fin.get later.cells place)
 place_change _ _ _ = []
+
+abbrev pub plan_at : Sheet → Content → Position → Option Cell × List Diff
+plan_at sheet content place =
+    let old : Option Cell = fin.get sheet.cells place in
+    let new : Option Cell = entered old content (shown_style sheet place) in
+    (new, cell_change sheet.id place old new)
+
+-- what an input makes of a place: the new entry, and its record. The refusals are those of the input
+abbrev pub input_plan : ℕ → ℤ → ℤ → Content → Book → Result (Option Cell × List Diff) EditError
+input_plan index row column content book = and_then (sheet_at book index) (λ sheet. map_ok (plan_at sheet content) (place_of row column))

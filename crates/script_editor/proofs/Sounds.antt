@@ -1,0 +1,158 @@
+-- Every step of the machine keeps it sound, and an editor's documents go along.
+use Rattle.std.proofs.Common.{◌≡◌, ◌≢◌, ℕ, ℤ, ◌+◌, ◌<◌, ◌^◌, Bool, true, false, cond, List, [], ◌∷◌, ◌++◌, map, length, Option, Some, None, Result, Ok, Err, refl, ap, sym, subst, ◌∙◌, arith}
+use Rattle.std.specs.Prelude.{IfSome, slice_get, IsOkAnd}
+use Rattle.std.specs.List.{AllByRecursion}
+use Rattle.std.proofs.lemmas.List.{map_push}
+use Rattle.std.specs.FinMap as fin
+use Rattle.base_values.specs.declared.EditError.{EditError}
+use Rattle.base_values.specs.declared.EditError.TheVariants.{NoMemory}
+use Rattle.base_values.specs.declared.Position.{Position}
+use Rattle.base_values.specs.Answers.{Edits, and_then, map_ok}
+use Rattle.base_values.specs.Places.{place_of}
+use Rattle.sheet_grid.specs.declared.Content.{Content}
+use Rattle.sheet_grid.specs.Sheet.{Sheet}
+use Rattle.sheet_grid.specs.Book.{Book, sheet_at}
+use Rattle.sheet_history.specs.declared.Diff.{Diff}
+use Rattle.sheet_history.specs.declared.DiffType.{DiffType}
+use Rattle.sheet_history.specs.declared.DiffType.TheVariants.{Undo, Redo}
+use Rattle.sheet_history.specs.declared.QueueDiffs.{QueueDiffs}
+use Rattle.sheet_history.specs.Diffs.{forwarded, backed, follow, in_entry, replayed, replayed_from}
+use Rattle.sheet_history.specs.ReplayLaws.{replayed_from-push}
+use Rattle.sheet_wire.specs.QueueBytes.{FitsList, FitsEntry}
+use Rattle.script_editor.specs.declared.editor.Editor.{Editor}
+use Rattle.script_editor.specs.Document.{Document, document, document_edit, document_undo, undo_at, document_redo, redo_at, recorded, taken_back, made_again, sending}
+use Rattle.script_editor.specs.Machine.{Edit, Step, Sent, State, start, changed, record_of, step_record, edited, edit_of, undo_from, undo_of, redo_from, redo_of, synced_of, entry_of}
+use Rattle.script_editor.specs.Sound.{IsFit, IsSoundStep, Leads, Follows, IsSound}
+use Rattle.script_editor.specs.Stands.{StandsFor, Moves, document_of}
+use Rattle.script_editor.proofs.Fits.{first_fit}
+
+pub sound_start : IsSound start
+sound_start = record { present = first_fit; past = tt; undone = tt; replays = refl; fits = tt }
+
+all_push : {A : Type 0} (P : A → Type 0) (xs : List A) (x : A) → AllByRecursion P xs → P x → AllByRecursion P (xs ++ x ∷ [])
+all_push P [] x all p = (p, tt)
+all_push P (y ∷ ys) x all p = (all.0, all_push P ys x all.1 p)
+
+-- ---- what is sent
+
+module _ (s : State) (sound : IsSound s) (sent : Sent) where
+  -- one entry more leads on from the present workbook
+  replays_more : (later : Book) → follow sent.kind s.present (step_record sent.step) ≡ Ok later → replayed s.synced (map entry_of (s.sent ++ sent ∷ [])) ≡ Ok later
+  replays_more later is =
+      ap (replayed s.synced) (map_push entry_of s.sent sent)
+      ∙ replayed_from-push 0 s.synced (map entry_of s.sent) (entry_of sent)
+      ∙ ap (λ r. and_then r (λ next. in_entry (0 + length (map entry_of s.sent)) (follow sent.kind next (step_record sent.step)))) sound.replays
+      ∙ ap (in_entry (0 + length (map entry_of s.sent))) is
+
+  fits_more : FitsList (step_record sent.step) → AllByRecursion FitsEntry (map entry_of (s.sent ++ sent ∷ []))
+  fits_more fits = subst (AllByRecursion FitsEntry) (sym (map_push entry_of s.sent sent)) (all_push FitsEntry (map entry_of s.sent) (entry_of sent) sound.fits fits)
+
+-- ---- edits
+
+abbrev pub step_of : Edit → State → Book → Step
+step_of edit s later = record { edit = edit; before = s.present; after = later }
+
+pub sound_edited : (edit : Edit) (s : State) (later : Book) → IsSound s → IsSoundStep (step_of edit s later) → IsSound (edited edit s later)
+sound_edited edit s later sound step = record {
+  present = step.after;
+  past = (refl, step, sound.past);
+  undone = tt;
+  replays = replays_more s sound (record { kind = Redo; step = step_of edit s later }) later step.forth;
+  fits = fits_more s sound (record { kind = Redo; step = step_of edit s later }) step.fits;
+}
+
+-- a document goes along with an edit
+pub document_edited : (edit : Edit) (s : State) → document_edit edit (document s) ≡ map_ok document (edit_of edit s)
+document_edited edit s = go (changed edit s.present)
+  where
+    go : (r : Result Book EditError) → map_ok (λ later. recorded (record_of edit s.present later) (document s) later) r ≡ map_ok document (map_ok (edited edit s) r)
+    go (Err error) = refl
+    go (Ok later) =
+        let queue = sym (map_push entry_of s.sent (record { kind = Redo; step = step_of edit s later })) in
+        λ i. Ok (record { book = later; undo = step_record (step_of edit s later) ∷ map step_record s.past; redo = []; queue = queue i })
+
+-- ---- undo
+
+undo_sound : (s : State) (past : List Step) → IsSound s → Leads past s.present → IsSound (undo_from past s)
+undo_sound s [] sound leads = sound
+undo_sound s (step ∷ past) sound leads = record {
+  present = leads.1.before;
+  past = leads.2;
+  undone = (refl, leads.1, subst (Follows s.undone) (sym leads.0) sound.undone);
+  replays = replays_more s sound (record { kind = Undo; step = step }) step.before (ap (λ book. backed book (step_record step)) (sym leads.0) ∙ leads.1.back);
+  fits = fits_more s sound (record { kind = Undo; step = step }) leads.1.fits;
+}
+
+pub sound_undo : (s : State) → IsSound s → IsSound (undo_of s)
+sound_undo s sound = undo_sound s s.past sound sound.past
+
+undo_along : (s : State) (past : List Step) → Leads past s.present → undo_at (map step_record past) (document s) ≡ Ok (document (undo_from past s))
+undo_along s [] leads = refl
+undo_along s (step ∷ past) leads =
+    let queue = sym (map_push entry_of s.sent (record { kind = Undo; step = step })) in
+    ap (map_ok (taken_back (step_record step) (map step_record past) (document s))) (ap (λ book. backed book (step_record step)) (sym leads.0) ∙ leads.1.back)
+    ∙ (λ i. Ok (record { book = step.before; undo = map step_record past; redo = step_record step ∷ map step_record s.undone; queue = queue i }))
+
+-- a document goes along with an undo
+pub document_undone : (s : State) → IsSound s → document_undo (document s) ≡ map_ok document (Ok (undo_of s))
+document_undone s sound = undo_along s s.past sound.past
+
+-- ---- redo
+
+redo_sound : (s : State) (undone : List Step) → IsSound s → Follows undone s.present → IsSound (redo_from undone s)
+redo_sound s [] sound follows = sound
+redo_sound s (step ∷ undone) sound follows = record {
+  present = follows.1.after;
+  past = (refl, follows.1, subst (Leads s.past) (sym follows.0) sound.past);
+  undone = follows.2;
+  replays = replays_more s sound (record { kind = Redo; step = step }) step.after (ap (λ book. forwarded book (step_record step)) (sym follows.0) ∙ follows.1.forth);
+  fits = fits_more s sound (record { kind = Redo; step = step }) follows.1.fits;
+}
+
+pub sound_redo : (s : State) → IsSound s → IsSound (redo_of s)
+sound_redo s sound = redo_sound s s.undone sound sound.undone
+
+redo_along : (s : State) (undone : List Step) → Follows undone s.present → redo_at (map step_record undone) (document s) ≡ Ok (document (redo_from undone s))
+redo_along s [] follows = refl
+redo_along s (step ∷ undone) follows =
+    let queue = sym (map_push entry_of s.sent (record { kind = Redo; step = step })) in
+    ap (map_ok (made_again (step_record step) (map step_record undone) (document s))) (ap (λ book. forwarded book (step_record step)) (sym follows.0) ∙ follows.1.forth)
+    ∙ (λ i. Ok (record { book = step.after; undo = step_record step ∷ map step_record s.past; redo = map step_record undone; queue = queue i }))
+
+-- a document goes along with a redo
+pub document_redone : (s : State) → IsSound s → document_redo (document s) ≡ map_ok document (Ok (redo_of s))
+document_redone s sound = redo_along s s.undone sound.undone
+
+-- ---- sync
+
+pub sound_sync : (s : State) → IsSound s → IsSound (synced_of s)
+sound_sync s sound = record { present = sound.present; past = sound.past; undone = sound.undone; replays = refl; fits = tt }
+
+-- ---- from documents to states
+
+-- a call that edits the document as the machine's step does takes the editor to what stands for the next state
+pub moves : (old new : Editor) (s : State) (result : Result (Unit {0}) EditError) (f : Document → Result Document EditError) (expected : Result State EditError)
+    → StandsFor old s → Edits result (document_of old) (document_of new) (f (document_of old)) → f (document s) ≡ map_ok document expected
+    → ((next : State) → expected ≡ Ok next → IsSound next) → Moves result new s expected
+moves old new s (Ok u) f expected stands edits along sound = go expected along sound
+  where
+    led : f (document s) ≡ Ok (document_of new)
+    led = ap f (sym stands.document) ∙ edits.done
+
+    go : (e : Result State EditError) → f (document s) ≡ map_ok document e → ((next : State) → e ≡ Ok next → IsSound next) → Moves (Ok u) new s e
+    go (Ok next) is keeps =
+        let same : Ok (document_of new) ≡ Ok (document next) = sym led ∙ is in
+        let documents : document_of new ≡ document next = cc in
+        record { done = record { document = documents; sound = keeps next refl }; refused = tt }
+    go (Err error) is keeps = let never : Ok (document_of new) ≡ Err error = sym led ∙ is in absurd cc
+moves old new s (Err error) f expected stands edits along sound = record {
+  done = tt;
+  refused = (
+    record { document = edits.refused.0 ∙ stands.document; sound = stands.sound },
+    λ other. go expected (sym along ∙ ap f (sym stands.document) ∙ edits.refused.1 other),
+  );
+}
+  where
+    go : (e : Result State EditError) → map_ok document e ≡ Err error → e ≡ Err error
+    go (Ok next) is = cc
+    go (Err other) is = cc

@@ -1,0 +1,6 @@
+use Rattle.std.proofs.Common.{rules}
+use Rattle.script_editor.proofs.Sounds.{sound_start}
+use Rattle.script_editor.proofs.editor.Editor.new.Goals as goal
+
+pub returns-clause-stands : goal.returns-clause-stands
+returns-clause-stands c = record { document = search rules; sound = sound_start }

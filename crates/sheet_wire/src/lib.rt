@@ -4,3 +4,7 @@
 //! lists of bytes. Each value that bytes can carry has one spelling, which is read again as that
 //! value; and what is read was spelled so.
 #![tactic(auto)]
+
+mod codes;
+mod reading;
+mod reading_styles;

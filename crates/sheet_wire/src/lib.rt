@@ -8,3 +8,9 @@
 mod codes;
 mod reading;
 mod reading_styles;
+mod reading_cells;
+mod decode;
+mod writing;
+mod encode;
+
+pub use encode::{encode_queue, encode_style};

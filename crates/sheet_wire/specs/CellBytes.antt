@@ -16,7 +16,7 @@ use Rattle.sheet_wire.specs.StyleBytes.{boolean_at, spell_style, style_at, FitsS
 
 -- ---- positions
 
-abbrev pub spell_position : Position → List ℕ
+unfoldable pub spell_position : Position → List ℕ
 spell_position place = spell_signed w32 place.row ++ spell_signed w32 place.column
 
 abbrev pub position_made : ℤ × ℤ → Position
@@ -31,7 +31,7 @@ pub record FitsPosition (place : Position) : Type 0 where
 
 -- ---- decimals
 
-abbrev pub spell_decimal : Decimal → List ℕ
+unfoldable pub spell_decimal : Decimal → List ℕ
 spell_decimal number = spell_signed w128 number.mantissa ++ (number.places ∷ [])
 
 abbrev pub decimal_made : ℤ × ℕ → Decimal

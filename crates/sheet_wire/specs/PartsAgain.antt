@@ -164,7 +164,7 @@ style_again = record {
 -- ---- cells
 
 pub position_again : ReadsAgain FitsPosition spell_position position_at
-unfolding position_at
+unfolding position_at spell_position
 position_again = record {
   again = λ x rest fits.
       (map_again (both_again (signed_again wide32) (signed_again wide32))
@@ -190,7 +190,7 @@ kept_mantissa d kept =
     fits_signed_from_abs w128 d.mantissa within
 
 pub decimal_again : ReadsAgain IsKept spell_decimal decimal_at
-unfolding decimal_at
+unfolding decimal_at spell_decimal
 decimal_again = record {
   again = λ x rest fits.
       (check_again (map_again (both_again (signed_again wide128) byte_again) decimal_made (λ d. (d.mantissa, d.places)) (λ y. refl)) is_kept).again x rest

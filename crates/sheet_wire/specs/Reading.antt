@@ -102,15 +102,27 @@ many_at read (suc n) bytes = do
   others ← many_at read n first.1
   Ok (first.0 ∷ others.0, others.1)
 
--- a count, and so many items. Each takes a byte at least, so a count beyond the bytes that are left can't be
+-- a count of items. Each takes a byte at least, so a count beyond the bytes that are left can't be
+abbrev pub count_at : Reader ℕ
+count_at bytes = do
+  n ← number_at w64 bytes
+  if nat_lt (length n.1) n.0 then Err ParseDiffs else Ok n
+
+-- a count, and so many items
 abbrev pub list_at : {A : Type 0} → Reader A → Reader (List A)
 list_at read bytes = do
-  n ← number_at w64 bytes
-  if nat_lt (length n.1) n.0 then Err ParseDiffs else many_at read n.0 n.1
+  n ← count_at bytes
+  many_at read n.0 n.1
+
+-- what stands after these first bytes
+abbrev pub rest_after : List ℕ → List ℕ → Result (List ℕ) EditError
+rest_after front bytes = if pointwise nat_eq (take (length front) bytes) front then Ok (drop (length front) bytes) else Err ParseDiffs
 
 -- what follows these first bytes
 abbrev pub after : {A : Type 0} → List ℕ → Reader A → Reader A
-after front read bytes = if pointwise nat_eq (take (length front) bytes) front then read (drop (length front) bytes) else Err ParseDiffs
+after front read bytes = do
+  rest ← rest_after front bytes
+  read rest
 
 -- a value that takes all of the bytes
 abbrev pub whole : {A : Type 0} → Reader A → List ℕ → Result A EditError

@@ -1,0 +1,84 @@
+//! The bytes of queues and styles.
+
+ghost use Rattle.std.specs.Prelude.{◌≡◌, ◌++◌, OnOk, IfOk, IsOkUnless};
+ghost use Rattle.base_values.specs.declared.EditError.TheVariants.{NoMemory};
+ghost use Rattle.sheet_wire.specs.Spelling.{spell_option};
+ghost use Rattle.sheet_wire.specs.StyleBytes.{spell_style};
+ghost use Rattle.sheet_wire.specs.CellBytes.{spell_cell};
+ghost use Rattle.sheet_wire.specs.QueueBytes.{spell_diff, spell_entry, spell_queue};
+
+use crate::codes::direction_code;
+use crate::writing::{put_cell, put_position, put_style};
+use base_styles::Style;
+use base_values::EditError;
+use sheet_grid::Cell;
+use sheet_history::{Diff, QueueDiffs};
+use std::alloc::{AllocError, Global};
+
+fn put_entry_of_cell(out: &mut Vec<u8>, entry: &Option<Cell>) -> Result<(), AllocError>
+    ensures { OnOk result (out.new.items ≡ out.old.items ++ spell_option spell_cell entry.now) }
+{
+    match entry {
+        None => out.push(0)?,
+        Some(cell) => {
+            out.push(1)?;
+            put_cell(out, cell)?;
+        }
+    }
+    Ok(())
+}
+
+fn put_diff(out: &mut Vec<u8>, diff: &Diff) -> Result<(), AllocError>
+    ensures { OnOk result (out.new.items ≡ out.old.items ++ spell_diff diff.now) }
+{
+    match diff {
+        Diff::Cell {
+            sheet,
+            position,
+            old,
+            new,
+        } => {
+            out.push(1)?;
+            out.extend_from_slice(&sheet.to_be_bytes())?;
+            put_position(out, *position)?;
+            put_entry_of_cell(out, old)?;
+            put_entry_of_cell(out, new)
+        }
+    }
+}
+
+fn put_entry(out: &mut Vec<u8>, entry: &QueueDiffs) -> Result<(), AllocError>
+    ensures { OnOk result (out.new.items ≡ out.old.items ++ spell_entry entry.now) }
+{
+    out.push(direction_code(entry.kind))?;
+    let diffs = entry.list.as_slice();
+    out.extend_from_slice(&(diffs.len() as u64).to_be_bytes())?;
+    for diff in diffs {
+        put_diff(out, diff)?;
+    }
+    Ok(())
+}
+
+/// The bytes of a queue of diffs. Only want of memory is refused.
+#[tactic(auto, unfolding(crate::specs::QueueBytes::spell_queue))]
+pub fn encode_queue(alloc: Global, queue: &[QueueDiffs]) -> Result<Vec<u8>, EditError>
+    ensures spelled { IfOk result (λ bytes. bytes.items ≡ spell_queue queue.now) }
+    ensures only { IsOkUnless result NoMemory }
+{
+    let mut out = Vec::from_slice(alloc, b"ICQ1")?;
+    out.extend_from_slice(&(queue.len() as u64).to_be_bytes())?;
+    for entry in queue {
+        put_entry(&mut out, entry)?;
+    }
+    Ok(out)
+}
+
+/// The bytes of a style. Only want of memory is refused.
+pub fn encode_style(alloc: Global, style: &Style) -> Result<Vec<u8>, EditError>
+    ensures spelled { IfOk result (λ bytes. bytes.items ≡ spell_style style.now) }
+    ensures only { IsOkUnless result NoMemory }
+{
+    let mut out = Vec::new(alloc);
+    put_style(&mut out, style)?;
+    Ok(out)
+}

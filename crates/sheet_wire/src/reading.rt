@@ -1,0 +1,105 @@
+//! Reading numbers and texts from the front of bytes. Each reader answers the value and the bytes
+//! after it, or `ParseDiffs`.
+
+ghost use Rattle.std.specs.Prelude.{if◌then◌else◌};
+ghost use Rattle.base_values.specs.declared.EditError.TheVariants.{ParseDiffs};
+ghost use Rattle.std.specs.Int.{w32, w64, w128};
+ghost use Rattle.std.specs.Str.{is_utf8};
+ghost use Rattle.base_values.specs.Answers.{Answers, map_ok};
+ghost use Rattle.sheet_wire.specs.Reading.{byte_at, bytes_at, number_at, signed_at, text_at};
+ghost use Rattle.sheet_wire.specs.StyleBytes.{boolean_at};
+
+use crate::codes::boolean_of;
+use base_values::{EditError, Text};
+use std::alloc::Global;
+
+pub(crate) fn byte_at(bytes: &[u8]) -> Result<(u8, &[u8]), EditError>
+    ensures { Answers (map_ok (λ x. (x.0, x.1.now)) result) (byte_at bytes.now) }
+{
+    match bytes {
+        [] => Err(EditError::ParseDiffs),
+        [byte, rest @ ..] => Ok((*byte, rest)),
+    }
+}
+
+pub(crate) fn u32_at(bytes: &[u8]) -> Result<(u32, &[u8]), EditError>
+    ensures { Answers (map_ok (λ x. (x.0, x.1.now)) result) (number_at w32 bytes.now) }
+{
+    if bytes.len() < 4 {
+        return Err(EditError::ParseDiffs);
+    }
+    let (front, rest) = bytes.split_at(4);
+    let number = u32::from_be_bytes([front[0], front[1], front[2], front[3]]);
+    Ok((number, rest))
+}
+
+pub(crate) fn u64_at(bytes: &[u8]) -> Result<(u64, &[u8]), EditError>
+    ensures { Answers (map_ok (λ x. (x.0, x.1.now)) result) (number_at w64 bytes.now) }
+{
+    if bytes.len() < 8 {
+        return Err(EditError::ParseDiffs);
+    }
+    let (front, rest) = bytes.split_at(8);
+    let number = u64::from_be_bytes([
+        front[0], front[1], front[2], front[3], front[4], front[5], front[6], front[7],
+    ]);
+    Ok((number, rest))
+}
+
+pub(crate) fn i32_at(bytes: &[u8]) -> Result<(i32, &[u8]), EditError>
+    ensures { Answers (map_ok (λ x. (x.0, x.1.now)) result) (signed_at w32 bytes.now) }
+{
+    let (number, rest) = u32_at(bytes)?;
+    Ok((number.cast_signed(), rest))
+}
+
+pub(crate) fn i128_at(bytes: &[u8]) -> Result<(i128, &[u8]), EditError>
+    ensures { Answers (map_ok (λ x. (x.0, x.1.now)) result) (signed_at w128 bytes.now) }
+{
+    if bytes.len() < 16 {
+        return Err(EditError::ParseDiffs);
+    }
+    let (front, rest) = bytes.split_at(16);
+    let number = i128::from_be_bytes([
+        front[0], front[1], front[2], front[3], front[4], front[5], front[6], front[7], front[8],
+        front[9], front[10], front[11], front[12], front[13], front[14], front[15],
+    ]);
+    Ok((number, rest))
+}
+
+pub(crate) fn boolean_at(bytes: &[u8]) -> Result<(bool, &[u8]), EditError>
+    ensures { Answers (map_ok (λ x. (x.0, x.1.now)) result) (boolean_at bytes.now) }
+{
+    let (code, rest) = byte_at(bytes)?;
+    let value = boolean_of(code)?;
+    Ok((value, rest))
+}
+
+fn bytes_at(count: u64, bytes: &[u8]) -> Result<(&[u8], &[u8]), EditError>
+    ensures { Answers (map_ok (λ x. (x.0.now, x.1.now)) result) (bytes_at count bytes.now) }
+{
+    if (bytes.len() as u64) < count {
+        return Err(EditError::ParseDiffs);
+    }
+    Ok(bytes.split_at(count as usize))
+}
+
+/// The bytes as UTF-8.
+fn utf8_of(bytes: &[u8]) -> Result<&str, EditError>
+    ensures { Answers (map_ok (λ x. x.now) result) (if is_utf8 bytes.now then Ok bytes.now else Err ParseDiffs) }
+{
+    match str::from_utf8(bytes) {
+        Ok(text) => Ok(text),
+        Err(_) => Err(EditError::ParseDiffs),
+    }
+}
+
+#[tactic(auto, unfolding(crate::specs::Reading::text_at))]
+pub(crate) fn text_at(alloc: Global, bytes: &[u8]) -> Result<(Text, &[u8]), EditError>
+    ensures { Answers (map_ok (λ x. (x.0, x.1.now)) result) (text_at bytes.now) }
+{
+    let (count, rest) = u64_at(bytes)?;
+    let (front, rest) = bytes_at(count, rest)?;
+    let text = utf8_of(front)?;
+    Ok((Text::new(String::from_str(alloc, text)?), rest))
+}

@@ -1,0 +1,96 @@
+//! Reading positions and cells from the front of bytes.
+
+ghost use Rattle.std.specs.Prelude.{◌↔◌, IsTrue};
+ghost use Rattle.base_values.specs.Answers.{Answers, map_ok};
+ghost use Rattle.base_decimal.specs.Kept.{IsKept};
+ghost use Rattle.sheet_wire.specs.Reading.{code_at};
+ghost use Rattle.sheet_wire.specs.CellBytes.{cell_at, content_at, decimal_at, error_code, errors, position_at};
+
+use crate::codes::error_of;
+use crate::reading::{boolean_at, byte_at, i32_at, i128_at, text_at};
+use crate::reading_styles::style_at;
+use base_decimal::Decimal;
+use base_tables::Error;
+use base_values::{EditError, Position};
+use sheet_grid::{Cell, Content};
+use std::alloc::Global;
+
+#[tactic(auto, unfolding(crate::specs::CellBytes::position_at))]
+pub(crate) fn position_at(bytes: &[u8]) -> Result<(Position, &[u8]), EditError>
+    ensures { Answers (map_ok (λ x. (x.0, x.1.now)) result) (position_at bytes.now) }
+{
+    let (row, rest) = i32_at(bytes)?;
+    let (column, rest) = i32_at(rest)?;
+    Ok((Position { row, column }, rest))
+}
+
+/// Whether a number has at most 15 digits on each side of the point, and no zero digit at the end
+/// of its places.
+#[tactic(auto, unfolding(base_decimal::specs::Kept::is_kept))]
+fn is_kept(number: &Decimal) -> bool
+    ensures { IsTrue result ↔ IsKept number.now }
+{
+    if 15 < number.places {
+        return false;
+    }
+    let size = number.mantissa.unsigned_abs();
+    let limit = 10u128.pow(15 + number.places as u32);
+    size < limit && !(0 < number.places && size % 10 == 0)
+}
+
+#[tactic(auto, unfolding(crate::specs::CellBytes::decimal_at))]
+fn decimal_at(bytes: &[u8]) -> Result<(Decimal, &[u8]), EditError>
+    ensures { Answers (map_ok (λ x. (x.0, x.1.now)) result) (decimal_at bytes.now) }
+{
+    let (mantissa, rest) = i128_at(bytes)?;
+    let (places, rest) = byte_at(rest)?;
+    let number = Decimal { mantissa, places };
+    if !is_kept(&number) {
+        return Err(EditError::ParseDiffs);
+    }
+    Ok((number, rest))
+}
+
+fn error_at(bytes: &[u8]) -> Result<(Error, &[u8]), EditError>
+    ensures { Answers (map_ok (λ x. (x.0, x.1.now)) result) (code_at error_code errors bytes.now) }
+{
+    let (code, rest) = byte_at(bytes)?;
+    let error = error_of(code)?;
+    Ok((error, rest))
+}
+
+#[tactic(auto, unfolding(crate::specs::CellBytes::content_at))]
+fn content_at(alloc: Global, bytes: &[u8]) -> Result<(Content, &[u8]), EditError>
+    ensures { Answers (map_ok (λ x. (x.0, x.1.now)) result) (content_at bytes.now) }
+{
+    let (kind, rest) = byte_at(bytes)?;
+    match kind {
+        0 => Ok((Content::Empty, rest)),
+        1 => {
+            let (number, rest) = decimal_at(rest)?;
+            Ok((Content::Number(number), rest))
+        }
+        2 => {
+            let (value, rest) = boolean_at(rest)?;
+            Ok((Content::Boolean(value), rest))
+        }
+        3 => {
+            let (error, rest) = error_at(rest)?;
+            Ok((Content::Error(error), rest))
+        }
+        4 => {
+            let (text, rest) = text_at(alloc, rest)?;
+            Ok((Content::Text(text), rest))
+        }
+        _ => Err(EditError::ParseDiffs),
+    }
+}
+
+#[tactic(auto, unfolding(crate::specs::CellBytes::cell_at))]
+pub(crate) fn cell_at(alloc: Global, bytes: &[u8]) -> Result<(Cell, &[u8]), EditError>
+    ensures { Answers (map_ok (λ x. (x.0, x.1.now)) result) (cell_at bytes.now) }
+{
+    let (content, rest) = content_at(alloc, bytes)?;
+    let (style, rest) = style_at(alloc, rest)?;
+    Ok((Cell { content, style }, rest))
+}

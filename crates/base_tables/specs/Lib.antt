@@ -1,4 +1,9 @@
+pub mod Error
 pub mod ErrorEquals
+pub mod Language
 pub mod LanguageEquals
+pub mod Locale
 pub mod LocaleEquals
+pub mod Tables
+pub mod Zone
 pub mod ZoneEquals

@@ -1,4 +1,5 @@
-//! Locales, languages, time zones and error values, as tables.
+//! Locales, languages, time zones, error values and functions as tables, each with the look-ups both ways;
+//! names of columns, quoted sheet names, and equality of names by folding.
 #![tactic(auto)]
 
 mod error;
@@ -6,7 +7,7 @@ mod language;
 mod locale;
 mod zone;
 
-pub use error::Error;
-pub use language::Language;
-pub use locale::Locale;
-pub use zone::Zone;
+pub use error::{Error, read_error};
+pub use language::{Language, get_language, read_boolean};
+pub use locale::{Locale, get_locale};
+pub use zone::{Zone, get_zone};

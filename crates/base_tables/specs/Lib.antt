@@ -1,3 +1,4 @@
+pub mod Column
 pub mod Error
 pub mod ErrorEquals
 pub mod Language

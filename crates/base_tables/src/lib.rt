@@ -2,11 +2,13 @@
 //! names of columns, quoted sheet names, and equality of names by folding.
 #![tactic(auto)]
 
+mod column;
 mod error;
 mod language;
 mod locale;
 mod zone;
 
+pub use column::number_to_column;
 pub use error::{Error, read_error};
 pub use language::{Language, get_language, read_boolean};
 pub use locale::{Locale, get_locale};

@@ -1,4 +1,5 @@
 pub mod Column
+pub mod ColumnLaws
 pub mod Error
 pub mod ErrorEquals
 pub mod Language

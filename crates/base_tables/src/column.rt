@@ -1,7 +1,8 @@
-ghost use Rattle.std.specs.Prelude.{◌≡◌, ◌<◌, ◌≤◌, ◌*◌, ◌+◌, ◌^◌, ◌++◌, ◌∷◌, [], pos, IfOk, OnOk, IfSome, IsOkUnless, string_bytes, option_map, length, true, if◌then◌else◌};
+ghost use Rattle.std.specs.Prelude.{◌≡◌, ◌<◌, ◌≤◌, ◌*◌, ◌+◌, ◌^◌, ◌++◌, ◌∷◌, [], pos, IfOk, OnOk, IfSome, IsOkUnless, string_bytes, option_map, length, nat_le, map, Some, ◌&&◌, true, if◌then◌else◌};
 ghost use Rattle.std.specs.List.{list_all};
+ghost use Rattle.std.specs.Char.{to_ascii_uppercase};
 ghost use Rattle.base_values.specs.declared.error.EditError.TheVariants.{NoMemory};
-ghost use Rattle.base_tables.specs.Column.{is_letter, letter_value, letter_of, letters_number, column_letters, column_name, column_of_name, is_column_name};
+ghost use Rattle.base_tables.specs.Column.{is_between, is_letter, letter_value, letter_of, letters_number, column_letters, column_name, column_of_name, is_column_name};
 
 use base_values::{EditError, LAST_COLUMN};
 use std::alloc::{AllocError, Global};
@@ -67,4 +68,48 @@ fn letter_value(c: u8) -> u32
     } else {
         c - (b'A' - 1)
     })
+}
+
+fn are_letters(text: &[u8]) -> bool
+    ensures { result ≡ list_all is_letter text.now }
+{
+    text.iter().all(|c| is_letter(*c))
+}
+
+fn number_of_letters(letters: &[u8]) -> Option<u32>
+    requires { list_all is_letter letters.now ≡ true }
+    ensures value { result ≡ (if is_between 1 3 (length letters.now) && nat_le (letters_number letters.now) 16384 then Some (letters_number letters.now) else None) }
+    ensures inside { IfSome result (λ number. number ≤ 16384) }
+{
+    let number = match letters {
+        [a] => letter_value(*a),
+        [a, b] => letter_value(*a) * 26 + letter_value(*b),
+        [a, b, c] => (letter_value(*a) * 26 + letter_value(*b)) * 26 + letter_value(*c),
+        _ => return None,
+    };
+    if number <= 16_384 { Some(number) } else { None }
+}
+
+/// The column that one to three letters name, `A` standing for 1 and `Z` for 26.
+#[tactic(auto, unfolding(crate::specs::Column::is_column_name))]
+fn column_number(letters: &[u8]) -> Option<u32>
+    ensures value { result ≡ (if is_column_name letters.now then Some (letters_number letters.now) else None) }
+    ensures inside { IfSome result (λ number. number ≤ 16384) }
+{
+    if !are_letters(letters) {
+        return None;
+    }
+    number_of_letters(letters)
+}
+
+/// The column that one to three letters name, in either case, or `None` where the text names none.
+#[tactic(auto, unfolding(crate::specs::Column::column_of_name), using(crate::specs::ColumnLaws::found_column))]
+pub fn column_to_number(text: &str) -> Option<i32>
+    ensures value { result ≡ column_of_name text.now }
+    ensures named { IfSome result (λ column. column_name column ≡ Some (map to_ascii_uppercase text.now)) }
+{
+    match column_number(text.as_bytes()) {
+        Some(number) => Some(number as i32),
+        None => None,
+    }
 }

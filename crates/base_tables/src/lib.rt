@@ -8,7 +8,7 @@ mod language;
 mod locale;
 mod zone;
 
-pub use column::number_to_column;
+pub use column::{column_to_number, number_to_column};
 pub use error::{Error, read_error};
 pub use language::{Language, get_language, read_boolean};
 pub use locale::{Locale, get_locale};

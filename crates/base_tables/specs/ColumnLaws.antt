@@ -5,6 +5,7 @@ use Rattle.std.specs.Prelude.{nat_le, ◌&&◌}
 use Rattle.std.specs.List.{list_all}
 use Rattle.std.specs.Char.{to_ascii_uppercase}
 use Rattle.base_values.specs.Places.{is_line}
+use Rattle.base_tables.specs.Tables.{both, both_parts}
 use Rattle.base_tables.specs.Column.{is_between, is_letter, letter_value, letter_of, letters_number, last_value, number_before, column_letters, column_name, is_column_name, column_of_name}
 
 value_bounds : (c : ℕ) → is_letter c ≡ true → (1 ≤ letter_value c) × (letter_value c ≤ 26)
@@ -18,13 +19,6 @@ value_again v low high = grind (arith, nat_tests)
 
 is_letter_of : (v : ℕ) → 1 ≤ v → v ≤ 26 → is_letter (letter_of v) ≡ true
 is_letter_of v low high = grind (arith, nat_tests)
-
-both : (a b : Bool) → a ≡ true → b ≡ true → a && b ≡ true
-both a b e f = ap (λ x. x && b) e ∙ f
-
-both_parts : (a b : Bool) → a && b ≡ true → (a ≡ true) × (b ≡ true)
-both_parts true b e = (refl, e)
-both_parts false b e = absurd cc
 
 -- ---- the number of a name
 
@@ -79,9 +73,9 @@ unfolding column_of_name
 read_name n text names = rw names.0 (ap (λ (k : ℕ). Some (pos k)) names.1)
 
 -- the letters of a column name it
-pub column_of_name-column_letters : (n : ℕ) → 1 ≤ n → n ≤ 16384 → column_of_name (column_letters n) ≡ Some (pos n)
+pub letters_name_column : (n : ℕ) → 1 ≤ n → n ≤ 16384 → column_of_name (column_letters n) ≡ Some (pos n)
 unfolding column_letters
-column_of_name-column_letters n low high = read_name n (column_letters n) (letters_name n low high (nat_le n 26) (nat_le n 702) refl refl)
+letters_name_column n low high = read_name n (column_letters n) (letters_name n low high (nat_le n 26) (nat_le n 702) refl refl)
 
 -- ---- the name of a number
 
@@ -170,7 +164,7 @@ found_column text column e = by_inside text (is_column_name text) column refl e
 by_line : (b : Bool) (n : ℕ) (name : List ℕ) → is_line (pos 16384) (pos n) ≡ b → cond b (Some (column_letters n)) None ≡ Some name → column_of_name name ≡ Some (pos n)
 by_line true n name is e =
     let same : column_letters n ≡ name = cc in
-    subst (λ (s : List ℕ). column_of_name s ≡ Some (pos n)) same (column_of_name-column_letters n (grind (arith, nat_tests)) (grind (arith, nat_tests)))
+    subst (λ (s : List ℕ). column_of_name s ≡ Some (pos n)) same (letters_name_column n (grind (arith, nat_tests)) (grind (arith, nat_tests)))
 by_line false n name is e = absurd cc
 
 -- the name that is printed is read as the column

@@ -2,6 +2,8 @@ pub mod Column
 pub mod ColumnLaws
 pub mod Error
 pub mod ErrorEquals
+pub mod Function
+pub mod FunctionEquals
 pub mod Language
 pub mod LanguageEquals
 pub mod Locale

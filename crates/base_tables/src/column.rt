@@ -35,6 +35,18 @@ fn push_column(name: &mut String, column: u32) -> Result<(), AllocError>
     Ok(())
 }
 
+#[tactic(auto, using(crate::specs::ColumnLaws::letters_name_column))]
+fn column_text(alloc: Global, column: u32) -> Result<String, AllocError>
+    requires low { 1 ≤ column }
+    requires high { column ≤ 16384 }
+    ensures value { IfOk result (λ name. string_bytes name ≡ column_letters column) }
+    ensures read { IfOk result (λ name. column_of_name (string_bytes name) ≡ Some (pos column)) }
+{
+    let mut name = String::new(alloc);
+    push_column(&mut name, column)?;
+    Ok(name)
+}
+
 /// The name of a column in capital letters, `A` to `XFD`, or `None` where the column is outside the
 /// sheet. Columns are counted from 1.
 ///
@@ -42,14 +54,13 @@ fn push_column(name: &mut String, column: u32) -> Result<(), AllocError>
 #[tactic(auto, unfolding(crate::specs::Column::column_name))]
 pub fn number_to_column(alloc: Global, column: i32) -> Result<Option<String>, EditError>
     ensures value { IfOk result (λ found. option_map string_bytes found ≡ column_name column) }
+    ensures read { IfOk result (λ found. IfSome found (λ name. column_of_name (string_bytes name) ≡ Some column)) }
     ensures only { IsOkUnless result NoMemory }
 {
     if column < 1 || LAST_COLUMN < column {
         return Ok(None);
     }
-    let mut name = String::new(alloc);
-    push_column(&mut name, column.unsigned_abs())?;
-    Ok(Some(name))
+    Ok(Some(column_text(alloc, column.unsigned_abs())?))
 }
 
 pub(crate) fn is_letter(c: u8) -> bool

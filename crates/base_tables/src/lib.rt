@@ -4,12 +4,15 @@
 
 mod column;
 mod error;
+mod function;
 mod language;
 mod locale;
+mod tables;
 mod zone;
 
 pub use column::{column_to_number, number_to_column};
 pub use error::{Error, read_error};
+pub use function::{Function, function_by_name};
 pub use language::{Language, get_language, read_boolean};
 pub use locale::{Locale, get_locale};
 pub use zone::{Zone, get_zone};

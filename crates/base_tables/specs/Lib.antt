@@ -9,5 +9,6 @@ pub mod LanguageEquals
 pub mod Locale
 pub mod LocaleEquals
 pub mod Tables
+pub mod Word
 pub mod Zone
 pub mod ZoneEquals

@@ -8,6 +8,7 @@ mod function;
 mod language;
 mod locale;
 mod tables;
+mod word;
 mod zone;
 
 pub use column::{column_to_number, number_to_column};
@@ -15,4 +16,5 @@ pub use error::{Error, read_error};
 pub use function::{Function, function_by_name};
 pub use language::{Language, get_language, read_boolean};
 pub use locale::{Locale, get_locale};
+pub use word::is_word;
 pub use zone::{Zone, get_zone};

@@ -113,6 +113,13 @@ fn column_number(letters: &[u8]) -> Option<u32>
     number_of_letters(letters)
 }
 
+/// Whether the letters name a column inside the sheet.
+pub(crate) fn is_column_name(letters: &[u8]) -> bool
+    ensures { result ≡ is_column_name letters.now }
+{
+    column_number(letters).is_some()
+}
+
 /// The column that one to three letters name, in either case, or `None` where the text names none.
 #[tactic(auto, unfolding(crate::specs::Column::column_of_name), using(crate::specs::ColumnLaws::found_column))]
 pub fn column_to_number(text: &str) -> Option<i32>

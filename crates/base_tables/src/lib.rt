@@ -7,6 +7,7 @@ mod error;
 mod function;
 mod language;
 mod locale;
+mod quote;
 mod tables;
 mod word;
 mod zone;

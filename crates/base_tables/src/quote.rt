@@ -1,0 +1,108 @@
+ghost use Rattle.std.specs.Prelude.{◌≡◌, ◌<◌, ◌≤◌, ◌^◌, ◌∷◌, ◌++◌, ◌&&◌, length, min, true, IfOk, OnOk, IsOkUnless, string_bytes};
+ghost use Rattle.std.specs.List.{list_all, prefix_len};
+ghost use Rattle.std.specs.Str.{chars};
+ghost use Rattle.base_tables.specs.Column.{is_letter, is_column_name};
+ghost use Rattle.base_tables.specs.Word.{is_digit, is_row_number, digits_number, starts_positive, is_count, front, behind, reads_as_cell, is_column_part, reads_as_row_column, needs_quotes, doubled, quoted_name};
+
+use crate::column::{is_column_name, is_letter};
+
+fn is_digit(c: u8) -> bool
+    ensures { result ≡ is_digit c }
+{
+    b'0' <= c && c <= b'9'
+}
+
+fn letters_len(text: &[u8]) -> usize
+    ensures value { result ≡ prefix_len is_letter text.now }
+    ensures within { result ≤ length text.now }
+{
+    for (at, c) in text.iter().enumerate() {
+        if !is_letter(*c) {
+            return at;
+        }
+    }
+    text.len()
+}
+
+fn digits_len(text: &[u8]) -> usize
+    ensures value { result ≡ prefix_len is_digit text.now }
+    ensures within { result ≤ length text.now }
+{
+    for (at, c) in text.iter().enumerate() {
+        if !is_digit(*c) {
+            return at;
+        }
+    }
+    text.len()
+}
+
+fn are_digits(text: &[u8]) -> bool
+    ensures { result ≡ list_all is_digit text.now }
+{
+    text.iter().all(|c| is_digit(*c))
+}
+
+fn starts_positive(digits: &[u8]) -> bool
+    ensures { result ≡ starts_positive digits.now }
+{
+    match digits {
+        [c, ..] => *c != b'0',
+        [] => false,
+    }
+}
+
+/// The number that the digits write, or `cap` where it is larger.
+fn capped_number(digits: &[u8], cap: u64) -> u64
+    requires bounded { cap < 2 ^ 32 }
+    requires digits { list_all is_digit digits.now ≡ true }
+    ensures { result ≡ min (digits_number digits.now) cap }
+{
+    let mut number = 0;
+    for c in digits {
+        number = (number * 10 + u64::from(*c - b'0')).min(cap);
+    }
+    number
+}
+
+/// Whether the text is a number from 1 to `last` without a leading zero.
+#[tactic(auto, unfolding(crate::specs::Word::is_count))]
+fn is_count(text: &[u8], last: u64) -> bool
+    requires { last < 2 ^ 31 }
+    ensures { result ≡ is_count last text.now }
+{
+    are_digits(text) && starts_positive(text) && capped_number(text, last + 1) <= last
+}
+
+#[tactic(auto, unfolding(crate::specs::Word::reads_as_cell))]
+fn cell_bytes(text: &[u8]) -> bool
+    ensures { result ≡ reads_as_cell text.now }
+{
+    let (letters, digits) = text.split_at(letters_len(text));
+    is_column_name(letters) && is_count(digits, 1_048_576)
+}
+
+fn is_column_part(text: &[u8]) -> bool
+    ensures { result ≡ is_column_part text.now }
+{
+    match text {
+        [c, digits @ ..] => (*c == b'C' || *c == b'c') && is_count(digits, 16_384),
+        [] => false,
+    }
+}
+
+fn row_and_column(text: &[u8]) -> bool
+    ensures { result ≡ (is_row_number (front is_digit text.now) && is_column_part (behind is_digit text.now)) }
+{
+    let (digits, rest) = text.split_at(digits_len(text));
+    is_count(digits, 1_048_576) && is_column_part(rest)
+}
+
+#[tactic(auto, unfolding(crate::specs::Word::reads_as_row_column))]
+fn row_column_bytes(text: &[u8]) -> bool
+    ensures { result ≡ reads_as_row_column text.now }
+{
+    match text {
+        [c, rest @ ..] => (*c == b'R' || *c == b'r') && row_and_column(rest),
+        [] => false,
+    }
+}

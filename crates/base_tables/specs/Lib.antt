@@ -10,5 +10,6 @@ pub mod Locale
 pub mod LocaleEquals
 pub mod Tables
 pub mod Word
+pub mod WordLaws
 pub mod Zone
 pub mod ZoneEquals

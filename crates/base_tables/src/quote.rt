@@ -5,6 +5,7 @@ ghost use Rattle.base_tables.specs.Column.{is_letter, is_column_name};
 ghost use Rattle.base_tables.specs.Word.{is_digit, is_row_number, digits_number, starts_positive, is_count, front, behind, reads_as_cell, is_column_part, reads_as_row_column, needs_quotes, doubled, quoted_name};
 
 use crate::column::{is_column_name, is_letter};
+use crate::word::is_word;
 
 fn is_digit(c: u8) -> bool
     ensures { result ≡ is_digit c }
@@ -105,4 +106,26 @@ fn row_column_bytes(text: &[u8]) -> bool
         [c, rest @ ..] => (*c == b'R' || *c == b'r') && row_and_column(rest),
         [] => false,
     }
+}
+
+/// Whether the text is the name of a cell inside the sheet, as `B12`, in capitals or small letters.
+pub fn reads_as_cell(text: &str) -> bool
+    ensures { result ≡ reads_as_cell (chars text.now) }
+{
+    cell_bytes(text.as_bytes())
+}
+
+/// Whether the text is a cell inside the sheet by its numbers, as `R12C2`, in capitals or small letters.
+pub fn reads_as_row_column(text: &str) -> bool
+    ensures { result ≡ reads_as_row_column (chars text.now) }
+{
+    row_column_bytes(text.as_bytes())
+}
+
+/// Whether a sheet name is printed in quotes: where it is no word (as where it is empty), or reads as a
+/// cell by letters or by numbers.
+pub fn needs_quotes(name: &str) -> bool
+    ensures { result ≡ needs_quotes (chars name.now) }
+{
+    !is_word(name) || reads_as_cell(name) || reads_as_row_column(name)
 }

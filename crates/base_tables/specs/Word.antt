@@ -1,7 +1,6 @@
 -- Words, and the words that read as a cell. Texts are here lists of characters.
-use Rattle.std.specs.Prelude.{ℕ, ◌+◌, ◌-◌, ◌*◌, ◌==◌, Bool, true, false, not, ◌&&◌, ◌||◌, nat_le, List, [], ◌∷◌, ◌++◌, take, drop, if◌then◌else◌}
+use Rattle.std.specs.Prelude.{ℕ, ◌+◌, ◌-◌, ◌*◌, ◌==◌, Bool, true, false, not, ◌&&◌, ◌||◌, nat_le, List, [], ◌∷◌, ◌++◌, take, drop, flat_map, if◌then◌else◌}
 use Rattle.std.specs.List.{list_all, prefix_len}
-use Rattle.std.specs.Str.{chars}
 use Rattle.std.specs.Char.Unicode.Alphabetic.{is_alphabetic}
 use Rattle.base_tables.specs.Column.{is_between, is_letter, is_column_name}
 
@@ -79,11 +78,13 @@ reads_as_row_column (c ∷ text) = (c == 82 || c == 114) && (is_row_number (fron
 abbrev pub needs_quotes : List ℕ → Bool
 needs_quotes name = not (is_word name) || (reads_as_cell name || reads_as_row_column name)
 
--- each quote twice
-abbrev pub doubled : List ℕ → List ℕ
-doubled [] = []
-doubled (c ∷ text) = if c == 39 then 39 ∷ 39 ∷ doubled text else c ∷ doubled text
+-- a quote twice, and any other character once
+abbrev pub twice : ℕ → List ℕ
+twice c = if c == 39 then 39 ∷ 39 ∷ [] else c ∷ []
 
--- the bytes of a sheet name as it is printed
+abbrev pub doubled : List ℕ → List ℕ
+doubled = flat_map twice
+
+-- a sheet name as it is printed
 unfoldable pub quoted_name : List ℕ → List ℕ
-quoted_name name = if needs_quotes (chars name) then 39 ∷ doubled name ++ 39 ∷ [] else name
+quoted_name name = if needs_quotes name then 39 ∷ doubled name ++ 39 ∷ [] else name

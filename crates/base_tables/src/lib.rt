@@ -17,6 +17,6 @@ pub use error::{Error, read_error};
 pub use function::{Function, function_by_name};
 pub use language::{Language, get_language, read_boolean};
 pub use locale::{Locale, get_locale};
-pub use quote::{needs_quotes, reads_as_cell, reads_as_row_column};
+pub use quote::{needs_quotes, quote_name, reads_as_cell, reads_as_row_column};
 pub use word::is_word;
 pub use zone::{Zone, get_zone};

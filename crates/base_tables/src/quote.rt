@@ -1,11 +1,14 @@
-ghost use Rattle.std.specs.Prelude.{◌≡◌, ◌<◌, ◌≤◌, ◌^◌, ◌∷◌, ◌++◌, ◌&&◌, length, min, true, IfOk, OnOk, IsOkUnless, string_bytes};
+ghost use Rattle.std.specs.Prelude.{◌≡◌, ◌<◌, ◌≤◌, ◌^◌, ◌∷◌, ◌++◌, [], ◌&&◌, length, min, true, IfOk, OnOk, IsOkUnless, string_bytes, encode_utf8_all};
 ghost use Rattle.std.specs.List.{list_all, prefix_len};
 ghost use Rattle.std.specs.Str.{chars};
+ghost use Rattle.base_values.specs.declared.error.EditError.TheVariants.{NoMemory};
 ghost use Rattle.base_tables.specs.Column.{is_letter, is_column_name};
-ghost use Rattle.base_tables.specs.Word.{is_digit, is_row_number, digits_number, starts_positive, is_count, front, behind, reads_as_cell, is_column_part, reads_as_row_column, needs_quotes, doubled, quoted_name};
+ghost use Rattle.base_tables.specs.Word.{is_digit, is_row_number, digits_number, starts_positive, is_count, front, behind, reads_as_cell, is_column_part, reads_as_row_column, needs_quotes, twice, doubled, quoted_name};
 
 use crate::column::{is_column_name, is_letter};
 use crate::word::is_word;
+use base_values::EditError;
+use std::alloc::{AllocError, Global};
 
 fn is_digit(c: u8) -> bool
     ensures { result ≡ is_digit c }
@@ -128,4 +131,55 @@ pub fn needs_quotes(name: &str) -> bool
     ensures { result ≡ needs_quotes (chars name.now) }
 {
     !is_word(name) || reads_as_cell(name) || reads_as_row_column(name)
+}
+
+fn push_twice(c: char, out: &mut String) -> Result<(), AllocError>
+    ensures { OnOk result (string_bytes out.new ≡ string_bytes out.old ++ encode_utf8_all (twice c)) }
+{
+    if c == '\'' {
+        out.push('\'')?;
+    }
+    out.push(c)
+}
+
+#[tactic(auto, using(crate::proofs::Doubling::doubled_turn))]
+fn push_doubled(text: &str, out: &mut String) -> Result<(), AllocError>
+    ensures { OnOk result (string_bytes out.new ≡ string_bytes out.old ++ encode_utf8_all (doubled (chars text.now))) }
+{
+    for c in text.chars() {
+        push_twice(c, out)?;
+    }
+    Ok(())
+}
+
+fn quoted(alloc: Global, name: &str) -> Result<String, AllocError>
+    ensures { IfOk result (λ text. string_bytes text ≡ encode_utf8_all (39 ∷ doubled (chars name.now) ++ 39 ∷ [])) }
+{
+    let mut text = String::new(alloc);
+    text.push('\'')?;
+    push_doubled(name, &mut text)?;
+    text.push('\'')?;
+    Ok(text)
+}
+
+fn unquoted(alloc: Global, name: &str) -> Result<String, AllocError>
+    ensures { IfOk result (λ text. string_bytes text ≡ encode_utf8_all (chars name.now)) }
+{
+    Ok(String::from_str(alloc, name)?)
+}
+
+/// A sheet name as formulas print it: in quotes where it needs them, each quote inside it doubled, and
+/// else as it is.
+///
+/// `NoMemory` is the only error.
+#[tactic(auto, unfolding(crate::specs::Word::quoted_name))]
+pub fn quote_name(alloc: Global, name: &str) -> Result<String, EditError>
+    ensures value { IfOk result (λ text. string_bytes text ≡ encode_utf8_all (quoted_name (chars name.now))) }
+    ensures only { IsOkUnless result NoMemory }
+{
+    if needs_quotes(name) {
+        Ok(quoted(alloc, name)?)
+    } else {
+        Ok(unquoted(alloc, name)?)
+    }
 }

@@ -1,4 +1,15 @@
+pub mod Column
+pub mod ColumnLaws
+pub mod Error
 pub mod ErrorEquals
+pub mod Function
+pub mod FunctionEquals
+pub mod Language
 pub mod LanguageEquals
+pub mod Locale
 pub mod LocaleEquals
+pub mod Tables
+pub mod Word
+pub mod WordLaws
+pub mod Zone
 pub mod ZoneEquals

@@ -1,12 +1,22 @@
-//! Locales, languages, time zones and error values, as tables.
+//! Locales, languages, time zones, error values and functions as tables, each with the look-ups both ways;
+//! names of columns, quoted sheet names, and equality of names by folding.
 #![tactic(auto)]
 
+mod column;
 mod error;
+mod function;
 mod language;
 mod locale;
+mod quote;
+mod tables;
+mod word;
 mod zone;
 
-pub use error::Error;
-pub use language::Language;
-pub use locale::Locale;
-pub use zone::Zone;
+pub use column::{column_to_number, number_to_column};
+pub use error::{Error, read_error};
+pub use function::{Function, function_by_name};
+pub use language::{Language, get_language, read_boolean};
+pub use locale::{Locale, get_locale};
+pub use quote::{needs_quotes, quote_name, reads_as_cell, reads_as_row_column};
+pub use word::is_word;
+pub use zone::{Zone, get_zone};

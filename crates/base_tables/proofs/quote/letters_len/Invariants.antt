@@ -1,0 +1,7 @@
+use Rattle.std.proofs.Common.{◌≡◌, ◌+◌, drop}
+use Rattle.std.specs.List.{prefix_len}
+use Rattle.base_tables.specs.Column.{is_letter}
+use Rattle.base_tables.proofs.quote.letters_len.Given as goal
+
+abbrev pub invariant-loop-at : goal.invariant-loop-at
+invariant-loop-at l = prefix_len is_letter l.text ≡ l.at + prefix_len is_letter (drop l.at l.text)

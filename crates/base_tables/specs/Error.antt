@@ -1,0 +1,114 @@
+-- The error values: their numbers, and how they are written.
+use Rattle.std.proofs.Common.{subst, refl, ◌∙◌}
+use Rattle.std.specs.Prelude.{◌≡◌, ℕ, Bool, false, Option, Some, List, [], ◌∷◌, ◌++◌, codes, slice_get, if◌then◌else◌}
+use Rattle.base_tables.specs.declared.error.Error.{Error}
+use Rattle.base_tables.specs.declared.error.Error.TheVariants.{Ref, Name, Value, DivisionByZero, NotAvailable, Number, General, NotImplemented, Spill, Calc, Circular, Null}
+use Rattle.base_tables.specs.declared.language.Language.{Language}
+use Rattle.base_tables.specs.declared.language.Language.TheVariants.{En, De, Fr, Es}
+use Rattle.base_tables.specs.Tables.{same_text, entry_named}
+
+-- in the order of their codes
+abbrev pub all_errors : List Error
+all_errors = Ref ∷ Name ∷ Value ∷ DivisionByZero ∷ NotAvailable ∷ Number ∷ General ∷ NotImplemented ∷ Spill ∷ Calc ∷ Circular ∷ Null ∷ []
+
+-- the number in bytes
+abbrev pub error_code : Error → ℕ
+error_code Ref = 0
+error_code Name = 1
+error_code Value = 2
+error_code DivisionByZero = 3
+error_code NotAvailable = 4
+error_code Number = 5
+error_code General = 6
+error_code NotImplemented = 7
+error_code Spill = 8
+error_code Calc = 9
+error_code Circular = 10
+error_code Null = 11
+
+abbrev pub error_of_code : ℕ → Option Error
+error_of_code code = slice_get all_errors code
+
+-- the English text, which all languages print and read
+abbrev pub error_text : Error → List ℕ
+error_text Ref = codes "#REF!"
+error_text Name = codes "#NAME?"
+error_text Value = codes "#VALUE!"
+error_text DivisionByZero = codes "#DIV/0!"
+error_text NotAvailable = codes "#N/A"
+error_text Number = codes "#NUM!"
+error_text General = codes "#ERROR!"
+error_text NotImplemented = codes "#N/IMPL!"
+error_text Spill = codes "#SPILL!"
+error_text Calc = codes "#CALC!"
+error_text Circular = codes "#CIRC!"
+error_text Null = codes "#NULL!"
+
+-- the bytes of `¡`
+abbrev pub inverted_exclamation : List ℕ
+inverted_exclamation = 0xC2 ∷ 0xA1 ∷ []
+
+-- whether it is the language's own text for a lost reference, which is read and never printed
+abbrev pub is_own_reference_error : Language → List ℕ → Bool
+is_own_reference_error En text = false
+is_own_reference_error De text = same_text (codes "#BEZUG!") text
+is_own_reference_error Fr text = false
+is_own_reference_error Es text = same_text (codes "#" ++ inverted_exclamation ++ codes "REF!") text
+
+-- the error that a text is read as
+abbrev pub error_of_text : Language → List ℕ → Option Error
+error_of_text language text = if is_own_reference_error language text then Some Ref else entry_named error_text all_errors text
+
+-- each language reads an error's text as the error
+pub error_of_text-error_text : (language : Language) (error : Error) → error_of_text language (error_text error) ≡ Some error
+error_of_text-error_text En Ref = refl
+error_of_text-error_text En Name = refl
+error_of_text-error_text En Value = refl
+error_of_text-error_text En DivisionByZero = refl
+error_of_text-error_text En NotAvailable = refl
+error_of_text-error_text En Number = refl
+error_of_text-error_text En General = refl
+error_of_text-error_text En NotImplemented = refl
+error_of_text-error_text En Spill = refl
+error_of_text-error_text En Calc = refl
+error_of_text-error_text En Circular = refl
+error_of_text-error_text En Null = refl
+error_of_text-error_text De Ref = refl
+error_of_text-error_text De Name = refl
+error_of_text-error_text De Value = refl
+error_of_text-error_text De DivisionByZero = refl
+error_of_text-error_text De NotAvailable = refl
+error_of_text-error_text De Number = refl
+error_of_text-error_text De General = refl
+error_of_text-error_text De NotImplemented = refl
+error_of_text-error_text De Spill = refl
+error_of_text-error_text De Calc = refl
+error_of_text-error_text De Circular = refl
+error_of_text-error_text De Null = refl
+error_of_text-error_text Fr Ref = refl
+error_of_text-error_text Fr Name = refl
+error_of_text-error_text Fr Value = refl
+error_of_text-error_text Fr DivisionByZero = refl
+error_of_text-error_text Fr NotAvailable = refl
+error_of_text-error_text Fr Number = refl
+error_of_text-error_text Fr General = refl
+error_of_text-error_text Fr NotImplemented = refl
+error_of_text-error_text Fr Spill = refl
+error_of_text-error_text Fr Calc = refl
+error_of_text-error_text Fr Circular = refl
+error_of_text-error_text Fr Null = refl
+error_of_text-error_text Es Ref = refl
+error_of_text-error_text Es Name = refl
+error_of_text-error_text Es Value = refl
+error_of_text-error_text Es DivisionByZero = refl
+error_of_text-error_text Es NotAvailable = refl
+error_of_text-error_text Es Number = refl
+error_of_text-error_text Es General = refl
+error_of_text-error_text Es NotImplemented = refl
+error_of_text-error_text Es Spill = refl
+error_of_text-error_text Es Calc = refl
+error_of_text-error_text Es Circular = refl
+error_of_text-error_text Es Null = refl
+
+pub read_back : (language : Language) (text : List ℕ) (error : Error) (read : Option Error) → read ≡ error_of_text language text → error_text error ≡ text → read ≡ Some error
+read_back language text error read e f = e ∙ subst (λ t. error_of_text language t ≡ Some error) f (error_of_text-error_text language error)

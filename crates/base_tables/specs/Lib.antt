@@ -1,4 +1,5 @@
 pub mod ErrorEquals
 pub mod LanguageEquals
+pub mod Locale
 pub mod LocaleEquals
 pub mod ZoneEquals

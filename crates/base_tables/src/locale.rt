@@ -1,3 +1,5 @@
+ghost use Rattle.std.specs.Prelude.{◌≡◌};
+
 use base_values::Exact;
 
 /// How numbers and lists are written: the decimal sign, the group sign and the separators.
@@ -20,4 +22,18 @@ impl Exact for Locale {
     ghost copies = { λ a b h. Prim.search rules };
 
     ghost equals = { locale_equals };
+}
+
+impl Locale {
+    ghost use Rattle.base_tables.specs.Locale.{decimal_sign};
+
+    /// The character between the whole part of a number and its places, which is ASCII.
+    pub fn decimal_sign(self) -> u8
+        ensures { result ≡ decimal_sign self }
+    {
+        match self {
+            Locale::En => b'.',
+            Locale::De | Locale::Fr | Locale::Es => b',',
+        }
+    }
 }

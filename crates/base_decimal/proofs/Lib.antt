@@ -1,0 +1,5 @@
+pub mod Numerals
+pub mod Prints
+pub mod Spans
+pub mod Trims
+pub mod Values

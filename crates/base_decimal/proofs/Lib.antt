@@ -1,5 +1,6 @@
 pub mod Numerals
 pub mod Prints
+pub mod Runs
 pub mod Spans
 pub mod Trims
 pub mod Values

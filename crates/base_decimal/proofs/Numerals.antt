@@ -5,9 +5,11 @@ use Rattle.std.specs.List.{list_all}
 use Rattle.std.specs.Option.{option_map, option_and_then}
 use Rattle.std.proofs.lemmas.Bool.Decides.{nat_tests}
 use Rattle.base_decimal.specs.declared.decimal.Decimal.{Decimal}
+use Rattle.base_decimal.specs.declared.numeral.Sign.{Sign}
+use Rattle.base_decimal.specs.declared.numeral.Sign.TheVariants.{Absent, Plus, Minus}
 use Rattle.base_decimal.specs.Digits.{is_digit, span, stops, number_of}
 use Rattle.base_decimal.specs.Kept.{IsKept}
-use Rattle.base_decimal.specs.Numeral.{Fraction, NoFraction, Places, Sign, NoSign, Plus, Minus, Exponent, NoExponent, Power, Numeral, fraction_text, sign_text, exponent_text, numeral_text, is_exponent_letter, is_numeral_fraction, is_exponent_len, is_numeral_exponent, IsNumeral, numerator, numeral_places, fraction_at, sign_at, exponent_after, exponent_at, numeral_at, whole_value, value_at, decimal_of, minus_text, Reads}
+use Rattle.base_decimal.specs.Numeral.{Fraction, NoFraction, Places, Exponent, NoExponent, Power, Numeral, fraction_text, sign_text, exponent_text, numeral_text, is_exponent_letter, is_numeral_fraction, is_exponent_len, is_numeral_exponent, IsNumeral, numerator, numeral_places, fraction_at, sign_at, exponent_after, exponent_at, numeral_at, whole_value, value_at, decimal_of, minus_text, Reads}
 use Rattle.base_decimal.specs.Value.{SameValue, decimal_from, kept_of}
 use Rattle.base_decimal.proofs.Spans.{and_both, both_and, span_at, span_parts, span_all}
 use Rattle.base_decimal.proofs.Values.{kept_found, kept_only}
@@ -58,10 +60,10 @@ fraction_read mark m (Places digits) e g h =
     ∙ ap (λ (s : List ℕ × List ℕ). let x : Fraction × List ℕ = (Places s.0, s.1) in x) (span_at is_digit digits (exponent_text e) g (exponent_stops e h))
 
 sign_read : (sign : Sign) (digits : List ℕ) → list_all is_digit digits ≡ true → sign_at (sign_text sign ++ digits) ≡ (sign, digits)
-sign_read NoSign [] e = refl
-sign_read NoSign (b ∷ digits) e =
+sign_read Absent [] e = refl
+sign_read Absent (b ∷ digits) e =
     let digit = (and_both (is_digit b) (list_all is_digit digits) e).0 in
-    let other : Sign × List ℕ = (NoSign, b ∷ digits) in
+    let other : Sign × List ℕ = (Absent, b ∷ digits) in
     ap (λ (t : Bool). cond t (Plus, digits) (cond (b == 45) (Minus, digits) other)) (digit_no_sign b 43 digit (omega arith))
     ∙ ap (λ (t : Bool). cond t (Minus, digits) other) (digit_no_sign b 45 digit (omega arith))
 sign_read Plus digits e = refl
@@ -138,7 +140,7 @@ sign_parts [] = refl
 sign_parts (b ∷ text) = by (b == 43) refl (b == 45) refl
   where
     chosen : Bool → Bool → Sign × List ℕ
-    chosen plus minus = cond plus (Plus, text) (cond minus (Minus, text) (NoSign, b ∷ text))
+    chosen plus minus = cond plus (Plus, text) (cond minus (Minus, text) (Absent, b ∷ text))
     by : (plus : Bool) → (b == 43) ≡ plus → (minus : Bool) → (b == 45) ≡ minus → b ∷ text ≡ sign_text (chosen plus minus).0 ++ (chosen plus minus).1
     by true e minus f = let is : b ≡ 43 = grind (arith, nat_tests) in ap (λ (x : ℕ). x ∷ text) is
     by false e true f = let is : b ≡ 45 = grind (arith, nat_tests) in ap (λ (x : ℕ). x ∷ text) is

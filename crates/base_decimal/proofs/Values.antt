@@ -102,7 +102,7 @@ cross t n k a b e f =
     let y : k * b * a ≡ t * 10 ^ 15 * a = ap (λ (z : ℕ). z * a) f in
     omega arith
 
-times_below : (a b c : ℕ) → 0 < c → a < b → a * c < b * c
+pub times_below : (a b c : ℕ) → 0 < c → a < b → a * c < b * c
 times_below a b c h l = grind arith
 
 kept_tests : (q t : ℕ) → q ≤ 15 → t < 10 ^ (15 + q) → ends t q ≡ true → (m : ℕ) → m ≡ t → (nat_le q 15 && nat_lt m (10 ^ (15 + q)) && not (nat_lt 0 q && (m % 10 == 0))) ≡ true

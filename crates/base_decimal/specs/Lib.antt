@@ -3,4 +3,5 @@ pub mod Digits
 pub mod Kept
 pub mod Numeral
 pub mod Printed
+pub mod Seen
 pub mod Value

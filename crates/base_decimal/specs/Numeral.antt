@@ -3,6 +3,9 @@ use Rattle.std.specs.Prelude.{◌≡◌, ℕ, ◌+◌, ◌*◌, ◌^◌, ◌<◌
 use Rattle.std.specs.List.{list_all}
 use Rattle.std.specs.Option.{option_map, option_and_then}
 use Rattle.base_decimal.specs.declared.decimal.Decimal.{Decimal}
+use Rattle.base_decimal.specs.declared.numeral.Scale.{Scale}
+use Rattle.base_decimal.specs.declared.numeral.Sign.{Sign}
+use Rattle.base_decimal.specs.declared.numeral.Sign.TheVariants.{Absent, Plus, Minus}
 use Rattle.base_decimal.specs.Digits.{is_digit, span, stops, number_of}
 use Rattle.base_decimal.specs.Kept.{IsKept}
 use Rattle.base_decimal.specs.Value.{SameValue, decimal_from, kept_of}
@@ -12,11 +15,6 @@ use Rattle.base_decimal.specs.Value.{SameValue, decimal_from, kept_of}
 pub data Fraction : Type 0 where
   NoFraction : Fraction
   Places : List ℕ → Fraction
-
-pub data Sign : Type 0 where
-  NoSign : Sign
-  Plus : Sign
-  Minus : Sign
 
 -- the letter, a sign and digits
 pub data Exponent : Type 0 where
@@ -35,7 +33,7 @@ fraction_text mark NoFraction = []
 fraction_text mark (Places digits) = mark ∷ digits
 
 abbrev pub sign_text : Sign → List ℕ
-sign_text NoSign = []
+sign_text Absent = []
 sign_text Plus = 43 ∷ []
 sign_text Minus = 45 ∷ []
 
@@ -78,12 +76,8 @@ fraction_digits NoFraction = []
 fraction_digits (Places digits) = digits
 
 -- the power of ten by which an exponent multiplies, and the one by which it divides
-pub record Scale : Type 0 where
-  pub up : ℕ
-  pub down : ℕ
-
 abbrev pub sign_scale : Sign → ℕ → Scale
-sign_scale NoSign n = record { up = n; down = 0 }
+sign_scale Absent n = record { up = n; down = 0 }
 sign_scale Plus n = record { up = n; down = 0 }
 sign_scale Minus n = record { up = 0; down = n }
 
@@ -107,8 +101,8 @@ fraction_at mark (b ∷ text) =
     if b == mark then (let s = span is_digit text in (Places s.0, s.1)) else (NoFraction, b ∷ text)
 
 abbrev pub sign_at : List ℕ → Sign × List ℕ
-sign_at [] = (NoSign, [])
-sign_at (b ∷ text) = if b == 43 then (Plus, text) else (if b == 45 then (Minus, text) else (NoSign, b ∷ text))
+sign_at [] = (Absent, [])
+sign_at (b ∷ text) = if b == 43 then (Plus, text) else (if b == 45 then (Minus, text) else (Absent, b ∷ text))
 
 -- an exponent after its letter
 abbrev pub exponent_after : ℕ → Sign × List ℕ → Option (Exponent × List ℕ)

@@ -2,5 +2,7 @@
 #![tactic(auto)]
 
 mod decimal;
+mod digits;
+mod numeral;
 
 pub use decimal::Decimal;

@@ -1,3 +1,4 @@
+pub mod Fifteen
 pub mod Numerals
 pub mod Prints
 pub mod Runs

@@ -63,7 +63,7 @@ raised_far n r h l =
 
 -- ---- zeros
 
-zero_start : (digits : List ℕ) → list_all (λ b. b == 48) digits ≡ true → number_of digits ≡ 0
+pub zero_start : (digits : List ℕ) → list_all (λ b. b == 48) digits ≡ true → number_of digits ≡ 0
 zero_start [] e = refl
 zero_start (b ∷ digits) e =
     let h = and_both (b == 48) (list_all (λ b. b == 48) digits) e in

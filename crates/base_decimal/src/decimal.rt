@@ -1,3 +1,6 @@
+ghost use Rattle.std.specs.Prelude.{◌≡◌, ◌^◌, ◌<◌};
+ghost use Rattle.base_decimal.specs.Value.{decimal_from};
+
 use base_values::Exact;
 
 /// A number: the mantissa over 10 to the power of the places.
@@ -17,4 +20,16 @@ impl Exact for Decimal {
     ghost copies = { λ a b h. Prim.search rules };
 
     ghost equals = { decimal_equals };
+}
+
+/// The decimal of a sign, an absolute mantissa and places.
+pub fn from_parts(negative: bool, mantissa: u128, places: u8) -> Decimal
+    requires { mantissa < 2 ^ 127 }
+    ensures { result ≡ decimal_from negative mantissa places }
+{
+    let value = mantissa as i128;
+    Decimal {
+        mantissa: if negative { -value } else { value },
+        places,
+    }
 }

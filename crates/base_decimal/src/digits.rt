@@ -1,4 +1,4 @@
-ghost use Rattle.std.specs.Prelude.{◌≡◌, ◌+◌, ◌-◌, ◌*◌, ◌^◌, ◌<◌, ◌≤◌, length, take, drop, min, true, IsTrue, ◌↔◌, ◌==◌, nat_lt, Some, None, if◌then◌else◌};
+ghost use Rattle.std.specs.Prelude.{◌≡◌, ◌+◌, ◌-◌, ◌*◌, ◌^◌, ◌<◌, ◌≤◌, length, take, drop, min, true, IsTrue, ◌↔◌, ◌==◌, nat_lt, Some, None, IfSome, if◌then◌else◌};
 ghost use Rattle.std.specs.List.{prefix_len, list_all};
 ghost use Rattle.base_decimal.specs.Digits.{is_digit, span, number_of, number_after};
 ghost use Rattle.base_decimal.specs.Value.{trim};
@@ -78,7 +78,8 @@ pub fn ten_to(power: u32) -> u128
 /// A number times a power of ten, if that stays below `LIMIT`.
 pub fn raised(number: u128, power: usize) -> Option<u128>
     requires { number ≤ LIMIT }
-    ensures { result ≡ (if nat_lt (number * 10 ^ power) LIMIT then Some (number * 10 ^ power) else None) }
+    ensures value { result ≡ (if nat_lt (number * 10 ^ power) LIMIT then Some (number * 10 ^ power) else None) }
+    ensures small { IfSome result (λ n. n < LIMIT) }
 {
     if number == 0 {
         return Some(0);

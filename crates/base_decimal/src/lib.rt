@@ -4,5 +4,6 @@
 mod decimal;
 mod digits;
 mod numeral;
+mod value;
 
 pub use decimal::Decimal;

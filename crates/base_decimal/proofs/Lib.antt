@@ -1,4 +1,5 @@
 pub mod Fifteen
+pub mod Marks
 pub mod Numerals
 pub mod Prints
 pub mod Runs

@@ -1,6 +1,6 @@
 -- The printed text of a kept decimal reads as it.
 use Rattle.std.proofs.Common.{◌≡◌, ℕ, zero, suc, ◌+◌, ◌-◌, ◌*◌, ◌/◌, ◌%◌, ◌^◌, ◌<◌, ◌≤◌, Bool, true, false, List, [], ◌∷◌, ◌++◌, length, refl, sym, ap, subst, ◌∙◌, arith, Option, Some, None, append_assoc, append-nil}
-use Rattle.std.proofs.Math.Nat.{pow-suc, mul_assoc}
+use Rattle.std.proofs.Math.Nat.{pow-suc, mul_assoc, pow-le-pow_right}
 use Rattle.std.specs.Prelude.{ℤ, unsigned_abs, decimal, ◌&&◌, nat_lt, nat_le, IsTrue}
 use Rattle.std.specs.Int.{is_negative}
 use Rattle.std.specs.List.{list_all}
@@ -150,7 +150,7 @@ printed_reads mark d kept =
     record {
       negative = s;
       numeral = printed_numeral n q;
-      written = ap (λ (t : Decimal). minus_text (is_negative t.mantissa) ++ digits_text mark (unsigned_abs t.mantissa) t.places) (trimmed_kept d kept)
+      written = ap (λ (t : ℕ × ℕ). minus_text s ++ digits_text mark t.0 t.1) (trim_ended n q (kept_ends d kept))
           ∙ ap (λ (x : List ℕ). minus_text s ++ x) (spelled mark n q);
       is_numeral = is_numeral n q h;
       is_value = subst (λ (x : Decimal). SameValue x (decimal_from s (numerator (printed_numeral n q)) (numeral_places (printed_numeral n q)))) (sym (decimal_self d))
@@ -162,3 +162,11 @@ printed_reads mark d kept =
 -- what is printed is read as the decimal that was printed
 pub printed_back : (mark : ℕ) → IsMark mark → (d : Decimal) → IsKept d → decimal_of mark (printed mark d) ≡ Some d
 printed_back mark m d kept = reads_only mark m (printed mark d) d (printed_reads mark d kept)
+
+-- ---- digits far behind the point
+
+pub far_whole : (n count : ℕ) → n < 2 ^ 128 → 39 ≤ count → n / 10 ^ count ≡ 0
+far_whole n count h l =
+    let most : 10 ^ 39 ≤ 10 ^ count = pow-le-pow_right {n = 10} (omega arith) l in
+    let none : n / 10 ^ count < 1 = div_below n (10 ^ count) 1 (ten_pow count) (omega arith) in
+    omega arith

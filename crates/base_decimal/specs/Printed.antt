@@ -2,7 +2,7 @@
 use Rattle.std.specs.Prelude.{ℕ, zero, suc, ◌/◌, ◌%◌, ◌+◌, ◌^◌, Bool, List, [], ◌∷◌, ◌++◌, unsigned_abs, decimal}
 use Rattle.std.specs.Int.{is_negative}
 use Rattle.base_decimal.specs.declared.decimal.Decimal.{Decimal}
-use Rattle.base_decimal.specs.Value.{trimmed}
+use Rattle.base_decimal.specs.Value.{trim}
 use Rattle.base_decimal.specs.Numeral.{minus_text}
 
 -- the last digits of n, this many
@@ -23,4 +23,4 @@ digits_text mark n places = decimal (n / 10 ^ places) ++ places_text mark places
 -- the last is no zero
 unfoldable pub printed : ℕ → Decimal → List ℕ
 printed mark d =
-    let t = trimmed d in minus_text (is_negative t.mantissa) ++ digits_text mark (unsigned_abs t.mantissa) t.places
+    let t = trim (unsigned_abs d.mantissa) d.places in minus_text (is_negative d.mantissa) ++ digits_text mark t.0 t.1

@@ -1,7 +1,14 @@
-ghost use Rattle.std.specs.Prelude.{◌≡◌, ◌^◌, ◌<◌};
+ghost use Rattle.std.specs.Prelude.{◌≡◌, ◌^◌, ◌<◌, ◌≤◌, ◌↔◌, IsTrue, IfOk, IfSome, IsOkUnless, Some};
+ghost use Rattle.std.specs.String.{string_bytes};
 ghost use Rattle.base_decimal.specs.Value.{decimal_from};
+ghost use Rattle.base_tables.specs.Locale.{decimal_sign};
+ghost use Rattle.base_values.specs.declared.error.EditError.TheVariants.{NoMemory};
 
-use base_values::Exact;
+use crate::digits::ten_to;
+use crate::{print, value};
+use base_tables::Locale;
+use base_values::{EditError, Exact};
+use std::alloc::Global;
 
 /// A number: the mantissa over 10 to the power of the places.
 ///
@@ -20,6 +27,53 @@ impl Exact for Decimal {
     ghost copies = { λ a b h. Prim.search rules };
 
     ghost equals = { decimal_equals };
+}
+
+impl Decimal {
+    ghost use Rattle.base_decimal.specs.declared.decimal.Decimal.{Decimal as AnyDecimal};
+    ghost use Rattle.base_decimal.specs.Kept.{IsKept};
+    ghost use Rattle.base_decimal.specs.Numeral.{Reads, decimal_of};
+    ghost use Rattle.base_decimal.specs.Printed.{printed};
+
+    /// The number that a text writes: maybe a minus, then digits, maybe the locale's decimal sign
+    /// and any count of digits, maybe `e` or `E`, a sign and one to three digits. None where the
+    /// text is no such number, or where its value has more than 15 digits on a side of the point.
+    /// It takes no memory.
+    #[tactic(auto, using(crate::proofs::Marks::found_reads))]
+    pub fn read(text: &str, locale: Locale) -> Option<Decimal>
+        ensures value { result ≡ decimal_of (decimal_sign locale) text.now }
+
+        // The kept decimal that the text reads as, and None only where there is none.
+        ensures found { IfSome result (Reads (decimal_sign locale) text.now) }
+        ensures only { (d : AnyDecimal) → Reads (decimal_sign locale) text.now d → result ≡ Some d }
+    {
+        value::read(text.as_bytes(), locale.decimal_sign())
+    }
+
+    /// The number in plain digits, with the locale's decimal sign and without zeros at the end of
+    /// the places.
+    #[tactic(auto, using(crate::proofs::Marks::printings))]
+    pub fn print(&self, alloc: Global, locale: Locale) -> Result<String, EditError>
+        ensures text { IfOk result (λ text. string_bytes text ≡ printed (decimal_sign locale) self.now) }
+        ensures memory { IsOkUnless result NoMemory }
+
+        // A kept decimal reads back.
+        ensures back { IsKept self.now → IfOk result (λ text. decimal_of (decimal_sign locale) (string_bytes text) ≡ Some self.now) }
+    {
+        Ok(print::print(alloc, self, locale.decimal_sign())?)
+    }
+
+    /// Whether a workbook keeps the number in this form: at most 15 digits on each side of the
+    /// point, and no zero digit at the end of the places.
+    #[tactic(auto, unfolding(crate::specs::Kept::is_kept))]
+    pub fn is_kept(&self) -> bool
+        ensures { IsTrue result ↔ IsKept self.now }
+    {
+        let digits = self.mantissa.unsigned_abs();
+        self.places <= 15
+            && digits < ten_to(15 + u32::from(self.places))
+            && !(self.places > 0 && digits % 10 == 0)
+    }
 }
 
 /// The decimal of a sign, an absolute mantissa and places.

@@ -4,6 +4,7 @@
 mod decimal;
 mod digits;
 mod numeral;
+mod print;
 mod value;
 
 pub use decimal::Decimal;

@@ -4,5 +4,6 @@ pub mod Numerals
 pub mod Prints
 pub mod Runs
 pub mod Spans
+pub mod Sums
 pub mod Trims
 pub mod Values

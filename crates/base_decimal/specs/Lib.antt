@@ -1,3 +1,4 @@
+pub mod Arithmetic
 pub mod DecimalEquals
 pub mod Digits
 pub mod Kept

@@ -1,6 +1,8 @@
-ghost use Rattle.std.specs.Prelude.{◌≡◌, ◌^◌, ◌<◌, ◌≤◌, ◌↔◌, IsTrue, IfOk, IfSome, IsOkUnless, Some};
+ghost use Rattle.std.specs.Prelude.{◌≡◌, ◌^◌, ◌<◌, ◌≤◌, ◌↔◌, IsTrue, IfOk, IfSome, IsOkUnless, Some, FitsSigned, ◌+ℤ◌, ◌*ℤ◌};
+ghost use Rattle.std.specs.Int.{w128};
+ghost use Rattle.base_decimal.specs.Arithmetic.{common_places, mantissa_at, sum_of};
 ghost use Rattle.std.specs.String.{string_bytes};
-ghost use Rattle.base_decimal.specs.Value.{decimal_from};
+ghost use Rattle.base_decimal.specs.Value.{SameValue, decimal_from};
 ghost use Rattle.base_tables.specs.Locale.{decimal_sign};
 ghost use Rattle.base_values.specs.declared.error.EditError.TheVariants.{NoMemory};
 
@@ -74,6 +76,46 @@ impl Decimal {
             && digits < ten_to(15 + u32::from(self.places))
             && !(self.places > 0 && digits % 10 == 0)
     }
+
+    /// The sum, with the greater of the two places.
+    pub fn add(&self, other: &Decimal) -> Decimal
+        requires first { FitsSigned w128 (mantissa_at self.now (common_places self.now other.now)) }
+        requires second { FitsSigned w128 (mantissa_at other.now (common_places self.now other.now)) }
+        requires sum {
+            FitsSigned w128 (mantissa_at self.now (common_places self.now other.now) +ℤ mantissa_at other.now (common_places self.now other.now))
+        }
+        ensures places { result.places ≡ common_places self.now other.now }
+        ensures value { SameValue result (sum_of self.now other.now) }
+    {
+        let places = self.places.max(other.places);
+        Decimal {
+            mantissa: mantissa_at(self, places) + mantissa_at(other, places),
+            places,
+        }
+    }
+
+    /// The product with a whole number, with the same places.
+    pub fn scale(&self, by: i128) -> Decimal
+        requires { FitsSigned w128 (self.now.mantissa *ℤ by) }
+        ensures { result ≡ record self.now { mantissa = self.now.mantissa *ℤ by } }
+    {
+        Decimal {
+            mantissa: self.mantissa * by,
+            places: self.places,
+        }
+    }
+}
+
+/// The mantissa of the number with these places.
+fn mantissa_at(number: &Decimal, places: u8) -> i128
+    requires room { number.now.places ≤ places }
+    requires fits { FitsSigned w128 (mantissa_at number.now places) }
+    ensures { result ≡ mantissa_at number.now places }
+{
+    if number.mantissa == 0 {
+        return 0;
+    }
+    number.mantissa * ten_to(u32::from(places - number.places)) as i128
 }
 
 /// The decimal of a sign, an absolute mantissa and places.

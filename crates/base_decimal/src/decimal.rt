@@ -1,12 +1,12 @@
 ghost use Rattle.std.specs.Prelude.{◌≡◌, ◌^◌, ◌<◌, ◌≤◌, ◌↔◌, IsTrue, IfOk, IfSome, IsOkUnless, Some, FitsSigned, ◌+ℤ◌, ◌*ℤ◌};
 ghost use Rattle.std.specs.Int.{w128};
-ghost use Rattle.base_decimal.specs.Arithmetic.{common_places, mantissa_at, sum_of};
+ghost use Rattle.base_decimal.specs.Arithmetic.{IsRounded, common_places, excess, mantissa_at, rounded, sum_of};
 ghost use Rattle.std.specs.String.{string_bytes};
 ghost use Rattle.base_decimal.specs.Value.{SameValue, decimal_from};
 ghost use Rattle.base_tables.specs.Locale.{decimal_sign};
 ghost use Rattle.base_values.specs.declared.error.EditError.TheVariants.{NoMemory};
 
-use crate::digits::ten_to;
+use crate::digits::{ten_to, trim};
 use crate::{print, value};
 use base_tables::Locale;
 use base_values::{EditError, Exact};
@@ -104,6 +104,33 @@ impl Decimal {
             places: self.places,
         }
     }
+
+    /// The nearest number with 15 significant digits, away from zero in the middle between two,
+    /// without zeros at the end of the places.
+    #[tactic(auto, using(crate::proofs::Rounds::roundings), unfolding(crate::specs::Arithmetic::rounded))]
+    pub fn round15(&self) -> Decimal
+        ensures value { result ≡ rounded self.now }
+        ensures nearest { IsRounded self.now result }
+    {
+        let number = self.mantissa.unsigned_abs();
+        let unit = ten_to(excess(number));
+        let kept = (number + unit / 2) / unit * unit;
+        let (digits, places) = trim(kept, self.places);
+        from_parts(self.mantissa < 0, digits, places)
+    }
+}
+
+/// How many digits a number has beyond 15.
+fn excess(number: u128) -> u32
+    ensures { result ≡ excess number }
+{
+    let mut rest = number;
+    let mut dropped = 0;
+    while rest >= 1_000_000_000_000_000 {
+        rest /= 10;
+        dropped += 1;
+    }
+    dropped
 }
 
 /// The mantissa of the number with these places.

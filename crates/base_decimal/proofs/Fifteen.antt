@@ -88,11 +88,11 @@ cut_second cut w f h aw af =
     let last : back_of (cut - length f) w ≡ [] = ap (λ (x : ℕ). drop x w) at ∙ drop_all (length w) w (omega arith) in
     let long : length (back_of cut f) ≡ cut = omega (arith, length-drop (length f - cut) f) in
     both_cut cut w f (front_of (cut - length f) w) (back_of (cut - length f) w) (front_of cut f) (back_of cut f)
-        (joins (cut - length f) w) (joins cut f) aw af
-        (ap (λ (x : List ℕ). (x ++ front_of cut f) ++ (back_of (cut - length f) w ++ back_of cut f)) first
-            ∙ ap (λ (x : List ℕ). (w ++ front_of cut f) ++ (x ++ back_of cut f)) last
-            ∙ append_assoc w (front_of cut f) (back_of cut f) ∙ ap (λ (x : List ℕ). w ++ x) (joins cut f))
-        (inl (ap (λ (x : List ℕ). length (x ++ back_of cut f)) last ∙ long))
+    (joins (cut - length f) w) (joins cut f) aw af
+    (ap (λ (x : List ℕ). (x ++ front_of cut f) ++ (back_of (cut - length f) w ++ back_of cut f)) first
+    ∙ ap (λ (x : List ℕ). (w ++ front_of cut f) ++ (x ++ back_of cut f)) last
+    ∙ append_assoc w (front_of cut f) (back_of cut f) ∙ ap (λ (x : List ℕ). w ++ x) (joins cut f))
+    (inl (ap (λ (x : List ℕ). length (x ++ back_of cut f)) last ∙ long))
 
 -- where it is shorter
 cut_first : (cut : ℕ) (w f : List ℕ) → length f < cut → list_all is_digit w ≡ true → list_all is_digit f ≡ true
@@ -106,15 +106,17 @@ cut_first cut w f h aw af =
     let long : length wb ≡ length w - (length w - (cut - length f)) = omega (arith, length-drop (length w - (cut - length f)) w) in
     let total : length (wb ++ back_of cut f) ≡ length wb + length f = ap (λ (x : List ℕ). length (wb ++ x)) last ∙ length-append wb f in
     both_cut cut w f wf wb (front_of cut f) (back_of cut f)
-        (joins (cut - length f) w) (joins cut f) aw af
-        (ap (λ (x : List ℕ). (wf ++ x) ++ (wb ++ back_of cut f)) first ∙ ap (λ (x : List ℕ). x ++ (wb ++ back_of cut f)) (append-nil wf)
-            ∙ ap (λ (x : List ℕ). wf ++ (wb ++ x)) last ∙ sym (append_assoc wf wb f) ∙ ap (λ (x : List ℕ). x ++ f) (joins (cut - length f) w))
-        (elim (cases_lt (length w) (cut - length f)) [
-            inl short ↦ inr (omega arith,
-                (let start : length w - (cut - length f) ≡ 0 = omega arith in
-                ap (λ (x : List ℕ). wf ++ x) first ∙ append-nil wf ∙ ap (λ (x : ℕ). take x w) start))
-          | inr enough ↦ inl (omega arith)
-        ])
+    (joins (cut - length f) w) (joins cut f) aw af
+    (ap (λ (x : List ℕ). (wf ++ x) ++ (wb ++ back_of cut f)) first ∙ ap (λ (x : List ℕ). x ++ (wb ++ back_of cut f)) (append-nil wf)
+    ∙ ap (λ (x : List ℕ). wf ++ (wb ++ x)) last ∙ sym (append_assoc wf wb f) ∙ ap (λ (x : List ℕ). x ++ f) (joins (cut - length f) w))
+    (elim (cases_lt (length w) (cut - length f)) [
+      | inl short ↦ inr (
+        omega arith,
+        (let start : length w - (cut - length f) ≡ 0 = omega arith in
+            ap (λ (x : List ℕ). wf ++ x) first ∙ append-nil wf ∙ ap (λ (x : ℕ). take x w) start),
+      )
+      | inr enough ↦ inl (omega arith)
+    ])
 
 cut_two : (cut : ℕ) (w f : List ℕ) → list_all is_digit w ≡ true → list_all is_digit f ≡ true
     → IsCut (w ++ f) cut (number_of (front_of (cut - length f) w ++ front_of cut f)) (number_of (back_of (cut - length f) w ++ back_of cut f))
@@ -141,7 +143,7 @@ zeros_cut : (n front up p : ℕ) → n ≡ front * 10 ^ (p - (up + 15)) → fron
 zeros_cut n front up p e =
     let sum : up + 15 - p + p ≡ p - (up + 15) + (up + 15) = omega arith in
     let left : 10 ^ (up + 15 - p) * 10 ^ p ≡ 10 ^ (p - (up + 15)) * 10 ^ (up + 15) =
-        sym (pow-add 10 (up + 15 - p) p) ∙ ap (λ (x : ℕ). 10 ^ x) sum ∙ pow-add 10 (p - (up + 15)) (up + 15) in
+    sym (pow-add 10 (up + 15 - p) p) ∙ ap (λ (x : ℕ). 10 ^ x) sum ∙ pow-add 10 (p - (up + 15)) (up + 15) in
     let right : 10 ^ (up + 15) ≡ 10 ^ up * 10 ^ 15 = pow-add 10 up 15 in
     mul_assoc front (10 ^ (up + 15 - p)) (10 ^ p) ∙ ap (λ (x : ℕ). front * x) left ∙ sym (mul_assoc front (10 ^ (p - (up + 15))) (10 ^ (up + 15)))
     ∙ ap (λ (x : ℕ). x * 10 ^ (up + 15)) (sym e) ∙ ap (λ (x : ℕ). n * x) right ∙ sym (mul_assoc n (10 ^ up) (10 ^ 15))
@@ -150,34 +152,34 @@ zeros_cut n front up p e =
 digits_cut : (n front back up p k : ℕ) → n ≡ front * 10 ^ (p - (up + 15)) + back → back < 10 ^ (p - (up + 15)) → 0 < back → k * 10 ^ p ≡ n * 10 ^ up * 10 ^ 15 → ⊥
 digits_cut n front back up p k e l h f =
     elim (cases_lt (up + 15) p) [
-      inr near ↦ let none : p - (up + 15) ≡ 0 = omega arith in let one : 10 ^ (p - (up + 15)) ≡ 1 = ap (λ (x : ℕ). 10 ^ x) none in omega arith
-    | inl far ↦
-        let sum : p ≡ p - (up + 15) + (up + 15) = omega arith in
-        let power : 10 ^ p ≡ 10 ^ (p - (up + 15)) * 10 ^ (up + 15) = ap (λ (x : ℕ). 10 ^ x) sum ∙ pow-add 10 (p - (up + 15)) (up + 15) in
-        let right : 10 ^ (up + 15) ≡ 10 ^ up * 10 ^ 15 = pow-add 10 up 15 in
-        let same : k * 10 ^ (p - (up + 15)) * 10 ^ (up + 15) ≡ n * 10 ^ (up + 15) =
-            mul_assoc k (10 ^ (p - (up + 15))) (10 ^ (up + 15)) ∙ ap (λ (x : ℕ). k * x) (sym power) ∙ f ∙ mul_assoc n (10 ^ up) (10 ^ 15) ∙ ap (λ (x : ℕ). n * x) (sym right) in
-        let is : k * 10 ^ (p - (up + 15)) ≡ n = cancel (k * 10 ^ (p - (up + 15))) n (10 ^ (up + 15)) (ten_pow (up + 15)) same in
-        let first : n % 10 ^ (p - (up + 15)) ≡ 0 = ap (λ (x : ℕ). x % 10 ^ (p - (up + 15))) (sym is ∙ (let z : k * 10 ^ (p - (up + 15)) ≡ k * 10 ^ (p - (up + 15)) + 0 = omega arith in z)) ∙ mod-mul-add k (10 ^ (p - (up + 15))) 0 (ten_pow (p - (up + 15))) in
-        let second : n % 10 ^ (p - (up + 15)) ≡ back = ap (λ (x : ℕ). x % 10 ^ (p - (up + 15))) e ∙ mod-mul-add front (10 ^ (p - (up + 15))) back l in
-        omega arith
+      | inr near ↦ let none : p - (up + 15) ≡ 0 = omega arith in let one : 10 ^ (p - (up + 15)) ≡ 1 = ap (λ (x : ℕ). 10 ^ x) none in omega arith
+      | inl far ↦
+          let sum : p ≡ p - (up + 15) + (up + 15) = omega arith in
+          let power : 10 ^ p ≡ 10 ^ (p - (up + 15)) * 10 ^ (up + 15) = ap (λ (x : ℕ). 10 ^ x) sum ∙ pow-add 10 (p - (up + 15)) (up + 15) in
+          let right : 10 ^ (up + 15) ≡ 10 ^ up * 10 ^ 15 = pow-add 10 up 15 in
+          let same : k * 10 ^ (p - (up + 15)) * 10 ^ (up + 15) ≡ n * 10 ^ (up + 15) =
+          mul_assoc k (10 ^ (p - (up + 15))) (10 ^ (up + 15)) ∙ ap (λ (x : ℕ). k * x) (sym power) ∙ f ∙ mul_assoc n (10 ^ up) (10 ^ 15) ∙ ap (λ (x : ℕ). n * x) (sym right) in
+          let is : k * 10 ^ (p - (up + 15)) ≡ n = cancel (k * 10 ^ (p - (up + 15))) n (10 ^ (up + 15)) (ten_pow (up + 15)) same in
+          let first : n % 10 ^ (p - (up + 15)) ≡ 0 = ap (λ (x : ℕ). x % 10 ^ (p - (up + 15))) (sym is ∙ (let z : k * 10 ^ (p - (up + 15)) ≡ k * 10 ^ (p - (up + 15)) + 0 = omega arith in z)) ∙ mod-mul-add k (10 ^ (p - (up + 15))) 0 (ten_pow (p - (up + 15))) in
+          let second : n % 10 ^ (p - (up + 15)) ≡ back = ap (λ (x : ℕ). x % 10 ^ (p - (up + 15))) e ∙ mod-mul-add front (10 ^ (p - (up + 15))) back l in
+          omega arith
     ]
 
 -- a number that was capped is as good
 capped_choice : (n r : ℕ) → cond (nat_lt (min n (10 ^ 30) * 10 ^ r) (10 ^ 30)) (Some (min n (10 ^ 30) * 10 ^ r)) None ≡ cond (nat_lt (n * 10 ^ r) (10 ^ 30)) (Some (n * 10 ^ r)) None
 capped_choice n r =
     elim (cases_lt (10 ^ 30) n) [
-      inr small ↦ let same : min n (10 ^ 30) ≡ n = omega arith in ap (λ (x : ℕ). cond (nat_lt (x * 10 ^ r) (10 ^ 30)) (Some (x * 10 ^ r)) None) same
-    | inl large ↦
-        let same : min n (10 ^ 30) ≡ 10 ^ 30 = omega arith in
-        let one : 1 ≤ 10 ^ r = ten_pow r in
-        let a : 10 ^ 30 * 1 ≤ 10 ^ 30 * 10 ^ r = mul-le (10 ^ 30) 1 (10 ^ 30) (10 ^ r) (omega arith) one in
-        let b : 10 ^ 30 * 1 ≤ n * 10 ^ r = mul-le (10 ^ 30) 1 n (10 ^ r) (omega arith) one in
-        let first : nat_lt (10 ^ 30 * 10 ^ r) (10 ^ 30) ≡ false = grind (arith, nat_tests) in
-        let second : nat_lt (n * 10 ^ r) (10 ^ 30) ≡ false = grind (arith, nat_tests) in
-        ap (λ (x : ℕ). cond (nat_lt (x * 10 ^ r) (10 ^ 30)) (Some (x * 10 ^ r)) None) same
-        ∙ ap (λ (t : Bool). cond t (Some (10 ^ 30 * 10 ^ r)) None) first
-        ∙ sym (ap (λ (t : Bool). cond t (Some (n * 10 ^ r)) None) second)
+      | inr small ↦ let same : min n (10 ^ 30) ≡ n = omega arith in ap (λ (x : ℕ). cond (nat_lt (x * 10 ^ r) (10 ^ 30)) (Some (x * 10 ^ r)) None) same
+      | inl large ↦
+          let same : min n (10 ^ 30) ≡ 10 ^ 30 = omega arith in
+          let one : 1 ≤ 10 ^ r = ten_pow r in
+          let a : 10 ^ 30 * 1 ≤ 10 ^ 30 * 10 ^ r = mul-le (10 ^ 30) 1 (10 ^ 30) (10 ^ r) (omega arith) one in
+          let b : 10 ^ 30 * 1 ≤ n * 10 ^ r = mul-le (10 ^ 30) 1 n (10 ^ r) (omega arith) one in
+          let first : nat_lt (10 ^ 30 * 10 ^ r) (10 ^ 30) ≡ false = grind (arith, nat_tests) in
+          let second : nat_lt (n * 10 ^ r) (10 ^ 30) ≡ false = grind (arith, nat_tests) in
+          ap (λ (x : ℕ). cond (nat_lt (x * 10 ^ r) (10 ^ 30)) (Some (x * 10 ^ r)) None) same
+          ∙ ap (λ (t : Bool). cond t (Some (10 ^ 30 * 10 ^ r)) None) first
+          ∙ sym (ap (λ (t : Bool). cond t (Some (n * 10 ^ r)) None) second)
     ]
 
 abbrev pub are_zeros : List ℕ → Bool
@@ -196,7 +198,7 @@ capped_front_is cut w f =
 pub cut_zeros : (w f : List ℕ) (up down : ℕ) → list_all is_digit w ≡ true → list_all is_digit f ≡ true
     → are_zeros (back_of (length f + down - (up + 15) - length f) w) ≡ true → are_zeros (back_of (length f + down - (up + 15)) f) ≡ true
     → (let n = capped_front (length f + down - (up + 15)) w f in let r = up + 15 - (length f + down) in cond (nat_lt (n * 10 ^ r) (10 ^ 30)) (Some (n * 10 ^ r)) None)
-        ≡ fifteen_places (number_of (w ++ f) * 10 ^ up) (length f + down)
+    ≡ fifteen_places (number_of (w ++ f) * 10 ^ up) (length f + down)
 cut_zeros w f up down aw af zw zf =
     let p = length f + down in
     let cut = length f + down - (up + 15) in
@@ -217,22 +219,27 @@ cut_digits w f up down aw af some = by (fifteen_places (number_of (w ++ f) * 10 
   where
     cut : ℕ
     cut = length f + down - (up + 15)
+
     wb : List ℕ
     wb = back_of (cut - length f) w
+
     fb : List ℕ
     fb = back_of cut f
+
     all_back : list_all is_digit (wb ++ fb) ≡ true
     all_back =
         let a = (and_both (list_all is_digit (front_of (cut - length f) w)) (list_all is_digit wb) (sym (list_all-append is_digit (front_of (cut - length f) w) wb) ∙ ap (list_all is_digit) (joins (cut - length f) w) ∙ aw)).1 in
         let b = (and_both (list_all is_digit (front_of cut f)) (list_all is_digit fb) (sym (list_all-append is_digit (front_of cut f) fb) ∙ ap (list_all is_digit) (joins cut f) ∙ af)).1 in
         list_all-append is_digit wb fb ∙ both_and (list_all is_digit wb) (list_all is_digit fb) a b
+
     positive : 0 < number_of (wb ++ fb)
     positive = elim (cases_lt 0 (number_of (wb ++ fb))) [
-        inl h ↦ h
+      | inl h ↦ h
       | inr h ↦ absurd (let zero_back : number_of (wb ++ fb) ≡ 0 = omega arith in
-            let yes : are_zeros (wb ++ fb) ≡ true = (all_zero (wb ++ fb) all_back).0 zero_back in
-            let no : are_zeros (wb ++ fb) ≡ false = list_all-append (λ x. x == 48) wb fb ∙ some in cc)
-      ]
+          let yes : are_zeros (wb ++ fb) ≡ true = (all_zero (wb ++ fb) all_back).0 zero_back in
+          let no : are_zeros (wb ++ fb) ≡ false = list_all-append (λ x. x == 48) wb fb ∙ some in cc)
+    ]
+
     by : (o : Option ℕ) → fifteen_places (number_of (w ++ f) * 10 ^ up) (length f + down) ≡ o → fifteen_places (number_of (w ++ f) * 10 ^ up) (length f + down) ≡ None
     by None e = e
     by (Some k) e =

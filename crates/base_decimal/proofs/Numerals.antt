@@ -92,8 +92,10 @@ numeral_read mark m n h =
   where
     with_exponent : List ℕ → Fraction → Exponent × List ℕ → Numeral × List ℕ
     with_exponent w f e = (record { whole = w; fraction = f; exponent = e.0 }, e.1)
+
     read_exponent : List ℕ → Fraction × List ℕ → Option (Numeral × List ℕ)
     read_exponent w f = cond (nat_le 1 (length w)) (option_map (with_exponent w f.0) (exponent_at f.1)) None
+
     read_after : ℕ → List ℕ × List ℕ → Option (Numeral × List ℕ)
     read_after mark w = read_exponent w.0 (fraction_at mark w.1)
 
@@ -129,6 +131,7 @@ fraction_parts mark (b ∷ text) = by (b == mark) refl
   where
     chosen : Bool → Fraction × List ℕ
     chosen t = cond t (let s = span is_digit text in let x : Fraction × List ℕ = (Places s.0, s.1) in x) (NoFraction, b ∷ text)
+
     by : (t : Bool) → (b == mark) ≡ t → (b ∷ text ≡ fraction_text mark (chosen t).0 ++ (chosen t).1) × (is_numeral_fraction (chosen t).0 ≡ true)
     by true e =
         let is : b ≡ mark = grind (arith, nat_tests) in
@@ -141,6 +144,7 @@ sign_parts (b ∷ text) = by (b == 43) refl (b == 45) refl
   where
     chosen : Bool → Bool → Sign × List ℕ
     chosen plus minus = cond plus (Plus, text) (cond minus (Minus, text) (Absent, b ∷ text))
+
     by : (plus : Bool) → (b == 43) ≡ plus → (minus : Bool) → (b == 45) ≡ minus → b ∷ text ≡ sign_text (chosen plus minus).0 ++ (chosen plus minus).1
     by true e minus f = let is : b ≡ 43 = grind (arith, nat_tests) in ap (λ (x : ℕ). x ∷ text) is
     by false e true f = let is : b ≡ 45 = grind (arith, nat_tests) in ap (λ (x : ℕ). x ∷ text) is
@@ -152,18 +156,21 @@ exponent_after_parts letter text l e rest h = by (is_exponent_len (length s.0)) 
   where
     signed : Sign × List ℕ
     signed = sign_at text
+
     s : List ℕ × List ℕ
     s = span is_digit signed.1
+
     spelled : letter ∷ text ≡ exponent_text (Power letter signed.0 s.0) ++ s.1
     spelled = ap (λ (x : List ℕ). letter ∷ x)
         (sign_parts text ∙ ap (λ (x : List ℕ). sign_text signed.0 ++ x) (span_parts is_digit signed.1) ∙ sym (append_assoc (sign_text signed.0) s.0 s.1))
+
     by : (t : Bool) → is_exponent_len (length s.0) ≡ t → cond t (let x : Option (Exponent × List ℕ) = Some (Power letter signed.0 s.0, s.1) in x) None ≡ Some (e, rest)
         → (letter ∷ text ≡ exponent_text e ++ rest) × (is_numeral_exponent e ≡ true)
     by true f g =
         let pair : Exponent × List ℕ = (Power letter signed.0 s.0, s.1) in
         let is : pair ≡ (e, rest) = cc in
         subst (λ (x : Exponent × List ℕ). (letter ∷ text ≡ exponent_text x.0 ++ x.1) × (is_numeral_exponent x.0 ≡ true)) is
-            (spelled, both_and _ _ l (both_and _ _ f (span_all is_digit signed.1)))
+        (spelled, both_and _ _ l (both_and _ _ f (span_all is_digit signed.1)))
     by false f g = absurd cc
 
 exponent_parts : (text : List ℕ) (e : Exponent) (rest : List ℕ) → exponent_at text ≡ Some (e, rest) → (text ≡ exponent_text e ++ rest) × (is_numeral_exponent e ≡ true)
@@ -188,10 +195,13 @@ numeral_found mark text n rest h = by_whole (nat_le 1 (length w.0)) refl h
   where
     w : List ℕ × List ℕ
     w = span is_digit text
+
     f : Fraction × List ℕ
     f = fraction_at mark w.1
+
     with_exponent : Exponent × List ℕ → Numeral × List ℕ
     with_exponent e = (record { whole = w.0; fraction = f.0; exponent = e.0 }, e.1)
+
     by_exponent : nat_le 1 (length w.0) ≡ true → (o : Option (Exponent × List ℕ)) → exponent_at f.1 ≡ o → option_map with_exponent o ≡ Some (n, rest) → (text ≡ numeral_text mark n ++ rest) × IsNumeral n
     by_exponent some None e g = absurd cc
     by_exponent some (Some (x, z)) e g =
@@ -199,11 +209,12 @@ numeral_found mark text n rest h = by_whole (nat_le 1 (length w.0)) refl h
         let parts = exponent_parts f.1 x z e in
         let places = fraction_parts mark w.1 in
         subst (λ (y : Numeral × List ℕ). (text ≡ numeral_text mark y.0 ++ y.1) × IsNumeral y.0) is (
-            span_parts is_digit text
-            ∙ ap (λ (y : List ℕ). w.0 ++ y) (places.0 ∙ ap (λ (y : List ℕ). fraction_text mark f.0 ++ y) parts.0 ∙ sym (append_assoc (fraction_text mark f.0) (exponent_text x) z))
-            ∙ sym (append_assoc w.0 (fraction_text mark f.0 ++ exponent_text x) z),
-            record { some_digit = grind (arith, nat_tests, some); whole = span_all is_digit text; fraction = places.1; exponent = parts.1 }
-            )
+          span_parts is_digit text
+              ∙ ap (λ (y : List ℕ). w.0 ++ y) (places.0 ∙ ap (λ (y : List ℕ). fraction_text mark f.0 ++ y) parts.0 ∙ sym (append_assoc (fraction_text mark f.0) (exponent_text x) z))
+              ∙ sym (append_assoc w.0 (fraction_text mark f.0 ++ exponent_text x) z),
+          record { some_digit = grind (arith, nat_tests, some); whole = span_all is_digit text; fraction = places.1; exponent = parts.1 },
+        )
+
     by_whole : (t : Bool) → nat_le 1 (length w.0) ≡ t → cond t (option_map with_exponent (exponent_at f.1)) None ≡ Some (n, rest) → (text ≡ numeral_text mark n ++ rest) × IsNumeral n
     by_whole true e g = by_exponent e (exponent_at f.1) refl g
     by_whole false e g = absurd cc

@@ -107,10 +107,10 @@ numerator_is : (n q : ℕ) → n / 10 ^ q < 2 ^ 64 → numerator (printed_numera
 unfolding printed_numeral
 numerator_is n q h =
     let digits : number_of (decimal (n / 10 ^ q) ++ fraction_digits (printed_fraction q n)) ≡ n =
-        ap (λ (x : List ℕ). number_of (decimal (n / 10 ^ q) ++ x)) (fraction_of q n)
-        ∙ number_after-append 0 (decimal (n / 10 ^ q)) (last_digits q n)
-        ∙ ap (λ (x : ℕ). number_after x (last_digits q n)) (digits_value-decimal own (n / 10 ^ q) h)
-        ∙ last_digits_number (n / 10 ^ q) q n ∙ div-add-mod' n (10 ^ q) in
+    ap (λ (x : List ℕ). number_of (decimal (n / 10 ^ q) ++ x)) (fraction_of q n)
+    ∙ number_after-append 0 (decimal (n / 10 ^ q)) (last_digits q n)
+    ∙ ap (λ (x : ℕ). number_after x (last_digits q n)) (digits_value-decimal own (n / 10 ^ q) h)
+    ∙ last_digits_number (n / 10 ^ q) q n ∙ div-add-mod' n (10 ^ q) in
     ap (λ (x : ℕ). x * 10 ^ 0) digits ∙ omega arith
 
 places_is : (n q : ℕ) → numeral_places (printed_numeral n q) ≡ q
@@ -155,7 +155,7 @@ printed_reads mark d kept =
       is_numeral = is_numeral n q h;
       is_value = subst (λ (x : Decimal). SameValue x (decimal_from s (numerator (printed_numeral n q)) (numeral_places (printed_numeral n q)))) (sym (decimal_self d))
           (same_from s n q (numerator (printed_numeral n q)) (numeral_places (printed_numeral n q))
-              (ap (λ (x : ℕ). n * 10 ^ x) (places_is n q) ∙ ap (λ (x : ℕ). x * 10 ^ q) (sym (numerator_is n q h))));
+          (ap (λ (x : ℕ). n * 10 ^ x) (places_is n q) ∙ ap (λ (x : ℕ). x * 10 ^ q) (sym (numerator_is n q h))));
       is_kept = kept;
     }
 

@@ -27,11 +27,11 @@ digits_most n k h = length-digits_of-le 10 k n (omega arith) h
 -- a number of at least 10 ^ k has more than k digits
 pub digits_least : (n k : ℕ) → 10 ^ k ≤ n → k < length (digits_of 10 n)
 digits_least n k h = elim (cases_lt k (length (digits_of 10 n))) [
-    inl l ↦ l
+  | inl l ↦ l
   | inr low ↦ absurd (
-        let most : 10 ^ length (digits_of 10 n) ≤ 10 ^ k = pow-le-pow_right {n = 10} (omega arith) low in
-        let above = digits_above n in omega arith)
-  ]
+      let most : 10 ^ length (digits_of 10 n) ≤ 10 ^ k = pow-le-pow_right {n = 10} (omega arith) low in
+      let above = digits_above n in omega arith)
+]
 
 pub excess_most : (n : ℕ) → n < 10 ^ (15 + excess n)
 excess_most n =
@@ -41,9 +41,9 @@ excess_most n =
 
 pub excess_least : (n : ℕ) → 0 < excess n → 10 ^ (14 + excess n) ≤ n
 excess_least n h = elim (cases_lt n (10 ^ (14 + excess n))) [
-    inr l ↦ l
+  | inr l ↦ l
   | inl below ↦ absurd (let most = digits_most n (14 + excess n) below in omega arith)
-  ]
+]
 
 pub excess_step : (n d : ℕ) → 10 ^ 15 ≤ n → d + length (digits_of 10 n) ≡ d + 1 + length (digits_of 10 (n / 10))
 excess_step n d h = let step = length-digits_of_step 10 n (omega arith) (omega arith) in omega arith
@@ -52,8 +52,8 @@ pub excess_ends : (n d rest : ℕ) → length (digits_of 10 n) ≡ d + length (d
 excess_ends n d rest e large small =
     let most = digits_most rest 15 small in
     elim (cases_lt 0 d) [
-      inl some ↦ let least = digits_least rest 14 (large some) in omega arith
-    | inr none ↦ omega arith
+      | inl some ↦ let least = digits_least rest 14 (large some) in omega arith
+      | inr none ↦ omega arith
     ]
 
 -- ---- the nearest
@@ -111,8 +111,8 @@ kept_common n h =
     let positive = ten_pow (excess n) in
     let power : 10 ^ (15 + excess n) ≤ 10 ^ 38 = pow-le-pow_right {n = 10} (omega arith) (let k : 15 + excess n ≤ 38 = omega arith in k) in
     elim (cases_lt (10 ^ 15) (nearest n (10 ^ excess n))) [
-      inr low ↦ let product = mul-le (nearest n (10 ^ excess n)) (10 ^ excess n) (10 ^ 15) (10 ^ excess n) low (omega arith) in omega arith
-    | inl high ↦ absurd (let product = mul-le (10 ^ 15 + 1) (10 ^ excess n) (nearest n (10 ^ excess n)) (10 ^ excess n) (omega arith) (omega arith) in omega arith)
+      | inr low ↦ let product = mul-le (nearest n (10 ^ excess n)) (10 ^ excess n) (10 ^ 15) (10 ^ excess n) low (omega arith) in omega arith
+      | inl high ↦ absurd (let product = mul-le (10 ^ 15 + 1) (10 ^ excess n) (nearest n (10 ^ excess n)) (10 ^ excess n) (omega arith) (omega arith) in omega arith)
     ]
 
 -- and where it has 39
@@ -127,8 +127,8 @@ kept_large n l h =
 
 pub kept_fits : (n : ℕ) → n ≤ 2 ^ 127 → nearest n (10 ^ excess n) * 10 ^ excess n < 2 ^ 127
 kept_fits n h = elim (cases_lt n (10 ^ 38)) [
-    inl small ↦ let common = kept_common n small in omega arith
+  | inl small ↦ let common = kept_common n small in omega arith
   | inr large ↦ kept_large n large h
-  ]
+]
 
 pub ruleset roundings = (excess_small, kept_fits, rounded_is, ten_pow)

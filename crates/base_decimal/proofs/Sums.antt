@@ -66,14 +66,14 @@ some_abs (negsuc n) f = omega arith
 -- a power of ten that a number other than 0 may be multiplied by
 pub power_room : (z : ℤ) (k : ℕ) → (cast_unsigned w128 z ≡ 0 → ⊥) → FitsSigned w128 (z *ℤ pos (10 ^ k)) → k ≤ 38
 power_room z k some fits = elim (cases_lt 38 k) [
-    inr low ↦ low
+  | inr low ↦ low
   | inl high ↦ absurd (
-        let most : 10 ^ 39 ≤ 10 ^ k = pow-le-pow_right {n = 10} (omega arith) (let l : 39 ≤ k = omega arith in l) in
-        let product = unsigned_abs-mul z (pos (10 ^ k)) in
-        let bound = abs_bound (z *ℤ pos (10 ^ k)) fits in
-        let least = mul-le 1 (10 ^ k) (unsigned_abs z) (10 ^ k) (some_abs z some) (omega arith) in
-        omega arith)
-  ]
+      let most : 10 ^ 39 ≤ 10 ^ k = pow-le-pow_right {n = 10} (omega arith) (let l : 39 ≤ k = omega arith in l) in
+      let product = unsigned_abs-mul z (pos (10 ^ k)) in
+      let bound = abs_bound (z *ℤ pos (10 ^ k)) fits in
+      let least = mul-le 1 (10 ^ k) (unsigned_abs z) (10 ^ k) (some_abs z some) (omega arith) in
+      omega arith)
+]
 
 pub power_fits : (t k : ℕ) → t ≡ 10 ^ k → k ≤ 38 → t < 2 ^ 127
 power_fits t k e h = let most : 10 ^ k ≤ 10 ^ 38 = pow-le-pow_right {n = 10} (omega arith) h in omega arith

@@ -80,7 +80,7 @@ fifteen_only n p k e h =
     let whole : n * 10 ^ 15 / 10 ^ p ≡ k = ap (λ (x : ℕ). x / 10 ^ p) is ∙ div-mul-add k (10 ^ p) 0 (ten_pow p) in
     let small : nat_lt k (10 ^ 30) ≡ true = grind (arith, nat_tests, h) in
     let test : ((n * 10 ^ 15) % 10 ^ p == 0 && nat_lt (n * 10 ^ 15 / 10 ^ p) (10 ^ 30)) ≡ true =
-        both_and _ _ (ap (λ (x : ℕ). x == 0) rest) (ap (λ (x : ℕ). nat_lt x (10 ^ 30)) whole ∙ small) in
+    both_and _ _ (ap (λ (x : ℕ). x == 0) rest) (ap (λ (x : ℕ). nat_lt x (10 ^ 30)) whole ∙ small) in
     ap (λ (b : Bool). cond b (Some (n * 10 ^ 15 / 10 ^ p)) None) test ∙ ap (λ (x : ℕ). Some x) whole
 
 pub signed_self : (m : ℤ) → m ≡ signed (is_negative m) (unsigned_abs m)
@@ -116,13 +116,13 @@ kept_from_fifteen : (s : Bool) (n p k : ℕ) → k * 10 ^ p ≡ n * 10 ^ 15 → 
     → IsKept (decimal_from s t.0 t.1) × SameValue (decimal_from s t.0 t.1) (decimal_from s n p)
 unfolding is_kept
 kept_from_fifteen s n p k e small t f last low = (
-    kept_tests t.1 t.0 low
-        (let wide : k * 10 ^ t.1 < 10 ^ 30 * 10 ^ t.1 = times_below k (10 ^ 30) (10 ^ t.1) (ten_pow t.1) small in
-        let parts : 10 ^ (15 + t.1) ≡ 10 ^ 15 * 10 ^ t.1 = pow-add 10 15 t.1 in
-        omega arith)
-        last (unsigned_abs (signed s t.0)) (abs_signed s t.0),
-    same_from s t.0 t.1 n p (cross t.0 n k (10 ^ p) (10 ^ t.1) e f)
-    )
+  kept_tests t.1 t.0 low
+      (let wide : k * 10 ^ t.1 < 10 ^ 30 * 10 ^ t.1 = times_below k (10 ^ 30) (10 ^ t.1) (ten_pow t.1) small in
+      let parts : 10 ^ (15 + t.1) ≡ 10 ^ 15 * 10 ^ t.1 = pow-add 10 15 t.1 in
+      omega arith)
+      last (unsigned_abs (signed s t.0)) (abs_signed s t.0),
+  same_from s t.0 t.1 n p (cross t.0 n k (10 ^ p) (10 ^ t.1) e f),
+)
 
 pub kept_found : (s : Bool) (n p : ℕ) (d : Decimal) → kept_of s n p ≡ Some d → IsKept d × SameValue d (decimal_from s n p)
 unfolding kept_of
@@ -134,7 +134,7 @@ kept_found s n p d e = by (fifteen_places n p) refl e
         let h = fifteen_found n p k f in
         let is : decimal_from s (trim k 15).0 (trim k 15).1 ≡ d = cc in
         subst (λ (x : Decimal). IsKept x × SameValue x (decimal_from s n p)) is
-            (kept_from_fifteen s n p k h.0 h.1 (trim k 15) (trim_same k 15) (trim_ends k 15) (trim_places k 15))
+        (kept_from_fifteen s n p k h.0 h.1 (trim k 15) (trim_same k 15) (trim_ends k 15) (trim_places k 15))
 
 pub kept_only : (s : Bool) (n p : ℕ) (d : Decimal) → IsKept d → SameValue d (decimal_from s n p) → kept_of s n p ≡ Some d
 unfolding kept_of is_kept

@@ -81,9 +81,7 @@ impl Decimal {
     pub fn add(&self, other: &Decimal) -> Decimal
         requires first { FitsSigned w128 (mantissa_at self.now (common_places self.now other.now)) }
         requires second { FitsSigned w128 (mantissa_at other.now (common_places self.now other.now)) }
-        requires sum {
-            FitsSigned w128 (mantissa_at self.now (common_places self.now other.now) +ℤ mantissa_at other.now (common_places self.now other.now))
-        }
+        requires sum { FitsSigned w128 (mantissa_at self.now (common_places self.now other.now) +ℤ mantissa_at other.now (common_places self.now other.now)) }
         ensures places { result.places ≡ common_places self.now other.now }
         ensures value { SameValue result (sum_of self.now other.now) }
     {

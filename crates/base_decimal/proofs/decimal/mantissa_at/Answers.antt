@@ -20,7 +20,7 @@ overflow_mul-result c =
     let low = power_room c.args.number.now.mantissa (c.args.places - c.args.number.now.places) c.if-number-eq0.false c.requires.fits in
     let fits : FitsSigned w128 c.args.number.now.mantissa = search rules in
     let is = product_is c.args.number.now.mantissa c.ten_to.result (c.args.places - c.args.number.now.places) fits
-        (c.ten_to.ensures.value ∙ ap (λ (x : ℕ). 10 ^ x) c.from.ensures) low in
+    (c.ten_to.ensures.value ∙ ap (λ (x : ℕ). 10 ^ x) c.from.ensures) low in
     subst (FitsSigned w128) (sym is) c.requires.fits
 
 pub returns : goal.returns
@@ -28,5 +28,5 @@ returns c =
     let low = power_room c.args.number.now.mantissa (c.args.places - c.args.number.now.places) c.if-number-eq0.false c.requires.fits in
     let fits : FitsSigned w128 c.args.number.now.mantissa = search rules in
     let is = product_is c.args.number.now.mantissa c.ten_to.result (c.args.places - c.args.number.now.places) fits
-        (c.ten_to.ensures.value ∙ ap (λ (x : ℕ). 10 ^ x) c.from.ensures) low in
+    (c.ten_to.ensures.value ∙ ap (λ (x : ℕ). 10 ^ x) c.from.ensures) low in
     ap (λ (x : ℤ). cast_signed w128 (cast_unsigned w128 x)) is ∙ to_z-of_z w128 _ c.requires.fits

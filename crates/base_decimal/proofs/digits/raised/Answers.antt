@@ -15,8 +15,8 @@ pub returns-then-power-ge30-clause-value : goal.returns-then-power-ge30-clause-v
 returns-then-power-ge30-clause-value c =
     too_large c.args.number c.args.power
     (elim c.then-power-ge30.branch [
-      then-power-ge30-via-then-power-ge30 w ↦ raised_far c.args.number c.args.power (omega arith) (omega arith)
-    | then-power-ge30-via-else-power-ge30+then-number-ten_to w ↦ raised_large c.args.number c.args.power (omega arith) (omega arith)
+      | then-power-ge30-via-then-power-ge30 w ↦ raised_far c.args.number c.args.power (omega arith) (omega arith)
+      | then-power-ge30-via-else-power-ge30+then-number-ten_to w ↦ raised_large c.args.number c.args.power (omega arith) (omega arith)
     ])
 
 pub overflow_mul-result : goal.overflow_mul-result

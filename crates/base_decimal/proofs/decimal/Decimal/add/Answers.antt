@@ -10,8 +10,8 @@ returns-clause-value c =
     let b = c.args.other.now in
     let p = common_places c.args.self.now c.args.other.now in
     let sum = sum_is c.mantissa_at.result c.mantissa_at-2.result (mantissa_at a p) (mantissa_at b p)
-        (c.mantissa_at.ensures ∙ ap (mantissa_at a) c.max-places.ensures) (c.mantissa_at-2.ensures ∙ ap (mantissa_at b) c.max-places.ensures)
-        c.requires.first c.requires.second c.requires.sum in
+    (c.mantissa_at.ensures ∙ ap (mantissa_at a) c.max-places.ensures) (c.mantissa_at-2.ensures ∙ ap (mantissa_at b) c.max-places.ensures)
+    c.requires.first c.requires.second c.requires.sum in
     ap (λ (x : ℤ). x *ℤ pos (10 ^ (c.args.self.now.places + c.args.other.now.places))) sum
     ∙ sum_value a b p (omega arith) (omega arith)
     ∙ ap (λ (x : ℕ). ((c.args.self.now.mantissa *ℤ pos (10 ^ c.args.other.now.places)) +ℤ (c.args.other.now.mantissa *ℤ pos (10 ^ c.args.self.now.places))) *ℤ pos (10 ^ x)) (sym c.max-places.ensures)

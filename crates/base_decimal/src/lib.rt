@@ -1,6 +1,14 @@
-//! Exact decimal numbers.
+//! Exact decimal numbers: the type, how they are read and printed in a locale, sums, products with
+//! whole numbers, and rounding to 15 digits. A workbook keeps the decimals that `is_kept` accepts;
+//! `read` answers only those, and what `print` writes of one reads back as it.
 #![tactic(auto)]
 
 mod decimal;
+mod digits;
+mod numeral;
+mod print;
+#[cfg(test)]
+mod tests;
+mod value;
 
 pub use decimal::Decimal;

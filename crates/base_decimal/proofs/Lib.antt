@@ -1,0 +1,10 @@
+pub mod Fifteen
+pub mod Marks
+pub mod Numerals
+pub mod Prints
+pub mod Rounds
+pub mod Runs
+pub mod Spans
+pub mod Sums
+pub mod Trims
+pub mod Values

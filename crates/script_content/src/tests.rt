@@ -1,0 +1,51 @@
+use crate::{print_content, read_input};
+use base_tables::{Language, Locale};
+use std::test::Fail;
+
+#[test]
+fn inputs_print_as_read(rt: HostRuntime) -> Result<(), Fail> {
+    let inputs = [
+        ("", ""),
+        ("TRUE", "TRUE"),
+        ("true", "TRUE"),
+        ("False", "FALSE"),
+        ("WAHR", "WAHR"),
+        ("'TRUE", "'TRUE"),
+        ("#REF!", "#REF!"),
+        ("#ref!", "#ref!"),
+        ("#BEZUG!", "#BEZUG!"),
+        ("1e3", "1000"),
+        ("1E+2", "100"),
+        ("-1.50", "-1.5"),
+        ("0.1", "0.1"),
+        ("1.", "1"),
+        (".5", ".5"),
+        ("1,5", "1,5"),
+        ("007", "7"),
+        ("-0", "0"),
+        ("--1", "--1"),
+        ("+1", "+1"),
+        ("1e-15", "0.000000000000001"),
+        ("1e-16", "1e-16"),
+        (
+            "123456789012345.123456789012345",
+            "123456789012345.123456789012345",
+        ),
+        ("1234567890123456", "1234567890123456"),
+        ("0.1234567890123456", "0.1234567890123456"),
+        ("'12", "'12"),
+        ("'a", "a"),
+        ("'", "'"),
+        ("''", "''"),
+        ("'=1", "'=1"),
+        ("=1", "'=1"),
+        ("  ", "  "),
+        (" 1", " 1"),
+    ];
+    for (input, text) in inputs {
+        let content = read_input(rt.alloc(), input, Locale::En, Language::En)?;
+        let printed = print_content(rt.alloc(), &content, Locale::En, Language::En)?;
+        assert_eq!(rt; printed.as_str(), text);
+    }
+    Ok(())
+}

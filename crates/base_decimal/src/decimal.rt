@@ -31,6 +31,13 @@ impl Exact for Decimal {
     ghost equals = { decimal_equals };
 }
 
+/// The locale's decimal sign, which is ASCII.
+fn sign_byte(locale: Locale) -> u8
+    ensures { result ≡ decimal_sign locale }
+{
+    locale.decimal_sign() as u8
+}
+
 impl Decimal {
     ghost use Rattle.base_decimal.specs.declared.decimal.Decimal.{Decimal as AnyDecimal};
     ghost use Rattle.base_decimal.specs.Kept.{IsKept};
@@ -49,7 +56,7 @@ impl Decimal {
         ensures found { IfSome result (Reads (decimal_sign locale) text.now) }
         ensures only { (d : AnyDecimal) → Reads (decimal_sign locale) text.now d → result ≡ Some d }
     {
-        value::read(text.as_bytes(), locale.decimal_sign())
+        value::read(text.as_bytes(), sign_byte(locale))
     }
 
     /// The number in plain digits, with the locale's decimal sign and without zeros at the end of
@@ -62,7 +69,7 @@ impl Decimal {
         // A kept decimal reads back.
         ensures back { IsKept self.now → IfOk result (λ text. decimal_of (decimal_sign locale) (string_bytes text) ≡ Some self.now) }
     {
-        Ok(print::print(alloc, self, locale.decimal_sign())?)
+        Ok(print::print(alloc, self, sign_byte(locale))?)
     }
 
     /// Whether a workbook keeps the number in this form: at most 15 digits on each side of the

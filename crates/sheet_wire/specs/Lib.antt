@@ -10,3 +10,4 @@ pub mod QueueLaws
 pub mod Fitting
 pub mod Spelled
 pub mod PartsSpelled
+pub mod Refusals

@@ -6,11 +6,14 @@
 #![tactic(auto)]
 
 mod codes;
-mod reading;
-mod reading_styles;
-mod reading_cells;
 mod decode;
-mod writing;
 mod encode;
+mod fitting;
+mod reading;
+mod reading_cells;
+mod reading_styles;
+mod writing;
 
+pub use decode::decode_queue;
 pub use encode::{encode_queue, encode_style};
+pub use fitting::{cell_fits, position_fits, style_fits};

@@ -5,7 +5,6 @@ ghost use Rattle.base_values.specs.Answers.{Answers, map_ok};
 ghost use Rattle.base_values.specs.declared.EditError.TheVariants.{NoMemory, ParseDiffs};
 ghost use Rattle.sheet_wire.specs.Reading.{code_at, count_at, many_at, rest_after};
 ghost use Rattle.sheet_wire.specs.QueueBytes.{cell_diff_at, diff_at, direction_code, directions, entry_at, entry_of_cell_at, list_of_diffs_at, magic, queue_of, spell_queue, FitsQueue};
-
 ghost use Rattle.sheet_wire.specs.QueueLaws.{IsNoQueue};
 ghost use Rattle.sheet_history.specs.declared.QueueDiffs.{QueueDiffs};
 

@@ -5,10 +5,13 @@ ghost use Rattle.sheet_grid.specs.KeptCell.{IsKeptCell, IsKeptContent};
 ghost use Rattle.sheet_wire.specs.Spelling.{FitsText};
 ghost use Rattle.sheet_wire.specs.StyleBytes.{FitsBorderItem, FitsColor, FitsStyle};
 ghost use Rattle.sheet_wire.specs.CellBytes.{FitsCell, FitsContent, FitsPosition};
+ghost use Rattle.sheet_wire.specs.QueueBytes.{FitsDiff};
+ghost use Rattle.sheet_history.specs.Diffs.{IsKeptDiff};
 
 use base_styles::{BorderItem, Color, Style};
 use base_values::{Position, Text};
 use sheet_grid::{Cell, Content};
+use sheet_history::Diff;
 
 fn color_fits(color: Color)
     ensures { FitsColor color }
@@ -35,8 +38,7 @@ fn text_fits(text: &Text)
 /// A position can be spelled.
 pub fn position_fits(position: Position)
     ensures { FitsPosition position }
-{
-}
+{}
 
 /// A style can be spelled.
 pub fn style_fits(style: &Style)
@@ -68,4 +70,33 @@ pub fn cell_fits(cell: &Cell)
 {
     content_fits(&cell.content);
     style_fits(&cell.style);
+}
+
+fn entry_fits(entry: &Option<Cell>)
+    requires { IfSome entry.now IsKeptCell }
+    ensures { IfSome entry.now FitsCell }
+{
+    if let Some(cell) = entry {
+        cell_fits(cell);
+    }
+}
+
+/// A diff whose cells have numbers as a sheet keeps them can be spelled.
+pub fn diff_fits(diff: &Diff)
+    requires { IsKeptDiff diff.now }
+    ensures { FitsDiff diff.now }
+{
+    match diff {
+        Diff::Cell {
+            sheet,
+            position,
+            old,
+            new,
+        } => {
+            let _sheet = *sheet;
+            position_fits(*position);
+            entry_fits(old);
+            entry_fits(new);
+        }
+    }
 }

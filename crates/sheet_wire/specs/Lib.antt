@@ -8,3 +8,6 @@ pub mod Sixteen
 pub mod PartsAgain
 pub mod QueueLaws
 pub mod Fitting
+pub mod Spelled
+pub mod PartsSpelled
+pub mod Refusals

@@ -1,8 +1,12 @@
 //! Queues from their bytes.
 
+ghost use Rattle.std.specs.Prelude.{◌≡◌, ◌≢◌, IfErr, IfOk, List};
 ghost use Rattle.base_values.specs.Answers.{Answers, map_ok};
+ghost use Rattle.base_values.specs.declared.EditError.TheVariants.{NoMemory, ParseDiffs};
 ghost use Rattle.sheet_wire.specs.Reading.{code_at, count_at, many_at, rest_after};
-ghost use Rattle.sheet_wire.specs.QueueBytes.{cell_diff_at, diff_at, direction_code, directions, entry_at, entry_of_cell_at, list_of_diffs_at, magic, queue_of};
+ghost use Rattle.sheet_wire.specs.QueueBytes.{cell_diff_at, diff_at, direction_code, directions, entry_at, entry_of_cell_at, list_of_diffs_at, magic, queue_of, spell_queue, FitsQueue};
+ghost use Rattle.sheet_wire.specs.QueueLaws.{IsNoQueue};
+ghost use Rattle.sheet_history.specs.declared.QueueDiffs.{QueueDiffs};
 
 use crate::codes::direction_of;
 use crate::reading::{byte_at, u32_at, u64_at};
@@ -145,4 +149,23 @@ fn read_queue(alloc: Global, bytes: &[u8]) -> Result<Items<QueueDiffs>, EditErro
         return Err(EditError::ParseDiffs);
     }
     Ok(Items::new(entries))
+}
+
+/// The queue of diffs that all of these bytes spell.
+///
+/// `ParseDiffs` where they are the spelling of no queue: where they are cut short or go on, begin
+/// otherwise, or where a tag, a code, a count, a decimal or a text in them is not one. Else only
+/// want of memory is refused.
+pub fn decode_queue(alloc: Global, bytes: &[u8]) -> Result<Items<QueueDiffs>, EditError>
+    ensures read { Answers result (queue_of bytes.now) }
+
+    // What is read was spelled so.
+    ensures spelled { IfOk result (λ queue. bytes.now ≡ spell_queue queue) }
+    ensures fits { IfOk result FitsQueue }
+
+    // What is spelled is read, so bytes are refused only where they are no queue.
+    ensures again { (queue : List QueueDiffs) → FitsQueue queue → bytes.now ≡ spell_queue queue → Answers result (Ok queue) }
+    ensures refused { IfErr result (λ e. e ≢ NoMemory → (e ≡ ParseDiffs) × IsNoQueue bytes.now) }
+{
+    read_queue(alloc, bytes)
 }

@@ -6,11 +6,17 @@
 #![tactic(auto)]
 
 mod codes;
-mod reading;
-mod reading_styles;
-mod reading_cells;
 mod decode;
-mod writing;
 mod encode;
+mod fitting;
+mod reading;
+mod reading_cells;
+mod reading_styles;
+mod writing;
 
+pub use decode::decode_queue;
 pub use encode::{encode_queue, encode_style};
+pub use fitting::{cell_fits, diff_fits, position_fits, style_fits};
+
+#[cfg(test)]
+mod tests;

@@ -1,0 +1,38 @@
+use Rattle.std.proofs.Common.{◌≡◌, ◌≢◌, ℕ, List, Result, Ok, Err, ap, sym, subst, ◌∙◌, arith}
+use Rattle.std.specs.Prelude.{IfOk, IfErr}
+use Rattle.base_values.specs.declared.EditError.{EditError}
+use Rattle.base_values.specs.declared.EditError.TheVariants.{NoMemory, ParseDiffs}
+use Rattle.base_values.specs.Answers.{Answers}
+use Rattle.sheet_history.specs.declared.QueueDiffs.{QueueDiffs}
+use Rattle.sheet_wire.specs.QueueBytes.{queue_of, spell_queue, FitsQueue}
+use Rattle.sheet_wire.specs.Spelled.{IsBytes}
+use Rattle.sheet_wire.specs.QueueLaws.{IsNoQueue, queue_again, queue_spelled, refused_no_queue}
+use Rattle.sheet_wire.proofs.decode.decode_queue.Goals as goal
+
+found : (bytes : List ℕ) (r : Result (List QueueDiffs) EditError) → IsBytes bytes → Answers r (queue_of bytes) → IfOk r (λ queue. (bytes ≡ spell_queue queue) × FitsQueue queue)
+found bytes (Ok queue) small h = queue_spelled bytes queue small h.done
+found bytes (Err e) small h = tt
+
+spelling : (bytes : List ℕ) (r : Result (List QueueDiffs) EditError) → IfOk r (λ queue. (bytes ≡ spell_queue queue) × FitsQueue queue) → IfOk r (λ queue. bytes ≡ spell_queue queue)
+spelling bytes (Ok queue) h = h.0
+spelling bytes (Err e) h = tt
+
+fitting : (bytes : List ℕ) (r : Result (List QueueDiffs) EditError) → IfOk r (λ queue. (bytes ≡ spell_queue queue) × FitsQueue queue) → IfOk r FitsQueue
+fitting bytes (Ok queue) h = h.1
+fitting bytes (Err e) h = tt
+
+none_there : (bytes : List ℕ) (r : Result (List QueueDiffs) EditError) → Answers r (queue_of bytes) → IfErr r (λ e. e ≢ NoMemory → (e ≡ ParseDiffs) × IsNoQueue bytes)
+none_there bytes (Ok queue) h = tt
+none_there bytes (Err e) h = λ other. refused_no_queue bytes e (h.refused other)
+
+pub returns-clause-spelled : goal.returns-clause-spelled
+returns-clause-spelled c = spelling _ _ (found c.args.bytes.now c.read_queue.result (λ i. omega (arith, c.type_inv.bytes i)) c.read_queue.ensures)
+
+pub returns-clause-fits : goal.returns-clause-fits
+returns-clause-fits c = fitting _ _ (found c.args.bytes.now c.read_queue.result (λ i. omega (arith, c.type_inv.bytes i)) c.read_queue.ensures)
+
+pub returns-clause-again : goal.returns-clause-again
+returns-clause-again c = λ queue fits same. subst (Answers c.read_queue.result) (ap queue_of same ∙ queue_again queue fits) c.read_queue.ensures
+
+pub returns-clause-refused : goal.returns-clause-refused
+returns-clause-refused c = none_there c.args.bytes.now c.read_queue.result c.read_queue.ensures

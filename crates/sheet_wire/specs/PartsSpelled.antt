@@ -1,0 +1,167 @@
+-- What is read of styles, cells and diffs was spelled so.
+use Rattle.std.proofs.Common.{◌≡◌, ℕ, ℤ, ◌+◌, ◌^◌, ◌<◌, ◌≤◌, ◌&&◌, Bool, true, false, List, [], ◌∷◌, ◌++◌, length, Option, Some, None, Result, Ok, Err, refl, ap, ◌∙◌, arith}
+use Rattle.std.specs.Prelude.{IfSome, FitsSigned, unsigned_abs}
+use Rattle.std.proofs.lemmas.Bool.{leb-true, ltb-true}
+use Rattle.std.proofs.lemmas.Int.{fits_signed_from_abs}
+use Rattle.std.proofs.Math.Nat.{pow-le-pow_right}
+use Rattle.std.specs.Int.{w32, w64, w128, to_be_bytes}
+use Rattle.base_values.specs.declared.EditError.{EditError}
+use Rattle.base_values.specs.declared.Position.{Position}
+use Rattle.base_decimal.specs.declared.Decimal.{Decimal}
+use Rattle.base_decimal.specs.Kept.{is_kept, IsKept}
+use Rattle.base_tables.specs.declared.Error.{Error}
+use Rattle.base_tables.specs.declared.Error.TheVariants.{Ref, Name, Value, DivisionByZero, NotAvailable, Number as NumberError, General, NotImplemented, Spill, Calc, Circular, Null}
+use Rattle.base_styles.specs.declared.ThemeColor.{ThemeColor}
+use Rattle.base_styles.specs.declared.ThemeColor.TheVariants.{Light1, Dark1, Light2, Dark2, Accent1, Accent2, Accent3, Accent4, Accent5, Accent6, Hyperlink, FollowedHyperlink}
+use Rattle.base_styles.specs.declared.Color.{Color}
+use Rattle.base_styles.specs.declared.Color.TheVariants.{None as NoColor, Rgb, Theme}
+use Rattle.base_styles.specs.declared.BorderStyle.{BorderStyle}
+use Rattle.base_styles.specs.declared.BorderStyle.TheVariants.{Dotted, Thin, MediumDashDotDot, MediumDashDot, SlantDashDot, MediumDashed, Medium, Thick, Double}
+use Rattle.base_styles.specs.declared.BorderItem.{BorderItem}
+use Rattle.base_styles.specs.declared.Border.{Border}
+use Rattle.base_styles.specs.declared.HorizontalAlignment.{HorizontalAlignment}
+use Rattle.base_styles.specs.declared.HorizontalAlignment.TheVariants as horizontal
+use Rattle.base_styles.specs.declared.VerticalAlignment.{VerticalAlignment}
+use Rattle.base_styles.specs.declared.VerticalAlignment.TheVariants as vertical
+use Rattle.base_styles.specs.declared.Alignment.{Alignment}
+use Rattle.base_styles.specs.declared.Font.{Font}
+use Rattle.base_styles.specs.declared.Style.{Style}
+use Rattle.sheet_grid.specs.declared.Content.{Content}
+use Rattle.sheet_grid.specs.declared.Content.TheVariants.{Empty, Number, Boolean, Error as ErrorValue, Text}
+use Rattle.sheet_grid.specs.declared.Cell.{Cell}
+use Rattle.sheet_history.specs.declared.Diff.{Diff}
+use Rattle.sheet_history.specs.declared.Diff.TheVariants.{Cell as CellDiff}
+use Rattle.sheet_history.specs.declared.DiffType.{DiffType}
+use Rattle.sheet_history.specs.declared.DiffType.TheVariants.{Undo, Redo}
+use Rattle.sheet_history.specs.declared.QueueDiffs.{QueueDiffs}
+use Rattle.sheet_wire.specs.Reading.{Reader, map_at, number_at, ◌⊗◌, decoded, code_at, signed_at, text_at, list_at}
+use Rattle.sheet_wire.specs.Spelling.{spell_signed, spell_code, boolean_code, booleans, spell_text, spell_option, spell_list, FitsText}
+use Rattle.sheet_wire.specs.StyleBytes.{theme_code, theme_colors, spell_color, color_at, FitsColor, spell_font, boolean_at, font_made, font_at, FitsFont, border_code, border_styles, spell_border_item, border_item_made, border_item_at, FitsBorderItem, spell_border, border_made, side_at, border_at, FitsBorder, horizontal_code, horizontals, vertical_code, verticals, spell_alignment, alignment_made, alignment_at, alignment_option_at, spell_style, style_made, style_at, FitsStyle}
+use Rattle.sheet_wire.specs.CellBytes.{spell_position, position_made, position_at, FitsPosition, spell_decimal, decimal_made, decimal_at, error_code, errors, spell_content, content_at, FitsContent, spell_cell, cell_made, cell_at, FitsCell}
+use Rattle.sheet_wire.specs.QueueBytes.{spell_diff, cell_diff_made, entry_of_cell_at, cell_diff_at, diff_at, FitsCellDiff, FitsDiff, FitsList, direction_code, directions, spell_entry, entry_made, list_of_diffs_at, entry_at, FitsEntry}
+use Rattle.sheet_wire.specs.StyleBytes.{rgb, color_of}
+use Rattle.sheet_wire.specs.CellBytes.{content_of}
+use Rattle.sheet_wire.specs.QueueBytes.{diff_of}
+use Rattle.sheet_wire.specs.Again.{Any, Both}
+use Rattle.sheet_wire.specs.Spelled.{ReadsSpelled, both_spelled, map_spelled, fits_otherwise, check_spelled, byte_spelled, code_spelled, TagSpelled, tag_map, tag_plain, tag_refused, tag_if, tagged_spelled, option_spelled, back32, back64, back128, number_spelled, signed_spelled, text_spelled, list_spelled}
+
+-- ---- colours
+
+boolean_spelled : ReadsSpelled Any (spell_code boolean_code) boolean_at
+boolean_spelled = code_spelled boolean_code booleans
+
+color_spelled : ReadsSpelled FitsColor spell_color color_at
+unfolding color_at
+color_spelled =
+    tagged_spelled color_of (λ kind.
+    tag_if kind 0 (tag_plain FitsColor spell_color 0 NoColor refl tt)
+    (tag_if kind 1 (tag_map (both_spelled byte_spelled (both_spelled byte_spelled byte_spelled)) rgb FitsColor spell_color 1 (λ x. refl) (λ x fits. fits))
+    (tag_if kind 2 (tag_map (code_spelled theme_code theme_colors) Theme FitsColor spell_color 2 (λ x. refl) (λ x fits. tt))
+    (tag_refused FitsColor spell_color kind))))
+
+-- ---- fonts
+
+font_spelled : ReadsSpelled FitsFont spell_font font_at
+unfolding font_at
+font_spelled =
+    fits_otherwise (λ x fits. record { size = fits.1.1.1.1.0; color = fits.1.1.1.1.1 })
+    (map_spelled (both_spelled boolean_spelled (both_spelled boolean_spelled (both_spelled boolean_spelled (both_spelled boolean_spelled (both_spelled (signed_spelled back32) color_spelled)))))
+    font_made (λ font. (font.b, (font.i, (font.u, (font.strike, (font.sz, font.color)))))) (λ x. refl))
+
+-- ---- borders
+
+border_item_spelled : ReadsSpelled FitsBorderItem spell_border_item border_item_at
+unfolding border_item_at
+border_item_spelled =
+    fits_otherwise (λ x fits. fits.1)
+    (map_spelled (both_spelled (code_spelled border_code border_styles) color_spelled) border_item_made (λ item. (item.style, item.color)) (λ x. refl))
+
+side_spelled : ReadsSpelled (λ side. IfSome side FitsBorderItem) (spell_option spell_border_item) side_at
+unfolding side_at
+side_spelled = option_spelled border_item_spelled
+
+border_spelled : ReadsSpelled FitsBorder spell_border border_at
+unfolding border_at
+border_spelled =
+    fits_otherwise (λ x fits. record { left = fits.0; right = fits.1.0; top = fits.1.1.0; bottom = fits.1.1.1 })
+    (map_spelled (both_spelled side_spelled (both_spelled side_spelled (both_spelled side_spelled side_spelled)))
+    border_made (λ border. (border.left, (border.right, (border.top, border.bottom)))) (λ x. refl))
+
+-- ---- alignments
+
+alignment_spelled : ReadsSpelled Any spell_alignment alignment_at
+unfolding alignment_at
+alignment_spelled =
+    fits_otherwise (λ x fits. tt)
+    (map_spelled (both_spelled (code_spelled horizontal_code horizontals) (both_spelled (code_spelled vertical_code verticals) boolean_spelled))
+    alignment_made (λ alignment. (alignment.horizontal, (alignment.vertical, alignment.wrap_text))) (λ x. refl))
+
+alignment_option_spelled : ReadsSpelled Any (spell_option spell_alignment) alignment_option_at
+unfolding alignment_option_at
+alignment_option_spelled = fits_otherwise (λ x fits. tt) (option_spelled alignment_spelled)
+
+-- ---- styles
+
+pub style_spelled : ReadsSpelled FitsStyle spell_style style_at
+unfolding style_at
+style_spelled =
+    fits_otherwise (λ x fits. record { font = fits.0; fill = fits.1.0; border = fits.1.1.0; num_fmt = fits.1.1.1.0 })
+    (map_spelled (both_spelled font_spelled (both_spelled color_spelled (both_spelled border_spelled (both_spelled text_spelled alignment_option_spelled))))
+    style_made (λ style. (style.font, (style.fill, (style.border, (style.num_fmt, style.alignment))))) (λ x. refl))
+
+-- ---- cells
+
+pub position_spelled : ReadsSpelled FitsPosition spell_position position_at
+unfolding position_at spell_position
+position_spelled =
+    fits_otherwise (λ x fits. record { row = fits.0; column = fits.1 })
+    (map_spelled (both_spelled (signed_spelled back32) (signed_spelled back32)) position_made (λ place. (place.row, place.column)) (λ x. refl))
+
+pub decimal_spelled : ReadsSpelled IsKept spell_decimal decimal_at
+unfolding decimal_at spell_decimal
+decimal_spelled =
+    fits_otherwise (λ x fits. fits.1)
+    (check_spelled (map_spelled (both_spelled (signed_spelled back128) byte_spelled) decimal_made (λ d. (d.mantissa, d.places)) (λ x. refl)) is_kept)
+
+pub content_spelled : ReadsSpelled FitsContent spell_content content_at
+unfolding content_at
+content_spelled =
+    tagged_spelled content_of (λ kind.
+    tag_if kind 0 (tag_plain FitsContent spell_content 0 Empty refl tt)
+    (tag_if kind 1 (tag_map decimal_spelled Number FitsContent spell_content 1 (λ x. refl) (λ x fits. fits))
+    (tag_if kind 2 (tag_map boolean_spelled Boolean FitsContent spell_content 2 (λ x. refl) (λ x fits. tt))
+    (tag_if kind 3 (tag_map (code_spelled error_code errors) ErrorValue FitsContent spell_content 3 (λ x. refl) (λ x fits. tt))
+    (tag_if kind 4 (tag_map text_spelled Text FitsContent spell_content 4 (λ x. refl) (λ x fits. fits))
+    (tag_refused FitsContent spell_content kind))))))
+
+pub cell_spelled : ReadsSpelled FitsCell spell_cell cell_at
+unfolding cell_at
+cell_spelled =
+    fits_otherwise (λ x fits. record { content = fits.0; style = fits.1 })
+    (map_spelled (both_spelled content_spelled style_spelled) cell_made (λ cell. (cell.content, cell.style)) (λ x. refl))
+
+-- ---- diffs and queues
+
+cell_option_spelled : ReadsSpelled (λ entry. IfSome entry FitsCell) (spell_option spell_cell) entry_of_cell_at
+unfolding entry_of_cell_at
+cell_option_spelled = option_spelled cell_spelled
+
+cell_diff_spelled : TagSpelled FitsDiff spell_diff 1 cell_diff_at
+unfolding cell_diff_at
+cell_diff_spelled =
+    tag_map (both_spelled (number_spelled back32) (both_spelled position_spelled (both_spelled cell_option_spelled cell_option_spelled)))
+    cell_diff_made FitsDiff spell_diff 1 (λ x. refl) (λ x fits. record { sheet = fits.0; place = fits.1.0; old = fits.1.1.0; new = fits.1.1.1 })
+
+pub diff_spelled : ReadsSpelled FitsDiff spell_diff diff_at
+unfolding diff_at
+diff_spelled = tagged_spelled diff_of (λ tag. tag_if tag 1 cell_diff_spelled (tag_refused FitsDiff spell_diff tag))
+
+list_of_diffs_spelled : ReadsSpelled FitsList (spell_list spell_diff) list_of_diffs_at
+unfolding list_of_diffs_at
+list_of_diffs_spelled = list_spelled diff_spelled
+
+pub entry_spelled : ReadsSpelled FitsEntry spell_entry entry_at
+unfolding entry_at
+entry_spelled =
+    fits_otherwise (λ x fits. fits.1)
+    (map_spelled (both_spelled (code_spelled direction_code directions) list_of_diffs_spelled) entry_made (λ entry. (entry.kind, entry.list)) (λ x. refl))

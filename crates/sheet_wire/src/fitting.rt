@@ -1,0 +1,102 @@
+//! What bytes can carry. Values of Rust's own types fit, given that their numbers are kept.
+
+ghost use Rattle.std.specs.Prelude.{IfSome};
+ghost use Rattle.sheet_grid.specs.KeptCell.{IsKeptCell, IsKeptContent};
+ghost use Rattle.sheet_wire.specs.Spelling.{FitsText};
+ghost use Rattle.sheet_wire.specs.StyleBytes.{FitsBorderItem, FitsColor, FitsStyle};
+ghost use Rattle.sheet_wire.specs.CellBytes.{FitsCell, FitsContent, FitsPosition};
+ghost use Rattle.sheet_wire.specs.QueueBytes.{FitsDiff};
+ghost use Rattle.sheet_history.specs.Diffs.{IsKeptDiff};
+
+use base_styles::{BorderItem, Color, Style};
+use base_values::{Position, Text};
+use sheet_grid::{Cell, Content};
+use sheet_history::Diff;
+
+fn color_fits(color: Color)
+    ensures { FitsColor color }
+{
+    match color {
+        Color::None | Color::Rgb { .. } | Color::Theme(_) => {}
+    }
+}
+
+fn side_fits(side: Option<BorderItem>)
+    ensures { IfSome side FitsBorderItem }
+{
+    if let Some(item) = side {
+        color_fits(item.color);
+    }
+}
+
+fn text_fits(text: &Text)
+    ensures { FitsText text.now }
+{
+    let _text = text.as_str();
+}
+
+/// A position can be spelled.
+pub fn position_fits(position: Position)
+    ensures { FitsPosition position }
+{}
+
+/// A style can be spelled.
+pub fn style_fits(style: &Style)
+    ensures { FitsStyle style.now }
+{
+    color_fits(style.font.color);
+    color_fits(style.fill);
+    side_fits(style.border.left);
+    side_fits(style.border.right);
+    side_fits(style.border.top);
+    side_fits(style.border.bottom);
+    text_fits(&style.num_fmt);
+    let _size = style.font.sz;
+}
+
+fn content_fits(content: &Content)
+    requires { IsKeptContent content.now }
+    ensures { FitsContent content.now }
+{
+    if let Content::Text(text) = content {
+        text_fits(text);
+    }
+}
+
+/// A cell whose number is as a sheet keeps it can be spelled.
+pub fn cell_fits(cell: &Cell)
+    requires { IsKeptCell cell.now }
+    ensures { FitsCell cell.now }
+{
+    content_fits(&cell.content);
+    style_fits(&cell.style);
+}
+
+fn entry_fits(entry: &Option<Cell>)
+    requires { IfSome entry.now IsKeptCell }
+    ensures { IfSome entry.now FitsCell }
+{
+    if let Some(cell) = entry {
+        cell_fits(cell);
+    }
+}
+
+/// A diff whose cells have numbers as a sheet keeps them can be spelled.
+pub fn diff_fits(diff: &Diff)
+    requires { IsKeptDiff diff.now }
+    ensures { FitsDiff diff.now }
+{
+    match diff {
+        Diff::Cell {
+            sheet,
+            position,
+            old,
+            new,
+        } => {
+            let _sheet = *sheet;
+            position_fits(*position);
+            entry_fits(old);
+            entry_fits(new);
+        }
+    }
+}

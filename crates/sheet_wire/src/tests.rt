@@ -1,0 +1,95 @@
+use super::*;
+use base_styles::Style;
+use base_values::EditError;
+use std::test::*;
+
+/// One entry: a cell diff that puts the number 1 in the default style at row 1 and column 1 of the
+/// sheet of id 1.
+const ONE_CELL: [u8; 84] = [
+    73, 67, 81, 49, 0, 0, 0, 0, 0, 0, 0, 1, 1, 0, 0, 0, 0, 0, 0, 0, 1, 1, 0, 0, 0, 1, 0, 0, 0, 1,
+    0, 0, 0, 1, 0, 1, 1, 0, 0, 0, 0, 0, 0, 0, 0, 0, 0, 0, 0, 0, 0, 0, 1, 0, 0, 0, 0, 0, 0, 0, 0,
+    13, 0, 0, 0, 0, 0, 0, 0, 0, 0, 0, 0, 0, 0, 7, 103, 101, 110, 101, 114, 97, 108, 0,
+];
+
+/// Bytes that are put in the place of those of `ONE_CELL`, where they stand.
+const DAMAGES: [[(usize, u8); 2]; 10] = [
+    // The first letter.
+    [(0, 74), (0, 74)],
+    // An entry that is neither undo nor redo.
+    [(12, 2), (12, 2)],
+    // Tags that no diff has.
+    [(21, 0), (21, 0)],
+    [(21, 24), (21, 24)],
+    // A kind that no content has.
+    [(36, 8), (36, 8)],
+    // Too many places.
+    [(53, 16), (53, 16)],
+    // A zero digit at the end of the places.
+    [(52, 10), (53, 1)],
+    // A boolean that is neither false nor true.
+    [(54, 2), (54, 2)],
+    // Text that is no UTF-8.
+    [(76, 255), (76, 255)],
+    // An option that is neither none nor some.
+    [(34, 2), (34, 2)],
+];
+
+fn is_refused(rt: HostRuntime, bytes: &[u8]) -> bool {
+    matches!(decode_queue(rt.alloc(), bytes), Err(EditError::ParseDiffs))
+}
+
+#[test]
+fn damaged_queues_are_refused(rt: HostRuntime) {
+    for damage in DAMAGES {
+        let mut bytes = ONE_CELL;
+        for (at, byte) in damage {
+            if let Some(place) = bytes.get_mut(at) {
+                *place = byte;
+            }
+        }
+        assert!(rt; is_refused(rt, &bytes));
+    }
+}
+
+#[test]
+fn cut_queues_are_refused(rt: HostRuntime) {
+    for length in 0..ONE_CELL.len() {
+        assert!(rt; is_refused(rt, &ONE_CELL[..length]));
+    }
+}
+
+#[test]
+fn counts_and_ends_are_exact(rt: HostRuntime) -> Result<(), Fail> {
+    let mut many_entries = ONE_CELL;
+    many_entries[4..12].fill(255);
+    assert!(rt; is_refused(rt, &many_entries));
+    let mut many_diffs = ONE_CELL;
+    many_diffs[13..21].fill(255);
+    assert!(rt; is_refused(rt, &many_diffs));
+    let mut longer = Vec::from_slice(rt.alloc(), &ONE_CELL)?;
+    longer.push(0)?;
+    assert!(rt; is_refused(rt, &longer));
+    Ok(())
+}
+
+#[test]
+fn whole_queues_are_read_and_written(rt: HostRuntime) -> Result<(), Fail> {
+    let queue = decode_queue(rt.alloc(), &ONE_CELL)
+        .ok()
+        .ok_or("the bytes are a queue")?;
+    let bytes = encode_queue(rt.alloc(), queue.as_slice())
+        .ok()
+        .ok_or("there is memory")?;
+    assert_eq!(rt; bytes.as_slice(), ONE_CELL.as_slice());
+    let none = encode_queue(rt.alloc(), &[]).ok().ok_or("there is memory")?;
+    assert_eq!(rt;
+        none.as_slice(),
+        [73, 67, 81, 49, 0, 0, 0, 0, 0, 0, 0, 0].as_slice()
+    );
+    let style = Style::new(rt.alloc()).ok().ok_or("there is memory")?;
+    let style = encode_style(rt.alloc(), &style)
+        .ok()
+        .ok_or("there is memory")?;
+    assert_eq!(rt; style.as_slice(), &ONE_CELL[54..]);
+    Ok(())
+}

@@ -1,6 +1,6 @@
-ghost use Rattle.std.specs.Prelude.{◌≡◌, ◌^◌, ◌<◌, ◌≤◌, ◌↔◌, IsTrue, IfOk, IfSome, IsOkUnless, Some, FitsSigned, ◌+ℤ◌, ◌*ℤ◌};
+ghost use Rattle.std.specs.Prelude.{◌≡◌, ◌+◌, ◌/◌, ◌^◌, ◌<◌, ◌≤◌, ◌↔◌, IsTrue, IfOk, IfSome, IsOkUnless, Some, FitsSigned, ◌+ℤ◌, ◌*ℤ◌};
 ghost use Rattle.std.specs.Int.{w128};
-ghost use Rattle.base_decimal.specs.Arithmetic.{IsRounded, common_places, excess, mantissa_at, rounded, sum_of};
+ghost use Rattle.base_decimal.specs.Arithmetic.{IsRounded, common_places, excess, mantissa_at, nearest, rounded, sum_of};
 ghost use Rattle.std.specs.String.{string_bytes};
 ghost use Rattle.base_decimal.specs.Value.{SameValue, decimal_from};
 ghost use Rattle.base_tables.specs.Locale.{decimal_sign};
@@ -112,8 +112,7 @@ impl Decimal {
     {
         let number = self.mantissa.unsigned_abs();
         let unit = ten_to(excess(number));
-        let kept = (number + unit / 2) / unit * unit;
-        let (digits, places) = trim(kept, self.places);
+        let (digits, places) = trim(nearest(number, unit) * unit, self.places);
         from_parts(self.mantissa < 0, digits, places)
     }
 }
@@ -129,6 +128,15 @@ fn excess(number: u128) -> u32
         dropped += 1;
     }
     dropped
+}
+
+/// How often a unit goes into a number, to the nearest whole number, and up in the middle.
+fn nearest(number: u128, unit: u128) -> u128
+    requires some { 0 < unit }
+    requires room { number + unit / 2 < 2 ^ 128 }
+    ensures { result ≡ nearest number unit }
+{
+    (number + unit / 2) / unit
 }
 
 /// The mantissa of the number with these places.

@@ -1,9 +1,8 @@
 -- The number at fifteen places, from the digits that stand before the place where they are cut.
-use Rattle.std.proofs.Common.{◌≡◌, ◌≢◌, ℕ, zero, suc, ◌+◌, ◌*◌, ◌-◌, ◌/◌, ◌%◌, ◌^◌, ◌<◌, ◌≤◌, min, Bool, true, false, cond, ◌⊎◌, List, [], ◌∷◌, ◌++◌, take, drop, length, refl, sym, ap, subst, ◌∙◌, arith, inl, inr, Option, Some, None, append_assoc, append-nil, length-append, length-drop}
-use Rattle.std.specs.Prelude.{not, ◌&&◌, ◌==◌, nat_lt}
+use Rattle.std.proofs.Common.{◌≡◌, ℕ, suc, ◌+◌, ◌*◌, ◌-◌, ◌%◌, ◌^◌, ◌<◌, ◌≤◌, min, Bool, true, false, cond, ◌⊎◌, List, [], ◌∷◌, ◌++◌, take, drop, length, refl, sym, ap, subst, ◌∙◌, arith, inl, inr, Option, Some, None, append_assoc, append-nil, length-append, length-drop}
+use Rattle.std.specs.Prelude.{◌&&◌, ◌==◌, nat_lt}
 use Rattle.std.specs.List.{list_all}
 use Rattle.std.proofs.Math.Nat.{mul_assoc, pow-suc, pow-le-pow_right}
-use Rattle.std.proofs.Math.Seq.{take-length}
 use Rattle.std.proofs.lemmas.Bool.{cases_lt}
 use Rattle.std.proofs.lemmas.Bool.Decides.{nat_tests}
 use Rattle.std.proofs.lemmas.List.{take_all, drop_all, take-append-drop}
@@ -14,7 +13,7 @@ use Rattle.base_decimal.specs.Value.{fifteen_places}
 use Rattle.base_decimal.proofs.Prints.{number_after-append}
 use Rattle.base_decimal.proofs.Runs.{capped, zero_start, all_zero}
 use Rattle.base_decimal.proofs.Spans.{and_both, both_and}
-use Rattle.base_decimal.proofs.Values.{ten_pow, cancel, times_below, fifteen_found, fifteen_only}
+use Rattle.base_decimal.proofs.Values.{ten_pow, cancel, fifteen_found, fifteen_only}
 
 -- ---- numbers of lists of digits
 

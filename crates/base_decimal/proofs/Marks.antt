@@ -30,6 +30,13 @@ read_found locale text (Some d) e = reads_found (decimal_sign locale) text d (le
 pub found_reads : (locale : Locale) (text : List ℕ) → IfSome (decimal_of (decimal_sign locale) text) (Reads (decimal_sign locale) text)
 found_reads locale text = read_found locale text (decimal_of (decimal_sign locale) text) refl
 
+read_kept : (mark : ℕ) (text : List ℕ) (o : Option Decimal) → o ≡ decimal_of mark text → IfSome o IsKept
+read_kept mark text None e = tt
+read_kept mark text (Some d) e = (reads_found mark text d (let f : decimal_of mark text ≡ Some d = cc in f)).is_kept
+
+pub found_kept : (mark : ℕ) (text : List ℕ) → IfSome (decimal_of mark text) IsKept
+found_kept mark text = read_kept mark text (decimal_of mark text) refl
+
 pub only_reads : (locale : Locale) (text : List ℕ) (d : Decimal) → Reads (decimal_sign locale) text d → decimal_of (decimal_sign locale) text ≡ Some d
 only_reads locale text d = reads_only (decimal_sign locale) (sign_is_mark locale) text d
 
@@ -37,3 +44,5 @@ pub prints_back : (locale : Locale) (d : Decimal) → IsKept d → decimal_of (d
 prints_back locale d = printed_back (decimal_sign locale) (sign_is_mark locale) d
 
 pub ruleset printings = (sign_is_ascii, prints_back)
+
+pub ruleset readings = (found_reads, found_kept)

@@ -1,7 +1,7 @@
 -- The printed text of a kept decimal reads as it.
-use Rattle.std.proofs.Common.{◌≡◌, ℕ, zero, suc, ◌+◌, ◌-◌, ◌*◌, ◌/◌, ◌%◌, ◌^◌, ◌<◌, ◌≤◌, Bool, true, false, List, [], ◌∷◌, ◌++◌, length, refl, sym, ap, subst, ◌∙◌, arith, Option, Some, None, append_assoc, append-nil}
-use Rattle.std.proofs.Math.Nat.{pow-suc, mul_assoc, pow-le-pow_right}
-use Rattle.std.specs.Prelude.{ℤ, unsigned_abs, decimal, ◌&&◌, nat_lt, nat_le, IsTrue}
+use Rattle.std.proofs.Common.{◌≡◌, ℕ, zero, suc, ◌+◌, ◌-◌, ◌*◌, ◌/◌, ◌%◌, ◌^◌, ◌<◌, ◌≤◌, true, List, [], ◌∷◌, ◌++◌, length, refl, sym, ap, subst, ◌∙◌, arith, Some, append-nil}
+use Rattle.std.proofs.Math.Nat.{pow-suc, pow-le-pow_right}
+use Rattle.std.specs.Prelude.{unsigned_abs, decimal, ◌&&◌, nat_lt, nat_le}
 use Rattle.std.specs.Int.{is_negative}
 use Rattle.std.specs.List.{list_all}
 use Rattle.std.proofs.Common.{rules}
@@ -14,7 +14,7 @@ use Rattle.base_decimal.specs.Digits.{is_digit, number_after, number_of}
 use Rattle.base_decimal.specs.Kept.{is_kept, IsKept}
 use Rattle.base_decimal.specs.Numeral.{Fraction, NoFraction, Places, NoExponent, Numeral, numeral_text, fraction_text, fraction_digits, minus_text, IsNumeral, is_numeral_fraction, numerator, numeral_places, decimal_of, Reads}
 use Rattle.base_decimal.specs.Printed.{last_digits, places_text, digits_text, printed}
-use Rattle.base_decimal.specs.Value.{SameValue, trim, trimmed, decimal_from}
+use Rattle.base_decimal.specs.Value.{SameValue, decimal_from}
 use Rattle.base_decimal.proofs.Numerals.{IsMark, reads_only}
 use Rattle.base_decimal.proofs.Spans.{and_both, both_and}
 use Rattle.base_decimal.proofs.Trims.{ends, trim_ended}
@@ -122,12 +122,6 @@ places_is n q = ap (λ (x : List ℕ). length x + 0) (fraction_of q n) ∙ ap (�
 kept_ends : (d : Decimal) → IsKept d → ends (unsigned_abs d.mantissa) d.places ≡ true
 unfolding is_kept
 kept_ends d kept = (and_both (nat_le d.places 15 && nat_lt (unsigned_abs d.mantissa) (10 ^ (15 + d.places))) _ kept).1
-
-pub trimmed_kept : (d : Decimal) → IsKept d → trimmed d ≡ d
-unfolding trimmed
-trimmed_kept d kept =
-    ap (λ (t : ℕ × ℕ). decimal_from (is_negative d.mantissa) t.0 t.1) (trim_ended (unsigned_abs d.mantissa) d.places (kept_ends d kept))
-    ∙ sym (decimal_self d)
 
 kept_whole : (d : Decimal) → IsKept d → unsigned_abs d.mantissa / 10 ^ d.places < 2 ^ 64
 unfolding is_kept

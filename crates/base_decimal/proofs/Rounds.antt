@@ -1,17 +1,16 @@
 -- Rounding to 15 digits: it is nearest, and it fits.
-use Rattle.std.proofs.Common.{◌≡◌, ◌≢◌, ℕ, zero, suc, ◌+◌, ◌-◌, ◌*◌, ◌/◌, ◌%◌, ◌^◌, ◌<◌, ◌≤◌, Bool, true, false, length, inl, inr, refl, sym, ap, subst, ◌∙◌, arith}
-use Rattle.std.specs.Prelude.{ℤ, pos, unsigned_abs, ◌&&◌, not, ◌==◌, nat_lt}
+use Rattle.std.proofs.Common.{◌≡◌, ℕ, ◌+◌, ◌*◌, ◌/◌, ◌^◌, ◌<◌, ◌≤◌, Bool, true, length, inl, inr, sym, ap, subst, ◌∙◌, arith}
+use Rattle.std.specs.Prelude.{unsigned_abs}
 use Rattle.std.specs.Int.{is_negative}
-use Rattle.std.specs.Int.Digits.{digits_of, number_from_digits}
-use Rattle.std.proofs.Math.Nat.{pow-suc, mul_assoc, pow-le-pow_right}
+use Rattle.std.specs.Int.Digits.{digits_of}
+use Rattle.std.proofs.Math.Nat.{pow-le-pow_right}
 use Rattle.std.proofs.lemmas.Bool.{cases_lt}
-use Rattle.std.proofs.lemmas.Bool.Decides.{nat_tests}
 use Rattle.std.proofs.lemmas.Int.Digits.{length-digits_of_step, length-digits_of-le, number_digits_of, number_lt, all_below_base_digits_of}
 use Rattle.std.proofs.lemmas.Nat.{pow-add, div-add-mod', mod_below, mul-le}
 use Rattle.base_decimal.specs.declared.decimal.Decimal.{Decimal}
 use Rattle.base_decimal.specs.Arithmetic.{excess, nearest, rounded, IsRounded}
 use Rattle.base_decimal.specs.Kept.{is_trimmed}
-use Rattle.base_decimal.specs.Value.{SameValue, signed, decimal_from, trim}
+use Rattle.base_decimal.specs.Value.{decimal_from, trim}
 use Rattle.base_decimal.proofs.Trims.{ends, trim_same, trim_ends}
 use Rattle.base_decimal.proofs.Values.{abs_signed, same_from, ten_pow}
 
@@ -73,6 +72,18 @@ nearest_not_below n unit h =
     let bit = mod_below unit 2 (omega arith) in
     omega arith
 
+-- no more than 15 digits are left, or the next power of ten
+pub nearest_most : (n : ℕ) → nearest n (10 ^ excess n) ≤ 10 ^ 15
+nearest_most n =
+    let size = excess_most n in
+    let parts : 10 ^ (15 + excess n) ≡ 10 ^ 15 * 10 ^ excess n = pow-add 10 15 (excess n) in
+    let above = nearest_not_above n (10 ^ excess n) (ten_pow (excess n)) in
+    let positive = ten_pow (excess n) in
+    elim (cases_lt (10 ^ 15) (nearest n (10 ^ excess n))) [
+      | inr low ↦ low
+      | inl high ↦ absurd (let product = mul-le (10 ^ 15 + 1) (10 ^ excess n) (nearest n (10 ^ excess n)) (10 ^ excess n) (omega arith) (omega arith) in omega arith)
+    ]
+
 -- ---- the decimal
 
 pub trim_trimmed : (s : Bool) (n p : ℕ) → is_trimmed (decimal_from s (trim n p).0 (trim n p).1) ≡ true
@@ -85,10 +96,11 @@ rounded_is d =
     let unit = 10 ^ excess n in
     let kept = nearest n unit * unit in
     record {
-      digits = nearest n unit;
+      count = nearest n unit;
       dropped = excess n;
       at_most = excess_most n;
       at_least = excess_least n;
+      fifteen = nearest_most n;
       not_above = nearest_not_above n unit (ten_pow (excess n));
       not_below = nearest_not_below n unit (ten_pow (excess n));
       value = same_from (is_negative d.mantissa) (trim kept d.places).0 (trim kept d.places).1 kept d.places (sym (trim_same kept d.places));
@@ -104,16 +116,10 @@ excess_small n h = let most = digits_most n 39 (omega arith) in omega arith
 kept_common : (n : ℕ) → n < 10 ^ 38 → nearest n (10 ^ excess n) * 10 ^ excess n ≤ 10 ^ 38
 kept_common n h =
     let most = digits_most n 38 h in
-    let unit = 10 ^ excess n in
-    let size = excess_most n in
     let parts : 10 ^ (15 + excess n) ≡ 10 ^ 15 * 10 ^ excess n = pow-add 10 15 (excess n) in
-    let above = nearest_not_above n (10 ^ excess n) (ten_pow (excess n)) in
-    let positive = ten_pow (excess n) in
     let power : 10 ^ (15 + excess n) ≤ 10 ^ 38 = pow-le-pow_right {n = 10} (omega arith) (let k : 15 + excess n ≤ 38 = omega arith in k) in
-    elim (cases_lt (10 ^ 15) (nearest n (10 ^ excess n))) [
-      | inr low ↦ let product = mul-le (nearest n (10 ^ excess n)) (10 ^ excess n) (10 ^ 15) (10 ^ excess n) low (omega arith) in omega arith
-      | inl high ↦ absurd (let product = mul-le (10 ^ 15 + 1) (10 ^ excess n) (nearest n (10 ^ excess n)) (10 ^ excess n) (omega arith) (omega arith) in omega arith)
-    ]
+    let product = mul-le (nearest n (10 ^ excess n)) (10 ^ excess n) (10 ^ 15) (10 ^ excess n) (nearest_most n) (omega arith) in
+    omega arith
 
 -- and where it has 39
 kept_large : (n : ℕ) → 10 ^ 38 ≤ n → n ≤ 2 ^ 127 → nearest n (10 ^ excess n) * 10 ^ excess n < 2 ^ 127

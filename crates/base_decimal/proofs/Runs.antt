@@ -1,12 +1,12 @@
 -- What the functions on runs of digits need.
-use Rattle.std.proofs.Common.{◌≡◌, ◌≢◌, ℕ, zero, suc, ◌+◌, ◌*◌, ◌-◌, ◌^◌, ◌<◌, ◌≤◌, min, Bool, true, false, cond, List, [], ◌∷◌, ◌++◌, take, drop, length, get_or, refl, sym, ap, ◌∙◌, drop-cons, add-one, arith}
+use Rattle.std.proofs.Common.{◌≡◌, ℕ, suc, ◌+◌, ◌*◌, ◌-◌, ◌^◌, ◌<◌, ◌≤◌, min, Bool, true, false, cond, List, [], ◌∷◌, take, drop, length, get_or, refl, sym, ap, ◌∙◌, drop-cons, add-one, arith}
 use Rattle.std.specs.Prelude.{◌==◌, ◌↔◌}
 use Rattle.std.specs.List.{prefix_len, list_all}
 use Rattle.std.proofs.Math.Nat.{pow-le-pow_right, one-le-pow}
 use Rattle.std.proofs.lemmas.Bool.Decides.{nat_tests}
 use Rattle.std.proofs.lemmas.Nat.{pow-add, mul-le}
 use Rattle.base_decimal.proofs.Values.{ten_pow, times_below}
-use Rattle.base_decimal.specs.Digits.{is_digit, span, stops, number_of, number_after}
+use Rattle.base_decimal.specs.Digits.{is_digit, span, number_of, number_after}
 use Rattle.base_decimal.proofs.Spans.{span_all, and_both, both_and}
 
 by_test : (b k : ℕ) (z : List ℕ) (s : List ℕ × List ℕ) → s ≡ (take k z, drop k z) → (c : Bool)

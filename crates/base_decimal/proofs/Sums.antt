@@ -1,14 +1,14 @@
 -- Mantissas with more places, and their sums.
-use Rattle.std.proofs.Common.{◌≡◌, ◌≢◌, ℕ, zero, suc, ◌+◌, ◌-◌, ◌*◌, ◌^◌, ◌<◌, ◌≤◌, max, Bool, true, false, inl, inr, refl, sym, ap, subst, ◌∙◌, arith}
+use Rattle.std.proofs.Common.{◌≡◌, ℕ, zero, suc, ◌+◌, ◌-◌, ◌*◌, ◌^◌, ◌<◌, ◌≤◌, inl, inr, refl, sym, ap, ◌∙◌, arith}
 use Rattle.std.specs.Prelude.{ℤ, pos, negsuc, ◌+ℤ◌, ◌*ℤ◌, unsigned_abs, FitsSigned}
 use Rattle.std.specs.Int.{is_negative, w128, cast_signed, cast_unsigned}
 use Rattle.std.proofs.Math.IntN.{*ℤ_comm, *ℤ-zero, suc_ℤ-*ℤ}
 use Rattle.std.proofs.Math.Nat.{mul_assoc, pow-le-pow_right}
 use Rattle.std.proofs.lemmas.Bool.{cases_lt}
-use Rattle.std.proofs.lemmas.Int.{ints, unsigned_abs-mul, fits_signed_from_abs, to_z-of_z, to_z_pos}
+use Rattle.std.proofs.lemmas.Int.{ints, unsigned_abs-mul, to_z-of_z, to_z_pos}
 use Rattle.std.proofs.lemmas.Nat.{pow-add, mul-le}
 use Rattle.base_decimal.specs.declared.decimal.Decimal.{Decimal}
-use Rattle.base_decimal.specs.Arithmetic.{mantissa_at, common_places, sum_of}
+use Rattle.base_decimal.specs.Arithmetic.{mantissa_at, sum_of}
 use Rattle.base_decimal.specs.Value.{SameValue, signed}
 use Rattle.base_decimal.proofs.Values.{signed_self, signed_times}
 

@@ -1,6 +1,6 @@
 -- Sums, products and rounding of decimals.
-use Rattle.std.specs.Prelude.{◌≡◌, ℕ, ◌+◌, ◌-◌, ◌*◌, ◌/◌, ◌^◌, ◌<◌, ◌≤◌, max, ℤ, pos, ◌+ℤ◌, ◌*ℤ◌, unsigned_abs, length, IsTrue}
-use Rattle.std.specs.Int.{is_negative}
+use Rattle.std.specs.Prelude.{ℕ, ◌+◌, ◌-◌, ◌*◌, ◌/◌, ◌^◌, ◌<◌, ◌≤◌, max, ℤ, pos, ◌+ℤ◌, ◌*ℤ◌, unsigned_abs, length, IsTrue, FitsSigned}
+use Rattle.std.specs.Int.{is_negative, w128}
 use Rattle.std.specs.Int.Digits.{digits_of}
 use Rattle.base_decimal.specs.declared.decimal.Decimal.{Decimal}
 use Rattle.base_decimal.specs.Kept.{is_trimmed}
@@ -13,6 +13,12 @@ mantissa_at d places = d.mantissa *ℤ pos (10 ^ (places - d.places))
 -- the greater of the places of two numbers
 abbrev pub common_places : Decimal → Decimal → ℕ
 common_places a b = max a.places b.places
+
+-- both numbers and their sum fit 128 bits with the greater of their places
+pub record SumFits (a b : Decimal) : Type 0 where
+  pub first : FitsSigned w128 (mantissa_at a (common_places a b))
+  pub second : FitsSigned w128 (mantissa_at b (common_places a b))
+  pub sum : FitsSigned w128 (mantissa_at a (common_places a b) +ℤ mantissa_at b (common_places a b))
 
 -- a sum of fractions, over the product of what they are over
 abbrev pub sum_of : Decimal → Decimal → Decimal
@@ -37,14 +43,15 @@ rounded d =
     let t = trim (nearest n unit * unit) d.places in
     decimal_from (is_negative d.mantissa) t.0 t.1
 
--- the same in other words: no more than 15 digits are kept, and no fewer where more are there; what they count is
--- nearest, and the greater in the middle between two; the sign is that of d
+-- the same in other words: r counts units of 10 ^ dropped, which leave 15 digits of the mantissa of d, or all where it
+-- has no more; the count is the nearest, and the greater one in the middle between two; the sign is that of d
 pub record IsRounded (d r : Decimal) : Type 0 where
-  pub digits : ℕ
+  pub count : ℕ
   pub dropped : ℕ
   pub at_most : unsigned_abs d.mantissa < 10 ^ (15 + dropped)
   pub at_least : 0 < dropped → 10 ^ (14 + dropped) ≤ unsigned_abs d.mantissa
-  pub not_above : 2 * digits * 10 ^ dropped ≤ 2 * unsigned_abs d.mantissa + 10 ^ dropped
-  pub not_below : 2 * unsigned_abs d.mantissa < 2 * digits * 10 ^ dropped + 10 ^ dropped
-  pub value : SameValue r (decimal_from (is_negative d.mantissa) (digits * 10 ^ dropped) d.places)
+  pub fifteen : count ≤ 10 ^ 15
+  pub not_above : 2 * count * 10 ^ dropped ≤ 2 * unsigned_abs d.mantissa + 10 ^ dropped
+  pub not_below : 2 * unsigned_abs d.mantissa < 2 * count * 10 ^ dropped + 10 ^ dropped
+  pub value : SameValue r (decimal_from (is_negative d.mantissa) (count * 10 ^ dropped) d.places)
   pub trimmed : IsTrue (is_trimmed r)

@@ -1,5 +1,5 @@
 -- Which decimals a workbook keeps.
-use Rattle.std.specs.Prelude.{ℕ, ◌+◌, ◌%◌, ◌^◌, Bool, not, ◌&&◌, ◌==◌, nat_lt, nat_le, unsigned_abs, IsTrue}
+use Rattle.std.specs.Prelude.{◌+◌, ◌%◌, ◌^◌, Bool, not, ◌&&◌, ◌==◌, nat_lt, nat_le, unsigned_abs, IsTrue}
 use Rattle.base_decimal.specs.declared.decimal.Decimal.{Decimal}
 
 -- no zero digit stands at the end of the places

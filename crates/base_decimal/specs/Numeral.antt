@@ -1,12 +1,12 @@
 -- How numbers are written: digits, maybe the decimal sign and digits, maybe an exponent.
-use Rattle.std.specs.Prelude.{◌≡◌, ℕ, ◌+◌, ◌*◌, ◌^◌, ◌<◌, ◌≤◌, Bool, true, false, ◌&&◌, ◌||◌, ◌==◌, nat_le, List, [], ◌∷◌, ◌++◌, length, IsTrue, Option, Some, None, if◌then◌else◌}
+use Rattle.std.specs.Prelude.{◌≡◌, ℕ, ◌+◌, ◌*◌, ◌^◌, ◌<◌, Bool, true, false, ◌&&◌, ◌||◌, ◌==◌, nat_le, List, [], ◌∷◌, ◌++◌, length, IsTrue, Option, Some, None, if◌then◌else◌}
 use Rattle.std.specs.List.{list_all}
 use Rattle.std.specs.Option.{option_map, option_and_then}
 use Rattle.base_decimal.specs.declared.decimal.Decimal.{Decimal}
 use Rattle.base_decimal.specs.declared.numeral.Scale.{Scale}
 use Rattle.base_decimal.specs.declared.numeral.Sign.{Sign}
 use Rattle.base_decimal.specs.declared.numeral.Sign.TheVariants.{Absent, Plus, Minus}
-use Rattle.base_decimal.specs.Digits.{is_digit, span, stops, number_of}
+use Rattle.base_decimal.specs.Digits.{is_digit, span, number_of}
 use Rattle.base_decimal.specs.Kept.{IsKept}
 use Rattle.base_decimal.specs.Value.{SameValue, decimal_from, kept_of}
 

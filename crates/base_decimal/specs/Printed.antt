@@ -1,5 +1,5 @@
 -- How decimals are printed.
-use Rattle.std.specs.Prelude.{ℕ, zero, suc, ◌/◌, ◌%◌, ◌+◌, ◌^◌, Bool, List, [], ◌∷◌, ◌++◌, unsigned_abs, decimal}
+use Rattle.std.specs.Prelude.{ℕ, zero, suc, ◌/◌, ◌%◌, ◌+◌, ◌^◌, List, [], ◌∷◌, ◌++◌, unsigned_abs, decimal}
 use Rattle.std.specs.Int.{is_negative}
 use Rattle.base_decimal.specs.declared.decimal.Decimal.{Decimal}
 use Rattle.base_decimal.specs.Value.{trim}

@@ -1,8 +1,6 @@
 -- Decimals as fractions: the mantissa over 10 to the power of the places.
-use Rattle.std.specs.Prelude.{◌≡◌, ℕ, zero, suc, ◌+◌, ◌*◌, ◌/◌, ◌%◌, ◌^◌, Bool, true, false, ◌&&◌, ◌==◌, nat_lt, ℤ, pos, neg_ℤ, ◌*ℤ◌, unsigned_abs, Option, Some, None, if◌then◌else◌}
-use Rattle.std.specs.Int.{is_negative}
+use Rattle.std.specs.Prelude.{◌≡◌, ℕ, zero, suc, ◌*◌, ◌/◌, ◌%◌, ◌^◌, Bool, true, false, ◌&&◌, ◌==◌, nat_lt, ℤ, pos, neg_ℤ, ◌*ℤ◌, Option, Some, None, if◌then◌else◌}
 use Rattle.base_decimal.specs.declared.decimal.Decimal.{Decimal}
-use Rattle.base_decimal.specs.Kept.{is_kept}
 
 -- equal fractions, by cross multiplication
 abbrev pub SameValue : Decimal → Decimal → Type 0
@@ -21,10 +19,6 @@ decimal_from negative n places = record { mantissa = signed negative n; places =
 abbrev pub trim : ℕ → ℕ → ℕ × ℕ
 trim n zero = (n, 0)
 trim n (suc places) = if n % 10 == 0 then trim (n / 10) places else (n, suc places)
-
--- the decimal of that value without zero digits at the end of the places
-unfoldable pub trimmed : Decimal → Decimal
-trimmed d = let t = trim (unsigned_abs d.mantissa) d.places in decimal_from (is_negative d.mantissa) t.0 t.1
 
 -- 10 ^ 15 times the fraction n over 10 ^ places, where that is a whole number below 10 ^ 30:
 -- that is where the fraction has at most 15 digits on each side of the point

@@ -1,6 +1,6 @@
-ghost use Rattle.std.specs.Prelude.{◌≡◌, ◌^◌, ◌<◌, ◌≤◌, ◌↔◌, IsTrue, IfOk, IfSome, IsOkUnless, Some, FitsSigned, ◌+ℤ◌, ◌*ℤ◌};
+ghost use Rattle.std.specs.Prelude.{◌≡◌, ◌+◌, ◌/◌, ◌^◌, ◌<◌, ◌≤◌, ◌↔◌, IsTrue, IfOk, IfSome, IsOkUnless, Some, FitsSigned, ◌*ℤ◌};
 ghost use Rattle.std.specs.Int.{w128};
-ghost use Rattle.base_decimal.specs.Arithmetic.{IsRounded, common_places, excess, mantissa_at, rounded, sum_of};
+ghost use Rattle.base_decimal.specs.Arithmetic.{IsRounded, SumFits, common_places, excess, mantissa_at, nearest, rounded, sum_of};
 ghost use Rattle.std.specs.String.{string_bytes};
 ghost use Rattle.base_decimal.specs.Value.{SameValue, decimal_from};
 ghost use Rattle.base_tables.specs.Locale.{decimal_sign};
@@ -48,26 +48,28 @@ impl Decimal {
     /// and any count of digits, maybe `e` or `E`, a sign and one to three digits. None where the
     /// text is no such number, or where its value has more than 15 digits on a side of the point.
     /// It takes no memory.
-    #[tactic(auto, using(crate::proofs::Marks::found_reads))]
+    #[tactic(auto, using(crate::proofs::Marks::readings))]
     pub fn read(text: &str, locale: Locale) -> Option<Decimal>
         ensures value { result ≡ decimal_of (decimal_sign locale) text.now }
 
         // The kept decimal that the text reads as, and None only where there is none.
         ensures found { IfSome result (Reads (decimal_sign locale) text.now) }
+        ensures kept { IfSome result IsKept }
         ensures only { (d : AnyDecimal) → Reads (decimal_sign locale) text.now d → result ≡ Some d }
     {
         value::read(text.as_bytes(), sign_byte(locale))
     }
 
     /// The number in plain digits, with the locale's decimal sign and without zeros at the end of
-    /// the places.
+    /// the places. `NoMemory` where memory runs out.
     #[tactic(auto, using(crate::proofs::Marks::printings))]
     pub fn print(&self, alloc: Global, locale: Locale) -> Result<String, EditError>
         ensures text { IfOk result (λ text. string_bytes text ≡ printed (decimal_sign locale) self.now) }
         ensures memory { IsOkUnless result NoMemory }
 
         // A kept decimal reads back.
-        ensures back { IsKept self.now → IfOk result (λ text. decimal_of (decimal_sign locale) (string_bytes text) ≡ Some self.now) }
+        ensures back { IsKept self.now
+            → IfOk result (λ text. decimal_of (decimal_sign locale) (string_bytes text) ≡ Some self.now) }
     {
         Ok(print::print(alloc, self, sign_byte(locale))?)
     }
@@ -84,11 +86,10 @@ impl Decimal {
             && !(self.places > 0 && digits % 10 == 0)
     }
 
-    /// The sum, with the greater of the two places.
+    /// The sum, with the greater of the two places. Both numbers and the sum must fit 128 bits with
+    /// these places.
     pub fn add(&self, other: &Decimal) -> Decimal
-        requires first { FitsSigned w128 (mantissa_at self.now (common_places self.now other.now)) }
-        requires second { FitsSigned w128 (mantissa_at other.now (common_places self.now other.now)) }
-        requires sum { FitsSigned w128 (mantissa_at self.now (common_places self.now other.now) +ℤ mantissa_at other.now (common_places self.now other.now)) }
+        requires { SumFits self.now other.now }
         ensures places { result.places ≡ common_places self.now other.now }
         ensures value { SameValue result (sum_of self.now other.now) }
     {
@@ -99,7 +100,7 @@ impl Decimal {
         }
     }
 
-    /// The product with a whole number, with the same places.
+    /// The product with a whole number, with the same places. It must fit 128 bits.
     pub fn scale(&self, by: i128) -> Decimal
         requires { FitsSigned w128 (self.now.mantissa *ℤ by) }
         ensures { result ≡ record self.now { mantissa = self.now.mantissa *ℤ by } }
@@ -119,8 +120,7 @@ impl Decimal {
     {
         let number = self.mantissa.unsigned_abs();
         let unit = ten_to(excess(number));
-        let kept = (number + unit / 2) / unit * unit;
-        let (digits, places) = trim(kept, self.places);
+        let (digits, places) = trim(nearest(number, unit) * unit, self.places);
         from_parts(self.mantissa < 0, digits, places)
     }
 }
@@ -136,6 +136,15 @@ fn excess(number: u128) -> u32
         dropped += 1;
     }
     dropped
+}
+
+/// How often a unit goes into a number, to the nearest whole number, and up in the middle.
+fn nearest(number: u128, unit: u128) -> u128
+    requires some { 0 < unit }
+    requires room { number + unit / 2 < 2 ^ 128 }
+    ensures { result ≡ nearest number unit }
+{
+    (number + unit / 2) / unit
 }
 
 /// The mantissa of the number with these places.

@@ -78,7 +78,8 @@ pub fn ten_to(power: u32) -> u128
 /// A number times a power of ten, if that stays below `LIMIT`.
 pub fn raised(number: u128, power: usize) -> Option<u128>
     requires { number ≤ LIMIT }
-    ensures value { result ≡ (if nat_lt (number * 10 ^ power) LIMIT then Some (number * 10 ^ power) else None) }
+    ensures value { result
+        ≡ (if nat_lt (number * 10 ^ power) LIMIT then Some (number * 10 ^ power) else None) }
     ensures small { IfSome result (λ n. n < LIMIT) }
 {
     if number == 0 {

@@ -72,7 +72,9 @@ fn small_number(digits: &[u8]) -> Option<u16>
 }
 
 fn exponent_after(text: &[u8]) -> Option<(Scale, &[u8])>
-    ensures { (letter : ℕ) → seen result ≡ option_map (λ p. (exponent_scale p.0, p.1)) (exponent_after letter (sign_at text.now)) }
+    ensures { (letter : ℕ)
+        → seen result
+        ≡ option_map (λ p. (exponent_scale p.0, p.1)) (exponent_after letter (sign_at text.now)) }
 {
     let (sign, rest) = front_sign(text);
     let (digits, rest) = digits(rest);

@@ -24,7 +24,9 @@ fn cut_end(digits: &[u8], count: usize) -> (&[u8], &[u8])
 fn at_fifteen(whole: &[u8], fraction: &[u8], scale: Scale) -> Option<u128>
     requires whole { list_all is_digit whole.now ≡ true }
     requires fraction { list_all is_digit fraction.now ≡ true }
-    ensures value { result ≡ fifteen_places (number_of (whole.now ++ fraction.now) * 10 ^ scale.up) (length fraction.now + scale.down) }
+    ensures value { result
+        ≡ fifteen_places (number_of (whole.now ++ fraction.now) * 10 ^ scale.up)
+        (length fraction.now + scale.down) }
     ensures small { IfSome result (λ n. n < 10 ^ 30) }
 {
     let places = fraction.len() + usize::from(scale.down);
@@ -44,7 +46,9 @@ fn at_fifteen(whole: &[u8], fraction: &[u8], scale: Scale) -> Option<u128>
 fn kept(negative: bool, whole: &[u8], fraction: &[u8], scale: Scale) -> Option<Decimal>
     requires whole { list_all is_digit whole.now ≡ true }
     requires fraction { list_all is_digit fraction.now ≡ true }
-    ensures { result ≡ kept_of negative (number_of (whole.now ++ fraction.now) * 10 ^ scale.up) (length fraction.now + scale.down) }
+    ensures { result
+        ≡ kept_of negative (number_of (whole.now ++ fraction.now) * 10 ^ scale.up)
+        (length fraction.now + scale.down) }
 {
     let Some(number) = at_fifteen(whole, fraction, scale) else {
         return None;

@@ -1,8 +1,6 @@
-use Rattle.std.proofs.Common.{◌≡◌, ◌+◌, ◌*◌, ◌-◌, ◌^◌, ℕ, Bool, true, false, cond, List, min, take, drop, length, Option, Some, None, sym, ap, ◌∙◌}
+use Rattle.std.proofs.Common.{◌≡◌, ◌+◌, ◌*◌, ◌-◌, ◌^◌, ℕ, Bool, true, false, cond, List, length, Some, None, sym, ap, ◌∙◌}
 use Rattle.std.specs.Prelude.{◌&&◌, nat_lt}
-use Rattle.base_decimal.specs.Digits.{number_after}
-use Rattle.base_decimal.proofs.Fifteen.{front_of, back_of, are_zeros, capped_front, cut_zeros, cut_digits}
-use Rattle.base_decimal.proofs.Spans.{and_both}
+use Rattle.base_decimal.proofs.Fifteen.{back_of, are_zeros, capped_front, cut_zeros, cut_digits}
 use Rattle.base_decimal.proofs.value.at_fifteen.Goals as goal
 use Rattle.base_decimal.proofs.value.at_fifteen.Goals.{then-are_zero, else-are_zero}
 

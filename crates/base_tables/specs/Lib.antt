@@ -2,6 +2,7 @@ pub mod Column
 pub mod ColumnLaws
 pub mod Error
 pub mod ErrorEquals
+pub mod Folding
 pub mod Function
 pub mod FunctionEquals
 pub mod Language

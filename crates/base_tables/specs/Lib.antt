@@ -1,3 +1,4 @@
+pub mod Calendar
 pub mod Column
 pub mod ColumnLaws
 pub mod Error

@@ -2,6 +2,7 @@
 //! names of columns, quoted sheet names, and equality of names by folding.
 #![tactic(auto)]
 
+mod calendar;
 mod column;
 mod error;
 mod folding;

@@ -1,9 +1,7 @@
 -- Equality by folding, character by character.
-use Rattle.std.proofs.Common.{◌≡◌, ◌≢◌, ℕ, Bool, true, false, List, [], ◌∷◌, ◌++◌, length, Option, Some, None, refl, sym, ap, ◌∙◌, arith}
-use Rattle.std.proofs.lemmas.Bool.Decides.{nat_tests}
-use Rattle.std.proofs.lemmas.Str.{chars-nil, chars_past_char, IsUtf8-past_char}
-use Rattle.std.specs.Prelude.{encode_utf8, nat_eq, is_none, ◌&&◌}
-use Rattle.std.specs.Option.{MatchOption}
+use Rattle.std.proofs.Common.{◌≡◌, ℕ, Bool, true, false, List, [], ◌∷◌, ◌++◌, length, sym, ap, ◌∙◌, arith}
+use Rattle.std.proofs.lemmas.Str.{chars-nil, chars_past_char}
+use Rattle.std.specs.Prelude.{encode_utf8, nat_eq, ◌&&◌}
 use Rattle.std.specs.Str.{chars, IsUtf8}
 use Rattle.ucd_case.specs.CaseFolding.{simple_fold}
 use Rattle.base_tables.specs.Tables.{same_text}

@@ -8,7 +8,7 @@ use Rattle.base_tables.specs.declared.function.Function.TheVariants.{Sum, If, An
 use Rattle.base_tables.specs.declared.language.Language.{Language}
 use Rattle.base_tables.specs.declared.language.Language.TheVariants.{En, De, Fr, Es}
 use Rattle.base_tables.specs.Language.{in_language}
-use Rattle.base_tables.specs.Tables.{same_text, lowered, same_word, find_passes, is_numbered, found_number}
+use Rattle.base_tables.specs.Tables.{same_text, lowered, same_word, find_passes, found_number}
 
 -- in the order of their codes
 abbrev pub all_functions : List Function

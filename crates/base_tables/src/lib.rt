@@ -11,6 +11,8 @@ mod language;
 mod locale;
 mod quote;
 mod tables;
+#[cfg(test)]
+mod tests;
 mod word;
 mod zone;
 

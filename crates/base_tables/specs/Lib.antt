@@ -1,7 +1,9 @@
+pub mod Calendar
 pub mod Column
 pub mod ColumnLaws
 pub mod Error
 pub mod ErrorEquals
+pub mod Folding
 pub mod Function
 pub mod FunctionEquals
 pub mod Language

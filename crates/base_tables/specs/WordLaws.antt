@@ -2,12 +2,12 @@
 use Rattle.std.proofs.Common.{◌≡◌, ℕ, zero, suc, ◌+◌, ◌<◌, Bool, true, false, cond, List, [], ◌∷◌, drop, refl, sym, ap, subst, ◌∙◌, arith}
 use Rattle.std.proofs.lemmas.Bool.Decides.{nat_tests}
 use Rattle.std.proofs.lemmas.Str.{encodes-IsAscii, chars_from_encodes}
-use Rattle.std.specs.Prelude.{nat_lt, ◌==◌, ◌&&◌, ◌||◌, slice_index, encode_utf8_all}
+use Rattle.std.specs.Prelude.{nat_lt, ◌==◌, ◌||◌, encode_utf8_all}
 use Rattle.std.specs.List.{list_all, prefix_len}
 use Rattle.std.specs.Str.{chars, IsUtf8, IsAscii}
 use Rattle.base_tables.specs.Tables.{both, both_parts}
-use Rattle.base_tables.specs.Column.{is_letter, is_column_name}
-use Rattle.base_tables.specs.Word.{is_digit, is_count, is_row_number, behind, front, reads_as_cell, is_column_part, reads_as_row_column}
+use Rattle.base_tables.specs.Column.{is_letter}
+use Rattle.base_tables.specs.Word.{is_digit, is_count, behind, reads_as_cell, is_column_part, reads_as_row_column}
 
 abbrev is_ascii : ℕ → Bool
 is_ascii c = nat_lt c 128

@@ -1,5 +1,6 @@
 ghost use Rattle.std.specs.Prelude.{◌≡◌, IfSome};
 ghost use Rattle.base_tables.specs.declared.function.Function.{Function};
+ghost use Rattle.base_tables.specs.Tables.{lowered};
 ghost use Rattle.base_tables.specs.Function.{function_code, function_of_code, function_name, function_of_name};
 
 use crate::language::Language;
@@ -157,9 +158,7 @@ impl Function {
     }
 }
 
-/// The function with that name in the language; A to Z may be capitals or small letters. `None` where
-/// no function has it.
-pub fn function_by_name(text: &str, language: Language) -> Option<Function>
+fn find_function(text: &str, language: Language) -> Option<Function>
     ensures { result ≡ function_of_name language text.now }
 {
     Function::ALL.iter().copied().find(|function| function
@@ -167,8 +166,19 @@ pub fn function_by_name(text: &str, language: Language) -> Option<Function>
         .eq_ignore_ascii_case(text))
 }
 
+/// The function with that name in the language; A to Z may be capitals or small letters. `None` where
+/// no function has it.
+pub fn function_by_name(text: &str, language: Language) -> Option<Function>
+    ensures value { result ≡ function_of_name language text.now }
+    ensures named { IfSome result (λ function. lowered (function_name language function) ≡ lowered text.now) }
+    ensures read { (function : Function) → lowered (function_name language function) ≡ lowered text.now → result ≡ Some function }
+{
+    find_function(text, language)
+}
+
 impl Exact for Function {
     ghost use Rattle.std.proofs.Common.{rules};
+    ghost use Rattle.base_tables.specs.Tables.{lowered};
     ghost use Rattle.base_tables.specs.FunctionEquals.{function_equals};
 
     ghost copies = { λ a b h. Prim.search rules };

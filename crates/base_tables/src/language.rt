@@ -1,5 +1,6 @@
 ghost use Rattle.std.specs.Prelude.{◌≡◌, IfSome, IfOk};
 ghost use Rattle.base_values.specs.Answers.{ok_or};
+ghost use Rattle.base_tables.specs.Tables.{lowered};
 ghost use Rattle.base_tables.specs.Language.{language_code, language_of_code, language_name, language_of_name, in_language, boolean_text, boolean_of_text};
 
 use base_values::{EditError, Exact};
@@ -104,7 +105,8 @@ pub fn get_language(text: &str) -> Result<Language, EditError>
 
 /// The truth value whose word in the language the text is; A to Z may be capitals or small letters.
 pub fn read_boolean(text: &str, language: Language) -> Option<bool>
-    ensures { result ≡ boolean_of_text language text.now }
+    ensures value { result ≡ boolean_of_text language text.now }
+    ensures named { IfSome result (λ value. lowered (boolean_text language value) ≡ lowered text.now) }
 {
     if language.boolean(true).eq_ignore_ascii_case(text) {
         return Some(true);
@@ -117,6 +119,7 @@ pub fn read_boolean(text: &str, language: Language) -> Option<bool>
 
 impl Exact for Language {
     ghost use Rattle.std.proofs.Common.{rules};
+    ghost use Rattle.base_tables.specs.Tables.{lowered};
     ghost use Rattle.base_tables.specs.LanguageEquals.{language_equals};
 
     ghost copies = { λ a b h. Prim.search rules };

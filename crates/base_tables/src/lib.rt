@@ -2,18 +2,23 @@
 //! names of columns, quoted sheet names, and equality of names by folding.
 #![tactic(auto)]
 
+mod calendar;
 mod column;
 mod error;
+mod folding;
 mod function;
 mod language;
 mod locale;
 mod quote;
 mod tables;
+#[cfg(test)]
+mod tests;
 mod word;
 mod zone;
 
 pub use column::{column_to_number, number_to_column};
 pub use error::{Error, read_error};
+pub use folding::same_by_folding;
 pub use function::{Function, function_by_name};
 pub use language::{Language, get_language, read_boolean};
 pub use locale::{Locale, get_locale};

@@ -94,7 +94,7 @@ impl Locale {
     pub fn column_separator(self) -> char
         ensures { result ≡ column_separator self }
     {
-        if self.decimal_sign() == '.' { ',' } else { ';' }
+        self.argument_separator()
     }
 }
 

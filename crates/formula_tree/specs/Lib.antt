@@ -1,0 +1,5 @@
+pub mod Equals
+pub mod Induction
+pub mod Corners
+pub mod Depth
+pub mod DepthEquations

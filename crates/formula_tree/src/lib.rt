@@ -1,0 +1,22 @@
+//! Formulas as trees: the kinds of nodes, corners of references, equality and copies by value.
+//! The layers above see a tree as its kinds, and fold over it with the definitions of `specs/`.
+#![tactic(auto)]
+
+mod array_item;
+mod context;
+mod copies;
+mod corner;
+mod node;
+mod operator;
+mod parameter;
+mod sameness;
+
+pub use array_item::ArrayItem;
+pub use context::CellReferenceRC;
+pub use corner::{
+    Corner, are_in_order, corner_at, corner_column, corner_row, corner_to, is_inside,
+    is_whole_columns, is_whole_rows, order_corners,
+};
+pub use node::Node;
+pub use operator::{CompareKind, ProductKind, SumKind, UnaryKind};
+pub use parameter::Parameter;

@@ -1,8 +1,7 @@
 -- Lines of a sheet as numbers of the machine.
-use Rattle.std.proofs.Common.{◌≡◌, ℤ, pos, ◌≤ℤ◌, IsTrue, Option, Some, arith, to_z, of_z, w32, w64, refl, true}
+use Rattle.std.proofs.Common.{◌≡◌, ℤ, pos, ◌≤ℤ◌, Option, Some, arith, to_z, of_z, w32, w64, refl, true}
 use Rattle.std.proofs.lemmas.Int.{ints}
 use Rattle.base_values.specs.declared.Position.{Position}
-use Rattle.base_values.specs.Places.{IsRow, IsColumn}
 use Rattle.formula_tree.specs.declared.corner.Corner.{Corner}
 use Rattle.formula_tree.specs.Corners.{corner_row, corner_column, is_inside, corner_at}
 

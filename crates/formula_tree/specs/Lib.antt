@@ -3,3 +3,11 @@ pub mod Induction
 pub mod Corners
 pub mod Depth
 pub mod DepthEquations
+pub mod DepthLaws
+pub mod Rebase
+pub mod RebaseEquations
+pub mod DepthBounds
+pub mod RebaseLaws
+pub mod Placed
+pub mod PlacedEquations
+pub mod CornerLaws

@@ -55,7 +55,7 @@ fn copy_nodes(nodes: &Items<Node>) -> Result<Items<Node>, AllocError>
     Ok(copies)
 }
 
-fn copy_sheet(sheet: &Option<Text>) -> Result<Option<Text>, AllocError>
+pub fn copy_sheet(sheet: &Option<Text>) -> Result<Option<Text>, AllocError>
     ensures { IfOk result (λ copy. copy ≡ sheet.now) }
 {
     match sheet {

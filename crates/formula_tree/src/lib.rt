@@ -6,9 +6,12 @@ mod array_item;
 mod context;
 mod copies;
 mod corner;
+mod depth;
 mod node;
 mod operator;
 mod parameter;
+mod placed;
+mod rebase;
 mod sameness;
 
 pub use array_item::ArrayItem;
@@ -17,6 +20,9 @@ pub use corner::{
     Corner, are_in_order, corner_at, corner_column, corner_row, corner_to, is_inside,
     is_whole_columns, is_whole_rows, order_corners,
 };
+pub use depth::{MAX_DEPTH, is_at_most_deep};
 pub use node::Node;
 pub use operator::{CompareKind, ProductKind, SumKind, UnaryKind};
 pub use parameter::Parameter;
+pub use placed::is_placed;
+pub use rebase::rebase_node;

@@ -11,3 +11,4 @@ pub mod RebaseLaws
 pub mod Placed
 pub mod PlacedEquations
 pub mod CornerLaws
+pub mod PlacedLaws

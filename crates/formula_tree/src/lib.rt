@@ -26,3 +26,6 @@ pub use operator::{CompareKind, ProductKind, SumKind, UnaryKind};
 pub use parameter::Parameter;
 pub use placed::is_placed;
 pub use rebase::rebase_node;
+
+#[cfg(test)]
+mod tests;

@@ -79,24 +79,13 @@ fn rebased(alloc: Global, node: &Node, to: Position) -> Result<Node, AllocError>
         Node::Text(text) => Ok(Node::Text(text.clone()?)),
         Node::Reference(sheet, corner) => reference_at(to, sheet, *corner),
         Node::Range(sheet, first, second) => range_at(alloc, to, sheet, *first, *second),
-        Node::Colon(a, b) => Ok(Node::Colon(boxed(alloc, a, to)?, boxed(alloc, b, to)?)),
-        Node::Concatenate(a, b) => Ok(Node::Concatenate(
-            boxed(alloc, a, to)?,
-            boxed(alloc, b, to)?,
-        )),
-        Node::Compare(kind, a, b) => Ok(Node::Compare(
-            *kind,
-            boxed(alloc, a, to)?,
-            boxed(alloc, b, to)?,
-        )),
-        Node::Sum(kind, a, b) => Ok(Node::Sum(*kind, boxed(alloc, a, to)?, boxed(alloc, b, to)?)),
-        Node::Product(kind, a, b) => Ok(Node::Product(
-            *kind,
-            boxed(alloc, a, to)?,
-            boxed(alloc, b, to)?,
-        )),
-        Node::Power(a, b) => Ok(Node::Power(boxed(alloc, a, to)?, boxed(alloc, b, to)?)),
-        Node::Unary(kind, a) => Ok(Node::Unary(*kind, boxed(alloc, a, to)?)),
+        Node::Colon(a, b) => Ok(Node::Colon(at(alloc, a, to)?, at(alloc, b, to)?)),
+        Node::Concatenate(a, b) => Ok(Node::Concatenate(at(alloc, a, to)?, at(alloc, b, to)?)),
+        Node::Compare(kind, a, b) => Ok(Node::Compare(*kind, at(alloc, a, to)?, at(alloc, b, to)?)),
+        Node::Sum(kind, a, b) => Ok(Node::Sum(*kind, at(alloc, a, to)?, at(alloc, b, to)?)),
+        Node::Product(kind, a, b) => Ok(Node::Product(*kind, at(alloc, a, to)?, at(alloc, b, to)?)),
+        Node::Power(a, b) => Ok(Node::Power(at(alloc, a, to)?, at(alloc, b, to)?)),
+        Node::Unary(kind, a) => Ok(Node::Unary(*kind, at(alloc, a, to)?)),
         Node::Call(function, all) => Ok(Node::Call(*function, all_rebased(alloc, all, to)?)),
         Node::NamedCall(name, all) => Ok(Node::NamedCall(
             name.clone()?,
@@ -107,18 +96,19 @@ fn rebased(alloc: Global, node: &Node, to: Position) -> Result<Node, AllocError>
         Node::Error(error) => Ok(Node::Error(*error)),
         Node::ParseError(text) => Ok(Node::ParseError(text.clone()?)),
         Node::EmptyArgument => Ok(Node::EmptyArgument),
-        Node::Spill(a) => Ok(Node::Spill(boxed(alloc, a, to)?)),
-        Node::Lambda(parameters, a) => Ok(Node::Lambda(parameters.clone()?, boxed(alloc, a, to)?)),
+        Node::Spill(a) => Ok(Node::Spill(at(alloc, a, to)?)),
+        Node::Lambda(parameters, a) => Ok(Node::Lambda(parameters.clone()?, at(alloc, a, to)?)),
         Node::LambdaCall(a, all) => Ok(Node::LambdaCall(
-            boxed(alloc, a, to)?,
+            at(alloc, a, to)?,
             all_rebased(alloc, all, to)?,
         )),
-        Node::ImplicitIntersection(a) => Ok(Node::ImplicitIntersection(boxed(alloc, a, to)?)),
+        Node::ImplicitIntersection(a) => Ok(Node::ImplicitIntersection(at(alloc, a, to)?)),
     }
 }
 
+/// A child of a formula at that place.
 #[cycle(rebase)]
-fn boxed(alloc: Global, node: &Boxed<Node>, to: Position) -> Result<Boxed<Node>, AllocError>
+fn at(alloc: Global, node: &Boxed<Node>, to: Position) -> Result<Boxed<Node>, AllocError>
     ensures { IfOk result (λ tree. tree ≡ rebased to node.now) }
 {
     let inner = rebased(alloc, node.get(), to)?;

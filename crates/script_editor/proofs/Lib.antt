@@ -1,3 +1,4 @@
+mod Entering
 mod Fits
 mod InputLaws
 mod InputRecord

@@ -18,12 +18,13 @@ use Rattle.sheet_history.specs.declared.DiffType.TheVariants.{Undo, Redo}
 use Rattle.sheet_history.specs.declared.QueueDiffs.{QueueDiffs}
 use Rattle.sheet_history.specs.Diffs.{forwarded, backed, follow, in_entry, replayed, replayed_from}
 use Rattle.sheet_history.specs.ReplayLaws.{replayed_from-push}
-use Rattle.sheet_wire.specs.QueueBytes.{FitsList, FitsEntry}
+use Rattle.sheet_wire.specs.QueueBytes.{FitsList, FitsEntry, spell_queue}
+use Rattle.sheet_wire.specs.QueueLaws.{queue_again}
 use Rattle.script_editor.specs.declared.editor.Editor.{Editor}
 use Rattle.script_editor.specs.Document.{Document, document, document_edit, document_undo, undo_at, document_redo, redo_at, recorded, taken_back, made_again, sending}
 use Rattle.script_editor.specs.Machine.{Edit, Step, Sent, State, start, changed, record_of, step_record, edited, edit_of, undo_from, undo_of, redo_from, redo_of, synced_of, entry_of}
 use Rattle.script_editor.specs.Sound.{IsFit, IsSoundStep, Leads, Follows, IsSound}
-use Rattle.script_editor.specs.Stands.{StandsFor, Moves, document_of}
+use Rattle.script_editor.specs.Stands.{StandsFor, Moves, document_of, replayed_bytes}
 use Rattle.script_editor.proofs.Fits.{first_fit}
 
 pub sound_start : IsSound start
@@ -156,3 +157,16 @@ moves old new s (Err error) f expected stands edits along sound = record {
     go : (e : Result State EditError) → map_ok document e ≡ Err error → e ≡ Err error
     go (Ok next) is = cc
     go (Err other) is = cc
+
+pub ok_next : (s next : State) → ◌≡◌ {A = Result State EditError} (Ok s) (Ok next) → IsSound s → IsSound next
+ok_next s next is sound = let same : s ≡ next = cc in subst IsSound same sound
+
+-- ---- the bytes of a sync
+
+pub flushed_replays : (editor : Editor) (s : State) (bytes : List ℕ) → StandsFor editor s → length editor.queue < 2 ^ 63 → bytes ≡ spell_queue editor.queue → replayed_bytes s.synced bytes ≡ Ok s.present
+flushed_replays editor s bytes stands short is =
+    let queue : editor.queue ≡ map entry_of s.sent = ap (λ (d : Document). d.queue) stands.document in
+    let few : length (map entry_of s.sent) < 2 ^ 63 = subst (λ (q : List QueueDiffs). length q < 2 ^ 63) queue short in
+    ap (replayed_bytes s.synced) (is ∙ ap spell_queue queue)
+    ∙ ap (λ r. and_then r (replayed s.synced)) (queue_again (map entry_of s.sent) (record { short = omega arith; each = stands.sound.fits }))
+    ∙ stands.sound.replays

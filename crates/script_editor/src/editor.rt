@@ -5,7 +5,7 @@ ghost use Rattle.sheet_grid.specs.KeptCell.{IsKeptCell, IsKeptContent};
 ghost use Rattle.sheet_grid.specs.Sheet.{style_of};
 ghost use Rattle.sheet_history.specs.Diffs.{IsKeptList};
 ghost use Rattle.script_editor.specs.Inputs.{cell_change, entered, input_plan};
-ghost use Rattle.script_editor.specs.Machine.{Input};
+ghost use Rattle.script_editor.specs.Machine.Edit.{Input};
 
 use base_styles::Style;
 use base_tables::{Locale, Zone};
@@ -14,6 +14,7 @@ use sheet_grid::{Cell, Content, Workbook};
 use sheet_history::{
     Diff, DiffList, DiffType, History, QueueDiffs, back_in_place, forward_in_place,
 };
+use sheet_wire::{content_fits, encode_queue};
 use std::alloc::Global;
 
 /// A workbook with undo, redo and a queue of what other copies have not had yet.
@@ -28,7 +29,9 @@ pub struct Editor {
 /// The cell after the input of a content: a present cell keeps its style, a new one takes the
 /// default, and an empty input makes none.
 fn entered(alloc: Global, old: &Option<Cell>, content: Content) -> Result<Option<Cell>, EditError>
-    ensures { Answers result (Ok (entered old.now content (style_of old.now))) }
+    requires { IsKeptContent content }
+    ensures made { Answers result (Ok (entered old.now content (style_of old.now))) }
+    ensures kept { IfOk result (λ new. IfSome new IsKeptCell) }
 {
     if let Some(cell) = old {
         let style = copy_of(&cell.style)?;
@@ -49,7 +52,10 @@ fn cell_change(
     old: Option<Cell>,
     new: Option<Cell>,
 ) -> Result<DiffList, EditError>
-    ensures { Answers result (Ok (cell_change sheet position old new)) }
+    requires old { IfSome old IsKeptCell }
+    requires new { IfSome new IsKeptCell }
+    ensures made { Answers result (Ok (cell_change sheet position old new)) }
+    ensures kept { IfOk result IsKeptList }
 {
     let mut list = Items::empty(alloc);
     if old == new {
@@ -66,8 +72,8 @@ fn cell_change(
 
 impl Editor {
     ghost use Rattle.script_editor.specs.Document.{document_edit, document_undo, document_redo};
-    ghost use Rattle.script_editor.specs.Machine.{State, start, edit_of, undo_of, redo_of};
-    ghost use Rattle.script_editor.specs.Stands.{StandsFor, Moves, book_of, document_of};
+    ghost use Rattle.script_editor.specs.Machine.{State, start, edit_of, undo_of, redo_of, synced_of};
+    ghost use Rattle.script_editor.specs.Stands.{StandsFor, Moves, book_of, document_of, sync_bytes, replayed_bytes};
 
     /// A workbook of the name `workbook` with one empty sheet, and nothing to undo.
     pub fn new(alloc: Global) -> Result<Editor, EditError>
@@ -97,7 +103,10 @@ impl Editor {
         column: i32,
         content: Content,
     ) -> Result<(Option<Cell>, DiffList), EditError>
-        ensures { Answers result (input_plan sheet row column content (book_of self.now)) }
+        requires { IsKeptContent content }
+        ensures made { Answers result (input_plan sheet row column content (book_of self.now)) }
+        ensures entry { IfOk result (λ plan. IfSome plan.0 IsKeptCell) }
+        ensures record { IfOk result (λ plan. IsKeptList plan.1) }
     {
         let found = self.workbook.worksheet(sheet)?;
         let place = place_of(row, column)?;
@@ -105,5 +114,136 @@ impl Editor {
         let new = entered(self.alloc, &old, content)?;
         let list = cell_change(self.alloc, found.get_sheet_id(), place, old, copy_of(&new)?)?;
         Ok((new, list))
+    }
+
+    /// Puts a content in the workbook, and its record on the undo stack and in the queue.
+    fn enter(
+        &mut self,
+        sheet: u32,
+        row: i32,
+        column: i32,
+        content: Content,
+    ) -> Result<(), EditError>
+        requires { IsKeptContent content }
+        ensures { Edits result (document_of self.old) (document_of self.new) (document_edit (Input sheet row column content) (document_of self.old)) }
+    {
+        let (new, list) = self.plan(sheet, row, column, content)?;
+        let sent = QueueDiffs {
+            kind: DiffType::Redo,
+            list: copy_of(&list)?,
+        };
+        self.history.reserve()?;
+        let length = self.queue.len();
+        self.queue.push(sent)?;
+        if let Err(error) = self.workbook.put_cell(sheet, row, column, new) {
+            self.queue.truncate(length);
+            return Err(error);
+        }
+        match self.history.push(list) {
+            Ok(()) => Ok(()),
+            Err(_) => unreachable!(),
+        }
+    }
+
+    /// Puts a content at a row and a column of the sheet at an index, and records the change.
+    ///
+    /// `InvalidSheet` where there is no such sheet, else `InvalidRow` where the row is outside the
+    /// sheet, else `InvalidColumn` where the column is. A refusal, and want of memory, change
+    /// nothing.
+    pub fn set_content(
+        &mut self,
+        sheet: u32,
+        row: i32,
+        column: i32,
+        content: Content,
+    ) -> Result<(), EditError>
+        requires { IsKeptContent content }
+        ensures document { Edits result (document_of self.old) (document_of self.new) (document_edit (Input sheet row column content) (document_of self.old)) }
+        ensures next { (state : State) → StandsFor self.old state → Moves result self.new state (edit_of (Input sheet row column content) state) }
+    {
+        content_fits(&content);
+        self.enter(sheet, row, column, content)
+    }
+
+    /// Takes the newest list of the undo stack back in the workbook, and sends it.
+    fn take_back(&mut self) -> Result<(), EditError>
+        ensures { Edits result (document_of self.old) (document_of self.new) (document_undo (document_of self.old)) }
+    {
+        self.history.reserve()?;
+        let Some(list) = self.history.last_undo() else {
+            return Ok(());
+        };
+        let length = self.queue.len();
+        self.queue.push(QueueDiffs {
+            kind: DiffType::Undo,
+            list: copy_of(list)?,
+        })?;
+        if let Err(error) = back_in_place(&mut self.workbook, list) {
+            self.queue.truncate(length);
+            return Err(error);
+        }
+        match self.history.undo() {
+            Ok(_) => Ok(()),
+            Err(_) => unreachable!(),
+        }
+    }
+
+    /// Takes the newest step back. Without one nothing is done. Only want of memory is refused,
+    /// and it changes nothing.
+    pub fn undo(&mut self) -> Result<(), EditError>
+        ensures document { Edits result (document_of self.old) (document_of self.new) (document_undo (document_of self.old)) }
+        ensures next { (state : State) → StandsFor self.old state → Moves result self.new state (Ok (undo_of state)) }
+    {
+        self.take_back()
+    }
+
+    /// Makes the changes of the newest list of the redo stack again, and sends it.
+    fn make_again(&mut self) -> Result<(), EditError>
+        ensures { Edits result (document_of self.old) (document_of self.new) (document_redo (document_of self.old)) }
+    {
+        self.history.reserve()?;
+        let Some(list) = self.history.last_redo() else {
+            return Ok(());
+        };
+        let length = self.queue.len();
+        self.queue.push(QueueDiffs {
+            kind: DiffType::Redo,
+            list: copy_of(list)?,
+        })?;
+        if let Err(error) = forward_in_place(&mut self.workbook, list) {
+            self.queue.truncate(length);
+            return Err(error);
+        }
+        match self.history.redo() {
+            Ok(_) => Ok(()),
+            Err(_) => unreachable!(),
+        }
+    }
+
+    /// Makes the newest undone step again. Without one nothing is done. Only want of memory is
+    /// refused, and it changes nothing.
+    pub fn redo(&mut self) -> Result<(), EditError>
+        ensures document { Edits result (document_of self.old) (document_of self.new) (document_redo (document_of self.old)) }
+        ensures next { (state : State) → StandsFor self.old state → Moves result self.new state (Ok (redo_of state)) }
+    {
+        self.make_again()
+    }
+
+    /// The bytes of all that was done since the last flush, which are then no longer kept. Only
+    /// want of memory is refused, and it changes nothing.
+    ///
+    /// The bytes lead from the workbook at the flush before, and from any equal to it, to the
+    /// present one.
+    pub fn flush_send_queue(&mut self) -> Result<Vec<u8>, EditError>
+        ensures bytes { (state : State) → StandsFor self.old state → IfOk result (λ bytes. bytes.items ≡ sync_bytes state) }
+        ensures next { (state : State) → StandsFor self.old state → OnOk result (StandsFor self.new (synced_of state)) }
+        ensures replays { (state : State) → StandsFor self.old state → IfOk result (λ bytes. replayed_bytes state.synced bytes.items ≡ Ok state.present) }
+        ensures book { book_of self.new ≡ book_of self.old }
+        ensures only { IsOkUnless result NoMemory }
+        ensures kept { OnErr result (document_of self.new ≡ document_of self.old) }
+    {
+        let bytes = encode_queue(self.alloc, self.queue.as_slice())?;
+        self.queue = Items::empty(self.alloc);
+        Ok(bytes)
     }
 }

@@ -5,5 +5,7 @@
 #![tactic(auto)]
 
 mod editor;
+mod replay;
 
 pub use editor::Editor;
+pub use replay::replay_bytes;

@@ -1,4 +1,4 @@
-ghost use Rattle.std.specs.Prelude.{◌≡◌, IfSome, All};
+ghost use Rattle.std.specs.Prelude.{◌≡◌, IfOk, IfSome, All};
 ghost use Rattle.std.specs.FinMap as fin;
 ghost use Rattle.base_values.specs.Answers.{Answers, Edits};
 ghost use Rattle.base_values.specs.Places.{IsPlace};
@@ -17,7 +17,8 @@ use std::alloc::{AllocError, Global};
 use std::collections::btree_map::Iter;
 use std::marker::Model;
 
-/// One sheet of a workbook.
+/// One sheet of a workbook. Its numbers have at most 15 digits on each side of the point, and no
+/// zero digit at the end of their places.
 #[derive(PartialEq, Eq, Drop)]
 pub struct Worksheet {
     id: u32,
@@ -31,6 +32,7 @@ pub struct Worksheet {
 }
 
 impl Model for Worksheet {
+    ghost use Rattle.sheet_grid.specs.KeptCell.{KeptCells};
     ghost use Rattle.sheet_grid.specs.Sheet.{Sheet};
     ghost use Rattle.std.specs.Coded.{codes};
     ghost use Rattle.std.specs.FinMap as fin;
@@ -61,6 +63,8 @@ impl Model for Worksheet {
       frozen_columns = s.frozen_columns;
       cells = s.cells;
     } };
+
+    ghost invariant = { λ s. KeptCells s.cells };
 }
 
 impl Worksheet {
@@ -141,7 +145,8 @@ impl Worksheet {
     ///
     /// `InvalidRow` where the row is outside the sheet, else `InvalidColumn` where the column is.
     pub fn cell(&self, row: i32, column: i32) -> Result<Option<Cell>, EditError>
-        ensures { Answers result (cell_at self.now row column) }
+        ensures found { Answers result (cell_at self.now row column) }
+        ensures kept { IfOk result (λ found. IfSome found IsKeptCell) }
     {
         let place = place_of(row, column)?;
         match self.cells.get(place) {
@@ -182,9 +187,9 @@ impl Worksheet {
         requires { IsKeptContent content }
         ensures { Edits result self.old self.new (content_put self.old row column content style.now) }
     {
-        let place = place_of(row, column)?;
+        let _place = place_of(row, column)?;
         let style = copy_of(style)?;
-        self.cells.put(place, Some(Cell { content, style }))
+        self.put_cell(row, column, Some(Cell { content, style }))
     }
 
     /// Sets the cell at a row and a column to a number with a style.
@@ -260,7 +265,7 @@ impl Worksheet {
         let place = place_of(row, column)?;
         let style = self.style_at(place)?;
         let content = Content::Empty;
-        self.cells.put(place, Some(Cell { content, style }))
+        self.put_cell(row, column, Some(Cell { content, style }))
     }
 
     /// Empties the cell at a row and a column, and gives it a style.

@@ -54,7 +54,8 @@ pub fn style_fits(style: &Style)
     let _size = style.font.sz;
 }
 
-fn content_fits(content: &Content)
+/// A content whose number is as a sheet keeps it can be spelled.
+pub fn content_fits(content: &Content)
     requires { IsKeptContent content.now }
     ensures { FitsContent content.now }
 {

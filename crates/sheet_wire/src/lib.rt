@@ -16,7 +16,7 @@ mod writing;
 
 pub use decode::decode_queue;
 pub use encode::{encode_queue, encode_style};
-pub use fitting::{cell_fits, diff_fits, position_fits, style_fits};
+pub use fitting::{cell_fits, content_fits, diff_fits, position_fits, style_fits};
 
 #[cfg(test)]
 mod tests;

@@ -1,0 +1,109 @@
+-- A script's output on the machine that keeps whole earlier and later workbooks.
+use Rattle.std.proofs.Common.{ℕ, ℤ, List, [], ◌∷◌, ◌++◌, Option, Some, None, Result, Ok, Err}
+use Rattle.std.specs.Prelude.{codes}
+use Rattle.base_values.specs.declared.EditError.{EditError}
+use Rattle.base_values.specs.Answers.{and_then, map_ok}
+use Rattle.base_values.specs.ErrorNames.{name_of}
+use Rattle.base_tables.specs.declared.Language.TheVariants.{En as English}
+use Rattle.base_tables.specs.declared.Locale.TheVariants.{En}
+use Rattle.sheet_grid.specs.declared.Cell.{Cell}
+use Rattle.sheet_grid.specs.declared.Content.{Content}
+use Rattle.sheet_grid.specs.declared.Content.TheVariants.{Empty}
+use Rattle.sheet_grid.specs.Sheet.{cell_at}
+use Rattle.sheet_grid.specs.Book.{Book, sheet_at}
+use Rattle.script_lines.specs.Parts.{parts_at, without_return}
+use Rattle.script_lines.specs.Escapes.{escaped}
+use Rattle.script_lines.specs.Commands.{command_of}
+use Rattle.script_lines.specs.declared.Command.{Command}
+use Rattle.script_lines.specs.declared.Command.TheVariants.{Set, Get, Undo, Redo, Sync, Show}
+use Rattle.script_content.specs.Inputs.{input_of, input_text}
+use Rattle.script_dump.specs.Text.{line, hex}
+use Rattle.script_dump.specs.Dump.{dump}
+use Rattle.script_editor.specs.Machine.{State, start, edit_of, undo_of, redo_of, synced_of}
+use Rattle.script_editor.specs.Machine.Edit.{Input}
+use Rattle.script_editor.specs.Stands.{sync_bytes}
+
+-- ---- answers
+
+abbrev pub refusal : EditError → List ℕ
+refusal error = line (codes "error " ++ name_of error)
+
+-- the answer to an edit
+abbrev pub outcome : {A : Type 0} → Result A EditError → List ℕ
+outcome (Ok done) = line (codes "ok")
+outcome (Err error) = refusal error
+
+abbrev pub content_of : Option Cell → Content
+content_of None = Empty
+content_of (Some cell) = cell.content
+
+-- the content at a row and a column of the sheet at an index, or the first refusal
+abbrev pub content_at : ℕ → ℤ → ℤ → Book → Result Content EditError
+content_at index row column book = and_then (sheet_at book index) (λ sheet. map_ok content_of (cell_at sheet row column))
+
+-- the answer to a question for a content
+abbrev pub got : Result Content EditError → List ℕ
+got (Ok content) = line (codes "value " ++ escaped (input_text En English content))
+got (Err error) = refusal error
+
+-- ---- commands
+
+-- the answer to a command
+abbrev pub reply_to : Command → State → List ℕ
+reply_to (Set sheet row column text) s = outcome (edit_of (Input sheet row column (input_of En English text)) s)
+reply_to (Get sheet row column) s = got (content_at sheet row column s.present)
+reply_to Undo s = line (codes "ok")
+reply_to Redo s = line (codes "ok")
+reply_to Sync s = line (codes "sync " ++ hex (sync_bytes s))
+reply_to Show s = dump s.present
+
+-- a refused edit leaves all as it was
+abbrev pub state_after : Result State EditError → State → State
+state_after (Ok next) s = next
+state_after (Err error) s = s
+
+-- the state after a command
+abbrev pub next_of : Command → State → State
+next_of (Set sheet row column text) s = state_after (edit_of (Input sheet row column (input_of En English text)) s) s
+next_of (Get sheet row column) s = s
+next_of Undo s = undo_of s
+next_of Redo s = redo_of s
+next_of Sync s = synced_of s
+next_of Show s = s
+
+-- ---- lines
+
+abbrev pub said : Option Command → State → List ℕ
+said None s = line (codes "error BadLine")
+said (Some command) s = reply_to command s
+
+abbrev pub next_said : Option Command → State → State
+next_said None s = s
+next_said (Some command) s = next_of command s
+
+-- an empty line gives no answer, and a line that is no command is a bad line
+abbrev pub line_reply : List ℕ → State → List ℕ
+line_reply [] s = []
+line_reply (b ∷ bytes) s = said (command_of (b ∷ bytes)) s
+
+abbrev pub line_next : List ℕ → State → State
+line_next [] s = s
+line_next (b ∷ bytes) s = next_said (command_of (b ∷ bytes)) s
+
+-- the answers to lines, one after another
+abbrev pub replies : List (List ℕ) → State → List ℕ
+replies [] s = []
+replies (l ∷ ls) s = line_reply (without_return l) s ++ replies ls (line_next (without_return l) s)
+
+-- the state after lines
+abbrev pub after : List (List ℕ) → State → State
+after [] s = s
+after (l ∷ ls) s = after ls (line_next (without_return l) s)
+
+-- the lines of a script
+abbrev pub lines_of : List ℕ → List (List ℕ)
+lines_of script = parts_at 10 script
+
+-- all that a script writes: the answers, and the second copy, which is the workbook at the last sync
+abbrev pub output_of : List ℕ → List ℕ
+output_of script = replies (lines_of script) start ++ line (codes "copy") ++ dump (after (lines_of script) start).synced

@@ -1,0 +1,26 @@
+-- For which states of the machine a session stands.
+use Rattle.std.proofs.Common.{◌≡◌, ◌++◌, ℕ, List, [], ◌∷◌}
+use Rattle.std.specs.Prelude.{OnOk}
+use Rattle.base_values.specs.declared.EditError.{EditError}
+use Rattle.std.specs.declared.result.Result.{Result}
+use Rattle.script_lines.specs.Parts.{without_return}
+use Rattle.script_editor.specs.Machine.{State}
+use Rattle.script_editor.specs.Sound.{IsSound}
+use Rattle.script_editor.specs.Stands.{StandsFor}
+use Rattle.edit_script.specs.declared.session.Session.{Session}
+use Rattle.edit_script.specs.Script.{line_next}
+
+-- the editor stands for the state, and the second copy is the workbook at the last sync
+pub record SessionStands (session : Session) (s : State) : Type 0 where
+  pub editor : StandsFor session.editor s
+  pub copy : session.copy ≡ s.synced
+
+-- a command wrote its answer and took the session to what stands for the next state, unless memory ran out
+pub record Runs (result : Result (Unit {0}) EditError) (old new : Session) (reply : List ℕ) (next : State) : Type 0 where
+  pub out : OnOk result (new.out.items ≡ old.out.items ++ reply)
+  pub stands : OnOk result (SessionStands new next)
+
+-- every state that lines go through is sound, from this one to the last
+abbrev pub SoundThrough : List (List ℕ) → State → Type 0
+SoundThrough [] s = IsSound s
+SoundThrough (l ∷ ls) s = IsSound s × SoundThrough ls (line_next (without_return l) s)

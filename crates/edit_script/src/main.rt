@@ -1,0 +1,25 @@
+//! Runs a script of edits over one workbook, and writes one answer for each line and, last, the
+//! second copy.
+//!
+//! `run_script` is the top call: what it writes is the output of the machine that keeps whole
+//! earlier and later workbooks.
+#![tactic(auto)]
+
+mod run;
+mod session;
+
+pub use run::{run_script, run_script_surely};
+pub use script_ends::{
+    Failed, MemorySink, MemorySource, RunError, Sink, Source, StdSink, StdSource, SureSink,
+    SureSource, status_of,
+};
+
+use std::io;
+use std::process::ExitCode;
+
+fn main(rt: HostRuntime) -> ExitCode {
+    let mut input = StdSource::new(rt.reader());
+    let mut output = StdSink::new(io::writer(&rt));
+    let outcome = run_script(rt.alloc(), &mut input, &mut output);
+    ExitCode::from(status_of(&outcome))
+}

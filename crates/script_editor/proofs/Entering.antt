@@ -1,0 +1,124 @@
+-- What an input that is accepted found and made.
+use Rattle.std.proofs.Common.{◌≡◌, ℕ, ℤ, pos, Bool, true, false, cond, List, [], ◌∷◌, Option, Some, None, Result, Ok, Err, refl, ap, sym, subst, ◌∙◌, arith}
+use Rattle.std.specs.Prelude.{IfSome, slice_get, FitsSigned, ◌<◌, ◌^◌}
+use Rattle.std.specs.Int.{w32}
+use Rattle.std.specs.Cmp.{eq_by_cmp_equiv}
+use Rattle.std.specs.FinMap as fin
+use Rattle.base_values.specs.declared.EditError.{EditError}
+use Rattle.base_values.specs.declared.EditError.TheVariants.{InvalidSheet, InvalidRow, InvalidColumn}
+use Rattle.base_values.specs.declared.Position.{Position}
+use Rattle.base_values.specs.Answers.{and_then, map_ok, ok_or}
+use Rattle.base_values.specs.KeyMap.{get-with_entry}
+use Rattle.base_values.specs.Places.{is_line, place_of, position_total}
+use Rattle.sheet_grid.specs.declared.Cell.{Cell}
+use Rattle.sheet_grid.specs.declared.Content.{Content}
+use Rattle.sheet_grid.specs.CellEquals.{same_entry}
+use Rattle.sheet_grid.specs.Sheet.{Sheet, with_cell, shown_style, cell_put}
+use Rattle.sheet_grid.specs.Book.{Book, sheet_at, sheet_edit, with_sheet}
+use Rattle.sheet_history.specs.declared.Diff.{Diff}
+use Rattle.sheet_history.specs.declared.Diff.TheVariants.{Cell as CellDiff}
+use Rattle.script_editor.specs.Inputs.{entered, with_input, input_put, cell_change, place_change, plan_at, input_plan}
+use Rattle.script_editor.specs.Machine.{Edit, record_of}
+use Rattle.script_editor.specs.Document.{Document, document_edit, recorded}
+use Rattle.script_editor.specs.Machine.Edit.{Input}
+use Rattle.script_editor.proofs.InputLaws.{get_set}
+
+-- the place at a row and a column has that row and that column
+pub place_parts : (row column : ℤ) (place : Position) → place_of row column ≡ Ok place → (row ≡ place.row) × (column ≡ place.column)
+unfolding place_of
+place_parts row column place is = go (is_line (pos 1048576) row) (is_line (pos 16384) column) is
+  where
+    go : (a b : Bool) → ◌≡◌ {A = Result Position EditError} (cond a (cond b (Ok (record { row = row; column = column })) (Err InvalidColumn)) (Err InvalidRow)) (Ok place) → (row ≡ place.row) × (column ≡ place.column)
+    go true true e =
+        let same : record { row = row; column = column } ≡ place = cc in
+        (ap (λ (p : Position). p.row) same, ap (λ (p : Position). p.column) same)
+    go true false e = cc
+    go false b e = cc
+
+pub found_some : (o : Option Sheet) (error : EditError) (sheet : Sheet) → ok_or error o ≡ Ok sheet → o ≡ Some sheet
+found_some None error sheet e = cc
+found_some (Some other) error sheet e = cc
+
+-- what was found by an input that is accepted
+pub record Found (w : Book) (index : ℕ) (row column : ℤ) (content : Content) (later : Book) : Type 0 where
+  pub sheet : Sheet
+  pub place : Position
+  pub at : sheet_at w index ≡ Ok sheet
+  pub named : place_of row column ≡ Ok place
+  pub made : with_sheet w index (with_input sheet content place) ≡ later
+
+pub accepted : (w : Book) (index : ℕ) (row column : ℤ) (content : Content) (later : Book) → input_put index row column content w ≡ Ok later → Found w index row column content later
+accepted w index row column content later is = go (sheet_at w index) refl (place_of row column) refl is
+  where
+    go : (r : Result Sheet EditError) → sheet_at w index ≡ r → (q : Result Position EditError) → place_of row column ≡ q
+        → and_then r (λ sheet. map_ok (with_sheet w index) (map_ok (with_input sheet content) q)) ≡ Ok later → Found w index row column content later
+    go (Ok sheet) one (Ok place) two e = record { sheet = sheet; place = place; at = one; named = two; made = let same : with_sheet w index (with_input sheet content place) ≡ later = cc in same }
+    go (Ok sheet) one (Err error) two e = absurd (let never : Err error ≡ Ok later = e in cc)
+    go (Err error) one q two e = absurd (let never : Err error ≡ Ok later = e in cc)
+
+-- so it is found again
+pub place_again : (row column : ℤ) (place : Position) → place_of row column ≡ Ok place → place_of place.row place.column ≡ Ok place
+place_again row column place named = let parts = place_parts row column place named in (λ i. place_of (sym parts.0 i) (sym parts.1 i)) ∙ named
+
+-- the entry that an input makes
+abbrev pub input_entry : Sheet → Content → Position → Option Cell
+input_entry sheet content place = entered (fin.get sheet.cells place) content (shown_style sheet place)
+
+abbrev pub input_book : Book → ℕ → Sheet → Content → Position → Book
+input_book w index sheet content place = with_sheet w index (with_cell sheet place (input_entry sheet content place))
+
+module _ (w : Book) (index : ℕ) (row column : ℤ) (content : Content) (sheet : Sheet) (place : Position) (at : sheet_at w index ≡ Ok sheet) (named : place_of row column ≡ Ok place) where
+  abbrev entry : Option Cell
+  entry = input_entry sheet content place
+
+  put_there : fin.get (with_cell sheet place entry).cells place ≡ entry
+  put_there = get-with_entry position_total sheet.cells place entry place ∙ ap (λ b. cond b entry (fin.get sheet.cells place)) ((eq_by_cmp_equiv position_total).refl place)
+
+  -- the record of the input is the change of its cell
+  pub input_record : place_change (sheet_at w index) (sheet_at (input_book w index sheet content place) index) (place_of row column) ≡ cell_change sheet.id place (fin.get sheet.cells place) entry
+  input_record =
+      (λ i. place_change (at i) (sheet_at (input_book w index sheet content place) index) (named i))
+      ∙ ap (λ o. place_change (Ok sheet) (ok_or InvalidSheet o) (Ok place)) (get_set w.worksheets index sheet (with_cell sheet place entry) (found_some (slice_get w.worksheets index) InvalidSheet sheet at))
+      ∙ ap (cell_change sheet.id place (fin.get sheet.cells place)) put_there
+
+  -- an input puts its entry
+  pub input_made : input_put index row column content w ≡ Ok (input_book w index sheet content place)
+  input_made = (λ i. and_then (at i) (λ s. map_ok (with_sheet w index) (map_ok (with_input s content) (named i))))
+
+-- what a plan found
+record Planned (w : Book) (index : ℕ) (row column : ℤ) (content : Content) (new : Option Cell) (list : List Diff) : Type 0 where
+  sheet : Sheet
+  place : Position
+  at : sheet_at w index ≡ Ok sheet
+  named : place_of row column ≡ Ok place
+  entry : input_entry sheet content place ≡ new
+  changes : cell_change sheet.id place (fin.get sheet.cells place) (input_entry sheet content place) ≡ list
+
+planned : (w : Book) (index : ℕ) (row column : ℤ) (content : Content) (new : Option Cell) (list : List Diff) → input_plan index row column content w ≡ Ok (new, list) → Planned w index row column content new list
+planned w index row column content new list is = go (sheet_at w index) refl (place_of row column) refl is
+  where
+    go : (r : Result Sheet EditError) → sheet_at w index ≡ r → (q : Result Position EditError) → place_of row column ≡ q
+        → and_then r (λ sheet. map_ok (plan_at sheet content) q) ≡ Ok (new, list) → Planned w index row column content new list
+    go (Ok sheet) one (Ok place) two e =
+        let both : plan_at sheet content place ≡ (new, list) = cc in
+        record { sheet = sheet; place = place; at = one; named = two; entry = ap (λ p. p.0) both; changes = ap (λ p. p.1) both }
+    go (Ok sheet) one (Err error) two e = absurd (let never : Err error ≡ Ok (new, list) = e in cc)
+    go (Err error) one q two e = absurd (let never : Err error ≡ Ok (new, list) = e in cc)
+
+-- a planned entry that was put makes the edit, and the planned list is its record
+pub entered_document : (doc : Document) (later : Book) (index : ℕ) (row column : ℤ) (content : Content) (new : Option Cell) (list : List Diff)
+    → input_plan index row column content doc.book ≡ Ok (new, list) → sheet_edit doc.book index (λ s. cell_put s row column new) ≡ Ok later
+    → document_edit (Input index row column content) doc ≡ Ok (recorded list doc later)
+entered_document doc later index row column content new list plan put =
+    let it = planned doc.book index row column content new list plan in
+    let w : Book = doc.book in
+    let book : Book = input_book w index it.sheet content it.place in
+    let edited : sheet_edit w index (λ s. cell_put s row column new) ≡ Ok (with_sheet w index (with_cell it.sheet it.place new)) =
+    (λ i. and_then (it.at i) (λ s. map_ok (with_sheet w index) (map_ok (λ p. with_cell s p new) (it.named i)))) in
+    let one : Ok (with_sheet w index (with_cell it.sheet it.place new)) ≡ Ok later = sym edited ∙ put in
+    let same : with_sheet w index (with_cell it.sheet it.place new) ≡ later = cc in
+    let last : book ≡ later = ap (λ e. with_sheet w index (with_cell it.sheet it.place e)) it.entry ∙ same in
+    let made : input_put index row column content w ≡ Ok later = input_made w index row column content it.sheet it.place it.at it.named ∙ ap Ok last in
+    let record_is : record_of (Input index row column content) w later ≡ list =
+    ap (record_of (Input index row column content) w) (sym last) ∙ input_record w index row column content it.sheet it.place it.at it.named ∙ it.changes in
+    ap (map_ok (λ b. recorded (record_of (Input index row column content) w b) doc b)) made ∙ ap (λ l. Ok (recorded l doc later)) record_is

@@ -1,10 +1,9 @@
 -- What is spelled is read again, whatever bytes follow: the law of each part of a format.
-use Rattle.std.proofs.Common.{◌≡◌, nat_eq, ℕ, zero, suc, ℤ, ◌+◌, ◌^◌, ◌<◌, ◌≤◌, ltb, eqb, Bool, true, false, cond, List, [], ◌∷◌, ◌++◌, length, take, drop, Option, Some, None, Result, Ok, Err, refl, sym, ap, ◌∙◌, append_assoc, arith}
+use Rattle.std.proofs.Common.{◌≡◌, nat_eq, ℕ, suc, ◌^◌, ◌<◌, ◌≤◌, ltb, Bool, true, false, List, [], ◌∷◌, ◌++◌, length, Option, Some, None, Ok, refl, sym, ap, ◌∙◌, append_assoc, arith}
 use Rattle.std.specs.Prelude.{IfSome, FitsSigned}
-use Rattle.std.specs.Str.{is_utf8}
 use Rattle.std.specs.Cmp.Lexicographic.{pointwise}
 use Rattle.std.specs.List.{flat_map, AllByRecursion}
-use Rattle.std.specs.Int.{Width, w8, w32, w64, w128, byte_len, from_be_bytes, to_be_bytes, cast_signed, cast_unsigned}
+use Rattle.std.specs.Int.{Width, w32, w64, w128, byte_len, from_be_bytes, to_be_bytes, cast_unsigned}
 use Rattle.std.proofs.lemmas.Bool.{le-ltb}
 use Rattle.std.proofs.lemmas.List.{take_at, drop_at, length-append, append-nil}
 use Rattle.std.proofs.lemmas.Nat.{from_be_bytes-to_be_bytes_4, from_be_bytes-to_be_bytes_8}
@@ -13,8 +12,8 @@ use Rattle.std.proofs.lemmas.Str.{is_utf8-from_IsUtf8}
 use mir.Val.{bits}
 use Rattle.std.proofs.Math.Facts.{Fits-of_z}
 use Rattle.sheet_wire.specs.Sixteen.{from_be_bytes-to_be_bytes_16}
-use Rattle.sheet_wire.specs.Reading.{Read, Reader, ◌>>=◌, after, whole, map_at, ◌⊗◌, check_at, byte_at, tagged_at, decoded, code_at, number_at, signed_at, bytes_at, text_at, option_at, many_at, list_at}
-use Rattle.sheet_wire.specs.Spelling.{spell_signed, spell_code, boolean_code, booleans, spell_text, spell_option, spell_list, FitsText, FitsItems}
+use Rattle.sheet_wire.specs.Reading.{Reader, after, whole, map_at, ◌⊗◌, check_at, byte_at, decoded, code_at, number_at, signed_at, text_at, option_at, many_at, list_at}
+use Rattle.sheet_wire.specs.Spelling.{spell_signed, spell_code, spell_text, spell_option, spell_list, FitsText, FitsItems}
 
 -- what is spelled is read again
 pub record ReadsAgain {A : Type 0} (Fits : A → Type 0) (spell : A → List ℕ) (read : Reader A) : Type 0 where

@@ -16,6 +16,7 @@ use Rattle.sheet_wire.specs.StyleBytes.{boolean_at, spell_style, style_at, FitsS
 
 -- ---- positions
 
+-- row and column
 unfoldable pub spell_position : Position → List ℕ
 spell_position place = spell_signed w32 place.row ++ spell_signed w32 place.column
 
@@ -25,12 +26,14 @@ position_made x = record { row = x.0; column = x.1 }
 unfoldable pub position_at : Reader Position
 position_at = map_at position_made (signed_at w32 ⊗ signed_at w32)
 
+-- two numbers of 32 bits, inside the sheet or not
 pub record FitsPosition (place : Position) : Type 0 where
   pub row : FitsSigned w32 place.row
   pub column : FitsSigned w32 place.column
 
 -- ---- decimals
 
+-- the mantissa in sixteen bytes, and the places
 unfoldable pub spell_decimal : Decimal → List ℕ
 spell_decimal number = spell_signed w128 number.mantissa ++ (number.places ∷ [])
 
@@ -43,6 +46,7 @@ decimal_at = check_at is_kept (map_at decimal_made (signed_at w128 ⊗ byte_at))
 
 -- ---- contents
 
+-- in the order in which the values are declared
 abbrev pub error_code : Error → ℕ
 error_code Ref = 0
 error_code Name = 1
@@ -57,9 +61,11 @@ error_code Calc = 9
 error_code Circular = 10
 error_code Null = 11
 
+-- all of them
 abbrev pub errors : List Error
 errors = Ref ∷ Name ∷ Value ∷ DivisionByZero ∷ NotAvailable ∷ NumberError ∷ General ∷ NotImplemented ∷ Spill ∷ Calc ∷ Circular ∷ Null ∷ []
 
+-- the kind, and then what it holds
 abbrev pub spell_content : Content → List ℕ
 spell_content Empty = 0 ∷ []
 spell_content (Number number) = 1 ∷ spell_decimal number
@@ -67,6 +73,7 @@ spell_content (Boolean value) = 2 ∷ spell_code boolean_code value
 spell_content (ErrorValue error) = 3 ∷ spell_code error_code error
 spell_content (Text text) = 4 ∷ spell_text text
 
+-- what follows each kind
 abbrev pub content_of : ℕ → Reader Content
 content_of kind =
     if kind == 0 then plain Empty
@@ -79,6 +86,7 @@ content_of kind =
 unfoldable pub content_at : Reader Content
 content_at = tagged_at content_of
 
+-- a number is as a sheet keeps it, and a text is one of Rust
 abbrev pub FitsContent : Content → Type 0
 FitsContent Empty = Unit {0}
 FitsContent (Number number) = IsKept number
@@ -88,6 +96,7 @@ FitsContent (Text text) = FitsText text
 
 -- ---- cells
 
+-- the content, and the style
 abbrev pub spell_cell : Cell → List ℕ
 spell_cell cell = spell_content cell.content ++ spell_style cell.style
 
@@ -97,6 +106,7 @@ cell_made x = record { content = x.0; style = x.1 }
 unfoldable pub cell_at : Reader Cell
 cell_at = map_at cell_made (content_at ⊗ style_at)
 
+-- a cell whose parts bytes can carry
 pub record FitsCell (cell : Cell) : Type 0 where
   pub content : FitsContent cell.content
   pub style : FitsStyle cell.style

@@ -1,6 +1,6 @@
 -- What bytes can carry: lists and queues of parts that fit, and the numbers in them.
-use Rattle.std.proofs.Common.{◌≡◌, ℕ, zero, suc, ◌+◌, ◌^◌, ◌<◌, List, [], ◌∷◌, ◌++◌, length, All, Option, Some, None, refl, arith}
-use Rattle.std.specs.Prelude.{IfSome, FitsSigned, codes}
+use Rattle.std.proofs.Common.{ℕ, zero, suc, ◌^◌, ◌<◌, List, [], ◌∷◌, ◌++◌, length, Option, Some, None, arith}
+use Rattle.std.specs.Prelude.{IfSome, codes}
 use Rattle.std.specs.List.{AllByRecursion}
 use Rattle.std.specs.Str.{IsAscii}
 use Rattle.std.proofs.lemmas.List.Elements.{All-from_recursion}
@@ -14,11 +14,10 @@ use Rattle.sheet_grid.specs.KeptCell.{IsKeptContent, IsKeptCell}
 use Rattle.sheet_history.specs.declared.Diff.{Diff}
 use Rattle.sheet_history.specs.declared.Diff.TheVariants.{Cell as CellDiff}
 use Rattle.sheet_history.specs.declared.QueueDiffs.{QueueDiffs}
-use Rattle.sheet_history.specs.Diffs.{IsKeptDiff, IsKeptList}
-use Rattle.sheet_wire.specs.Spelling.{FitsText, FitsItems}
+use Rattle.sheet_history.specs.Diffs.{IsKeptDiff, IsKeptList, IsKeptQueue}
 use Rattle.sheet_wire.specs.StyleBytes.{FitsStyle}
 use Rattle.sheet_wire.specs.CellBytes.{FitsContent, FitsCell, FitsPosition}
-use Rattle.sheet_wire.specs.QueueBytes.{FitsCellDiff, FitsDiff, FitsList, FitsEntry, FitsQueue}
+use Rattle.sheet_wire.specs.QueueBytes.{FitsDiff, FitsList, FitsEntry, FitsQueue}
 
 -- ---- what fits
 
@@ -82,3 +81,11 @@ kept_diffs (diff ∷ diffs) fits = (kept_diff_from_fits diff fits.0, kept_diffs 
 -- so a list that was read can be followed
 pub kept_list_from_fits : (diffs : List Diff) → FitsList diffs → IsKeptList diffs
 kept_list_from_fits diffs fits = All-from_recursion IsKeptDiff diffs (kept_diffs diffs fits.each)
+
+kept_entries : (queue : List QueueDiffs) → AllByRecursion FitsEntry queue → AllByRecursion (λ entry. IsKeptList entry.list) queue
+kept_entries [] fits = tt
+kept_entries (entry ∷ queue) fits = (kept_list_from_fits entry.list fits.0, kept_entries queue fits.1)
+
+-- so a queue that was read can be followed
+pub kept_queue_from_fits : (queue : List QueueDiffs) → FitsQueue queue → IsKeptQueue queue
+kept_queue_from_fits queue fits = All-from_recursion (λ entry. IsKeptList entry.list) queue (kept_entries queue fits.each)

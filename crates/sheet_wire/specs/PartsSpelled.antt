@@ -1,49 +1,18 @@
 -- What is read of styles, cells and diffs was spelled so.
-use Rattle.std.proofs.Common.{◌≡◌, ℕ, ℤ, ◌+◌, ◌^◌, ◌<◌, ◌≤◌, ◌&&◌, Bool, true, false, List, [], ◌∷◌, ◌++◌, length, Option, Some, None, Result, Ok, Err, refl, ap, ◌∙◌, arith}
-use Rattle.std.specs.Prelude.{IfSome, FitsSigned, unsigned_abs}
-use Rattle.std.proofs.lemmas.Bool.{leb-true, ltb-true}
-use Rattle.std.proofs.lemmas.Int.{fits_signed_from_abs}
-use Rattle.std.proofs.Math.Nat.{pow-le-pow_right}
-use Rattle.std.specs.Int.{w32, w64, w128, to_be_bytes}
-use Rattle.base_values.specs.declared.EditError.{EditError}
-use Rattle.base_values.specs.declared.Position.{Position}
-use Rattle.base_decimal.specs.declared.Decimal.{Decimal}
+use Rattle.std.proofs.Common.{refl}
+use Rattle.std.specs.Prelude.{IfSome}
 use Rattle.base_decimal.specs.Kept.{is_kept, IsKept}
-use Rattle.base_tables.specs.declared.Error.{Error}
-use Rattle.base_tables.specs.declared.Error.TheVariants.{Ref, Name, Value, DivisionByZero, NotAvailable, Number as NumberError, General, NotImplemented, Spill, Calc, Circular, Null}
-use Rattle.base_styles.specs.declared.ThemeColor.{ThemeColor}
-use Rattle.base_styles.specs.declared.ThemeColor.TheVariants.{Light1, Dark1, Light2, Dark2, Accent1, Accent2, Accent3, Accent4, Accent5, Accent6, Hyperlink, FollowedHyperlink}
-use Rattle.base_styles.specs.declared.Color.{Color}
-use Rattle.base_styles.specs.declared.Color.TheVariants.{None as NoColor, Rgb, Theme}
-use Rattle.base_styles.specs.declared.BorderStyle.{BorderStyle}
-use Rattle.base_styles.specs.declared.BorderStyle.TheVariants.{Dotted, Thin, MediumDashDotDot, MediumDashDot, SlantDashDot, MediumDashed, Medium, Thick, Double}
-use Rattle.base_styles.specs.declared.BorderItem.{BorderItem}
-use Rattle.base_styles.specs.declared.Border.{Border}
-use Rattle.base_styles.specs.declared.HorizontalAlignment.{HorizontalAlignment}
-use Rattle.base_styles.specs.declared.HorizontalAlignment.TheVariants as horizontal
-use Rattle.base_styles.specs.declared.VerticalAlignment.{VerticalAlignment}
-use Rattle.base_styles.specs.declared.VerticalAlignment.TheVariants as vertical
-use Rattle.base_styles.specs.declared.Alignment.{Alignment}
-use Rattle.base_styles.specs.declared.Font.{Font}
-use Rattle.base_styles.specs.declared.Style.{Style}
-use Rattle.sheet_grid.specs.declared.Content.{Content}
+use Rattle.base_styles.specs.declared.Color.TheVariants.{None as NoColor, Theme}
 use Rattle.sheet_grid.specs.declared.Content.TheVariants.{Empty, Number, Boolean, Error as ErrorValue, Text}
-use Rattle.sheet_grid.specs.declared.Cell.{Cell}
-use Rattle.sheet_history.specs.declared.Diff.{Diff}
-use Rattle.sheet_history.specs.declared.Diff.TheVariants.{Cell as CellDiff}
-use Rattle.sheet_history.specs.declared.DiffType.{DiffType}
-use Rattle.sheet_history.specs.declared.DiffType.TheVariants.{Undo, Redo}
-use Rattle.sheet_history.specs.declared.QueueDiffs.{QueueDiffs}
-use Rattle.sheet_wire.specs.Reading.{Reader, map_at, number_at, ◌⊗◌, decoded, code_at, signed_at, text_at, list_at}
-use Rattle.sheet_wire.specs.Spelling.{spell_signed, spell_code, boolean_code, booleans, spell_text, spell_option, spell_list, FitsText}
+use Rattle.sheet_wire.specs.Spelling.{spell_code, boolean_code, booleans, spell_option, spell_list}
 use Rattle.sheet_wire.specs.StyleBytes.{theme_code, theme_colors, spell_color, color_at, FitsColor, spell_font, boolean_at, font_made, font_at, FitsFont, border_code, border_styles, spell_border_item, border_item_made, border_item_at, FitsBorderItem, spell_border, border_made, side_at, border_at, FitsBorder, horizontal_code, horizontals, vertical_code, verticals, spell_alignment, alignment_made, alignment_at, alignment_option_at, spell_style, style_made, style_at, FitsStyle}
 use Rattle.sheet_wire.specs.CellBytes.{spell_position, position_made, position_at, FitsPosition, spell_decimal, decimal_made, decimal_at, error_code, errors, spell_content, content_at, FitsContent, spell_cell, cell_made, cell_at, FitsCell}
-use Rattle.sheet_wire.specs.QueueBytes.{spell_diff, cell_diff_made, entry_of_cell_at, cell_diff_at, diff_at, FitsCellDiff, FitsDiff, FitsList, direction_code, directions, spell_entry, entry_made, list_of_diffs_at, entry_at, FitsEntry}
+use Rattle.sheet_wire.specs.QueueBytes.{spell_diff, cell_diff_made, entry_of_cell_at, cell_diff_at, diff_at, FitsDiff, FitsList, direction_code, directions, spell_entry, entry_made, list_of_diffs_at, entry_at, FitsEntry}
 use Rattle.sheet_wire.specs.StyleBytes.{rgb, color_of}
 use Rattle.sheet_wire.specs.CellBytes.{content_of}
 use Rattle.sheet_wire.specs.QueueBytes.{diff_of}
-use Rattle.sheet_wire.specs.Again.{Any, Both}
-use Rattle.sheet_wire.specs.Spelled.{ReadsSpelled, both_spelled, map_spelled, fits_otherwise, check_spelled, byte_spelled, code_spelled, TagSpelled, tag_map, tag_plain, tag_refused, tag_if, tagged_spelled, option_spelled, back32, back64, back128, number_spelled, signed_spelled, text_spelled, list_spelled}
+use Rattle.sheet_wire.specs.Again.{Any}
+use Rattle.sheet_wire.specs.Spelled.{ReadsSpelled, both_spelled, map_spelled, fits_otherwise, check_spelled, byte_spelled, code_spelled, TagSpelled, tag_map, tag_plain, tag_refused, tag_if, tagged_spelled, option_spelled, back32, back128, number_spelled, signed_spelled, text_spelled, list_spelled}
 
 -- ---- colours
 

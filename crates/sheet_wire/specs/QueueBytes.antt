@@ -15,6 +15,7 @@ use Rattle.sheet_wire.specs.CellBytes.{spell_position, position_at, FitsPosition
 
 -- ---- diffs
 
+-- the tag, and then its fields: of a cell the id of the sheet, the position, and the cells before and after
 abbrev pub spell_diff : Diff → List ℕ
 spell_diff (CellDiff sheet place old new) =
     1 ∷ (to_be_bytes w32 sheet ++ (spell_position place ++ (spell_option spell_cell old ++ spell_option spell_cell new)))
@@ -28,12 +29,14 @@ entry_of_cell_at = option_at cell_at
 unfoldable pub cell_diff_at : Reader Diff
 cell_diff_at = map_at cell_diff_made (number_at w32 ⊗ position_at ⊗ entry_of_cell_at ⊗ entry_of_cell_at)
 
+-- what follows each tag
 abbrev pub diff_of : ℕ → Reader Diff
 diff_of tag = if tag == 1 then cell_diff_at else refused
 
 unfoldable pub diff_at : Reader Diff
 diff_at = tagged_at diff_of
 
+-- the parts of a cell diff, which bytes can carry
 pub record FitsCellDiff (id : ℕ) (position : Position) (before later : Option Cell) : Type 0 where
   pub sheet : id < 2 ^ 32
   pub place : FitsPosition position
@@ -43,11 +46,13 @@ pub record FitsCellDiff (id : ℕ) (position : Position) (before later : Option 
 abbrev pub FitsDiff : Diff → Type 0
 FitsDiff (CellDiff sheet place old new) = FitsCellDiff sheet place old new
 
+-- a list of diffs that bytes can carry
 abbrev pub FitsList : List Diff → Type 0
 FitsList = FitsItems FitsDiff
 
 -- ---- entries
 
+-- undo or redo
 abbrev pub direction_code : DiffType → ℕ
 direction_code Undo = 0
 direction_code Redo = 1
@@ -55,6 +60,7 @@ direction_code Redo = 1
 abbrev pub directions : List DiffType
 directions = Undo ∷ Redo ∷ []
 
+-- its direction, and its diffs
 abbrev pub spell_entry : QueueDiffs → List ℕ
 spell_entry entry = spell_code direction_code entry.kind ++ spell_list spell_diff entry.list
 
@@ -76,11 +82,14 @@ FitsEntry entry = FitsList entry.list
 abbrev pub magic : List ℕ
 magic = codes "ICQ1"
 
+-- the one spelling of a queue
 unfoldable pub spell_queue : List QueueDiffs → List ℕ
 spell_queue queue = magic ++ spell_list spell_entry queue
 
+-- the queue that all of the bytes spell
 unfoldable pub queue_of : List ℕ → Result (List QueueDiffs) EditError
 queue_of = whole (after magic (list_at entry_at))
 
+-- a queue that bytes can carry
 abbrev pub FitsQueue : List QueueDiffs → Type 0
 FitsQueue = FitsItems FitsEntry

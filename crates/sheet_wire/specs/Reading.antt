@@ -2,7 +2,7 @@
 use Rattle.std.specs.Prelude.{ℕ, zero, suc, ℤ, List, [], ◌∷◌, length, take, drop, Bool, Option, Some, None, Result, Ok, Err, nat_eq, nat_lt, ◌==◌, if◌then◌else◌}
 use Rattle.std.specs.Cmp.Lexicographic.{pointwise}
 use Rattle.std.specs.List.{find}
-use Rattle.std.specs.Int.{Width, w32, w64, byte_len, cast_signed, from_be_bytes}
+use Rattle.std.specs.Int.{Width, w64, byte_len, cast_signed, from_be_bytes}
 use Rattle.std.specs.Str.{is_utf8}
 use Rattle.base_values.specs.declared.EditError.{EditError}
 use Rattle.base_values.specs.declared.EditError.TheVariants.{ParseDiffs}

@@ -1,6 +1,5 @@
 -- The only refusal of a reader is ParseDiffs.
-use Rattle.std.proofs.Common.{◌≡◌, ℕ, zero, suc, ltb, eqb, Bool, true, false, if◌then◌else◌, nat_eq, List, [], ◌∷◌, length, take, drop, Option, Some, None, Result, Ok, Err, refl, sym, ap, ◌⊎◌, inl, inr}
-use Rattle.std.specs.Prelude.{◌==◌}
+use Rattle.std.proofs.Common.{◌≡◌, ℕ, zero, suc, ltb, eqb, Bool, true, false, if◌then◌else◌, nat_eq, List, [], ◌∷◌, length, take, drop, Option, Some, None, Result, Ok, Err, refl}
 use Rattle.std.specs.Str.{is_utf8}
 use Rattle.std.specs.Cmp.Lexicographic.{pointwise}
 use Rattle.std.specs.Int.{Width, w32, w64, w128, byte_len, from_be_bytes, cast_signed}
@@ -10,7 +9,7 @@ use Rattle.base_values.specs.Answers.{ok_or}
 use Rattle.base_decimal.specs.Kept.{is_kept}
 use Rattle.base_styles.specs.declared.Color.TheVariants.{Theme}
 use Rattle.sheet_grid.specs.declared.Content.TheVariants.{Number, Boolean, Error as ErrorValue, Text}
-use Rattle.sheet_wire.specs.Reading.{Read, Reader, ◌>>=◌, refused, plain, map_at, ◌⊗◌, check_at, byte_at, tagged_at, decoded, code_at, number_at, signed_at, bytes_at, text_at, option_of, option_at, many_at, count_at, list_at, rest_after, after, whole}
+use Rattle.sheet_wire.specs.Reading.{Reader, ◌>>=◌, refused, plain, map_at, ◌⊗◌, check_at, byte_at, tagged_at, decoded, code_at, number_at, signed_at, bytes_at, text_at, option_of, option_at, many_at, count_at, list_at, rest_after, after, whole}
 use Rattle.sheet_wire.specs.Spelling.{boolean_code, booleans}
 use Rattle.sheet_wire.specs.StyleBytes.{theme_code, theme_colors, rgb, color_of, color_at, boolean_at, font_made, font_at, border_code, border_styles, border_item_made, border_item_at, border_made, side_at, border_at, horizontal_code, horizontals, vertical_code, verticals, alignment_made, alignment_at, alignment_option_at, style_made, style_at}
 use Rattle.sheet_wire.specs.CellBytes.{position_made, position_at, decimal_made, decimal_at, error_code, errors, content_of, content_at, cell_made, cell_at}

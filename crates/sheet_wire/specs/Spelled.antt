@@ -3,11 +3,10 @@ use Rattle.std.proofs.Common.{◌≡◌, ℕ, zero, suc, ℤ, ◌+◌, ◌^◌, 
 use Rattle.std.specs.Prelude.{IfSome, FitsSigned, ◌==◌}
 use Rattle.std.specs.Str.{is_utf8}
 use Rattle.std.specs.Cmp.Lexicographic.{pointwise, bytes_decides}
-use Rattle.std.specs.List.{find, flat_map, AllByRecursion}
-use Rattle.std.specs.Int.{Width, w32, w64, w128, byte_len, from_be_bytes, to_be_bytes, cast_signed, cast_unsigned}
+use Rattle.std.specs.List.{flat_map, AllByRecursion}
+use Rattle.std.specs.Int.{Width, w32, w64, w128, byte_len, from_be_bytes, to_be_bytes, cast_signed}
 use Rattle.std.proofs.lemmas.Bool.{cases_lt, ltb-false, eqb-true}
-use Rattle.std.proofs.lemmas.List.{append-nil, nil_from_length, take-append-drop, length-append, length-take, get_or-drop, get_or-take, get_or_past}
-use Rattle.std.proofs.lemmas.List.Concat.{flat_map-cons}
+use Rattle.std.proofs.lemmas.List.{append-nil, nil_from_length, take-append-drop, length-take, get_or-drop, get_or-take, get_or_past}
 use Rattle.std.proofs.lemmas.Nat.{be_bytes_4, be_bytes_8}
 use Rattle.std.proofs.lemmas.Int.{of_z-to_z}
 use Rattle.std.proofs.lemmas.Str.{IsUtf8-from_is_utf8}
@@ -17,7 +16,7 @@ use Rattle.base_values.specs.declared.EditError.{EditError}
 use Rattle.base_values.specs.declared.EditError.TheVariants.{ParseDiffs}
 use Rattle.base_values.specs.Answers.{ok_or}
 use Rattle.sheet_wire.specs.Sixteen.{be_bytes_16, be_bytes_16_below}
-use Rattle.sheet_wire.specs.Reading.{Read, Reader, ◌>>=◌, refused, plain, map_at, ◌⊗◌, check_at, byte_at, tagged_at, decoded, code_at, number_at, signed_at, bytes_at, text_at, option_of, option_at, many_at, count_at, list_at, rest_after, after, whole}
+use Rattle.sheet_wire.specs.Reading.{Reader, ◌>>=◌, refused, plain, map_at, ◌⊗◌, check_at, byte_at, tagged_at, decoded, code_at, number_at, signed_at, bytes_at, text_at, option_of, option_at, many_at, count_at, list_at, rest_after, after, whole}
 use Rattle.sheet_wire.specs.Spelling.{spell_signed, spell_code, spell_text, spell_option, spell_list, FitsText, FitsItems}
 use Rattle.sheet_wire.specs.Again.{Any, Both, spell_both}
 

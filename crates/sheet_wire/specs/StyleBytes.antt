@@ -21,6 +21,7 @@ use Rattle.sheet_wire.specs.Spelling.{spell_signed, spell_code, boolean_code, bo
 
 -- ---- colours
 
+-- in the order of the theme
 abbrev pub theme_code : ThemeColor → ℕ
 theme_code Light1 = 0
 theme_code Dark1 = 1
@@ -35,9 +36,11 @@ theme_code Accent6 = 9
 theme_code Hyperlink = 10
 theme_code FollowedHyperlink = 11
 
+-- all of them
 abbrev pub theme_colors : List ThemeColor
 theme_colors = Light1 ∷ Dark1 ∷ Light2 ∷ Dark2 ∷ Accent1 ∷ Accent2 ∷ Accent3 ∷ Accent4 ∷ Accent5 ∷ Accent6 ∷ Hyperlink ∷ FollowedHyperlink ∷ []
 
+-- its kind, and then three parts or the code of a theme colour
 abbrev pub spell_color : Color → List ℕ
 spell_color NoColor = 0 ∷ []
 spell_color (Rgb red green blue) = 1 ∷ red ∷ green ∷ blue ∷ []
@@ -46,6 +49,7 @@ spell_color (Theme theme) = 2 ∷ theme_code theme ∷ []
 abbrev pub rgb : ℕ × (ℕ × ℕ) → Color
 rgb x = Rgb x.0 x.1.0 x.1.1
 
+-- what follows each kind
 abbrev pub color_of : ℕ → Reader Color
 color_of kind =
     if kind == 0 then plain NoColor
@@ -64,6 +68,7 @@ FitsColor (Theme theme) = Unit {0}
 
 -- ---- fonts
 
+-- four marks, the size and the colour
 abbrev pub spell_font : Font → List ℕ
 spell_font font =
     spell_code boolean_code font.b ++ (spell_code boolean_code font.i ++ (spell_code boolean_code font.u ++ (spell_code boolean_code font.strike
@@ -78,12 +83,14 @@ font_made x = record { b = x.0; i = x.1.0; u = x.1.1.0; strike = x.1.1.1.0; sz =
 unfoldable pub font_at : Reader Font
 font_at = map_at font_made (boolean_at ⊗ boolean_at ⊗ boolean_at ⊗ boolean_at ⊗ signed_at w32 ⊗ color_at)
 
+-- its size is a number of 32 bits
 pub record FitsFont (font : Font) : Type 0 where
   pub size : FitsSigned w32 font.sz
   pub color : FitsColor font.color
 
 -- ---- borders
 
+-- from the lightest to the heaviest
 abbrev pub border_code : BorderStyle → ℕ
 border_code Dotted = 1
 border_code Thin = 2
@@ -95,9 +102,11 @@ border_code Medium = 7
 border_code Thick = 8
 border_code Double = 9
 
+-- all of them
 abbrev pub border_styles : List BorderStyle
 border_styles = Dotted ∷ Thin ∷ MediumDashDotDot ∷ MediumDashDot ∷ SlantDashDot ∷ MediumDashed ∷ Medium ∷ Thick ∷ Double ∷ []
 
+-- how it is drawn, and its colour
 abbrev pub spell_border_item : BorderItem → List ℕ
 spell_border_item item = spell_code border_code item.style ++ spell_color item.color
 
@@ -110,6 +119,7 @@ border_item_at = map_at border_item_made (code_at border_code border_styles ⊗ 
 abbrev pub FitsBorderItem : BorderItem → Type 0
 FitsBorderItem item = FitsColor item.color
 
+-- left, right, top, bottom
 abbrev pub spell_border : Border → List ℕ
 spell_border border =
     spell_option spell_border_item border.left ++ (spell_option spell_border_item border.right
@@ -124,6 +134,7 @@ side_at = option_at border_item_at
 unfoldable pub border_at : Reader Border
 border_at = map_at border_made (side_at ⊗ side_at ⊗ side_at ⊗ side_at)
 
+-- each side that is there fits
 pub record FitsBorder (border : Border) : Type 0 where
   pub left : IfSome border.left FitsBorderItem
   pub right : IfSome border.right FitsBorderItem
@@ -155,6 +166,7 @@ vertical_code vertical.Top = 4
 abbrev pub verticals : List VerticalAlignment
 verticals = vertical.Bottom ∷ vertical.Center ∷ vertical.Distributed ∷ vertical.Justify ∷ vertical.Top ∷ []
 
+-- between the sides, between top and bottom, and whether the text wraps
 abbrev pub spell_alignment : Alignment → List ℕ
 spell_alignment alignment =
     spell_code horizontal_code alignment.horizontal ++ (spell_code vertical_code alignment.vertical ++ spell_code boolean_code alignment.wrap_text)
@@ -170,6 +182,7 @@ alignment_option_at = option_at alignment_at
 
 -- ---- styles
 
+-- the parts of a style in order
 abbrev pub spell_style : Style → List ℕ
 spell_style style =
     spell_font style.font ++ (spell_color style.fill ++ (spell_border style.border
@@ -181,6 +194,7 @@ style_made x = record { font = x.0; fill = x.1.0; border = x.1.1.0; num_fmt = x.
 unfoldable pub style_at : Reader Style
 style_at = map_at style_made (font_at ⊗ color_at ⊗ border_at ⊗ text_at ⊗ alignment_option_at)
 
+-- a style whose parts bytes can carry. An alignment always fits
 pub record FitsStyle (style : Style) : Type 0 where
   pub font : FitsFont style.font
   pub fill : FitsColor style.fill

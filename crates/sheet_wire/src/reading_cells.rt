@@ -1,8 +1,6 @@
 //! Reading positions and cells from the front of bytes.
 
-ghost use Rattle.std.specs.Prelude.{◌↔◌, IsTrue};
 ghost use Rattle.base_values.specs.Answers.{Answers, map_ok};
-ghost use Rattle.base_decimal.specs.Kept.{IsKept};
 ghost use Rattle.sheet_wire.specs.Reading.{code_at};
 ghost use Rattle.sheet_wire.specs.CellBytes.{cell_at, content_at, decimal_at, error_code, errors, position_at};
 
@@ -24,20 +22,6 @@ pub(crate) fn position_at(bytes: &[u8]) -> Result<(Position, &[u8]), EditError>
     Ok((Position { row, column }, rest))
 }
 
-/// Whether a number has at most 15 digits on each side of the point, and no zero digit at the end
-/// of its places.
-#[tactic(auto, unfolding(base_decimal::specs::Kept::is_kept))]
-fn is_kept(number: &Decimal) -> bool
-    ensures { IsTrue result ↔ IsKept number.now }
-{
-    if 15 < number.places {
-        return false;
-    }
-    let size = number.mantissa.unsigned_abs();
-    let limit = 10u128.pow(15 + number.places as u32);
-    size < limit && !(0 < number.places && size % 10 == 0)
-}
-
 #[tactic(auto, unfolding(crate::specs::CellBytes::decimal_at))]
 fn decimal_at(bytes: &[u8]) -> Result<(Decimal, &[u8]), EditError>
     ensures { Answers (map_ok (λ x. (x.0, x.1.now)) result) (decimal_at bytes.now) }
@@ -45,7 +29,7 @@ fn decimal_at(bytes: &[u8]) -> Result<(Decimal, &[u8]), EditError>
     let (mantissa, rest) = i128_at(bytes)?;
     let (places, rest) = byte_at(rest)?;
     let number = Decimal { mantissa, places };
-    if !is_kept(&number) {
+    if !number.is_kept() {
         return Err(EditError::ParseDiffs);
     }
     Ok((number, rest))

@@ -1,4 +1,3 @@
-use Rattle.std.proofs.Common.{rules}
 use Rattle.std.proofs.lemmas.Result.{err_from_is_err_and}
 use Rattle.sheet_wire.specs.QueueBytes.{diff_at}
 use Rattle.sheet_wire.proofs.Many.{goes_on, ends, is_done}

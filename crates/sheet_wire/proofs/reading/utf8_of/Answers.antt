@@ -1,5 +1,5 @@
-use Rattle.std.proofs.Common.{◌≡◌, List, Bool, true, false, Ok, refl, ap, sym}
-use Rattle.std.specs.Str.{IsUtf8, is_utf8}
+use Rattle.std.proofs.Common.{◌≡◌, Bool, true, false, Ok, refl, ap, sym}
+use Rattle.std.specs.Str.{is_utf8}
 use Rattle.std.proofs.lemmas.Str.{is_utf8-from_IsUtf8, IsUtf8-from_is_utf8}
 use Rattle.sheet_wire.proofs.reading.utf8_of.Goals as goal
 

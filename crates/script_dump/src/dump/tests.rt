@@ -1,14 +1,13 @@
 use super::{push_color, push_dump};
-use base_decimal::Decimal;
 use base_styles::{Color, Style, ThemeColor};
-use base_tables::{Locale, Zone};
-use sheet_grid::{Cell, Content, Workbook};
+use base_tables::{Language, Locale, Zone};
+use script_content::read_input;
+use sheet_grid::{Cell, Workbook};
 use std::test::Fail;
 
 #[test]
 fn workbooks_are_printed(rt: HostRuntime) -> Result<(), Fail> {
     let alloc = rt.alloc();
-    let plain = Style::new(alloc)?;
     let mut bold = Style::new(alloc)?;
     bold.font.b = true;
     bold.font.sz = 20;
@@ -22,11 +21,9 @@ fn workbooks_are_printed(rt: HostRuntime) -> Result<(), Fail> {
     let sheet = workbook.worksheet_mut(0)?;
     sheet.cell_clear_contents(3, 1)?;
     sheet.set_cell_with_string(2, 28, "x\\y", &bold)?;
-    let half = Decimal {
-        mantissa: -15,
-        places: 1,
-    };
-    sheet.set_cell_with_number(1, 1, half, &plain)?;
+    let content = read_input(alloc, "-1.50", Locale::En, Language::En)?;
+    let style = Style::new(alloc)?;
+    sheet.put_cell(1, 1, Some(Cell { content, style }))?;
     let mut out = Vec::new(alloc);
     push_dump(alloc, &mut out, &workbook)?;
     assert_eq!(rt;

@@ -1,0 +1,77 @@
+-- The printed form of a workbook.
+use Rattle.std.specs.Prelude.{ℕ, Bool, true, false, List, [], ◌∷◌, ◌++◌, codes, decimal, if◌then◌else◌}
+use Rattle.std.specs.Fmt.{signed_decimal}
+use Rattle.std.specs.FinMap as fin
+use Rattle.std.specs.List.{flat_map}
+use Rattle.base_values.specs.declared.Position.{Position}
+use Rattle.base_tables.specs.declared.Locale.TheVariants as locale
+use Rattle.base_tables.specs.declared.Language.TheVariants as language
+use Rattle.base_tables.specs.Locale.{locale_name}
+use Rattle.base_tables.specs.Zone.{zone_name}
+use Rattle.base_styles.specs.declared.Color.{Color}
+use Rattle.base_styles.specs.declared.Color.TheVariants.{None as NoColor, Rgb, Theme}
+use Rattle.base_styles.specs.declared.Style.{Style}
+use Rattle.base_styles.specs.contracts.style.StylePartialEq.TheImpl as style_eq
+use Rattle.base_styles.specs.DefaultStyle.{default_style}
+use Rattle.sheet_grid.specs.Book.{Book}
+use Rattle.sheet_grid.specs.Sheet.{Sheet}
+use Rattle.sheet_grid.specs.declared.Cell.{Cell}
+use Rattle.sheet_grid.specs.declared.Content.{Content}
+use Rattle.sheet_grid.specs.declared.Content.TheVariants.{Empty}
+use Rattle.sheet_grid.specs.declared.SheetState.{SheetState}
+use Rattle.sheet_grid.specs.declared.SheetState.TheVariants.{Visible, Hidden, VeryHidden}
+use Rattle.sheet_wire.specs.StyleBytes.{theme_code, spell_style}
+use Rattle.script_lines.specs.Escapes.{escaped}
+use Rattle.script_lines.specs.References.{reference_text}
+use Rattle.script_content.specs.Inputs.{input_text}
+use Rattle.script_dump.specs.Text.{line, words, hex, capital_hex}
+
+-- ---- words
+
+abbrev pub flag_text : Bool → List ℕ
+flag_text true = codes "1"
+flag_text false = codes "0"
+
+abbrev pub state_text : SheetState → List ℕ
+state_text Visible = codes "visible"
+state_text Hidden = codes "hidden"
+state_text VeryHidden = codes "very-hidden"
+
+abbrev pub color_text : Color → List ℕ
+color_text NoColor = codes "-"
+color_text (Rgb red green blue) = codes "#" ++ capital_hex (red ∷ green ∷ blue ∷ [])
+color_text (Theme theme) = codes "theme:" ++ decimal (theme_code theme)
+
+-- whether two styles are equal
+abbrev pub same_style : Style → Style → Bool
+same_style = style_eq.ghosts.eq
+
+-- the bytes of a style, and a dash for the default
+abbrev pub style_text : Style → List ℕ
+style_text style = if same_style style default_style then codes "-" else hex (spell_style style)
+
+-- the text of a value is that of English
+abbrev pub content_text : Content → List ℕ
+content_text Empty = codes "empty"
+content_text content = codes "value " ++ escaped (input_text locale.En language.En content)
+
+-- ---- lines
+
+abbrev pub book_line : Book → List ℕ
+book_line book = line (words (codes "book" ∷ locale_name book.locale ∷ zone_name book.zone ∷ escaped book.name ∷ []))
+
+abbrev pub sheet_line : Sheet → List ℕ
+sheet_line sheet = line (words (
+    codes "sheet" ∷ decimal sheet.id ∷ state_text sheet.state ∷ flag_text sheet.show_grid_lines
+    ∷ signed_decimal sheet.frozen_rows ∷ signed_decimal sheet.frozen_columns ∷ color_text sheet.color ∷ escaped sheet.name ∷ []))
+
+abbrev pub cell_line : Position × Cell → List ℕ
+cell_line (place, cell) = line (words (codes "cell" ∷ reference_text place ∷ style_text cell.style ∷ content_text cell.content ∷ []))
+
+-- a sheet, and then its cells by row and column
+abbrev pub sheet_lines : Sheet → List ℕ
+sheet_lines sheet = sheet_line sheet ++ flat_map cell_line (fin.entries sheet.cells)
+
+-- a workbook, then its sheets in order
+abbrev pub dump : Book → List ℕ
+dump book = book_line book ++ (flat_map sheet_lines book.worksheets ++ line (codes "end"))

@@ -1,0 +1,211 @@
+ghost use Rattle.std.specs.Prelude.{◌≡◌, ◌++◌, ◌∷◌, [], codes, decimal, OnOk, IfOk, IsOkUnless};
+ghost use Rattle.std.specs.Fmt.{signed_decimal};
+ghost use Rattle.base_values.specs.Places.{IsPlace};
+ghost use Rattle.base_values.specs.declared.error.EditError.TheVariants.{NoMemory};
+ghost use Rattle.base_styles.specs.DefaultStyle.{default_style};
+ghost use Rattle.sheet_wire.specs.StyleBytes.{theme_code};
+ghost use Rattle.script_lines.specs.Escapes.{escaped};
+ghost use Rattle.script_dump.specs.Dump.{flag_text, state_text, color_text, same_style, style_text, content_text, book_line, sheet_line, cell_line, sheet_lines, dump};
+
+use crate::text::{push_capital_hex, push_hex, push_line, push_signed, push_unsigned, push_word};
+use base_styles::{Color, Style, ThemeColor};
+use base_tables::{Language, Locale};
+use base_values::{EditError, Position};
+use script_content::print_content;
+use script_lines::{push_escaped, push_reference};
+use sheet_grid::{Cell, Content, SheetState, Workbook, Worksheet};
+use sheet_wire::encode_style;
+use std::alloc::{AllocError, Global};
+
+fn flag_text(flag: bool) -> &'static str
+    ensures { result.now ≡ flag_text flag }
+{
+    if flag { "1" } else { "0" }
+}
+
+fn state_text(state: SheetState) -> &'static str
+    ensures { result.now ≡ state_text state }
+{
+    match state {
+        SheetState::Visible => "visible",
+        SheetState::Hidden => "hidden",
+        SheetState::VeryHidden => "very-hidden",
+    }
+}
+
+/// The number of a theme's colour, from 0.
+fn theme_code(theme: ThemeColor) -> u32
+    ensures { result ≡ theme_code theme }
+{
+    match theme {
+        ThemeColor::Light1 => 0,
+        ThemeColor::Dark1 => 1,
+        ThemeColor::Light2 => 2,
+        ThemeColor::Dark2 => 3,
+        ThemeColor::Accent1 => 4,
+        ThemeColor::Accent2 => 5,
+        ThemeColor::Accent3 => 6,
+        ThemeColor::Accent4 => 7,
+        ThemeColor::Accent5 => 8,
+        ThemeColor::Accent6 => 9,
+        ThemeColor::Hyperlink => 10,
+        ThemeColor::FollowedHyperlink => 11,
+    }
+}
+
+fn push_color(alloc: Global, out: &mut Vec<u8>, color: Color) -> Result<(), AllocError>
+    ensures { OnOk result (out.new.items ≡ out.old.items ++ color_text color) }
+{
+    match color {
+        Color::None => out.extend_from_slice(b"-"),
+        Color::Rgb { red, green, blue } => {
+            out.extend_from_slice(b"#")?;
+            push_capital_hex(out, red, green, blue)
+        }
+        Color::Theme(theme) => {
+            out.extend_from_slice(b"theme:")?;
+            push_unsigned(alloc, out, theme_code(theme))
+        }
+    }
+}
+
+fn is_default(alloc: Global, style: &Style) -> Result<bool, EditError>
+    ensures value { IfOk result (λ default. default ≡ same_style style.now default_style) }
+    ensures memory { IsOkUnless result NoMemory }
+{
+    let default = Style::new(alloc)?;
+    Ok(*style == default)
+}
+
+fn push_style(alloc: Global, out: &mut Vec<u8>, style: &Style) -> Result<(), EditError>
+    ensures text { OnOk result (out.new.items ≡ out.old.items ++ style_text style.now) }
+    ensures memory { IsOkUnless result NoMemory }
+{
+    if is_default(alloc, style)? {
+        out.extend_from_slice(b"-")?;
+        return Ok(());
+    }
+    let bytes = encode_style(alloc, style)?;
+    push_hex(out, bytes.as_slice())?;
+    Ok(())
+}
+
+fn push_content(alloc: Global, out: &mut Vec<u8>, content: &Content) -> Result<(), EditError>
+    ensures text { OnOk result (out.new.items ≡ out.old.items ++ content_text content.now) }
+    ensures memory { IsOkUnless result NoMemory }
+{
+    if let Content::Empty = content {
+        out.extend_from_slice(b"empty")?;
+        return Ok(());
+    }
+    let text = print_content(alloc, content, Locale::En, Language::En)?;
+    out.extend_from_slice(b"value ")?;
+    push_escaped(out, text.as_bytes())?;
+    Ok(())
+}
+
+fn push_cell(
+    alloc: Global,
+    out: &mut Vec<u8>,
+    place: Position,
+    cell: &Cell,
+) -> Result<(), EditError>
+    requires { IsPlace place }
+    ensures text { OnOk result (out.new.items ≡ out.old.items ++ cell_line (place, cell.now)) }
+    ensures memory { IsOkUnless result NoMemory }
+{
+    out.extend_from_slice(b"cell ")?;
+    push_reference(alloc, out, place)?;
+    out.push(b' ')?;
+    push_style(alloc, out, &cell.style)?;
+    out.push(b' ')?;
+    push_content(alloc, out, &cell.content)?;
+    out.push(b'\n')?;
+    Ok(())
+}
+
+/// Writes the front of a sheet's line, up to its grid lines and a space.
+fn push_sheet_front(alloc: Global, out: &mut Vec<u8>, sheet: &Worksheet) -> Result<(), AllocError>
+    ensures { OnOk result (out.new.items ≡ out.old.items
+        ++ (codes "sheet " ++ (decimal sheet.now.id ++ 32 ∷ (state_text sheet.now.state ++ 32 ∷ (flag_text sheet.now.show_grid_lines ++ 32 ∷ []))))) }
+{
+    out.extend_from_slice(b"sheet ")?;
+    push_unsigned(alloc, out, sheet.get_sheet_id())?;
+    out.push(b' ')?;
+    push_word(out, state_text(sheet.state()).as_bytes())?;
+    push_word(out, flag_text(sheet.show_grid_lines()).as_bytes())
+}
+
+/// Writes how many rows and columns are frozen, each with a space.
+fn push_frozen(alloc: Global, out: &mut Vec<u8>, sheet: &Worksheet) -> Result<(), AllocError>
+    ensures { OnOk result (out.new.items ≡ out.old.items
+        ++ (signed_decimal sheet.now.frozen_rows ++ 32 ∷ (signed_decimal sheet.now.frozen_columns ++ 32 ∷ []))) }
+{
+    push_signed(alloc, out, sheet.frozen_rows())?;
+    out.push(b' ')?;
+    push_signed(alloc, out, sheet.frozen_columns())?;
+    out.push(b' ')?;
+    Ok(())
+}
+
+/// Writes the end of a sheet's line, from its colour on.
+fn push_sheet_end(alloc: Global, out: &mut Vec<u8>, sheet: &Worksheet) -> Result<(), AllocError>
+    ensures { OnOk result (out.new.items ≡ out.old.items
+        ++ (color_text sheet.now.color ++ 32 ∷ (escaped sheet.now.name ++ 10 ∷ []))) }
+{
+    push_color(alloc, out, sheet.color())?;
+    out.push(b' ')?;
+    push_escaped(out, sheet.get_name().as_bytes())?;
+    out.push(b'\n')?;
+    Ok(())
+}
+
+fn push_sheet_line(alloc: Global, out: &mut Vec<u8>, sheet: &Worksheet) -> Result<(), AllocError>
+    ensures { OnOk result (out.new.items ≡ out.old.items ++ sheet_line sheet.now) }
+{
+    push_sheet_front(alloc, out, sheet)?;
+    push_frozen(alloc, out, sheet)?;
+    push_sheet_end(alloc, out, sheet)
+}
+
+fn push_sheet(alloc: Global, out: &mut Vec<u8>, sheet: &Worksheet) -> Result<(), EditError>
+    ensures text { OnOk result (out.new.items ≡ out.old.items ++ sheet_lines sheet.now) }
+    ensures memory { IsOkUnless result NoMemory }
+{
+    push_sheet_line(alloc, out, sheet)?;
+    for (place, cell) in sheet.cells() {
+        push_cell(alloc, out, *place, cell)?;
+    }
+    Ok(())
+}
+
+fn push_book_line(out: &mut Vec<u8>, workbook: &Workbook) -> Result<(), AllocError>
+    ensures { OnOk result (out.new.items ≡ out.old.items ++ book_line workbook.now) }
+{
+    out.extend_from_slice(b"book ")?;
+    push_word(out, workbook.locale().name().as_bytes())?;
+    push_word(out, workbook.zone().name().as_bytes())?;
+    push_escaped(out, workbook.name().as_bytes())?;
+    out.push(b'\n')?;
+    Ok(())
+}
+
+/// Writes the printed form of a workbook at the end: a line for the workbook, for each sheet a line
+/// and a line for each of its cells, by row and then by column, and last a line `end`. Texts are
+/// escaped, contents are printed in English, and styles are their bytes in hexadecimal.
+///
+/// Only want of memory is refused. A front of it may then have been written.
+pub fn push_dump(alloc: Global, out: &mut Vec<u8>, workbook: &Workbook) -> Result<(), EditError>
+    ensures text { OnOk result (out.new.items ≡ out.old.items ++ dump workbook.now) }
+    ensures memory { IsOkUnless result NoMemory }
+{
+    push_book_line(out, workbook)?;
+    for sheet in workbook.worksheets() {
+        push_sheet(alloc, out, sheet)?;
+    }
+    push_line(out, b"end")?;
+    Ok(())
+}
+
+#[cfg(test)]
+mod tests;

@@ -1,0 +1,59 @@
+use super::{push_color, push_dump};
+use base_styles::{Color, Style, ThemeColor};
+use base_tables::{Language, Locale, Zone};
+use script_content::read_input;
+use sheet_grid::{Cell, Workbook};
+use std::test::Fail;
+
+#[test]
+fn workbooks_are_printed(rt: HostRuntime) -> Result<(), Fail> {
+    let alloc = rt.alloc();
+    let mut bold = Style::new(alloc)?;
+    bold.font.b = true;
+    bold.font.sz = 20;
+    bold.font.color = Color::Theme(ThemeColor::Accent1);
+    bold.fill = Color::Rgb {
+        red: 255,
+        green: 0,
+        blue: 171,
+    };
+    let mut workbook = Workbook::new_empty(alloc, "a\nb", Locale::De, Zone::EuropeBerlin)?;
+    let sheet = workbook.worksheet_mut(0)?;
+    sheet.cell_clear_contents(3, 1)?;
+    sheet.set_cell_with_string(2, 28, "x\\y", &bold)?;
+    let content = read_input(alloc, "-1.50", Locale::En, Language::En)?;
+    let style = Style::new(alloc)?;
+    sheet.put_cell(1, 1, Some(Cell { content, style }))?;
+    let mut out = Vec::new(alloc);
+    push_dump(alloc, &mut out, &workbook)?;
+    assert_eq!(rt;
+        out.as_slice(),
+        b"book de Europe/Berlin a\\nb
+sheet 1 visible 1 0 0 - Sheet1
+cell A1 - value -1.5
+cell AB2 0100000000000014020401ff00ab00000000000000000000000767656e6572616c00 value x\\\\y
+cell A3 - empty
+end
+"
+            .as_slice()
+    );
+    Ok(())
+}
+
+#[test]
+fn colors_are_printed(rt: HostRuntime) -> Result<(), Fail> {
+    let mut out = Vec::new(rt.alloc());
+    for color in [
+        Color::None,
+        Color::Rgb {
+            red: 9,
+            green: 171,
+            blue: 255,
+        },
+        Color::Theme(ThemeColor::FollowedHyperlink),
+    ] {
+        push_color(rt.alloc(), &mut out, color)?;
+    }
+    assert_eq!(rt; out.as_slice(), b"-#09ABFFtheme:11".as_slice());
+    Ok(())
+}

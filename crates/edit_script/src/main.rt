@@ -5,6 +5,7 @@
 //! earlier and later workbooks.
 #![tactic(auto)]
 
+mod output;
 mod run;
 mod session;
 
@@ -13,7 +14,6 @@ pub use script_ends::{
     Failed, MemorySink, MemorySource, RunError, Sink, Source, StdSink, StdSource, SureSink,
     SureSource, status_of,
 };
-
 use std::io;
 use std::process::ExitCode;
 

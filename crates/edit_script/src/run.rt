@@ -7,7 +7,7 @@ ghost use Rattle.edit_script.specs.Script.{lines_of, output_of};
 ghost use Rattle.edit_script.specs.Session.{SoundThrough};
 ghost use Rattle.edit_script.specs.Run.{Ran};
 
-use crate::session::output_text;
+use crate::output::output_text;
 use script_ends::{MOST_BYTES, RunError, Sink, Source, SureSink, SureSource, read_all, write_all};
 use std::alloc::Global;
 
@@ -60,7 +60,8 @@ pub fn run_script<S: Source, K: Sink>(
     if output.reserve(text.len()).is_err() {
         return Err(RunError::NoMemory);
     }
-    write_all(output, &text)
+    write_all(output, &text)?;
+    Ok(())
 }
 
 /// Runs a script as `run_script` does, over ends that never fail: neither fault is answered.

@@ -1,7 +1,7 @@
 ghost use Rattle.std.specs.Prelude.{◌≡◌, ◌≢◌, ◌++◌, [], OnOk, IfOk, IfErr, IsOkUnless};
 ghost use Rattle.base_values.specs.Answers.{Answers};
 ghost use Rattle.base_values.specs.declared.EditError.TheVariants.{NoMemory};
-ghost use Rattle.edit_script.specs.Script.{content_at, refusal, outcome, got, output_of};
+ghost use Rattle.edit_script.specs.Script.{content_at, refusal, outcome, got};
 
 use base_tables::{Language, Locale};
 use base_values::{EditError, copy_of};
@@ -48,12 +48,7 @@ fn push_outcome(out: &mut Vec<u8>, done: Result<(), EditError>) -> Result<(), Ed
 }
 
 /// The content at a row and a column of the sheet at an index.
-fn content_at(
-    workbook: &Workbook,
-    sheet: u32,
-    row: i32,
-    column: i32,
-) -> Result<Content, EditError>
+fn content_at(workbook: &Workbook, sheet: u32, row: i32, column: i32) -> Result<Content, EditError>
     ensures { Answers result (content_at sheet row column workbook.now) }
 {
     match workbook.worksheet(sheet)?.cell(row, column)? {
@@ -91,7 +86,7 @@ impl Session {
     ghost use Rattle.edit_script.specs.Session.{SessionStands, Runs, SoundThrough};
 
     /// A new workbook, a second copy equal to it, and no answer yet.
-    fn new(alloc: Global) -> Result<Session, EditError>
+    pub(crate) fn new(alloc: Global) -> Result<Session, EditError>
         ensures stands { IfOk result (λ session. SessionStands session start) }
         ensures out { IfOk result (λ session. session.out.items ≡ []) }
         ensures only { IsOkUnless result NoMemory }
@@ -196,7 +191,7 @@ impl Session {
     }
 
     /// Runs all lines of a script.
-    fn run_lines(&mut self, script: &[u8]) -> Result<(), EditError>
+    pub(crate) fn run_lines(&mut self, script: &[u8]) -> Result<(), EditError>
         ensures runs { (state : State) → SessionStands self.old state →
             Runs result self.old self.new (replies (lines_of script.now) state) (after (lines_of script.now) state) }
         ensures sound { (state : State) → SessionStands self.old state → OnOk result (SoundThrough (lines_of script.now) state) }
@@ -209,22 +204,4 @@ impl Session {
         }
         Ok(())
     }
-}
-
-/// All that a script writes. Only want of memory is refused.
-pub(crate) fn output_text(alloc: Global, script: &[u8]) -> Result<Vec<u8>, EditError>
-    ensures text { IfOk result (λ text. text.items ≡ output_of script.now) }
-    ensures sound { OnOk result (SoundThrough (lines_of script.now) start) }
-{
-    let mut session = Session::new(alloc)?;
-    session.run_lines(script)?;
-    push_line(&mut session.out, b"copy")?;
-    push_dump(alloc, &mut session.out, &session.copy)?;
-    let Session {
-        alloc: _,
-        editor: _,
-        copy: _,
-        out,
-    } = session;
-    Ok(out)
 }

@@ -1,0 +1,27 @@
+ghost use Rattle.std.specs.Prelude.{◌≡◌, OnOk, IfOk};
+ghost use Rattle.script_editor.specs.Machine.{start};
+ghost use Rattle.edit_script.specs.Script.{lines_of, output_of};
+ghost use Rattle.edit_script.specs.Session.{SoundThrough};
+
+use crate::session::Session;
+use base_values::EditError;
+use script_dump::{push_dump, push_line};
+use std::alloc::Global;
+
+/// All that a script writes. Only want of memory is refused.
+pub(crate) fn output_text(alloc: Global, script: &[u8]) -> Result<Vec<u8>, EditError>
+    ensures text { IfOk result (λ text. text.items ≡ output_of script.now) }
+    ensures sound { OnOk result (SoundThrough (lines_of script.now) start) }
+{
+    let mut session = Session::new(alloc)?;
+    session.run_lines(script)?;
+    push_line(&mut session.out, b"copy")?;
+    push_dump(alloc, &mut session.out, &session.copy)?;
+    let Session {
+        alloc: _,
+        editor: _,
+        copy: _,
+        out,
+    } = session;
+    Ok(out)
+}

@@ -14,3 +14,6 @@ pub use cell::{Cell, Content};
 pub use state::SheetState;
 pub use workbook::Workbook;
 pub use worksheet::Worksheet;
+
+#[cfg(test)]
+mod tests;

@@ -13,3 +13,6 @@ pub use apply::{back, back_in_place, forward, forward_in_place, replay_in_place}
 pub use diff::{Diff, DiffList, DiffType, QueueDiffs};
 pub use history::History;
 pub use laws::records_are_unique;
+
+#[cfg(test)]
+mod tests;

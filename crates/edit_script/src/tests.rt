@@ -1,0 +1,145 @@
+use crate::{run_script, run_script_surely};
+use script_ends::{
+    MOST_BYTES, MemorySink, MemorySource, RunError, SureSink, SureSource, status_of,
+};
+use std::alloc::Global;
+use std::test::Fail;
+
+/// What a new workbook prints.
+const NEW_BOOK: &str = "book en UTC workbook\nsheet 1 visible 1 0 0 - Sheet1\nend\n";
+
+/// The bytes of a sync after `set 0 A1 1` alone.
+const ONE_CELL: &str =
+    "494351310000000000000001010000000000000001010000000100000001000000010001010000000000000000000000000000000100000000000000000d000000000000000000000000000767656e6572616c00";
+
+/// The outcome of a script whose listed reads and writes fail, and what was written.
+fn run_failing(
+    alloc: Global,
+    script: &str,
+    reads: &[u64],
+    writes: &[u64],
+) -> Result<(Result<(), RunError>, MemorySink), Fail> {
+    let bytes = script.as_bytes().to_vec(alloc)?;
+    let mut input = MemorySource::new(bytes, reads.to_vec(alloc)?);
+    let mut output = MemorySink::new(Vec::new(alloc), writes.to_vec(alloc)?);
+    let outcome = run_script(alloc, &mut input, &mut output);
+    Ok((outcome, output))
+}
+
+/// Each script with the front of what it writes.
+#[test]
+fn scripts_are_answered(rt: HostRuntime) -> Result<(), Fail> {
+    let scripts = [
+        ("set 0 A1 7\nget 0 A1\n", "ok\nvalue 7\ncopy\n"),
+        ("set 0 A1 7\r\nget 0 A1\r\n", "ok\nvalue 7\ncopy\n"),
+        ("set 0 A1 7\n\nget 0 A1", "ok\nvalue 7\ncopy\n"),
+        ("get 0 A1", "value \ncopy\n"),
+        ("set 0 XFE1 1", "error InvalidColumn\n"),
+        ("set 0 A1048577 1", "error InvalidRow\n"),
+        ("set 0 XFE1048577 1", "error InvalidRow\n"),
+        ("set 1 XFE1 1", "error InvalidSheet\n"),
+        (
+            "get 1 A1\nget 0 A0\nget 0 ZZZ1",
+            "error InvalidSheet\nerror InvalidRow\nerror InvalidColumn\n",
+        ),
+        ("set 0", "error BadLine\n"),
+        (
+            "set 0 A1 =A2\nset 0 A1 a\\nb",
+            "error BadLine\nerror BadLine\n",
+        ),
+        ("undo", "ok\n"),
+        (
+            "set 0 A1 1\nundo\nset 0 A1 2\nredo\nget 0 A1",
+            "ok\nok\nok\nok\nvalue 2\n",
+        ),
+        (
+            "set 0 A1 1\nundo\nset 0 XFE1 1\nredo\nget 0 A1",
+            "ok\nok\nerror InvalidColumn\nok\nvalue 1\n",
+        ),
+        ("set 0 A1 '12\nget 0 A1", "ok\nvalue '12\n"),
+        ("set 0 A1 a\\\\b\nget 0 A1", "ok\nvalue a\\\\b\n"),
+        (
+            "set 0 A1 1\nset 0 A1\nshow",
+            "ok\nok\nbook en UTC workbook\nsheet 1 visible 1 0 0 - Sheet1\ncell A1 - empty\nend\n",
+        ),
+    ];
+    for (script, answers) in scripts {
+        let (outcome, output) = run_failing(rt.alloc(), script, &[], &[])?;
+        assert_eq!(rt; outcome, Ok(()));
+        assert!(rt; output.bytes().starts_with(answers.as_bytes()), "{script}");
+        assert!(rt; output.bytes().ends_with(NEW_BOOK.as_bytes()), "{script}");
+    }
+    Ok(())
+}
+
+/// An undone cell is absent again, in the workbook and in the second copy.
+#[test]
+fn undo_gives_back_the_workbook(rt: HostRuntime) -> Result<(), Fail> {
+    let script = "set 0 A1 1\nset 0 A1\nundo\nundo\nshow";
+    let (outcome, output) = run_failing(rt.alloc(), script, &[], &[])?;
+    assert_eq!(rt; outcome, Ok(()));
+    let expected = format!(in rt.alloc(); "ok\nok\nok\nok\n{NEW_BOOK}copy\n{NEW_BOOK}")?;
+    assert_eq!(rt; output.bytes(), expected.as_bytes());
+    Ok(())
+}
+
+/// The bytes of one cell, and the second copy that had them.
+#[test]
+fn sync_sends_one_cell(rt: HostRuntime) -> Result<(), Fail> {
+    let (outcome, output) = run_failing(rt.alloc(), "set 0 A1 1\nsync", &[], &[])?;
+    assert_eq!(rt; outcome, Ok(()));
+    let expected = format!(in rt.alloc();
+        "ok\nsync {ONE_CELL}\ncopy\nbook en UTC workbook\nsheet 1 visible 1 0 0 - Sheet1\ncell A1 - value 1\nend\n"
+    )?;
+    assert_eq!(rt; output.bytes(), expected.as_bytes());
+    Ok(())
+}
+
+/// A failing end is told, and nothing but a front of the output is written.
+#[test]
+fn failing_ends_are_told(rt: HostRuntime) -> Result<(), Fail> {
+    let (outcome, output) = run_failing(rt.alloc(), "set 0 A1 1\n", &[1], &[])?;
+    assert_eq!(rt; outcome, Err(RunError::ReadFault));
+    assert_eq!(rt; status_of(&outcome), 2);
+    assert!(rt; output.bytes().is_empty());
+    let (outcome, output) = run_failing(rt.alloc(), "set 0 A1 1\n", &[], &[0])?;
+    assert_eq!(rt; outcome, Err(RunError::WriteFault));
+    assert_eq!(rt; status_of(&outcome), 3);
+    assert!(rt; output.bytes().is_empty());
+    Ok(())
+}
+
+/// A line that is no text is a bad line.
+#[test]
+fn bytes_that_are_no_text(rt: HostRuntime) -> Result<(), Fail> {
+    let alloc = rt.alloc();
+    let mut input = SureSource::new([0xFF, 0xFE].to_vec(alloc)?);
+    let mut output = SureSink::new(Vec::new(alloc));
+    assert_eq!(rt; run_script_surely(alloc, &mut input, &mut output), Ok(()));
+    assert!(rt; output.bytes().starts_with(b"error BadLine\ncopy\n"));
+    Ok(())
+}
+
+/// A script of line feeds.
+fn run_line_feeds(alloc: Global, count: usize) -> Result<(Result<(), RunError>, SureSink), Fail> {
+    let mut script = Vec::with_capacity(alloc, count)?;
+    script.resize(count, b'\n')?;
+    let mut input = SureSource::new(script);
+    let mut output = SureSink::new(Vec::new(alloc));
+    let outcome = run_script_surely(alloc, &mut input, &mut output);
+    Ok((outcome, output))
+}
+
+/// The longest script is run, and one byte more is too long.
+#[test]
+fn a_script_may_have_16_777_216_bytes(rt: HostRuntime) -> Result<(), Fail> {
+    let (outcome, output) = run_line_feeds(rt.alloc(), MOST_BYTES)?;
+    assert_eq!(rt; outcome, Ok(()));
+    let expected = format!(in rt.alloc(); "copy\n{NEW_BOOK}")?;
+    assert_eq!(rt; output.bytes(), expected.as_bytes());
+    let (outcome, output) = run_line_feeds(rt.alloc(), MOST_BYTES + 1)?;
+    assert_eq!(rt; outcome, Err(RunError::TooLong));
+    assert_eq!(rt; status_of(&outcome), 4);
+    assert!(rt; output.bytes().is_empty());
+    Ok(())
+}

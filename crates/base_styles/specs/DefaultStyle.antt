@@ -1,5 +1,5 @@
 -- The style of a cell that was given none.
-use Rattle.std.specs.Prelude.{pos, true, false, codes}
+use Rattle.std.specs.Prelude.{pos, false, codes}
 use Rattle.std.specs.declared.option.Option.TheVariants.{None as Nothing}
 use Rattle.base_styles.specs.declared.color.Color.TheVariants.{None}
 use Rattle.base_styles.specs.declared.style.Style.{Style}

@@ -1,5 +1,5 @@
 -- `==` of styles is equality of their values.
-use Rattle.std.proofs.Common.{◌≡◌, refl, ap}
+use Rattle.std.proofs.Common.{◌≡◌, ap}
 use Rattle.std.specs.Bool.{Decides}
 use Rattle.std.specs.Cmp.{booleans_Decides, signed_Decides}
 use Rattle.std.specs.Cmp.Lexicographic.{bytes_decides}

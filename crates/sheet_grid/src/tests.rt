@@ -18,9 +18,10 @@ fn with_ample_memory(rt: HostRuntime) -> Result<(), Fail> {
     let alloc = rt.alloc();
     let mut book = Workbook::new_empty(alloc, "book", Locale::De, Zone::Utc)?;
     let style = Style::new(alloc)?;
-    let five = Decimal {
-        mantissa: 5,
-        places: 0,
+    let read = Decimal::read("5", Locale::De);
+    assert!(rt; read.is_some());
+    let Some(five) = read else {
+        return Ok(());
     };
     let sheet = book.worksheet_mut(0)?;
     sheet.set_cell_with_number(1, 1, five, &style)?;
@@ -37,7 +38,7 @@ fn with_ample_memory(rt: HostRuntime) -> Result<(), Fail> {
     );
     assert_eq!(rt; sheet.cells().count(), 6);
 
-    let content = Content::Number(five);
+    let content = Content::Boolean(true);
     book.put_cell(0, 9, 9, Some(Cell { content, style }))?;
     assert!(rt; same(&copy_of(&book)?, &book));
     book.put_cell_by_id(1, 9, 9, None)?;

@@ -1,7 +1,8 @@
 -- For which states of the machine a session stands.
 use Rattle.std.proofs.Common.{◌≡◌, ◌++◌, ℕ, List, [], ◌∷◌}
-use Rattle.std.specs.Prelude.{OnOk}
+use Rattle.std.specs.Prelude.{OnOk, IsOkUnless}
 use Rattle.base_values.specs.declared.EditError.{EditError}
+use Rattle.base_values.specs.declared.EditError.TheVariants.{NoMemory}
 use Rattle.std.specs.declared.result.Result.{Result}
 use Rattle.script_lines.specs.Parts.{without_return}
 use Rattle.script_editor.specs.Machine.{State}
@@ -15,10 +16,12 @@ pub record SessionStands (session : Session) (s : State) : Type 0 where
   pub editor : StandsFor session.editor s
   pub copy : session.copy ≡ s.synced
 
--- a command wrote its answer and took the session to what stands for the next state, unless memory ran out
+-- a command wrote its answer and took the session to what stands for the next state, unless memory ran out: nothing else stops
+-- it, so no line is answered by a refused diff
 pub record Runs (result : Result (Unit {0}) EditError) (old new : Session) (reply : List ℕ) (next : State) : Type 0 where
   pub out : OnOk result (new.out.items ≡ old.out.items ++ reply)
   pub stands : OnOk result (SessionStands new next)
+  pub only : IsOkUnless result NoMemory
 
 -- every state that lines go through is sound, from this one to the last
 abbrev pub SoundThrough : List (List ℕ) → State → Type 0

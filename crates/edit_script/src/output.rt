@@ -1,4 +1,5 @@
-ghost use Rattle.std.specs.Prelude.{◌≡◌, OnOk, IfOk};
+ghost use Rattle.std.specs.Prelude.{◌≡◌, OnOk, IfOk, IsOkUnless};
+ghost use Rattle.base_values.specs.declared.EditError.TheVariants.{NoMemory};
 ghost use Rattle.script_editor.specs.Machine.{start};
 ghost use Rattle.edit_script.specs.Script.{lines_of, output_of};
 ghost use Rattle.edit_script.specs.Session.{SoundThrough};
@@ -11,6 +12,7 @@ use std::alloc::Global;
 /// All that a script writes. Only want of memory is refused.
 pub(crate) fn output_text(alloc: Global, script: &[u8]) -> Result<Vec<u8>, EditError>
     ensures text { IfOk result (λ text. text.items ≡ output_of script.now) }
+    ensures only { IsOkUnless result NoMemory }
     ensures sound { OnOk result (SoundThrough (lines_of script.now) start) }
 {
     let mut session = Session::new(alloc)?;

@@ -24,6 +24,7 @@ pub(crate) struct Session {
 fn push_refusal(out: &mut Vec<u8>, error: EditError) -> Result<(), EditError>
     ensures text { OnOk result (out.new.items ≡ out.old.items ++ refusal error) }
     ensures memory { OnOk result (error ≢ NoMemory) }
+    ensures only { IsOkUnless result NoMemory }
 {
     if let EditError::NoMemory = error {
         return Err(EditError::NoMemory);
@@ -37,6 +38,7 @@ fn push_refusal(out: &mut Vec<u8>, error: EditError) -> Result<(), EditError>
 fn push_outcome(out: &mut Vec<u8>, done: Result<(), EditError>) -> Result<(), EditError>
     ensures text { OnOk result (out.new.items ≡ out.old.items ++ outcome done) }
     ensures memory { OnOk result (IfErr done (λ error. error ≢ NoMemory)) }
+    ensures only { IsOkUnless result NoMemory }
 {
     match done {
         Ok(()) => {
@@ -65,6 +67,7 @@ fn push_content(
 ) -> Result<(), EditError>
     ensures text { OnOk result (out.new.items ≡ out.old.items ++ got found) }
     ensures memory { OnOk result (IfErr found (λ error. error ≢ NoMemory)) }
+    ensures only { IsOkUnless result NoMemory }
 {
     match found {
         Ok(content) => {

@@ -1,0 +1,8 @@
+//! Texts of formulas: a tree as a formula of the reader's own language and locale, in English, with
+//! corners by row and column numbers, or as Excel stores it. The layers above see each text as one
+//! definition, `printed`, at the form's style; it says where parentheses stand.
+#![tactic(auto)]
+
+mod kind;
+mod reference;
+mod style;

@@ -4,5 +4,6 @@
 #![tactic(auto)]
 
 mod kind;
+mod pieces;
 mod reference;
 mod style;

@@ -4,6 +4,12 @@ use Rattle.formula_print.specs.declared.kind.Kind.{Kind}
 use Rattle.formula_print.specs.declared.kind.Kind.TheVariants as k
 use Rattle.formula_print.specs.declared.kind.Need.{Need}
 use Rattle.formula_print.specs.declared.kind.Need.TheVariants as need
+use Rattle.formula_print.specs.declared.kind.Infix.{Infix}
+use Rattle.formula_print.specs.declared.kind.Infix.TheVariants as op
+use Rattle.formula_tree.specs.declared.CompareKind.{CompareKind}
+use Rattle.formula_tree.specs.declared.ProductKind.{ProductKind}
+use Rattle.formula_tree.specs.declared.SumKind.{SumKind}
+use Rattle.formula_tree.specs.declared.SumKind.TheVariants.{Add, Subtract}
 
 -- the operators from the loosest to the tightest, and above them all that is no operator
 abbrev pub level_of : Kind → ℕ
@@ -60,3 +66,20 @@ fits need.Base kind = is_simple kind || is_sign kind
 fits need.Exponent kind = is_simple kind
 fits (need.LeftOfColon cell_follows) kind = (nat_le 10 (level_of kind) && not (is_number_or_name kind)) && not (cell_follows && is_reference kind)
 fits need.Callee kind = is_lambda kind
+
+-- what the left operand needs: an operator of its own level stands there without parentheses, since operators group to the left
+abbrev pub left_need : Infix → Need
+left_need (op.Compare kind) = need.Level 1
+left_need op.Concatenate = need.Level 2
+left_need (op.Sum kind) = need.Level 3
+left_need (op.Product kind) = need.Level 4
+left_need op.Power = need.Base
+
+-- what the right operand needs: a sum stands there without parentheses only behind `+`
+abbrev pub right_need : Infix → Need
+right_need (op.Compare kind) = need.Level 2
+right_need op.Concatenate = need.Level 3
+right_need (op.Sum Add) = need.Level 3
+right_need (op.Sum Subtract) = need.Level 4
+right_need (op.Product kind) = need.Level 5
+right_need op.Power = need.Exponent

@@ -1,3 +1,5 @@
 pub mod Kinds
 pub mod References
 pub mod Pieces
+pub mod Print
+pub mod PrintEquations

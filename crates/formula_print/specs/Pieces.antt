@@ -19,6 +19,8 @@ use Rattle.formula_tree.specs.declared.SumKind.TheVariants as s
 use Rattle.formula_tree.specs.declared.ProductKind.{ProductKind}
 use Rattle.formula_tree.specs.declared.ProductKind.TheVariants as p
 use Rattle.formula_tree.specs.declared.Parameter.{Parameter}
+use Rattle.formula_print.specs.declared.kind.Infix.{Infix}
+use Rattle.formula_print.specs.declared.kind.Infix.TheVariants as op
 use Rattle.formula_print.specs.declared.style.Style.{Style}
 use Rattle.formula_print.specs.declared.style.Dialect.{Dialect}
 use Rattle.formula_print.specs.declared.style.Dialect.TheVariants.{Plain, Excel}
@@ -48,6 +50,14 @@ abbrev pub lambda_word : Dialect → List ℕ
 lambda_word Plain = codes "LAMBDA"
 lambda_word Excel = codes "_xlfn.LAMBDA"
 
+-- the function that Excel stores for `x#`
+unfoldable pub spill_word : List ℕ
+spill_word = codes "_xlfn.ANCHORARRAY"
+
+-- the function that it stores for `@x`
+unfoldable pub single_word : List ℕ
+single_word = codes "_xlfn.SINGLE"
+
 abbrev pub compare_sign : CompareKind → List ℕ
 compare_sign c.Equal = codes "="
 compare_sign c.NotEqual = codes "<>"
@@ -63,6 +73,13 @@ sum_sign s.Subtract = codes "-"
 abbrev pub product_sign : ProductKind → List ℕ
 product_sign p.Multiply = codes "*"
 product_sign p.Divide = codes "/"
+
+abbrev pub infix_sign : Infix → List ℕ
+infix_sign (op.Compare kind) = compare_sign kind
+infix_sign op.Concatenate = codes "&"
+infix_sign (op.Sum kind) = sum_sign kind
+infix_sign (op.Product kind) = product_sign kind
+infix_sign op.Power = codes "^"
 
 -- ---- arrays
 

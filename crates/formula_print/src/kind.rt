@@ -1,5 +1,7 @@
 ghost use Rattle.std.specs.Prelude.{◌≡◌};
-ghost use Rattle.formula_print.specs.Kinds.{level_of, is_simple, is_percent, is_sign, is_number_or_name, is_reference, is_lambda, fits};
+ghost use Rattle.formula_print.specs.Kinds.{level_of, is_simple, is_percent, is_sign, is_number_or_name, is_reference, is_lambda, fits, left_need, right_need};
+
+use formula_tree::{CompareKind, ProductKind, SumKind};
 
 /// What the rules of parentheses see of a tree.
 #[derive(Clone, Copy)]
@@ -39,6 +41,45 @@ pub(crate) enum Need {
     LeftOfColon { cell_follows: bool },
     /// What a lambda call calls.
     Callee,
+}
+
+/// An operator between two operands, without `:`.
+#[derive(Clone, Copy)]
+pub(crate) enum Infix {
+    Compare(CompareKind),
+    Concatenate,
+    Sum(SumKind),
+    Product(ProductKind),
+    Power,
+}
+
+impl Infix {
+    /// What the left operand must be to stand without parentheses.
+    pub(crate) fn left_need(self) -> Need
+        ensures { result ≡ left_need self }
+    {
+        match self {
+            Infix::Compare(_) => Need::Level(1),
+            Infix::Concatenate => Need::Level(2),
+            Infix::Sum(_) => Need::Level(3),
+            Infix::Product(_) => Need::Level(4),
+            Infix::Power => Need::Base,
+        }
+    }
+
+    /// What the right operand must be to stand without parentheses.
+    pub(crate) fn right_need(self) -> Need
+        ensures { result ≡ right_need self }
+    {
+        match self {
+            Infix::Compare(_) => Need::Level(2),
+            Infix::Concatenate => Need::Level(3),
+            Infix::Sum(SumKind::Add) => Need::Level(3),
+            Infix::Sum(SumKind::Subtract) => Need::Level(4),
+            Infix::Product(_) => Need::Level(5),
+            Infix::Power => Need::Exponent,
+        }
+    }
 }
 
 impl Kind {

@@ -5,5 +5,6 @@
 
 mod kind;
 mod pieces;
+mod print;
 mod reference;
 mod style;

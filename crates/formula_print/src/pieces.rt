@@ -6,6 +6,7 @@ ghost use Rattle.base_tables.specs.Tables.{lowered};
 ghost use Rattle.base_decimal.specs.Printed.{printed as decimal_text};
 ghost use Rattle.formula_print.specs.Pieces as spec;
 
+use crate::kind::Infix;
 use crate::style::{Dialect, Style};
 use base_decimal::Decimal;
 use base_tables::{Function, Locale};
@@ -84,7 +85,23 @@ pub(crate) fn lambda_word(dialect: Dialect) -> &'static str
     }
 }
 
-pub(crate) fn compare_sign(kind: CompareKind) -> &'static str
+/// The function that Excel stores for `x#`.
+#[tactic(auto, unfolding(crate::specs::Pieces::spill_word))]
+pub(crate) fn spill_word() -> &'static str
+    ensures { result.now ≡ spec.spill_word }
+{
+    "_xlfn.ANCHORARRAY"
+}
+
+/// The function that it stores for `@x`.
+#[tactic(auto, unfolding(crate::specs::Pieces::single_word))]
+pub(crate) fn single_word() -> &'static str
+    ensures { result.now ≡ spec.single_word }
+{
+    "_xlfn.SINGLE"
+}
+
+fn compare_sign(kind: CompareKind) -> &'static str
     ensures { result.now ≡ spec.compare_sign kind }
 {
     match kind {
@@ -97,7 +114,7 @@ pub(crate) fn compare_sign(kind: CompareKind) -> &'static str
     }
 }
 
-pub(crate) fn sum_sign(kind: SumKind) -> &'static str
+fn sum_sign(kind: SumKind) -> &'static str
     ensures { result.now ≡ spec.sum_sign kind }
 {
     match kind {
@@ -106,12 +123,25 @@ pub(crate) fn sum_sign(kind: SumKind) -> &'static str
     }
 }
 
-pub(crate) fn product_sign(kind: ProductKind) -> &'static str
+fn product_sign(kind: ProductKind) -> &'static str
     ensures { result.now ≡ spec.product_sign kind }
 {
     match kind {
         ProductKind::Multiply => "*",
         ProductKind::Divide => "/",
+    }
+}
+
+/// What stands between the operands.
+pub(crate) fn infix_sign(operator: Infix) -> &'static str
+    ensures { result.now ≡ spec.infix_sign operator }
+{
+    match operator {
+        Infix::Compare(kind) => compare_sign(kind),
+        Infix::Concatenate => "&",
+        Infix::Sum(kind) => sum_sign(kind),
+        Infix::Product(kind) => product_sign(kind),
+        Infix::Power => "^",
     }
 }
 

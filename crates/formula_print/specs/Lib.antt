@@ -3,3 +3,4 @@ pub mod References
 pub mod Pieces
 pub mod Print
 pub mod PrintEquations
+pub mod Forms

@@ -3,8 +3,11 @@
 //! definition, `printed`, at the form's style; it says where parentheses stand.
 #![tactic(auto)]
 
+mod forms;
 mod kind;
 mod pieces;
 mod print;
 mod reference;
 mod style;
+
+pub use forms::{to_english_string, to_localized_string, to_rc_format};

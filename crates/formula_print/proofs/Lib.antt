@@ -1,2 +1,3 @@
 pub mod Doubling
 pub mod Joins
+pub mod Scopes

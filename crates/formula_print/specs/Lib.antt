@@ -4,3 +4,4 @@ pub mod Pieces
 pub mod Print
 pub mod PrintEquations
 pub mod Forms
+pub mod Scope

@@ -8,6 +8,7 @@ mod kind;
 mod pieces;
 mod print;
 mod reference;
+mod scope;
 mod style;
 
 pub use forms::{to_english_string, to_localized_string, to_rc_format};

@@ -9,8 +9,9 @@ use Rattle.formula_tree.specs.declared.CellReferenceRC.{CellReferenceRC}
 use Rattle.formula_tree.specs.declared.Node.{Node}
 use Rattle.formula_print.specs.declared.style.Style.{Style}
 use Rattle.formula_print.specs.declared.style.Corners.TheVariants.{Letters, Numbers}
-use Rattle.formula_print.specs.declared.style.Dialect.TheVariants.{Plain}
+use Rattle.formula_print.specs.declared.style.Dialect.TheVariants.{Plain, Excel}
 use Rattle.formula_print.specs.Print.{text_of}
+use Rattle.formula_print.specs.Scope.{outermost, stored}
 
 -- the place of the formula's cell
 abbrev pub place_of : CellReferenceRC → Position
@@ -38,3 +39,11 @@ english_text context = text_of (english_style context)
 -- a formula's text with corners by numbers, which is the same at each place that the formula is filled to
 unfoldable pub row_column_text : Node → List ℕ
 row_column_text = text_of row_column_style
+
+-- as in English, with what older programs don't know as calls
+abbrev pub excel_style : CellReferenceRC → Style
+excel_style context = record { corners = Letters (place_of context); locale = locale.En; language = language.En; dialect = Excel }
+
+-- a formula's text in a file of Excel: bound names are marked, and the tree is printed
+unfoldable pub excel_text : CellReferenceRC → Node → List ℕ
+excel_text context tree = text_of (excel_style context) (stored outermost tree)

@@ -5,3 +5,4 @@ pub mod Print
 pub mod PrintEquations
 pub mod Forms
 pub mod Scope
+pub mod ScopeEquations

@@ -1,5 +1,5 @@
 -- A tree as Excel stores it: each use and each declaration of a bound name is marked by a prefix.
-use Rattle.std.specs.Prelude.{ℕ, ◌%◌, ◌==◌, Bool, true, false, ◌&&◌, if◌then◌else◌, nat_le, Option, Some, None, List, [], ◌∷◌, ◌++◌, map, length, codes}
+use Rattle.std.specs.Prelude.{ℕ, ◌%◌, ◌==◌, Bool, true, false, not, ◌&&◌, if◌then◌else◌, nat_le, Option, Some, None, List, [], ◌∷◌, ◌++◌, map, length, codes}
 use Rattle.std.specs.List.{list_any}
 use Rattle.base_tables.specs.Tables.{same_text}
 use Rattle.base_tables.specs.declared.Function.{Function}
@@ -60,12 +60,23 @@ abbrev pub bind_place : Scope → Option (List ℕ) → Scope
 bind_place scope (Some name) = bind scope name
 bind_place scope None = scope
 
--- the arguments of `LET` in turns, a name's place and a value, and last what is computed. A name is bound from its own value on
+-- an argument of `LET`, in a name's place or not
+abbrev pub argument : Bool → Scope → Option (List ℕ) → (Scope → Node) → Node
+argument is_place scope declared within = if is_place then place_of scope declared within else within scope
+
+-- what is bound behind it
+abbrev pub bind_argument : Bool → Scope → Option (List ℕ) → Scope
+bind_argument is_place scope declared = if is_place then bind_place scope declared else scope
+
+abbrev pub is_some_more : List Scoped → Bool
+is_some_more [] = false
+is_some_more (a ∷ later) = true
+
+-- the arguments of `LET` in turns: a name's place and a value, and last what is computed. A name is bound from its own value on
 abbrev pub let_arguments : Bool → Scope → List Scoped → List Node
 let_arguments is_place scope [] = []
-let_arguments is_place scope (last ∷ []) = last.within scope ∷ []
-let_arguments true scope (place ∷ value ∷ later) = place_of scope place.declares place.within ∷ let_arguments false (bind_place scope place.declares) (value ∷ later)
-let_arguments false scope (value ∷ place ∷ later) = value.within scope ∷ let_arguments true scope (place ∷ later)
+let_arguments is_place scope (a ∷ later) =
+    argument (is_place && is_some_more later) scope a.declares a.within ∷ let_arguments (not is_place) (bind_argument (is_place && is_some_more later) scope a.declares) later
 
 -- an odd count of at least 3
 abbrev pub binds_names : ℕ → Bool

@@ -1,9 +1,11 @@
 ghost use Rattle.std.specs.Prelude.{◌≡◌, IfOk, IsOkUnless, string_bytes};
 ghost use Rattle.base_values.specs.declared.EditError.TheVariants.{NoMemory};
-ghost use Rattle.formula_print.specs.Forms.{localized_style, row_column_style, localized_text, english_text, row_column_text};
+ghost use Rattle.formula_print.specs.Forms.{localized_style, row_column_style, excel_style, excel_text, localized_text, english_text, row_column_text};
 ghost use Rattle.formula_print.specs.Print.{text_of};
 
 use crate::print::print_node;
+use crate::scope::Scope;
+use crate::store::stored;
 use crate::style::{Corners, Dialect, Style};
 use base_tables::{Language, Locale};
 use base_values::EditError;
@@ -72,7 +74,11 @@ pub fn to_english_string(
     ensures text { IfOk result (λ text. string_bytes text ≡ english_text context.now node.now) }
     ensures only { IsOkUnless result NoMemory }
 {
-    Ok(text_in(alloc, localized_style(context, Locale::En, Language::En), node)?)
+    Ok(text_in(
+        alloc,
+        localized_style(context, Locale::En, Language::En),
+        node,
+    )?)
 }
 
 /// The text of a formula with its corners by numbers, as `R3C4`, and in brackets how far a relative
@@ -86,4 +92,56 @@ pub fn to_rc_format(alloc: Global, node: &Node) -> Result<String, EditError>
     ensures only { IsOkUnless result NoMemory }
 {
     Ok(text_in(alloc, row_column_style(), node)?)
+}
+
+/// As in English, with what older programs don't know as calls of `_xlfn.` functions.
+fn excel_style(context: &CellReferenceRC) -> Style
+    ensures { result ≡ excel_style context.now }
+{
+    Style {
+        corners: Corners::Letters(context.place()),
+        locale: Locale::En,
+        language: Language::En,
+        dialect: Dialect::Excel,
+    }
+}
+
+#[tactic(auto, unfolding(crate::specs::Forms::excel_text))]
+fn excel_text(alloc: Global, node: &Node, context: &CellReferenceRC) -> Result<String, AllocError>
+    ensures { IfOk result (λ text. string_bytes text ≡ excel_text context.now node.now) }
+{
+    let mut scope = Scope::outermost(alloc);
+    let tree = stored(alloc, node, &mut scope)?;
+    text_in(alloc, excel_style(context), &tree)
+}
+
+/// The text of a formula that stands in the cell `context`, as a file of Excel stores it: English
+/// words and signs, `_xlfn.` before `LET` and `LAMBDA`, `_xlfn.ANCHORARRAY(x)` for `x#`,
+/// `_xlfn.SINGLE(x)` for `@x`, and `_xlpm.` before the names that `LET` and `LAMBDA` bind, or
+/// `_xlop.` where an optional parameter is declared.
+///
+/// `NoMemory` is the only error.
+pub fn to_excel_string(
+    alloc: Global,
+    node: &Node,
+    context: &CellReferenceRC,
+) -> Result<String, EditError>
+    ensures text { IfOk result (λ text. string_bytes text ≡ excel_text context.now node.now) }
+    ensures only { IsOkUnless result NoMemory }
+{
+    Ok(excel_text(alloc, node, context)?)
+}
+
+/// The same text, of a formula that was entered as an array.
+///
+/// `NoMemory` is the only error.
+pub fn to_excel_array_formula_string(
+    alloc: Global,
+    node: &Node,
+    context: &CellReferenceRC,
+) -> Result<String, EditError>
+    ensures text { IfOk result (λ text. string_bytes text ≡ excel_text context.now node.now) }
+    ensures only { IsOkUnless result NoMemory }
+{
+    Ok(excel_text(alloc, node, context)?)
 }

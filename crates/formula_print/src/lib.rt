@@ -9,6 +9,10 @@ mod pieces;
 mod print;
 mod reference;
 mod scope;
+mod store;
 mod style;
 
-pub use forms::{to_english_string, to_localized_string, to_rc_format};
+pub use forms::{
+    to_english_string, to_excel_array_formula_string, to_excel_string, to_localized_string,
+    to_rc_format,
+};

@@ -33,7 +33,11 @@ fn with_prefix(alloc: Global, prefix: &str, name: &Text) -> Result<Text, AllocEr
 fn stored_parameter(alloc: Global, parameter: &Parameter) -> Result<Parameter, AllocError>
     ensures { IfOk result (λ stored. stored ≡ spec.stored_parameter parameter.now) }
 {
-    let prefix = if parameter.optional { "_xlop." } else { "_xlpm." };
+    let prefix = if parameter.optional {
+        "_xlop."
+    } else {
+        "_xlpm."
+    };
     Ok(Parameter {
         name: with_prefix(alloc, prefix, &parameter.name)?,
         optional: false,

@@ -111,7 +111,7 @@ fn excel_text(alloc: Global, node: &Node, context: &CellReferenceRC) -> Result<S
     ensures { IfOk result (λ text. string_bytes text ≡ excel_text context.now node.now) }
 {
     let mut scope = Scope::outermost(alloc);
-    let tree = stored(alloc, node, &mut scope)?;
+    let tree = stored(node, &mut scope)?;
     text_in(alloc, excel_style(context), &tree)
 }
 

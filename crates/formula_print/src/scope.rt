@@ -44,20 +44,6 @@ fn stored_parameter(alloc: Global, parameter: &Parameter) -> Result<Parameter, A
     })
 }
 
-/// The parameters of a lambda where they are declared.
-pub(crate) fn stored_parameters(
-    alloc: Global,
-    parameters: &[Parameter],
-) -> Result<Items<Parameter>, AllocError>
-    ensures { IfOk result (λ stored. stored ≡ map spec.stored_parameter parameters.now) }
-{
-    let mut stored = Items::empty(alloc);
-    for parameter in parameters {
-        stored.push(stored_parameter(alloc, parameter)?)?;
-    }
-    Ok(stored)
-}
-
 impl Scope {
     /// No name is bound outside of lambdas and `LET`.
     pub(crate) fn outermost(alloc: Global) -> Scope
@@ -76,25 +62,40 @@ impl Scope {
     }
 
     /// A name where it is used.
-    pub(crate) fn used_name(&self, alloc: Global, name: &Text) -> Result<Text, AllocError>
+    pub(crate) fn used_name(&self, name: &Text) -> Result<Text, AllocError>
         ensures { IfOk result (λ text. text ≡ spec.used_name self.now name.now) }
     {
         if self.is_marked(name) {
-            with_prefix(alloc, "_xlpm.", name)
+            with_prefix(self.names.allocator(), "_xlpm.", name)
         } else {
             name.clone()
         }
     }
 
     /// A name where `LET` declares it.
-    pub(crate) fn declared_name(&self, alloc: Global, name: &Text) -> Result<Text, AllocError>
+    pub(crate) fn declared_name(&self, name: &Text) -> Result<Text, AllocError>
         ensures { IfOk result (λ text. text ≡ spec.declared_name self.now name.now) }
     {
         if self.marks {
-            with_prefix(alloc, "_xlpm.", name)
+            with_prefix(self.names.allocator(), "_xlpm.", name)
         } else {
             name.clone()
         }
+    }
+
+    /// The parameters of a lambda where they are declared.
+    pub(crate) fn stored_parameters(
+        &self,
+        parameters: &[Parameter],
+    ) -> Result<Items<Parameter>, AllocError>
+        ensures { IfOk result (λ stored. stored ≡ map spec.stored_parameter parameters.now) }
+    {
+        let alloc = self.names.allocator();
+        let mut stored = Items::empty(alloc);
+        for parameter in parameters {
+            stored.push(stored_parameter(alloc, parameter)?)?;
+        }
+        Ok(stored)
     }
 
     /// Binds a name from here on.

@@ -1,14 +1,13 @@
 -- Trees stored one after the other, and scopes that are left again.
 use Rattle.std.proofs.Common.{◌≡◌, ℕ, ◌+◌, ◌<◌, List, [], ◌∷◌, ◌++◌, length, get_or, take, drop, map, not, ◌&&◌, Bool, true, false, Option, Some, None, refl, ap, subst, sym, ◌∙◌, append_assoc, append-nil, arith}
-use Rattle.std.specs.Prelude.{nat_lt, if◌then◌else◌, ◌-◌}
+use Rattle.std.specs.Prelude.{nat_lt, ◌-◌}
 use Rattle.std.proofs.lemmas.Bool.Decides.{nat_tests}
 use Rattle.std.proofs.lemmas.List.{take_more, map-append, drop_more, length-map, length-drop}
 use Rattle.std.proofs.Math.Seq.{take-append_seam}
 use Rattle.formula_tree.specs.declared.Node.{Node}
 use Rattle.formula_tree.specs.declared.Parameter.{Parameter}
 use Rattle.formula_print.specs.declared.scope.Scope.{Scope}
-use Rattle.formula_print.specs.Scope.{Scoped, bind_parameters, scoped, stored, declares, all_within, let_arguments, is_some_more, argument, bind_argument, bind_place, call_arguments, binds_names}
-use Rattle.base_tables.specs.declared.Function.TheVariants as f
+use Rattle.formula_print.specs.Scope.{Scoped, bind_parameters, scoped, stored, declares, all_within, let_arguments, is_some_more, argument, bind_argument, bind_place}
 
 -- the names of a lambda are forgotten behind it
 pub forgets : (scope : Scope) (parameters : List Parameter) → take (length scope.names) (bind_parameters scope parameters).names ≡ scope.names

@@ -6,9 +6,6 @@ use Rattle.formula_print.specs.declared.kind.Need.{Need}
 use Rattle.formula_print.specs.declared.kind.Need.TheVariants as need
 use Rattle.formula_print.specs.declared.kind.Infix.{Infix}
 use Rattle.formula_print.specs.declared.kind.Infix.TheVariants as op
-use Rattle.formula_tree.specs.declared.CompareKind.{CompareKind}
-use Rattle.formula_tree.specs.declared.ProductKind.{ProductKind}
-use Rattle.formula_tree.specs.declared.SumKind.{SumKind}
 use Rattle.formula_tree.specs.declared.SumKind.TheVariants.{Add, Subtract}
 
 -- the operators from the loosest to the tightest, and above them all that is no operator

@@ -1,0 +1,31 @@
+use base_tables::{Language, Locale};
+use base_values::Position;
+
+/// How a form writes what other forms write differently.
+#[derive(Clone, Copy)]
+pub(crate) struct Style {
+    pub corners: Corners,
+    /// The decimal sign, and the separators of arguments and of arrays.
+    pub locale: Locale,
+    /// The words of functions and booleans.
+    pub language: Language,
+    pub dialect: Dialect,
+}
+
+/// How a form writes the corners of references and ranges.
+#[derive(Clone, Copy)]
+pub(crate) enum Corners {
+    /// As `B$3`, seen from the formula's place.
+    Letters(Position),
+    /// As `R3C[1]`.
+    Numbers,
+}
+
+/// How a form writes what older programs don't know.
+#[derive(Clone, Copy, PartialEq, Eq)]
+pub(crate) enum Dialect {
+    /// `LET`, `LAMBDA`, `x#` and `@x`.
+    Plain,
+    /// With `_xlfn.`, and `#` and `@` as calls.
+    Excel,
+}

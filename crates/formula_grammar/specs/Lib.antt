@@ -1,1 +1,4 @@
 pub mod Equals
+pub mod Words
+pub mod Grammar
+pub mod Reading

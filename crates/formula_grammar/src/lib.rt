@@ -3,6 +3,9 @@
 //! `Profile` and `read_tokens`.
 #![tactic(auto)]
 
+mod after_item;
+mod profile;
 mod token;
 
+pub use profile::Profile;
 pub use token::{CellMark, Token};

@@ -220,7 +220,7 @@ abbrev mutual
   pub primary_tokens : {p : Profile} → Primary p → List Token
   primary_tokens (number value) = t.Number value ∷ []
   primary_tokens (text value) = t.Text value ∷ []
-  primary_tokens (error value) = t.Error value ∷ []
+  primary_tokens (error x) = t.Error x ∷ []
   primary_tokens (reference sheet mark at is) = t.Reference sheet mark ∷ []
   primary_tokens (range sheet first second start stop is also) = t.Range sheet first second ∷ []
   primary_tokens (parentheses a) = t.OpenParenthesis ∷ compare_tokens a ++ t.CloseParenthesis ∷ []
@@ -293,7 +293,7 @@ abbrev mutual
   pub primary_tree : {p : Profile} → Primary p → Node
   primary_tree (number value) = n.Number value
   primary_tree (text value) = n.Text value
-  primary_tree (error value) = n.Error value
+  primary_tree (error x) = n.Error x
   primary_tree {p} (reference sheet mark at is) = n.Reference sheet (corner_of p.place mark at)
   primary_tree {p} (range sheet first second start stop is also) = range_node p.place sheet (corner_of p.place first start) (corner_of p.place second stop)
   primary_tree (parentheses a) = compare_tree a
@@ -366,7 +366,7 @@ abbrev mutual
   pub primary_open : {p : Profile} → Primary p → ℕ
   primary_open (number value) = 0
   primary_open (text value) = 0
-  primary_open (error value) = 0
+  primary_open (error x) = 0
   primary_open (reference sheet mark at is) = 0
   primary_open (range sheet first second start stop is also) = 0
   primary_open (parentheses a) = suc (compare_open a)

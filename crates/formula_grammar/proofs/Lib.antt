@@ -5,3 +5,7 @@ pub mod Follow
 pub mod Starts
 pub mod Arrays
 pub mod Complete
+pub mod Steps
+pub mod Separators
+pub mod Lists
+pub mod Sound

@@ -6,6 +6,7 @@ pub mod Starts
 pub mod Arrays
 pub mod Complete
 pub mod Steps
-pub mod Separators
+pub mod Parting
 pub mod Lists
 pub mod Sound
+pub mod Laws

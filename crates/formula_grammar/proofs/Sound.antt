@@ -25,7 +25,7 @@ use Rattle.formula_grammar.specs.Grammar.{Compare, Concatenation, Sum, Product, 
 use Rattle.formula_grammar.specs.Reading.{Outcome, Parser, and_then, ◌>>=◌, ◌>>◌, pure, with_rest, made, make, compare_sign, ampersand, sum_sign, product_sign, power_sign, percent_sign, colon_sign, hash, opening, closing, is_separator, separator, is_empty_here, nothing, parameters, reference_at, range_at, enclosed, argument, arguments_from, arguments_by, arguments, function, lambda, call, named, primary, spill, colon, single, percent, signed, power, product, sum, concatenation, compare, whole}
 use Rattle.formula_grammar.proofs.Depths.{depth_called, depth_worded, depth_range_node}
 use Rattle.formula_grammar.proofs.Steps.{Takes, found, some_pair, none_some, bind_some, make_some, rest_some, chain_sound}
-use Rattle.formula_grammar.proofs.Separators.{separator_of, separator_is}
+use Rattle.formula_grammar.proofs.Parting.{separator_of, separator_is}
 use Rattle.formula_grammar.proofs.Lists.{array_sound, parameters_sound}
 
 -- a derivation of these tokens and this tree, within the limits

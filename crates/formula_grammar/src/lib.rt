@@ -4,7 +4,11 @@
 #![tactic(auto)]
 
 mod after_item;
+mod cursor;
+mod fault;
+mod found;
 mod profile;
+mod separators;
 mod token;
 
 pub use profile::Profile;

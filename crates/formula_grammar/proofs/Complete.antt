@@ -23,7 +23,7 @@ use Rattle.formula_grammar.proofs.Chains.{chain_starts, chain_turns, chain_ends,
 use Rattle.formula_grammar.proofs.Follow.{EndsAt, ends_later, ends_compare, ends_concatenation, ends_sum, ends_product, ends_power, ends_percent, ends_colon, ends_spill, ends_lambda, ends_word, ends_at_separator, reads_compare, reads_sum, reads_product, binds_compare, binds_sum, binds_product, separator_reads, separator_empty}
 use Rattle.formula_grammar.proofs.Starts.{unsigned, unsingled, starts_given, starts_no_close, compare_starts, percent_starts, colon_starts, compare_no_parameter}
 use Rattle.formula_grammar.proofs.Turns.{compare_turns, concatenation_turns, sum_turns, product_turns, power_turns, percent_turns, colon_turns, spill_turns, lambda_turns, compare_turns-lt, concatenation_turns-lt, sum_turns-lt, product_turns-lt, power_turns-lt, percent_turns-lt, colon_turns-lt, spill_turns-lt, lambda_turns-lt}
-use Rattle.formula_grammar.proofs.Arrays.{array_complete, parameters_complete}
+use Rattle.formula_grammar.proofs.Constants.{array_complete, parameters_complete}
 
 -- the limits leave room for what opens so many parentheses, and is so deep
 pub record Fits (nesting room opened depth : ℕ) : Type 0 where

@@ -3,10 +3,12 @@ pub mod Chains
 pub mod Turns
 pub mod Follow
 pub mod Starts
-pub mod Arrays
+pub mod Constants
 pub mod Complete
 pub mod Steps
 pub mod Parting
 pub mod Lists
 pub mod Sound
 pub mod Laws
+pub mod Counting
+pub mod Signed

@@ -18,7 +18,7 @@ use Rattle.formula_grammar.specs.Grammar.{Item, Rows, item_tokens, item_value, r
 use Rattle.formula_grammar.specs.Reading.{Outcome, Parser, and_then, pure, with_rest, item, after_item, rows_next, rows_from, array, is_separator, parameter, parameters_step, parameters_from, parameters}
 use Rattle.formula_grammar.proofs.Steps.{found, some_pair, none_some, bind_some, rest_some}
 use Rattle.formula_grammar.proofs.Parting.{token_parts, after_token, after_item_is}
-use Rattle.formula_grammar.proofs.Arrays.{continued, continued_before, continued_none}
+use Rattle.formula_grammar.proofs.Constants.{continued, continued_before, continued_none}
 
 record IsItem (p : Profile) (ts rest : List Token) (x : ArrayItem) : Type 0 where
   by : Item p

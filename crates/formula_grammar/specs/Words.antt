@@ -83,7 +83,11 @@ range_node place sheet a b = n.Range sheet (lower_corner place a b) (higher_corn
 unfoldable pub negated : Decimal → Option Decimal
 negated number = if int_le (pos 0) number.mantissa then Some (record number { mantissa = neg_ℤ number.mantissa }) else None
 
+-- the line has so many items
+abbrev pub has_length : ℕ → List ArrayItem → Bool
+has_length count line = length line == count
+
 -- the lines have one length
 unfoldable pub are_even : List (List ArrayItem) → Bool
 are_even [] = true
-are_even (first ∷ lines) = list_all (λ (line : List ArrayItem). length line == length first) lines
+are_even (first ∷ lines) = list_all (has_length (length first)) lines

@@ -4,12 +4,18 @@
 #![tactic(auto)]
 
 mod after_item;
+mod arrays;
 mod cursor;
 mod fault;
 mod found;
+mod parameters;
 mod profile;
+mod read;
+mod rules;
 mod separators;
 mod token;
+mod words;
 
 pub use profile::Profile;
+pub use read::{read_tokens, tokens_derive_one_tree};
 pub use token::{CellMark, Token};

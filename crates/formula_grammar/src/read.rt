@@ -14,7 +14,7 @@ use crate::rules::whole;
 use crate::token::Token;
 use base_values::EditError;
 use formula_tree::Node;
-use std::alloc::{AllocError, Global};
+use std::alloc::Global;
 
 /// How many parentheses that are no call's may be open at once.
 const MAX_OPEN: u64 = 64;
@@ -23,9 +23,10 @@ const MAX_OPEN: u64 = 64;
 const MAX_NESTING: u64 = 128;
 
 #[tactic(auto, unfolding(crate::specs::Reading::tree_of))]
-fn tree_of(alloc: Global, profile: Profile, tokens: &[Token]) -> Result<Option<Node>, AllocError>
+fn tree_of(alloc: Global, profile: Profile, tokens: &[Token]) -> Result<Option<Node>, EditError>
     requires { IsPlace profile.place }
-    ensures { IfOk result (λ tree. tree ≡ spec.tree_of profile tokens.now) }
+    ensures tree { IfOk result (λ tree. tree ≡ spec.tree_of profile tokens.now) }
+    ensures memory { IsOkUnless result NoMemory }
 {
     let mut cursor = Cursor { rest: tokens };
     match whole(alloc, profile, &mut cursor, MAX_NESTING, MAX_OPEN) {
@@ -37,7 +38,7 @@ fn tree_of(alloc: Global, profile: Profile, tokens: &[Token]) -> Result<Option<N
             }
         }
         Err(Fault::Outside) => Ok(None),
-        Err(Fault::Memory) => Err(AllocError),
+        Err(Fault::Memory) => Err(EditError::NoMemory),
     }
 }
 
@@ -55,7 +56,7 @@ pub fn read_tokens(
     ensures only { IfOk result (λ o. (tree : Tree) → Derives profile tokens.now tree → o ≡ Some tree) }
     ensures memory { IsOkUnless result NoMemory }
 {
-    Ok(tree_of(alloc, profile, tokens)?)
+    tree_of(alloc, profile, tokens)
 }
 
 /// Tokens derive at most one tree.

@@ -169,7 +169,7 @@ more_begins {p} (G.more a rest) r = separator_empty p.locale _
 -- the whole of a tree, from how far its level has come
 nested_reads : {p : Profile} (d : Compare p) (nesting room : ℕ) (r : List Token) → 0 < nesting → depth_of (compare_tree d) ≤ 64 → EndsAt 1 r
     → ((i : ℕ) → nesting ≡ suc i → (k : ℕ) → k + compare_turns d ≡ 64
-      → compare p (whole p i) room (compare_tokens d ++ r) ≡ chain_from compare_sign n.Compare (concatenation p (whole p i) room) k (compare_tree d) r)
+    → compare p (whole p i) room (compare_tokens d ++ r) ≡ chain_from compare_sign n.Compare (concatenation p (whole p i) room) k (compare_tree d) r)
     → whole p nesting room (compare_tokens d ++ r) ≡ Some (compare_tree d, r)
 nested_reads {p} d nesting room r some shallow ends before =
     whole_reads p nesting room (compare_tokens d ++ r) _ some
@@ -177,7 +177,7 @@ nested_reads {p} d nesting room r some shallow ends before =
 
 given_whole : {p : Profile} (d : Compare p) (nesting room : ℕ) (r : List Token) → 0 < nesting → depth_of (compare_tree d) ≤ 64 → is_empty_here p.locale r ≡ true
     → ((i : ℕ) → nesting ≡ suc i → (k : ℕ) → k + compare_turns d ≡ 64
-      → compare p (whole p i) room (compare_tokens d ++ r) ≡ chain_from compare_sign n.Compare (concatenation p (whole p i) room) k (compare_tree d) r)
+    → compare p (whole p i) room (compare_tokens d ++ r) ≡ chain_from compare_sign n.Compare (concatenation p (whole p i) room) k (compare_tree d) r)
     → argument p (whole p nesting) room (compare_tokens d ++ r) ≡ Some (compare_tree d, r)
 given_whole {p} d nesting room r some shallow ends before =
     given_reads p (whole p nesting) room (compare_tokens d ++ r) _ (starts_given p.locale (compare_tokens d ++ r) (compare_starts d r))

@@ -76,8 +76,8 @@ rows_turn p k again lines line ts mid last rest x all i after.Row e f =
       by = G.above i.by g.by;
       parts = i.parts ∙ ap (λ (l : List Token). item_tokens i.by ++ l) (e ∙ ap (λ (l : List Token). row_token p.locale ∷ l) g.parts) ∙ sym (append_assoc (item_tokens i.by) (row_token p.locale ∷ rows_tokens g.by) (t.CloseBrace ∷ rest));
       gives = ap (λ (y : ArrayItem). lines ++ (line ++ y ∷ []) ∷ rows_lines g.by) i.gives
-      ∙ sym (append_assoc lines ((line ++ x ∷ []) ∷ []) (rows_lines g.by))
-      ∙ ap (λ (l : List (List ArrayItem)). (lines ++ (line ++ x ∷ []) ∷ []) ++ l) (sym (continued_none g.by)) ∙ g.gives;
+          ∙ sym (append_assoc lines ((line ++ x ∷ []) ∷ []) (rows_lines g.by))
+          ∙ ap (λ (l : List (List ArrayItem)). (lines ++ (line ++ x ∷ []) ∷ []) ++ l) (sym (continued_none g.by)) ∙ g.gives;
     }
 
 rows_sound : (p : Profile) (k : ℕ) (lines : List (List ArrayItem)) (line : List ArrayItem) (ts rest : List Token) (all : List (List ArrayItem)) → rows_from p k lines line ts ≡ Some (all, rest) → IsRows p lines line ts rest all

@@ -178,11 +178,11 @@ more_compare p room kind xs ys a b x y h = record {
   shallow = h;
 }
 
-more_concatenation : (p : Profile) (room : ℕ) (u : Unit {0}) (xs ys : List Token) (a b : Node) → IsConcatenation p room xs a → IsSum p room ys b → depth_of ( n.Concatenate a b) ≤ 64 → IsConcatenation p room (xs ++ t.Ampersand ∷ ys) ( n.Concatenate a b)
+more_concatenation : (p : Profile) (room : ℕ) (u : Unit {0}) (xs ys : List Token) (a b : Node) → IsConcatenation p room xs a → IsSum p room ys b → depth_of (n.Concatenate a b) ≤ 64 → IsConcatenation p room (xs ++ t.Ampersand ∷ ys) (n.Concatenate a b)
 more_concatenation p room u xs ys a b x y h = record {
   by = G.joined x.by y.by;
   spells = ap (λ (l : List Token). l ++ t.Ampersand ∷ sum_tokens y.by) x.spells ∙ ap (λ (l : List Token). xs ++ t.Ampersand ∷ l) y.spells;
-  gives = ap (λ (c : Node).  n.Concatenate c (sum_tree y.by)) x.gives ∙ ap ( n.Concatenate a) y.gives;
+  gives = ap (λ (c : Node). n.Concatenate c (sum_tree y.by)) x.gives ∙ ap (n.Concatenate a) y.gives;
   within = omega (arith, x.within, y.within);
   shallow = h;
 }
@@ -205,20 +205,20 @@ more_product p room kind xs ys a b x y h = record {
   shallow = h;
 }
 
-more_power : (p : Profile) (room : ℕ) (u : Unit {0}) (xs ys : List Token) (a b : Node) → IsPower p room xs a → IsSigned p room ys b → depth_of ( n.Power a b) ≤ 64 → IsPower p room (xs ++ t.Power ∷ ys) ( n.Power a b)
+more_power : (p : Profile) (room : ℕ) (u : Unit {0}) (xs ys : List Token) (a b : Node) → IsPower p room xs a → IsSigned p room ys b → depth_of (n.Power a b) ≤ 64 → IsPower p room (xs ++ t.Power ∷ ys) (n.Power a b)
 more_power p room u xs ys a b x y h = record {
   by = G.raised x.by y.by;
   spells = ap (λ (l : List Token). l ++ t.Power ∷ signed_tokens y.by) x.spells ∙ ap (λ (l : List Token). xs ++ t.Power ∷ l) y.spells;
-  gives = ap (λ (c : Node).  n.Power c (signed_tree y.by)) x.gives ∙ ap ( n.Power a) y.gives;
+  gives = ap (λ (c : Node). n.Power c (signed_tree y.by)) x.gives ∙ ap (n.Power a) y.gives;
   within = omega (arith, x.within, y.within);
   shallow = h;
 }
 
-more_colon : (p : Profile) (room : ℕ) (u : Unit {0}) (xs ys : List Token) (a b : Node) → IsColon p room xs a → IsSpill p room ys b → depth_of ( n.Colon a b) ≤ 64 → IsColon p room (xs ++ t.Colon ∷ ys) ( n.Colon a b)
+more_colon : (p : Profile) (room : ℕ) (u : Unit {0}) (xs ys : List Token) (a b : Node) → IsColon p room xs a → IsSpill p room ys b → depth_of (n.Colon a b) ≤ 64 → IsColon p room (xs ++ t.Colon ∷ ys) (n.Colon a b)
 more_colon p room u xs ys a b x y h = record {
   by = G.spanned x.by y.by;
   spells = ap (λ (l : List Token). l ++ t.Colon ∷ spill_tokens y.by) x.spells ∙ ap (λ (l : List Token). xs ++ t.Colon ∷ l) y.spells;
-  gives = ap (λ (c : Node).  n.Colon c (spill_tree y.by)) x.gives ∙ ap ( n.Colon a) y.gives;
+  gives = ap (λ (c : Node). n.Colon c (spill_tree y.by)) x.gives ∙ ap (n.Colon a) y.gives;
   within = omega (arith, x.within, y.within);
   shallow = h;
 }
@@ -407,8 +407,8 @@ module _ (p : Profile) (inner : ℕ → Parser Node) (inner_sound : (room : ℕ)
       record {
         front = tokens ++ (body.front ++ t.CloseParenthesis ∷ []);
         parts = parameters_sound p ts a.1 a.0 a.2
-        ∙ ap (λ (l : List Token). tokens ++ l) (body.parts ∙ ap (λ (l : List Token). body.front ++ l) (closing_is b.1 c.1 c.0 c.2 ∙ ap (λ (l : List Token). t.CloseParenthesis ∷ l) m.1) ∙ sym (append_assoc body.front (t.CloseParenthesis ∷ []) rest))
-        ∙ sym (append_assoc tokens (body.front ++ t.CloseParenthesis ∷ []) rest);
+            ∙ ap (λ (l : List Token). tokens ++ l) (body.parts ∙ ap (λ (l : List Token). body.front ++ l) (closing_is b.1 c.1 c.0 c.2 ∙ ap (λ (l : List Token). t.CloseParenthesis ∷ l) m.1) ∙ sym (append_assoc body.front (t.CloseParenthesis ∷ []) rest))
+            ∙ sym (append_assoc tokens (body.front ++ t.CloseParenthesis ∷ []) rest);
         is = record {
           by = G.function word is a.0 body.is.by;
           spells = ap (λ (l : List Token). t.Word word ∷ t.OpenParenthesis ∷ tokens ++ (l ++ t.CloseParenthesis ∷ [])) body.is.spells;

@@ -113,11 +113,7 @@ fn rows(
 
 /// An array, after its opening brace. Outside where its lines differ in length.
 #[tactic(auto, using(crate::proofs::Depths::depths), unfolding(crate::specs::Reading::array))]
-pub fn array(
-    alloc: Global,
-    profile: Profile,
-    tokens: &mut Cursor<'_>,
-) -> Result<Found, Fault>
+pub fn array(alloc: Global, profile: Profile, tokens: &mut Cursor<'_>) -> Result<Found, Fault>
     ensures { Reads (spec.array profile tokens.old.rest.now) result tokens.new.rest.now }
 {
     let lines = rows(alloc, profile, tokens)?;

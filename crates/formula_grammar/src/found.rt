@@ -5,9 +5,7 @@ ghost use Rattle.formula_grammar.specs.Outcome.{Makes};
 use crate::fault::Fault;
 use base_tables::Function;
 use base_values::{Boxed, Items, Text};
-use formula_tree::{
-    CompareKind, MAX_DEPTH, Node, Parameter, ProductKind, SumKind, UnaryKind,
-};
+use formula_tree::{CompareKind, MAX_DEPTH, Node, Parameter, ProductKind, SumKind, UnaryKind};
 use std::alloc::{AllocError, Global};
 use std::marker::Model;
 
@@ -70,7 +68,12 @@ impl Found {
     }
 
     #[tactic(auto, using(crate::proofs::Depths::depths))]
-    pub fn compare(alloc: Global, kind: CompareKind, left: Found, right: Found) -> Result<Found, Fault>
+    pub fn compare(
+        alloc: Global,
+        kind: CompareKind,
+        left: Found,
+        right: Found,
+    ) -> Result<Found, Fault>
         ensures { Makes (Node.Compare kind left right) result }
     {
         let depth = left.depth.max(right.depth) + 1;
@@ -100,7 +103,12 @@ impl Found {
     }
 
     #[tactic(auto, using(crate::proofs::Depths::depths))]
-    pub fn product(alloc: Global, kind: ProductKind, left: Found, right: Found) -> Result<Found, Fault>
+    pub fn product(
+        alloc: Global,
+        kind: ProductKind,
+        left: Found,
+        right: Found,
+    ) -> Result<Found, Fault>
         ensures { Makes (Node.Product kind left right) result }
     {
         let depth = left.depth.max(right.depth) + 1;

@@ -30,10 +30,13 @@ fn parameter(tokens: &mut Cursor<'_>, locale: Locale) -> Result<Option<Parameter
             tokens.rest = rest;
             Ok(Some(parameter_of(name, false)?))
         }
-        [Token::OpenBracket, Token::Word(name), Token::CloseBracket, next, rest @ ..] if is_separator(
-            locale,
+        [
+            Token::OpenBracket,
+            Token::Word(name),
+            Token::CloseBracket,
             next,
-        ) => {
+            rest @ ..,
+        ] if is_separator(locale, next) => {
             tokens.rest = rest;
             Ok(Some(parameter_of(name, true)?))
         }

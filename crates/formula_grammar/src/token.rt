@@ -90,3 +90,12 @@ pub enum Token {
     /// `;`
     Semicolon,
 }
+
+impl Exact for Token {
+    ghost use Rattle.std.proofs.Common.{rules};
+    ghost use Rattle.formula_grammar.specs.Equals.{token_equals};
+
+    ghost copies = { λ a b h. Prim.search rules };
+
+    ghost equals = { token_equals };
+}

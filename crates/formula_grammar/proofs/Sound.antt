@@ -1,9 +1,7 @@
 -- What is read is derived by the grammar.
-use Rattle.std.proofs.Common.{◌≡◌, ℕ, zero, suc, ◌-◌, ◌<◌, ◌≤◌, Bool, true, false, cond, List, [], ◌∷◌, ◌++◌, length, Option, Some, None, Result, Ok, Err, refl, sym, ap, subst, ◌∙◌, append_assoc, arith}
+use Rattle.std.proofs.Common.{◌≡◌, ℕ, zero, suc, ◌-◌, ◌<◌, ◌≤◌, Bool, true, false, cond, List, [], ◌∷◌, ◌++◌, length, Option, Some, None, Result, Ok, Err, refl, sym, ap, ◌∙◌, append_assoc, arith}
 use Rattle.std.proofs.lemmas.Bool.{eqb-false}
 use lib.Dec.{eqb}
-use Rattle.base_tables.specs.declared.Locale.{Locale}
-use Rattle.base_tables.specs.declared.Locale.TheVariants as locale
 use Rattle.base_values.specs.declared.Position.{Position}
 use Rattle.base_values.specs.declared.EditError.{EditError}
 use Rattle.formula_tree.specs.declared.node.Node.{Node}
@@ -12,19 +10,18 @@ use Rattle.formula_tree.specs.declared.operator.CompareKind.{CompareKind}
 use Rattle.formula_tree.specs.declared.operator.ProductKind.{ProductKind}
 use Rattle.formula_tree.specs.declared.operator.SumKind.{SumKind}
 use Rattle.formula_tree.specs.declared.operator.UnaryKind.TheVariants as unary
-use Rattle.formula_tree.specs.declared.parameter.Parameter.{Parameter}
 use Rattle.formula_tree.specs.Depth.{depth_of}
 use Rattle.formula_tree.specs.DepthEquations.{depth_number, depth_text, depth_reference, depth_error, depth_array, depth_empty_argument}
 use Rattle.formula_grammar.specs.declared.profile.Profile.{Profile}
 use Rattle.formula_grammar.specs.declared.token.CellMark.{CellMark}
 use Rattle.formula_grammar.specs.declared.token.Token.{Token}
 use Rattle.formula_grammar.specs.declared.token.Token.TheVariants as t
-use Rattle.formula_grammar.specs.Words.{separator_token, is_lambda, called, worded, mark_place, corner_of, range_node}
+use Rattle.formula_grammar.specs.Words.{separator_token, is_lambda, called, worded, mark_place, corner_of}
 use Rattle.formula_grammar.specs.Grammar as G
 use Rattle.formula_grammar.specs.Grammar.{Compare, Concatenation, Sum, Product, Power, Signed, Percent, Single, Colon, Spill, Primary, Lambda, Arguments, Argument, More, compare_token, sum_token, product_token, parameters_tokens, rows_tokens, compare_tokens, concatenation_tokens, sum_tokens, product_tokens, power_tokens, signed_tokens, percent_tokens, single_tokens, colon_tokens, spill_tokens, primary_tokens, lambda_tokens, arguments_tokens, argument_tokens, more_tokens, compare_tree, concatenation_tree, sum_tree, product_tree, power_tree, signed_tree, percent_tree, single_tree, colon_tree, spill_tree, primary_tree, lambda_tree, arguments_trees, argument_tree, more_trees, compare_open, concatenation_open, sum_open, product_open, power_open, signed_open, percent_open, single_open, colon_open, spill_open, primary_open, lambda_open, arguments_open, argument_open, more_open}
-use Rattle.formula_grammar.specs.Reading.{Outcome, Parser, and_then, ◌>>=◌, ◌>>◌, pure, with_rest, made, make, compare_sign, ampersand, sum_sign, product_sign, power_sign, percent_sign, colon_sign, hash, opening, closing, is_separator, separator, is_empty_here, nothing, parameters, reference_at, range_at, enclosed, argument, arguments_from, arguments_by, arguments, function, lambda, call, named, primary, spill, colon, single, percent, signed, power, product, sum, concatenation, compare, whole}
-use Rattle.formula_grammar.proofs.Depths.{depth_called, depth_worded, depth_range_node}
-use Rattle.formula_grammar.proofs.Steps.{Takes, found, some_pair, none_some, bind_some, make_some, rest_some, chain_sound}
+use Rattle.formula_grammar.specs.Reading.{Outcome, Parser, ◌>>=◌, ◌>>◌, pure, with_rest, make, compare_sign, ampersand, sum_sign, product_sign, power_sign, percent_sign, colon_sign, hash, opening, closing, separator, is_empty_here, nothing, parameters, reference_at, range_at, enclosed, argument, arguments_from, arguments_by, arguments, function, lambda, call, primary, spill, colon, single, percent, signed, power, product, sum, concatenation, compare, whole}
+use Rattle.formula_grammar.proofs.Depths.{depth_worded, depth_range_node}
+use Rattle.formula_grammar.proofs.Steps.{Takes, found, some_pair, none_some, bind_some, make_some, chain_sound}
 use Rattle.formula_grammar.proofs.Parting.{separator_of, separator_is}
 use Rattle.formula_grammar.proofs.Lists.{array_sound, parameters_sound}
 

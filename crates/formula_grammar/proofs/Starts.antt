@@ -1,5 +1,5 @@
 -- The first tokens of a tree.
-use Rattle.std.proofs.Common.{◌≡◌, ℕ, ◌≤◌, Bool, true, false, List, [], ◌∷◌, ◌++◌, Some, None, refl, sym, ap, subst, ◌∙◌, append_assoc, arith}
+use Rattle.std.proofs.Common.{◌≡◌, ℕ, ◌≤◌, false, List, [], ◌∷◌, ◌++◌, None, refl, sym, ap, subst, ◌∙◌, append_assoc, arith}
 use Rattle.base_tables.specs.declared.Locale.{Locale}
 use Rattle.formula_tree.specs.declared.node.Node.{Node}
 use Rattle.formula_grammar.specs.declared.profile.Profile.{Profile}

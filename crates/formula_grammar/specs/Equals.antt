@@ -1,5 +1,5 @@
 -- `==` of marks and tokens is equality of their values.
-use Rattle.std.proofs.Common.{◌≡◌, Bool, true, false, refl, ap, subst}
+use Rattle.std.proofs.Common.{◌≡◌, true, false, refl, ap, subst}
 use Rattle.std.specs.Bool.{Decides}
 use Rattle.std.specs.Cmp.{signed_Decides, booleans_Decides}
 use Rattle.std.specs.Cmp.Lexicographic.{bytes_decides}

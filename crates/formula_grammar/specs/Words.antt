@@ -1,5 +1,5 @@
 -- What single tokens come to: separators, words, corners and constants of arrays.
-use Rattle.std.specs.Prelude.{◌≡◌, ℕ, ℤ, pos, neg_ℤ, Bool, true, false, not, ◌==◌, if◌then◌else◌, int_le, List, [], ◌∷◌, length, codes, Option, Some, None, Result}
+use Rattle.std.specs.Prelude.{ℕ, pos, neg_ℤ, Bool, true, ◌==◌, if◌then◌else◌, int_le, List, [], ◌∷◌, length, codes, Option, Some, None, Result}
 use Rattle.std.specs.List.{list_all}
 use Rattle.base_values.specs.declared.Position.{Position}
 use Rattle.base_values.specs.declared.EditError.{EditError}
@@ -18,7 +18,6 @@ use Rattle.formula_tree.specs.declared.node.Node.{Node}
 use Rattle.formula_tree.specs.declared.node.Node.TheVariants as n
 use Rattle.formula_tree.specs.declared.parameter.Parameter.{Parameter}
 use Rattle.formula_tree.specs.Corners.{corner_to, lower_corner, higher_corner}
-use Rattle.formula_grammar.specs.declared.profile.Profile.{Profile}
 use Rattle.formula_grammar.specs.declared.token.CellMark.{CellMark}
 use Rattle.formula_grammar.specs.declared.token.Token.{Token}
 use Rattle.formula_grammar.specs.declared.token.Token.TheVariants as t

@@ -1,5 +1,5 @@
 -- The reading function and the grammar are one.
-use Rattle.std.proofs.Common.{◌≡◌, ◌≤◌, List, [], ◌∷◌, ◌++◌, Option, Some, None, Result, Ok, Err, refl, sym, ap, ◌∙◌, append-nil, arith}
+use Rattle.std.proofs.Common.{◌≡◌, true, ◌≤◌, List, [], ◌∷◌, ◌++◌, Option, Some, None, Result, Ok, Err, refl, sym, ap, ◌∙◌, append-nil, arith}
 use Rattle.std.specs.Prelude.{IfOk, IfSome}
 use Rattle.formula_tree.specs.declared.node.Node.{Node}
 use Rattle.formula_tree.specs.declared.node.Node.TheVariants as n
@@ -12,6 +12,8 @@ use Rattle.formula_grammar.proofs.Turns.{compare_turns, compare_turns-lt}
 use Rattle.formula_grammar.proofs.Chains.{chain_closes}
 use Rattle.formula_grammar.proofs.Complete.{compare_before}
 use Rattle.formula_grammar.proofs.Sound.{whole_sound}
+use Rattle.formula_grammar.proofs.Placing.{compare_placed}
+use Rattle.formula_tree.specs.Placed.{is_placed}
 
 -- what the grammar derives is read as that tree, and so as no other
 pub derived_is_read : (p : Profile) (ts : List Token) (tree : Node) → Derives p ts tree → tree_of p ts ≡ Some tree
@@ -47,3 +49,9 @@ found_derives p ts (Err x) e = tt
 pub only_this : {E : Type 0} (p : Profile) (ts : List Token) (r : Result (Option Node) E) → IfOk r (λ o. o ≡ tree_of p ts) → IfOk r (λ o. (tree : Node) → Derives p ts tree → o ≡ Some tree)
 only_this p ts (Ok o) e = λ tree d. e ∙ derived_is_read p ts tree d
 only_this p ts (Err x) e = tt
+
+-- and its corners lie as they should
+pub found_placed : {E : Type 0} (p : Profile) (ts : List Token) (r : Result (Option Node) E) → IfOk r (λ o. o ≡ tree_of p ts) → IfOk r (λ o. IfSome o (λ tree. is_placed p.place tree ≡ true))
+found_placed p ts (Ok (Some tree)) e = let d = read_is_derived p ts tree (sym e) in ap (is_placed p.place) (sym d.gives) ∙ compare_placed d.by
+found_placed p ts (Ok None) e = tt
+found_placed p ts (Err x) e = tt

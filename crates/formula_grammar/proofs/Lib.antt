@@ -9,6 +9,7 @@ pub mod Steps
 pub mod Parting
 pub mod Lists
 pub mod Sound
+pub mod Placing
 pub mod Laws
 pub mod Counting
 pub mod Signed

@@ -58,7 +58,7 @@ word_node None word = n.Name word
 abbrev pub worded : Language → List ℕ → Node
 worded language word = word_node (boolean_of_text language word) word
 
--- a parameter of a lambda, in brackets where a call may leave it out
+-- a parameter of a lambda, in brackets where a call may leave it out. It reads as no cell: where it stands a cell is the token of a reference
 abbrev pub parameter_tokens : Parameter → List Token
 parameter_tokens parameter = if parameter.optional then t.OpenBracket ∷ t.Word parameter.name ∷ t.CloseBracket ∷ [] else t.Word parameter.name ∷ []
 

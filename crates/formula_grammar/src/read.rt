@@ -1,7 +1,8 @@
-ghost use Rattle.std.specs.Prelude.{◌≡◌, Some, IfOk, IfSome, IsOkUnless, List};
+ghost use Rattle.std.specs.Prelude.{◌≡◌, true, Some, IfOk, IfSome, IsOkUnless, List};
 ghost use Rattle.base_values.specs.Places.{IsPlace};
 ghost use Rattle.base_values.specs.declared.error.EditError.TheVariants.{NoMemory};
 ghost use Rattle.formula_tree.specs.declared.node.Node.{Node as Tree};
+ghost use Rattle.formula_tree.specs.Placed.{is_placed};
 ghost use Rattle.formula_grammar.specs.declared.profile.Profile.{Profile as AnyProfile};
 ghost use Rattle.formula_grammar.specs.declared.token.Token.{Token as AnyToken};
 ghost use Rattle.formula_grammar.specs.Grammar.{Derives};
@@ -54,6 +55,9 @@ pub fn read_tokens(
     requires place { IsPlace profile.place }
     ensures found { IfOk result (λ o. IfSome o (λ tree. Derives profile tokens.now tree)) }
     ensures only { IfOk result (λ o. (tree : Tree) → Derives profile tokens.now tree → o ≡ Some tree) }
+
+    // Each of its corners lies inside the sheet, and those of each range are in order.
+    ensures placed { IfOk result (λ o. IfSome o (λ tree. is_placed profile.place tree ≡ true)) }
     ensures memory { IsOkUnless result NoMemory }
 {
     tree_of(alloc, profile, tokens)

@@ -1,4 +1,0 @@
-use Rattle.formula_grammar.proofs.rules.+whole.Given as goal
-
-abbrev pub decreases-whole : goal.decreases-whole
-decreases-whole l = l.nesting

@@ -18,3 +18,6 @@ pub use base_values::{
     Boxed, EditError, Exact, Items, LAST_COLUMN, LAST_ROW, PlaceMap, Position, Text, copy_of,
     line_of, place_of, same,
 };
+
+#[cfg(test)]
+mod tests;

@@ -1,0 +1,55 @@
+-- The depth of what is read, and the limit.
+use Rattle.std.proofs.Common.{◌≡◌, ℕ, ◌+◌, ◌<◌, ◌≤◌, max, Bool, true, false, cond, List, [], ◌∷◌, ◌++◌, map, Option, Some, None, refl, arith}
+use Rattle.std.proofs.lemmas.Bool.{le-leb, lt-leb, leb-true}
+use lib.Dec.{leb}
+use Rattle.base_tables.specs.declared.Function.{Function}
+use Rattle.base_tables.specs.declared.Language.{Language}
+use Rattle.base_tables.specs.Function.{function_of_name}
+use Rattle.base_tables.specs.Language.{boolean_of_text}
+use Rattle.formula_tree.specs.declared.corner.Corner.{Corner}
+use Rattle.formula_tree.specs.declared.node.Node.{Node}
+use Rattle.base_values.specs.declared.Position.{Position}
+use Rattle.formula_tree.specs.Depth.{depth_of, greatest}
+use Rattle.formula_tree.specs.Corners.{lower_corner, higher_corner}
+use Rattle.formula_tree.specs.DepthEquations.{depth_boolean, depth_number, depth_text, depth_reference, depth_range, depth_colon, depth_concatenate, depth_compare, depth_sum, depth_product, depth_power, depth_unary, depth_call, depth_named_call, depth_array, depth_name, depth_error, depth_empty_argument, depth_spill, depth_lambda, depth_lambda_call, depth_implicit_intersection}
+use Rattle.formula_grammar.specs.Words.{call_node, called, word_node, worded, range_node}
+use Rattle.formula_grammar.specs.Reading.{made}
+
+depth_call_node : (function : Option Function) (word : List ℕ) (all : List Node) → depth_of (call_node function word all) ≡ greatest (map depth_of all) + 1
+depth_call_node (Some function) word all = depth_call function all
+depth_call_node None word all = depth_named_call word all
+
+pub depth_called : (language : Language) (word : List ℕ) (all : List Node) → depth_of (called language word all) ≡ greatest (map depth_of all) + 1
+depth_called language word all = depth_call_node (function_of_name language word) word all
+
+depth_word_node : (value : Option Bool) (word : List ℕ) → depth_of (word_node value word) ≡ 1
+depth_word_node (Some value) word = depth_boolean value
+depth_word_node None word = depth_name word
+
+pub depth_worded : (language : Language) (word : List ℕ) → depth_of (worded language word) ≡ 1
+depth_worded language word = depth_word_node (boolean_of_text language word) word
+
+pub depth_range_node : (place : Position) (sheet : Option (List ℕ)) (a b : Corner) → depth_of (range_node place sheet a b) ≡ 2
+depth_range_node place sheet a b = depth_range sheet (lower_corner place a b) (higher_corner place a b)
+
+pub made-shallow : (x : Node) → depth_of x ≤ 64 → made x ≡ Some x
+unfolding made
+made-shallow x h = rw (le-leb (depth_of x) 64 h) refl
+
+pub made-is : (x y : Node) → made x ≡ Some y → (x ≡ y) × (depth_of x ≤ 64)
+unfolding made
+made-is x y e = go (leb (depth_of x) 64) refl e
+  where
+    go : (b : Bool) → leb (depth_of x) 64 ≡ b → cond b (Some x) None ≡ Some y → (x ≡ y) × (depth_of x ≤ 64)
+    go true h f = (cc, leb-true (depth_of x) 64 h)
+    go false h f = absurd cc
+
+pub made-deep : (x : Node) → 64 < depth_of x → made x ≡ None
+unfolding made
+made-deep x h = rw (lt-leb (depth_of x) 64 h) refl
+
+pub ruleset depths = (depth_boolean, depth_number, depth_text, depth_reference, depth_range, depth_colon, depth_concatenate, depth_compare, depth_sum, depth_product, depth_power, depth_unary, depth_call, depth_named_call, depth_array, depth_name, depth_error, depth_empty_argument, depth_spill, depth_lambda, depth_lambda_call, depth_implicit_intersection, depth_called, depth_worded, depth_range_node, made-shallow, made-deep)
+
+pub greatest_push : (xs : List Node) (x : Node) → greatest (map depth_of (xs ++ x ∷ [])) ≡ max (greatest (map depth_of xs)) (depth_of x)
+greatest_push [] x = omega arith
+greatest_push (y ∷ xs) x = omega (arith, greatest_push xs x)

@@ -1,0 +1,57 @@
+-- The reading function and the grammar are one.
+use Rattle.std.proofs.Common.{◌≡◌, true, ◌≤◌, List, [], ◌∷◌, ◌++◌, Option, Some, None, Result, Ok, Err, refl, sym, ap, ◌∙◌, append-nil, arith}
+use Rattle.std.specs.Prelude.{IfOk, IfSome}
+use Rattle.formula_tree.specs.declared.node.Node.{Node}
+use Rattle.formula_tree.specs.declared.node.Node.TheVariants as n
+use Rattle.formula_tree.specs.Depth.{depth_of}
+use Rattle.formula_grammar.specs.declared.profile.Profile.{Profile}
+use Rattle.formula_grammar.specs.declared.token.Token.{Token}
+use Rattle.formula_grammar.specs.Grammar.{compare_tokens, compare_tree, Derives}
+use Rattle.formula_grammar.specs.Reading.{Outcome, compare_sign, concatenation, compare, whole, if_last, tree_of}
+use Rattle.formula_grammar.proofs.Turns.{compare_turns, compare_turns-lt}
+use Rattle.formula_grammar.proofs.Chains.{chain_closes}
+use Rattle.formula_grammar.proofs.Complete.{compare_before}
+use Rattle.formula_grammar.proofs.Sound.{whole_sound}
+use Rattle.formula_grammar.proofs.Placing.{compare_placed}
+use Rattle.formula_tree.specs.Placed.{is_placed}
+
+-- what the grammar derives is read as that tree, and so as no other
+pub derived_is_read : (p : Profile) (ts : List Token) (tree : Node) → Derives p ts tree → tree_of p ts ≡ Some tree
+unfolding tree_of whole
+derived_is_read p ts tree d =
+    let shallow : depth_of (compare_tree d.by) ≤ 64 = omega (arith, ap depth_of d.gives, d.shallow) in
+    let read : compare p (whole p 127) 64 (compare_tokens d.by ++ []) ≡ Some (compare_tree d.by, []) =
+    chain_closes compare_sign n.Compare (concatenation p (whole p 127) 64) _ (compare_turns d.by) (compare_tree d.by) [] (compare_turns-lt d.by) shallow refl
+    (λ j is. compare_before d.by 127 64 j [] (record { within = d.open_few; nested = omega (arith, shallow, d.open_few); shallow = shallow }) tt is) in
+    ap (λ (l : List Token). if_last (compare p (whole p 127) 64 l)) (sym d.spells ∙ sym (append-nil (compare_tokens d.by))) ∙ ap if_last read ∙ ap Some d.gives
+
+if_last_is : (o : Outcome Node) (tree : Node) → if_last o ≡ Some tree → o ≡ Some (tree, [])
+if_last_is None tree e = absurd cc
+if_last_is (Some (x, [])) tree e = let x-is : x ≡ tree = cc in ap (λ (y : Node). let q : Node × List Token = (y, []) in Some q) x-is
+if_last_is (Some (x, y ∷ ts)) tree e = absurd cc
+
+-- what is read is derived
+pub read_is_derived : (p : Profile) (ts : List Token) (tree : Node) → tree_of p ts ≡ Some tree → Derives p ts tree
+unfolding tree_of
+read_is_derived p ts tree e =
+    let d = whole_sound p 128 64 ts [] tree (if_last_is (whole p 128 64 ts) tree e) in
+    record { by = d.is.by; spells = d.is.spells ∙ sym (append-nil d.front) ∙ sym d.parts; gives = d.is.gives; shallow = d.is.shallow; open_few = d.is.within }
+
+-- tokens have one tree
+pub one_tree : (p : Profile) (ts : List Token) (a b : Node) → Derives p ts a → Derives p ts b → a ≡ b
+one_tree p ts a b x y = let e = sym (derived_is_read p ts a x) ∙ derived_is_read p ts b y in cc
+
+pub found_derives : {E : Type 0} (p : Profile) (ts : List Token) (r : Result (Option Node) E) → IfOk r (λ o. o ≡ tree_of p ts) → IfOk r (λ o. IfSome o (λ tree. Derives p ts tree))
+found_derives p ts (Ok (Some tree)) e = read_is_derived p ts tree (sym e)
+found_derives p ts (Ok None) e = tt
+found_derives p ts (Err x) e = tt
+
+pub only_this : {E : Type 0} (p : Profile) (ts : List Token) (r : Result (Option Node) E) → IfOk r (λ o. o ≡ tree_of p ts) → IfOk r (λ o. (tree : Node) → Derives p ts tree → o ≡ Some tree)
+only_this p ts (Ok o) e = λ tree d. e ∙ derived_is_read p ts tree d
+only_this p ts (Err x) e = tt
+
+-- and its corners lie as they should
+pub found_placed : {E : Type 0} (p : Profile) (ts : List Token) (r : Result (Option Node) E) → IfOk r (λ o. o ≡ tree_of p ts) → IfOk r (λ o. IfSome o (λ tree. is_placed p.place tree ≡ true))
+found_placed p ts (Ok (Some tree)) e = let d = read_is_derived p ts tree (sym e) in ap (is_placed p.place) (sym d.gives) ∙ compare_placed d.by
+found_placed p ts (Ok None) e = tt
+found_placed p ts (Err x) e = tt

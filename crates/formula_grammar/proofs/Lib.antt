@@ -1,0 +1,15 @@
+pub mod Depths
+pub mod Chains
+pub mod Turns
+pub mod Follow
+pub mod Starts
+pub mod Constants
+pub mod Complete
+pub mod Steps
+pub mod Parting
+pub mod Lists
+pub mod Sound
+pub mod Placing
+pub mod Laws
+pub mod Counting
+pub mod Signed

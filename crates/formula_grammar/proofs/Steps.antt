@@ -1,0 +1,78 @@
+-- What steps of reading that did not fail came to.
+use Rattle.std.proofs.Common.{◌≡◌, ℕ, zero, suc, ◌≤◌, List, ◌∷◌, ◌++◌, Option, Some, None, refl, sym, ap, subst, ◌∙◌, append_assoc}
+use Rattle.formula_tree.specs.declared.node.Node.{Node}
+use Rattle.formula_tree.specs.Depth.{depth_of}
+use Rattle.formula_grammar.specs.declared.token.Token.{Token}
+use Rattle.formula_grammar.specs.Reading.{Outcome, Parser, and_then, ◌>>=◌, with_rest, made, make, chain_step, chain_from, chain}
+use Rattle.formula_grammar.proofs.Depths.{made-is}
+
+-- some front of the tokens is such a thing
+pub record Takes {X : Type 0} (A : List Token → X → Type 0) (ts rest : List Token) (out : X) : Type 0 where
+  pub front : List Token
+  pub parts : ts ≡ front ++ rest
+  pub is : A front out
+
+abbrev pub found : {A : Type 0} → A → List Token → Outcome A
+found a ts = Some (a, ts)
+
+some_is : {A : Type 0} (p q : A) → Some p ≡ Some q → p ≡ q
+some_is p q e = cc
+
+pub some_pair : {A : Type 0} (a b : A) (x y : List Token) → found a x ≡ found b y → (a ≡ b) × (x ≡ y)
+some_pair {A} a b x y e =
+    let p = some_is (a, x) (b, y) e in
+    (ap (λ (q : A × List Token). q.0) p, ap (λ (q : A × List Token). q.1) p)
+
+pub none_some : {A : Type 0} {P : Type 0} (a : A) → None ≡ Some a → P
+none_some a e = absurd cc
+
+pub bind_some : {A B : Type 0} (o : Outcome A) (f : A → Parser B) (y : B) (rest : List Token) → and_then o f ≡ Some (y, rest) → (a : A) × (mid : List Token) × (o ≡ Some (a, mid)) × (f a mid ≡ Some (y, rest))
+bind_some (Some p) f y rest e = (p.0, p.1, refl, e)
+bind_some None f y rest e = none_some (y, rest) e
+
+pub rest_some : {A : Type 0} (o : Option A) (y : A) (ts rest : List Token) → with_rest ts o ≡ Some (y, rest) → (o ≡ Some y) × (ts ≡ rest)
+rest_some None y ts rest e = none_some (y, rest) e
+rest_some (Some m) y ts rest e = let p = some_pair m y ts rest e in (ap Some p.0, p.1)
+
+pub make_some : (x y : Node) (ts rest : List Token) → make x ts ≡ Some (y, rest) → (x ≡ y) × (ts ≡ rest) × (depth_of x ≤ 64)
+make_some x y ts rest e =
+    let r = rest_some (made x) y ts rest e in
+    let q = made-is x y r.0 in
+    (q.0, r.1, q.1)
+
+-- ---- chains
+
+module _ {Op X : Type 0} (operator : Parser Op) (join : Op → Node → X → Node) (operand : Parser X) (token : Op → Token)
+    (operator_is : (ts rest : List Token) (op : Op) → operator ts ≡ Some (op, rest) → ts ≡ token op ∷ rest)
+    (A : List Token → X → Type 0) (B : List Token → Node → Type 0)
+    (more : (op : Op) (xs ys : List Token) (a : Node) (b : X) → B xs a → A ys b → depth_of (join op a b) ≤ 64 → B (xs ++ token op ∷ ys) (join op a b))
+    (operand_sound : (ts rest : List Token) (out : X) → operand ts ≡ Some (out, rest) → Takes A ts rest out) where
+  step_sound : (go_on : Node → Parser Node) (again : (left : Node) (xs ts rest : List Token) (out : Node) → B xs left → go_on left ts ≡ Some (out, rest) → Takes B (xs ++ ts) rest out)
+      (left : Node) (xs ts rest : List Token) (out : Node) → B xs left → (o : Outcome Op) → operator ts ≡ o
+      → chain_step operator join operand go_on left ts o ≡ Some (out, rest) → Takes B (xs ++ ts) rest out
+  step_sound go_on again left xs ts rest out b None e f =
+      let p = some_pair left out ts rest f in
+      record { front = xs; parts = ap (λ (l : List Token). xs ++ l) p.1; is = subst (B xs) p.0 b }
+  step_sound go_on again left xs ts rest out b (Some (op, mid)) e f =
+      let r = bind_some (operand mid) (λ right. make (join op left right) >>= go_on) out rest f in
+      let m = bind_some (make (join op left r.0) r.1) go_on out rest r.3 in
+      let made = make_some (join op left r.0) m.0 r.1 m.1 m.2 in
+      let right = operand_sound mid r.1 r.0 r.2 in
+      let longer = more op xs right.front left r.0 b right.is made.2 in
+      let f2 : go_on (join op left r.0) r.1 ≡ Some (out, rest) = ap (λ (x : Node). go_on x r.1) made.0 ∙ ap (go_on m.0) made.1 ∙ m.3 in
+      let found = again (join op left r.0) (xs ++ token op ∷ right.front) r.1 rest out longer f2 in
+      let ts-is : ts ≡ token op ∷ right.front ++ r.1 = operator_is ts mid op e ∙ ap (λ (l : List Token). token op ∷ l) right.parts in
+      record { front = found.front; parts = ap (λ (l : List Token). xs ++ l) ts-is ∙ sym (append_assoc xs (token op ∷ right.front) r.1) ∙ found.parts; is = found.is }
+
+  from_sound : (k : ℕ) (left : Node) (xs ts rest : List Token) (out : Node) → B xs left → chain_from operator join operand k left ts ≡ Some (out, rest) → Takes B (xs ++ ts) rest out
+  unfolding chain_from
+  from_sound zero left xs ts rest out b e = none_some (out, rest) e
+  from_sound (suc k) left xs ts rest out b e = step_sound (chain_from operator join operand k) (from_sound k) left xs ts rest out b (operator ts) refl e
+
+  pub chain_sound : (first : Parser Node) (first_sound : (ts rest : List Token) (out : Node) → first ts ≡ Some (out, rest) → Takes B ts rest out)
+      (ts rest : List Token) (out : Node) → chain operator join operand first ts ≡ Some (out, rest) → Takes B ts rest out
+  chain_sound first first_sound ts rest out e =
+      let r = bind_some (first ts) (chain_from operator join operand 64) out rest e in
+      let start = first_sound ts r.1 r.0 r.2 in
+      let found = from_sound 64 r.0 start.front r.1 rest out start.is r.3 in
+      record { front = found.front; parts = start.parts ∙ found.parts; is = found.is }

@@ -1,0 +1,9 @@
+use Rattle.std.proofs.Common.{◌≡◌, ◌-◌}
+use Rattle.formula_tree.specs.declared.node.Node.TheVariants as n
+use Rattle.formula_tree.specs.declared.operator.UnaryKind.TheVariants as unary
+use Rattle.formula_grammar.specs.Reading.{with_rest, signed, whole}
+use Rattle.formula_grammar.specs.Signs.{wrapped}
+use Rattle.formula_grammar.proofs.rules.Rules.signed.Given as goal
+
+abbrev pub invariant-loop-turn : goal.invariant-loop-turn
+invariant-loop-turn g l = signed l.self.profile (whole l.self.profile l.self.nesting) l.self.room l.fn.tokens.rest.now ≡ with_rest l.tokens.rest.now (wrapped (n.Unary unary.Minus) (l.count - l._turn) l.tree)

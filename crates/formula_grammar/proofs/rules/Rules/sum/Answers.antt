@@ -1,0 +1,44 @@
+use Rattle.std.proofs.Common.{rules, arith}
+use Rattle.std.proofs.lemmas.Grind.{common_steps}
+use Rattle.formula_tree.specs.declared.node.Node.TheVariants as n
+use Rattle.formula_grammar.specs.Reading.{sum_sign, chain_from, product, sum, whole}
+use Rattle.formula_grammar.proofs.Counting.{one_more, no_more}
+use Rattle.formula_grammar.proofs.rules.Rules.sum.Goals as goal
+
+pub returns-in_err-left : goal.returns-in_err-left
+unfolding sum
+returns-in_err-left g c = first_of (search rules, grind (arith, common_steps))
+
+pub loop-turn-init : goal.loop-turn-init
+unfolding sum
+loop-turn-init g c = first_of (search rules, grind (arith, common_steps))
+
+pub returns-in_default : goal.returns-in_default
+unfolding chain_from
+returns-in_default g c =
+    let e = one_more (λ k. chain_from sum_sign n.Sum (product c.args.self.now.profile (whole c.args.self.now.profile c.args.self.now.nesting) c.args.self.now.room) k c.loop-turn.left c.loop-turn.tokens.rest.now) 64 c.loop-turn._turn c.loop-turn-test.true c.loop-turn.invariant in
+    first_of (search rules, grind (arith, common_steps))
+
+pub returns-in_err-right : goal.returns-in_err-right
+unfolding chain_from
+returns-in_err-right g c =
+    let e = one_more (λ k. chain_from sum_sign n.Sum (product c.args.self.now.profile (whole c.args.self.now.profile c.args.self.now.nesting) c.args.self.now.room) k c.loop-turn.left c.loop-turn.tokens.rest.now) 64 c.loop-turn._turn c.loop-turn-test.true c.loop-turn.invariant in
+    first_of (search rules, grind (arith, common_steps))
+
+pub returns-in_err-left-2 : goal.returns-in_err-left-2
+unfolding chain_from
+returns-in_err-left-2 g c =
+    let e = one_more (λ k. chain_from sum_sign n.Sum (product c.args.self.now.profile (whole c.args.self.now.profile c.args.self.now.nesting) c.args.self.now.room) k c.loop-turn.left c.loop-turn.tokens.rest.now) 64 c.loop-turn._turn c.loop-turn-test.true c.loop-turn.invariant in
+    first_of (search rules, grind (arith, common_steps))
+
+pub loop-turn-preserved : goal.loop-turn-preserved
+unfolding chain_from
+loop-turn-preserved g c =
+    let e = one_more (λ k. chain_from sum_sign n.Sum (product c.args.self.now.profile (whole c.args.self.now.profile c.args.self.now.nesting) c.args.self.now.room) k c.loop-turn.left c.loop-turn.tokens.rest.now) 64 c.loop-turn._turn c.loop-turn-test.true c.loop-turn.invariant in
+    first_of (search rules, grind (arith, common_steps))
+
+pub returns : goal.returns
+unfolding chain_from
+returns g c =
+    let e = no_more (λ k. chain_from sum_sign n.Sum (product c.args.self.now.profile (whole c.args.self.now.profile c.args.self.now.nesting) c.args.self.now.room) k c.loop-turn.left c.loop-turn.tokens.rest.now) 64 c.loop-turn._turn c.loop-turn-test.false c.loop-turn.invariant in
+    first_of (search rules, grind (arith, common_steps))

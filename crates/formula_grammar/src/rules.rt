@@ -1,0 +1,352 @@
+//! The rules of the grammar. They take the reader of a whole as a parameter, so that each is proved
+//! by itself.
+
+ghost use Rattle.std.specs.Prelude.{◌≡◌};
+ghost use Rattle.base_values.specs.Places.{IsPlace};
+ghost use Rattle.formula_grammar.specs.Reading as spec;
+ghost use Rattle.formula_grammar.specs.Outcome.{Reads};
+ghost use Rattle.formula_grammar.specs.Nests.{Nests};
+
+use crate::arrays::array;
+use crate::cursor::Cursor;
+use crate::fault::Fault;
+use crate::found::{Found, FoundAll};
+use crate::parameters::parameters;
+use crate::profile::Profile;
+use crate::token::Token;
+use crate::words::{called, is_lambda, range, reference, worded};
+use base_values::Text;
+use formula_tree::{MAX_DEPTH, Node, UnaryKind};
+use std::alloc::Global;
+
+#[derive(Clone, Copy)]
+pub struct Rules<F> {
+    pub alloc: Global,
+    pub profile: Profile,
+    /// How deep calls and parentheses may still nest.
+    pub nesting: u64,
+    /// How many parentheses that are no call's may still be opened.
+    pub room: u64,
+    pub whole: F,
+}
+
+impl<F: Fn(Global, Profile, &mut Cursor<'_>, u64, u64) -> Result<Found, Fault>> Rules<F> {
+    fn inner(&self, tokens: &mut Cursor<'_>, room: u64) -> Result<Found, Fault>
+        requires { Nests self.now.profile self.now.nesting (F.pre self.now.whole) (F.post self.now.whole) }
+        ensures { Reads (spec.whole self.now.profile self.now.nesting room tokens.old.rest.now) result tokens.new.rest.now }
+    {
+        (self.whole)(self.alloc, self.profile, tokens, self.nesting, room)
+    }
+
+    pub fn compare(&self, tokens: &mut Cursor<'_>) -> Result<Found, Fault>
+        requires { Nests self.now.profile self.now.nesting (F.pre self.now.whole) (F.post self.now.whole) }
+        ensures { Reads (spec.compare self.now.profile (spec.whole self.now.profile self.now.nesting) self.now.room tokens.old.rest.now) result tokens.new.rest.now }
+    {
+        let mut left = self.concatenation(tokens)?;
+        for _turn in 0..MAX_DEPTH {
+            let Some(kind) = tokens.compare_sign() else {
+                return Ok(left);
+            };
+            let right = self.concatenation(tokens)?;
+            left = Found::compare(self.alloc, kind, left, right)?;
+        }
+        Err(Fault::Outside)
+    }
+
+    fn concatenation(&self, tokens: &mut Cursor<'_>) -> Result<Found, Fault>
+        requires { Nests self.now.profile self.now.nesting (F.pre self.now.whole) (F.post self.now.whole) }
+        ensures { Reads (spec.concatenation self.now.profile (spec.whole self.now.profile self.now.nesting) self.now.room tokens.old.rest.now) result tokens.new.rest.now }
+    {
+        let mut left = self.sum(tokens)?;
+        for _turn in 0..MAX_DEPTH {
+            if !tokens.ampersand() {
+                return Ok(left);
+            }
+            let right = self.sum(tokens)?;
+            left = Found::concatenation(self.alloc, left, right)?;
+        }
+        Err(Fault::Outside)
+    }
+
+    fn sum(&self, tokens: &mut Cursor<'_>) -> Result<Found, Fault>
+        requires { Nests self.now.profile self.now.nesting (F.pre self.now.whole) (F.post self.now.whole) }
+        ensures { Reads (spec.sum self.now.profile (spec.whole self.now.profile self.now.nesting) self.now.room tokens.old.rest.now) result tokens.new.rest.now }
+    {
+        let mut left = self.product(tokens)?;
+        for _turn in 0..MAX_DEPTH {
+            let Some(kind) = tokens.sum_sign() else {
+                return Ok(left);
+            };
+            let right = self.product(tokens)?;
+            left = Found::sum(self.alloc, kind, left, right)?;
+        }
+        Err(Fault::Outside)
+    }
+
+    fn product(&self, tokens: &mut Cursor<'_>) -> Result<Found, Fault>
+        requires { Nests self.now.profile self.now.nesting (F.pre self.now.whole) (F.post self.now.whole) }
+        ensures { Reads (spec.product self.now.profile (spec.whole self.now.profile self.now.nesting) self.now.room tokens.old.rest.now) result tokens.new.rest.now }
+    {
+        let mut left = self.power(tokens)?;
+        for _turn in 0..MAX_DEPTH {
+            let Some(kind) = tokens.product_sign() else {
+                return Ok(left);
+            };
+            let right = self.power(tokens)?;
+            left = Found::product(self.alloc, kind, left, right)?;
+        }
+        Err(Fault::Outside)
+    }
+
+    fn power(&self, tokens: &mut Cursor<'_>) -> Result<Found, Fault>
+        requires { Nests self.now.profile self.now.nesting (F.pre self.now.whole) (F.post self.now.whole) }
+        ensures { Reads (spec.power self.now.profile (spec.whole self.now.profile self.now.nesting) self.now.room tokens.old.rest.now) result tokens.new.rest.now }
+    {
+        let mut left = self.signed(tokens)?;
+        for _turn in 0..MAX_DEPTH {
+            if !tokens.power_sign() {
+                return Ok(left);
+            }
+            let right = self.signed(tokens)?;
+            left = Found::power(self.alloc, left, right)?;
+        }
+        Err(Fault::Outside)
+    }
+
+    fn signed(&self, tokens: &mut Cursor<'_>) -> Result<Found, Fault>
+        requires { Nests self.now.profile self.now.nesting (F.pre self.now.whole) (F.post self.now.whole) }
+        ensures { Reads (spec.signed self.now.profile (spec.whole self.now.profile self.now.nesting) self.now.room tokens.old.rest.now) result tokens.new.rest.now }
+    {
+        let count = tokens.signs();
+        let mut tree = self.percent(tokens)?;
+        for _turn in 0..count {
+            tree = Found::unary(self.alloc, UnaryKind::Minus, tree)?;
+        }
+        Ok(tree)
+    }
+
+    fn percent(&self, tokens: &mut Cursor<'_>) -> Result<Found, Fault>
+        requires { Nests self.now.profile self.now.nesting (F.pre self.now.whole) (F.post self.now.whole) }
+        ensures { Reads (spec.percent self.now.profile (spec.whole self.now.profile self.now.nesting) self.now.room tokens.old.rest.now) result tokens.new.rest.now }
+    {
+        let mut tree = self.single(tokens)?;
+        for _turn in 0..MAX_DEPTH {
+            if !tokens.percent_sign() {
+                return Ok(tree);
+            }
+            tree = Found::unary(self.alloc, UnaryKind::Percent, tree)?;
+        }
+        Err(Fault::Outside)
+    }
+
+    fn single(&self, tokens: &mut Cursor<'_>) -> Result<Found, Fault>
+        requires { Nests self.now.profile self.now.nesting (F.pre self.now.whole) (F.post self.now.whole) }
+        ensures { Reads (spec.single self.now.profile (spec.whole self.now.profile self.now.nesting) self.now.room tokens.old.rest.now) result tokens.new.rest.now }
+    {
+        let count = tokens.at_signs();
+        let mut tree = self.colon(tokens)?;
+        for _turn in 0..count {
+            tree = Found::single(self.alloc, tree)?;
+        }
+        Ok(tree)
+    }
+
+    fn colon(&self, tokens: &mut Cursor<'_>) -> Result<Found, Fault>
+        requires { Nests self.now.profile self.now.nesting (F.pre self.now.whole) (F.post self.now.whole) }
+        ensures { Reads (spec.colon self.now.profile (spec.whole self.now.profile self.now.nesting) self.now.room tokens.old.rest.now) result tokens.new.rest.now }
+    {
+        let mut left = self.spill(tokens)?;
+        for _turn in 0..MAX_DEPTH {
+            if !tokens.colon_sign() {
+                return Ok(left);
+            }
+            let right = self.spill(tokens)?;
+            left = Found::colon(self.alloc, left, right)?;
+        }
+        Err(Fault::Outside)
+    }
+
+    fn spill(&self, tokens: &mut Cursor<'_>) -> Result<Found, Fault>
+        requires { Nests self.now.profile self.now.nesting (F.pre self.now.whole) (F.post self.now.whole) }
+        ensures { Reads (spec.spill self.now.profile (spec.whole self.now.profile self.now.nesting) self.now.room tokens.old.rest.now) result tokens.new.rest.now }
+    {
+        let mut tree = self.primary(tokens)?;
+        for _turn in 0..MAX_DEPTH {
+            if !tokens.hash() {
+                return Ok(tree);
+            }
+            tree = Found::spill(self.alloc, tree)?;
+        }
+        Err(Fault::Outside)
+    }
+
+    #[tactic(auto, using(crate::proofs::Depths::depths), unfolding(crate::specs::Reading::primary))]
+    fn primary(&self, tokens: &mut Cursor<'_>) -> Result<Found, Fault>
+        requires { Nests self.now.profile self.now.nesting (F.pre self.now.whole) (F.post self.now.whole) }
+        ensures { Reads (spec.primary self.now.profile (spec.whole self.now.profile self.now.nesting) self.now.room tokens.old.rest.now) result tokens.new.rest.now }
+    {
+        match tokens.rest {
+            [Token::Number(value), rest @ ..] => {
+                tokens.rest = rest;
+                Ok(Found::leaf(Node::Number(*value)))
+            }
+            [Token::Text(text), rest @ ..] => {
+                tokens.rest = rest;
+                Ok(Found::leaf(Node::Text(text.clone()?)))
+            }
+            [Token::Error(error), rest @ ..] => {
+                tokens.rest = rest;
+                Ok(Found::leaf(Node::Error(*error)))
+            }
+            [Token::Reference(sheet, mark), rest @ ..] => {
+                tokens.rest = rest;
+                reference(self.profile.place, sheet, *mark)
+            }
+            [Token::Range(sheet, first, second), rest @ ..] => {
+                tokens.rest = rest;
+                range(self.profile.place, sheet, *first, *second)
+            }
+            [Token::Word(word), rest @ ..] => {
+                tokens.rest = rest;
+                self.named(tokens, word)
+            }
+            [Token::OpenParenthesis, rest @ ..] => {
+                tokens.rest = rest;
+                self.enclosed(tokens)
+            }
+            [Token::OpenBrace, rest @ ..] => {
+                tokens.rest = rest;
+                array(self.alloc, self.profile, tokens)
+            }
+            _ => Err(Fault::Outside),
+        }
+    }
+
+    /// What stands in parentheses, after the first of them.
+    #[tactic(auto, unfolding(crate::specs::Reading::enclosed))]
+    fn enclosed(&self, tokens: &mut Cursor<'_>) -> Result<Found, Fault>
+        requires { Nests self.now.profile self.now.nesting (F.pre self.now.whole) (F.post self.now.whole) }
+        ensures { Reads (spec.enclosed self.now.profile (spec.whole self.now.profile self.now.nesting) self.now.room tokens.old.rest.now) result tokens.new.rest.now }
+    {
+        if self.room == 0 {
+            return Err(Fault::Outside);
+        }
+        let tree = self.inner(tokens, self.room - 1)?;
+        if !tokens.closing() {
+            return Err(Fault::Outside);
+        }
+        Ok(tree)
+    }
+
+    /// What a word begins: a call, or the word alone.
+    fn named(&self, tokens: &mut Cursor<'_>, word: &Text) -> Result<Found, Fault>
+        requires { Nests self.now.profile self.now.nesting (F.pre self.now.whole) (F.post self.now.whole) }
+        ensures { Reads (spec.named self.now.profile (spec.whole self.now.profile self.now.nesting) self.now.room word.now tokens.old.rest.now) result tokens.new.rest.now }
+    {
+        match tokens.rest {
+            [Token::OpenParenthesis, rest @ ..] => {
+                tokens.rest = rest;
+                self.call(tokens, word)
+            }
+            _ => Ok(worded(self.profile.language, word)?),
+        }
+    }
+
+    /// A call, after the word and the opening parenthesis.
+    #[tactic(auto, unfolding(crate::specs::Reading::call))]
+    fn call(&self, tokens: &mut Cursor<'_>, word: &Text) -> Result<Found, Fault>
+        requires { Nests self.now.profile self.now.nesting (F.pre self.now.whole) (F.post self.now.whole) }
+        ensures { Reads (spec.call self.now.profile (spec.whole self.now.profile self.now.nesting) self.now.room word.now tokens.old.rest.now) result tokens.new.rest.now }
+    {
+        if is_lambda(word) {
+            return self.lambda(tokens);
+        }
+        let arguments = self.arguments(tokens)?;
+        called(self.profile.language, word, arguments)
+    }
+
+    /// A lambda and its calls, after LAMBDA and the opening parenthesis.
+    fn lambda(&self, tokens: &mut Cursor<'_>) -> Result<Found, Fault>
+        requires { Nests self.now.profile self.now.nesting (F.pre self.now.whole) (F.post self.now.whole) }
+        ensures { Reads (spec.lambda self.now.profile (spec.whole self.now.profile self.now.nesting) self.now.room tokens.old.rest.now) result tokens.new.rest.now }
+    {
+        let mut tree = self.function(tokens)?;
+        for _turn in 0..MAX_DEPTH {
+            if !tokens.opening() {
+                return Ok(tree);
+            }
+            let arguments = self.arguments(tokens)?;
+            tree = Found::lambda_call(self.alloc, tree, arguments)?;
+        }
+        Err(Fault::Outside)
+    }
+
+    /// Parameters and body of a lambda, up to the closing parenthesis.
+    #[tactic(auto, unfolding(crate::specs::Reading::function))]
+    fn function(&self, tokens: &mut Cursor<'_>) -> Result<Found, Fault>
+        requires { Nests self.now.profile self.now.nesting (F.pre self.now.whole) (F.post self.now.whole) }
+        ensures { Reads (spec.function self.now.profile (spec.whole self.now.profile self.now.nesting) self.now.room tokens.old.rest.now) result tokens.new.rest.now }
+    {
+        let parameters = parameters(self.alloc, tokens, self.profile.locale)?;
+        let body = self.inner(tokens, self.room)?;
+        if !tokens.closing() {
+            return Err(Fault::Outside);
+        }
+        Found::lambda(self.alloc, parameters, body)
+    }
+
+    #[tactic(auto, using(crate::proofs::Depths::depths), unfolding(crate::specs::Reading::argument))]
+    fn argument(&self, tokens: &mut Cursor<'_>) -> Result<Found, Fault>
+        requires { Nests self.now.profile self.now.nesting (F.pre self.now.whole) (F.post self.now.whole) }
+        ensures { Reads (spec.argument self.now.profile (spec.whole self.now.profile self.now.nesting) self.now.room tokens.old.rest.now) result tokens.new.rest.now }
+    {
+        if tokens.is_empty_here(self.profile.locale) {
+            return Ok(Found::leaf(Node::EmptyArgument));
+        }
+        self.inner(tokens, self.room)
+    }
+
+    /// The arguments of a call, up to the closing parenthesis.
+    fn arguments(&self, tokens: &mut Cursor<'_>) -> Result<FoundAll, Fault>
+        requires { Nests self.now.profile self.now.nesting (F.pre self.now.whole) (F.post self.now.whole) }
+        ensures { Reads (spec.arguments self.now.profile (spec.whole self.now.profile self.now.nesting) self.now.room tokens.old.rest.now) result tokens.new.rest.now }
+    {
+        let mut found = FoundAll::empty(self.alloc);
+        if tokens.closing() {
+            return Ok(found);
+        }
+        for _turn in 0..tokens.rest.len() {
+            let argument = self.argument(tokens)?;
+            found = found.push(argument)?;
+            if !tokens.separator(self.profile.locale)? {
+                return Ok(found);
+            }
+        }
+        Err(Fault::Outside)
+    }
+}
+
+/// A whole, with calls and parentheses nested no deeper than `nesting`, and with at most `room` open
+/// parentheses that are no call's.
+pub fn whole(
+    alloc: Global,
+    profile: Profile,
+    tokens: &mut Cursor<'_>,
+    nesting: u64,
+    room: u64,
+) -> Result<Found, Fault>
+    requires { IsPlace profile.place }
+    ensures { Reads (spec.whole profile nesting room tokens.old.rest.now) result tokens.new.rest.now }
+{
+    if nesting == 0 {
+        return Err(Fault::Outside);
+    }
+    Rules {
+        alloc,
+        profile,
+        nesting: nesting - 1,
+        room,
+        whole,
+    }
+    .compare(tokens)
+}

@@ -13,6 +13,10 @@ use Rattle.formula_grammar.proofs.Chains.{chain_closes}
 use Rattle.formula_grammar.proofs.Complete.{compare_before}
 use Rattle.formula_grammar.proofs.Sound.{whole_sound}
 use Rattle.formula_grammar.proofs.Placing.{compare_placed}
+use Rattle.formula_grammar.proofs.Numbering.{compare_follows}
+use Rattle.formula_grammar.specs.Numbers.{tokens_follow}
+use Rattle.formula_tree.specs.declared.numbers.NumberRule.{NumberRule}
+use Rattle.formula_tree.specs.Numbers.{numbers_follow}
 use Rattle.formula_tree.specs.Placed.{is_placed}
 
 -- what the grammar derives is read as that tree, and so as no other
@@ -41,17 +45,21 @@ read_is_derived p ts tree e =
 pub one_tree : (p : Profile) (ts : List Token) (a b : Node) → Derives p ts a → Derives p ts b → a ≡ b
 one_tree p ts a b x y = let e = sym (derived_is_read p ts a x) ∙ derived_is_read p ts b y in cc
 
-pub found_derives : {E : Type 0} (p : Profile) (ts : List Token) (r : Result (Option Node) E) → IfOk r (λ o. o ≡ tree_of p ts) → IfOk r (λ o. IfSome o (λ tree. Derives p ts tree))
-found_derives p ts (Ok (Some tree)) e = read_is_derived p ts tree (sym e)
-found_derives p ts (Ok None) e = tt
-found_derives p ts (Err x) e = tt
+-- what holds of each tree that the tokens derive holds of the one that was read
+pub found_has : {E : Type 0} (p : Profile) (ts : List Token) (r : Result (Option Node) E) (P : Node → Type 0) → ((tree : Node) → Derives p ts tree → P tree)
+    → IfOk r (λ o. o ≡ tree_of p ts) → IfOk r (λ o. IfSome o P)
+found_has p ts (Ok (Some tree)) P has e = has tree (read_is_derived p ts tree (sym e))
+found_has p ts (Ok None) P has e = tt
+found_has p ts (Err x) P has e = tt
 
 pub only_this : {E : Type 0} (p : Profile) (ts : List Token) (r : Result (Option Node) E) → IfOk r (λ o. o ≡ tree_of p ts) → IfOk r (λ o. (tree : Node) → Derives p ts tree → o ≡ Some tree)
 only_this p ts (Ok o) e = λ tree d. e ∙ derived_is_read p ts tree d
 only_this p ts (Err x) e = tt
 
--- and its corners lie as they should
-pub found_placed : {E : Type 0} (p : Profile) (ts : List Token) (r : Result (Option Node) E) → IfOk r (λ o. o ≡ tree_of p ts) → IfOk r (λ o. IfSome o (λ tree. is_placed p.place tree ≡ true))
-found_placed p ts (Ok (Some tree)) e = let d = read_is_derived p ts tree (sym e) in ap (is_placed p.place) (sym d.gives) ∙ compare_placed d.by
-found_placed p ts (Ok None) e = tt
-found_placed p ts (Err x) e = tt
+-- its corners lie as they should
+pub derived_placed : (p : Profile) (ts : List Token) (tree : Node) → Derives p ts tree → is_placed p.place tree ≡ true
+derived_placed p ts tree d = ap (is_placed p.place) (sym d.gives) ∙ compare_placed d.by
+
+-- its numbers are as those of the tokens
+pub derived_follows : (r : NumberRule) (p : Profile) (ts : List Token) → tokens_follow r ts ≡ true → (tree : Node) → Derives p ts tree → numbers_follow r tree ≡ true
+derived_follows r p ts follow tree d = ap (numbers_follow r) (sym d.gives) ∙ compare_follows r d.by (ap (tokens_follow r) d.spells ∙ follow)

@@ -10,6 +10,7 @@ pub mod Parting
 pub mod Lists
 pub mod Sound
 pub mod Placing
+pub mod Numbering
 pub mod Laws
 pub mod Counting
 pub mod Signed

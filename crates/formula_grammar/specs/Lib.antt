@@ -5,3 +5,5 @@ pub mod Reading
 pub mod Outcome
 pub mod Signs
 pub mod Nests
+pub mod Numbers
+pub mod Normal

@@ -1,11 +1,15 @@
-ghost use Rattle.std.specs.Prelude.{◌≡◌, true, Some, IfOk, IfSome, IsOkUnless, List};
+ghost use Rattle.std.specs.Prelude.{◌≡◌, ◌≤◌, true, Some, IfOk, IfSome, IsOkUnless, List};
 ghost use Rattle.base_values.specs.Places.{IsPlace};
 ghost use Rattle.base_values.specs.declared.error.EditError.TheVariants.{NoMemory};
 ghost use Rattle.formula_tree.specs.declared.node.Node.{Node as Tree};
+ghost use Rattle.formula_tree.specs.declared.numbers.NumberRule.{NumberRule};
+ghost use Rattle.formula_tree.specs.Depth.{depth_of};
+ghost use Rattle.formula_tree.specs.Numbers.{numbers_follow};
 ghost use Rattle.formula_tree.specs.Placed.{is_placed};
 ghost use Rattle.formula_grammar.specs.declared.profile.Profile.{Profile as AnyProfile};
 ghost use Rattle.formula_grammar.specs.declared.token.Token.{Token as AnyToken};
 ghost use Rattle.formula_grammar.specs.Grammar.{Derives};
+ghost use Rattle.formula_grammar.specs.Numbers.{tokens_follow};
 ghost use Rattle.formula_grammar.specs.Reading as spec;
 
 use crate::cursor::Cursor;
@@ -58,6 +62,11 @@ pub fn read_tokens(
 
     // Each of its corners lies inside the sheet, and those of each range are in order.
     ensures placed { IfOk result (λ o. IfSome o (λ tree. is_placed profile.place tree ≡ true)) }
+    ensures shallow { IfOk result (λ o. IfSome o (λ tree. depth_of tree ≤ 64)) }
+
+    // Its numbers are kept where those of the tokens are, and none is negative where none of them is.
+    ensures numbers { (rule : NumberRule) → tokens_follow rule tokens.now ≡ true
+        → IfOk result (λ o. IfSome o (λ tree. numbers_follow rule tree ≡ true)) }
     ensures memory { IsOkUnless result NoMemory }
 {
     tree_of(alloc, profile, tokens)

@@ -14,3 +14,4 @@ pub mod CornerLaws
 pub mod PlacedLaws
 pub mod Numbers
 pub mod NumbersEquations
+pub mod ParseError

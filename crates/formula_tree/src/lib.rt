@@ -11,6 +11,7 @@ mod node;
 mod numbers;
 mod operator;
 mod parameter;
+mod parse_error;
 mod placed;
 mod rebase;
 mod sameness;
@@ -26,6 +27,7 @@ pub use node::Node;
 pub use numbers::{has_kept_numbers, has_no_negative_number};
 pub use operator::{CompareKind, ProductKind, SumKind, UnaryKind};
 pub use parameter::Parameter;
+pub use parse_error::is_parse_error;
 pub use placed::is_placed;
 pub use rebase::rebase_node;
 

@@ -1,5 +1,5 @@
 -- The reading function and the grammar are one.
-use Rattle.std.proofs.Common.{◌≡◌, true, ◌≤◌, List, [], ◌∷◌, ◌++◌, Option, Some, None, Result, Ok, Err, refl, sym, ap, ◌∙◌, append-nil, arith}
+use Rattle.std.proofs.Common.{◌≡◌, true, false, ◌≤◌, List, [], ◌∷◌, ◌++◌, Option, Some, None, Result, Ok, Err, refl, sym, ap, ◌∙◌, append-nil, arith}
 use Rattle.std.specs.Prelude.{IfOk, IfSome}
 use Rattle.formula_tree.specs.declared.node.Node.{Node}
 use Rattle.formula_tree.specs.declared.node.Node.TheVariants as n
@@ -13,10 +13,12 @@ use Rattle.formula_grammar.proofs.Chains.{chain_closes}
 use Rattle.formula_grammar.proofs.Complete.{compare_before}
 use Rattle.formula_grammar.proofs.Sound.{whole_sound}
 use Rattle.formula_grammar.proofs.Placing.{compare_placed}
+use Rattle.formula_grammar.proofs.Formulas.{compare_formula}
 use Rattle.formula_grammar.proofs.Numbering.{compare_follows}
 use Rattle.formula_grammar.specs.Numbers.{tokens_follow}
 use Rattle.formula_tree.specs.declared.numbers.NumberRule.{NumberRule}
 use Rattle.formula_tree.specs.Numbers.{numbers_follow}
+use Rattle.formula_tree.specs.ParseError.{is_parse_error}
 use Rattle.formula_tree.specs.Placed.{is_placed}
 
 -- what the grammar derives is read as that tree, and so as no other
@@ -59,6 +61,10 @@ only_this p ts (Err x) e = tt
 -- its corners lie as they should
 pub derived_placed : (p : Profile) (ts : List Token) (tree : Node) → Derives p ts tree → is_placed p.place tree ≡ true
 derived_placed p ts tree d = ap (is_placed p.place) (sym d.gives) ∙ compare_placed d.by
+
+-- it is no text outside of the grammar
+pub derived_formula : (p : Profile) (ts : List Token) (tree : Node) → Derives p ts tree → is_parse_error tree ≡ false
+derived_formula p ts tree d = ap is_parse_error (sym d.gives) ∙ compare_formula d.by
 
 -- its numbers are as those of the tokens
 pub derived_follows : (r : NumberRule) (p : Profile) (ts : List Token) → tokens_follow r ts ≡ true → (tree : Node) → Derives p ts tree → numbers_follow r tree ≡ true

@@ -1,10 +1,11 @@
-ghost use Rattle.std.specs.Prelude.{◌≡◌, ◌≤◌, true, Some, IfOk, IfSome, IsOkUnless, List};
+ghost use Rattle.std.specs.Prelude.{◌≡◌, ◌≤◌, true, false, Some, IfOk, IfSome, IsOkUnless, List};
 ghost use Rattle.base_values.specs.Places.{IsPlace};
 ghost use Rattle.base_values.specs.declared.error.EditError.TheVariants.{NoMemory};
 ghost use Rattle.formula_tree.specs.declared.node.Node.{Node as Tree};
 ghost use Rattle.formula_tree.specs.declared.numbers.NumberRule.{NumberRule};
 ghost use Rattle.formula_tree.specs.Depth.{depth_of};
 ghost use Rattle.formula_tree.specs.Numbers.{numbers_follow};
+ghost use Rattle.formula_tree.specs.ParseError.{is_parse_error};
 ghost use Rattle.formula_tree.specs.Placed.{is_placed};
 ghost use Rattle.formula_grammar.specs.declared.profile.Profile.{Profile as AnyProfile};
 ghost use Rattle.formula_grammar.specs.declared.token.Token.{Token as AnyToken};
@@ -60,6 +61,8 @@ pub fn read_tokens(
     ensures found { IfOk result (λ o. IfSome o (λ tree. Derives profile tokens.now tree)) }
     ensures only { IfOk result (λ o. (tree : Tree) → Derives profile tokens.now tree → o ≡ Some tree) }
 
+    ensures formula { IfOk result (λ o. IfSome o (λ tree. is_parse_error tree ≡ false)) }
+
     // Each of its corners lies inside the sheet, and those of each range are in order.
     ensures placed { IfOk result (λ o. IfSome o (λ tree. is_placed profile.place tree ≡ true)) }
     ensures shallow { IfOk result (λ o. IfSome o (λ tree. depth_of tree ≤ 64)) }
@@ -72,7 +75,8 @@ pub fn read_tokens(
     tree_of(alloc, profile, tokens)
 }
 
-/// Tokens derive at most one tree.
+/// Tokens derive at most one tree, which is no text outside of the grammar.
 pub fn tokens_derive_one_tree()
-    ensures { (profile : AnyProfile) (tokens : List AnyToken) (a b : Tree) → Derives profile tokens a → Derives profile tokens b → a ≡ b }
+    ensures one { (profile : AnyProfile) (tokens : List AnyToken) (a b : Tree) → Derives profile tokens a → Derives profile tokens b → a ≡ b }
+    ensures formula { (profile : AnyProfile) (tokens : List AnyToken) (tree : Tree) → Derives profile tokens tree → is_parse_error tree ≡ false }
 {}

@@ -1,28 +1,27 @@
 -- The corners of a tree that the grammar derives lie inside the sheet, and those of ranges in order.
-use Rattle.std.proofs.Common.{◌≡◌, ℕ, ℤ, pos, Bool, true, false, cond, ◌&&◌, List, [], ◌∷◌, Option, Some, None, Result, Ok, Err, refl, sym, ap, ◌∙◌, arith}
+use Rattle.std.proofs.Common.{◌≡◌, ℕ, ℤ, pos, Bool, true, false, cond, ◌&&◌, List, Option, Some, None, Result, Ok, Err, refl, sym, ap, ◌∙◌, arith}
 use Rattle.std.specs.List.{list_all}
 use Rattle.base_values.specs.declared.EditError.{EditError}
 use Rattle.base_values.specs.declared.EditError.TheVariants.{InvalidRow, InvalidColumn}
 use Rattle.base_values.specs.declared.Position.{Position}
 use Rattle.base_values.specs.Places.{is_line, place_of}
 use Rattle.base_tables.specs.declared.Function.{Function}
-use Rattle.base_tables.specs.declared.Language.{Language}
 use Rattle.base_tables.specs.Function.{function_of_name}
 use Rattle.base_tables.specs.Language.{boolean_of_text}
 use Rattle.formula_tree.specs.declared.corner.Corner.{Corner}
 use Rattle.formula_tree.specs.declared.node.Node.{Node}
 use Rattle.formula_tree.specs.declared.node.Node.TheVariants as n
 use Rattle.formula_tree.specs.declared.operator.UnaryKind.TheVariants as unary
-use Rattle.formula_tree.specs.Corners.{corner_row, corner_column, corner_to, is_inside, lower_corner, higher_corner}
+use Rattle.formula_tree.specs.Corners.{corner_row, corner_column, is_inside}
 use Rattle.formula_tree.specs.CornerLaws.{corner_row-corner_to, corner_column-corner_to}
 use Rattle.formula_tree.specs.Placed.{is_placed}
 use Rattle.formula_tree.specs.PlacedEquations.{placed_boolean, placed_number, placed_text, placed_reference, placed_colon, placed_concatenate, placed_compare, placed_sum, placed_product, placed_power, placed_unary, placed_call, placed_named_call, placed_array, placed_name, placed_error, placed_empty_argument, placed_spill, placed_lambda, placed_lambda_call, placed_implicit_intersection}
 use Rattle.formula_tree.specs.PlacedLaws.{placed-rebased}
-use Rattle.formula_tree.specs.Rebase.{rebased, range_at}
+use Rattle.formula_tree.specs.Rebase.{range_at}
 use Rattle.formula_tree.specs.RebaseEquations.{rebased_range}
 use Rattle.formula_grammar.specs.declared.profile.Profile.{Profile}
 use Rattle.formula_grammar.specs.declared.token.CellMark.{CellMark}
-use Rattle.formula_grammar.specs.Words.{call_node, called, word_node, worded, mark_place, corner_of, range_node}
+use Rattle.formula_grammar.specs.Words.{call_node, word_node, mark_place, corner_of, range_node}
 use Rattle.formula_grammar.specs.Grammar as G
 use Rattle.formula_grammar.specs.Grammar.{Compare, Concatenation, Sum, Product, Power, Signed, Percent, Single, Colon, Spill, Primary, Lambda, Arguments, Argument, More, rows_lines, compare_tree, concatenation_tree, sum_tree, product_tree, power_tree, signed_tree, percent_tree, single_tree, colon_tree, spill_tree, primary_tree, lambda_tree, arguments_trees, argument_tree, more_trees}
 

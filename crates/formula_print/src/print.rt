@@ -100,6 +100,15 @@ fn begins_spill_with_cell(style: Style, node: &Node) -> bool
     }
 }
 
+/// Writes an operator between its operands. It is no function, since the recursion ends where each
+/// call goes from a tree to a part of it, and no tree holds just these two.
+macro_rules! print_infix {
+    ($style:ident, $operator:expr, $left:ident, $right:ident, $out:ident) => {{
+        print_left($style, $operator, $left.get(), $out)?;
+        print_right($style, $operator, $right.get(), $out)
+    }};
+}
+
 /// Writes the text of a tree at the end.
 #[cycle(print)]
 #[tactic(auto, using(crate::specs::PrintEquations::prints, crate::proofs::Joins::nothing_added, crate::proofs::Joins::pieces))]
@@ -116,26 +125,11 @@ pub(crate) fn print_node(style: Style, node: &Node, out: &mut String) -> Result<
             print_first(style, begins_with_cell(style, b.get()), a.get(), out)?;
             print_operand(style, Need::Level(10), b.get(), out)
         }
-        Node::Concatenate(a, b) => {
-            print_left(style, Infix::Concatenate, a.get(), out)?;
-            print_right(style, Infix::Concatenate, b.get(), out)
-        }
-        Node::Compare(kind, a, b) => {
-            print_left(style, Infix::Compare(*kind), a.get(), out)?;
-            print_right(style, Infix::Compare(*kind), b.get(), out)
-        }
-        Node::Sum(kind, a, b) => {
-            print_left(style, Infix::Sum(*kind), a.get(), out)?;
-            print_right(style, Infix::Sum(*kind), b.get(), out)
-        }
-        Node::Product(kind, a, b) => {
-            print_left(style, Infix::Product(*kind), a.get(), out)?;
-            print_right(style, Infix::Product(*kind), b.get(), out)
-        }
-        Node::Power(a, b) => {
-            print_left(style, Infix::Power, a.get(), out)?;
-            print_right(style, Infix::Power, b.get(), out)
-        }
+        Node::Concatenate(a, b) => print_infix!(style, Infix::Concatenate, a, b, out),
+        Node::Compare(kind, a, b) => print_infix!(style, Infix::Compare(*kind), a, b, out),
+        Node::Sum(kind, a, b) => print_infix!(style, Infix::Sum(*kind), a, b, out),
+        Node::Product(kind, a, b) => print_infix!(style, Infix::Product(*kind), a, b, out),
+        Node::Power(a, b) => print_infix!(style, Infix::Power, a, b, out),
         Node::Unary(kind, a) => print_unary(style, *kind, a.get(), out),
         Node::Call(function, all) => print_call(style, *function, all.as_slice(), out),
         Node::NamedCall(name, all) => print_named_call(style, name.as_str(), all.as_slice(), out),

@@ -1,0 +1,5 @@
+//! Progressions: what goes on from a list of texts, as numbers, texts that end in a number, or the
+//! names of days and months. A fill asks `detect_progression` for one, and `next` for its texts.
+#![tactic(auto)]
+
+mod steps;

@@ -2,4 +2,5 @@
 //! names of days and months. A fill asks `detect_progression` for one, and `next` for its texts.
 #![tactic(auto)]
 
+mod number;
 mod steps;

@@ -52,11 +52,15 @@ is_number mark sign (c ∷ text) = if c == 45 then is_unsigned mark sign text el
 
 -- ---- their values
 
--- the number that a text writes, which is read without its group signs
+-- a text without its group signs
+abbrev pub ungrouped : Locale → List ℕ → List ℕ
+ungrouped locale text = encode_utf8_all (filter (is_other (group_sign locale)) (chars text))
+
+-- the number that a text writes
 abbrev pub decimal_in : Locale → List ℕ → Option Decimal
 decimal_in locale text =
     if is_number (decimal_sign locale) (group_sign locale) (chars text)
-    then decimal_of (decimal_sign locale) (encode_utf8_all (filter (is_other (group_sign locale)) (chars text)))
+    then decimal_of (decimal_sign locale) (ungrouped locale text)
     else None
 
 -- a number in units of the fifteenth place

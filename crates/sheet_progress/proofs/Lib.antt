@@ -1,3 +1,4 @@
 pub mod Bounds
+pub mod Mapped
 pub mod Others
 pub mod Rounded

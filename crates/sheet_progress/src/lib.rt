@@ -2,5 +2,8 @@
 //! names of days and months. A fill asks `detect_progression` for one, and `next` for its texts.
 #![tactic(auto)]
 
+mod case;
+mod letters;
+mod names;
 mod number;
 mod steps;

@@ -1,5 +1,5 @@
 -- Texts that end in a number.
-use Rattle.std.specs.Prelude.{ℕ, ◌-◌, Bool, not, ◌&&◌, ℤ, List, [], ◌∷◌, length, take, drop, Option, None, if◌then◌else◌}
+use Rattle.std.specs.Prelude.{ℕ, ◌-◌, not, ◌&&◌, ℤ, List, length, take, drop, Option, None, if◌then◌else◌}
 use Rattle.std.specs.List.{suffix_len}
 use Rattle.base_tables.specs.declared.Locale.{Locale}
 use Rattle.base_tables.specs.Tables.{same_text}

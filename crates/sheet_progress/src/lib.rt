@@ -6,4 +6,7 @@ mod case;
 mod letters;
 mod names;
 mod number;
+mod reading;
 mod steps;
+mod suffix;
+mod trim;

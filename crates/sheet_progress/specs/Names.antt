@@ -1,5 +1,5 @@
 -- Names of days and months, in whichever case they are written.
-use Rattle.std.specs.Prelude.{ℕ, ◌+◌, ◌-◌, ◌==◌, Bool, false, ◌||◌, ℤ, pos, unsigned_abs, List, [], ◌∷◌, ◌++◌, length, take, drop, map, get_or, position, Option, encode_utf8_all, if◌then◌else◌}
+use Rattle.std.specs.Prelude.{ℕ, ◌+◌, ◌-◌, ◌==◌, Bool, false, ◌||◌, ℤ, pos, unsigned_abs, List, [], ◌∷◌, length, take, drop, map, get_or, position, Option, encode_utf8_all, if◌then◌else◌}
 use Rattle.std.specs.Int.{int_rem_euclid}
 use Rattle.std.specs.List.{list_all, prefix_len, suffix_len}
 use Rattle.std.specs.Option.{option_map}
@@ -12,7 +12,7 @@ use Rattle.base_tables.specs.Tables.{same_text}
 use Rattle.sheet_progress.specs.declared.case.CaseStyle.{CaseStyle}
 use Rattle.sheet_progress.specs.declared.case.CaseStyle.TheVariants.{Upper, Capital, Lower}
 use Rattle.sheet_progress.specs.declared.letters.Letters.{Letters}
-use Rattle.sheet_progress.specs.declared.letters.Letters.TheVariants.{Raised, Lowered, Plain}
+use Rattle.sheet_progress.specs.declared.letters.Letters.TheVariants.{Raised, Lowered, Plain, AsWritten}
 use Rattle.sheet_progress.specs.declared.names.NameList.{NameList}
 use Rattle.sheet_progress.specs.declared.names.NameList.TheVariants.{Days, ShortDays, Months, ShortMonths}
 
@@ -40,6 +40,7 @@ abbrev pub letter : Letters → ℕ → ℕ
 letter Raised c = raised c
 letter Lowered c = lowered c
 letter Plain c = plain c
+letter AsWritten c = c
 
 -- ---- normal forms
 
@@ -92,9 +93,15 @@ case_of text = if list_all is_uppercase text then Upper else if begins_upper tex
 unfoldable pub case_style : List ℕ → CaseStyle
 case_style seed = case_of (trimmed (chars seed))
 
+-- the first character as a capital
+abbrev pub capital : List ℕ → List ℕ
+capital [] = []
+capital (c ∷ text) = raised c ∷ text
+
+-- characters in a case
 abbrev pub in_case : CaseStyle → List ℕ → List ℕ
 in_case Upper text = map raised text
-in_case Capital text = map raised (take 1 text) ++ drop 1 text
+in_case Capital text = capital text
 in_case Lower text = map lowered text
 
 -- a name in a case

@@ -12,10 +12,12 @@ pub enum Letters {
     Lowered,
     /// A to Z become small ones, and those with accents lose them.
     Plain,
+    /// All stay as they are.
+    AsWritten,
 }
 
 /// The letters a to z, á, ä, é and û as capitals.
-fn raised(c: char) -> char
+pub fn raised(c: char) -> char
     ensures { result ≡ raised c }
 {
     match c {
@@ -61,6 +63,7 @@ impl Letters {
             Letters::Raised => raised(c),
             Letters::Lowered => lowered(c),
             Letters::Plain => plain(c),
+            Letters::AsWritten => c,
         }
     }
 }

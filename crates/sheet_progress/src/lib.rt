@@ -3,6 +3,8 @@
 #![tactic(auto)]
 
 mod case;
+mod characters;
+mod find;
 mod letters;
 mod names;
 mod number;

@@ -9,6 +9,7 @@ ghost use Rattle.base_decimal.specs.Kept.{IsKept};
 ghost use Rattle.sheet_progress.specs.Numbers.{are_groups, is_whole_part, is_fraction, is_other, is_unsigned, is_number, ungrouped, decimal_in, number_in, units, number_text};
 ghost use Rattle.sheet_progress.specs.Steps.{IsWithin};
 
+use crate::characters::characters;
 use base_decimal::Decimal;
 use base_tables::Locale;
 use base_values::EditError;
@@ -116,13 +117,6 @@ fn without(alloc: Global, text: &str, sign: char) -> Result<String, AllocError>
     let mut rest = String::new(alloc);
     push_others(text, sign, &mut rest)?;
     Ok(rest)
-}
-
-fn characters(alloc: Global, text: &str) -> Result<Vec<char>, AllocError>
-    ensures { IfOk result (λ characters. characters.items ≡ chars text.now) }
-{
-    let characters: Vec<char> = text.chars().collect(alloc)?;
-    Ok(characters)
 }
 
 fn is_number_in(alloc: Global, text: &str, locale: Locale) -> Result<bool, AllocError>

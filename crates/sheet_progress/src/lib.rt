@@ -8,7 +8,10 @@ mod find;
 mod letters;
 mod names;
 mod number;
+mod progression;
 mod reading;
 mod steps;
 mod suffix;
 mod trim;
+
+pub use progression::{DateProgression, NumericProgression, Progression, SuffixedProgression};

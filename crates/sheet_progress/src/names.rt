@@ -32,7 +32,8 @@ impl NameList {
 
     /// The names of the list.
     pub fn names(self, locale: Locale) -> &'static [&'static str]
-        ensures { map (λ name. name.now) result.now ≡ names self locale }
+        ensures names { map (λ name. name.now) result.now ≡ names self locale }
+        ensures some { 0 < length result.now }
     {
         match self {
             NameList::Days => locale.days(),

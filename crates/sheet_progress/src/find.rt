@@ -15,6 +15,7 @@ use base_values::{EditError, Text};
 use std::alloc::Global;
 
 /// A text is a number.
+#[derive(Clone, Copy)]
 pub struct WholeNumber {
     pub locale: Locale,
 }
@@ -28,6 +29,7 @@ impl FindNumber for WholeNumber {
 }
 
 /// A text ends in a number, behind a prefix.
+#[derive(Clone, Copy)]
 pub struct SuffixNumber<'a> {
     pub locale: Locale,
     pub prefix: &'a str,
@@ -47,6 +49,7 @@ impl<'a> FindNumber for SuffixNumber<'a> {
 }
 
 /// A text is one of several names, and its number is the place of the name.
+#[derive(Clone, Copy)]
 pub struct NamePlace<'a> {
     /// The normal forms of the names.
     pub forms: &'a [Text],

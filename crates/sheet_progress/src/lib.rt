@@ -4,6 +4,7 @@
 
 mod case;
 mod characters;
+mod detect;
 mod find;
 mod letters;
 mod names;
@@ -14,4 +15,8 @@ mod steps;
 mod suffix;
 mod trim;
 
+pub use detect::{
+    DateProgressionDetector, NumericProgressionDetector, SequenceDetector, SuffixedNumberDetector,
+    detect_progression,
+};
 pub use progression::{DateProgression, NumericProgression, Progression, SuffixedProgression};

@@ -31,10 +31,10 @@ number_is last step count index e l s from to =
     let step_is : seen step ≡ step = omega (arith, ints) in
     let last_is : seen last ≡ last = omega (arith, ints) in
     let product_is : seen (seen step *ℤ seen (seen count +ℤ pos 1)) ≡ step *ℤ (index +ℤ pos 1) =
-        ap (λ (z : ℤ). seen (seen step *ℤ z)) turns_is ∙ ap (λ (z : ℤ). seen (z *ℤ (index +ℤ pos 1))) step_is
-        ∙ to_z-of_z w128 _ (turn_fits step (index +ℤ pos 1) s turns) in
+    ap (λ (z : ℤ). seen (seen step *ℤ z)) turns_is ∙ ap (λ (z : ℤ). seen (z *ℤ (index +ℤ pos 1))) step_is
+    ∙ to_z-of_z w128 _ (turn_fits step (index +ℤ pos 1) s turns) in
     let sum_is : seen last +ℤ seen (seen step *ℤ seen (seen count +ℤ pos 1)) ≡ last +ℤ (step *ℤ (index +ℤ pos 1)) =
-        ap (λ (z : ℤ). z +ℤ seen (seen step *ℤ seen (seen count +ℤ pos 1))) last_is ∙ ap (λ (z : ℤ). last +ℤ z) product_is in
+    ap (λ (z : ℤ). z +ℤ seen (seen step *ℤ seen (seen count +ℤ pos 1))) last_is ∙ ap (λ (z : ℤ). last +ℤ z) product_is in
     let fits = number_fits last step (index +ℤ pos 1) l s turns in
     (subst (FitsSigned w128) (sym sum_is) fits, ap seen sum_is ∙ to_z-of_z w128 _ fits)
 

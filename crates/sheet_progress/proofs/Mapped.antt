@@ -12,9 +12,9 @@ mapped_turn f old text before new i h e g =
     let front = map f (take i text) in
     let c = f (get_or text i 0) in
     let more : map f (take (i + 1) text) ≡ front ++ c ∷ [] =
-        ap (λ (n : ℕ). map f (take n text)) (add-one i) ∙ ap (map f) (take-suc text i 0 h) ∙ map-append f (take i text) (get_or text i 0 ∷ []) in
+    ap (λ (n : ℕ). map f (take n text)) (add-one i) ∙ ap (map f) (take-suc text i 0 h) ∙ map-append f (take i text) (get_or text i 0 ∷ []) in
     let all : encode_utf8_all (map f (take (i + 1) text)) ≡ encode_utf8_all front ++ encode_utf8 c =
-        ap encode_utf8_all more ∙ encodes-append front (c ∷ []) ∙ ap (λ (x : List ℕ). encode_utf8_all front ++ x) (append-nil (encode_utf8 c)) in
+    ap encode_utf8_all more ∙ encodes-append front (c ∷ []) ∙ ap (λ (x : List ℕ). encode_utf8_all front ++ x) (append-nil (encode_utf8 c)) in
     g ∙ ap (λ (x : List ℕ). x ++ encode_utf8 c) e ∙ append_assoc old (encode_utf8_all front) (encode_utf8 c) ∙ ap (λ (x : List ℕ). old ++ x) (sym all)
 
 unchanged : (f : ℕ → ℕ) → ((c : ℕ) → f c ≡ c) → (text : List ℕ) → map f text ≡ text

@@ -9,6 +9,6 @@ pub others_turn : (p : ℕ → Bool) (old text before new : List ℕ) (c : ℕ) 
     → new ≡ old ++ encode_utf8_all (filter p (text ++ c ∷ []))
 others_turn p old text before new c e f =
     let more : encode_utf8_all (filter p (text ++ c ∷ [])) ≡ encode_utf8_all (filter p text) ++ encode_utf8_all (filter p (c ∷ [])) =
-        ap encode_utf8_all (filter-append p text (c ∷ [])) ∙ encodes-append (filter p text) (filter p (c ∷ [])) in
+    ap encode_utf8_all (filter-append p text (c ∷ [])) ∙ encodes-append (filter p text) (filter p (c ∷ [])) in
     f ∙ ap (λ (x : List ℕ). x ++ encode_utf8_all (filter p (c ∷ []))) e ∙ append_assoc old (encode_utf8_all (filter p text)) (encode_utf8_all (filter p (c ∷ [])))
     ∙ ap (λ (x : List ℕ). old ++ x) (sym more)

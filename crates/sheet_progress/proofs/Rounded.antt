@@ -83,7 +83,7 @@ rounded_digits d r k is =
     let right = unsigned_abs-mul (signed (is_negative d.mantissa) total) (pos (10 ^ r.places)) in
     let abs = abs_signed (is_negative d.mantissa) total in
     let same : unsigned_abs r.mantissa * 10 ^ d.places ≡ total * 10 ^ r.places =
-        sym left ∙ ap unsigned_abs is.value ∙ right ∙ ap (λ (x : ℕ). x * 10 ^ r.places) abs in
+    sym left ∙ ap unsigned_abs is.value ∙ right ∙ ap (λ (x : ℕ). x * 10 ^ r.places) abs in
     let product : total * 10 ^ r.places ≤ 10 ^ 15 * 10 ^ d.places * 10 ^ r.places = mul-le total (10 ^ r.places) (10 ^ 15 * 10 ^ d.places) (10 ^ r.places) most (omega arith) in
     cancel (unsigned_abs r.mantissa) (10 ^ 15 * 10 ^ r.places) (10 ^ d.places) (ten_pow d.places) (omega arith)
 

@@ -50,7 +50,12 @@ pub struct DateProgressionDetector<'a> {
     pub case_seed: &'a str,
 }
 
-fn numeric_steps<F: FindNumber>(alloc: Global, find: &F, locale: Locale, values: &[String]) -> Result<Option<NumericProgression>, EditError>
+fn numeric_steps<F: FindNumber>(
+    alloc: Global,
+    find: &F,
+    locale: Locale,
+    values: &[String],
+) -> Result<Option<NumericProgression>, EditError>
     ensures value { IfOk result (λ numbers. numbers ≡ numeric_steps locale (steps_in (F.number_of find.now) (texts values.now))) }
     ensures only { IsOkUnless result NoMemory }
 {
@@ -75,7 +80,11 @@ impl SequenceDetector for NumericProgressionDetector {
     }
 }
 
-fn suffixed(alloc: Global, prefix: &str, numbers: NumericProgression) -> Result<Progression, AllocError>
+fn suffixed(
+    alloc: Global,
+    prefix: &str,
+    numbers: NumericProgression,
+) -> Result<Progression, AllocError>
     ensures { IfOk result (λ progression. progression ≡ SuffixedNumber (record { prefix = prefix.now; numbers = numbers })) }
 {
     Ok(Progression::SuffixedNumber(SuffixedProgression {
@@ -104,7 +113,12 @@ impl SequenceDetector for SuffixedNumberDetector {
     }
 }
 
-fn places_in(alloc: Global, list: NameList, locale: Locale, values: &[String]) -> Result<Option<Steps>, EditError>
+fn places_in(
+    alloc: Global,
+    list: NameList,
+    locale: Locale,
+    values: &[String],
+) -> Result<Option<Steps>, EditError>
     ensures value { IfOk result (λ places. places ≡ steps_in (place_among (map normal_form (names list locale))) (texts values.now)) }
     ensures only { IsOkUnless result NoMemory }
 {
@@ -114,7 +128,13 @@ fn places_in(alloc: Global, list: NameList, locale: Locale, values: &[String]) -
 }
 
 #[tactic(auto, unfolding(crate::specs::Progressions::named_in))]
-fn named_in(alloc: Global, locale: Locale, style: CaseStyle, values: &[String], list: NameList) -> Result<Option<Progression>, EditError>
+fn named_in(
+    alloc: Global,
+    locale: Locale,
+    style: CaseStyle,
+    values: &[String],
+    list: NameList,
+) -> Result<Option<Progression>, EditError>
     ensures value { IfOk result (λ progression. progression ≡ named_in locale style (texts values.now) list) }
     ensures only { IsOkUnless result NoMemory }
 {
@@ -129,7 +149,12 @@ fn named_in(alloc: Global, locale: Locale, style: CaseStyle, values: &[String], 
     }
 }
 
-fn first_named(alloc: Global, locale: Locale, style: CaseStyle, values: &[String]) -> Result<Option<Progression>, EditError>
+fn first_named(
+    alloc: Global,
+    locale: Locale,
+    style: CaseStyle,
+    values: &[String],
+) -> Result<Option<Progression>, EditError>
     ensures value { IfOk result (λ progression. progression ≡ first_of (named_in locale style (texts values.now)) all_lists) }
     ensures only { IsOkUnless result NoMemory }
 {
@@ -154,7 +179,12 @@ impl<'a> SequenceDetector for DateProgressionDetector<'a> {
 /// How texts go on: as numbers, else as texts that end in numbers, else as names, which go on in
 /// the case of the seed. `None` where they don't. `NoMemory` is the only error.
 #[tactic(auto, unfolding(crate::specs::Progressions::progression_of))]
-pub fn detect_progression(alloc: Global, values: &[String], locale: Locale, case_seed: &str) -> Result<Option<Progression>, EditError>
+pub fn detect_progression(
+    alloc: Global,
+    values: &[String],
+    locale: Locale,
+    case_seed: &str,
+) -> Result<Option<Progression>, EditError>
     ensures value { IfOk result (λ progression. progression ≡ progression_of locale case_seed.now (texts values.now)) }
     ensures only { IsOkUnless result NoMemory }
 {

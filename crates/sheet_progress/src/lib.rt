@@ -13,6 +13,8 @@ mod progression;
 mod reading;
 mod steps;
 mod suffix;
+#[cfg(test)]
+mod tests;
 mod trim;
 
 pub use detect::{

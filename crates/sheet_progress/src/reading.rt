@@ -21,7 +21,11 @@ pub trait FindNumber {
         ensures only { IsOkUnless result NoMemory };
 }
 
-fn numbers<F: FindNumber>(alloc: Global, find: &F, values: &[String]) -> Result<Option<Vec<i128>>, EditError>
+fn numbers<F: FindNumber>(
+    alloc: Global,
+    find: &F,
+    values: &[String],
+) -> Result<Option<Vec<i128>>, EditError>
     ensures value { IfOk result (λ found. option_map (λ numbers. numbers.items) found ≡ each (F.number_of find.now) (texts values.now)) }
     ensures within { IfOk result (λ found. IfSome found (λ numbers. All (IsWithin (10 ^ 30)) numbers.items)) }
     ensures only { IsOkUnless result NoMemory }
@@ -38,7 +42,11 @@ fn numbers<F: FindNumber>(alloc: Global, find: &F, values: &[String]) -> Result<
 
 /// The steps of the numbers that texts have, if all have one and they have steps.
 #[tactic(auto, unfolding(crate::specs::Texts::steps_in))]
-pub fn steps_in<F: FindNumber>(alloc: Global, find: &F, values: &[String]) -> Result<Option<Steps>, EditError>
+pub fn steps_in<F: FindNumber>(
+    alloc: Global,
+    find: &F,
+    values: &[String],
+) -> Result<Option<Steps>, EditError>
     ensures value { IfOk result (λ steps. steps ≡ steps_in (F.number_of find.now) (texts values.now)) }
     ensures only { IsOkUnless result NoMemory }
 {

@@ -1,0 +1,4 @@
+pub mod Bounds
+pub mod Mapped
+pub mod Others
+pub mod Rounded

@@ -1,0 +1,18 @@
+//! Where lines go when lines are inserted or deleted, and what follows them.
+//!
+//! A `LineEdit` maps lines to lines. What implements `Follow` is carried along the map, and its
+//! kept part is what the opposite map does not give back.
+#![tactic(auto)]
+
+mod edit;
+mod follow;
+mod laying;
+mod list;
+mod overlays;
+mod place_map;
+mod places;
+
+pub use edit::{EditKind, LineEdit, image_of_opposite};
+pub use follow::{Follow, comes_back, there_and_back};
+pub use place_map::KeptMap;
+pub use places::place_image;

@@ -4,3 +4,4 @@ pub mod Trial
 pub mod Lists
 pub mod Carried
 pub mod Places
+pub mod Areas

@@ -4,6 +4,7 @@
 //! kept part is what the opposite map does not give back.
 #![tactic(auto)]
 
+mod area;
 mod edit;
 mod follow;
 mod laying;

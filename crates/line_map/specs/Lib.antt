@@ -5,3 +5,5 @@ pub mod Lists
 pub mod Carried
 pub mod Places
 pub mod Areas
+pub mod Trees
+pub mod TreeLaws

@@ -12,8 +12,11 @@ mod list;
 mod overlays;
 mod place_map;
 mod places;
+mod tree;
+mod tree_at;
 
 pub use edit::{EditKind, LineEdit, image_of_opposite};
 pub use follow::{Follow, comes_back, there_and_back};
 pub use place_map::KeptMap;
 pub use places::place_image;
+pub use tree_at::{KeptTree, TreeAt};

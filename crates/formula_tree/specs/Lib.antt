@@ -4,11 +4,14 @@ pub mod Corners
 pub mod Depth
 pub mod DepthEquations
 pub mod DepthLaws
+pub mod OnSheet
+pub mod Moved
+pub mod MovedEquations
 pub mod Rebase
-pub mod RebaseEquations
 pub mod DepthBounds
-pub mod RebaseLaws
 pub mod Placed
 pub mod PlacedEquations
 pub mod CornerLaws
+pub mod MovedLaws
 pub mod PlacedLaws
+pub mod RebaseLaws

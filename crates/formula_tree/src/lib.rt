@@ -7,7 +7,9 @@ mod context;
 mod copies;
 mod corner;
 mod depth;
+mod moved;
 mod node;
+mod on_sheet;
 mod operator;
 mod parameter;
 mod placed;
@@ -21,7 +23,9 @@ pub use corner::{
     is_whole_columns, is_whole_rows, order_corners,
 };
 pub use depth::{MAX_DEPTH, is_at_most_deep};
+pub use moved::{CornerMap, move_node};
 pub use node::Node;
+pub use on_sheet::is_on_sheet;
 pub use operator::{CompareKind, ProductKind, SumKind, UnaryKind};
 pub use parameter::Parameter;
 pub use placed::is_placed;

@@ -1,9 +1,9 @@
 -- Areas along an edit.
-use Rattle.std.proofs.Common.{◌≡◌, ℤ, pos, ◌+ℤ◌, ◌-ℤ◌, ◌≤ℤ◌, Option, Some, None, refl, arith}
+use Rattle.std.proofs.Common.{ℤ, pos, ◌+ℤ◌, ◌-ℤ◌, ◌≤ℤ◌, Option, Some, None, arith}
 use Rattle.std.specs.Prelude.{ℕ, IfSome, int_lt, if◌then◌else◌}
 use Rattle.std.proofs.lemmas.Int.{ints}
 use Rattle.base_values.specs.declared.Position.{Position}
-use Rattle.base_values.specs.Places.{IsRow, IsColumn, IsPlace}
+use Rattle.base_values.specs.Places.{IsPlace}
 use Rattle.base_axis.specs.declared.Area.{Area}
 use Rattle.base_axis.specs.Along.{Along, IsAxis}
 use Rattle.line_map.specs.declared.edit.EditKind.{EditKind}

@@ -1,5 +1,5 @@
 -- Where lines go under an edit.
-use Rattle.std.proofs.Common.{ℤ, pos, ◌+ℤ◌, ◌-ℤ◌, ◌≤ℤ◌, Bool, Option, Some, None}
+use Rattle.std.proofs.Common.{ℤ, ◌+ℤ◌, ◌-ℤ◌, Option, Some, None}
 use Rattle.std.specs.Prelude.{int_lt, if◌then◌else◌}
 use Rattle.base_values.specs.Places.{is_line, IsLine}
 use Rattle.line_map.specs.declared.edit.EditKind.{EditKind}

@@ -2,7 +2,7 @@
 use Rattle.std.proofs.Common.{◌≡◌, ℤ, ◌+ℤ◌, ◌-ℤ◌, ◌≤ℤ◌, false, Option, Some, None, refl, arith}
 use Rattle.std.specs.Prelude.{IfSome, int_lt}
 use Rattle.std.proofs.lemmas.Int.{ints}
-use Rattle.base_values.specs.Places.{is_line, IsLine}
+use Rattle.base_values.specs.Places.{IsLine}
 use Rattle.line_map.specs.Edit.{within, goes_to, image_at, opposite_of, IsValid, IsWithin}
 use Rattle.line_map.specs.declared.edit.EditKind.{EditKind}
 use Rattle.line_map.specs.declared.edit.EditKind.TheVariants.{Insert, Delete}

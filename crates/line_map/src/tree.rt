@@ -36,12 +36,7 @@ fn corner_of(to: Position, corner: Corner, target: Option<Position>) -> Option<C
     ensures { result ≡ corner_of to corner target }
 {
     match target {
-        Some(target) => Some(corner_to(
-            to,
-            corner.absolute_row,
-            corner.absolute_column,
-            target,
-        )),
+        Some(target) => Some(corner_to(to, corner.absolute_row, corner.absolute_column, target)),
         None => None,
     }
 }
@@ -58,7 +53,10 @@ fn is_exposed<A: Axis>(
 ) -> bool
     ensures { result ≡ is_exposed A.along own.now edited.now sheet.now first second }
 {
-    let (rows, columns) = (is_whole_rows(first, second), is_whole_columns(first, second));
+    let (rows, columns) = (
+        is_whole_rows(first, second),
+        is_whole_columns(first, second),
+    );
     is_on_sheet(own, edited, sheet) && !A::of(rows, columns)
 }
 
@@ -78,11 +76,7 @@ pub struct Following<'a, A: Axis> {
 fn moved_corner<A: Axis>(map: &Following<'_, A>, exposed: bool, corner: Corner) -> Option<Corner>
     ensures { result ≡ moved_corner A.along map.now.edit.kind map.now.from map.now.to exposed corner }
 {
-    corner_of(
-        map.to,
-        corner,
-        target(&map.edit, map.from, exposed, corner),
-    )
+    corner_of(map.to, corner, target(&map.edit, map.from, exposed, corner))
 }
 
 impl<'a, A: Axis> CornerMap for Following<'a, A> {

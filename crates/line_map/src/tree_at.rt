@@ -94,11 +94,7 @@ fn replaced(tree: &TreeAt, node: Node, place: Position) -> Result<TreeAt, EditEr
 
 /// The tree carried along. It stays whole where its cell goes nowhere.
 #[tactic(auto, unfolding(crate::specs::Trees::followed))]
-fn followed<A: Axis>(
-    alloc: Global,
-    edit: &LineEdit<A>,
-    tree: &TreeAt,
-) -> Result<TreeAt, EditError>
+fn followed<A: Axis>(alloc: Global, edit: &LineEdit<A>, tree: &TreeAt) -> Result<TreeAt, EditError>
     requires { Lies tree.now }
     ensures tree { IfOk result (λ there. there ≡ followed A.along edit.now.kind tree.now) }
     ensures only { IsOkUnless result NoMemory }
@@ -138,11 +134,7 @@ fn kept_by(back: &Node, node: &Node) -> Result<KeptTree, EditError>
 
 /// What the opposite does not give back.
 #[tactic(auto, unfolding(crate::specs::Trees::kept, crate::specs::Trees::followed))]
-fn kept<A: Axis>(
-    alloc: Global,
-    edit: &LineEdit<A>,
-    tree: &TreeAt,
-) -> Result<KeptTree, EditError>
+fn kept<A: Axis>(alloc: Global, edit: &LineEdit<A>, tree: &TreeAt) -> Result<KeptTree, EditError>
     requires valid { IsValid A.along.last edit.now.kind }
     requires lies { Lies tree.now }
     ensures kept { IfOk result (λ answer. answer ≡ kept A.along edit.now.kind tree.now) }

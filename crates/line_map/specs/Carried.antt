@@ -79,7 +79,8 @@ module _ {K : Type 0} (R : K → K → Ordering) (total : IsTotalOrder R) (exact
   tied Equal h = refl
   tied Greater h = absurd (cc)
 
-  one_key : (p q : K) → eq_by_cmp R p q ≡ true → p ≡ q
+  -- keys that compare alike are one
+  pub one_key : (p q : K) → eq_by_cmp R p q ≡ true → p ≡ q
   one_key p q h = exact p q (tied (R p q) h)
 
   own_key : (p : K) → eq_by_cmp R p p ≡ true

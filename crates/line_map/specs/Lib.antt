@@ -7,3 +7,4 @@ pub mod Places
 pub mod Areas
 pub mod Trees
 pub mod TreeLaws
+pub mod TreePlaces

@@ -1,8 +1,9 @@
 -- Places along an edit, and maps of followers under places.
 use Rattle.std.proofs.Common.{◌≡◌, ℤ, Bool, true, false, Option, Some, None, refl, ap, sym, subst, ◌∙◌}
-use Rattle.std.specs.Prelude.{IfSome, if◌then◌else◌}
+use Rattle.std.specs.Prelude.{IfSome, cond, if◌then◌else◌}
 use Rattle.std.specs.Bool.{Decides}
-use Rattle.std.specs.FinMap.{FinMap, get}
+use Rattle.std.specs.Ordering.{eq_by_cmp}
+use Rattle.std.specs.FinMap.{FinMap, empty, get, insert, get-empty, get-insert}
 use Rattle.base_values.specs.declared.Position.{Position}
 use Rattle.base_values.specs.Places.{IsLine, IsPlace, position_cmp, position_total, exact_positions}
 use Rattle.base_axis.specs.Along.{Along, IsAxis}
@@ -10,7 +11,7 @@ use Rattle.line_map.specs.declared.edit.EditKind.{EditKind}
 use Rattle.line_map.specs.Edit.{image_at, opposite_of, IsValid}
 use Rattle.line_map.specs.Images.{image_back, image_inside, opposite_twice, valid_opposite}
 use Rattle.line_map.specs.Trial.{comes_back, is_back}
-use Rattle.line_map.specs.Carried.{Inverse, if_there, follow_map, lost_map, parts_map, regain_map, get-follow_map, map_regains}
+use Rattle.line_map.specs.Carried.{one_key, Inverse, if_there, follow_map, lost_map, parts_map, regain_map, get-follow_map, map_regains}
 
 -- the place on that line, if there is one
 abbrev pub at_line : Along → Position → Option ℤ → Option Position
@@ -101,3 +102,25 @@ module _ {F : Type 0} (a : Along) (l : IsAxis a) (e : EditKind) (valid : IsValid
         map_regains position_cmp position_total exact_positions (place_image a e) (place_image a (opposite_of e)) (place_inverse a l e valid) (follow e) (follow (opposite_of e)) (part_of same follow kept e) r m
         (λ p x g i. no_part x _ refl i)
         (λ p x g k i. ap (r (follow e x)) (the_part x _ k i) ∙ h p x g)
+
+-- a map without entries lies inside
+pub none_lie : {F : Type 0} (Lies : F → Type 0) → AllLie Lies empty
+none_lie {F} Lies = record {
+  places = λ p x h. let none : get (empty {X = F} {R = position_cmp}) p ≡ None = get-empty position_cmp p in absurd (cc);
+  items = λ p x h. let none : get (empty {X = F} {R = position_cmp}) p ≡ None = get-empty position_cmp p in absurd (cc);
+}
+
+one_more : {F : Type 0} (Lies : F → Type 0) (m : FinMap position_cmp F) → AllLie Lies m → (q : Position) (y : F) → IsPlace q → Lies y → (p : Position) (x : F) (b : Bool) → eq_by_cmp position_cmp p q ≡ b →
+    cond b (Some y) (get m p) ≡ Some x → IsPlace p × Lies x
+one_more Lies m all q y place lies p x true e h =
+    let same : p ≡ q = one_key position_cmp position_total exact_positions p q e in
+    let is : y ≡ x = cc in
+    (subst IsPlace (sym same) place, subst Lies is lies)
+one_more Lies m all q y place lies p x false e h = (all.places p x h, all.items p x h)
+
+-- a map to which an entry comes lies inside
+pub more_lie : {F : Type 0} (Lies : F → Type 0) (m : FinMap position_cmp F) → AllLie Lies m → (q : Position) (y : F) → IsPlace q → Lies y → AllLie Lies (insert m q y)
+more_lie Lies m all q y place lies =
+    let found : (p : Position) (x : _) → get (insert m q y) p ≡ Some x → IsPlace p × Lies x =
+    λ p x h. one_more Lies m all q y place lies p x _ refl (sym (get-insert position_total m q y p) ∙ h) in
+    record { places = λ p x h. (found p x h).0; items = λ p x h. (found p x h).1 }

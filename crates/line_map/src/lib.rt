@@ -7,6 +7,7 @@
 mod area;
 mod edit;
 mod follow;
+mod laws;
 mod laying;
 mod list;
 mod overlays;
@@ -17,6 +18,10 @@ mod tree_at;
 
 pub use edit::{EditKind, LineEdit, image_of_opposite};
 pub use follow::{Follow, comes_back, there_and_back};
+pub use laws::{entries_of_maps, followed_is_placed};
 pub use place_map::KeptMap;
 pub use places::place_image;
 pub use tree_at::{KeptTree, TreeAt};
+
+#[cfg(test)]
+mod tests;

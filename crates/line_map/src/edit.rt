@@ -53,17 +53,17 @@ fn inserted(last: i32, first: i32, count: i32, line: i32) -> Option<i32>
     within(last, i64::from(line) + i64::from(count))
 }
 
-/// Where a line of the axis goes when lines go.
+/// Where a line of the axis goes when the lines from `gone` on go.
 #[tactic(auto, unfolding(crate::specs::Edit::goes_to))]
-fn deleted(last: i32, first: i32, count: i32, line: i32) -> Option<i32>
+fn deleted(last: i32, gone: i32, count: i32, line: i32) -> Option<i32>
     requires { IsLine last line }
-    ensures value { result ≡ goes_to last (EditKind.Delete first count) line }
+    ensures value { result ≡ goes_to last (EditKind.Delete gone count) line }
     ensures inside { IfSome result (IsLine last) }
 {
-    if line < first {
+    if line < gone {
         return Some(line);
     }
-    if i64::from(line) < i64::from(first) + i64::from(count) {
+    if i64::from(line) < i64::from(gone) + i64::from(count) {
         return None;
     }
     within(last, i64::from(line) - i64::from(count))

@@ -95,20 +95,21 @@ fn printed(alloc: Global, tree: &TreeAt) -> Result<String, EditError> {
     to_english_string(alloc, &tree.node, &context)
 }
 
-/// The text of a tree after an edit of rows.
-fn text_after(
+/// Whether a tree has this text after an edit of rows.
+fn reads(
     alloc: Global,
     node: Node,
     place: Position,
     kind: EditKind,
-) -> Result<String, EditError>
+    expected: &str,
+) -> Result<bool, EditError>
     requires place { IsPlace place }
     requires valid { IsValid (pos 1048576) kind }
 {
     let edit = LineEdit::<RowAxis>::new(kind);
     let tree = tree_at(alloc, node, place)?;
     let there = tree.follow(alloc, &edit)?;
-    printed(alloc, &there)
+    Ok(printed(alloc, &there)?.as_str() == expected)
 }
 
 #[test]
@@ -116,34 +117,26 @@ fn text_after(
 fn references_follow(rt: HostRuntime) -> Result<(), Fail> {
     let alloc = rt.alloc();
     let two_at_3 = EditKind::Insert { first: 3, count: 2 };
-    let c1 = Position { row: 1, column: 3 };
-    let c5 = Position { row: 5, column: 3 };
-    assert_eq!(rt;
-        text_after(alloc, added(alloc)?, c1, two_at_3)?.as_str(),
-        "A7+$B$2"
-    );
     let row_5 = EditKind::Delete { first: 5, count: 1 };
-    assert_eq!(rt;
-        text_after(alloc, added(alloc)?, c1, row_5)?.as_str(),
-        "#REF!+$B$2"
-    );
-    // A3, and A1 and A5 from C5
-    let a3 = reference(relative(2, -2));
-    assert_eq!(rt; text_after(alloc, a3, c1, two_at_3)?.as_str(), "A5");
-    let a1 = reference(relative(-4, -2));
-    assert_eq!(rt; text_after(alloc, a1, c5, two_at_3)?.as_str(), "A1");
-    let a5 = reference(relative(0, -2));
-    assert_eq!(rt; text_after(alloc, a5, c5, two_at_3)?.as_str(), "A7");
+    let c1 = Position { row: 1, column: 3 };
+    assert!(rt; reads(alloc, added(alloc)?, c1, two_at_3, "A7+$B$2")?);
+    assert!(rt; reads(alloc, added(alloc)?, c1, row_5, "#REF!+$B$2")?);
+    assert!(rt; reads(alloc, reference(relative(2, -2)), c1, two_at_3, "A5")?);
     let named = on_sheet(alloc, "sheet1", relative(4, -2))?;
-    assert_eq!(rt;
-        text_after(alloc, named, c1, two_at_3)?.as_str(),
-        "sheet1!A7"
-    );
+    assert!(rt; reads(alloc, named, c1, two_at_3, "sheet1!A7")?);
     let other = on_sheet(alloc, "Sheet2", relative(4, -2))?;
-    assert_eq!(rt;
-        text_after(alloc, other, c1, two_at_3)?.as_str(),
-        "Sheet2!A5"
-    );
+    assert!(rt; reads(alloc, other, c1, two_at_3, "Sheet2!A5")?);
+    Ok(())
+}
+
+#[test]
+#[tactic(auto, unfolding(crate::specs::Edit::IsValid))]
+fn references_of_a_cell_that_goes_follow(rt: HostRuntime) -> Result<(), Fail> {
+    let alloc = rt.alloc();
+    let two_at_3 = EditKind::Insert { first: 3, count: 2 };
+    let c5 = Position { row: 5, column: 3 };
+    assert!(rt; reads(alloc, reference(relative(-4, -2)), c5, two_at_3, "A1")?);
+    assert!(rt; reads(alloc, reference(relative(0, -2)), c5, two_at_3, "A7")?);
     Ok(())
 }
 
@@ -152,30 +145,18 @@ fn references_follow(rt: HostRuntime) -> Result<(), Fail> {
 fn ranges_follow(rt: HostRuntime) -> Result<(), Fail> {
     let alloc = rt.alloc();
     let c1 = Position { row: 1, column: 3 };
+    let c5 = Position { row: 5, column: 3 };
     let row_4 = EditKind::Delete { first: 4, count: 1 };
     let part = sum_of(alloc, relative(1, -2), relative(3, -2))?;
-    assert_eq!(rt;
-        text_after(alloc, part, c1, row_4)?.as_str(),
-        "SUM(A2:#REF!)"
-    );
-    let three_at_2 = EditKind::Insert { first: 2, count: 3 };
-    assert_eq!(rt;
-        text_after(alloc, whole_column(alloc)?, c1, three_at_2)?.as_str(),
-        "SUM(A:A)"
-    );
-    let one_at_2 = EditKind::Insert { first: 2, count: 1 };
-    let c5 = Position { row: 5, column: 3 };
-    let nearly = sum_of(alloc, absolute(1, 1), absolute(1_048_575, 1))?;
-    assert_eq!(rt;
-        text_after(alloc, nearly, c5, one_at_2)?.as_str(),
-        "SUM($A:$A)"
-    );
+    assert!(rt; reads(alloc, part, c1, row_4, "SUM(A2:#REF!)")?);
     let rows = EditKind::Delete { first: 2, count: 3 };
     let part = sum_of(alloc, relative(1, -2), relative(3, -2))?;
-    assert_eq!(rt;
-        text_after(alloc, part, c1, rows)?.as_str(),
-        "SUM(#REF!:#REF!)"
-    );
+    assert!(rt; reads(alloc, part, c1, rows, "SUM(#REF!:#REF!)")?);
+    let three_at_2 = EditKind::Insert { first: 2, count: 3 };
+    assert!(rt; reads(alloc, whole_column(alloc)?, c1, three_at_2, "SUM(A:A)")?);
+    let one_at_2 = EditKind::Insert { first: 2, count: 1 };
+    let nearly = sum_of(alloc, absolute(1, 1), absolute(1_048_575, 1))?;
+    assert!(rt; reads(alloc, nearly, c5, one_at_2, "SUM($A:$A)")?);
     Ok(())
 }
 
@@ -210,33 +191,55 @@ fn regained<A: Axis>(
     there_and_back::<A, PlaceMap<Items<TreeAt>>>(alloc, map, edit)
 }
 
+/// Whether a map with one list of one tree in C1 is regained.
+fn is_regained<A: Axis>(alloc: Global, edit: &LineEdit<A>) -> Result<bool, EditError>
+    requires { IsValid A.along.last edit.now.kind }
+{
+    let place = Position { row: 1, column: 3 };
+    let tree = tree_at(alloc, added(alloc)?, place)?;
+    let map = one_list(alloc, tree, place)?;
+    Ok(same(&regained(alloc, &map, edit)?, &map))
+}
+
 #[test]
 #[tactic(auto, unfolding(crate::specs::Edit::IsValid))]
 fn lists_under_places_are_regained(rt: HostRuntime) -> Result<(), Fail> {
     let alloc = rt.alloc();
-    let place = Position { row: 1, column: 3 };
-    let tree = tree_at(alloc, added(alloc)?, place)?;
-    let map = one_list(alloc, tree, place)?;
     let row_5 = LineEdit::<RowAxis>::new(EditKind::Delete { first: 5, count: 1 });
+    assert!(rt; is_regained(alloc, &row_5)?);
     let column_c = LineEdit::<ColumnAxis>::new(EditKind::Delete { first: 3, count: 1 });
-    assert!(rt; same(&regained(alloc, &map, &row_5)?, &map));
-    assert!(rt; same(&regained(alloc, &map, &column_c)?, &map));
+    assert!(rt; is_regained(alloc, &column_c)?);
+    Ok(())
+}
+
+/// What is kept of `A5+$B$2` in C1.
+fn kept_of(alloc: Global, kind: EditKind) -> Result<KeptTree, EditError>
+    requires { IsValid (pos 1048576) kind }
+{
+    let edit = LineEdit::<RowAxis>::new(kind);
+    let tree = tree_at(alloc, added(alloc)?, Position { row: 1, column: 3 })?;
+    tree.kept(alloc, &edit)
+}
+
+#[test]
+#[tactic(auto, unfolding(crate::specs::Edit::IsValid))]
+fn trees_are_kept_where_they_do_not_come_back(rt: HostRuntime) -> Result<(), Fail> {
+    let alloc = rt.alloc();
+    let kept = kept_of(alloc, EditKind::Delete { first: 5, count: 1 })?;
+    assert!(rt; matches!(&kept, KeptTree::Whole(_)));
+    let kept = kept_of(alloc, EditKind::Delete { first: 1, count: 1 })?;
+    assert!(rt; matches!(&kept, KeptTree::Stays));
+    let kept = kept_of(alloc, EditKind::Delete { first: 9, count: 1 })?;
+    assert!(rt; matches!(&kept, KeptTree::Back));
     Ok(())
 }
 
 #[test]
 #[tactic(auto, unfolding(crate::specs::Edit::IsValid))]
-fn trees_and_areas_are_kept_where_they_do_not_come_back(rt: HostRuntime) -> Result<(), Fail> {
+fn areas_follow(rt: HostRuntime) -> Result<(), Fail> {
     let alloc = rt.alloc();
-    let place = Position { row: 1, column: 3 };
-    let tree = tree_at(alloc, added(alloc)?, place)?;
+    let row_3 = LineEdit::<RowAxis>::new(EditKind::Delete { first: 3, count: 1 });
     let row_5 = LineEdit::<RowAxis>::new(EditKind::Delete { first: 5, count: 1 });
-    let row_1 = LineEdit::<RowAxis>::new(EditKind::Delete { first: 1, count: 1 });
-    let row_9 = LineEdit::<RowAxis>::new(EditKind::Delete { first: 9, count: 1 });
-    assert!(rt; matches!(&tree.kept(alloc, &row_5)?, KeptTree::Whole(_)));
-    assert!(rt; matches!(&tree.kept(alloc, &row_1)?, KeptTree::Stays));
-    assert!(rt; matches!(&tree.kept(alloc, &row_9)?, KeptTree::Back));
-    assert!(rt; comes_back(alloc, &tree, &row_9)?);
     let area = Area {
         sheet: 0,
         row: 2,
@@ -244,16 +247,16 @@ fn trees_and_areas_are_kept_where_they_do_not_come_back(rt: HostRuntime) -> Resu
         width: 2,
         height: 4,
     };
-    let longer = Area {
+    let shorter = Area {
         sheet: 0,
         row: 2,
         column: 1,
         width: 2,
         height: 3,
     };
-    assert!(rt; same(&area.follow(alloc, &row_9)?, &area));
-    let row_3 = LineEdit::<RowAxis>::new(EditKind::Delete { first: 3, count: 1 });
-    assert!(rt; same(&area.follow(alloc, &row_3)?, &longer));
-    assert!(rt; there_and_back(alloc, &area, &row_3)?.height == 4);
+    assert!(rt; area.follow(alloc, &row_3)? == shorter);
+    assert!(rt; area.follow(alloc, &row_5)? == area);
+    assert!(rt; comes_back(alloc, &area, &row_3)?);
+    assert!(rt; there_and_back(alloc, &area, &row_5)? == area);
     Ok(())
 }

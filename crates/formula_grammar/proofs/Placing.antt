@@ -19,6 +19,8 @@ use Rattle.formula_tree.specs.PlacedEquations.{placed_boolean, placed_number, pl
 use Rattle.formula_tree.specs.PlacedLaws.{placed-rebased}
 use Rattle.formula_tree.specs.Rebase.{range_at}
 use Rattle.formula_tree.specs.RebaseEquations.{rebased_range}
+use Rattle.formula_tree.specs.PlacedEquations.{placed_boolean, placed_number, placed_text, placed_reference, placed_range, placed_colon, placed_concatenate, placed_compare, placed_sum, placed_product, placed_power, placed_unary, placed_call, placed_named_call, placed_array, placed_name, placed_error, placed_empty_argument, placed_spill, placed_lambda, placed_lambda_call, placed_implicit_intersection}
+use Rattle.formula_tree.specs.PlacedLaws.{ordered_placed}
 use Rattle.formula_grammar.specs.declared.profile.Profile.{Profile}
 use Rattle.formula_grammar.specs.declared.token.CellMark.{CellMark}
 use Rattle.formula_grammar.specs.Words.{call_node, word_node, mark_place, corner_of, range_node}
@@ -27,10 +29,6 @@ use Rattle.formula_grammar.specs.Grammar.{Compare, Concatenation, Sum, Product, 
 
 both : (a b : Bool) → a ≡ true → b ≡ true → a && b ≡ true
 both a b left right = grind arith
-
-chosen : (test : Bool) → test ≡ true → (a b : Node) → cond test a b ≡ a
-chosen true e a b = refl
-chosen false e a b = absurd cc
 
 abbrev inside_at : Position → Result Position EditError
 inside_at at = Ok at
@@ -58,12 +56,10 @@ corner_inside place mark at e =
     ∙ ap (λ (c : ℤ). is_line (pos 1048576) at.row && is_line (pos 16384) c) (corner_column-corner_to place mark.absolute_row mark.absolute_column at)
     ∙ at_inside mark.row mark.column at e
 
--- a range is put in order as rebasing does it
+-- the corners of a range that lie inside are placed once they are in order
 range_placed : (place : Position) (sheet : Option (List ℕ)) (a b : Corner) → is_inside place a ≡ true → is_inside place b ≡ true → is_placed place (range_node place sheet a b) ≡ true
-unfolding range_at
 range_placed place sheet a b inside_a inside_b =
-    ap (is_placed place) (sym (rebased_range place sheet a b ∙ chosen (is_inside place a && is_inside place b) (both _ _ inside_a inside_b) (range_node place sheet a b) _))
-    ∙ placed-rebased place (n.Range sheet a b)
+    placed_range place sheet (lower_corner place a b) (higher_corner place a b) ∙ ordered_placed place a b (both _ _ inside_a inside_b)
 
 call_placed : (place : Position) (function : Option Function) (word : List ℕ) (all : List Node) → list_all (is_placed place) all ≡ true → is_placed place (call_node function word all) ≡ true
 call_placed place (Some function) word all e = placed_call place function all ∙ e

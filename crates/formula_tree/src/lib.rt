@@ -7,8 +7,10 @@ mod context;
 mod copies;
 mod corner;
 mod depth;
+mod moved;
 mod node;
 mod numbers;
+mod on_sheet;
 mod operator;
 mod parameter;
 mod parse_error;
@@ -23,8 +25,10 @@ pub use corner::{
     is_whole_columns, is_whole_rows, order_corners,
 };
 pub use depth::{MAX_DEPTH, is_at_most_deep};
+pub use moved::{CornerMap, move_node};
 pub use node::Node;
 pub use numbers::{has_kept_numbers, has_no_negative_number};
+pub use on_sheet::is_on_sheet;
 pub use operator::{CompareKind, ProductKind, SumKind, UnaryKind};
 pub use parameter::Parameter;
 pub use parse_error::is_parse_error;

@@ -1,0 +1,102 @@
+ghost use Rattle.std.specs.Prelude.{◌≡◌, ℤ};
+ghost use Rattle.base_axis.specs.Along.{Along, IsAxis};
+
+use base_values::{LAST_COLUMN, LAST_ROW, Position};
+
+/// A direction of a sheet: along it each place has a line, and across it another one. Lines are
+/// counted from 1.
+pub trait Axis {
+    /// The last line.
+    const LAST: i32;
+
+    ghost LAST: { ℤ };
+
+    ghost along: { Along };
+
+    /// The line on which a place stands.
+    fn line(place: Position) -> i32
+        ensures { result ≡ along.line place };
+
+    /// The place on this line whose cross line is the same.
+    fn with_line(place: Position, line: i32) -> Position
+        ensures { result ≡ along.with_line place line };
+
+    /// Of what holds of rows and what holds of columns, that which holds of the lines of this
+    /// axis.
+    fn of(rows: bool, columns: bool) -> bool
+        ensures { result ≡ along.of rows columns };
+
+    ghost last_is: { LAST ≡ along.last };
+
+    ghost lawful: { IsAxis along };
+}
+
+/// From row to row: a line is a row.
+#[derive(Clone, Copy, Debug, PartialEq, Eq)]
+pub struct RowAxis;
+
+/// From column to column: a line is a column.
+#[derive(Clone, Copy, Debug, PartialEq, Eq)]
+pub struct ColumnAxis;
+
+impl Axis for RowAxis {
+    ghost use Rattle.std.specs.Prelude.{pos, refl};
+    ghost use Rattle.base_axis.specs.Along.{rows};
+    ghost use Rattle.base_axis.specs.Lawful.{rows_lawful};
+
+    const LAST: i32 = LAST_ROW;
+
+    ghost LAST = { pos 1048576 };
+
+    ghost along = { rows };
+
+    fn line(place: Position) -> i32 {
+        place.row
+    }
+
+    fn with_line(place: Position, line: i32) -> Position {
+        Position {
+            row: line,
+            column: place.column,
+        }
+    }
+
+    fn of(rows: bool, _columns: bool) -> bool {
+        rows
+    }
+
+    ghost last_is = { refl };
+
+    ghost lawful = { rows_lawful };
+}
+
+impl Axis for ColumnAxis {
+    ghost use Rattle.std.specs.Prelude.{pos, refl};
+    ghost use Rattle.base_axis.specs.Along.{columns};
+    ghost use Rattle.base_axis.specs.Lawful.{columns_lawful};
+
+    const LAST: i32 = LAST_COLUMN;
+
+    ghost LAST = { pos 16384 };
+
+    ghost along = { columns };
+
+    fn line(place: Position) -> i32 {
+        place.column
+    }
+
+    fn with_line(place: Position, line: i32) -> Position {
+        Position {
+            row: place.row,
+            column: line,
+        }
+    }
+
+    fn of(_rows: bool, columns: bool) -> bool {
+        columns
+    }
+
+    ghost last_is = { refl };
+
+    ghost lawful = { columns_lawful };
+}

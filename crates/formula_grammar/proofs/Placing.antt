@@ -10,7 +10,6 @@ use Rattle.base_tables.specs.Function.{function_of_name}
 use Rattle.base_tables.specs.Language.{boolean_of_text}
 use Rattle.formula_tree.specs.declared.corner.Corner.{Corner}
 use Rattle.formula_tree.specs.declared.node.Node.{Node}
-use Rattle.formula_tree.specs.declared.node.Node.TheVariants as n
 use Rattle.formula_tree.specs.declared.operator.UnaryKind.TheVariants as unary
 use Rattle.formula_tree.specs.Corners.{corner_row, corner_column, is_inside}
 use Rattle.formula_tree.specs.CornerLaws.{corner_row-corner_to, corner_column-corner_to}

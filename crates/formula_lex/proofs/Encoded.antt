@@ -1,0 +1,13 @@
+-- The bytes of the characters written so far.
+use Rattle.std.proofs.Common.{◌≡◌, ℕ, ◌+◌, ◌<◌, List, [], ◌∷◌, ◌++◌, length, get_or, take, ap, sym, ◌∙◌, append-nil, append_assoc}
+use Rattle.std.specs.Prelude.{encode_utf8, encode_utf8_all}
+use Rattle.std.proofs.lemmas.List.{take_more}
+use Rattle.std.proofs.lemmas.Str.{encodes-append}
+
+encoded_more : (cs : List ℕ) (i : ℕ) → i < length cs → encode_utf8_all (take (i + 1) cs) ≡ encode_utf8_all (take i cs) ++ encode_utf8 (get_or cs i 0)
+encoded_more cs i h =
+    ap encode_utf8_all (take_more cs i 0 h) ∙ encodes-append (take i cs) (get_or cs i 0 ∷ []) ∙ ap (λ (z : List ℕ). encode_utf8_all (take i cs) ++ z) (append-nil (encode_utf8 (get_or cs i 0)))
+
+-- one character more
+pub encoded_turn : (new before : List ℕ) (cs : List ℕ) (i : ℕ) → i < length cs → before ≡ encode_utf8_all (take i cs) → new ≡ before ++ encode_utf8 (get_or cs i 0) → new ≡ encode_utf8_all (take (i + 1) cs)
+encoded_turn new before cs i h e f = f ∙ ap (λ (z : List ℕ). z ++ encode_utf8 (get_or cs i 0)) e ∙ sym (encoded_more cs i h)

@@ -1,0 +1,7 @@
+pub mod Runs
+pub mod Counting
+pub mod Encoded
+pub mod Quotes
+pub mod Turns
+pub mod Letters
+pub mod Readers

@@ -1,0 +1,41 @@
+ghost use Rattle.std.specs.Prelude.{◌≡◌};
+ghost use Rattle.std.specs.Option.{option_map};
+ghost use Rattle.base_tables.specs.Error.{all_errors};
+ghost use Rattle.formula_lex.specs.Lex.{own_error, english_error, error_at};
+ghost use Rattle.formula_lex.specs.Outcome.{seen};
+
+use crate::characters::strip;
+use base_tables::{Error, Language};
+
+/// What follows the language's own text for a lost reference.
+fn own_error(language: Language, text: &[char]) -> Option<&[char]>
+    ensures { option_map (λ rest. rest.now) result ≡ own_error language text.now }
+{
+    match language {
+        Language::De => strip("#BEZUG!", text),
+        Language::Es => strip("#¡REF!", text),
+        Language::En | Language::Fr => None,
+    }
+}
+
+fn english_error(text: &[char]) -> Option<(Error, &[char])>
+    ensures { seen result ≡ english_error all_errors text.now }
+{
+    for error in Error::ALL {
+        if let Some(rest) = strip(error.text(), text) {
+            return Some((error, rest));
+        }
+    }
+    None
+}
+
+/// The error whose text stands at the front, and what follows it.
+#[tactic(auto, unfolding(crate::specs::Lex::error_at))]
+pub fn error(language: Language, text: &[char]) -> Option<(Error, &[char])>
+    ensures { seen result ≡ error_at language text.now }
+{
+    match own_error(language, text) {
+        Some(rest) => Some((Error::Ref, rest)),
+        None => english_error(text),
+    }
+}

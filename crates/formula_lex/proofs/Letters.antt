@@ -2,7 +2,7 @@
 use Rattle.std.proofs.Common.{◌≡◌, ℕ, ◌<◌, Bool, true, false, refl, sym, ap, ◌∙◌, arith}
 use Rattle.std.specs.Prelude.{◌==◌, ◌||◌}
 use Rattle.std.proofs.lemmas.Bool.Decides.{nat_tests}
-use Rattle.core.proofs.char.UnicodeAscii.{is_alphabetic_ascii}
+use Rattle.std.proofs.UnicodeAscii.{is_alphabetic_ascii}
 use Rattle.std.specs.Char.Unicode.Alphabetic.{is_alphabetic}
 use Rattle.base_tables.specs.Column.{is_letter}
 use Rattle.base_tables.specs.Word.{is_digit, starts_word, goes_on_word}

@@ -1,7 +1,9 @@
 pub mod Runs
-pub mod Counting
 pub mod Encoded
 pub mod Quotes
+pub mod Strips
 pub mod Turns
 pub mod Letters
 pub mod Readers
+pub mod Lines
+pub mod Places

@@ -107,6 +107,13 @@ place_at sheet text =
 abbrev pub in_front : ℕ → Option (Text × Text) → Option (Text × Text)
 in_front c = option_map (λ p. (c ∷ p.0, p.1))
 
+-- what stands next between quotes: a character, where a doubled quote is one, or nothing at the closing quote
+abbrev pub next_quoted : ℕ → Reader (Option ℕ)
+next_quoted quote [] = None
+next_quoted quote (c ∷ []) = if c == quote then Some (None, []) else Some (Some c, [])
+next_quoted quote (c ∷ d ∷ text) =
+    if c == quote then (if d == quote then Some (Some quote, text) else Some (None, d ∷ text)) else Some (Some c, d ∷ text)
+
 -- up to the closing quote; a doubled one stands for one
 abbrev pub quoted : ℕ → Reader Text
 quoted quote [] = None
@@ -165,8 +172,7 @@ number_at locale text = number_in locale text (number_len locale false text)
 -- what follows these characters
 abbrev pub strip : Text → Text → Option Text
 strip [] text = Some text
-strip (a ∷ name) [] = None
-strip (a ∷ name) (c ∷ text) = if a == c then strip name text else None
+strip (c ∷ name) text = option_and_then (strip name) (past c text)
 
 -- the first of the errors whose text stands at the front
 abbrev pub english_error : List Error → Reader Error

@@ -128,8 +128,9 @@ pub fn past(mark: char, text: &[char]) -> Option<&[char]>
 pub fn strip<'a>(name: &str, text: &'a [char]) -> Option<&'a [char]>
     ensures { option_map (λ rest. rest.now) result ≡ spec.strip (chars name.now) text.now }
 {
+    let mut name = name.chars();
     let mut rest = text;
-    for c in name.chars() {
+    while let Some(c) = name.next() {
         rest = past(c, rest)?;
     }
     Some(rest)

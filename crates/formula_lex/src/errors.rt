@@ -18,12 +18,13 @@ fn own_error(language: Language, text: &[char]) -> Option<&[char]>
     }
 }
 
-fn english_error(text: &[char]) -> Option<(Error, &[char])>
-    ensures { seen result ≡ english_error all_errors text.now }
+/// The first of the errors whose English text stands at the front, and what follows that.
+fn english_error(errors: &[Error], text: &[char]) -> Option<(Error, &[char])>
+    ensures { seen result ≡ english_error errors.now text.now }
 {
-    for error in Error::ALL {
+    for error in errors {
         if let Some(rest) = strip(error.text(), text) {
-            return Some((error, rest));
+            return Some((*error, rest));
         }
     }
     None
@@ -36,6 +37,6 @@ pub fn error(language: Language, text: &[char]) -> Option<(Error, &[char])>
 {
     match own_error(language, text) {
         Some(rest) => Some((Error::Ref, rest)),
-        None => english_error(text),
+        None => english_error(&Error::ALL, text),
     }
 }

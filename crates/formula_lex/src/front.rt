@@ -1,7 +1,9 @@
-ghost use Rattle.std.specs.Prelude.{◌≡◌, ◌≤◌, ◌∷◌, length, IfOk, encode_utf8_all};
+ghost use Rattle.std.specs.Prelude.{◌≡◌, ◌≤◌, ◌<◌, ◌∷◌, false, length, Some, IfSome, IfOk, encode_utf8_all};
 ghost use Rattle.std.specs.Option.{option_map};
+ghost use Rattle.std.specs.Str.{chars};
 ghost use Rattle.base_decimal.specs.Numeral.{is_exponent_letter};
 ghost use Rattle.formula_lex.specs.Lex as spec;
+ghost use Rattle.formula_lex.specs.Characters.{goes_on_number};
 ghost use Rattle.formula_lex.specs.Outcome.{seen};
 
 use crate::characters::{Class, ends_before, goes_on_word, is_digit, past, run, starts_word};
@@ -14,9 +16,10 @@ use formula_grammar::{Profile, Token};
 use std::alloc::{AllocError, Global};
 
 /// A text of these characters.
-#[tactic(auto, using(crate::proofs::Encoded::encoded_turn))]
+#[tactic(auto, using(crate::proofs::Encoded::encodings))]
 fn text_of(alloc: Global, characters: &[char]) -> Result<Text, AllocError>
-    ensures { IfOk result (λ text. text ≡ encode_utf8_all characters.now) }
+    ensures bytes { IfOk result (λ text. text ≡ encode_utf8_all characters.now) }
+    ensures characters { IfOk result (λ text. chars text ≡ characters.now) }
 {
     let mut text = String::new(alloc);
     for c in characters {
@@ -46,6 +49,7 @@ fn on_sheet(sheet: Text, text: &[char]) -> Option<(Token, &[char])>
 }
 
 /// A word, or what stands on the sheet that a word names.
+#[tactic(auto, unfolding(crate::specs::Lex::word_at))]
 fn word(alloc: Global, text: &[char]) -> Result<Option<(Token, &[char])>, AllocError>
     ensures { IfOk result (λ found. seen found ≡ spec.word_at text.now) }
 {
@@ -93,6 +97,20 @@ fn number(alloc: Global, locale: Locale, text: &[char]) -> Result<Option<(Token,
     }
 }
 
+/// What stands next between quotes, and what follows: a character, where a doubled quote is one, or
+/// nothing at the closing quote. `None` where the text ends before it.
+fn next_quoted(quote: char, text: &[char]) -> Option<(Option<char>, &[char])>
+    ensures value { seen result ≡ spec.next_quoted quote text.now }
+    ensures shorter { IfSome result (λ next. length next.1.now < length text.now) }
+{
+    match text {
+        [c, d, rest @ ..] if *c == quote && *d == quote => Some((Some(quote), rest)),
+        [c, rest @ ..] if *c == quote => Some((None, rest)),
+        [c, rest @ ..] => Some((Some(*c), rest)),
+        [] => None,
+    }
+}
+
 /// What stands before the closing quote, with doubled quotes as one, and what follows it.
 #[tactic(auto, using(crate::proofs::Quotes::quotes))]
 fn quoted(alloc: Global, quote: char, text: &[char]) -> Result<Option<(Text, &[char])>, AllocError>
@@ -100,20 +118,17 @@ fn quoted(alloc: Global, quote: char, text: &[char]) -> Result<Option<(Text, &[c
 {
     let mut name = String::new(alloc);
     let mut rest = text;
-    while let [c, more @ ..] = rest {
-        if *c != quote {
-            name.push(*c)?;
-            rest = more;
-        } else if ends_before(quote, more) {
-            return Ok(Some((Text::new(name), more)));
-        } else {
-            name.push(quote)?;
-            rest = &more[1..];
+    while let Some((next, more)) = next_quoted(quote, rest) {
+        match next {
+            Some(c) => name.push(c)?,
+            None => return Ok(Some((Text::new(name), more))),
         }
+        rest = more;
     }
     Ok(None)
 }
 
+#[tactic(auto, unfolding(crate::specs::Lex::text_at))]
 fn text_token(alloc: Global, text: &[char]) -> Result<Option<(Token, &[char])>, AllocError>
     ensures { IfOk result (λ found. seen found ≡ spec.text_at text.now) }
 {
@@ -124,6 +139,7 @@ fn text_token(alloc: Global, text: &[char]) -> Result<Option<(Token, &[char])>, 
     }
 }
 
+#[tactic(auto, unfolding(crate::specs::Lex::quoted_sheet_at))]
 fn quoted_sheet(alloc: Global, text: &[char]) -> Result<Option<(Token, &[char])>, AllocError>
     ensures { IfOk result (λ found. seen found ≡ spec.quoted_sheet_at text.now) }
 {

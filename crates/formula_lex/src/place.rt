@@ -17,17 +17,18 @@ pub struct Line {
     pub number: i32,
 }
 
-fn letter_value(c: char) -> i32
+fn letter_value(c: char) -> u32
     requires { is_letter c ≡ true }
-    ensures value { result ≡ pos (letter_value c) }
-    ensures small { letter_value c ≤ 26 }
+    ensures value { result ≡ letter_value c }
+    ensures small { result ≤ 26 }
 {
-    if c >= 'a' { c as i32 - 96 } else { c as i32 - 64 }
+    if c >= 'a' { c as u32 - 96 } else { c as u32 - 64 }
 }
 
-fn letters_number(letters: &[char]) -> Option<i32>
+fn letters_number(letters: &[char]) -> Option<u32>
     requires { list_all is_letter letters.now ≡ true }
-    ensures { result ≡ (if is_between 1 3 (length letters.now) && nat_le (letters_number letters.now) 16384 then Some (pos (letters_number letters.now)) else None) }
+    ensures value { result ≡ (if is_between 1 3 (length letters.now) && nat_le (letters_number letters.now) 16384 then Some (letters_number letters.now) else None) }
+    ensures inside { IfSome result (λ number. number ≤ 16384) }
 {
     let number = match letters {
         [a] => letter_value(*a),
@@ -35,7 +36,7 @@ fn letters_number(letters: &[char]) -> Option<i32>
         [a, b, c] => (letter_value(*a) * 26 + letter_value(*b)) * 26 + letter_value(*c),
         _ => return None,
     };
-    if number <= LAST_COLUMN { Some(number) } else { None }
+    if number <= 16_384 { Some(number) } else { None }
 }
 
 /// The column that letters name.
@@ -44,7 +45,10 @@ fn column_of(letters: &[char]) -> Option<i32>
     requires { list_all is_letter letters.now ≡ true }
     ensures { result ≡ column_of_name letters.now }
 {
-    letters_number(letters)
+    match letters_number(letters) {
+        Some(number) => Some(number as i32),
+        None => None,
+    }
 }
 
 /// The number that digits write, or `cap` where it is larger.

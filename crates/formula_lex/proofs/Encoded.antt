@@ -21,5 +21,3 @@ get_any (c ∷ s) (suc i) d h = get_any s i d (omega arith)
 
 pub chars_back : (characters bytes : List ℕ) → IsUtf8 bytes → bytes ≡ encode_utf8_all characters → chars bytes ≡ characters
 chars_back characters bytes whole e = sym (chars_from_encodes characters bytes whole (sym e))
-
-pub ruleset encodings = (encoded_turn, chars_back)

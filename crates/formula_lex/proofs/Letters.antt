@@ -61,3 +61,7 @@ digit_no_start c e = grind (arith, nat_tests)
 
 pub digit_starts_no_word : (c : ℕ) → is_digit c ≡ true → starts_word c ≡ false
 digit_starts_no_word c e = sign_starts_no_word c (digit_low c e) (digit_no_start c e)
+
+-- a character of ASCII that is no letter, no digit, no `_` and no dot goes on no word
+pub sign_goes_on_no_word : (c : ℕ) → c < 128 → is_letter c || (is_digit c || (c == 95 || c == 46)) ≡ false → goes_on_word c ≡ false
+sign_goes_on_no_word c low e = ap (λ (b : Bool). b || (is_digit c || (c == 95 || c == 46))) (ascii_letters c low) ∙ e

@@ -7,3 +7,13 @@ pub mod Letters
 pub mod Readers
 pub mod Lines
 pub mod Places
+pub mod Found
+pub mod Nowhere
+pub mod Named
+pub mod ErrorCharacters
+pub mod ErrorTexts
+pub mod Numbers
+pub mod Tokens
+pub mod Doubled
+pub mod Complete
+pub mod Sound

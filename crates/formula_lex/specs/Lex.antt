@@ -1,6 +1,5 @@
 -- Text to tokens, as a function.
 use Rattle.std.specs.Prelude.{ℕ, zero, suc, ◌+◌, ◌==◌, Bool, true, false, ◌&&◌, ◌||◌, ℤ, pos, codes, encode_utf8_all, List, [], ◌∷◌, ◌++◌, take, drop, length, Option, Some, None, if◌then◌else◌}
-use Rattle.std.specs.Str.{chars}
 use Rattle.std.specs.Option.{option_map, option_and_then, option_or}
 use Rattle.base_tables.specs.declared.Error.{Error}
 use Rattle.base_tables.specs.declared.Error.TheVariants.{Ref}
@@ -8,7 +7,7 @@ use Rattle.base_tables.specs.declared.Language.{Language}
 use Rattle.base_tables.specs.declared.Language.TheVariants.{En, De, Fr, Es}
 use Rattle.base_tables.specs.declared.Locale.{Locale}
 use Rattle.base_tables.specs.Column.{is_letter, column_of_name}
-use Rattle.base_tables.specs.Error.{all_errors, error_text, inverted_exclamation}
+use Rattle.base_tables.specs.Error.{all_errors, error_text}
 use Rattle.base_tables.specs.Locale.{decimal_sign}
 use Rattle.base_tables.specs.Word.{is_digit, starts_word, goes_on_word, reads_as_cell}
 use Rattle.base_decimal.specs.Digits.{span, stops}
@@ -177,14 +176,14 @@ strip (c ∷ name) text = option_and_then (strip name) (past c text)
 -- the first of the errors whose text stands at the front
 abbrev pub english_error : List Error → Reader Error
 english_error [] text = None
-english_error (error ∷ errors) text = option_or (option_map (λ rest. (error, rest)) (strip (chars (error_text error)) text)) (english_error errors text)
+english_error (error ∷ errors) text = option_or (option_map (λ rest. (error, rest)) (strip (error_text error) text)) (english_error errors text)
 
 -- behind the language's own text for a lost reference
 abbrev pub own_error : Language → Text → Option Text
 own_error En text = None
-own_error De text = strip (chars (codes "#BEZUG!")) text
+own_error De text = strip (codes "#BEZUG!") text
 own_error Fr text = None
-own_error Es text = strip (chars (codes "#" ++ inverted_exclamation ++ codes "REF!")) text
+own_error Es text = strip (35 ∷ 161 ∷ codes "REF!") text
 
 unfoldable pub error_at : Language → Reader Error
 error_at language text = option_or (option_map (λ rest. (Ref, rest)) (own_error language text)) (english_error all_errors text)

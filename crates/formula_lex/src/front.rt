@@ -1,6 +1,6 @@
 ghost use Rattle.std.specs.Prelude.{◌≡◌, ◌≤◌, ◌<◌, ◌∷◌, false, length, Some, IfSome, IfOk, encode_utf8_all};
 ghost use Rattle.std.specs.Option.{option_map};
-ghost use Rattle.std.specs.Str.{chars};
+ghost use Rattle.base_tables.specs.Word.{reads_as_cell};
 ghost use Rattle.base_decimal.specs.Numeral.{is_exponent_letter};
 ghost use Rattle.formula_lex.specs.Lex as spec;
 ghost use Rattle.formula_lex.specs.Characters.{goes_on_number};
@@ -16,10 +16,9 @@ use formula_grammar::{Profile, Token};
 use std::alloc::{AllocError, Global};
 
 /// A text of these characters.
-#[tactic(auto, using(crate::proofs::Encoded::encodings))]
+#[tactic(auto, using(crate::proofs::Encoded::encoded_turn))]
 fn text_of(alloc: Global, characters: &[char]) -> Result<Text, AllocError>
-    ensures bytes { IfOk result (λ text. text ≡ encode_utf8_all characters.now) }
-    ensures characters { IfOk result (λ text. chars text ≡ characters.now) }
+    ensures { IfOk result (λ text. text ≡ encode_utf8_all characters.now) }
 {
     let mut text = String::new(alloc);
     for c in characters {
@@ -48,20 +47,29 @@ fn on_sheet(sheet: Text, text: &[char]) -> Option<(Token, &[char])>
     place(Some(sheet), rest)
 }
 
+/// Whether a word, whose text is `name`, reads as a cell.
+#[tactic(auto, using(crate::proofs::Encoded::chars_back))]
+fn is_cell(word: &[char], name: &str) -> bool
+    requires { name.now ≡ encode_utf8_all word.now }
+    ensures { result ≡ reads_as_cell word.now }
+{
+    reads_as_cell(name)
+}
+
 /// A word, or what stands on the sheet that a word names.
 #[tactic(auto, unfolding(crate::specs::Lex::word_at))]
 fn word(alloc: Global, text: &[char]) -> Result<Option<(Token, &[char])>, AllocError>
     ensures { IfOk result (λ found. seen found ≡ spec.word_at text.now) }
 {
     let (word, rest) = run(Class::Word, text);
-    let word = text_of(alloc, word)?;
+    let name = text_of(alloc, word)?;
     if ends_before('!', rest) {
-        return Ok(Some((Token::Word(word), rest)));
+        return Ok(Some((Token::Word(name), rest)));
     }
-    if reads_as_cell(word.as_str()) {
+    if is_cell(word, name.as_str()) {
         return Ok(None);
     }
-    Ok(on_sheet(word, rest))
+    Ok(on_sheet(name, rest))
 }
 
 fn goes_on_number(locale: Locale, c: char) -> bool

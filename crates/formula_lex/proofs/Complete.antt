@@ -48,12 +48,12 @@ name_no_mark c e = sym (ap (λ (b : Bool). b || (c == 33)) (name_no_word c e)) �
 
 -- ---- no cell or range begins with a blank
 
-cell_no_blank : (mark : CellMark) (s rest : Text) → IsCell mark s → stops is_blank (s ++ rest) ≡ true
+pub cell_no_blank : (mark : CellMark) (s rest : Text) → IsCell mark s → stops is_blank (s ++ rest) ≡ true
 cell_no_blank mark s rest is =
     ap (stops is_blank) (ap (λ (x : Text). x ++ rest) is.parts ∙ pair_parts is.first [] is.second rest)
     ∙ line_stops column_of_name is_letter columns_named is_blank refl columns_named.no_blank mark.absolute_column mark.column is.first (is.second ++ rest) is.is_first
 
-range_no_blank : (a b : CellMark) (s rest : Text) → IsRange a b s → stops is_blank (s ++ rest) ≡ true
+pub range_no_blank : (a b : CellMark) (s rest : Text) → IsRange a b s → stops is_blank (s ++ rest) ≡ true
 range_no_blank a b s rest (cells is) =
     ap (stops is_blank) (ap (λ (x : Text). x ++ rest) is.parts ∙ pair_parts is.first (58 ∷ []) is.second rest) ∙ cell_no_blank a is.first (58 ∷ (is.second ++ rest)) is.is_first
 range_no_blank a b s rest (columns is on_first on_last) =
@@ -71,11 +71,11 @@ on_sheet_read sheet blanks place x rest all ends e =
     behind_read 33 (λ text. place_at (Some sheet) (span is_blank text).1) (blanks ++ place)
     ∙ ap (λ (p : Text × Text). place_at (Some sheet) p.1) (span_at is_blank blanks place all ends) ∙ e
 
-behind_name : (sheet text : Text) → 0 < length sheet → behind_quotes (sheet, text) ≡ on_sheet sheet text
+pub behind_name : (sheet text : Text) → 0 < length sheet → behind_quotes (sheet, text) ≡ on_sheet sheet text
 behind_name [] text some = absurd (omega arith)
 behind_name (c ∷ sheet) text some = refl
 
-some_bytes : (name : Text) → name ≢ [] → 0 < length (encode_utf8_all name)
+pub some_bytes : (name : Text) → name ≢ [] → 0 < length (encode_utf8_all name)
 some_bytes [] h = absurd (h refl)
 some_bytes (c ∷ name) h = omega (arith, length-le-encodes (c ∷ name))
 
@@ -120,7 +120,7 @@ module _ (locale : Locale) (language : Language) where
 
   -- ---- cells and ranges
 
-  range_token : (sheet : Option Text) (a b : CellMark) (s rest : Text) → OnSheet sheet (IsRange a b) s → stops goes_on_place rest ≡ true → token (s ++ rest) ≡ Some (t.Range sheet a b, rest)
+  pub range_token : (sheet : Option Text) (a b : CellMark) (s rest : Text) → OnSheet sheet (IsRange a b) s → stops goes_on_place rest ≡ true → token (s ++ rest) ≡ Some (t.Range sheet a b, rest)
   range_token None a b s rest is ends =
       token_place locale language (s ++ rest) (t.Range None a b) rest (place_of_range None (s ++ rest) a b rest (range_read a b s rest (none_on (IsRange a b) s is) ends))
   range_token (Some sheet) a b s rest is ends =

@@ -17,3 +17,4 @@ pub mod Tokens
 pub mod Doubled
 pub mod Complete
 pub mod Sound
+pub mod Texts

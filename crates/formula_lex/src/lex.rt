@@ -14,6 +14,13 @@ use base_values::EditError;
 use formula_grammar::{Profile, Token};
 use std::alloc::{AllocError, Global};
 
+/// The characters of a text.
+fn characters_of(alloc: Global, text: &str) -> Result<Vec<char>, AllocError>
+    ensures { IfOk result (λ characters. characters.items ≡ chars text.now) }
+{
+    text.chars().collect(alloc)
+}
+
 fn tokens(alloc: Global, profile: Profile, text: &[char]) -> Result<Option<Vec<Token>>, AllocError>
     ensures { IfOk result (λ found. option_map (λ tokens. tokens.items) found ≡ tokens_of profile.locale profile.language text.now) }
 {
@@ -46,7 +53,7 @@ pub fn lex_text(alloc: Global, text: &str, profile: Profile) -> Result<Option<Ve
     ensures only { IfOk result (λ o. (tokens : List AnyToken) → IsTokens profile.locale profile.language (chars text.now) tokens → option_map (λ found. found.items) o ≡ Some tokens) }
     ensures memory { IsOkUnless result NoMemory }
 {
-    let characters: Vec<char> = text.chars().collect(alloc)?;
+    let characters = characters_of(alloc, text)?;
     Ok(tokens(alloc, profile, &characters)?)
 }
 

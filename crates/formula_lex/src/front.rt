@@ -94,7 +94,11 @@ fn number_len(locale: Locale, text: &[char]) -> usize
 }
 
 #[tactic(auto, unfolding(crate::specs::Lex::number_at))]
-fn number(alloc: Global, locale: Locale, text: &[char]) -> Result<Option<(Token, &[char])>, AllocError>
+fn number(
+    alloc: Global,
+    locale: Locale,
+    text: &[char],
+) -> Result<Option<(Token, &[char])>, AllocError>
     ensures { IfOk result (λ found. seen found ≡ spec.number_at locale text.now) }
 {
     let (front, rest) = text.split_at(number_len(locale, text));
@@ -233,7 +237,13 @@ fn sign(c: char, text: &[char]) -> Option<(Token, &[char])>
 
 /// A token that is neither a cell nor a range. It begins with this character, behind which `rest` stands.
 #[tactic(auto, unfolding(crate::specs::Lex::other_at))]
-fn other<'a>(alloc: Global, profile: Profile, c: char, text: &'a [char], rest: &'a [char]) -> Result<Option<(Token, &'a [char])>, AllocError>
+fn other<'a>(
+    alloc: Global,
+    profile: Profile,
+    c: char,
+    text: &'a [char],
+    rest: &'a [char],
+) -> Result<Option<(Token, &'a [char])>, AllocError>
     requires { text.now ≡ c ∷ rest.now }
     ensures { IfOk result (λ found. seen found ≡ spec.other_at profile.locale profile.language c rest.now) }
 {
@@ -253,7 +263,11 @@ fn other<'a>(alloc: Global, profile: Profile, c: char, text: &'a [char], rest: &
 
 /// The token at the front of the text, and what follows it.
 #[tactic(auto, unfolding(crate::specs::Lex::token_at))]
-pub fn token(alloc: Global, profile: Profile, text: &[char]) -> Result<Option<(Token, &[char])>, AllocError>
+pub fn token(
+    alloc: Global,
+    profile: Profile,
+    text: &[char],
+) -> Result<Option<(Token, &[char])>, AllocError>
     ensures { IfOk result (λ found. seen found ≡ spec.token_at profile.locale profile.language text.now) }
 {
     let [c, rest @ ..] = text else {

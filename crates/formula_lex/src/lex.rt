@@ -48,7 +48,11 @@ fn tokens(alloc: Global, profile: Profile, text: &[char]) -> Result<Option<Vec<T
 /// after tokens.
 ///
 /// `NoMemory` where memory runs out.
-pub fn lex_text(alloc: Global, text: &str, profile: Profile) -> Result<Option<Vec<Token>>, EditError>
+pub fn lex_text(
+    alloc: Global,
+    text: &str,
+    profile: Profile,
+) -> Result<Option<Vec<Token>>, EditError>
     ensures found { IfOk result (λ o. IfSome o (λ tokens. IsTokens profile.locale profile.language (chars text.now) tokens.items)) }
     ensures only { IfOk result (λ o. (tokens : List AnyToken) → IsTokens profile.locale profile.language (chars text.now) tokens → option_map (λ found. found.items) o ≡ Some tokens) }
     ensures memory { IsOkUnless result NoMemory }

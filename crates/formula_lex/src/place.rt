@@ -22,7 +22,11 @@ fn letter_value(c: char) -> u32
     ensures value { result ≡ letter_value c }
     ensures small { result ≤ 26 }
 {
-    if c >= 'a' { c as u32 - 96 } else { c as u32 - 64 }
+    if c >= 'a' {
+        c as u32 - 96
+    } else {
+        c as u32 - 64
+    }
 }
 
 fn letters_number(letters: &[char]) -> Option<u32>
@@ -75,7 +79,11 @@ fn row_of(digits: &[char]) -> Option<i32>
         _ => {}
     }
     let number = capped_number(digits, 1_048_577) as i32;
-    if number <= LAST_ROW { Some(number) } else { None }
+    if number <= LAST_ROW {
+        Some(number)
+    } else {
+        None
+    }
 }
 
 /// A column at the front of the text, and what follows it.

@@ -54,7 +54,12 @@ fn kind(token: &Token) -> &'static str {
 }
 
 /// The kinds of a text's tokens, with a blank behind each, or `none`.
-fn kinds(alloc: Global, text: &str, locale: Locale, language: Language) -> Result<String, EditError> {
+fn kinds(
+    alloc: Global,
+    text: &str,
+    locale: Locale,
+    language: Language,
+) -> Result<String, EditError> {
     let mut kinds = String::new(alloc);
     match lex_text(alloc, text, profile(locale, language))? {
         None => kinds.push_str("none")?,
@@ -128,7 +133,10 @@ fn english_texts(rt: HostRuntime) -> Result<(), Fail> {
         ("a<>b<=c>=d<e>f=g", "w <> w <= w >= w < w > w = w "),
         ("< >", "< > "),
         ("{1,-2;TRUE,#N/A}", "{ n , - n ; w , e } "),
-        ("LAMBDA([x],_y.z,@x%^2*2/1)", "w ( [ w ] , w , @ w % ^ n * n / n ) "),
+        (
+            "LAMBDA([x],_y.z,@x%^2*2/1)",
+            "w ( [ w ] , w , @ w % ^ n * n / n ) ",
+        ),
         ("Übersicht_1.é", "w "),
         ("x·y", "none"),
         ("~", "none"),
@@ -186,11 +194,20 @@ fn sheet(alloc: Global, name: &str) -> Result<Option<Text>, AllocError> {
 #[test]
 fn tokens_keep_what_is_written(rt: HostRuntime) -> Result<(), Fail> {
     let alloc = rt.alloc();
-    let cell = Token::Reference(None, CellMark { absolute_row: true, ..mark(28, 7) });
+    let cell = Token::Reference(
+        None,
+        CellMark {
+            absolute_row: true,
+            ..mark(28, 7)
+        },
+    );
     assert!(rt; is_token(alloc, "aB$7", &cell)?);
     let quoted = Token::Reference(sheet(alloc, "It's")?, mark(1, 1));
     assert!(rt; is_token(alloc, "'It''s'!A1", &quoted)?);
-    let number = Token::Number(Decimal { mantissa: 125, places: 1 });
+    let number = Token::Number(Decimal {
+        mantissa: 125,
+        places: 1,
+    });
     assert!(rt; is_token(alloc, "1.250e1", &number)?);
     Ok(())
 }
@@ -198,11 +215,23 @@ fn tokens_keep_what_is_written(rt: HostRuntime) -> Result<(), Fail> {
 #[test]
 fn whole_lines(rt: HostRuntime) -> Result<(), Fail> {
     let alloc = rt.alloc();
-    let first = CellMark { absolute_row: true, ..mark(1, 1) };
-    let last = CellMark { absolute_row: true, ..mark(3, 1_048_576) };
+    let first = CellMark {
+        absolute_row: true,
+        ..mark(1, 1)
+    };
+    let last = CellMark {
+        absolute_row: true,
+        ..mark(3, 1_048_576)
+    };
     assert!(rt; is_token(alloc, "A:C", &Token::Range(None, first, last))?);
-    let first = CellMark { absolute_column: true, ..mark(1, 3) };
-    let last = CellMark { absolute_column: true, ..mark(16_384, 4) };
+    let first = CellMark {
+        absolute_column: true,
+        ..mark(1, 3)
+    };
+    let last = CellMark {
+        absolute_column: true,
+        ..mark(16_384, 4)
+    };
     assert!(rt; is_token(alloc, "3:4", &Token::Range(None, first, last))?);
     Ok(())
 }

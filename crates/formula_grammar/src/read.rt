@@ -58,6 +58,7 @@ pub fn read_tokens(
     profile: Profile,
 ) -> Result<Option<Node>, EditError>
     requires place { IsPlace profile.place }
+    ensures value { IfOk result (λ o. o ≡ spec.tree_of profile tokens.now) }
     ensures found { IfOk result (λ o. IfSome o (λ tree. Derives profile tokens.now tree)) }
     ensures only { IfOk result (λ o. (tree : Tree) → Derives profile tokens.now tree → o ≡ Some tree) }
 

@@ -53,6 +53,7 @@ pub fn lex_text(
     text: &str,
     profile: Profile,
 ) -> Result<Option<Vec<Token>>, EditError>
+    ensures value { IfOk result (λ o. option_map (λ tokens. tokens.items) o ≡ tokens_of profile.locale profile.language (chars text.now)) }
     ensures found { IfOk result (λ o. IfSome o (λ tokens. IsTokens profile.locale profile.language (chars text.now) tokens.items)) }
     ensures only { IfOk result (λ o. (tokens : List AnyToken) → IsTokens profile.locale profile.language (chars text.now) tokens → option_map (λ found. found.items) o ≡ Some tokens) }
     ensures memory { IsOkUnless result NoMemory }

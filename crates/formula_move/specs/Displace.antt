@@ -10,7 +10,8 @@ use Rattle.formula_tree.specs.declared.Node.{Node}
 use Rattle.formula_tree.specs.Corners.{corner_at, corner_to, is_whole_rows, is_whole_columns}
 use Rattle.formula_tree.specs.OnSheet.{is_on_sheet}
 use Rattle.formula_tree.specs.Moved.{Mapping, moved}
-use Rattle.formula_print.specs.Forms.{localized_text, place_of}
+use Rattle.formula_print.specs.Forms.{localized_text}
+use Rattle.formula_tree.specs.Context.{context_place}
 use Rattle.formula_move.specs.declared.displace_data.DisplaceData.{DisplaceData}
 use Rattle.formula_move.specs.declared.displace_data.DisplaceData.TheVariants as kind
 use Rattle.formula_move.specs.Lines.{shifted, stepped}
@@ -92,8 +93,8 @@ displacing own place displacement = record {
 
 -- the tree of a formula in its cell after a displacement
 unfoldable pub displaced : CellReferenceRC → DisplaceData → Node → Node
-displaced context displacement = moved (place_of context) (displacing context.sheet (place_of context) displacement)
+displaced context displacement = moved (context_place context) (displacing context.sheet (context_place context) displacement)
 
 -- its text in a locale and a language
 unfoldable pub displaced_text : CellReferenceRC → DisplaceData → Locale → Language → Node → List ℕ
-displaced_text context displacement locale language tree = localized_text context locale language (displaced context displacement tree)
+displaced_text context displacement locale language tree = localized_text (context_place context) locale language (displaced context displacement tree)

@@ -1,25 +1,16 @@
 ghost use Rattle.std.specs.Prelude.{◌≡◌, IfOk, IsOkUnless, string_bytes};
 ghost use Rattle.base_values.specs.Places.{IsPlace};
 ghost use Rattle.base_values.specs.declared.EditError.TheVariants.{NoMemory};
-ghost use Rattle.formula_print.specs.Forms.{place_of};
+ghost use Rattle.formula_tree.specs.Context.{context_place};
 ghost use Rattle.formula_move.specs.Displace.{displaced, displaced_text};
 
 use crate::displace_data::DisplaceData;
 use crate::displacement::Displacement;
 use base_tables::{Language, Locale};
-use base_values::{EditError, Position};
+use base_values::EditError;
 use formula_print::to_localized_string;
 use formula_tree::{CellReferenceRC, Node, move_node};
 use std::alloc::Global;
-
-fn place_of(context: &CellReferenceRC) -> Position
-    ensures { result ≡ place_of context.now }
-{
-    Position {
-        row: context.row,
-        column: context.column,
-    }
-}
 
 /// The tree of a formula in the cell `context` once the cells that it refers to are displaced, while
 /// it stays in its cell. A corner goes where its cell goes if it stands on the displaced sheet, which
@@ -37,11 +28,11 @@ pub fn displace_node(
     context: &CellReferenceRC,
     displace_data: &DisplaceData<'_>,
 ) -> Result<Node, EditError>
-    requires { IsPlace (place_of context.now) }
+    requires { IsPlace (context_place context.now) }
     ensures tree { IfOk result (λ tree. tree ≡ displaced context.now displace_data.now node.now) }
     ensures only { IsOkUnless result NoMemory }
 {
-    let place = place_of(context);
+    let place = context.place();
     let displacement = Displacement {
         own: context.sheet.as_str(),
         place,
@@ -62,7 +53,7 @@ pub fn to_string_displaced(
     locale: Locale,
     language: Language,
 ) -> Result<String, EditError>
-    requires { IsPlace (place_of context.now) }
+    requires { IsPlace (context_place context.now) }
     ensures text { IfOk result (λ text. string_bytes text ≡ displaced_text context.now displace_data.now locale language node.now) }
     ensures only { IsOkUnless result NoMemory }
 {

@@ -2,6 +2,7 @@ ghost use Rattle.std.specs.Prelude.{◌≡◌, IfOk, IsOkUnless, string_bytes};
 ghost use Rattle.base_values.specs.declared.EditError.TheVariants.{NoMemory};
 ghost use Rattle.formula_print.specs.Forms.{localized_style, row_column_style, excel_style, excel_text, localized_text, english_text, row_column_text};
 ghost use Rattle.formula_print.specs.Print.{text_of};
+ghost use Rattle.formula_tree.specs.Context.{context_place};
 
 use crate::print::print_node;
 use crate::scope::Scope;
@@ -13,7 +14,7 @@ use formula_tree::{CellReferenceRC, Node};
 use std::alloc::{AllocError, Global};
 
 fn localized_style(context: &CellReferenceRC, locale: Locale, language: Language) -> Style
-    ensures { result ≡ localized_style context.now locale language }
+    ensures { result ≡ localized_style (context_place context.now) locale language }
 {
     Style {
         corners: Corners::Letters(context.place()),
@@ -56,7 +57,7 @@ pub fn to_localized_string(
     locale: Locale,
     language: Language,
 ) -> Result<String, EditError>
-    ensures text { IfOk result (λ text. string_bytes text ≡ localized_text context.now locale language node.now) }
+    ensures text { IfOk result (λ text. string_bytes text ≡ localized_text (context_place context.now) locale language node.now) }
     ensures only { IsOkUnless result NoMemory }
 {
     Ok(text_in(alloc, localized_style(context, locale, language), node)?)
@@ -71,7 +72,7 @@ pub fn to_english_string(
     node: &Node,
     context: &CellReferenceRC,
 ) -> Result<String, EditError>
-    ensures text { IfOk result (λ text. string_bytes text ≡ english_text context.now node.now) }
+    ensures text { IfOk result (λ text. string_bytes text ≡ english_text (context_place context.now) node.now) }
     ensures only { IsOkUnless result NoMemory }
 {
     Ok(text_in(
@@ -96,7 +97,7 @@ pub fn to_rc_format(alloc: Global, node: &Node) -> Result<String, EditError>
 
 /// As in English, with what older programs don't know as calls of `_xlfn.` functions.
 fn excel_style(context: &CellReferenceRC) -> Style
-    ensures { result ≡ excel_style context.now }
+    ensures { result ≡ excel_style (context_place context.now) }
 {
     Style {
         corners: Corners::Letters(context.place()),
@@ -108,7 +109,7 @@ fn excel_style(context: &CellReferenceRC) -> Style
 
 #[tactic(auto, unfolding(crate::specs::Forms::excel_text))]
 fn excel_text(alloc: Global, node: &Node, context: &CellReferenceRC) -> Result<String, AllocError>
-    ensures { IfOk result (λ text. string_bytes text ≡ excel_text context.now node.now) }
+    ensures { IfOk result (λ text. string_bytes text ≡ excel_text (context_place context.now) node.now) }
 {
     let mut scope = Scope::outermost(alloc);
     let tree = stored(node, &mut scope)?;
@@ -126,7 +127,7 @@ pub fn to_excel_string(
     node: &Node,
     context: &CellReferenceRC,
 ) -> Result<String, EditError>
-    ensures text { IfOk result (λ text. string_bytes text ≡ excel_text context.now node.now) }
+    ensures text { IfOk result (λ text. string_bytes text ≡ excel_text (context_place context.now) node.now) }
     ensures only { IsOkUnless result NoMemory }
 {
     Ok(excel_text(alloc, node, context)?)
@@ -140,7 +141,7 @@ pub fn to_excel_array_formula_string(
     node: &Node,
     context: &CellReferenceRC,
 ) -> Result<String, EditError>
-    ensures text { IfOk result (λ text. string_bytes text ≡ excel_text context.now node.now) }
+    ensures text { IfOk result (λ text. string_bytes text ≡ excel_text (context_place context.now) node.now) }
     ensures only { IsOkUnless result NoMemory }
 {
     Ok(excel_text(alloc, node, context)?)

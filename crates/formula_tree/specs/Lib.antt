@@ -1,3 +1,4 @@
+pub mod Context
 pub mod CornerLaws
 pub mod Corners
 pub mod Depth

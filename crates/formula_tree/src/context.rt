@@ -1,4 +1,5 @@
 ghost use Rattle.std.specs.Prelude.{◌≡◌};
+ghost use Rattle.formula_tree.specs.Context.{context_place};
 
 use base_values::{Exact, Position, Text};
 
@@ -23,8 +24,7 @@ impl Exact for CellReferenceRC {
 impl CellReferenceRC {
     /// The cell's place in its sheet.
     pub fn place(&self) -> Position
-        ensures row { result.row ≡ self.now.row }
-        ensures column { result.column ≡ self.now.column }
+        ensures { result ≡ context_place self.now }
     {
         Position {
             row: self.row,

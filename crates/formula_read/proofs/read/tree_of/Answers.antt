@@ -1,0 +1,23 @@
+use Rattle.std.proofs.Common.{rules, ◌≡◌, true, List, Option, Some, option_map, ap, sym, ◌∙◌}
+use Rattle.std.specs.Str.{chars}
+use Rattle.formula_tree.specs.declared.numbers.NumberRule.TheVariants.{Kept, NotNegative}
+use Rattle.formula_lex.specs.Lexicon.{IsTokens}
+use Rattle.formula_read.proofs.Reading.{only_formula}
+use Rattle.formula_read.proofs.Spelled.{spelled_follow}
+use Rattle.formula_read.proofs.read.tree_of.Goals as goal
+
+pub returns-in-Some-clause-only : goal.returns-in-Some-clause-only
+returns-in-Some-clause-only c =
+    only_formula c.args.profile c.args.text.now c.as_slice.result.now c.read_tokens.result
+    (λ others spelled. ap Some c.as_slice.ensures.value ∙ ap (option_map (λ found. found.items)) (sym c.in-Some.is) ∙ c.in_ok-tokens.ensures.only others spelled)
+    c.read_tokens.ensures.only
+
+pub returns-in-Some-clause-kept : goal.returns-in-Some-clause-kept
+returns-in-Some-clause-kept c =
+    let spelled : IsTokens c.args.profile.locale c.args.profile.language (chars c.args.text.now) c.as_slice.result.now = search rules in
+    c.read_tokens.ensures.numbers Kept (spelled_follow Kept c.args.profile.locale c.args.profile.language (chars c.args.text.now) c.as_slice.result.now spelled)
+
+pub returns-in-Some-clause-positive : goal.returns-in-Some-clause-positive
+returns-in-Some-clause-positive c =
+    let spelled : IsTokens c.args.profile.locale c.args.profile.language (chars c.args.text.now) c.as_slice.result.now = search rules in
+    c.read_tokens.ensures.numbers NotNegative (spelled_follow NotNegative c.args.profile.locale c.args.profile.language (chars c.args.text.now) c.as_slice.result.now spelled)

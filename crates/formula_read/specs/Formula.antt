@@ -1,0 +1,35 @@
+-- The texts that are formulas, and their trees.
+use Rattle.std.specs.Prelude.{◌≡◌, ℕ, List, Option, unwrap_or}
+use Rattle.std.specs.Option.{option_and_then}
+use Rattle.std.specs.Str.{chars}
+use Rattle.base_tables.specs.declared.Language.{Language}
+use Rattle.base_tables.specs.declared.Locale.{Locale}
+use Rattle.formula_tree.specs.declared.CellReferenceRC.{CellReferenceRC}
+use Rattle.formula_tree.specs.declared.Node.{Node}
+use Rattle.formula_tree.specs.declared.Node.TheVariants.{ParseError}
+use Rattle.formula_tree.specs.Context.{context_place}
+use Rattle.formula_grammar.specs.declared.Profile.{Profile}
+use Rattle.formula_grammar.specs.declared.Token.{Token}
+use Rattle.formula_grammar.specs.Grammar.{Derives}
+use Rattle.formula_grammar.specs.Reading.{tree_of}
+use Rattle.formula_lex.specs.Lex.{tokens_of}
+use Rattle.formula_lex.specs.Lexicon.{IsTokens}
+
+-- what the reading of a formula in a cell depends on
+abbrev pub profile_of : CellReferenceRC → Locale → Language → Profile
+profile_of context locale language = record { place = context_place context; locale = locale; language = language }
+
+-- the text, as its bytes, is a formula with this tree: its tokens derive it
+pub record IsFormula (p : Profile) (text : List ℕ) (tree : Node) : Type 0 where
+  pub tokens : List Token
+  pub spelled : IsTokens p.locale p.language (chars text) tokens
+  pub derives : Derives p tokens tree
+
+-- the tree of a formula's text, if it is one
+abbrev pub found_tree : Profile → List ℕ → Option Node
+found_tree p text = option_and_then (tree_of p) (tokens_of p.locale p.language (chars text))
+
+-- what a text is read as: its tree, and a node of the text itself where it is no formula. The law `formulas_are_read` says it by
+-- the grammar
+unfoldable pub formula_of : Profile → List ℕ → Node
+formula_of p text = unwrap_or (found_tree p text) (ParseError text)

@@ -4,7 +4,7 @@ ghost use Rattle.base_axis.specs.Along.{Along, IsAxis};
 use base_values::{LAST_COLUMN, LAST_ROW, Position};
 
 /// A direction of a sheet: along it each place has a line, and across it another one. Lines are
-/// counted from 1.
+/// counted from 1. docs/MODEL.md has the rules.
 pub trait Axis {
     /// The last line.
     const LAST: i32;

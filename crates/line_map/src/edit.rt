@@ -14,7 +14,7 @@ pub enum EditKind {
     Delete { first: i32, count: i32 },
 }
 
-/// An edit of whole lines along an axis.
+/// An edit of whole lines along an axis. docs/MODEL.md says where each line goes.
 #[derive_where(Clone, Copy)]
 pub struct LineEdit<A: Axis> {
     pub kind: EditKind,

@@ -10,7 +10,7 @@ use base_values::{EditError, Exact};
 use std::alloc::Global;
 
 /// What line edits along an axis carry along. Each call asks that the edit is valid and that the
-/// value lies inside the sheet, and refuses `NoMemory` alone.
+/// value lies inside the sheet, and refuses `NoMemory` alone. docs/MODEL.md has the rules.
 pub trait Follow<A: Axis>: Exact + Drop {
     /// What an edit's opposite does not give back.
     type Kept: Drop;

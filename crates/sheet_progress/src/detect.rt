@@ -177,7 +177,8 @@ impl<'a> SequenceDetector for DateProgressionDetector<'a> {
 }
 
 /// How texts go on: as numbers, else as texts that end in numbers, else as names, which go on in
-/// the case of the seed. `None` where they don't. `NoMemory` is the only error.
+/// the case of the seed. `None` where they don't. `NoMemory` is the only error. docs/MODEL.md has
+/// the rules.
 #[tactic(auto, unfolding(crate::specs::Progressions::progression_of))]
 pub fn detect_progression(
     alloc: Global,

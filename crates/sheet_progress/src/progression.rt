@@ -100,7 +100,7 @@ impl Progression {
     /// The text at an index from 0, which is the one after the last, to 1048575: a number rounded
     /// to 15 digits, in plain digits with the locale's decimal sign; the prefix and such a number;
     /// or the name at the place that is counted on, where the list begins again behind its end.
-    /// `NoMemory` is the only error.
+    /// `NoMemory` is the only error. docs/MODEL.md has the rules.
     pub fn next(&self, alloc: Global, i: i32) -> Result<String, EditError>
         requires from { pos 0 ≤ℤ i }
         requires to { i ≤ℤ pos 1048575 }

@@ -11,7 +11,7 @@ use Rattle.base_tables.specs.Language.{boolean_of_text}
 use Rattle.formula_tree.specs.declared.corner.Corner.{Corner}
 use Rattle.formula_tree.specs.declared.node.Node.{Node}
 use Rattle.formula_tree.specs.declared.operator.UnaryKind.TheVariants as unary
-use Rattle.formula_tree.specs.Corners.{corner_column, corner_to, is_inside, lower_corner, higher_corner}
+use Rattle.formula_tree.specs.Corners.{corner_column, is_inside, lower_corner, higher_corner}
 use Rattle.formula_tree.specs.CornerLaws.{corner_row-corner_to, corner_column-corner_to}
 use Rattle.formula_tree.specs.Placed.{is_placed}
 use Rattle.formula_tree.specs.PlacedEquations.{placed_boolean, placed_number, placed_text, placed_reference, placed_range, placed_colon, placed_concatenate, placed_compare, placed_sum, placed_product, placed_power, placed_unary, placed_call, placed_named_call, placed_array, placed_name, placed_error, placed_empty_argument, placed_spill, placed_lambda, placed_lambda_call, placed_implicit_intersection}

@@ -76,8 +76,11 @@ pub fn read_tokens(
     tree_of(alloc, profile, tokens)
 }
 
-/// Tokens derive at most one tree, which is no text outside of the grammar.
+/// Tokens derive at most one tree, which is no text outside of the grammar; and that tree is what the
+/// reader's definition answers.
 pub fn tokens_derive_one_tree()
     ensures one { (profile : AnyProfile) (tokens : List AnyToken) (a b : Tree) → Derives profile tokens a → Derives profile tokens b → a ≡ b }
     ensures formula { (profile : AnyProfile) (tokens : List AnyToken) (tree : Tree) → Derives profile tokens tree → is_parse_error tree ≡ false }
+    ensures read { (profile : AnyProfile) (tokens : List AnyToken) (tree : Tree) → spec.tree_of profile tokens ≡ Some tree → Derives profile tokens tree }
+    ensures derived { (profile : AnyProfile) (tokens : List AnyToken) (tree : Tree) → Derives profile tokens tree → spec.tree_of profile tokens ≡ Some tree }
 {}

@@ -1,27 +1,25 @@
 -- A token that is spelled is read.
-use Rattle.std.proofs.Common.{◌≡◌, ◌≢◌, ℕ, zero, suc, ◌+◌, ◌<◌, ◌≤◌, Bool, true, false, cond, List, [], ◌∷◌, ◌++◌, length, length-append, Option, Some, None, refl, sym, ap, subst, ◌∙◌, append_assoc, append-nil, arith}
-use Rattle.std.specs.Prelude.{not, ◌==◌, ◌||◌, ◌&&◌, encode_utf8, encode_utf8_all, codes}
+use Rattle.std.proofs.Common.{◌≡◌, ◌≢◌, ℕ, ◌<◌, Bool, true, false, cond, [], ◌∷◌, ◌++◌, length, Option, Some, None, refl, sym, ap, subst, ◌∙◌, append_assoc, arith}
+use Rattle.std.specs.Prelude.{not, ◌==◌, ◌||◌, encode_utf8_all}
 use Rattle.std.specs.List.{list_all}
-use Rattle.std.specs.Option.{option_map, option_and_then, option_or}
-use Rattle.std.proofs.lemmas.Bool.Decides.{nat_tests}
+use Rattle.std.specs.Option.{option_map, option_and_then}
 use Rattle.std.proofs.lemmas.Str.{length-le-encodes}
 use Rattle.base_tables.specs.declared.Error.{Error}
 use Rattle.base_tables.specs.declared.Language.{Language}
 use Rattle.base_tables.specs.declared.Locale.{Locale}
 use Rattle.base_tables.specs.Column.{is_letter, column_of_name}
 use Rattle.base_tables.specs.Error.{error_of_text}
-use Rattle.base_tables.specs.Word.{is_digit, is_word, begins_word, starts_word, goes_on_word, reads_as_cell}
+use Rattle.base_tables.specs.Word.{is_digit, is_word, starts_word, goes_on_word, reads_as_cell}
 use Rattle.base_decimal.specs.declared.Decimal.{Decimal}
 use Rattle.base_decimal.specs.Digits.{span, stops}
 use Rattle.base_decimal.proofs.Spans.{and_both, span_at, stops_sooner, not_true}
 use Rattle.formula_grammar.specs.declared.CellMark.{CellMark}
 use Rattle.formula_grammar.specs.declared.Token.{Token}
 use Rattle.formula_grammar.specs.declared.Token.TheVariants as t
-use Rattle.formula_lex.specs.Characters.{Text, is_blank, goes_on_place, goes_on_name, goes_on_number, doubled}
-use Rattle.formula_lex.specs.Lexicon.{IsPair, IsSpan, IsLine, IsCell, IsRange, cells, columns, rows, IsSheetName, plain, quoted, IsMark, IsSheet, OnSheet, IsNumber, Spells, NoError, Ends, Begins, IsTokens, row_of_name}
-use Rattle.formula_lex.specs.Lex.{behind, past, on_sheet, behind_word, word_at, behind_quotes, quoted_text, quoted_sheet_at, text_at, error_or_hash, error_at, behind_less, behind_greater, sign_at, place_at, range_at, cell_at, token_at, other_at, with_token, tokens_from, tokens_of}
-use Rattle.formula_lex.specs.Lex as lex
-use Rattle.formula_lex.proofs.Letters.{sign_goes_on_no_word, digit_no_letter, digit_no_dollar, digit_no_blank}
+use Rattle.formula_lex.specs.Characters.{Text, is_blank, goes_on_place, goes_on_name, doubled}
+use Rattle.formula_lex.specs.Lexicon.{IsPair, IsCell, IsRange, cells, columns, rows, IsSheetName, plain, quoted, IsMark, IsSheet, OnSheet, IsNumber, Spells, NoError, Ends, row_of_name}
+use Rattle.formula_lex.specs.Lex.{on_sheet, behind_word, word_at, behind_quotes, quoted_text, quoted_sheet_at, text_at, error_or_hash, error_at, behind_less, behind_greater, sign_at, place_at, range_at, token_at}
+use Rattle.formula_lex.proofs.Letters.{sign_goes_on_no_word, digit_no_letter, digit_no_dollar}
 use Rattle.formula_lex.proofs.Readers.{pair_parts, behind_read}
 use Rattle.formula_lex.proofs.Lines.{columns_named, rows_named, line_stops}
 use Rattle.formula_lex.proofs.Places.{cell_read, range_read}

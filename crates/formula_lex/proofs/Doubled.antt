@@ -1,10 +1,10 @@
 -- What stands between quotes is read just where it is spelled.
-use Rattle.std.proofs.Common.{◌≡◌, ℕ, ◌<◌, Bool, true, false, cond, List, [], ◌∷◌, ◌++◌, length, length-append, Option, Some, None, option_map, refl, sym, ap, subst, ◌∙◌, append_assoc, arith}
+use Rattle.std.proofs.Common.{◌≡◌, ℕ, ◌<◌, Bool, true, false, cond, [], ◌∷◌, ◌++◌, length, length-append, Option, Some, None, refl, sym, ap, subst, ◌∙◌, arith}
 use Rattle.std.specs.Prelude.{◌==◌, not}
 use Rattle.std.proofs.lemmas.Bool.Decides.{nat_tests}
 use Rattle.base_decimal.specs.Digits.{stops}
 use Rattle.base_decimal.proofs.Spans.{not_true}
-use Rattle.formula_lex.specs.Characters.{Text, twice, doubled}
+use Rattle.formula_lex.specs.Characters.{Text, doubled}
 use Rattle.formula_lex.specs.Lex.{quoted, in_front}
 use Rattle.formula_lex.proofs.Readers.{some_is, map_some}
 

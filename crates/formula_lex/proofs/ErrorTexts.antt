@@ -1,8 +1,7 @@
 -- The text of an error is read just where one is spelled.
-use Rattle.std.proofs.Common.{◌≡◌, ℕ, Bool, true, false, cond, List, [], ◌∷◌, ◌++◌, Option, Some, None, refl, sym, ap, subst, ◌∙◌}
+use Rattle.std.proofs.Common.{◌≡◌, Bool, true, false, cond, List, [], ◌∷◌, ◌++◌, Option, Some, None, refl, sym, ap, subst, ◌∙◌}
 use Rattle.std.specs.Prelude.{codes, encode_utf8_all}
 use Rattle.std.specs.Option.{option_map, option_and_then, option_or}
-use Rattle.std.specs.Str.{IsUtf8, chars}
 use Rattle.std.specs.Cmp.Lexicographic.{bytes_decides}
 use Rattle.std.proofs.lemmas.Str.{chars_from_encodes}
 use lib.Utf8.{encode}
@@ -15,7 +14,7 @@ use Rattle.base_tables.specs.Tables.{entry_named, found_name}
 use Rattle.formula_lex.specs.Characters.{Text}
 use Rattle.formula_lex.specs.Lex.{past, strip, english_error, own_error, error_at}
 use Rattle.formula_lex.proofs.ErrorCharacters.{error_encoded, error_scalars, error_characters, german_characters, spanish_characters}
-use Rattle.formula_lex.proofs.Readers.{some_is, map_some, and_then_some, past_itself, past_parts}
+use Rattle.formula_lex.proofs.Readers.{some_is, and_then_some, past_itself, past_parts}
 
 -- ---- stripping
 

@@ -1,17 +1,13 @@
 -- What a place at the front of a text comes to, and where none stands.
-use Rattle.std.proofs.Common.{◌≡◌, ℕ, ◌<◌, Bool, true, false, cond, List, [], ◌∷◌, ◌++◌, Option, Some, None, refl, sym, ap, subst, ◌∙◌, arith}
-use Rattle.std.specs.Prelude.{not, ◌==◌, ◌||◌}
+use Rattle.std.proofs.Common.{◌≡◌, [], ◌++◌, Option, Some, None, refl, sym, ap, subst, ◌∙◌}
 use Rattle.std.specs.Option.{option_map, option_or}
-use Rattle.base_tables.specs.Column.{is_letter, is_column_name, column_of_name}
-use Rattle.base_tables.specs.Word.{is_digit, is_count}
-use Rattle.base_decimal.specs.Digits.{stops}
 use Rattle.formula_grammar.specs.declared.CellMark.{CellMark}
 use Rattle.formula_grammar.specs.declared.Token.{Token}
 use Rattle.formula_grammar.specs.declared.Token.TheVariants as t
-use Rattle.formula_lex.specs.Characters.{Text, goes_on_place}
-use Rattle.formula_lex.specs.Lexicon.{IsPair, IsSheet, OnSheet, IsCell, IsRange, NoCell, NoRange}
-use Rattle.formula_lex.specs.Lex.{column_at, row_at, corner_at, cells_at, columns_at, rows_at, range_at, cell_at, place_at}
-use Rattle.formula_lex.proofs.Readers.{Front, some_is, map_some}
+use Rattle.formula_lex.specs.Characters.{Text}
+use Rattle.formula_lex.specs.Lexicon.{OnSheet, IsCell, IsRange, NoCell, NoRange}
+use Rattle.formula_lex.specs.Lex.{range_at, cell_at, place_at}
+use Rattle.formula_lex.proofs.Readers.{some_is, map_some}
 use Rattle.formula_lex.proofs.Places.{cell_read, cell_parts, range_read, range_parts}
 
 abbrev Marks : Type 0

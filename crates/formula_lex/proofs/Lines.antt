@@ -1,11 +1,11 @@
 -- A column or a row is read just where one is spelled.
-use Rattle.std.proofs.Common.{◌≡◌, ℕ, ◌<◌, Bool, true, false, cond, List, [], ◌∷◌, ◌++◌, length, Option, Some, None, refl, sym, ap, subst, ◌∙◌, append_assoc, arith}
-use Rattle.std.specs.Prelude.{ℤ, pos, not, ◌&&◌, ◌==◌, nat_le}
+use Rattle.std.proofs.Common.{◌≡◌, ℕ, Bool, true, false, cond, [], ◌∷◌, ◌++◌, Option, Some, None, refl, sym, ap, subst, ◌∙◌, append_assoc, arith}
+use Rattle.std.specs.Prelude.{ℤ, pos, not, ◌==◌}
 use Rattle.std.specs.List.{list_all}
 use Rattle.std.specs.Option.{option_map}
 use Rattle.std.proofs.lemmas.Bool.Decides.{nat_tests}
-use Rattle.base_tables.specs.Column.{is_letter, is_between, letters_number, is_column_name, column_of_name}
-use Rattle.base_tables.specs.Word.{is_digit, starts_positive, digits_number, is_count, is_row_number}
+use Rattle.base_tables.specs.Column.{is_letter, letters_number, is_column_name, column_of_name}
+use Rattle.base_tables.specs.Word.{is_digit, digits_number, is_count, is_row_number}
 use Rattle.base_decimal.specs.Digits.{span, stops}
 use Rattle.base_decimal.proofs.Spans.{and_both, span_at, span_parts}
 use Rattle.formula_lex.specs.declared.place.Line.{Line}

@@ -1,8 +1,8 @@
 -- No place stands where a word begins that `!` follows.
-use Rattle.std.proofs.Common.{◌≡◌, ℕ, ◌<◌, Bool, true, false, cond, List, [], ◌∷◌, ◌++◌, Option, Some, None, refl, sym, ap, subst, ◌∙◌, arith}
+use Rattle.std.proofs.Common.{◌≡◌, ℕ, Bool, true, false, cond, [], ◌∷◌, ◌++◌, Option, Some, None, refl, sym, ap, subst, ◌∙◌, arith}
 use Rattle.std.specs.Prelude.{not, ◌==◌, ◌||◌, ◌&&◌, ℤ}
 use Rattle.std.specs.List.{list_all}
-use Rattle.std.specs.Option.{option_map, option_and_then, option_or}
+use Rattle.std.specs.Option.{option_or}
 use Rattle.std.proofs.lemmas.Bool.Decides.{nat_tests}
 use Rattle.base_tables.specs.Column.{is_letter, column_of_name}
 use Rattle.base_tables.specs.Word.{is_digit, goes_on_word}
@@ -12,9 +12,9 @@ use Rattle.formula_grammar.specs.declared.CellMark.{CellMark}
 use Rattle.formula_lex.specs.declared.place.Line.{Line}
 use Rattle.formula_lex.specs.Characters.{Text, goes_on_place}
 use Rattle.formula_lex.specs.Lexicon.{row_of_name}
-use Rattle.formula_lex.specs.Lex.{Reader, past, behind, both, ended, dollar_at, with_dollar, mark_of, row_corners, column_corners, column_at, row_at, corner_at, two_at, cells_at, columns_at, rows_at, range_at, cell_at, place_at}
+use Rattle.formula_lex.specs.Lex.{Reader, behind, both, dollar_at, with_dollar, mark_of, row_corners, column_corners, column_at, row_at, corner_at, two_at, cells_at, columns_at, rows_at, range_at, cell_at, place_at}
 use Rattle.formula_lex.proofs.Letters.{sign_goes_on_no_word}
-use Rattle.formula_lex.proofs.Readers.{map_some, both_parted, behind_parts, ended_parts, some_is}
+use Rattle.formula_lex.proofs.Readers.{map_some, both_parted, behind_parts, ended_parts}
 use Rattle.formula_lex.proofs.Found.{place_of_none}
 
 -- characters of words, and then `!`

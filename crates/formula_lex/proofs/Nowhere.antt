@@ -1,15 +1,12 @@
 -- Where no place begins: a character that is no dollar, no letter and no digit; and a word before `!`.
-use Rattle.std.proofs.Common.{◌≡◌, ℕ, ◌<◌, Bool, true, false, cond, List, [], ◌∷◌, ◌++◌, Option, Some, None, refl, sym, ap, subst, ◌∙◌, arith}
-use Rattle.std.specs.Prelude.{not, ◌==◌, ◌||◌, ℤ}
-use Rattle.std.specs.List.{list_all}
-use Rattle.std.specs.Option.{option_map, option_or}
+use Rattle.std.proofs.Common.{◌≡◌, ℕ, Bool, true, false, cond, [], ◌∷◌, None, refl, ap, ◌∙◌}
+use Rattle.std.specs.Prelude.{not, ◌==◌}
+use Rattle.std.specs.Option.{option_or}
 use Rattle.base_tables.specs.Column.{is_letter, is_column_name, column_of_name}
-use Rattle.base_tables.specs.Word.{is_digit, is_count, goes_on_word}
-use Rattle.base_decimal.specs.Digits.{span, stops}
+use Rattle.base_tables.specs.Word.{is_digit, is_count}
+use Rattle.base_decimal.specs.Digits.{span}
 use Rattle.base_decimal.proofs.Spans.{span_at}
-use Rattle.formula_grammar.specs.declared.CellMark.{CellMark}
-use Rattle.formula_lex.specs.declared.place.Line.{Line}
-use Rattle.formula_lex.specs.Characters.{Text, goes_on_place}
+use Rattle.formula_lex.specs.Characters.{Text}
 use Rattle.formula_lex.specs.Lexicon.{row_of_name}
 use Rattle.formula_lex.specs.Lex.{dollar_at, with_name, with_dollar, mark_of, behind, both, row_corners, column_corners, column_at, row_at, corner_at, cells_at, columns_at, rows_at, range_at, cell_at, place_at}
 use Rattle.formula_lex.proofs.Readers.{both_first_fails, ended_fails}

@@ -1,22 +1,21 @@
 -- A number is read just where one is spelled.
-use Rattle.std.proofs.Common.{◌≡◌, ℕ, zero, suc, ◌+◌, ◌<◌, Bool, true, false, cond, List, [], ◌∷◌, ◌++◌, length, take, drop, Option, Some, None, refl, sym, ap, subst, ◌∙◌, append_assoc, length-append, arith}
+use Rattle.std.proofs.Common.{◌≡◌, ℕ, zero, suc, ◌+◌, ◌<◌, Bool, true, false, cond, [], ◌∷◌, ◌++◌, length, take, drop, Option, Some, refl, sym, ap, subst, ◌∙◌, append_assoc, length-append, arith}
 use Rattle.std.specs.Prelude.{not, ◌==◌, ◌&&◌, ◌||◌, nat_lt, encode_utf8_all}
 use Rattle.std.specs.List.{list_all}
 use Rattle.std.specs.Option.{option_map}
-use Rattle.std.specs.Str.{IsAscii, IsUtf8, chars}
+use Rattle.std.specs.Str.{IsAscii}
 use Rattle.std.proofs.lemmas.Bool.Decides.{nat_tests}
 use Rattle.std.proofs.lemmas.List.{take-append-drop}
-use Rattle.std.proofs.lemmas.Str.{chars_from_encodes, chars-IsAscii, IsUtf8-from_ascii, encodes-IsAscii}
+use Rattle.std.proofs.lemmas.Str.{chars_from_encodes, chars-IsAscii, IsUtf8-from_ascii}
 use Rattle.std.proofs.Math.Seq.{take-append_seam, drop-append_seam}
 use Rattle.std.specs.Char.Unicode.Alphabetic.{is_alphabetic}
 use Rattle.base_tables.specs.declared.Locale.{Locale}
-use Rattle.base_tables.specs.declared.Locale.TheVariants.{En, De, Fr, Es}
 use Rattle.base_tables.specs.Column.{is_letter}
 use Rattle.base_tables.specs.Locale.{decimal_sign}
 use Rattle.base_tables.specs.Word.{is_digit, goes_on_word}
 use Rattle.base_decimal.specs.declared.Decimal.{Decimal}
 use Rattle.base_decimal.specs.Digits.{stops}
-use Rattle.base_decimal.specs.Numeral.{Fraction, NoFraction, Places, Exponent, NoExponent, Power, Numeral, IsNumeral, fraction_text, sign_text, exponent_text, numeral_text, is_numeral_fraction, is_numeral_exponent, is_exponent_len, is_exponent_letter, minus_text, decimal_of, Reads}
+use Rattle.base_decimal.specs.Numeral.{Fraction, NoFraction, Places, Exponent, NoExponent, Power, Numeral, IsNumeral, fraction_text, sign_text, exponent_text, numeral_text, is_numeral_fraction, is_numeral_exponent, is_exponent_len, is_exponent_letter, minus_text, decimal_of}
 use Rattle.base_decimal.specs.declared.numeral.Sign.{Sign}
 use Rattle.base_decimal.specs.declared.numeral.Sign.TheVariants.{Absent, Plus, Minus}
 use Rattle.base_decimal.proofs.Marks.{sign_is_mark, sign_is_ascii}

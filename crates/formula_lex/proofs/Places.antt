@@ -1,7 +1,7 @@
 -- Cells and ranges are read just where they are spelled.
-use Rattle.std.proofs.Common.{◌≡◌, ℕ, Bool, true, false, List, [], ◌∷◌, ◌++◌, Option, Some, None, refl, sym, ap, subst, ◌∙◌}
+use Rattle.std.proofs.Common.{◌≡◌, ℕ, Bool, true, false, [], ◌∷◌, ◌++◌, Option, Some, None, refl, sym, ap, subst, ◌∙◌}
 use Rattle.std.specs.Prelude.{ℤ, pos, not}
-use Rattle.std.specs.Option.{option_map, option_or}
+use Rattle.std.specs.Option.{option_or}
 use Rattle.base_tables.specs.Column.{is_letter, column_of_name}
 use Rattle.base_tables.specs.Word.{is_digit}
 use Rattle.base_decimal.specs.Digits.{stops}
@@ -9,10 +9,10 @@ use Rattle.base_decimal.proofs.Spans.{stops_sooner}
 use Rattle.formula_grammar.specs.declared.CellMark.{CellMark}
 use Rattle.formula_lex.specs.declared.place.Line.{Line}
 use Rattle.formula_lex.specs.Characters.{Text, goes_on_place}
-use Rattle.formula_lex.specs.Lexicon.{IsPair, IsSpan, IsLine, IsColumn, IsRow, IsCell, IsRange, cells, columns, rows, row_of_name}
-use Rattle.formula_lex.specs.Lex.{Reader, both, behind, ended, mark_of, absolute_line, column_corners, row_corners, column_at, row_at, corner_at, two_at, cells_at, columns_at, rows_at, range_at, cell_at}
+use Rattle.formula_lex.specs.Lexicon.{IsSpan, IsLine, IsCell, IsRange, cells, columns, rows, row_of_name}
+use Rattle.formula_lex.specs.Lex.{Reader, both, behind, mark_of, column_corners, row_corners, column_at, row_at, corner_at, two_at, cells_at, columns_at, rows_at, range_at, cell_at}
 use Rattle.formula_lex.proofs.Letters.{no_word_no_letter, no_word_no_digit, no_place_no_word}
-use Rattle.formula_lex.proofs.Readers.{Front, some_is, both_parted, both_joined, both_first_fails, both_second_fails, pair_parts, behind_read, behind_parts, ended_parts, ended_read, ended_fails}
+use Rattle.formula_lex.proofs.Readers.{Front, both_parted, both_joined, both_first_fails, both_second_fails, pair_parts, behind_read, behind_parts, ended_parts, ended_read, ended_fails}
 use Rattle.formula_lex.proofs.Lines.{column_read, column_parts, row_read, row_parts, row_no_letter, row_no_column, colon_no_row}
 
 pub place_no_letter : (c : ℕ) → goes_on_place c ≡ false → is_letter c ≡ false

@@ -1,10 +1,6 @@
 -- What stands before a closing quote, a character at a time.
-use Rattle.std.proofs.Common.{◌≡◌, ◌≢◌, ℕ, Bool, true, false, cond, List, [], ◌∷◌, ◌++◌, Option, Some, None, option_map, refl, sym, ap, ◌∙◌, append_assoc, append-nil, arith}
-use Rattle.std.specs.Prelude.{◌==◌, not, encode_utf8, encode_utf8_all}
-use Rattle.std.proofs.lemmas.Bool.{ne_eqb}
-use Rattle.std.proofs.lemmas.Bool.Decides.{nat_tests}
-use lib.Dec.{eqb}
-use Rattle.base_decimal.specs.Digits.{stops}
+use Rattle.std.proofs.Common.{◌≡◌, ℕ, Bool, true, false, cond, [], ◌∷◌, ◌++◌, Option, Some, None, option_map, refl, sym, ap, ◌∙◌, append_assoc, append-nil}
+use Rattle.std.specs.Prelude.{◌==◌, encode_utf8, encode_utf8_all}
 use Rattle.formula_lex.specs.Characters.{Text}
 use Rattle.formula_lex.specs.Lex.{quoted, quoted_text, next_quoted, in_front}
 

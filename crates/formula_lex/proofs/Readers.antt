@@ -1,11 +1,10 @@
 -- Readers in a row: what they read is spelled, and what is spelled is read.
-use Rattle.std.proofs.Common.{◌≡◌, ℕ, Bool, true, false, cond, List, [], ◌∷◌, ◌++◌, Option, Some, None, refl, sym, ap, subst, ◌∙◌, append_assoc, arith}
+use Rattle.std.proofs.Common.{◌≡◌, ℕ, Bool, true, false, cond, [], ◌∷◌, ◌++◌, Option, Some, None, refl, sym, ap, ◌∙◌, append_assoc, arith}
 use Rattle.std.specs.Prelude.{◌==◌}
 use Rattle.std.specs.Option.{option_map, option_and_then}
 use Rattle.std.proofs.lemmas.Bool.Decides.{nat_tests}
 use Rattle.base_decimal.specs.Digits.{stops}
 use Rattle.formula_lex.specs.Characters.{Text, goes_on_place}
-use Rattle.formula_lex.specs.Lexicon.{IsPair}
 use Rattle.formula_lex.specs.Lex.{Reader, both, past, behind, if_ends, ended}
 
 -- what stands at the front of the text, before the rest

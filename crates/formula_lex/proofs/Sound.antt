@@ -1,8 +1,8 @@
 -- A token that is read is spelled.
-use Rattle.std.proofs.Common.{◌≡◌, ◌≢◌, ℕ, zero, suc, ◌+◌, ◌<◌, ◌≤◌, Bool, true, false, cond, List, [], ◌∷◌, ◌++◌, length, Option, Some, None, refl, sym, ap, subst, ◌∙◌, append_assoc, arith}
-use Rattle.std.specs.Prelude.{not, ◌==◌, ◌||◌, ◌&&◌, encode_utf8_all}
+use Rattle.std.proofs.Common.{◌≡◌, ◌≢◌, ℕ, Bool, true, false, cond, [], ◌∷◌, ◌++◌, Option, Some, None, refl, sym, ap, subst, ◌∙◌, append_assoc, arith}
+use Rattle.std.specs.Prelude.{not, ◌==◌, ◌||◌, encode_utf8_all}
 use Rattle.std.specs.List.{list_all}
-use Rattle.std.specs.Option.{option_map, option_and_then, option_or}
+use Rattle.std.specs.Option.{option_map, option_or}
 use Rattle.std.proofs.lemmas.Bool.{eqb-true}
 use Rattle.std.proofs.lemmas.Bool.Decides.{nat_tests}
 use Rattle.base_tables.specs.declared.Error.{Error}
@@ -14,17 +14,17 @@ use Rattle.base_decimal.proofs.Spans.{both_and, span_parts, span_all, span_stops
 use Rattle.formula_grammar.specs.declared.CellMark.{CellMark}
 use Rattle.formula_grammar.specs.declared.Token.{Token}
 use Rattle.formula_grammar.specs.declared.Token.TheVariants as t
-use Rattle.formula_lex.specs.Characters.{Text, is_blank, goes_on_place, goes_on_name, doubled}
-use Rattle.formula_lex.specs.Lexicon.{IsPair, IsCell, IsRange, IsSheetName, plain, quoted, OnSheet, Spells, NoCell, NoRange, NoError, Ends}
+use Rattle.formula_lex.specs.Characters.{Text, is_blank, goes_on_name, doubled}
+use Rattle.formula_lex.specs.Lexicon.{IsCell, IsRange, IsSheetName, plain, quoted, OnSheet, Spells, NoCell, NoRange, Ends}
 use Rattle.formula_lex.specs.Lex.{on_sheet, behind_word, word_at, behind_quotes, quoted_text, quoted_sheet_at, text_at, number_at, error_or_hash, error_at, behind_less, behind_greater, single, sign_at, place_at, range_at, cell_at, token_at, other_at}
 use Rattle.formula_lex.specs.Lex as lex
-use Rattle.formula_lex.proofs.Readers.{Front, some_is, map_some, and_then_some, behind_parts}
+use Rattle.formula_lex.proofs.Readers.{some_is, map_some, and_then_some, behind_parts}
 use Rattle.formula_lex.proofs.Places.{cell_parts, range_parts}
 use Rattle.formula_lex.proofs.Found.{Placed, is_range, is_cell, placed, none_placed, on_none, no_range_spelled, no_cell_spelled}
 use Rattle.formula_lex.proofs.ErrorTexts.{error_parts, error_read}
 use Rattle.formula_lex.proofs.Numbers.{number_parts}
 use Rattle.formula_lex.proofs.Doubled.{quoted_parts}
-use Rattle.formula_lex.proofs.Tokens.{by_sign, by_start}
+use Rattle.formula_lex.proofs.Tokens.{by_sign}
 use Rattle.formula_lex.proofs.Complete.{some_bytes, behind_name, range_token}
 
 abbrev ranged : Token → Bool

@@ -1,5 +1,5 @@
 -- Characters and runs of them, as tokens are made of. Texts are here lists of characters.
-use Rattle.std.specs.Prelude.{ℕ, ◌==◌, Bool, true, false, ◌||◌, List, [], ◌∷◌, if◌then◌else◌, flat_map}
+use Rattle.std.specs.Prelude.{ℕ, ◌==◌, Bool, ◌||◌, List, [], ◌∷◌, if◌then◌else◌, flat_map}
 use Rattle.base_tables.specs.declared.Locale.{Locale}
 use Rattle.base_tables.specs.Locale.{decimal_sign}
 use Rattle.base_tables.specs.Word.{goes_on_word}

@@ -1,5 +1,5 @@
 -- Text to tokens, as a function.
-use Rattle.std.specs.Prelude.{ℕ, zero, suc, ◌+◌, ◌==◌, Bool, true, false, ◌&&◌, ◌||◌, ℤ, pos, codes, encode_utf8_all, List, [], ◌∷◌, ◌++◌, take, drop, length, Option, Some, None, if◌then◌else◌}
+use Rattle.std.specs.Prelude.{ℕ, zero, suc, ◌+◌, ◌==◌, Bool, true, false, ◌&&◌, ◌||◌, ℤ, pos, codes, encode_utf8_all, List, [], ◌∷◌, take, drop, length, Option, Some, None, if◌then◌else◌}
 use Rattle.std.specs.Option.{option_map, option_and_then, option_or}
 use Rattle.base_tables.specs.declared.Error.{Error}
 use Rattle.base_tables.specs.declared.Error.TheVariants.{Ref}

@@ -62,7 +62,9 @@ pub fn lex_text(
     Ok(tokens(alloc, profile, &characters)?)
 }
 
-/// A text is at most one list of tokens.
+/// A text is at most one list of tokens, and that list is what the lexer's definition answers.
 pub fn text_spells_one_list()
-    ensures { (locale : AnyLocale) (language : AnyLanguage) (text : List ℕ) (a b : List AnyToken) → IsTokens locale language text a → IsTokens locale language text b → a ≡ b }
+    ensures one { (locale : AnyLocale) (language : AnyLanguage) (text : List ℕ) (a b : List AnyToken) → IsTokens locale language text a → IsTokens locale language text b → a ≡ b }
+    ensures read { (locale : AnyLocale) (language : AnyLanguage) (text : List ℕ) (tokens : List AnyToken) → tokens_of locale language text ≡ Some tokens → IsTokens locale language text tokens }
+    ensures spelled { (locale : AnyLocale) (language : AnyLanguage) (text : List ℕ) (tokens : List AnyToken) → IsTokens locale language text tokens → tokens_of locale language text ≡ Some tokens }
 {}

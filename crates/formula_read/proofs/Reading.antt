@@ -1,6 +1,7 @@
 -- The tree of a text is the one that its one list of tokens derives.
-use Rattle.std.proofs.Common.{◌≡◌, ◌≤◌, ℕ, true, false, List, Option, Some, None, Result, Ok, Err, subst, sym, arith}
-use Rattle.std.specs.Prelude.{IfOk, IfSome}
+use Rattle.std.proofs.Common.{◌≡◌, ◌≤◌, ℕ, true, false, List, Option, Some, None, Result, Ok, Err, refl, ap, ◌∙◌, subst, sym, arith}
+use Rattle.std.specs.Prelude.{IfOk, IfSome, unwrap_or}
+use Rattle.std.specs.Option.{option_and_then}
 use Rattle.std.specs.Str.{chars}
 use Rattle.formula_tree.specs.declared.Node.{Node}
 use Rattle.formula_tree.specs.declared.Node.TheVariants.{ParseError}
@@ -11,7 +12,9 @@ use Rattle.formula_grammar.specs.declared.Profile.{Profile}
 use Rattle.formula_grammar.specs.declared.Token.{Token}
 use Rattle.formula_grammar.specs.Grammar.{Derives}
 use Rattle.formula_lex.specs.Lexicon.{IsTokens}
-use Rattle.formula_read.specs.Formula.{IsFormula}
+use Rattle.formula_grammar.specs.Reading.{tree_of}
+use Rattle.formula_lex.specs.Lex.{tokens_of}
+use Rattle.formula_read.specs.Formula.{IsFormula, IsRead, formula_of}
 
 -- what its tokens derive is its tree
 pub found_formula : {E : Type 0} (p : Profile) (text : List ℕ) (tokens : List Token) (r : Result (Option Node) E) → IsTokens p.locale p.language (chars text) tokens
@@ -65,3 +68,41 @@ same_tree o a b e f = cc
 
 pub no_tree : (o : Option Node) (b : Node) (A : Type 0) → o ≡ None → o ≡ Some b → A
 no_tree o b A e f = absurd cc
+
+-- ---- what a text is read as
+
+trees_same : (a b : Node) → ◌≡◌ {A = Option Node} (Some a) (Some b) → a ≡ b
+trees_same a b e = cc
+
+-- given that both definitions are exact, a text is read as the grammar says
+pub formula_is_read : (p : Profile) (text : List ℕ)
+    → ((ts : List Token) → tokens_of p.locale p.language (chars text) ≡ Some ts → IsTokens p.locale p.language (chars text) ts)
+    → ((ts : List Token) → IsTokens p.locale p.language (chars text) ts → tokens_of p.locale p.language (chars text) ≡ Some ts)
+    → ((ts : List Token) (tree : Node) → tree_of p ts ≡ Some tree → Derives p ts tree)
+    → ((ts : List Token) (tree : Node) → Derives p ts tree → tree_of p ts ≡ Some tree)
+    → ((tree : Node) → IsFormula p text tree → is_parse_error tree ≡ false) → IsRead p text (formula_of p text)
+unfolding formula_of
+formula_is_read p text lexed spelled read derived formula = by (tokens_of p.locale p.language (chars text)) refl
+  where
+    at : (ts : List Token) → tokens_of p.locale p.language (chars text) ≡ Some ts → (o : Option Node) → tree_of p ts ≡ o → (other : Node) → IsFormula p text other → o ≡ Some other
+    at ts e o f other g =
+        sym f ∙ ap (tree_of p) (same_tokens ts g.tokens (sym e ∙ spelled g.tokens g.spelled)) ∙ derived g.tokens other g.derives
+
+    outside : (tree : Node) → IsFormula p text tree → is_parse_error tree ≡ true → tree ≡ ParseError text
+    outside tree g is = let no = formula tree g in absurd cc
+
+    parsed : (ts : List Token) → tokens_of p.locale p.language (chars text) ≡ Some ts → (o : Option Node) → tree_of p ts ≡ o → IsRead p text (unwrap_or o (ParseError text))
+    parsed ts e None f = record { found = error_told text (IsFormula p text (ParseError text)); only = λ other g. absurd (nowhere other (at ts e None f other g)); outside = λ is. refl }
+      where
+        nowhere : (other : Node) → ◌≡◌ {A = Option Node} None (Some other) → ⊥
+        nowhere other e = cc
+    parsed ts e (Some tree) f =
+        let is : IsFormula p text tree = record { tokens = ts; spelled = lexed ts e; derives = read ts tree f } in
+        record { found = λ no. is; only = λ other g. trees_same tree other (at ts e (Some tree) f other g); outside = outside tree is }
+
+    by : (o : Option (List Token)) → tokens_of p.locale p.language (chars text) ≡ o → IsRead p text (unwrap_or (option_and_then (tree_of p) o) (ParseError text))
+    by None e = record { found = error_told text (IsFormula p text (ParseError text)); only = λ other g. absurd (nowhere g.tokens (sym e ∙ spelled g.tokens g.spelled)); outside = λ is. refl }
+      where
+        nowhere : (ts : List Token) → ◌≡◌ {A = Option (List Token)} None (Some ts) → ⊥
+        nowhere ts e = cc
+    by (Some ts) e = parsed ts e (tree_of p ts) refl

@@ -1,5 +1,5 @@
 -- The texts that are formulas, and their trees.
-use Rattle.std.specs.Prelude.{◌≡◌, ℕ, List, Option, unwrap_or}
+use Rattle.std.specs.Prelude.{◌≡◌, ℕ, true, false, List, Option, unwrap_or}
 use Rattle.std.specs.Option.{option_and_then}
 use Rattle.std.specs.Str.{chars}
 use Rattle.base_tables.specs.declared.Language.{Language}
@@ -8,6 +8,7 @@ use Rattle.formula_tree.specs.declared.CellReferenceRC.{CellReferenceRC}
 use Rattle.formula_tree.specs.declared.Node.{Node}
 use Rattle.formula_tree.specs.declared.Node.TheVariants.{ParseError}
 use Rattle.formula_tree.specs.Context.{context_place}
+use Rattle.formula_tree.specs.ParseError.{is_parse_error}
 use Rattle.formula_grammar.specs.declared.Profile.{Profile}
 use Rattle.formula_grammar.specs.declared.Token.{Token}
 use Rattle.formula_grammar.specs.Grammar.{Derives}
@@ -29,7 +30,12 @@ pub record IsFormula (p : Profile) (text : List ℕ) (tree : Node) : Type 0 wher
 abbrev pub found_tree : Profile → List ℕ → Option Node
 found_tree p text = option_and_then (tree_of p) (tokens_of p.locale p.language (chars text))
 
--- what a text is read as: its tree, and a node of the text itself where it is no formula. The law `formulas_are_read` says it by
--- the grammar
+-- what a text is read as: its tree, and a node of the text itself where it is no formula
 unfoldable pub formula_of : Profile → List ℕ → Node
 formula_of p text = unwrap_or (found_tree p text) (ParseError text)
+
+-- by the grammar: the tree is the text's one formula; where the text has none, it is the node of that text
+pub record IsRead (p : Profile) (text : List ℕ) (tree : Node) : Type 0 where
+  pub found : is_parse_error tree ≡ false → IsFormula p text tree
+  pub only : (other : Node) → IsFormula p text other → tree ≡ other
+  pub outside : is_parse_error tree ≡ true → tree ≡ ParseError text

@@ -9,7 +9,7 @@ ghost use Rattle.formula_tree.specs.ParseError.{is_parse_error};
 ghost use Rattle.formula_tree.specs.Placed.{is_placed};
 ghost use Rattle.formula_grammar.specs.declared.Profile.{Profile as AnyProfile};
 ghost use Rattle.formula_tree.specs.Context.{context_place};
-ghost use Rattle.formula_read.specs.Formula.{IsFormula, found_tree, formula_of, profile_of};
+ghost use Rattle.formula_read.specs.Formula.{IsFormula, IsRead, found_tree, formula_of, profile_of};
 
 use base_tables::{Language, Locale};
 use base_values::{EditError, Text};
@@ -78,7 +78,7 @@ fn profile_of(context: &CellReferenceRC, locale: Locale, language: Language) -> 
 
 /// The tree of a formula's text without its `=`, in a cell inside the sheet, with the separators
 /// and the decimal sign of the locale and with functions and booleans in the language. A text that
-/// is no formula is a parse-error node of that text.
+/// is no formula is a parse-error node of that text. docs/MODEL.md has the grammar.
 ///
 /// `NoMemory` where memory runs out.
 pub fn read_formula(
@@ -102,10 +102,12 @@ pub fn read_formula(
     formula_in(alloc, text, profile_of(context, locale, language))
 }
 
-/// A text is a formula with at most one tree, which is no parse-error node.
+/// A text is a formula with at most one tree, which is no parse-error node; and what `read_formula`
+/// answers is that tree, or the node of a text that is no formula.
 pub fn text_has_one_tree()
     ensures one { (profile : AnyProfile) (text : List ℕ) (a b : Tree) → IsFormula profile text a → IsFormula profile text b → a ≡ b }
     ensures formula { (profile : AnyProfile) (text : List ℕ) (tree : Tree) → IsFormula profile text tree → is_parse_error tree ≡ false }
+    ensures read { (profile : AnyProfile) (text : List ℕ) → IsRead profile text (formula_of profile text) }
 {
     text_spells_one_list();
     tokens_derive_one_tree();

@@ -109,7 +109,9 @@ fn is_read_as(alloc: Global, text: &str, expected: &Node) -> Result<bool, Fail> 
 #[test]
 fn words_are_names(rt: HostRuntime) -> Result<(), Fail> {
     let alloc = rt.alloc();
-    for word in ["R1C1", "r2c3", "XFE1", "A1048577", "A01", "_", "Größe", "数", "a.b"] {
+    for word in [
+        "R1C1", "r2c3", "XFE1", "A1048577", "A01", "_", "Größe", "数", "a.b",
+    ] {
         assert!(rt; is_read_as(alloc, word, &name(alloc, word)?)?);
     }
     assert!(rt; is_read_as(alloc, "R1C1!a1", &a1_on(alloc, "R1C1")?)?);

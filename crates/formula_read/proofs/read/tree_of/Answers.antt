@@ -1,4 +1,4 @@
-use Rattle.std.proofs.Common.{rules, ◌≡◌, true, List, Option, Some, option_map, ap, sym, ◌∙◌}
+use Rattle.std.proofs.Common.{rules, Some, option_map, ap, sym, ◌∙◌}
 use Rattle.std.specs.Str.{chars}
 use Rattle.formula_tree.specs.declared.numbers.NumberRule.TheVariants.{Kept, NotNegative}
 use Rattle.formula_lex.specs.Lexicon.{IsTokens}

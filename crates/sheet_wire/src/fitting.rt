@@ -2,7 +2,7 @@
 
 ghost use Rattle.std.specs.Prelude.{IfSome};
 ghost use Rattle.sheet_grid.specs.KeptCell.{IsKeptCell, IsKeptContent};
-ghost use Rattle.sheet_wire.specs.Spelling.{FitsText};
+ghost use Rattle.base_wire.specs.Spelling.{FitsText};
 ghost use Rattle.sheet_wire.specs.StyleBytes.{FitsBorderItem, FitsColor, FitsStyle};
 ghost use Rattle.sheet_wire.specs.CellBytes.{FitsCell, FitsContent, FitsPosition};
 ghost use Rattle.sheet_wire.specs.QueueBytes.{FitsDiff};

@@ -11,9 +11,9 @@ use Rattle.std.proofs.lemmas.Int.{to_z-of_z}
 use Rattle.std.proofs.lemmas.Str.{is_utf8-from_IsUtf8}
 use mir.Val.{bits}
 use Rattle.std.proofs.Math.Facts.{Fits-of_z}
-use Rattle.sheet_wire.specs.Sixteen.{from_be_bytes-to_be_bytes_16}
-use Rattle.sheet_wire.specs.Reading.{Reader, after, whole, map_at, ◌⊗◌, check_at, byte_at, decoded, code_at, number_at, signed_at, text_at, option_at, many_at, list_at}
-use Rattle.sheet_wire.specs.Spelling.{spell_signed, spell_code, spell_text, spell_option, spell_list, FitsText, FitsItems}
+use Rattle.base_wire.specs.Sixteen.{from_be_bytes-to_be_bytes_16}
+use Rattle.base_wire.specs.Reading.{Reader, after, whole, map_at, ◌⊗◌, check_at, byte_at, decoded, coded_at, code_at, number_at, signed_at, text_at, option_at, many_at, list_at}
+use Rattle.base_wire.specs.Spelling.{spell_signed, spell_code, spell_text, spell_option, spell_list, FitsText, FitsItems}
 
 -- what is spelled is read again
 pub record ReadsAgain {A : Type 0} (Fits : A → Type 0) (spell : A → List ℕ) (read : Reader A) : Type 0 where
@@ -50,8 +50,11 @@ check_again law test = record {
 pub byte_again : ReadsAgain (λ b. b < 2 ^ 8) (λ b. b ∷ []) byte_at
 byte_again = record { again = λ b rest fits. refl }
 
+pub coded_again : {A : Type 0} (code_of : A → ℕ) (value_of : ℕ → Option A) → ((x : A) → value_of (code_of x) ≡ Some x) → ReadsAgain Any (spell_code code_of) (coded_at value_of)
+coded_again code_of value_of known = record { again = λ x rest fits. rw (known x) refl }
+
 pub code_again : {A : Type 0} (code_of : A → ℕ) (values : List A) → ((x : A) → decoded code_of values (code_of x) ≡ Some x) → ReadsAgain Any (spell_code code_of) (code_at code_of values)
-code_again code_of values known = record { again = λ x rest fits. rw (known x) refl }
+code_again code_of values = coded_again code_of (decoded code_of values)
 
 -- ---- numbers
 

@@ -62,12 +62,16 @@ tagged_at reader_of bytes = do
 abbrev pub decoded : {A : Type 0} → (A → ℕ) → List A → ℕ → Option A
 decoded code_of values code = find (λ x. code_of x == code) values
 
+-- the value that has the next byte as its code
+abbrev pub coded_at : {A : Type 0} → (ℕ → Option A) → Reader A
+coded_at value_of bytes = do
+  code ← byte_at bytes
+  value ← ok_or ParseDiffs (value_of code.0)
+  Ok (value, code.1)
+
 -- one of these values by its code
 abbrev pub code_at : {A : Type 0} → (A → ℕ) → List A → Reader A
-code_at code_of values bytes = do
-  code ← byte_at bytes
-  value ← ok_or ParseDiffs (decoded code_of values code.0)
-  Ok (value, code.1)
+code_at code_of values = coded_at (decoded code_of values)
 
 -- the bytes of an unsigned number, the highest first
 abbrev pub number_at : Width → Reader ℕ

@@ -1,19 +1,23 @@
-//! Reading numbers and texts from the front of bytes. Each reader answers the value and the bytes
-//! after it, or `ParseDiffs`.
+//! Numbers, booleans, error values, decimals and texts from the front of bytes (docs/FORMATS.md,
+//! "Bytes"). Each reader answers the value and the bytes after it. It refuses with `ParseDiffs` bytes
+//! that are cut short or spell no such value.
 
 ghost use Rattle.std.specs.Prelude.{if◌then◌else◌};
 ghost use Rattle.base_values.specs.declared.EditError.TheVariants.{ParseDiffs};
 ghost use Rattle.std.specs.Int.{w32, w64, w128};
 ghost use Rattle.std.specs.Str.{is_utf8};
 ghost use Rattle.base_values.specs.Answers.{Answers, map_ok};
-ghost use Rattle.sheet_wire.specs.Reading.{byte_at, bytes_at, number_at, signed_at, text_at};
-ghost use Rattle.sheet_wire.specs.StyleBytes.{boolean_at};
+ghost use Rattle.base_wire.specs.Reading.{byte_at, bytes_at, count_at, number_at, signed_at, text_at};
+ghost use Rattle.base_wire.specs.Parts.{boolean_at, decimal_at, error_at};
 
 use crate::codes::boolean_of;
+use base_decimal::Decimal;
+use base_tables::Error;
 use base_values::{EditError, Text};
 use std::alloc::Global;
 
-pub(crate) fn byte_at(bytes: &[u8]) -> Result<(u8, &[u8]), EditError>
+/// The first byte.
+pub fn byte_at(bytes: &[u8]) -> Result<(u8, &[u8]), EditError>
     ensures { Answers (map_ok (λ x. (x.0, x.1.now)) result) (byte_at bytes.now) }
 {
     match bytes {
@@ -22,7 +26,8 @@ pub(crate) fn byte_at(bytes: &[u8]) -> Result<(u8, &[u8]), EditError>
     }
 }
 
-pub(crate) fn u32_at(bytes: &[u8]) -> Result<(u32, &[u8]), EditError>
+/// Four bytes as a number, the highest first.
+pub fn u32_at(bytes: &[u8]) -> Result<(u32, &[u8]), EditError>
     ensures { Answers (map_ok (λ x. (x.0, x.1.now)) result) (number_at w32 bytes.now) }
 {
     if bytes.len() < 4 {
@@ -33,7 +38,8 @@ pub(crate) fn u32_at(bytes: &[u8]) -> Result<(u32, &[u8]), EditError>
     Ok((number, rest))
 }
 
-pub(crate) fn u64_at(bytes: &[u8]) -> Result<(u64, &[u8]), EditError>
+/// Eight bytes as a number, the highest first.
+pub fn u64_at(bytes: &[u8]) -> Result<(u64, &[u8]), EditError>
     ensures { Answers (map_ok (λ x. (x.0, x.1.now)) result) (number_at w64 bytes.now) }
 {
     if bytes.len() < 8 {
@@ -46,14 +52,15 @@ pub(crate) fn u64_at(bytes: &[u8]) -> Result<(u64, &[u8]), EditError>
     Ok((number, rest))
 }
 
-pub(crate) fn i32_at(bytes: &[u8]) -> Result<(i32, &[u8]), EditError>
+/// Four bytes as a signed number in two's complement.
+pub fn i32_at(bytes: &[u8]) -> Result<(i32, &[u8]), EditError>
     ensures { Answers (map_ok (λ x. (x.0, x.1.now)) result) (signed_at w32 bytes.now) }
 {
     let (number, rest) = u32_at(bytes)?;
     Ok((number.cast_signed(), rest))
 }
 
-pub(crate) fn i128_at(bytes: &[u8]) -> Result<(i128, &[u8]), EditError>
+fn i128_at(bytes: &[u8]) -> Result<(i128, &[u8]), EditError>
     ensures { Answers (map_ok (λ x. (x.0, x.1.now)) result) (signed_at w128 bytes.now) }
 {
     if bytes.len() < 16 {
@@ -67,7 +74,8 @@ pub(crate) fn i128_at(bytes: &[u8]) -> Result<(i128, &[u8]), EditError>
     Ok((number, rest))
 }
 
-pub(crate) fn boolean_at(bytes: &[u8]) -> Result<(bool, &[u8]), EditError>
+/// A byte that is 0 or 1.
+pub fn boolean_at(bytes: &[u8]) -> Result<(bool, &[u8]), EditError>
     ensures { Answers (map_ok (λ x. (x.0, x.1.now)) result) (boolean_at bytes.now) }
 {
     let (code, rest) = byte_at(bytes)?;
@@ -94,8 +102,46 @@ fn utf8_of(bytes: &[u8]) -> Result<&str, EditError>
     }
 }
 
+/// The byte of an error value: 0 to 11.
+pub fn error_at(bytes: &[u8]) -> Result<(Error, &[u8]), EditError>
+    ensures { Answers (map_ok (λ x. (x.0, x.1.now)) result) (error_at bytes.now) }
+{
+    let (code, rest) = byte_at(bytes)?;
+    match Error::from_code(code) {
+        Some(error) => Ok((error, rest)),
+        None => Err(EditError::ParseDiffs),
+    }
+}
+
+/// A decimal that a workbook keeps.
+#[tactic(auto, unfolding(crate::specs::Parts::decimal_at))]
+pub fn decimal_at(bytes: &[u8]) -> Result<(Decimal, &[u8]), EditError>
+    ensures { Answers (map_ok (λ x. (x.0, x.1.now)) result) (decimal_at bytes.now) }
+{
+    let (mantissa, rest) = i128_at(bytes)?;
+    let (places, rest) = byte_at(rest)?;
+    let number = Decimal { mantissa, places };
+    if !number.is_kept() {
+        return Err(EditError::ParseDiffs);
+    }
+    Ok((number, rest))
+}
+
+/// A count of items, which is no greater than the number of the bytes after it: each item takes one
+/// at least.
+pub fn count_at(bytes: &[u8]) -> Result<(u64, &[u8]), EditError>
+    ensures { Answers (map_ok (λ x. (x.0, x.1.now)) result) (count_at bytes.now) }
+{
+    let (count, rest) = u64_at(bytes)?;
+    if (rest.len() as u64) < count {
+        return Err(EditError::ParseDiffs);
+    }
+    Ok((count, rest))
+}
+
+/// A length, and so many bytes of UTF-8. Also refuses with `NoMemory`.
 #[tactic(auto, unfolding(crate::specs::Reading::text_at))]
-pub(crate) fn text_at(alloc: Global, bytes: &[u8]) -> Result<(Text, &[u8]), EditError>
+pub fn text_at(alloc: Global, bytes: &[u8]) -> Result<(Text, &[u8]), EditError>
     ensures { Answers (map_ok (λ x. (x.0, x.1.now)) result) (text_at bytes.now) }
 {
     let (count, rest) = u64_at(bytes)?;

@@ -1,9 +1,9 @@
 use Rattle.std.proofs.Common.{◌≡◌, ℕ, List, [], ◌∷◌, ◌++◌, ap, ◌∙◌, append_assoc, rules, of_z, FitsSigned}
 use Rattle.std.specs.Int.{w128, to_be_bytes}
 use Rattle.std.proofs.lemmas.Int.{to_z-of_z}
-use Rattle.sheet_wire.specs.Spelling.{spell_signed}
-use Rattle.sheet_wire.specs.CellBytes.{spell_decimal}
-use Rattle.sheet_wire.proofs.writing.put_decimal.Goals as goal
+use Rattle.base_wire.specs.Spelling.{spell_signed}
+use Rattle.base_wire.specs.Parts.{spell_decimal}
+use Rattle.base_wire.proofs.writing.push_decimal.Goals as goal
 
 pub returns : goal.returns
 unfolding spell_decimal

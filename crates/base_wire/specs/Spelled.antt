@@ -15,10 +15,10 @@ use mir.Val.{bits}
 use Rattle.base_values.specs.declared.EditError.{EditError}
 use Rattle.base_values.specs.declared.EditError.TheVariants.{ParseDiffs}
 use Rattle.base_values.specs.Answers.{ok_or}
-use Rattle.sheet_wire.specs.Sixteen.{be_bytes_16, be_bytes_16_below}
-use Rattle.sheet_wire.specs.Reading.{Reader, ◌>>=◌, refused, plain, map_at, ◌⊗◌, check_at, byte_at, tagged_at, decoded, code_at, number_at, signed_at, bytes_at, text_at, option_of, option_at, many_at, count_at, list_at, rest_after, after, whole}
-use Rattle.sheet_wire.specs.Spelling.{spell_signed, spell_code, spell_text, spell_option, spell_list, FitsText, FitsItems}
-use Rattle.sheet_wire.specs.Again.{Any, Both, spell_both}
+use Rattle.base_wire.specs.Sixteen.{be_bytes_16, be_bytes_16_below}
+use Rattle.base_wire.specs.Reading.{Reader, ◌>>=◌, refused, plain, map_at, ◌⊗◌, check_at, byte_at, tagged_at, decoded, coded_at, code_at, number_at, signed_at, bytes_at, text_at, option_of, option_at, many_at, count_at, list_at, rest_after, after, whole}
+use Rattle.base_wire.specs.Spelling.{spell_signed, spell_code, spell_text, spell_option, spell_list, FitsText, FitsItems}
+use Rattle.base_wire.specs.Again.{Any, Both, spell_both}
 
 -- each is a byte
 abbrev pub IsBytes : List ℕ → Type 0
@@ -144,17 +144,20 @@ some_value : {A : Type 0} (o : Option A) (x : A) → ok_or ParseDiffs o ≡ Ok x
 some_value None x e = absurd cc
 some_value (Some y) x e = ap Some (ok_is y x e)
 
-pub code_spelled : {A : Type 0} (code_of : A → ℕ) (values : List A) → ReadsSpelled Any (spell_code code_of) (code_at code_of values)
-code_spelled {A} code_of values = record {
+pub coded_spelled : {A : Type 0} (code_of : A → ℕ) (value_of : ℕ → Option A) → ((code : ℕ) (x : A) → value_of code ≡ Some x → code_of x ≡ code) → ReadsSpelled Any (spell_code code_of) (coded_at value_of)
+coded_spelled {A} code_of value_of found = record {
   spelled = λ bytes x small e.
-      let a = bind_ok (byte_at bytes) (λ code. ok_or ParseDiffs (decoded code_of values code.0) >>= λ value. Ok (value, code.1)) x e in
-      let b = bind_ok (ok_or ParseDiffs (decoded code_of values a.0.0)) (λ value. Ok (value, a.0.1)) x a.2 in
-      let code = found_code code_of values a.0.0 b.0 (some_value _ _ b.1) in
+      let a = bind_ok (byte_at bytes) (λ code. ok_or ParseDiffs (value_of code.0) >>= λ value. Ok (value, code.1)) x e in
+      let b = bind_ok (ok_or ParseDiffs (value_of a.0.0)) (λ value. Ok (value, a.0.1)) x a.2 in
+      let code = found a.0.0 b.0 (some_value _ _ b.1) in
       let one = byte_spelled.spelled bytes a.0 small a.1 in
       let made : A × List ℕ = (b.0, a.0.1) in
       subst (λ (z : A × List ℕ). IsSpelled Any (spell_code code_of) bytes z.0 z.1) (ok_is made x b.2)
       (record { parts = one.parts ∙ ap (λ (k : ℕ). k ∷ a.0.1) (sym code); fits = tt; left = one.left });
 }
+
+pub code_spelled : {A : Type 0} (code_of : A → ℕ) (values : List A) → ReadsSpelled Any (spell_code code_of) (code_at code_of values)
+code_spelled code_of values = coded_spelled code_of (decoded code_of values) (found_code code_of values)
 
 -- what a reader reads after this tag was spelled with it
 pub record TagSpelled {A : Type 0} (Fits : A → Type 0) (spell : A → List ℕ) (tag : ℕ) (read : Reader A) : Type 0 where

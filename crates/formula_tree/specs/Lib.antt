@@ -12,3 +12,5 @@ pub mod Placed
 pub mod PlacedEquations
 pub mod CornerLaws
 pub mod PlacedLaws
+pub mod Numbers
+pub mod NumbersEquations

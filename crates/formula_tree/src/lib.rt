@@ -8,6 +8,7 @@ mod copies;
 mod corner;
 mod depth;
 mod node;
+mod numbers;
 mod operator;
 mod parameter;
 mod placed;
@@ -22,6 +23,7 @@ pub use corner::{
 };
 pub use depth::{MAX_DEPTH, is_at_most_deep};
 pub use node::Node;
+pub use numbers::{has_kept_numbers, has_no_negative_number};
 pub use operator::{CompareKind, ProductKind, SumKind, UnaryKind};
 pub use parameter::Parameter;
 pub use placed::is_placed;

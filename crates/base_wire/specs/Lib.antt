@@ -6,4 +6,5 @@ pub mod Sixteen
 pub mod Spelled
 pub mod Refusals
 pub mod PartsLaws
+pub mod Form
 pub mod Many

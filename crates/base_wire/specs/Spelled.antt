@@ -132,7 +132,8 @@ byte_spelled = record {
       record { parts = parts; fits = subst IsBytes parts small 0; left = tail_bytes x.0 x.1 bytes parts small };
 }
 
-found_code : {A : Type 0} (code_of : A → ℕ) (values : List A) (code : ℕ) (x : A) → decoded code_of values code ≡ Some x → code_of x ≡ code
+-- the value that is found has the code
+pub found_code : {A : Type 0} (code_of : A → ℕ) (values : List A) (code : ℕ) (x : A) → decoded code_of values code ≡ Some x → code_of x ≡ code
 found_code code_of [] code x e = absurd cc
 found_code {A} code_of (y ∷ values) code x e = by_test (eqb (code_of y) code) refl e (found_code code_of values code x)
   where

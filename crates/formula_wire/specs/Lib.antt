@@ -8,3 +8,4 @@ pub mod NodeFits
 pub mod NodeLaws
 pub mod Levels
 pub mod KeptNumbers
+pub mod KeptLaws

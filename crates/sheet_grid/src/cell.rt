@@ -1,32 +1,12 @@
-use base_decimal::Decimal;
 use base_styles::Style;
-use base_tables::Error;
-use base_values::{Exact, Text};
-
-/// What a cell holds.
-#[derive(Clone, Debug, PartialEq, Eq, Drop)]
-pub enum Content {
-    Empty,
-    Number(Decimal),
-    Boolean(bool),
-    Error(Error),
-    Text(Text),
-}
+use base_values::Exact;
+use formula_content::Content;
 
 /// A cell of a sheet.
-#[derive(Clone, Debug, PartialEq, Eq, Drop)]
+#[derive(Clone, PartialEq, Eq, Drop)]
 pub struct Cell {
     pub content: Content,
     pub style: Style,
-}
-
-impl Exact for Content {
-    ghost use Rattle.std.proofs.Common.{rules};
-    ghost use Rattle.sheet_grid.specs.CellEquals.{content_equals};
-
-    ghost copies = { λ a b h. Prim.search rules };
-
-    ghost equals = { content_equals };
 }
 
 impl Exact for Cell {

@@ -9,3 +9,4 @@ pub mod NodeLaws
 pub mod Levels
 pub mod KeptNumbers
 pub mod KeptLaws
+pub mod NodeReading

@@ -1,11 +1,16 @@
 //! Trees from the front of bytes. A reader of a tree is told how deep it may reach, so that bytes
 //! of a deeper one are refused before anything is built of what lies deeper.
 
-ghost use Rattle.std.specs.Prelude.{◌+◌};
+ghost use Rattle.std.specs.Prelude.{◌≡◌, ◌≢◌, ◌+◌, ◌++◌, ℕ, List, Ok, IfErr, IfOk, IsTrue};
+ghost use Rattle.base_values.specs.declared.EditError.TheVariants.{NoMemory, ParseDiffs};
+ghost use Rattle.formula_tree.specs.declared.Node.{Node as AnyNode};
+ghost use Rattle.formula_tree.specs.Numbers.{has_kept_numbers};
 ghost use Rattle.base_values.specs.Answers.{Answers, map_ok};
 ghost use Rattle.base_wire.specs.Reading.{list_at, many_at, map_at, ◌⊗◌};
 ghost use Rattle.formula_wire.specs.PartBytes.{corner_at, sheet_at};
-ghost use Rattle.formula_wire.specs.NodeBytes.{call_of, leaf_of, node_at, node_of, node_within, range_at, range_made, reference_made, text_of};
+ghost use Rattle.formula_wire.specs.NodeBytes.{call_of, leaf_of, node_at, node_of, node_within, range_at, range_made, reference_made, spell_node, text_of};
+ghost use Rattle.formula_wire.specs.Carried.{FitsNode};
+ghost use Rattle.formula_wire.specs.NodeReading.{BeginsWithNoNode};
 
 use crate::codes::{compare_at, function_at, product_at, sum_at, unary_at};
 use crate::parts_reading::{corner_at, lines_at, parameters_at, sheet_at};
@@ -18,8 +23,23 @@ use std::alloc::Global;
 ///
 /// Refuses with `ParseDiffs` bytes that are cut short, that spell no tree or one that is more than
 /// 64 deep, and with `NoMemory`.
-#[tactic(auto, unfolding(crate::specs::NodeBytes::node_at))]
 pub fn node_at(alloc: Global, bytes: &[u8]) -> Result<(Node, &[u8]), EditError>
+    ensures read { Answers (map_ok (λ x. (x.0, x.1.now)) result) (node_at bytes.now) }
+
+    // What is read was spelled so, and what follows it is left.
+    ensures spelled { IfOk result (λ x. bytes.now ≡ spell_node x.0 ++ x.1.now) }
+    ensures fits { IfOk result (λ x. FitsNode x.0) }
+    ensures kept { IfOk result (λ x. IsTrue (has_kept_numbers x.0)) }
+
+    // What is spelled is read, whatever follows, so bytes are refused only where they begin with no tree.
+    ensures again { (node : AnyNode) → (rest : List ℕ) → FitsNode node → bytes.now ≡ spell_node node ++ rest → Answers {T = AnyNode × List ℕ} (map_ok (λ x. (x.0, x.1.now)) result) (Ok (node, rest)) }
+    ensures refused { IfErr result (λ e. e ≢ NoMemory → (e ≡ ParseDiffs) × BeginsWithNoNode bytes.now) }
+{
+    read_node(alloc, bytes)
+}
+
+#[tactic(auto, unfolding(crate::specs::NodeBytes::node_at))]
+fn read_node(alloc: Global, bytes: &[u8]) -> Result<(Node, &[u8]), EditError>
     ensures { Answers (map_ok (λ x. (x.0, x.1.now)) result) (node_at bytes.now) }
 {
     node_within(alloc, bytes, MAX_DEPTH)

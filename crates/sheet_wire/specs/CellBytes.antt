@@ -5,12 +5,14 @@ use Rattle.base_values.specs.declared.Position.{Position}
 use Rattle.base_tables.specs.Error.{error_code}
 use Rattle.base_decimal.specs.Kept.{IsKept}
 use Rattle.base_styles.specs.declared.Style.{Style}
-use Rattle.sheet_grid.specs.declared.Content.{Content}
-use Rattle.sheet_grid.specs.declared.Content.TheVariants.{Empty, Number, Boolean, Error as ErrorValue, Text}
+use Rattle.formula_content.specs.declared.Content.{Content}
+use Rattle.formula_content.specs.declared.Content.TheVariants.{Empty, Number, Boolean, Error as ErrorValue, Text, Formula, Dynamic}
 use Rattle.sheet_grid.specs.declared.Cell.{Cell}
 use Rattle.base_wire.specs.Reading.{Reader, plain, refused, map_at, ◌⊗◌, tagged_at, signed_at, text_at}
 use Rattle.base_wire.specs.Spelling.{spell_signed, spell_code, boolean_code, spell_text, FitsText}
 use Rattle.base_wire.specs.Parts.{boolean_at, error_at, spell_decimal, decimal_at}
+use Rattle.formula_wire.specs.NodeBytes.{spell_node, node_at}
+use Rattle.formula_wire.specs.Carried.{FitsNode}
 use Rattle.sheet_wire.specs.StyleBytes.{spell_style, style_at, FitsStyle}
 
 -- ---- positions
@@ -39,6 +41,8 @@ spell_content (Number number) = 1 ∷ spell_decimal number
 spell_content (Boolean value) = 2 ∷ spell_code boolean_code value
 spell_content (ErrorValue error) = 3 ∷ spell_code error_code error
 spell_content (Text text) = 4 ∷ spell_text text
+spell_content (Formula tree) = 5 ∷ spell_node tree
+spell_content (Dynamic tree) = 6 ∷ spell_node tree
 
 -- what follows each kind
 abbrev pub content_of : ℕ → Reader Content
@@ -48,18 +52,22 @@ content_of kind =
     else if kind == 2 then map_at Boolean boolean_at
     else if kind == 3 then map_at ErrorValue error_at
     else if kind == 4 then map_at Text text_at
+    else if kind == 5 then map_at Formula node_at
+    else if kind == 6 then map_at Dynamic node_at
     else refused
 
 unfoldable pub content_at : Reader Content
 content_at = tagged_at content_of
 
--- a number is as a sheet keeps it, and a text is one of Rust
+-- a number is as a sheet keeps it, a text is one of Rust, and a tree one that bytes can carry
 abbrev pub FitsContent : Content → Type 0
 FitsContent Empty = Unit {0}
 FitsContent (Number number) = IsKept number
 FitsContent (Boolean value) = Unit {0}
 FitsContent (ErrorValue error) = Unit {0}
 FitsContent (Text text) = FitsText text
+FitsContent (Formula tree) = FitsNode tree
+FitsContent (Dynamic tree) = FitsNode tree
 
 -- ---- cells
 

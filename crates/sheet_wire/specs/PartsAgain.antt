@@ -12,8 +12,8 @@ use Rattle.base_styles.specs.declared.HorizontalAlignment.{HorizontalAlignment}
 use Rattle.base_styles.specs.declared.HorizontalAlignment.TheVariants as horizontal
 use Rattle.base_styles.specs.declared.VerticalAlignment.{VerticalAlignment}
 use Rattle.base_styles.specs.declared.VerticalAlignment.TheVariants as vertical
-use Rattle.sheet_grid.specs.declared.Content.{Content}
-use Rattle.sheet_grid.specs.declared.Content.TheVariants.{Empty, Number, Boolean, Error as ErrorValue, Text}
+use Rattle.formula_content.specs.declared.Content.{Content}
+use Rattle.formula_content.specs.declared.Content.TheVariants.{Empty, Number, Boolean, Error as ErrorValue, Text, Formula, Dynamic}
 use Rattle.sheet_history.specs.declared.Diff.{Diff}
 use Rattle.sheet_history.specs.declared.Diff.TheVariants.{Cell as CellDiff}
 use Rattle.sheet_history.specs.declared.DiffType.{DiffType}
@@ -25,6 +25,7 @@ use Rattle.sheet_wire.specs.CellBytes.{spell_position, position_made, position_a
 use Rattle.sheet_wire.specs.QueueBytes.{spell_diff, cell_diff_made, entry_of_cell_at, cell_diff_at, diff_at, FitsDiff, FitsList, direction_code, directions, spell_entry, entry_made, list_of_diffs_at, entry_at, FitsEntry}
 use Rattle.base_wire.specs.Again.{ReadsAgain, Any, both_again, map_again, code_again, wide32, number_again, signed_again, text_again, option_again, list_again}
 use Rattle.base_wire.specs.PartsLaws.{boolean_again, error_again, decimal_again}
+use Rattle.formula_wire.specs.NodeLaws.{node_again}
 
 -- ---- colours
 
@@ -159,6 +160,8 @@ content_again = record { again = one }
     one (Boolean value) rest fits = rw (boolean_again.again value rest tt) refl
     one (ErrorValue error) rest fits = rw (error_again.again error rest tt) refl
     one (Text text) rest fits = rw (text_again.again text rest fits) refl
+    one (Formula tree) rest fits = rw (node_again.again tree rest fits) refl
+    one (Dynamic tree) rest fits = rw (node_again.again tree rest fits) refl
 
 pub cell_again : ReadsAgain FitsCell spell_cell cell_at
 unfolding cell_at

@@ -2,7 +2,7 @@
 use Rattle.std.proofs.Common.{refl}
 use Rattle.std.specs.Prelude.{IfSome}
 use Rattle.base_styles.specs.declared.Color.TheVariants.{None as NoColor, Theme}
-use Rattle.sheet_grid.specs.declared.Content.TheVariants.{Empty, Number, Boolean, Error as ErrorValue, Text}
+use Rattle.formula_content.specs.declared.Content.TheVariants.{Empty, Number, Boolean, Error as ErrorValue, Text, Formula, Dynamic}
 use Rattle.base_wire.specs.Spelling.{spell_option, spell_list}
 use Rattle.sheet_wire.specs.StyleBytes.{theme_code, theme_colors, spell_color, color_at, FitsColor, spell_font, font_made, font_at, FitsFont, border_code, border_styles, spell_border_item, border_item_made, border_item_at, FitsBorderItem, spell_border, border_made, side_at, border_at, FitsBorder, horizontal_code, horizontals, vertical_code, verticals, spell_alignment, alignment_made, alignment_at, alignment_option_at, spell_style, style_made, style_at, FitsStyle}
 use Rattle.sheet_wire.specs.CellBytes.{spell_position, position_made, position_at, FitsPosition, spell_content, content_at, FitsContent, spell_cell, cell_made, cell_at, FitsCell}
@@ -13,6 +13,7 @@ use Rattle.sheet_wire.specs.QueueBytes.{diff_of}
 use Rattle.base_wire.specs.Again.{Any}
 use Rattle.base_wire.specs.Spelled.{ReadsSpelled, both_spelled, map_spelled, fits_otherwise, byte_spelled, code_spelled, TagSpelled, tag_map, tag_plain, tag_refused, tag_if, tagged_spelled, option_spelled, back32, number_spelled, signed_spelled, text_spelled, list_spelled}
 use Rattle.base_wire.specs.PartsLaws.{boolean_spelled, error_spelled, decimal_spelled}
+use Rattle.formula_wire.specs.NodeLaws.{node_spelled}
 
 -- ---- colours
 
@@ -92,7 +93,9 @@ content_spelled =
     (tag_if kind 2 (tag_map boolean_spelled Boolean FitsContent spell_content 2 (λ x. refl) (λ x fits. tt))
     (tag_if kind 3 (tag_map error_spelled ErrorValue FitsContent spell_content 3 (λ x. refl) (λ x fits. tt))
     (tag_if kind 4 (tag_map text_spelled Text FitsContent spell_content 4 (λ x. refl) (λ x fits. fits))
-    (tag_refused FitsContent spell_content kind))))))
+    (tag_if kind 5 (tag_map node_spelled Formula FitsContent spell_content 5 (λ x. refl) (λ x fits. fits))
+    (tag_if kind 6 (tag_map node_spelled Dynamic FitsContent spell_content 6 (λ x. refl) (λ x fits. fits))
+    (tag_refused FitsContent spell_content kind))))))))
 
 pub cell_spelled : ReadsSpelled FitsCell spell_cell cell_at
 unfolding cell_at

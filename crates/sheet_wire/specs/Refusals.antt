@@ -2,9 +2,10 @@
 use Rattle.std.proofs.Common.{ℕ, eqb, List}
 use Rattle.std.specs.Int.{w32}
 use Rattle.base_styles.specs.declared.Color.TheVariants.{Theme}
-use Rattle.sheet_grid.specs.declared.Content.TheVariants.{Number, Boolean, Error as ErrorValue, Text}
+use Rattle.formula_content.specs.declared.Content.TheVariants.{Number, Boolean, Error as ErrorValue, Text, Formula, Dynamic}
 use Rattle.base_wire.specs.Refusals.{Refuses, IsPlain, both_plain, map_plain, byte_plain, code_plain, number_plain, signed_plain, text_plain, plain_plain, refused_plain, if_plain, tagged_plain, option_plain, list_plain, after_plain, whole_refuses}
 use Rattle.base_wire.specs.PartsLaws.{boolean_plain, error_plain, decimal_plain}
+use Rattle.formula_wire.specs.NodeLaws.{node_plain}
 use Rattle.sheet_wire.specs.StyleBytes.{theme_code, theme_colors, rgb, color_of, color_at, font_made, font_at, border_code, border_styles, border_item_made, border_item_at, border_made, side_at, border_at, horizontal_code, horizontals, vertical_code, verticals, alignment_made, alignment_at, alignment_option_at, style_made, style_at}
 use Rattle.sheet_wire.specs.CellBytes.{position_made, position_at, content_of, content_at, cell_made, cell_at}
 use Rattle.sheet_wire.specs.QueueBytes.{cell_diff_made, entry_of_cell_at, cell_diff_at, diff_of, diff_at, direction_code, directions, entry_made, list_of_diffs_at, entry_at, magic, queue_of}
@@ -57,7 +58,9 @@ content_plain =
     (if_plain (eqb kind 1) (map_plain Number decimal_plain)
     (if_plain (eqb kind 2) (map_plain Boolean boolean_plain)
     (if_plain (eqb kind 3) (map_plain ErrorValue error_plain)
-    (if_plain (eqb kind 4) (map_plain Text text_plain) refused_plain)))))
+    (if_plain (eqb kind 4) (map_plain Text text_plain)
+    (if_plain (eqb kind 5) (map_plain Formula node_plain)
+    (if_plain (eqb kind 6) (map_plain Dynamic node_plain) refused_plain)))))))
 
 cell_plain : IsPlain cell_at
 unfolding cell_at

@@ -6,6 +6,7 @@ ghost use Rattle.sheet_wire.specs.CellBytes.{cell_at, content_at, position_at};
 use crate::reading_styles::style_at;
 use base_values::{EditError, Position};
 use base_wire::{boolean_at, byte_at, decimal_at, error_at, i32_at, text_at};
+use formula_wire::node_at;
 use sheet_grid::{Cell, Content};
 use std::alloc::Global;
 
@@ -40,6 +41,14 @@ fn content_at(alloc: Global, bytes: &[u8]) -> Result<(Content, &[u8]), EditError
         4 => {
             let (text, rest) = text_at(alloc, rest)?;
             Ok((Content::Text(text), rest))
+        }
+        5 => {
+            let (tree, rest) = node_at(alloc, rest)?;
+            Ok((Content::Formula(tree), rest))
+        }
+        6 => {
+            let (tree, rest) = node_at(alloc, rest)?;
+            Ok((Content::Dynamic(tree), rest))
         }
         _ => Err(EditError::ParseDiffs),
     }

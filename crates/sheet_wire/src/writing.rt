@@ -9,6 +9,7 @@ use crate::codes::{border_code, horizontal_code, theme_code, vertical_code};
 use base_styles::{Alignment, Border, BorderItem, Color, Font, Style};
 use base_values::Position;
 use base_wire::{boolean_code, push_decimal, push_text};
+use formula_wire::push_node;
 use sheet_grid::{Cell, Content};
 use std::alloc::AllocError;
 
@@ -110,6 +111,14 @@ fn put_content(out: &mut Vec<u8>, content: &Content) -> Result<(), AllocError>
         Content::Text(text) => {
             out.push(4)?;
             push_text(out, text)?;
+        }
+        Content::Formula(tree) => {
+            out.push(5)?;
+            push_node(out, tree)?;
+        }
+        Content::Dynamic(tree) => {
+            out.push(6)?;
+            push_node(out, tree)?;
         }
     }
     Ok(())

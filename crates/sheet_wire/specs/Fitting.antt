@@ -92,7 +92,7 @@ shallow_option (Some cell) fits = shallow_content_from_fits cell.content fits.co
 
 pub kept_diff_from_fits : (diff : Diff) → FitsDiff diff → IsKeptDiff diff
 kept_diff_from_fits (CellDiff sheet place old new) fits =
-    (kept_option old fits.old, (kept_option new fits.new, (shallow_option old fits.old, shallow_option new fits.new)))
+    (kept_option old fits.old, kept_option new fits.new, shallow_option old fits.old, shallow_option new fits.new)
 
 kept_diffs : (diffs : List Diff) → AllByRecursion FitsDiff diffs → AllByRecursion IsKeptDiff diffs
 kept_diffs [] fits = tt

@@ -1,5 +1,8 @@
 pub mod Book
 pub mod CellEquals
+pub mod FittingCells
+pub mod FittingLaws
+pub mod FittingProps
 pub mod KeptCell
 pub mod Sheet
 pub mod SheetEquals

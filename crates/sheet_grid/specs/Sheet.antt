@@ -13,8 +13,8 @@ use Rattle.base_styles.specs.declared.Style.{Style}
 use Rattle.base_styles.specs.DefaultStyle.{default_style}
 use Rattle.sheet_grid.specs.declared.state.SheetState.{SheetState}
 use Rattle.sheet_grid.specs.declared.state.SheetState.TheVariants.{Visible}
-use Rattle.sheet_grid.specs.declared.cell.Content.{Content}
-use Rattle.sheet_grid.specs.declared.cell.Content.TheVariants.{Empty}
+use Rattle.formula_content.specs.declared.Content.{Content}
+use Rattle.formula_content.specs.declared.Content.TheVariants.{Empty}
 use Rattle.sheet_grid.specs.declared.cell.Cell.{Cell}
 
 pub record Sheet : Type 0 where

@@ -1,39 +1,32 @@
-use base_decimal::Decimal;
-use base_styles::Style;
-use base_tables::Error;
-use base_values::{Exact, Text};
+ghost use Rattle.std.specs.Prelude.{◌≡◌};
 
-/// What a cell holds.
-#[derive(Clone, Debug, PartialEq, Eq, Drop)]
-pub enum Content {
-    Empty,
-    Number(Decimal),
-    Boolean(bool),
-    Error(Error),
-    Text(Text),
-}
+use base_styles::Style;
+use base_values::Exact;
+use formula_content::Content;
+use std::alloc::AllocError;
 
 /// A cell of a sheet.
-#[derive(Clone, Debug, PartialEq, Eq, Drop)]
+#[derive(PartialEq, Eq, Drop)]
 pub struct Cell {
     pub content: Content,
     pub style: Style,
 }
 
-impl Exact for Content {
-    ghost use Rattle.std.proofs.Common.{rules};
-    ghost use Rattle.sheet_grid.specs.CellEquals.{content_equals};
+impl Clone for Cell {
+    ghost is_clone = { λ s r. r ≡ s };
 
-    ghost copies = { λ a b h. Prim.search rules };
-
-    ghost equals = { content_equals };
+    fn clone(&self) -> Result<Cell, AllocError> {
+        Ok(Cell {
+            content: self.content.clone()?,
+            style: self.style.clone()?,
+        })
+    }
 }
 
 impl Exact for Cell {
-    ghost use Rattle.std.proofs.Common.{rules};
     ghost use Rattle.sheet_grid.specs.CellEquals.{cell_equals};
 
-    ghost copies = { λ a b h. Prim.search rules };
+    ghost copies = { λ a b h. h };
 
     ghost equals = { cell_equals };
 }

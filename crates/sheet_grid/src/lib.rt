@@ -10,7 +10,8 @@ mod state;
 mod workbook;
 mod worksheet;
 
-pub use cell::{Cell, Content};
+pub use cell::Cell;
+pub use formula_content::Content;
 pub use state::SheetState;
 pub use workbook::Workbook;
 pub use worksheet::Worksheet;

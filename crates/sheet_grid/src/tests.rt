@@ -3,6 +3,7 @@ use base_decimal::Decimal;
 use base_styles::Style;
 use base_tables::{Error, Locale, Zone};
 use base_values::{EditError, copy_of, same};
+use formula_tree::Node;
 use std::test::Fail;
 
 fn content_of(sheet: &Worksheet, row: i32, column: i32) -> Result<Content, EditError> {
@@ -10,6 +11,12 @@ fn content_of(sheet: &Worksheet, row: i32, column: i32) -> Result<Content, EditE
         Some(cell) => Ok(cell.content),
         None => Ok(Content::Empty),
     }
+}
+
+/// A tree that is no formula: the setters do not ask.
+fn set_formulas(sheet: &mut Worksheet, style: &Style) -> Result<(), EditError> {
+    sheet.set_cell_with_formula(1, 7, Node::EmptyArgument, style)?;
+    sheet.set_cell_with_dynamic_formula(1, 8, Node::EmptyArgument, style)
 }
 
 /// Each call that may find no memory, once where there is enough.
@@ -37,6 +44,9 @@ fn with_ample_memory(rt: HostRuntime) -> Result<(), Fail> {
         matches!(&content_of(sheet, 1, 2)?, Content::Text(text) if text.as_str() == "five")
     );
     assert_eq!(rt; sheet.cells().count(), 6);
+
+    set_formulas(sheet, &style)?;
+    assert_eq!(rt; sheet.cells().count(), 8);
 
     let content = Content::Boolean(true);
     book.put_cell(0, 9, 9, Some(Cell { content, style }))?;

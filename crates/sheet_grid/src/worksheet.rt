@@ -1,24 +1,28 @@
-ghost use Rattle.std.specs.Prelude.{◌≡◌, IfOk, IfSome, All};
+ghost use Rattle.std.specs.Prelude.{◌≡◌, IfOk, IfSome, IsTrue, All};
 ghost use Rattle.std.specs.FinMap as fin;
 ghost use Rattle.base_values.specs.Answers.{Answers, Edits};
 ghost use Rattle.base_values.specs.Places.{IsPlace};
 ghost use Rattle.base_decimal.specs.Kept.{IsKept};
-ghost use Rattle.sheet_grid.specs.KeptCell.{IsKeptCell, IsKeptContent};
+ghost use Rattle.formula_tree.specs.Numbers.{has_kept_numbers};
+ghost use Rattle.formula_content.specs.KeptContent.{IsKeptContent};
+ghost use Rattle.sheet_grid.specs.KeptCell.{IsKeptCell};
 ghost use Rattle.sheet_grid.specs.Sheet.{Sheet, new_sheet, cell_at, cell_put, content_put, content_cleared, shown_style};
-ghost use Rattle.sheet_grid.specs.declared.cell.Content.TheVariants.{Empty, Number, Boolean, Error as ErrorValue, Text as TextValue};
+ghost use Rattle.formula_content.specs.declared.Content.TheVariants.{Empty, Number, Boolean, Error as ErrorValue, Text as TextValue, Formula, Dynamic};
 
-use crate::cell::{Cell, Content};
+use crate::cell::Cell;
 use crate::state::SheetState;
 use base_decimal::Decimal;
 use base_styles::{Color, Style};
 use base_tables::Error;
 use base_values::{EditError, Exact, PlaceMap, Position, Text, copy_of, place_of};
+use formula_content::Content;
+use formula_tree::Node;
 use std::alloc::{AllocError, Global};
 use std::collections::btree_map::Iter;
 use std::marker::Model;
 
-/// One sheet of a workbook. Its numbers have at most 15 digits on each side of the point, and no
-/// zero digit at the end of their places.
+/// One sheet of a workbook. Its numbers, those of its formulas too, have at most 15 digits on each
+/// side of the point, and no zero digit at the end of their places.
 #[derive(PartialEq, Eq, Drop)]
 pub struct Worksheet {
     id: u32,
@@ -37,10 +41,11 @@ impl Model for Worksheet {
     ghost use Rattle.std.specs.Coded.{codes};
     ghost use Rattle.std.specs.FinMap as fin;
     ghost use Rattle.base_values.specs.Places.{coded_position};
+    ghost use Rattle.formula_tree.specs.contracts.node.Node as node;
 
     ghost Value = { Sheet };
 
-    ghost coded = { Prim.hlevel (codes, coded_position, fin.code) };
+    ghost coded = { Prim.hlevel (codes, coded_position, node.the_row.coded, fin.code) };
 
     ghost view = { λ s. record {
       id = s.id;
@@ -253,6 +258,40 @@ impl Worksheet {
         let _place = place_of(row, column)?;
         let text = Text::new(String::from_str(self.name.allocator(), value)?);
         self.put_content(row, column, Content::Text(text), style)
+    }
+
+    /// Sets the cell at a row and a column to a formula with a style. The formula may be any tree:
+    /// it is not asked whether it fits the place.
+    ///
+    /// `InvalidRow` where the row is outside the sheet, else `InvalidColumn` where the column is.
+    pub fn set_cell_with_formula(
+        &mut self,
+        row: i32,
+        column: i32,
+        value: Node,
+        style: &Style,
+    ) -> Result<(), EditError>
+        requires { IsTrue (has_kept_numbers value) }
+        ensures { Edits result self.old self.new (content_put self.old row column (Formula value) style.now) }
+    {
+        self.put_content(row, column, Content::Formula(value), style)
+    }
+
+    /// Sets the cell at a row and a column to a formula whose value may spill, with a style. The
+    /// formula may be any tree: it is not asked whether it fits the place.
+    ///
+    /// `InvalidRow` where the row is outside the sheet, else `InvalidColumn` where the column is.
+    pub fn set_cell_with_dynamic_formula(
+        &mut self,
+        row: i32,
+        column: i32,
+        value: Node,
+        style: &Style,
+    ) -> Result<(), EditError>
+        requires { IsTrue (has_kept_numbers value) }
+        ensures { Edits result self.old self.new (content_put self.old row column (Dynamic value) style.now) }
+    {
+        self.put_content(row, column, Content::Dynamic(value), style)
     }
 
     /// Empties the cell at a row and a column, and keeps the style that the place shows. A place

@@ -1,12 +1,13 @@
 -- What diffs do to a workbook, forward and back.
 use Rattle.std.proofs.Common.{◌≡◌, ◌≢◌, ℕ, ◌+◌, List, [], ◌∷◌, take, Option, Result, Ok, Err}
-use Rattle.std.specs.Prelude.{IfSome, IfErr, OnOk, OnErr, All}
+use Rattle.std.specs.Prelude.{IfSome, IfErr, IsTrue, OnOk, OnErr, All, if◌then◌else◌}
 use Rattle.base_values.specs.declared.EditError.{EditError}
 use Rattle.base_values.specs.declared.EditError.TheVariants.{DiffRefused, NoMemory}
 use Rattle.base_values.specs.declared.Position.{Position}
 use Rattle.base_values.specs.Answers.{and_then, ok_or, value_of}
 use Rattle.sheet_grid.specs.declared.Cell.{Cell}
 use Rattle.sheet_grid.specs.Book.{Book, edit_by_id}
+use Rattle.sheet_grid.specs.FittingCells.{entry_fits_at, is_shallow_entry}
 use Rattle.sheet_grid.specs.KeptCell.{IsKeptCell}
 use Rattle.sheet_grid.specs.Sheet.{cell_put}
 use Rattle.sheet_history.specs.declared.diff.Diff.{Diff}
@@ -15,11 +16,13 @@ use Rattle.sheet_history.specs.declared.diff.DiffType.{DiffType}
 use Rattle.sheet_history.specs.declared.diff.DiffType.TheVariants.{Undo, Redo}
 use Rattle.sheet_history.specs.declared.diff.QueueDiffs.{QueueDiffs}
 
--- the workbook with this cell at a place of the sheet of an id, or with none. Where no sheet has the id or the place is
--- outside, the diff of that number is refused
+-- the workbook with this cell at a place of the sheet of an id, or with none. Where no sheet has the id, the place is outside or
+-- the cell may not stand there, the diff of that number is refused
 unfoldable pub put_in : ℕ → Book → ℕ → Position → Option Cell → Result Book EditError
 put_in at book id place entry =
-    ok_or (DiffRefused 0 at) (value_of (edit_by_id book id (λ sheet. cell_put sheet place.row place.column entry)))
+    if entry_fits_at place entry
+    then ok_or (DiffRefused 0 at) (value_of (edit_by_id book id (λ sheet. cell_put sheet place.row place.column entry)))
+    else Err (DiffRefused 0 at)
 
 -- forward puts the new value
 abbrev pub step_forward : ℕ → Book → Diff → Result Book EditError
@@ -78,9 +81,10 @@ pub record Replays (result : Result (Unit {0}) EditError) (old new : Book) (entr
   pub refused : IfErr result (λ error. error ≢ NoMemory → replayed old entries ≡ Err error)
   pub stands : OnErr result (IsFrontOf entries old new)
 
--- the numbers of both cells are as a sheet keeps them
+-- the numbers of both cells are as a sheet keeps them, and their formulas at most 64 deep
 abbrev pub IsKeptDiff : Diff → Type 0
-IsKeptDiff (CellDiff sheet place old new) = IfSome old IsKeptCell × IfSome new IsKeptCell
+IsKeptDiff (CellDiff sheet place old new) =
+    IfSome old IsKeptCell × IfSome new IsKeptCell × IsTrue (is_shallow_entry old) × IsTrue (is_shallow_entry new)
 
 abbrev pub IsKeptList : List Diff → Type 0
 IsKeptList diffs = All IsKeptDiff diffs

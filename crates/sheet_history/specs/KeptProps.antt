@@ -3,9 +3,10 @@ use Rattle.std.proofs.Common.{Option, Some, None, List, All}
 use Rattle.std.specs.Prelude.{IfSome}
 use Rattle.std.proofs.Props.{props}
 use Rattle.sheet_grid.specs.declared.Cell.{Cell}
-use Rattle.sheet_grid.specs.declared.Content.{Content}
-use Rattle.sheet_grid.specs.declared.Content.TheVariants.{Empty, Number, Boolean, Error, Text}
-use Rattle.sheet_grid.specs.KeptCell.{IsKeptContent, IsKeptCell}
+use Rattle.formula_content.specs.declared.Content.{Content}
+use Rattle.formula_content.specs.declared.Content.TheVariants.{Empty, Number, Boolean, Error, Text, Formula, Dynamic}
+use Rattle.formula_content.specs.KeptContent.{IsKeptContent}
+use Rattle.sheet_grid.specs.KeptCell.{IsKeptCell}
 use Rattle.sheet_history.specs.declared.diff.Diff.{Diff}
 use Rattle.sheet_history.specs.declared.diff.Diff.TheVariants.{Cell as CellDiff}
 use Rattle.sheet_history.specs.Diffs.{IsKeptDiff, IsKeptList}
@@ -16,6 +17,8 @@ kept_content (Number _) = hlevel props
 kept_content (Boolean _) = hlevel props
 kept_content (Error _) = hlevel props
 kept_content (Text _) = hlevel props
+kept_content (Formula _) = hlevel props
+kept_content (Dynamic _) = hlevel props
 
 kept_entry : (entry : Option Cell) → IsProp (IfSome entry IsKeptCell)
 kept_entry None = hlevel props

@@ -5,3 +5,4 @@ pub mod Records
 pub mod RecordLaws
 pub mod ReplayLaws
 pub mod KeptProps
+pub mod FitLaws

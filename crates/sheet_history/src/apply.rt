@@ -1,13 +1,25 @@
+ghost use Rattle.std.specs.Prelude.{◌≡◌, IfSome};
 ghost use Rattle.base_values.specs.Answers.{Answers, Edits};
-ghost use Rattle.std.specs.Prelude.{IfSome};
+ghost use Rattle.sheet_grid.specs.FittingCells.{entry_fits_at, SheetsFit};
 ghost use Rattle.sheet_grid.specs.KeptCell.{IsKeptCell};
 ghost use Rattle.sheet_history.specs.Diffs.{IsKeptDiff, IsKeptList, IsKeptQueue, Replays, backed, follow, forwarded, in_entry, put_in, step_back, step_forward};
 
 use crate::diff::{Diff, DiffList, DiffType, QueueDiffs};
 use base_values::{EditError, Position, copy_of};
+use formula_content::fits_at;
 use sheet_grid::{Cell, Workbook};
 
-/// Puts an entry at a place of the sheet of an id.
+/// Whether what is put at a place, a cell or none, may stand there.
+fn entry_fits_at(place: Position, entry: &Option<Cell>) -> bool
+    ensures { result ≡ entry_fits_at place entry.now }
+{
+    match entry {
+        Some(cell) => fits_at(place, &cell.content),
+        None => true,
+    }
+}
+
+/// Puts an entry at a place of the sheet of an id, where it may stand there.
 #[tactic(auto, unfolding(crate::specs::Diffs::put_in))]
 fn put_in(
     workbook: &mut Workbook,
@@ -20,6 +32,9 @@ fn put_in(
     ensures { Edits result workbook.old workbook.new (put_in at workbook.old id place entry.now) }
 {
     let refused = EditError::DiffRefused { entry: 0, diff: at };
+    if !entry_fits_at(place, entry) {
+        return Err(refused);
+    }
     let entry = copy_of(entry)?;
     match workbook.put_cell_by_id(id, place.row, place.column, entry) {
         Ok(()) => Ok(()),
@@ -60,8 +75,8 @@ fn apply_back(workbook: &mut Workbook, diff: &Diff, at: u64) -> Result<(), EditE
 
 /// The workbook with the changes of a list made in order.
 ///
-/// `DiffRefused` with entry 0 and the number of the first diff whose sheet is not there or whose
-/// position is outside.
+/// `DiffRefused` with entry 0 and the number of the first diff whose sheet is not there, whose
+/// position is outside, or whose new cell may not stand there.
 pub fn forward(workbook: &Workbook, list: &DiffList) -> Result<Workbook, EditError>
     requires { IsKeptList list.now }
     ensures { Answers result (forwarded workbook.now list.now) }
@@ -75,7 +90,8 @@ pub fn forward(workbook: &Workbook, list: &DiffList) -> Result<Workbook, EditErr
 
 /// The workbook with the changes of a list taken back, the last one first.
 ///
-/// `DiffRefused` as `forward` answers it, with the number of the first diff that it comes to.
+/// `DiffRefused` as `forward` answers it, of the old cells, with the number of the first diff that
+/// it comes to.
 pub fn back(workbook: &Workbook, list: &DiffList) -> Result<Workbook, EditError>
     requires { IsKeptList list.now }
     ensures { Answers result (backed workbook.now list.now) }
@@ -88,9 +104,7 @@ pub fn back(workbook: &Workbook, list: &DiffList) -> Result<Workbook, EditError>
     Ok(next)
 }
 
-/// Makes the changes of a list as `forward` does, in the workbook itself. A refusal leaves it as it
-/// was. A list of one diff costs no copy of the workbook.
-pub fn forward_in_place(workbook: &mut Workbook, list: &DiffList) -> Result<(), EditError>
+fn make_changes(workbook: &mut Workbook, list: &DiffList) -> Result<(), EditError>
     requires { IsKeptList list.now }
     ensures { Edits result workbook.old workbook.new (forwarded workbook.old list.now) }
 {
@@ -104,9 +118,17 @@ pub fn forward_in_place(workbook: &mut Workbook, list: &DiffList) -> Result<(), 
     }
 }
 
-/// Takes the changes of a list back as `back` does, in the workbook itself. A refusal leaves it as
-/// it was. A list of one diff costs no copy of the workbook.
-pub fn back_in_place(workbook: &mut Workbook, list: &DiffList) -> Result<(), EditError>
+/// Makes the changes of a list as `forward` does, in the workbook itself. A refusal leaves it as it
+/// was. A list of one diff costs no copy of the workbook.
+pub fn forward_in_place(workbook: &mut Workbook, list: &DiffList) -> Result<(), EditError>
+    requires { IsKeptList list.now }
+    ensures forwarded { Edits result workbook.old workbook.new (forwarded workbook.old list.now) }
+    ensures fits { SheetsFit workbook.old → SheetsFit workbook.new }
+{
+    make_changes(workbook, list)
+}
+
+fn undo_changes(workbook: &mut Workbook, list: &DiffList) -> Result<(), EditError>
     requires { IsKeptList list.now }
     ensures { Edits result workbook.old workbook.new (backed workbook.old list.now) }
 {
@@ -118,6 +140,16 @@ pub fn back_in_place(workbook: &mut Workbook, list: &DiffList) -> Result<(), Edi
             Ok(())
         }
     }
+}
+
+/// Takes the changes of a list back as `back` does, in the workbook itself. A refusal leaves it as
+/// it was. A list of one diff costs no copy of the workbook.
+pub fn back_in_place(workbook: &mut Workbook, list: &DiffList) -> Result<(), EditError>
+    requires { IsKeptList list.now }
+    ensures backed { Edits result workbook.old workbook.new (backed workbook.old list.now) }
+    ensures fits { SheetsFit workbook.old → SheetsFit workbook.new }
+{
+    undo_changes(workbook, list)
 }
 
 /// Follows one entry of a queue. `at` is its number in the queue.

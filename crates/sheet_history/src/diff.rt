@@ -2,7 +2,7 @@ use base_values::{Exact, Items, Position};
 use sheet_grid::Cell;
 
 /// One entry of a workbook that changed, with its value before and after.
-#[derive(Clone, Debug, PartialEq, Eq, Drop)]
+#[derive(Clone, PartialEq, Eq, Drop)]
 pub enum Diff {
     /// The cell at a position of the sheet with that id. None stands for no cell.
     Cell {
@@ -26,7 +26,7 @@ pub enum DiffType {
 }
 
 /// A list of diffs as it is sent to other copies.
-#[derive(Clone, Debug, PartialEq, Eq, Drop)]
+#[derive(Clone, PartialEq, Eq, Drop)]
 pub struct QueueDiffs {
     pub kind: DiffType,
     pub list: DiffList,

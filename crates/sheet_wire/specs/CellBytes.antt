@@ -1,18 +1,19 @@
 -- The bytes of positions, contents and cells.
 use Rattle.std.specs.Prelude.{ℕ, ℤ, List, [], ◌∷◌, ◌++◌, ◌==◌, if◌then◌else◌, FitsSigned}
-use Rattle.std.specs.Int.{w32, w128}
+use Rattle.std.specs.Int.{w32}
 use Rattle.base_values.specs.declared.Position.{Position}
-use Rattle.base_decimal.specs.declared.Decimal.{Decimal}
-use Rattle.base_decimal.specs.Kept.{is_kept, IsKept}
-use Rattle.base_tables.specs.declared.Error.{Error}
-use Rattle.base_tables.specs.declared.Error.TheVariants.{Ref, Name, Value, DivisionByZero, NotAvailable, Number as NumberError, General, NotImplemented, Spill, Calc, Circular, Null}
+use Rattle.base_tables.specs.Error.{error_code}
+use Rattle.base_decimal.specs.Kept.{IsKept}
 use Rattle.base_styles.specs.declared.Style.{Style}
-use Rattle.sheet_grid.specs.declared.Content.{Content}
-use Rattle.sheet_grid.specs.declared.Content.TheVariants.{Empty, Number, Boolean, Error as ErrorValue, Text}
+use Rattle.formula_content.specs.declared.Content.{Content}
+use Rattle.formula_content.specs.declared.Content.TheVariants.{Empty, Number, Boolean, Error as ErrorValue, Text, Formula, Dynamic}
 use Rattle.sheet_grid.specs.declared.Cell.{Cell}
-use Rattle.sheet_wire.specs.Reading.{Reader, plain, refused, map_at, ◌⊗◌, check_at, byte_at, tagged_at, code_at, signed_at, text_at}
-use Rattle.sheet_wire.specs.Spelling.{spell_signed, spell_code, boolean_code, spell_text, FitsText}
-use Rattle.sheet_wire.specs.StyleBytes.{boolean_at, spell_style, style_at, FitsStyle}
+use Rattle.base_wire.specs.Reading.{Reader, plain, refused, map_at, ◌⊗◌, tagged_at, signed_at, text_at}
+use Rattle.base_wire.specs.Spelling.{spell_signed, spell_code, boolean_code, spell_text, FitsText}
+use Rattle.base_wire.specs.Parts.{boolean_at, error_at, spell_decimal, decimal_at}
+use Rattle.formula_wire.specs.NodeBytes.{spell_node, node_at}
+use Rattle.formula_wire.specs.Carried.{FitsNode}
+use Rattle.sheet_wire.specs.StyleBytes.{spell_style, style_at, FitsStyle}
 
 -- ---- positions
 
@@ -31,39 +32,7 @@ pub record FitsPosition (place : Position) : Type 0 where
   pub row : FitsSigned w32 place.row
   pub column : FitsSigned w32 place.column
 
--- ---- decimals
-
--- the mantissa in sixteen bytes, and the places
-unfoldable pub spell_decimal : Decimal → List ℕ
-spell_decimal number = spell_signed w128 number.mantissa ++ (number.places ∷ [])
-
-abbrev pub decimal_made : ℤ × ℕ → Decimal
-decimal_made x = record { mantissa = x.0; places = x.1 }
-
--- only numbers that a workbook keeps are spelled
-unfoldable pub decimal_at : Reader Decimal
-decimal_at = check_at is_kept (map_at decimal_made (signed_at w128 ⊗ byte_at))
-
 -- ---- contents
-
--- in the order in which the values are declared
-abbrev pub error_code : Error → ℕ
-error_code Ref = 0
-error_code Name = 1
-error_code Value = 2
-error_code DivisionByZero = 3
-error_code NotAvailable = 4
-error_code NumberError = 5
-error_code General = 6
-error_code NotImplemented = 7
-error_code Spill = 8
-error_code Calc = 9
-error_code Circular = 10
-error_code Null = 11
-
--- all of them
-abbrev pub errors : List Error
-errors = Ref ∷ Name ∷ Value ∷ DivisionByZero ∷ NotAvailable ∷ NumberError ∷ General ∷ NotImplemented ∷ Spill ∷ Calc ∷ Circular ∷ Null ∷ []
 
 -- the kind, and then what it holds
 abbrev pub spell_content : Content → List ℕ
@@ -72,6 +41,8 @@ spell_content (Number number) = 1 ∷ spell_decimal number
 spell_content (Boolean value) = 2 ∷ spell_code boolean_code value
 spell_content (ErrorValue error) = 3 ∷ spell_code error_code error
 spell_content (Text text) = 4 ∷ spell_text text
+spell_content (Formula tree) = 5 ∷ spell_node tree
+spell_content (Dynamic tree) = 6 ∷ spell_node tree
 
 -- what follows each kind
 abbrev pub content_of : ℕ → Reader Content
@@ -79,20 +50,24 @@ content_of kind =
     if kind == 0 then plain Empty
     else if kind == 1 then map_at Number decimal_at
     else if kind == 2 then map_at Boolean boolean_at
-    else if kind == 3 then map_at ErrorValue (code_at error_code errors)
+    else if kind == 3 then map_at ErrorValue error_at
     else if kind == 4 then map_at Text text_at
+    else if kind == 5 then map_at Formula node_at
+    else if kind == 6 then map_at Dynamic node_at
     else refused
 
 unfoldable pub content_at : Reader Content
 content_at = tagged_at content_of
 
--- a number is as a sheet keeps it, and a text is one of Rust
+-- a number is as a sheet keeps it, a text is one of Rust, and a tree one that bytes can carry
 abbrev pub FitsContent : Content → Type 0
 FitsContent Empty = Unit {0}
 FitsContent (Number number) = IsKept number
 FitsContent (Boolean value) = Unit {0}
 FitsContent (ErrorValue error) = Unit {0}
 FitsContent (Text text) = FitsText text
+FitsContent (Formula tree) = FitsNode tree
+FitsContent (Dynamic tree) = FitsNode tree
 
 -- ---- cells
 

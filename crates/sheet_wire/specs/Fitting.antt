@@ -1,16 +1,20 @@
 -- What bytes can carry: lists and queues of parts that fit, and the numbers in them.
-use Rattle.std.proofs.Common.{ℕ, zero, suc, ◌^◌, ◌<◌, List, [], ◌∷◌, ◌++◌, length, Option, Some, None, arith}
-use Rattle.std.specs.Prelude.{IfSome, codes}
+use Rattle.std.proofs.Common.{ℕ, zero, suc, ◌^◌, ◌<◌, List, [], ◌∷◌, ◌++◌, length, Option, Some, None, refl, arith}
+use Rattle.std.specs.Prelude.{IfSome, IsTrue, codes}
 use Rattle.std.specs.List.{AllByRecursion}
 use Rattle.std.specs.Str.{IsAscii}
 use Rattle.std.proofs.lemmas.List.Elements.{All-from_recursion}
 use Rattle.std.proofs.lemmas.Str.{IsUtf8-from_ascii}
 use Rattle.base_values.specs.declared.Position.{Position}
 use Rattle.base_styles.specs.DefaultStyle.{default_style}
-use Rattle.sheet_grid.specs.declared.Content.{Content}
-use Rattle.sheet_grid.specs.declared.Content.TheVariants.{Empty, Number, Boolean, Error as ErrorValue, Text}
+use Rattle.formula_content.specs.declared.Content.{Content}
+use Rattle.formula_content.specs.declared.Content.TheVariants.{Empty, Number, Boolean, Error as ErrorValue, Text, Formula, Dynamic}
 use Rattle.sheet_grid.specs.declared.Cell.{Cell}
-use Rattle.sheet_grid.specs.KeptCell.{IsKeptContent, IsKeptCell}
+use Rattle.formula_content.specs.KeptContent.{IsKeptContent}
+use Rattle.formula_content.specs.Fitting.{is_shallow}
+use Rattle.formula_wire.specs.KeptLaws.{kept_from_carried}
+use Rattle.sheet_grid.specs.FittingCells.{is_shallow_entry}
+use Rattle.sheet_grid.specs.KeptCell.{IsKeptCell}
 use Rattle.sheet_history.specs.declared.Diff.{Diff}
 use Rattle.sheet_history.specs.declared.Diff.TheVariants.{Cell as CellDiff}
 use Rattle.sheet_history.specs.declared.QueueDiffs.{QueueDiffs}
@@ -63,6 +67,17 @@ kept_content_from_fits (Number number) fits = fits
 kept_content_from_fits (Boolean value) fits = tt
 kept_content_from_fits (ErrorValue error) fits = tt
 kept_content_from_fits (Text text) fits = tt
+kept_content_from_fits (Formula tree) fits = kept_from_carried tree fits.carried
+kept_content_from_fits (Dynamic tree) fits = kept_from_carried tree fits.carried
+
+pub shallow_content_from_fits : (content : Content) → FitsContent content → IsTrue (is_shallow content)
+shallow_content_from_fits Empty fits = refl
+shallow_content_from_fits (Number number) fits = refl
+shallow_content_from_fits (Boolean value) fits = refl
+shallow_content_from_fits (ErrorValue error) fits = refl
+shallow_content_from_fits (Text text) fits = refl
+shallow_content_from_fits (Formula tree) fits = fits.depth
+shallow_content_from_fits (Dynamic tree) fits = fits.depth
 
 pub kept_cell_from_fits : (cell : Cell) → FitsCell cell → IsKeptCell cell
 kept_cell_from_fits cell fits = kept_content_from_fits cell.content fits.content
@@ -71,8 +86,13 @@ kept_option : (entry : Option Cell) → IfSome entry FitsCell → IfSome entry I
 kept_option None fits = tt
 kept_option (Some cell) fits = kept_cell_from_fits cell fits
 
+shallow_option : (entry : Option Cell) → IfSome entry FitsCell → IsTrue (is_shallow_entry entry)
+shallow_option None fits = refl
+shallow_option (Some cell) fits = shallow_content_from_fits cell.content fits.content
+
 pub kept_diff_from_fits : (diff : Diff) → FitsDiff diff → IsKeptDiff diff
-kept_diff_from_fits (CellDiff sheet place old new) fits = (kept_option old fits.old, kept_option new fits.new)
+kept_diff_from_fits (CellDiff sheet place old new) fits =
+    (kept_option old fits.old, kept_option new fits.new, shallow_option old fits.old, shallow_option new fits.new)
 
 kept_diffs : (diffs : List Diff) → AllByRecursion FitsDiff diffs → AllByRecursion IsKeptDiff diffs
 kept_diffs [] fits = tt

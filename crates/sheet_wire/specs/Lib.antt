@@ -1,13 +1,8 @@
-pub mod Reading
-pub mod Spelling
 pub mod StyleBytes
 pub mod CellBytes
 pub mod QueueBytes
-pub mod Again
-pub mod Sixteen
 pub mod PartsAgain
 pub mod QueueLaws
 pub mod Fitting
-pub mod Spelled
 pub mod PartsSpelled
 pub mod Refusals

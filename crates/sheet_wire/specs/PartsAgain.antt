@@ -1,14 +1,7 @@
 -- What is spelled of styles, cells and diffs is read again.
 use Rattle.std.proofs.Common.{◌≡◌, ℕ, ◌+◌, ◌^◌, ◌<◌, ◌≤◌, ◌&&◌, Bool, true, false, List, ◌++◌, length, Option, Some, None, Ok, refl, arith}
-use Rattle.std.specs.Prelude.{IfSome, FitsSigned, unsigned_abs}
-use Rattle.std.proofs.lemmas.Bool.{leb-true, ltb-true}
-use Rattle.std.proofs.lemmas.Int.{fits_signed_from_abs}
-use Rattle.std.proofs.Math.Nat.{pow-le-pow_right}
-use Rattle.std.specs.Int.{w32, w128, to_be_bytes}
-use Rattle.base_decimal.specs.declared.Decimal.{Decimal}
-use Rattle.base_decimal.specs.Kept.{is_kept, IsKept}
-use Rattle.base_tables.specs.declared.Error.{Error}
-use Rattle.base_tables.specs.declared.Error.TheVariants.{Ref, Name, Value, DivisionByZero, NotAvailable, Number as NumberError, General, NotImplemented, Spill, Calc, Circular, Null}
+use Rattle.std.specs.Prelude.{IfSome}
+use Rattle.std.specs.Int.{w32, to_be_bytes}
 use Rattle.base_styles.specs.declared.ThemeColor.{ThemeColor}
 use Rattle.base_styles.specs.declared.ThemeColor.TheVariants.{Light1, Dark1, Light2, Dark2, Accent1, Accent2, Accent3, Accent4, Accent5, Accent6, Hyperlink, FollowedHyperlink}
 use Rattle.base_styles.specs.declared.Color.{Color}
@@ -19,27 +12,22 @@ use Rattle.base_styles.specs.declared.HorizontalAlignment.{HorizontalAlignment}
 use Rattle.base_styles.specs.declared.HorizontalAlignment.TheVariants as horizontal
 use Rattle.base_styles.specs.declared.VerticalAlignment.{VerticalAlignment}
 use Rattle.base_styles.specs.declared.VerticalAlignment.TheVariants as vertical
-use Rattle.sheet_grid.specs.declared.Content.{Content}
-use Rattle.sheet_grid.specs.declared.Content.TheVariants.{Empty, Number, Boolean, Error as ErrorValue, Text}
+use Rattle.formula_content.specs.declared.Content.{Content}
+use Rattle.formula_content.specs.declared.Content.TheVariants.{Empty, Number, Boolean, Error as ErrorValue, Text, Formula, Dynamic}
 use Rattle.sheet_history.specs.declared.Diff.{Diff}
 use Rattle.sheet_history.specs.declared.Diff.TheVariants.{Cell as CellDiff}
 use Rattle.sheet_history.specs.declared.DiffType.{DiffType}
 use Rattle.sheet_history.specs.declared.DiffType.TheVariants.{Undo, Redo}
-use Rattle.sheet_wire.specs.Reading.{Reader, map_at, number_at, ◌⊗◌, decoded}
-use Rattle.sheet_wire.specs.Spelling.{spell_code, boolean_code, booleans, spell_option, spell_list}
-use Rattle.sheet_wire.specs.StyleBytes.{theme_code, theme_colors, spell_color, color_at, FitsColor, spell_font, boolean_at, font_made, font_at, FitsFont, border_code, border_styles, spell_border_item, border_item_made, border_item_at, FitsBorderItem, spell_border, border_made, side_at, border_at, FitsBorder, horizontal_code, horizontals, vertical_code, verticals, spell_alignment, alignment_made, alignment_at, alignment_option_at, spell_style, style_made, style_at, FitsStyle}
-use Rattle.sheet_wire.specs.CellBytes.{spell_position, position_made, position_at, FitsPosition, spell_decimal, decimal_made, decimal_at, error_code, errors, spell_content, content_at, FitsContent, spell_cell, cell_made, cell_at, FitsCell}
+use Rattle.base_wire.specs.Reading.{Reader, map_at, number_at, ◌⊗◌, decoded}
+use Rattle.base_wire.specs.Spelling.{spell_option, spell_list}
+use Rattle.sheet_wire.specs.StyleBytes.{theme_code, theme_colors, spell_color, color_at, FitsColor, spell_font, font_made, font_at, FitsFont, border_code, border_styles, spell_border_item, border_item_made, border_item_at, FitsBorderItem, spell_border, border_made, side_at, border_at, FitsBorder, horizontal_code, horizontals, vertical_code, verticals, spell_alignment, alignment_made, alignment_at, alignment_option_at, spell_style, style_made, style_at, FitsStyle}
+use Rattle.sheet_wire.specs.CellBytes.{spell_position, position_made, position_at, FitsPosition, spell_content, content_at, FitsContent, spell_cell, cell_made, cell_at, FitsCell}
 use Rattle.sheet_wire.specs.QueueBytes.{spell_diff, cell_diff_made, entry_of_cell_at, cell_diff_at, diff_at, FitsDiff, FitsList, direction_code, directions, spell_entry, entry_made, list_of_diffs_at, entry_at, FitsEntry}
-use Rattle.sheet_wire.specs.Again.{ReadsAgain, Any, both_again, map_again, check_again, byte_again, code_again, wide32, wide128, number_again, signed_again, text_again, option_again, list_again}
+use Rattle.base_wire.specs.Again.{ReadsAgain, Any, both_again, map_again, code_again, wide32, number_again, signed_again, text_again, option_again, list_again}
+use Rattle.base_wire.specs.PartsLaws.{boolean_again, error_again, decimal_again}
+use Rattle.formula_wire.specs.NodeLaws.{node_again}
 
 -- ---- colours
-
-boolean_known : (x : Bool) → decoded boolean_code booleans (boolean_code x) ≡ Some x
-boolean_known false = refl
-boolean_known true = refl
-
-boolean_again : ReadsAgain Any (spell_code boolean_code) boolean_at
-boolean_again = code_again boolean_code booleans boolean_known
 
 theme_known : (x : ThemeColor) → decoded theme_code theme_colors (theme_code x) ≡ Some x
 theme_known Light1 = refl
@@ -162,46 +150,6 @@ position_again = record {
       position_made (λ place. (place.row, place.column)) (λ y. refl)).again x rest (fits.row, fits.column);
 }
 
-both_hold : (a b c : Bool) → a && b && c ≡ true → (a ≡ true) × (b ≡ true)
-both_hold true true c h = (refl, refl)
-both_hold true false c h = absurd cc
-both_hold false b c h = absurd cc
-
-kept_places : (d : Decimal) → IsKept d → d.places ≤ 15
-unfolding is_kept
-kept_places d kept = leb-true d.places 15 (both_hold _ _ _ kept).0
-
-kept_mantissa : (d : Decimal) → IsKept d → FitsSigned w128 d.mantissa
-unfolding is_kept
-kept_mantissa d kept =
-    let few : 15 + d.places ≤ 30 = omega (arith, kept_places d kept) in
-    let below : unsigned_abs d.mantissa < 10 ^ (15 + d.places) = ltb-true (unsigned_abs d.mantissa) (10 ^ (15 + d.places)) (both_hold _ _ _ kept).1 in
-    let most : 10 ^ (15 + d.places) ≤ 10 ^ 30 = pow-le-pow_right (omega arith) few in
-    let within : unsigned_abs d.mantissa < 2 ^ 127 = omega arith in
-    fits_signed_from_abs w128 d.mantissa within
-
-pub decimal_again : ReadsAgain IsKept spell_decimal decimal_at
-unfolding decimal_at spell_decimal
-decimal_again = record {
-  again = λ x rest fits.
-      (check_again (map_again (both_again (signed_again wide128) byte_again) decimal_made (λ d. (d.mantissa, d.places)) (λ y. refl)) is_kept).again x rest
-      ((kept_mantissa x fits, omega (arith, kept_places x fits)), fits);
-}
-
-error_known : (x : Error) → decoded error_code errors (error_code x) ≡ Some x
-error_known Ref = refl
-error_known Name = refl
-error_known Value = refl
-error_known DivisionByZero = refl
-error_known NotAvailable = refl
-error_known NumberError = refl
-error_known General = refl
-error_known NotImplemented = refl
-error_known Spill = refl
-error_known Calc = refl
-error_known Circular = refl
-error_known Null = refl
-
 pub content_again : ReadsAgain FitsContent spell_content content_at
 unfolding content_at
 content_again = record { again = one }
@@ -210,8 +158,10 @@ content_again = record { again = one }
     one Empty rest fits = refl
     one (Number number) rest fits = rw (decimal_again.again number rest fits) refl
     one (Boolean value) rest fits = rw (boolean_again.again value rest tt) refl
-    one (ErrorValue error) rest fits = rw (error_known error) refl
+    one (ErrorValue error) rest fits = rw (error_again.again error rest tt) refl
     one (Text text) rest fits = rw (text_again.again text rest fits) refl
+    one (Formula tree) rest fits = rw (node_again.again tree rest fits) refl
+    one (Dynamic tree) rest fits = rw (node_again.again tree rest fits) refl
 
 pub cell_again : ReadsAgain FitsCell spell_cell cell_at
 unfolding cell_at

@@ -1,23 +1,21 @@
 -- What is read of styles, cells and diffs was spelled so.
 use Rattle.std.proofs.Common.{refl}
 use Rattle.std.specs.Prelude.{IfSome}
-use Rattle.base_decimal.specs.Kept.{is_kept, IsKept}
 use Rattle.base_styles.specs.declared.Color.TheVariants.{None as NoColor, Theme}
-use Rattle.sheet_grid.specs.declared.Content.TheVariants.{Empty, Number, Boolean, Error as ErrorValue, Text}
-use Rattle.sheet_wire.specs.Spelling.{spell_code, boolean_code, booleans, spell_option, spell_list}
-use Rattle.sheet_wire.specs.StyleBytes.{theme_code, theme_colors, spell_color, color_at, FitsColor, spell_font, boolean_at, font_made, font_at, FitsFont, border_code, border_styles, spell_border_item, border_item_made, border_item_at, FitsBorderItem, spell_border, border_made, side_at, border_at, FitsBorder, horizontal_code, horizontals, vertical_code, verticals, spell_alignment, alignment_made, alignment_at, alignment_option_at, spell_style, style_made, style_at, FitsStyle}
-use Rattle.sheet_wire.specs.CellBytes.{spell_position, position_made, position_at, FitsPosition, spell_decimal, decimal_made, decimal_at, error_code, errors, spell_content, content_at, FitsContent, spell_cell, cell_made, cell_at, FitsCell}
+use Rattle.formula_content.specs.declared.Content.TheVariants.{Empty, Number, Boolean, Error as ErrorValue, Text, Formula, Dynamic}
+use Rattle.base_wire.specs.Spelling.{spell_option, spell_list}
+use Rattle.sheet_wire.specs.StyleBytes.{theme_code, theme_colors, spell_color, color_at, FitsColor, spell_font, font_made, font_at, FitsFont, border_code, border_styles, spell_border_item, border_item_made, border_item_at, FitsBorderItem, spell_border, border_made, side_at, border_at, FitsBorder, horizontal_code, horizontals, vertical_code, verticals, spell_alignment, alignment_made, alignment_at, alignment_option_at, spell_style, style_made, style_at, FitsStyle}
+use Rattle.sheet_wire.specs.CellBytes.{spell_position, position_made, position_at, FitsPosition, spell_content, content_at, FitsContent, spell_cell, cell_made, cell_at, FitsCell}
 use Rattle.sheet_wire.specs.QueueBytes.{spell_diff, cell_diff_made, entry_of_cell_at, cell_diff_at, diff_at, FitsDiff, FitsList, direction_code, directions, spell_entry, entry_made, list_of_diffs_at, entry_at, FitsEntry}
 use Rattle.sheet_wire.specs.StyleBytes.{rgb, color_of}
 use Rattle.sheet_wire.specs.CellBytes.{content_of}
 use Rattle.sheet_wire.specs.QueueBytes.{diff_of}
-use Rattle.sheet_wire.specs.Again.{Any}
-use Rattle.sheet_wire.specs.Spelled.{ReadsSpelled, both_spelled, map_spelled, fits_otherwise, check_spelled, byte_spelled, code_spelled, TagSpelled, tag_map, tag_plain, tag_refused, tag_if, tagged_spelled, option_spelled, back32, back128, number_spelled, signed_spelled, text_spelled, list_spelled}
+use Rattle.base_wire.specs.Again.{Any}
+use Rattle.base_wire.specs.Spelled.{ReadsSpelled, both_spelled, map_spelled, fits_otherwise, byte_spelled, code_spelled, TagSpelled, tag_map, tag_plain, tag_refused, tag_if, tagged_spelled, option_spelled, back32, number_spelled, signed_spelled, text_spelled, list_spelled}
+use Rattle.base_wire.specs.PartsLaws.{boolean_spelled, error_spelled, decimal_spelled}
+use Rattle.formula_wire.specs.NodeLaws.{node_spelled}
 
 -- ---- colours
-
-boolean_spelled : ReadsSpelled Any (spell_code boolean_code) boolean_at
-boolean_spelled = code_spelled boolean_code booleans
 
 color_spelled : ReadsSpelled FitsColor spell_color color_at
 unfolding color_at
@@ -86,12 +84,6 @@ position_spelled =
     fits_otherwise (λ x fits. record { row = fits.0; column = fits.1 })
     (map_spelled (both_spelled (signed_spelled back32) (signed_spelled back32)) position_made (λ place. (place.row, place.column)) (λ x. refl))
 
-pub decimal_spelled : ReadsSpelled IsKept spell_decimal decimal_at
-unfolding decimal_at spell_decimal
-decimal_spelled =
-    fits_otherwise (λ x fits. fits.1)
-    (check_spelled (map_spelled (both_spelled (signed_spelled back128) byte_spelled) decimal_made (λ d. (d.mantissa, d.places)) (λ x. refl)) is_kept)
-
 pub content_spelled : ReadsSpelled FitsContent spell_content content_at
 unfolding content_at
 content_spelled =
@@ -99,9 +91,11 @@ content_spelled =
     tag_if kind 0 (tag_plain FitsContent spell_content 0 Empty refl tt)
     (tag_if kind 1 (tag_map decimal_spelled Number FitsContent spell_content 1 (λ x. refl) (λ x fits. fits))
     (tag_if kind 2 (tag_map boolean_spelled Boolean FitsContent spell_content 2 (λ x. refl) (λ x fits. tt))
-    (tag_if kind 3 (tag_map (code_spelled error_code errors) ErrorValue FitsContent spell_content 3 (λ x. refl) (λ x fits. tt))
+    (tag_if kind 3 (tag_map error_spelled ErrorValue FitsContent spell_content 3 (λ x. refl) (λ x fits. tt))
     (tag_if kind 4 (tag_map text_spelled Text FitsContent spell_content 4 (λ x. refl) (λ x fits. fits))
-    (tag_refused FitsContent spell_content kind))))))
+    (tag_if kind 5 (tag_map node_spelled Formula FitsContent spell_content 5 (λ x. refl) (λ x fits. fits))
+    (tag_if kind 6 (tag_map node_spelled Dynamic FitsContent spell_content 6 (λ x. refl) (λ x fits. fits))
+    (tag_refused FitsContent spell_content kind))))))))
 
 pub cell_spelled : ReadsSpelled FitsCell spell_cell cell_at
 unfolding cell_at

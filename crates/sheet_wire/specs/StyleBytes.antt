@@ -16,8 +16,9 @@ use Rattle.base_styles.specs.declared.VerticalAlignment.TheVariants as vertical
 use Rattle.base_styles.specs.declared.Alignment.{Alignment}
 use Rattle.base_styles.specs.declared.Font.{Font}
 use Rattle.base_styles.specs.declared.Style.{Style}
-use Rattle.sheet_wire.specs.Reading.{Reader, plain, refused, map_at, ◌⊗◌, byte_at, tagged_at, code_at, signed_at, text_at, option_at}
-use Rattle.sheet_wire.specs.Spelling.{spell_signed, spell_code, boolean_code, booleans, spell_text, spell_option, FitsText}
+use Rattle.base_wire.specs.Reading.{Reader, plain, refused, map_at, ◌⊗◌, byte_at, tagged_at, code_at, signed_at, text_at, option_at}
+use Rattle.base_wire.specs.Spelling.{spell_signed, spell_code, boolean_code, spell_text, spell_option, FitsText}
+use Rattle.base_wire.specs.Parts.{boolean_at}
 
 -- ---- colours
 
@@ -73,9 +74,6 @@ abbrev pub spell_font : Font → List ℕ
 spell_font font =
     spell_code boolean_code font.b ++ (spell_code boolean_code font.i ++ (spell_code boolean_code font.u ++ (spell_code boolean_code font.strike
     ++ (spell_signed w32 font.sz ++ spell_color font.color))))
-
-abbrev pub boolean_at : Reader Bool
-boolean_at = code_at boolean_code booleans
 
 abbrev pub font_made : Bool × (Bool × (Bool × (Bool × (ℤ × Color)))) → Font
 font_made x = record { b = x.0; i = x.1.0; u = x.1.1.0; strike = x.1.1.1.0; sz = x.1.1.1.1.0; color = x.1.1.1.1.1 }

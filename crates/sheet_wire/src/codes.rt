@@ -3,35 +3,13 @@
 ghost use Rattle.std.specs.Prelude.{◌≡◌};
 ghost use Rattle.base_values.specs.Answers.{ok_or};
 ghost use Rattle.base_values.specs.declared.EditError.TheVariants.{ParseDiffs};
-ghost use Rattle.sheet_wire.specs.Reading.{decoded};
-ghost use Rattle.sheet_wire.specs.Spelling.{boolean_code, booleans};
+ghost use Rattle.base_wire.specs.Reading.{decoded};
 ghost use Rattle.sheet_wire.specs.StyleBytes.{border_code, border_styles, horizontal_code, horizontals, theme_code, theme_colors, vertical_code, verticals};
-ghost use Rattle.sheet_wire.specs.CellBytes.{error_code, errors};
 ghost use Rattle.sheet_wire.specs.QueueBytes.{direction_code, directions};
 
 use base_styles::{BorderStyle, HorizontalAlignment, ThemeColor, VerticalAlignment};
-use base_tables::Error;
 use base_values::EditError;
 use sheet_history::DiffType;
-
-pub(crate) fn boolean_code(value: bool) -> u8
-    ensures { result ≡ boolean_code value }
-{
-    match value {
-        false => 0,
-        true => 1,
-    }
-}
-
-pub(crate) fn boolean_of(code: u8) -> Result<bool, EditError>
-    ensures { result ≡ ok_or ParseDiffs (decoded boolean_code booleans code) }
-{
-    match code {
-        0 => Ok(false),
-        1 => Ok(true),
-        _ => Err(EditError::ParseDiffs),
-    }
-}
 
 pub(crate) fn theme_code(theme: ThemeColor) -> u8
     ensures { result ≡ theme_code theme }
@@ -157,45 +135,6 @@ pub(crate) fn vertical_of(code: u8) -> Result<VerticalAlignment, EditError>
         2 => Ok(VerticalAlignment::Distributed),
         3 => Ok(VerticalAlignment::Justify),
         4 => Ok(VerticalAlignment::Top),
-        _ => Err(EditError::ParseDiffs),
-    }
-}
-
-pub(crate) fn error_code(error: Error) -> u8
-    ensures { result ≡ error_code error }
-{
-    match error {
-        Error::Ref => 0,
-        Error::Name => 1,
-        Error::Value => 2,
-        Error::DivisionByZero => 3,
-        Error::NotAvailable => 4,
-        Error::Number => 5,
-        Error::General => 6,
-        Error::NotImplemented => 7,
-        Error::Spill => 8,
-        Error::Calc => 9,
-        Error::Circular => 10,
-        Error::Null => 11,
-    }
-}
-
-pub(crate) fn error_of(code: u8) -> Result<Error, EditError>
-    ensures { result ≡ ok_or ParseDiffs (decoded error_code errors code) }
-{
-    match code {
-        0 => Ok(Error::Ref),
-        1 => Ok(Error::Name),
-        2 => Ok(Error::Value),
-        3 => Ok(Error::DivisionByZero),
-        4 => Ok(Error::NotAvailable),
-        5 => Ok(Error::Number),
-        6 => Ok(Error::General),
-        7 => Ok(Error::NotImplemented),
-        8 => Ok(Error::Spill),
-        9 => Ok(Error::Calc),
-        10 => Ok(Error::Circular),
-        11 => Ok(Error::Null),
         _ => Err(EditError::ParseDiffs),
     }
 }

@@ -3,15 +3,15 @@
 ghost use Rattle.std.specs.Prelude.{◌≡◌, ◌≢◌, IfErr, IfOk, List};
 ghost use Rattle.base_values.specs.Answers.{Answers, map_ok};
 ghost use Rattle.base_values.specs.declared.EditError.TheVariants.{NoMemory, ParseDiffs};
-ghost use Rattle.sheet_wire.specs.Reading.{code_at, count_at, many_at, rest_after};
+ghost use Rattle.base_wire.specs.Reading.{code_at, many_at, rest_after};
 ghost use Rattle.sheet_wire.specs.QueueBytes.{cell_diff_at, diff_at, direction_code, directions, entry_at, entry_of_cell_at, list_of_diffs_at, magic, queue_of, spell_queue, FitsQueue};
 ghost use Rattle.sheet_wire.specs.QueueLaws.{IsNoQueue};
 ghost use Rattle.sheet_history.specs.declared.QueueDiffs.{QueueDiffs};
 
 use crate::codes::direction_of;
-use crate::reading::{byte_at, u32_at, u64_at};
 use crate::reading_cells::{cell_at, position_at};
 use base_values::{EditError, Items};
+use base_wire::{byte_at, count_at, u32_at};
 use sheet_grid::Cell;
 use sheet_history::{Diff, DiffList, DiffType, QueueDiffs};
 use std::alloc::Global;
@@ -79,17 +79,6 @@ fn diffs_of(alloc: Global, count: u64, bytes: &[u8]) -> Result<(Vec<Diff>, &[u8]
         rest = after;
     }
     Ok((diffs, rest))
-}
-
-/// A count of items that the bytes after it can hold.
-fn count_at(bytes: &[u8]) -> Result<(u64, &[u8]), EditError>
-    ensures { Answers (map_ok (λ x. (x.0, x.1.now)) result) (count_at bytes.now) }
-{
-    let (count, rest) = u64_at(bytes)?;
-    if (rest.len() as u64) < count {
-        return Err(EditError::ParseDiffs);
-    }
-    Ok((count, rest))
 }
 
 #[tactic(auto, unfolding(crate::specs::QueueBytes::list_of_diffs_at))]

@@ -2,7 +2,7 @@
 
 ghost use Rattle.std.specs.Prelude.{◌≡◌, ◌++◌, OnOk, IfOk, IsOkUnless};
 ghost use Rattle.base_values.specs.declared.EditError.TheVariants.{NoMemory};
-ghost use Rattle.sheet_wire.specs.Spelling.{spell_option};
+ghost use Rattle.base_wire.specs.Spelling.{spell_option};
 ghost use Rattle.sheet_wire.specs.StyleBytes.{spell_style};
 ghost use Rattle.sheet_wire.specs.CellBytes.{spell_cell};
 ghost use Rattle.sheet_wire.specs.QueueBytes.{spell_diff, spell_entry, spell_queue};

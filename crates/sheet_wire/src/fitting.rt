@@ -1,8 +1,11 @@
 //! What bytes can carry. Values of Rust's own types fit, given that their numbers are kept.
 
-ghost use Rattle.std.specs.Prelude.{IfSome};
-ghost use Rattle.sheet_grid.specs.KeptCell.{IsKeptCell, IsKeptContent};
-ghost use Rattle.sheet_wire.specs.Spelling.{FitsText};
+ghost use Rattle.std.specs.Prelude.{IfSome, IsTrue};
+ghost use Rattle.formula_content.specs.Fitting.{is_shallow};
+ghost use Rattle.formula_content.specs.KeptContent.{IsKeptContent};
+ghost use Rattle.sheet_grid.specs.FittingCells.{is_shallow_entry};
+ghost use Rattle.sheet_grid.specs.KeptCell.{IsKeptCell};
+ghost use Rattle.base_wire.specs.Spelling.{FitsText};
 ghost use Rattle.sheet_wire.specs.StyleBytes.{FitsBorderItem, FitsColor, FitsStyle};
 ghost use Rattle.sheet_wire.specs.CellBytes.{FitsCell, FitsContent, FitsPosition};
 ghost use Rattle.sheet_wire.specs.QueueBytes.{FitsDiff};
@@ -10,6 +13,7 @@ ghost use Rattle.sheet_history.specs.Diffs.{IsKeptDiff};
 
 use base_styles::{BorderItem, Color, Style};
 use base_values::{Position, Text};
+use formula_wire::node_fits;
 use sheet_grid::{Cell, Content};
 use sheet_history::Diff;
 
@@ -54,19 +58,26 @@ pub fn style_fits(style: &Style)
     let _size = style.font.sz;
 }
 
-/// A content whose number is as a sheet keeps it can be spelled.
+/// A content whose numbers are as a sheet keeps them, and that is no formula deeper than 64, can be
+/// spelled.
 pub fn content_fits(content: &Content)
-    requires { IsKeptContent content.now }
+    requires kept { IsKeptContent content.now }
+    requires shallow { IsTrue (is_shallow content.now) }
     ensures { FitsContent content.now }
 {
-    if let Content::Text(text) = content {
-        text_fits(text);
+    match content {
+        Content::Empty | Content::Number(_) | Content::Boolean(_) | Content::Error(_) => {}
+        Content::Text(text) => text_fits(text),
+        Content::Formula(tree) => node_fits(tree),
+        Content::Dynamic(tree) => node_fits(tree),
     }
 }
 
-/// A cell whose number is as a sheet keeps it can be spelled.
+/// A cell whose numbers are as a sheet keeps them, and that holds no formula deeper than 64, can be
+/// spelled.
 pub fn cell_fits(cell: &Cell)
-    requires { IsKeptCell cell.now }
+    requires kept { IsKeptCell cell.now }
+    requires shallow { IsTrue (is_shallow cell.now.content) }
     ensures { FitsCell cell.now }
 {
     content_fits(&cell.content);
@@ -74,7 +85,8 @@ pub fn cell_fits(cell: &Cell)
 }
 
 fn entry_fits(entry: &Option<Cell>)
-    requires { IfSome entry.now IsKeptCell }
+    requires kept { IfSome entry.now IsKeptCell }
+    requires shallow { IsTrue (is_shallow_entry entry.now) }
     ensures { IfSome entry.now FitsCell }
 {
     if let Some(cell) = entry {
@@ -82,7 +94,7 @@ fn entry_fits(entry: &Option<Cell>)
     }
 }
 
-/// A diff whose cells have numbers as a sheet keeps them can be spelled.
+/// A diff whose cells have numbers as a sheet keeps them, and no formula deeper than 64, can be spelled.
 pub fn diff_fits(diff: &Diff)
     requires { IsKeptDiff diff.now }
     ensures { FitsDiff diff.now }

@@ -10,7 +10,6 @@ mod codes;
 mod decode;
 mod encode;
 mod fitting;
-mod reading;
 mod reading_cells;
 mod reading_styles;
 mod writing;

@@ -1,15 +1,12 @@
 //! Reading positions and cells from the front of bytes.
 
 ghost use Rattle.base_values.specs.Answers.{Answers, map_ok};
-ghost use Rattle.sheet_wire.specs.Reading.{code_at};
-ghost use Rattle.sheet_wire.specs.CellBytes.{cell_at, content_at, decimal_at, error_code, errors, position_at};
+ghost use Rattle.sheet_wire.specs.CellBytes.{cell_at, content_at, position_at};
 
-use crate::codes::error_of;
-use crate::reading::{boolean_at, byte_at, i32_at, i128_at, text_at};
 use crate::reading_styles::style_at;
-use base_decimal::Decimal;
-use base_tables::Error;
 use base_values::{EditError, Position};
+use base_wire::{boolean_at, byte_at, decimal_at, error_at, i32_at, text_at};
+use formula_wire::node_at;
 use sheet_grid::{Cell, Content};
 use std::alloc::Global;
 
@@ -20,27 +17,6 @@ pub(crate) fn position_at(bytes: &[u8]) -> Result<(Position, &[u8]), EditError>
     let (row, rest) = i32_at(bytes)?;
     let (column, rest) = i32_at(rest)?;
     Ok((Position { row, column }, rest))
-}
-
-#[tactic(auto, unfolding(crate::specs::CellBytes::decimal_at))]
-fn decimal_at(bytes: &[u8]) -> Result<(Decimal, &[u8]), EditError>
-    ensures { Answers (map_ok (λ x. (x.0, x.1.now)) result) (decimal_at bytes.now) }
-{
-    let (mantissa, rest) = i128_at(bytes)?;
-    let (places, rest) = byte_at(rest)?;
-    let number = Decimal { mantissa, places };
-    if !number.is_kept() {
-        return Err(EditError::ParseDiffs);
-    }
-    Ok((number, rest))
-}
-
-fn error_at(bytes: &[u8]) -> Result<(Error, &[u8]), EditError>
-    ensures { Answers (map_ok (λ x. (x.0, x.1.now)) result) (code_at error_code errors bytes.now) }
-{
-    let (code, rest) = byte_at(bytes)?;
-    let error = error_of(code)?;
-    Ok((error, rest))
 }
 
 #[tactic(auto, unfolding(crate::specs::CellBytes::content_at))]
@@ -65,6 +41,14 @@ fn content_at(alloc: Global, bytes: &[u8]) -> Result<(Content, &[u8]), EditError
         4 => {
             let (text, rest) = text_at(alloc, rest)?;
             Ok((Content::Text(text), rest))
+        }
+        5 => {
+            let (tree, rest) = node_at(alloc, rest)?;
+            Ok((Content::Formula(tree), rest))
+        }
+        6 => {
+            let (tree, rest) = node_at(alloc, rest)?;
+            Ok((Content::Dynamic(tree), rest))
         }
         _ => Err(EditError::ParseDiffs),
     }

@@ -1,16 +1,16 @@
 //! Reading styles from the front of bytes.
 
 ghost use Rattle.base_values.specs.Answers.{Answers, map_ok};
-ghost use Rattle.sheet_wire.specs.Reading.{code_at};
+ghost use Rattle.base_wire.specs.Reading.{code_at};
 ghost use Rattle.sheet_wire.specs.StyleBytes.{alignment_at, alignment_option_at, border_at, border_code, border_item_at, border_styles, color_at, font_at, horizontal_code, horizontals, side_at, style_at, theme_code, theme_colors, vertical_code, verticals};
 
 use crate::codes::{border_style_of, horizontal_of, theme_of, vertical_of};
-use crate::reading::{boolean_at, byte_at, i32_at, text_at};
 use base_styles::{
     Alignment, Border, BorderItem, BorderStyle, Color, Font, HorizontalAlignment, Style,
     ThemeColor, VerticalAlignment,
 };
 use base_values::EditError;
+use base_wire::{boolean_at, byte_at, i32_at, text_at};
 use std::alloc::Global;
 
 fn theme_at(bytes: &[u8]) -> Result<(ThemeColor, &[u8]), EditError>

@@ -1,26 +1,17 @@
 //! Writing styles and cells at the end of bytes.
 
 ghost use Rattle.std.specs.Prelude.{◌≡◌, ◌++◌, OnOk};
-ghost use Rattle.sheet_wire.specs.Spelling.{spell_option, spell_text};
+ghost use Rattle.base_wire.specs.Spelling.{spell_option};
 ghost use Rattle.sheet_wire.specs.StyleBytes.{spell_alignment, spell_border, spell_border_item, spell_color, spell_font, spell_style};
-ghost use Rattle.sheet_wire.specs.CellBytes.{spell_cell, spell_content, spell_decimal, spell_position};
+ghost use Rattle.sheet_wire.specs.CellBytes.{spell_cell, spell_content, spell_position};
 
-use crate::codes::{
-    boolean_code, border_code, error_code, horizontal_code, theme_code, vertical_code,
-};
-use base_decimal::Decimal;
+use crate::codes::{border_code, horizontal_code, theme_code, vertical_code};
 use base_styles::{Alignment, Border, BorderItem, Color, Font, Style};
-use base_values::{Position, Text};
+use base_values::Position;
+use base_wire::{boolean_code, push_decimal, push_text};
+use formula_wire::push_node;
 use sheet_grid::{Cell, Content};
 use std::alloc::AllocError;
-
-fn put_text(out: &mut Vec<u8>, text: &Text) -> Result<(), AllocError>
-    ensures { OnOk result (out.new.items ≡ out.old.items ++ spell_text text.now) }
-{
-    let bytes = text.as_str().as_bytes();
-    out.extend_from_slice(&(bytes.len() as u64).to_be_bytes())?;
-    out.extend_from_slice(bytes)
-}
 
 fn put_color(out: &mut Vec<u8>, color: Color) -> Result<(), AllocError>
     ensures { OnOk result (out.new.items ≡ out.old.items ++ spell_color color) }
@@ -88,7 +79,7 @@ pub(crate) fn put_style(out: &mut Vec<u8>, style: &Style) -> Result<(), AllocErr
     put_font(out, style.font)?;
     put_color(out, style.fill)?;
     put_border(out, style.border)?;
-    put_text(out, &style.num_fmt)?;
+    push_text(out, &style.num_fmt)?;
     put_alignment(out, style.alignment)
 }
 
@@ -100,15 +91,6 @@ pub(crate) fn put_position(out: &mut Vec<u8>, place: Position) -> Result<(), All
     out.extend_from_slice(&place.column.to_be_bytes())
 }
 
-#[tactic(auto, unfolding(crate::specs::CellBytes::spell_decimal))]
-fn put_decimal(out: &mut Vec<u8>, number: Decimal) -> Result<(), AllocError>
-    ensures { OnOk result (out.new.items ≡ out.old.items ++ spell_decimal number) }
-{
-    out.extend_from_slice(&number.mantissa.to_be_bytes())?;
-    out.push(number.places)?;
-    Ok(())
-}
-
 fn put_content(out: &mut Vec<u8>, content: &Content) -> Result<(), AllocError>
     ensures { OnOk result (out.new.items ≡ out.old.items ++ spell_content content.now) }
 {
@@ -116,7 +98,7 @@ fn put_content(out: &mut Vec<u8>, content: &Content) -> Result<(), AllocError>
         Content::Empty => out.push(0)?,
         Content::Number(number) => {
             out.push(1)?;
-            put_decimal(out, *number)?;
+            push_decimal(out, *number)?;
         }
         Content::Boolean(value) => {
             out.push(2)?;
@@ -124,11 +106,19 @@ fn put_content(out: &mut Vec<u8>, content: &Content) -> Result<(), AllocError>
         }
         Content::Error(error) => {
             out.push(3)?;
-            out.push(error_code(*error))?;
+            out.push(error.code())?;
         }
         Content::Text(text) => {
             out.push(4)?;
-            put_text(out, text)?;
+            push_text(out, text)?;
+        }
+        Content::Formula(tree) => {
+            out.push(5)?;
+            push_node(out, tree)?;
+        }
+        Content::Dynamic(tree) => {
+            out.push(6)?;
+            push_node(out, tree)?;
         }
     }
     Ok(())

@@ -1,0 +1,10 @@
+pub mod Reading
+pub mod Spelling
+pub mod Parts
+pub mod Again
+pub mod Sixteen
+pub mod Spelled
+pub mod Refusals
+pub mod PartsLaws
+pub mod Form
+pub mod Many

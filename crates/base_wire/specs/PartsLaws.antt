@@ -1,0 +1,97 @@
+-- The laws of the bytes of booleans, error values and decimals.
+use Rattle.std.proofs.Common.{◌≡◌, ◌+◌, ◌^◌, ◌<◌, ◌≤◌, ◌&&◌, Bool, true, false, Some, refl, arith}
+use Rattle.std.specs.Prelude.{FitsSigned, unsigned_abs}
+use Rattle.std.specs.Int.{w128}
+use Rattle.std.proofs.lemmas.Bool.{leb-true, ltb-true}
+use Rattle.std.proofs.lemmas.Int.{fits_signed_from_abs}
+use Rattle.std.proofs.Math.Nat.{pow-le-pow_right}
+use Rattle.base_tables.specs.declared.Error.{Error}
+use Rattle.base_tables.specs.declared.Error.TheVariants.{Ref, Name, Value, DivisionByZero, NotAvailable, Number, General, NotImplemented, Spill, Calc, Circular, Null}
+use Rattle.base_tables.specs.Error.{all_errors, error_code, error_of_code}
+use Rattle.base_tables.specs.Tables.{found_number}
+use Rattle.base_decimal.specs.declared.Decimal.{Decimal}
+use Rattle.base_decimal.specs.Kept.{is_kept, IsKept}
+use Rattle.base_wire.specs.Reading.{decoded}
+use Rattle.base_wire.specs.Spelling.{spell_code, boolean_code, booleans}
+use Rattle.base_wire.specs.Parts.{boolean_at, error_at, spell_decimal, decimal_made, decimal_at}
+use Rattle.base_wire.specs.Again.{ReadsAgain, Any, both_again, map_again, check_again, byte_again, coded_again, code_again, wide128, signed_again}
+use Rattle.base_wire.specs.Spelled.{ReadsSpelled, both_spelled, map_spelled, fits_otherwise, check_spelled, byte_spelled, coded_spelled, code_spelled, back128, signed_spelled}
+use Rattle.base_wire.specs.Refusals.{IsPlain, both_plain, map_plain, check_plain, byte_plain, coded_plain, code_plain, signed_plain}
+
+-- ---- booleans
+
+boolean_known : (x : Bool) → decoded boolean_code booleans (boolean_code x) ≡ Some x
+boolean_known false = refl
+boolean_known true = refl
+
+pub boolean_again : ReadsAgain Any (spell_code boolean_code) boolean_at
+boolean_again = code_again boolean_code booleans boolean_known
+
+pub boolean_spelled : ReadsSpelled Any (spell_code boolean_code) boolean_at
+boolean_spelled = code_spelled boolean_code booleans
+
+pub boolean_plain : IsPlain boolean_at
+boolean_plain = code_plain boolean_code booleans
+
+-- ---- error values
+
+error_known : (x : Error) → error_of_code (error_code x) ≡ Some x
+error_known Ref = refl
+error_known Name = refl
+error_known Value = refl
+error_known DivisionByZero = refl
+error_known NotAvailable = refl
+error_known Number = refl
+error_known General = refl
+error_known NotImplemented = refl
+error_known Spill = refl
+error_known Calc = refl
+error_known Circular = refl
+error_known Null = refl
+
+pub error_again : ReadsAgain Any (spell_code error_code) error_at
+error_again = coded_again error_code error_of_code error_known
+
+pub error_spelled : ReadsSpelled Any (spell_code error_code) error_at
+error_spelled = coded_spelled error_code error_of_code (found_number error_code all_errors refl)
+
+pub error_plain : IsPlain error_at
+error_plain = coded_plain error_of_code
+
+-- ---- decimals
+
+both_hold : (a b c : Bool) → a && b && c ≡ true → (a ≡ true) × (b ≡ true)
+both_hold true true c h = (refl, refl)
+both_hold true false c h = absurd cc
+both_hold false b c h = absurd cc
+
+kept_places : (d : Decimal) → IsKept d → d.places ≤ 15
+unfolding is_kept
+kept_places d kept = leb-true d.places 15 (both_hold _ _ _ kept).0
+
+kept_mantissa : (d : Decimal) → IsKept d → FitsSigned w128 d.mantissa
+unfolding is_kept
+kept_mantissa d kept =
+    let few : 15 + d.places ≤ 30 = omega (arith, kept_places d kept) in
+    let below : unsigned_abs d.mantissa < 10 ^ (15 + d.places) = ltb-true (unsigned_abs d.mantissa) (10 ^ (15 + d.places)) (both_hold _ _ _ kept).1 in
+    let most : 10 ^ (15 + d.places) ≤ 10 ^ 30 = pow-le-pow_right (omega arith) few in
+    let within : unsigned_abs d.mantissa < 2 ^ 127 = omega arith in
+    fits_signed_from_abs w128 d.mantissa within
+
+pub decimal_again : ReadsAgain IsKept spell_decimal decimal_at
+unfolding decimal_at spell_decimal
+decimal_again = record {
+  again = λ x rest fits.
+      (check_again (map_again (both_again (signed_again wide128) byte_again) decimal_made (λ d. (d.mantissa, d.places)) (λ y. refl)) is_kept).again x rest
+      ((kept_mantissa x fits, omega (arith, kept_places x fits)), fits);
+}
+
+pub decimal_spelled : ReadsSpelled IsKept spell_decimal decimal_at
+unfolding decimal_at spell_decimal
+decimal_spelled =
+    fits_otherwise (λ x fits. fits.1)
+    (check_spelled (map_spelled (both_spelled (signed_spelled back128) byte_spelled) decimal_made (λ d. (d.mantissa, d.places)) (λ x. refl)) is_kept)
+
+pub decimal_plain : IsPlain decimal_at
+unfolding decimal_at
+decimal_plain = check_plain is_kept (map_plain decimal_made (both_plain (signed_plain w128) byte_plain))

@@ -1,0 +1,4 @@
+pub mod ContentEquals
+pub mod Fitting
+pub mod FittingLaws
+pub mod KeptContent

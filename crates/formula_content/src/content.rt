@@ -1,0 +1,27 @@
+use base_decimal::Decimal;
+use base_tables::Error;
+use base_values::{Exact, Text};
+use formula_tree::Node;
+
+/// What a cell holds.
+#[derive(Clone, PartialEq, Eq, Drop)]
+pub enum Content {
+    Empty,
+    Number(Decimal),
+    Boolean(bool),
+    Error(Error),
+    Text(Text),
+    /// A formula.
+    Formula(Node),
+    /// A formula whose value may spill over the cells around.
+    Dynamic(Node),
+}
+
+impl Exact for Content {
+    ghost use Rattle.std.proofs.Common.{rules};
+    ghost use Rattle.formula_content.specs.ContentEquals.{content_equals};
+
+    ghost copies = { λ a b h. Prim.search rules };
+
+    ghost equals = { content_equals };
+}

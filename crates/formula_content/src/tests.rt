@@ -1,0 +1,71 @@
+// Which formulas fit a place, at the borders of each rule.
+use crate::{Content, fits_at};
+use base_decimal::Decimal;
+use base_values::{Boxed, Position};
+use formula_tree::{Corner, Node, UnaryKind};
+use std::alloc::{AllocError, Global};
+use std::test::Fail;
+
+const C3: Position = Position { row: 3, column: 3 };
+
+fn number(mantissa: i128) -> Node {
+    let places = 0;
+    Node::Number(Decimal { mantissa, places })
+}
+
+fn relative(row: i32, column: i32) -> Corner {
+    Corner {
+        absolute_row: false,
+        row,
+        absolute_column: false,
+        column,
+    }
+}
+
+fn minus(alloc: Global, child: Node) -> Result<Node, AllocError> {
+    Ok(Node::Unary(UnaryKind::Minus, Boxed::new(alloc, child)?))
+}
+
+/// So many minus signs before a number.
+fn minus_signs(alloc: Global, count: u64) -> Result<Node, AllocError> {
+    let mut node = number(1);
+    for _ in 0..count {
+        node = minus(alloc, node)?;
+    }
+    Ok(node)
+}
+
+fn reference_fits(corner: Corner) -> bool {
+    fits_at(C3, &Content::Dynamic(Node::Reference(None, corner)))
+}
+
+fn range_fits(first: Corner, second: Corner) -> bool {
+    fits_at(C3, &Content::Dynamic(Node::Range(None, first, second)))
+}
+
+fn number_fits(mantissa: i128) -> bool {
+    fits_at(C3, &Content::Formula(number(mantissa)))
+}
+
+#[test]
+fn corners_and_numbers(rt: HostRuntime) {
+    // in C3, A1 and the column before A, the last row and the one after it
+    assert!(rt; reference_fits(relative(-2, -2)));
+    assert!(rt; !reference_fits(relative(0, -3)));
+    assert!(rt; reference_fits(relative(1_048_573, 0)));
+    assert!(rt; !reference_fits(relative(1_048_574, 0)));
+    assert!(rt; range_fits(relative(0, 0), relative(1, 1)));
+    assert!(rt; !range_fits(relative(0, 1), relative(1, 0)));
+    assert!(rt; number_fits(0));
+    assert!(rt; !number_fits(-1));
+}
+
+#[test]
+fn depth(rt: HostRuntime) -> Result<(), Fail> {
+    let alloc = rt.alloc();
+    let deepest = Content::Formula(minus_signs(alloc, 63)?);
+    assert!(rt; fits_at(C3, &deepest));
+    let deeper = Content::Formula(minus_signs(alloc, 64)?);
+    assert!(rt; !fits_at(C3, &deeper));
+    Ok(())
+}

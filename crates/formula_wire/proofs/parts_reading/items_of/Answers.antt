@@ -1,0 +1,19 @@
+use Rattle.std.proofs.lemmas.Result.{err_from_is_err_and}
+use Rattle.formula_wire.specs.PartBytes.{item_at}
+use Rattle.base_wire.specs.Many.{goes_on, ends, is_done}
+use Rattle.formula_wire.proofs.parts_reading.items_of.Goals as goal
+
+pub returns-in_err-item : goal.returns-in_err-item
+returns-in_err-item c =
+    let p = err_from_is_err_and c.from_residual.result c.from_residual.ensures.1 in
+    rw (p.1, p.2) (record {
+      done = tt;
+      refused = λ other. ends item_at c.reads.items.items c.args.count c.reads.counter c.reads.rest.now _ c.reads.invariant c.in_err-item.field-0.0 c.reads-test.true (c.in_err-item.ensures.refused other);
+    })
+
+pub reads-preserved : goal.reads-preserved
+reads-preserved c =
+    rw c.in_ok-push.ensures.items (goes_on item_at c.reads.items.items c.args.count c.reads.counter c.reads.rest.now _ c.reads.invariant c.in_ok-item.item c.in_ok-item.after.now c.reads-test.true c.in_ok-item.ensures.done)
+
+pub returns : goal.returns
+returns c = record { done = is_done item_at c.reads.items.items c.args.count c.reads.counter c.reads.rest.now _ c.reads.invariant c.reads-test.false; refused = tt }

@@ -7,8 +7,8 @@ use Rattle.base_values.specs.ErrorNames.{name_of}
 use Rattle.base_tables.specs.declared.Language.TheVariants.{En as English}
 use Rattle.base_tables.specs.declared.Locale.TheVariants.{En}
 use Rattle.sheet_grid.specs.declared.Cell.{Cell}
-use Rattle.sheet_grid.specs.declared.Content.{Content}
-use Rattle.sheet_grid.specs.declared.Content.TheVariants.{Empty}
+use Rattle.formula_content.specs.declared.Content.{Content}
+use Rattle.formula_content.specs.declared.Content.TheVariants.{Empty}
 use Rattle.sheet_grid.specs.Sheet.{cell_at}
 use Rattle.sheet_grid.specs.Book.{Book, sheet_at}
 use Rattle.script_lines.specs.Parts.{parts_at, without_return}

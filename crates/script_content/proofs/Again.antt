@@ -17,7 +17,7 @@ use Rattle.base_decimal.specs.Digits.{is_digit}
 use Rattle.base_decimal.specs.Numeral.{decimal_of, numeral_at, value_at, whole_value}
 use Rattle.base_decimal.specs.Printed.{printed}
 use Rattle.base_decimal.proofs.Marks.{prints_back}
-use Rattle.sheet_grid.specs.declared.Content.TheVariants.{Empty, Number, Boolean, Error as ErrorContent, Text}
+use Rattle.formula_content.specs.declared.Content.TheVariants.{Empty, Number, Boolean, Error as ErrorContent, Text}
 use Rattle.script_content.proofs.Texts.{is_text-true}
 use Rattle.script_content.specs.Inputs.{value_of_text, input_of, reads_as_text, begins_with, marked_text, IsReadAgain}
 

@@ -12,8 +12,8 @@ use Rattle.base_tables.specs.Locale.{decimal_sign}
 use Rattle.base_tables.specs.Tables.{same_text}
 use Rattle.base_decimal.specs.declared.Decimal.{Decimal}
 use Rattle.base_decimal.specs.Numeral.{decimal_of}
-use Rattle.sheet_grid.specs.declared.Content.{Content}
-use Rattle.sheet_grid.specs.declared.Content.TheVariants.{Empty, Number, Boolean, Error as ErrorContent, Text}
+use Rattle.formula_content.specs.declared.Content.{Content}
+use Rattle.formula_content.specs.declared.Content.TheVariants.{Empty, Number, Boolean, Error as ErrorContent, Text}
 use Rattle.script_content.specs.Inputs.{value_of_text, is_text, reads_as_text, begins_with}
 
 pub is_text-true : (text : List ℕ) (content : Content) → is_text text content ≡ true → content ≡ Text text

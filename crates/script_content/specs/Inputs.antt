@@ -9,9 +9,9 @@ use Rattle.base_tables.specs.Locale.{decimal_sign}
 use Rattle.base_tables.specs.Tables.{same_text}
 use Rattle.base_decimal.specs.Numeral.{decimal_of}
 use Rattle.base_decimal.specs.Printed.{printed}
-use Rattle.sheet_grid.specs.declared.Content.{Content}
-use Rattle.sheet_grid.specs.declared.Content.TheVariants.{Empty, Number, Boolean, Error, Text}
-use Rattle.sheet_grid.specs.KeptCell.{IsKeptContent}
+use Rattle.formula_content.specs.declared.Content.{Content}
+use Rattle.formula_content.specs.declared.Content.TheVariants.{Empty, Number, Boolean, Error, Text}
+use Rattle.formula_content.specs.KeptContent.{IsKeptContent}
 
 -- ---- reading
 

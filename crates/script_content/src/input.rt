@@ -1,7 +1,7 @@
 ghost use Rattle.std.specs.Prelude.{◌≡◌, IfOk, IfSome, IsOkUnless};
 ghost use Rattle.base_values.specs.declared.error.EditError.TheVariants.{NoMemory};
-ghost use Rattle.sheet_grid.specs.KeptCell.{IsKeptContent};
-ghost use Rattle.sheet_grid.specs.declared.Content.TheVariants.{Text as TextContent};
+ghost use Rattle.formula_content.specs.KeptContent.{IsKeptContent};
+ghost use Rattle.formula_content.specs.declared.Content.TheVariants.{Text as TextContent};
 ghost use Rattle.script_content.specs.Inputs.{value_of_text, input_of};
 
 use base_decimal::Decimal;

@@ -16,8 +16,8 @@ use Rattle.base_styles.specs.DefaultStyle.{default_style}
 use Rattle.sheet_grid.specs.Book.{Book}
 use Rattle.sheet_grid.specs.Sheet.{Sheet}
 use Rattle.sheet_grid.specs.declared.Cell.{Cell}
-use Rattle.sheet_grid.specs.declared.Content.{Content}
-use Rattle.sheet_grid.specs.declared.Content.TheVariants.{Empty}
+use Rattle.formula_content.specs.declared.Content.{Content}
+use Rattle.formula_content.specs.declared.Content.TheVariants.{Empty}
 use Rattle.sheet_grid.specs.declared.SheetState.{SheetState}
 use Rattle.sheet_grid.specs.declared.SheetState.TheVariants.{Visible, Hidden, VeryHidden}
 use Rattle.sheet_wire.specs.StyleBytes.{theme_code, spell_style}

@@ -1,17 +1,22 @@
 -- Workbooks that bytes can carry, before and after an input.
 use Rattle.std.proofs.Common.{◌≡◌, ◌≢◌, ℕ, ℤ, pos, ◌<◌, ◌^◌, lit<, Bool, true, false, cond, List, [], ◌∷◌, zero, suc, Option, Some, None, Result, Ok, Err, refl, ap, sym, subst, ◌∙◌, ⊎_elim, arith}
-use Rattle.std.specs.Prelude.{IfSome, slice_get, slice_set, FitsSigned, codes}
+use Rattle.std.specs.Prelude.{IfSome, IsTrue, slice_get, slice_set, FitsSigned, codes}
 use Rattle.std.specs.Int.{w32}
 use Rattle.std.specs.Ordering.{eq_by_cmp}
 use Rattle.std.proofs.lemmas.Bool.{cases_eq}
 use Rattle.std.specs.FinMap as fin
 use Rattle.base_values.specs.declared.Position.{Position}
+use Rattle.base_tables.specs.declared.Locale.TheVariants.{En}
+use Rattle.base_tables.specs.declared.Zone.TheVariants.{Utc}
 use Rattle.base_values.specs.KeyMap.{get-with_entry}
 use Rattle.base_values.specs.Places.{position_cmp, position_total}
 use Rattle.sheet_grid.specs.declared.Cell.{Cell}
-use Rattle.sheet_grid.specs.declared.Content.{Content}
-use Rattle.sheet_grid.specs.declared.Content.TheVariants.{Empty, Number, Boolean, Error, Text}
+use Rattle.formula_content.specs.declared.Content.{Content}
+use Rattle.formula_content.specs.declared.Content.TheVariants.{Empty, Number, Boolean, Error, Text, Formula, Dynamic}
+use Rattle.formula_content.specs.Fitting.{fits_at}
 use Rattle.sheet_grid.specs.CellEquals.{same_entry}
+use Rattle.sheet_grid.specs.FittingCells.{entry_fits_at, SheetsFit}
+use Rattle.sheet_grid.specs.FittingLaws.{cells_fit-put, cells_fit-at, sheets_fit-new, sheets_fit-set}
 use Rattle.sheet_grid.specs.Sheet.{Sheet, with_cell, style_of, new_sheet}
 use Rattle.sheet_grid.specs.Book.{Book, index_of, with_sheet}
 use Rattle.sheet_wire.specs.CellBytes.{FitsCell, FitsContent}
@@ -31,7 +36,7 @@ abbrev first_sheet : Sheet
 first_sheet = new_sheet 1 (codes "Sheet1")
 
 pub first_fit : IsFit first_book
-first_fit = record { own = own; sheets = sheets }
+first_fit = record { own = own; sheets = sheets; fits = sheets_fit-new (codes "workbook") En Utc }
   where
     own : (index : ℕ) (sheet : Sheet) → slice_get first_book.worksheets index ≡ Some sheet → index_of first_book sheet.id ≡ Some index
     own zero sheet is = let same : first_sheet ≡ sheet = cc in ap (λ (s : Sheet). index_of first_book s.id) (sym same)
@@ -49,13 +54,29 @@ made_cell (Number number) fits = record { content = fits; style = default_style_
 made_cell (Boolean value) fits = record { content = fits; style = default_style_fits }
 made_cell (Error error) fits = record { content = fits; style = default_style_fits }
 made_cell (Text text) fits = record { content = fits; style = default_style_fits }
+made_cell (Formula tree) fits = record { content = fits; style = default_style_fits }
+made_cell (Dynamic tree) fits = record { content = fits; style = default_style_fits }
 
 -- the entry that an input makes fits
 pub entered_fits : (old : Option Cell) (content : Content) → IfSome old FitsCell → FitsContent content → IfSome (entered old content (style_of old)) FitsCell
 entered_fits None content before fits = made_cell content fits
 entered_fits (Some cell) content before fits = record { content = fits; style = before.style }
 
-module _ (w : Book) (index : ℕ) (sheet : Sheet) (place : Position) (entry : Option Cell) (fit : IsFit w) (found : slice_get w.worksheets index ≡ Some sheet) (fits : IfSome entry FitsCell) where
+new_placed : (place : Position) (content : Content) → IsTrue (fits_at place content) → IsTrue (entry_fits_at place (new_cell content (style_of None)))
+new_placed place Empty fits = refl
+new_placed place (Number number) fits = fits
+new_placed place (Boolean value) fits = fits
+new_placed place (Error error) fits = fits
+new_placed place (Text text) fits = fits
+new_placed place (Formula tree) fits = fits
+new_placed place (Dynamic tree) fits = fits
+
+-- and it may stand where its content may
+pub entered_placed : (place : Position) (old : Option Cell) (content : Content) → IsTrue (fits_at place content) → IsTrue (entry_fits_at place (entered old content (style_of old)))
+entered_placed place None content fits = new_placed place content fits
+entered_placed place (Some cell) content fits = fits
+
+module _ (w : Book) (index : ℕ) (sheet : Sheet) (place : Position) (entry : Option Cell) (fit : IsFit w) (found : slice_get w.worksheets index ≡ Some sheet) (fits : IfSome entry FitsCell) (placed : IsTrue (entry_fits_at place entry)) where
   abbrev changed : Sheet
   changed = with_cell sheet place entry
 
@@ -87,4 +108,5 @@ module _ (w : Book) (index : ℕ) (sheet : Sheet) (place : Position) (entry : Op
         (λ e. index_of-with_sheet w index changed.id sheet changed found refl ∙ fit.own index sheet found ∙ ap Some (sym e))
         (λ was. index_of-with_sheet w index s.id sheet changed found refl ∙ fit.own j s was);
     sheets = λ j s is. there j s is IsFitSheet (λ e. changed_fit) (λ was. fit.sheets j s was);
+    fits = sheets_fit-set w index sheet place entry placed found fit.fits;
   }

@@ -20,9 +20,11 @@ use Rattle.sheet_grid.specs.declared.Cell.{Cell}
 use Rattle.sheet_grid.specs.CellEquals.{same_entry, same_entry_decides}
 use Rattle.sheet_grid.specs.Sheet.{Sheet, with_cell, cell_put}
 use Rattle.sheet_grid.specs.Book.{Book, index_of, sheet_at, sheet_edit, with_sheet}
+use Rattle.sheet_grid.specs.FittingCells.{entry_fits_at}
 use Rattle.sheet_history.specs.declared.Diff.{Diff}
 use Rattle.sheet_history.specs.declared.Diff.TheVariants.{Cell as CellDiff}
 use Rattle.sheet_history.specs.Diffs.{put_in, forwarded, backed}
+use Rattle.sheet_history.specs.FitLaws.{put_in-fitting}
 use Rattle.script_editor.specs.Inputs.{cell_change}
 
 -- an item put where it stands changes nothing
@@ -60,12 +62,12 @@ index_of-with_sheet w index id old new found same =
     λ i. cond (nat_lt (stays i) (length-set w.worksheets index new i)) (Some (stays i)) None
 
 module _ (w : Book) (index : ℕ) (sheet : Sheet) (found : slice_get w.worksheets index ≡ Some sheet) (own : index_of w sheet.id ≡ Some index) where
-  -- a cell put at a place of the sheet of an id
-  pub put_in_found : (at : ℕ) (place : Position) (entry : Option Cell) → place_of place.row place.column ≡ Ok place → put_in at w sheet.id place entry ≡ Ok (with_sheet w index (with_cell sheet place entry))
-  unfolding put_in
-  put_in_found at place entry inside =
+  -- a cell that fits, put at a place of the sheet of an id
+  pub put_in_found : (at : ℕ) (place : Position) (entry : Option Cell) → place_of place.row place.column ≡ Ok place → entry_fits_at place entry ≡ true → put_in at w sheet.id place entry ≡ Ok (with_sheet w index (with_cell sheet place entry))
+  put_in_found at place entry inside fits =
       let edit : Sheet → Result Sheet EditError = λ s. cell_put s place.row place.column entry in
-      ap (λ o. ok_or (DiffRefused 0 at) (value_of (and_then (ok_or InvalidSheet o) (λ i. sheet_edit w i edit)))) own
+      put_in-fitting at w sheet.id place entry fits
+      ∙ ap (λ o. ok_or (DiffRefused 0 at) (value_of (and_then (ok_or InvalidSheet o) (λ i. sheet_edit w i edit)))) own
       ∙ ap (λ o. ok_or (DiffRefused 0 at) (value_of (and_then (ok_or InvalidSheet o) (λ s. map_ok (with_sheet w index) (edit s))))) found
       ∙ ap (λ r. ok_or (DiffRefused 0 at) (value_of (map_ok (with_sheet w index) (map_ok (λ p. with_cell sheet p entry) r)))) inside
 
@@ -113,17 +115,17 @@ module _ (w : Book) (index : ℕ) (sheet : Sheet) (place : Position) (entry : Op
   abbrev changes : List Diff
   changes = cell_change sheet.id place before entry
 
-  -- the changes of one cell lead to the later workbook
-  pub changes_forward : forwarded w changes ≡ Ok later
-  changes_forward = split (same_entry before entry) refl
+  -- the changes of one cell lead to the later workbook, where the new one fits
+  pub changes_forward : entry_fits_at place entry ≡ true → forwarded w changes ≡ Ok later
+  changes_forward fits = split (same_entry before entry) refl
     where
       split : (b : Bool) → same_entry before entry ≡ b → forwarded w (cond b [] (CellDiff sheet.id place before entry ∷ [])) ≡ Ok later
       split true e = ap Ok (sym (unchanged w index sheet place entry found ((same_entry_decides before entry).0 e)))
-      split false e = ap (λ r. and_then r (λ next. Ok next)) (put_in_found w index sheet found own 0 place entry inside)
+      split false e = ap (λ r. and_then r (λ next. Ok next)) (put_in_found w index sheet found own 0 place entry inside fits)
 
-  -- and back
-  pub changes_back : backed later changes ≡ Ok w
-  changes_back = split (same_entry before entry) refl
+  -- and back, where the old one fits
+  pub changes_back : entry_fits_at place before ≡ true → backed later changes ≡ Ok w
+  changes_back fits = split (same_entry before entry) refl
     where
       split : (b : Bool) → same_entry before entry ≡ b → backed later (cond b [] (CellDiff sheet.id place before entry ∷ [])) ≡ Ok w
       split true e = ap Ok (unchanged w index sheet place entry found ((same_entry_decides before entry).0 e))
@@ -132,5 +134,5 @@ module _ (w : Book) (index : ℕ) (sheet : Sheet) (place : Position) (entry : Op
           set_twice w.worksheets index (with_cell sheet place entry) (with_cell (with_cell sheet place entry) place before)
           ∙ ap (slice_set w.worksheets index) (with_cell-back sheet place entry) ∙ set_found w.worksheets index sheet found in
           put_in_found later index (with_cell sheet place entry) (get_set w.worksheets index sheet (with_cell sheet place entry) found)
-          (index_of-with_sheet w index sheet.id sheet (with_cell sheet place entry) found refl ∙ own) 0 place before inside
+          (index_of-with_sheet w index sheet.id sheet (with_cell sheet place entry) found refl ∙ own) 0 place before inside fits
           ∙ (λ i. Ok (record w { worksheets = twice i }))

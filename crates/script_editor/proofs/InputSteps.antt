@@ -1,6 +1,6 @@
 -- An input that is accepted is a sound step.
 use Rattle.std.proofs.Common.{◌≡◌, ℕ, ℤ, pos, Bool, true, false, cond, List, [], ◌∷◌, Option, Some, None, Result, Ok, Err, refl, ap, sym, subst, ◌∙◌, arith}
-use Rattle.std.specs.Prelude.{IfSome, slice_get, FitsSigned, ◌<◌, ◌^◌}
+use Rattle.std.specs.Prelude.{IfSome, IsTrue, slice_get, FitsSigned, ◌<◌, ◌^◌}
 use Rattle.std.specs.Int.{w32}
 use Rattle.std.specs.Cmp.{eq_by_cmp_equiv}
 use Rattle.std.specs.FinMap as fin
@@ -11,8 +11,11 @@ use Rattle.base_values.specs.Answers.{and_then, map_ok, ok_or}
 use Rattle.base_values.specs.KeyMap.{get-with_entry}
 use Rattle.base_values.specs.Places.{is_line, place_of, position_total}
 use Rattle.sheet_grid.specs.declared.Cell.{Cell}
-use Rattle.sheet_grid.specs.declared.Content.{Content}
+use Rattle.formula_content.specs.declared.Content.{Content}
+use Rattle.formula_content.specs.Fitting.{fits_at}
 use Rattle.sheet_grid.specs.CellEquals.{same_entry}
+use Rattle.sheet_grid.specs.FittingCells.{entry_fits_at}
+use Rattle.sheet_grid.specs.FittingLaws.{place_is, cells_fit-at}
 use Rattle.sheet_grid.specs.Sheet.{Sheet, with_cell, shown_style}
 use Rattle.sheet_grid.specs.Book.{Book, sheet_at, sheet_edit, with_sheet}
 use Rattle.sheet_history.specs.declared.Diff.{Diff}
@@ -27,7 +30,7 @@ use Rattle.script_editor.specs.Machine.{Edit, State, changed, edited, edit_of}
 use Rattle.script_editor.specs.Machine.Edit.{Input}
 use Rattle.script_editor.specs.Sound.{IsFit, IsSoundStep, IsSound}
 use Rattle.script_editor.proofs.Entering.{Found, accepted, place_parts, place_again, found_some, input_entry, input_book, input_record}
-use Rattle.script_editor.proofs.Fits.{entered_fits, later_fit}
+use Rattle.script_editor.proofs.Fits.{entered_fits, entered_placed, later_fit}
 use Rattle.script_editor.proofs.InputLaws.{changes_forward, changes_back}
 use Rattle.script_editor.proofs.InputRecord.{changes_IsRecord}
 use Rattle.script_editor.proofs.Sounds.{sound_edited, step_of}
@@ -36,7 +39,7 @@ changes_fit : (b : Bool) (id : ℕ) (place : Position) (old new : Option Cell) �
 changes_fit true id place old new small inside before later = record { short = omega arith; each = tt }
 changes_fit false id place old new small inside before later = cell_list_fits id place old new small inside before later
 
-module _ (w : Book) (index : ℕ) (row column : ℤ) (content : Content) (fit : IsFit w) (fits : FitsContent content) (rows : FitsSigned w32 row) (columns : FitsSigned w32 column)
+module _ (w : Book) (index : ℕ) (row column : ℤ) (content : Content) (fit : IsFit w) (fits : FitsContent content) (may_stand : IsTrue (fits_at (record { row = row; column = column }) content)) (rows : FitsSigned w32 row) (columns : FitsSigned w32 column)
     (sheet : Sheet) (place : Position) (at : sheet_at w index ≡ Ok sheet) (named : place_of row column ≡ Ok place) where
   abbrev new : Option Cell
   new = input_entry sheet content place
@@ -59,6 +62,12 @@ module _ (w : Book) (index : ℕ) (row column : ℤ) (content : Content) (fit : 
   new_fits : IfSome new FitsCell
   new_fits = entered_fits (fin.get sheet.cells place) content before_fits fits
 
+  before_placed : IsTrue (entry_fits_at place (fin.get sheet.cells place))
+  before_placed = cells_fit-at w index sheet found fit.fits place
+
+  new_placed : IsTrue (entry_fits_at place new)
+  new_placed = entered_placed place (fin.get sheet.cells place) content (subst (λ p. IsTrue (fits_at p content)) (place_is row column place named) may_stand)
+
   position_fits : FitsPosition place
   position_fits =
       let parts = place_parts row column place named in
@@ -67,17 +76,17 @@ module _ (w : Book) (index : ℕ) (row column : ℤ) (content : Content) (fit : 
   input_step : IsSoundStep (record { edit = Input index row column content; before = w; after = after })
   input_step = record {
     before = fit;
-    after = later_fit w index sheet place new fit found new_fits;
-    forth = ap (forwarded w) recorded_is ∙ changes_forward w index sheet place new found (fit.own index sheet found) inside;
-    back = ap (backed after) recorded_is ∙ changes_back w index sheet place new found (fit.own index sheet found) inside;
+    after = later_fit w index sheet place new fit found new_fits new_placed;
+    forth = ap (forwarded w) recorded_is ∙ changes_forward w index sheet place new found (fit.own index sheet found) inside new_placed;
+    back = ap (backed after) recorded_is ∙ changes_back w index sheet place new found (fit.own index sheet found) inside before_placed;
     exact = subst (IsRecord w after) (sym recorded_is) (changes_IsRecord w index sheet place new found (fit.own index sheet found));
     fits = subst FitsList (sym recorded_is) (changes_fit (same_entry (fin.get sheet.cells place) new) sheet.id place (fin.get sheet.cells place) new (fit.sheets index sheet found).id position_fits before_fits new_fits);
   }
 
 -- the state after an input is sound
-pub sound_input : (index : ℕ) (row column : ℤ) (content : Content) (s next : State) → IsSound s → FitsContent content → FitsSigned w32 row → FitsSigned w32 column
+pub sound_input : (index : ℕ) (row column : ℤ) (content : Content) (s next : State) → IsSound s → FitsContent content → IsTrue (fits_at (record { row = row; column = column }) content) → FitsSigned w32 row → FitsSigned w32 column
     → edit_of (Input index row column content) s ≡ Ok next → IsSound next
-sound_input index row column content s next sound fits rows columns is = go (input_put index row column content s.present) refl is
+sound_input index row column content s next sound fits may_stand rows columns is = go (input_put index row column content s.present) refl is
   where
     go : (r : Result Book EditError) → input_put index row column content s.present ≡ r → map_ok (edited (Input index row column content) s) r ≡ Ok next → IsSound next
     go (Err error) how e = absurd (let never : Err error ≡ Ok next = e in cc)
@@ -85,6 +94,6 @@ sound_input index row column content s next sound fits rows columns is = go (inp
         let it = accepted s.present index row column content later how in
         let step : IsSoundStep (step_of (Input index row column content) s later) =
         subst (λ book. IsSoundStep (step_of (Input index row column content) s book)) it.made
-        (input_step s.present index row column content sound.present fits rows columns it.sheet it.place it.at it.named) in
+        (input_step s.present index row column content sound.present fits may_stand rows columns it.sheet it.place it.at it.named) in
         let same : edited (Input index row column content) s later ≡ next = cc in
         subst IsSound same (sound_edited (Input index row column content) s later sound step)

@@ -9,7 +9,7 @@ use Rattle.base_values.specs.declared.EditError.TheVariants.{NoMemory}
 use Rattle.base_values.specs.declared.Position.{Position}
 use Rattle.base_values.specs.Answers.{Edits, and_then, map_ok}
 use Rattle.base_values.specs.Places.{place_of}
-use Rattle.sheet_grid.specs.declared.Content.{Content}
+use Rattle.formula_content.specs.declared.Content.{Content}
 use Rattle.sheet_grid.specs.Sheet.{Sheet}
 use Rattle.sheet_grid.specs.Book.{Book, sheet_at}
 use Rattle.sheet_history.specs.declared.Diff.{Diff}

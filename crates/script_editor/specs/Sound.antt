@@ -4,6 +4,7 @@ use Rattle.std.specs.Prelude.{IfSome, slice_get}
 use Rattle.std.specs.List.{AllByRecursion}
 use Rattle.std.specs.FinMap as fin
 use Rattle.base_values.specs.declared.Position.{Position}
+use Rattle.sheet_grid.specs.FittingCells.{SheetsFit}
 use Rattle.sheet_grid.specs.Sheet.{Sheet}
 use Rattle.sheet_grid.specs.Book.{Book, index_of}
 use Rattle.sheet_history.specs.Diffs.{forwarded, backed, replayed}
@@ -17,10 +18,12 @@ pub record IsFitSheet (sheet : Sheet) : Type 0 where
   pub id : sheet.id < 2 ^ 32
   pub cells : (place : Position) → IfSome (fin.get sheet.cells place) FitsCell
 
--- a workbook of such sheets, no two of one id: the first sheet with a sheet's id is that sheet
+-- a workbook of such sheets, no two of one id, since the first sheet with a sheet's id is that sheet. Every cell may stand at its
+-- place
 pub record IsFit (book : Book) : Type 0 where
   pub own : (index : ℕ) (sheet : Sheet) → slice_get book.worksheets index ≡ Some sheet → index_of book sheet.id ≡ Some index
   pub sheets : (index : ℕ) (sheet : Sheet) → slice_get book.worksheets index ≡ Some sheet → IsFitSheet sheet
+  pub fits : SheetsFit book
 
 -- the record of a step has exactly the entries that changed, and takes its earlier workbook to its later one and back
 pub record IsSoundStep (step : Step) : Type 0 where

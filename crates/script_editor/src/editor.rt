@@ -1,8 +1,14 @@
-ghost use Rattle.std.specs.Prelude.{◌≡◌, ◌≤◌, Ok, Some, [], ◌∷◌, take, IfOk, IfSome, OnOk, OnErr, IsOkUnless};
+ghost use Rattle.std.specs.Prelude.{◌≡◌, ◌≤◌, Ok, Some, [], ◌∷◌, take, IfOk, IfSome, IsTrue, OnOk, OnErr, IsOkUnless};
 ghost use Rattle.base_values.specs.Answers.{Answers, Edits};
 ghost use Rattle.base_values.specs.declared.EditError.TheVariants.{NoMemory};
-ghost use Rattle.sheet_grid.specs.KeptCell.{IsKeptCell, IsKeptContent};
-ghost use Rattle.sheet_grid.specs.Sheet.{style_of};
+ghost use Rattle.formula_content.specs.KeptContent.{IsKeptContent};
+ghost use Rattle.sheet_grid.specs.KeptCell.{IsKeptCell};
+ghost use Rattle.formula_content.specs.Fitting.{fits_at};
+ghost use Rattle.base_values.specs.declared.Position.{Position as Place};
+ghost use Rattle.sheet_grid.specs.Book.{sheet_edit};
+ghost use Rattle.sheet_grid.specs.FittingCells.{entry_fits_at, is_shallow_entry, SheetsFit};
+ghost use Rattle.sheet_grid.specs.FittingProps.{sheets_fit_prop};
+ghost use Rattle.sheet_grid.specs.Sheet.{cell_put, style_of};
 ghost use Rattle.sheet_history.specs.Diffs.{IsKeptList};
 ghost use Rattle.script_editor.specs.Inputs.{cell_change, entered, input_plan};
 ghost use Rattle.script_editor.specs.Machine.Edit.{Input};
@@ -17,13 +23,15 @@ use sheet_history::{
 use sheet_wire::{content_fits, encode_queue};
 use std::alloc::Global;
 
-/// A workbook with undo, redo and a queue of what other copies have not had yet.
+/// A workbook with undo, redo and a queue of what other copies have not had yet. Every cell of the
+/// workbook may stand at its place.
 #[derive(Drop)]
 pub struct Editor {
     alloc: Global,
     workbook: Workbook,
     history: History,
     queue: Items<QueueDiffs>,
+    ghost fitting: { SheetsFit workbook } by { sheets_fit_prop workbook },
 }
 
 /// The cell after the input of a content: a present cell keeps its style, a new one takes the
@@ -32,6 +40,7 @@ fn entered(alloc: Global, old: &Option<Cell>, content: Content) -> Result<Option
     requires { IsKeptContent content }
     ensures made { Answers result (Ok (entered old.now content (style_of old.now))) }
     ensures kept { IfOk result (λ new. IfSome new IsKeptCell) }
+    ensures fits { (place : Place) → IsTrue (fits_at place content) → IfOk result (λ new. IsTrue (entry_fits_at place new)) }
 {
     if let Some(cell) = old {
         let style = copy_of(&cell.style)?;
@@ -54,6 +63,8 @@ fn cell_change(
 ) -> Result<DiffList, EditError>
     requires old { IfSome old IsKeptCell }
     requires new { IfSome new IsKeptCell }
+    requires old_shallow { IsTrue (is_shallow_entry old) }
+    requires new_shallow { IsTrue (is_shallow_entry new) }
     ensures made { Answers result (Ok (cell_change sheet position old new)) }
     ensures kept { IfOk result IsKeptList }
 {
@@ -68,6 +79,22 @@ fn cell_change(
         new,
     })?;
     Ok(list)
+}
+
+/// Puts a cell, or none, that may stand at its place.
+fn put_cell(
+    workbook: &mut Workbook,
+    sheet: u32,
+    row: i32,
+    column: i32,
+    entry: Option<Cell>,
+) -> Result<(), EditError>
+    requires kept { IfSome entry IsKeptCell }
+    requires fits { IsTrue (entry_fits_at (record { row = row; column = column }) entry) }
+    ensures put { Edits result workbook.old workbook.new (sheet_edit workbook.old sheet (λ old. cell_put old row column entry)) }
+    ensures fits { SheetsFit workbook.old → SheetsFit workbook.new }
+{
+    workbook.put_cell(sheet, row, column, entry)
 }
 
 impl Editor {
@@ -90,7 +117,8 @@ impl Editor {
 
     /// The workbook as it is now.
     pub fn workbook(&self) -> &Workbook
-        ensures { result.now ≡ book_of self.now }
+        ensures now { result.now ≡ book_of self.now }
+        ensures fits { SheetsFit (book_of self.now) }
     {
         &self.workbook
     }
@@ -103,9 +131,11 @@ impl Editor {
         column: i32,
         content: Content,
     ) -> Result<(Option<Cell>, DiffList), EditError>
-        requires { IsKeptContent content }
+        requires kept { IsKeptContent content }
+        requires fits { IsTrue (fits_at (record { row = row; column = column }) content) }
         ensures made { Answers result (input_plan sheet row column content (book_of self.now)) }
         ensures entry { IfOk result (λ plan. IfSome plan.0 IsKeptCell) }
+        ensures fits { IfOk result (λ plan. IsTrue (entry_fits_at (record { row = row; column = column }) plan.0)) }
         ensures record { IfOk result (λ plan. IsKeptList plan.1) }
     {
         let found = self.workbook.worksheet(sheet)?;
@@ -124,7 +154,8 @@ impl Editor {
         column: i32,
         content: Content,
     ) -> Result<(), EditError>
-        requires { IsKeptContent content }
+        requires kept { IsKeptContent content }
+        requires fits { IsTrue (fits_at (record { row = row; column = column }) content) }
         ensures { Edits result (document_of self.old) (document_of self.new) (document_edit (Input sheet row column content) (document_of self.old)) }
     {
         let (new, list) = self.plan(sheet, row, column, content)?;
@@ -135,7 +166,7 @@ impl Editor {
         self.history.reserve()?;
         let length = self.queue.len();
         self.queue.push(sent)?;
-        if let Err(error) = self.workbook.put_cell(sheet, row, column, new) {
+        if let Err(error) = put_cell(&mut self.workbook, sheet, row, column, new) {
             self.queue.truncate(length);
             return Err(error);
         }
@@ -149,7 +180,7 @@ impl Editor {
     ///
     /// `InvalidSheet` where there is no such sheet, else `InvalidRow` where the row is outside the
     /// sheet, else `InvalidColumn` where the column is. A refusal, and want of memory, change
-    /// nothing.
+    /// nothing. A formula must be one that may stand at that row and column.
     pub fn set_content(
         &mut self,
         sheet: u32,
@@ -157,7 +188,8 @@ impl Editor {
         column: i32,
         content: Content,
     ) -> Result<(), EditError>
-        requires { IsKeptContent content }
+        requires kept { IsKeptContent content }
+        requires fits { IsTrue (fits_at (record { row = row; column = column }) content) }
         ensures document { Edits result (document_of self.old) (document_of self.new) (document_edit (Input sheet row column content) (document_of self.old)) }
         ensures next { (state : State) → StandsFor self.old state → Moves result self.new state (edit_of (Input sheet row column content) state) }
     {

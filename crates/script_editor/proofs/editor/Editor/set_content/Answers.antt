@@ -14,4 +14,4 @@ returns-clause-next c = λ state stands.
     let edit = Input c.args.sheet c.args.row c.args.column c.args.content in
     moves c.args.self.now c.enter.new.self state c.enter.result (document_edit edit) (edit_of edit state) stands (simp to_z-of_z at c.enter.ensures)
     (document_edited edit state)
-    (λ next is. sound_input c.args.sheet c.args.row c.args.column c.args.content state next stands.sound c.content_fits.ensures c.ranges.row c.ranges.column is)
+    (λ next is. sound_input c.args.sheet c.args.row c.args.column c.args.content state next stands.sound c.content_fits.ensures c.requires.fits c.ranges.row c.ranges.column is)

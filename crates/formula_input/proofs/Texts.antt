@@ -1,6 +1,6 @@
 -- When a text is read as itself.
 use Rattle.std.proofs.Common.{◌≡◌, ◌≢◌, ℕ, suc, length, Bool, true, false, List, [], ◌∷◌, Option, Some, None, refl, ap, arith}
-use Rattle.std.specs.Prelude.{◌||◌, not, is_some, unwrap_or}
+use Rattle.std.specs.Prelude.{◌||◌, ◌==◌, not, is_some, unwrap_or}
 use Rattle.std.specs.Option.{option_map, option_or}
 use Rattle.std.specs.Cmp.Lexicographic.{bytes_decides}
 use Rattle.base_tables.specs.declared.Language.{Language}
@@ -12,9 +12,10 @@ use Rattle.base_tables.specs.Locale.{decimal_sign}
 use Rattle.base_tables.specs.Tables.{same_text}
 use Rattle.base_decimal.specs.declared.Decimal.{Decimal}
 use Rattle.base_decimal.specs.Numeral.{decimal_of}
+use Rattle.formula_grammar.specs.declared.Profile.{Profile}
 use Rattle.formula_content.specs.declared.Content.{Content}
-use Rattle.formula_content.specs.declared.Content.TheVariants.{Empty, Number, Boolean, Error as ErrorContent, Text}
-use Rattle.script_content.specs.Inputs.{value_of_text, is_text, reads_as_text, begins_with}
+use Rattle.formula_content.specs.declared.Content.TheVariants.{Empty, Number, Boolean, Error as ErrorContent, Text, Formula, Dynamic}
+use Rattle.formula_input.specs.Inputs.{value_of_text, is_text, reads_as_text, has_lead}
 
 pub is_text-true : (text : List ℕ) (content : Content) → is_text text content ≡ true → content ≡ Text text
 is_text-true text Empty e = absurd cc
@@ -22,6 +23,8 @@ is_text-true text (Number _) e = absurd cc
 is_text-true text (Boolean _) e = absurd cc
 is_text-true text (ErrorContent _) e = absurd cc
 is_text-true text (Text read) e = ap Text ((bytes_decides read text).0 e)
+is_text-true text (Formula _) e = absurd cc
+is_text-true text (Dynamic _) e = absurd cc
 
 -- ---- values
 
@@ -55,11 +58,21 @@ shorter c text = by (same_text text (c ∷ text)) refl
     by true e = let n : length text ≡ suc (length text) = ap length ((bytes_decides text (c ∷ text)).0 e) in absurd (omega arith)
     by false e = refl
 
-pub marked_reads : (locale : Locale) (l : Language) (text : List ℕ) → begins_with 39 text ≡ true → reads_as_text locale l text ≡ false
-marked_reads locale l [] e = absurd cc
-marked_reads locale l (c ∷ text) e = rw e (shorter c text)
+pub marked_reads : (p : Profile) (text : List ℕ) → has_lead text ≡ true → reads_as_text p text ≡ false
+marked_reads p [] e = absurd cc
+marked_reads p (c ∷ text) e = by (c == 39) refl (c == 61) refl e
+  where
+    by : (a : Bool) → (c == 39) ≡ a → (b : Bool) → (c == 61) ≡ b → a || b ≡ true → reads_as_text p (c ∷ text) ≡ false
+    by true f b g e = rw f (shorter c text)
+    by false f true g e = rw (f, g) refl
+    by false f false g e = absurd cc
 
-pub plain_reads : (locale : Locale) (l : Language) (text : List ℕ) → begins_with 39 text ≡ false → text ≢ [] → reads_as_text locale l text ≡ not (is_some (value_of_text locale l text))
+pub plain_reads : (p : Profile) (text : List ℕ) → has_lead text ≡ false → text ≢ [] → reads_as_text p text ≡ not (is_some (value_of_text p.locale p.language text))
 unfolding value_of_text
-plain_reads locale l [] e some = absurd (some refl)
-plain_reads locale l (c ∷ text) e some = rw e (value_no_text (c ∷ text) (boolean_of_text l (c ∷ text)) (error_of_text l (c ∷ text)) (decimal_of (decimal_sign locale) (c ∷ text)))
+plain_reads p [] e some = absurd (some refl)
+plain_reads p (c ∷ text) e some = by (c == 39) refl (c == 61) refl e
+  where
+    by : (a : Bool) → (c == 39) ≡ a → (b : Bool) → (c == 61) ≡ b → a || b ≡ false → reads_as_text p (c ∷ text) ≡ not (is_some (value_of_text p.locale p.language (c ∷ text)))
+    by true f b g e = absurd cc
+    by false f true g e = absurd cc
+    by false f false g e = rw (f, g) (value_no_text (c ∷ text) (boolean_of_text p.language (c ∷ text)) (error_of_text p.language (c ∷ text)) (decimal_of (decimal_sign p.locale) (c ∷ text)))

@@ -1,6 +1,22 @@
+ghost use Rattle.base_values.specs.Places.{IsPlace};
+ghost use Rattle.formula_tree.specs.Context.{context_place};
+
 use crate::{print_content, read_input};
 use base_tables::{Language, Locale};
+use base_values::Text;
+use formula_tree::CellReferenceRC;
+use std::alloc::Global;
 use std::test::Fail;
+
+fn cell_a1(alloc: Global) -> CellReferenceRC
+    ensures { IsPlace (context_place result) }
+{
+    CellReferenceRC {
+        sheet: Text::new(String::new(alloc)),
+        row: 1,
+        column: 1,
+    }
+}
 
 #[test]
 fn inputs_print_as_read(rt: HostRuntime) -> Result<(), Fail> {
@@ -38,13 +54,20 @@ fn inputs_print_as_read(rt: HostRuntime) -> Result<(), Fail> {
         ("'", "'"),
         ("''", "''"),
         ("'=1", "'=1"),
-        ("=1", "'=1"),
+        ("=1", "=1"),
+        ("=1+", "=1+"),
+        ("=", "="),
+        ("=-(A2*2)", "=-(A2*2)"),
+        ("=(-A2)%", "=(-A2)%"),
+        ("=\"a\"\"b\"&(1=2)", "=\"a\"\"b\"&(1=2)"),
+        ("=2^3^4", "=(2^3)^4"),
+        ("=+A2", "=A2"),
         ("  ", "  "),
         (" 1", " 1"),
     ];
     for (input, text) in inputs {
-        let content = read_input(rt.alloc(), input, Locale::En, Language::En)?;
-        let printed = print_content(rt.alloc(), &content, Locale::En, Language::En)?;
+        let content = read_input(rt.alloc(), input, &cell_a1(rt.alloc()), Locale::En, Language::En)?;
+        let printed = print_content(rt.alloc(), &content, &cell_a1(rt.alloc()), Locale::En, Language::En)?;
         assert_eq!(rt; printed.as_str(), text);
     }
     Ok(())

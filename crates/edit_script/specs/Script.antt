@@ -4,8 +4,8 @@ use Rattle.std.specs.Prelude.{codes}
 use Rattle.base_values.specs.declared.EditError.{EditError}
 use Rattle.base_values.specs.Answers.{and_then, map_ok}
 use Rattle.base_values.specs.ErrorNames.{name_of}
-use Rattle.base_tables.specs.declared.Language.TheVariants.{En as English}
-use Rattle.base_tables.specs.declared.Locale.TheVariants.{En}
+use Rattle.base_values.specs.declared.Position.{Position}
+use Rattle.base_values.specs.Places.{place_of}
 use Rattle.sheet_grid.specs.declared.Cell.{Cell}
 use Rattle.formula_content.specs.declared.Content.{Content}
 use Rattle.formula_content.specs.declared.Content.TheVariants.{Empty}
@@ -16,7 +16,8 @@ use Rattle.script_lines.specs.Escapes.{escaped}
 use Rattle.script_lines.specs.Commands.{command_of}
 use Rattle.script_lines.specs.declared.Command.{Command}
 use Rattle.script_lines.specs.declared.Command.TheVariants.{Set, Get, Undo, Redo, Sync, Show}
-use Rattle.script_content.specs.Inputs.{input_of, input_text}
+use Rattle.formula_input.specs.Inputs.{input_of, input_text}
+use Rattle.script_dump.specs.English.{english}
 use Rattle.script_dump.specs.Text.{line, hex}
 use Rattle.script_dump.specs.Dump.{dump}
 use Rattle.script_editor.specs.Machine.{State, start, edit_of, undo_of, redo_of, synced_of}
@@ -41,17 +42,25 @@ content_of (Some cell) = cell.content
 abbrev pub content_at : ℕ → ℤ → ℤ → Book → Result Content EditError
 content_at index row column book = and_then (sheet_at book index) (λ sheet. map_ok content_of (cell_at sheet row column))
 
--- the answer to a question for a content
-abbrev pub got : Result Content EditError → List ℕ
-got (Ok content) = line (codes "value " ++ escaped (input_text En English content))
-got (Err error) = refusal error
+-- the answer to a question for the content at a place
+abbrev pub got : Position → Result Content EditError → List ℕ
+got place (Ok content) = line (codes "value " ++ escaped (input_text (english place) content))
+got place (Err error) = refusal error
+
+-- what a text is read as at a place; where there is no such place, nothing is read
+abbrev pub read_at : Result Position EditError → List ℕ → Content
+read_at (Ok place) text = input_of (english place) text
+read_at (Err error) text = Empty
+
+abbrev pub typed : ℤ → ℤ → List ℕ → Content
+typed row column text = read_at (place_of row column) text
 
 -- ---- commands
 
 -- the answer to a command
 abbrev pub reply_to : Command → State → List ℕ
-reply_to (Set sheet row column text) s = outcome (edit_of (Input sheet row column (input_of En English text)) s)
-reply_to (Get sheet row column) s = got (content_at sheet row column s.present)
+reply_to (Set sheet row column text) s = outcome (edit_of (Input sheet row column (typed row column text)) s)
+reply_to (Get sheet row column) s = got (record { row = row; column = column }) (content_at sheet row column s.present)
 reply_to Undo s = line (codes "ok")
 reply_to Redo s = line (codes "ok")
 reply_to Sync s = line (codes "sync " ++ hex (sync_bytes s))
@@ -64,7 +73,7 @@ state_after (Err error) s = s
 
 -- the state after a command
 abbrev pub next_of : Command → State → State
-next_of (Set sheet row column text) s = state_after (edit_of (Input sheet row column (input_of En English text)) s) s
+next_of (Set sheet row column text) s = state_after (edit_of (Input sheet row column (typed row column text)) s) s
 next_of (Get sheet row column) s = s
 next_of Undo s = undo_of s
 next_of Redo s = redo_of s

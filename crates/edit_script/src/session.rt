@@ -1,12 +1,12 @@
-ghost use Rattle.std.specs.Prelude.{◌≡◌, ◌≢◌, ◌++◌, [], OnOk, IfOk, IfErr, IsOkUnless};
+ghost use Rattle.std.specs.Prelude.{◌≡◌, ◌≢◌, ◌++◌, [], OnOk, IfOk, IfErr, IsTrue, IsOkUnless};
 ghost use Rattle.base_values.specs.Answers.{Answers};
 ghost use Rattle.base_values.specs.declared.EditError.TheVariants.{NoMemory};
-ghost use Rattle.edit_script.specs.Script.{content_at, refusal, outcome, got};
+ghost use Rattle.formula_content.specs.Fitting.{fits_at};
+ghost use Rattle.formula_content.specs.KeptContent.{IsKeptContent};
+ghost use Rattle.edit_script.specs.Script.{content_at, refusal, outcome, got, typed};
 
-use base_tables::{Language, Locale};
-use base_values::{EditError, copy_of};
-use script_content::{print_content, read_input};
-use script_dump::{push_dump, push_hex, push_line};
+use base_values::{EditError, Position, copy_of, place_of};
+use script_dump::{english_input, english_text, push_dump, push_hex, push_line};
 use script_editor::{Editor, replay_bytes};
 use script_lines::{Command, push_escaped, read_command, split_first, without_return};
 use sheet_grid::{Content, Workbook};
@@ -59,25 +59,47 @@ fn content_at(workbook: &Workbook, sheet: u32, row: i32, column: i32) -> Result<
     }
 }
 
-/// Writes the answer to a question for a content. Want of memory has none.
+/// The place of a row and a column.
+fn position(row: i32, column: i32) -> Position
+    ensures { result ≡ record { row = row; column = column } }
+{
+    Position { row, column }
+}
+
+/// Writes the answer to a question for the content at a place. Want of memory has none.
 fn push_content(
     alloc: Global,
     out: &mut Vec<u8>,
+    place: Position,
     found: Result<Content, EditError>,
 ) -> Result<(), EditError>
-    ensures text { OnOk result (out.new.items ≡ out.old.items ++ got found) }
+    ensures text { OnOk result (out.new.items ≡ out.old.items ++ got place found) }
     ensures memory { OnOk result (IfErr found (λ error. error ≢ NoMemory)) }
     ensures only { IsOkUnless result NoMemory }
 {
     match found {
         Ok(content) => {
-            let text = print_content(alloc, &content, Locale::En, Language::En)?;
+            let text = english_text(alloc, place, &content)?;
             out.extend_from_slice(b"value ")?;
             push_escaped(out, text.as_bytes())?;
             out.push(b'\n')?;
             Ok(())
         }
         Err(error) => push_refusal(out, error),
+    }
+}
+
+/// What a text is read as at a row and a column. Where they are outside the sheet nothing is read:
+/// the input is refused there.
+fn typed(alloc: Global, row: i32, column: i32, text: &str) -> Result<Content, EditError>
+    ensures value { IfOk result (λ content. content ≡ typed row column text.now) }
+    ensures kept { IfOk result IsKeptContent }
+    ensures fits { IfOk result (λ content. IsTrue (fits_at (record { row = row; column = column }) content)) }
+    ensures memory { IsOkUnless result NoMemory }
+{
+    match place_of(row, column) {
+        Ok(place) => english_input(alloc, place, text),
+        Err(_) => Ok(Content::Empty),
     }
 }
 
@@ -108,7 +130,7 @@ impl Session {
         ensures { (state : State) → SessionStands self.old state →
             Runs result self.old self.new (reply_to (Set sheet row column text.now) state) (next_of (Set sheet row column text.now) state) }
     {
-        let content = read_input(self.alloc, text, Locale::En, Language::En)?;
+        let content = typed(self.alloc, row, column, text)?;
         let done = self.editor.set_content(sheet, row, column, content);
         push_outcome(&mut self.out, done)
     }
@@ -118,7 +140,7 @@ impl Session {
             Runs result self.old self.new (reply_to (Get sheet row column) state) (next_of (Get sheet row column) state) }
     {
         let found = content_at(self.editor.workbook(), sheet, row, column);
-        push_content(self.alloc, &mut self.out, found)
+        push_content(self.alloc, &mut self.out, position(row, column), found)
     }
 
     fn undo(&mut self) -> Result<(), EditError>

@@ -4,8 +4,6 @@ use Rattle.std.specs.Fmt.{signed_decimal}
 use Rattle.std.specs.FinMap as fin
 use Rattle.std.specs.List.{flat_map}
 use Rattle.base_values.specs.declared.Position.{Position}
-use Rattle.base_tables.specs.declared.Locale.TheVariants as locale
-use Rattle.base_tables.specs.declared.Language.TheVariants as language
 use Rattle.base_tables.specs.Locale.{locale_name}
 use Rattle.base_tables.specs.Zone.{zone_name}
 use Rattle.base_styles.specs.declared.Color.{Color}
@@ -17,13 +15,14 @@ use Rattle.sheet_grid.specs.Book.{Book}
 use Rattle.sheet_grid.specs.Sheet.{Sheet}
 use Rattle.sheet_grid.specs.declared.Cell.{Cell}
 use Rattle.formula_content.specs.declared.Content.{Content}
-use Rattle.formula_content.specs.declared.Content.TheVariants.{Empty}
+use Rattle.formula_content.specs.declared.Content.TheVariants.{Empty, Formula, Dynamic}
 use Rattle.sheet_grid.specs.declared.SheetState.{SheetState}
 use Rattle.sheet_grid.specs.declared.SheetState.TheVariants.{Visible, Hidden, VeryHidden}
 use Rattle.sheet_wire.specs.StyleBytes.{theme_code, spell_style}
 use Rattle.script_lines.specs.Escapes.{escaped}
 use Rattle.script_lines.specs.References.{reference_text}
-use Rattle.script_content.specs.Inputs.{input_text}
+use Rattle.formula_input.specs.Inputs.{input_text}
+use Rattle.script_dump.specs.English.{english}
 use Rattle.script_dump.specs.Text.{line, words, hex, capital_hex}
 
 -- ---- words
@@ -50,10 +49,16 @@ same_style = style_eq.ghosts.eq
 abbrev pub style_text : Style → List ℕ
 style_text style = if same_style style default_style then codes "-" else hex (spell_style style)
 
--- the text of a value is that of English
-abbrev pub content_text : Content → List ℕ
-content_text Empty = codes "empty"
-content_text content = codes "value " ++ escaped (input_text locale.En language.En content)
+-- the word before a content's text
+abbrev pub content_word : Content → List ℕ
+content_word (Formula tree) = codes "formula "
+content_word (Dynamic tree) = codes "dynamic "
+content_word content = codes "value "
+
+-- the text of a content is that of English
+abbrev pub content_text : Position → Content → List ℕ
+content_text place Empty = codes "empty"
+content_text place content = content_word content ++ escaped (input_text (english place) content)
 
 -- ---- lines
 
@@ -66,7 +71,7 @@ sheet_line sheet = line (words (
     ∷ signed_decimal sheet.frozen_rows ∷ signed_decimal sheet.frozen_columns ∷ color_text sheet.color ∷ escaped sheet.name ∷ []))
 
 abbrev pub cell_line : Position × Cell → List ℕ
-cell_line (place, cell) = line (words (codes "cell" ∷ reference_text place ∷ style_text cell.style ∷ content_text cell.content ∷ []))
+cell_line (place, cell) = line (words (codes "cell" ∷ reference_text place ∷ style_text cell.style ∷ content_text place cell.content ∷ []))
 
 -- a sheet, and then its cells by row and column
 abbrev pub sheet_lines : Sheet → List ℕ

@@ -1,2 +1,3 @@
+pub mod English
 pub mod Dump
 pub mod Text

@@ -5,13 +5,12 @@ ghost use Rattle.base_values.specs.declared.error.EditError.TheVariants.{NoMemor
 ghost use Rattle.base_styles.specs.DefaultStyle.{default_style};
 ghost use Rattle.sheet_wire.specs.StyleBytes.{theme_code};
 ghost use Rattle.script_lines.specs.Escapes.{escaped};
-ghost use Rattle.script_dump.specs.Dump.{flag_text, state_text, color_text, same_style, style_text, content_text, book_line, sheet_line, cell_line, sheet_lines, dump};
+ghost use Rattle.script_dump.specs.Dump.{flag_text, state_text, color_text, same_style, style_text, content_word, content_text, book_line, sheet_line, cell_line, sheet_lines, dump};
 
+use crate::english::english_text;
 use crate::text::{push_capital_hex, push_hex, push_line, push_signed, push_unsigned, push_word};
 use base_styles::{Color, Style, ThemeColor};
-use base_tables::{Language, Locale};
 use base_values::{EditError, Position};
-use script_content::print_content;
 use script_lines::{push_escaped, push_reference};
 use sheet_grid::{Cell, Content, SheetState, Workbook, Worksheet};
 use sheet_wire::encode_style;
@@ -90,16 +89,36 @@ fn push_style(alloc: Global, out: &mut Vec<u8>, style: &Style) -> Result<(), Edi
     Ok(())
 }
 
-fn push_content(alloc: Global, out: &mut Vec<u8>, content: &Content) -> Result<(), EditError>
-    ensures text { OnOk result (out.new.items ≡ out.old.items ++ content_text content.now) }
+/// The word before the text of a content that is not empty.
+fn content_word(content: &Content) -> &'static str
+    ensures { result.now ≡ content_word content.now }
+{
+    match content {
+        Content::Formula(_) => "formula ",
+        Content::Dynamic(_) => "dynamic ",
+        Content::Empty => "value ",
+        Content::Number(_) => "value ",
+        Content::Boolean(_) => "value ",
+        Content::Error(_) => "value ",
+        Content::Text(_) => "value ",
+    }
+}
+
+fn push_content(
+    alloc: Global,
+    out: &mut Vec<u8>,
+    place: Position,
+    content: &Content,
+) -> Result<(), EditError>
+    ensures text { OnOk result (out.new.items ≡ out.old.items ++ content_text place content.now) }
     ensures memory { IsOkUnless result NoMemory }
 {
     if let Content::Empty = content {
         out.extend_from_slice(b"empty")?;
         return Ok(());
     }
-    let text = print_content(alloc, content, Locale::En, Language::En)?;
-    out.extend_from_slice(b"value ")?;
+    let text = english_text(alloc, place, content)?;
+    out.extend_from_slice(content_word(content).as_bytes())?;
     push_escaped(out, text.as_bytes())?;
     Ok(())
 }
@@ -119,7 +138,7 @@ fn push_cell(
     out.push(b' ')?;
     push_style(alloc, out, &cell.style)?;
     out.push(b' ')?;
-    push_content(alloc, out, &cell.content)?;
+    push_content(alloc, out, place, &cell.content)?;
     out.push(b'\n')?;
     Ok(())
 }

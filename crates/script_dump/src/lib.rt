@@ -2,11 +2,14 @@
 //! cells.
 //!
 //! The layer above writes a workbook with `push_dump`, which is `dump`, and lines and bytes of its
-//! own with `push_line` and `push_hex`.
+//! own with `push_line` and `push_hex`. It reads and prints contents with `english_input` and
+//! `english_text`.
 #![tactic(auto)]
 
 mod dump;
+mod english;
 mod text;
 
 pub use dump::push_dump;
+pub use english::{english_input, english_text};
 pub use text::{push_hex, push_line};

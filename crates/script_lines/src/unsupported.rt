@@ -1,9 +1,9 @@
 ghost use Rattle.std.specs.Prelude.{◌≡◌};
 ghost use Rattle.script_lines.specs.Unsupported.{is_unsupported};
 
-/// Whether no cell can hold the text yet: a formula, or a text of several lines.
+/// Whether no cell can hold the text yet: a text of several lines.
 pub(crate) fn is_unsupported(text: &[u8]) -> bool
     ensures { result ≡ is_unsupported text.now }
 {
-    text.starts_with(b"=") || text.contains(&b'\n')
+    text.contains(&b'\n')
 }

@@ -1,0 +1,51 @@
+//! Contents in English, as a script reads and prints them.
+
+ghost use Rattle.std.specs.Prelude.{◌≡◌, true, string_bytes, IfOk, IsOkUnless};
+ghost use Rattle.base_values.specs.Places.{IsPlace};
+ghost use Rattle.base_values.specs.declared.error.EditError.TheVariants.{NoMemory};
+ghost use Rattle.formula_tree.specs.Context.{context_place};
+ghost use Rattle.formula_content.specs.Fitting.{fits_at};
+ghost use Rattle.formula_content.specs.KeptContent.{IsKeptContent};
+ghost use Rattle.formula_input.specs.Inputs.{input_of, input_text};
+ghost use Rattle.script_dump.specs.English.{english};
+
+use base_tables::{Language, Locale};
+use base_values::{EditError, Position, Text};
+use formula_input::{print_content, read_input};
+use formula_tree::CellReferenceRC;
+use sheet_grid::Content;
+use std::alloc::Global;
+
+/// The cell at a place, as formulas are read and printed in it.
+fn cell_at(alloc: Global, place: Position) -> CellReferenceRC
+    ensures { context_place result ≡ place }
+{
+    CellReferenceRC {
+        sheet: Text::new(String::new(alloc)),
+        row: place.row,
+        column: place.column,
+    }
+}
+
+/// The text of the content of the cell at a place, in English.
+///
+/// Only want of memory is refused.
+pub fn english_text(alloc: Global, place: Position, content: &Content) -> Result<String, EditError>
+    ensures text { IfOk result (λ text. string_bytes text ≡ input_text (english place) content.now) }
+    ensures memory { IsOkUnless result NoMemory }
+{
+    print_content(alloc, content, &cell_at(alloc, place), Locale::En, Language::En)
+}
+
+/// The content that an English text is read as in the cell at a place inside the sheet.
+///
+/// Only want of memory is refused.
+pub fn english_input(alloc: Global, place: Position, text: &str) -> Result<Content, EditError>
+    requires place { IsPlace place }
+    ensures value { IfOk result (λ content. content ≡ input_of (english place) text.now) }
+    ensures kept { IfOk result IsKeptContent }
+    ensures fits { IfOk result (λ content. fits_at place content ≡ true) }
+    ensures memory { IsOkUnless result NoMemory }
+{
+    read_input(alloc, text, &cell_at(alloc, place), Locale::En, Language::En)
+}

@@ -6,11 +6,7 @@ use crate::content::Content;
 use base_values::Position;
 use formula_tree::{MAX_DEPTH, Node, has_no_negative_number, is_at_most_deep, is_placed};
 
-#[tactic(
-    auto,
-    using(std::proofs::lemmas::Bool::Decides::nat_tests),
-    unfolding(formula_tree::specs::DepthBounds::is_within)
-)]
+#[tactic(auto, using(std::proofs::lemmas::Bool::Decides::nat_tests), unfolding(formula_tree::specs::DepthBounds::is_within))]
 fn is_shallow(tree: &Node) -> bool
     ensures { result ≡ is_within 64 tree.now }
 {

@@ -66,8 +66,20 @@ fn inputs_print_as_read(rt: HostRuntime) -> Result<(), Fail> {
         (" 1", " 1"),
     ];
     for (input, text) in inputs {
-        let content = read_input(rt.alloc(), input, &cell_a1(rt.alloc()), Locale::En, Language::En)?;
-        let printed = print_content(rt.alloc(), &content, &cell_a1(rt.alloc()), Locale::En, Language::En)?;
+        let content = read_input(
+            rt.alloc(),
+            input,
+            &cell_a1(rt.alloc()),
+            Locale::En,
+            Language::En,
+        )?;
+        let printed = print_content(
+            rt.alloc(),
+            &content,
+            &cell_a1(rt.alloc()),
+            Locale::En,
+            Language::En,
+        )?;
         assert_eq!(rt; printed.as_str(), text);
     }
     Ok(())

@@ -34,7 +34,13 @@ pub fn english_text(alloc: Global, place: Position, content: &Content) -> Result
     ensures text { IfOk result (λ text. string_bytes text ≡ input_text (english place) content.now) }
     ensures memory { IsOkUnless result NoMemory }
 {
-    print_content(alloc, content, &cell_at(alloc, place), Locale::En, Language::En)
+    print_content(
+        alloc,
+        content,
+        &cell_at(alloc, place),
+        Locale::En,
+        Language::En,
+    )
 }
 
 /// The content that an English text is read as in the cell at a place inside the sheet.
@@ -47,5 +53,11 @@ pub fn english_input(alloc: Global, place: Position, text: &str) -> Result<Conte
     ensures fits { IfOk result (λ content. fits_at place content ≡ true) }
     ensures memory { IsOkUnless result NoMemory }
 {
-    read_input(alloc, text, &cell_at(alloc, place), Locale::En, Language::En)
+    read_input(
+        alloc,
+        text,
+        &cell_at(alloc, place),
+        Locale::En,
+        Language::En,
+    )
 }

@@ -1,6 +1,6 @@
 use super::{push_color, push_dump};
-use base_styles::{Color, Style, ThemeColor};
 use crate::english_input;
+use base_styles::{Color, Style, ThemeColor};
 use base_tables::{Locale, Zone};
 use base_values::{EditError, Position};
 use formula_tree::Node;

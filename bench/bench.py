@@ -18,13 +18,47 @@ PRINTER = os.path.join(TOP, "crates", "formula_bench", "out", "formula_bench")
 SMALL, LARGE = 10_000, 100_000
 FEW, MANY = 1_000, 10_000
 ROUNDS = 200
+READS = 20
 AIM = 25
 
 
+FORMULA = "=A1+$B$2*SUM(C3:D9)"
+COLUMNS = [chr(65 + n) if n < 26 else chr(64 + n // 26) + chr(65 + n % 26) for n in range(100)]
+
+
+def cells(count):
+    """The names of as many distinct cells, over 100 columns."""
+    return [f"{COLUMNS[n % 100]}{n // 100 + 1}" for n in range(count)]
+
+
 def sets(count):
-    """Sets as many distinct cells, over 100 columns."""
-    letters = [chr(65 + n) if n < 26 else chr(64 + n // 26) + chr(65 + n % 26) for n in range(100)]
-    return [f"set 0 {letters[n % 100]}{n // 100 + 1} {n}" for n in range(count)]
+    """Sets as many cells to numbers."""
+    return [f"set 0 {cell} {n}" for n, cell in enumerate(cells(count))]
+
+
+def formulas(count):
+    """Sets as many cells to a formula."""
+    return [f"set 0 {cell} {FORMULA}" for cell in cells(count)]
+
+
+def texts(count):
+    """Sets as many cells to a text as long as the formula."""
+    return [f"set 0 {cell} {'x' * len(FORMULA)}" for cell in cells(count)]
+
+
+def formulas_asked(count):
+    """Sets as many cells to a formula, and asks for each."""
+    return [line for cell in cells(count) for line in (f"set 0 {cell} {FORMULA}", f"get 0 {cell}")]
+
+
+def texts_asked(count):
+    return [line for cell in cells(count) for line in (f"set 0 {cell} {'x' * len(FORMULA)}", f"get 0 {cell}")]
+
+
+def long_formula(length):
+    """Sets one cell so often to a call whose text has that many bytes."""
+    text = "=SUM(" + "1," * ((length - 8) // 2) + "11)"
+    return [f"set 0 A1 {text}"] * READS
 
 
 def all_and_back(count):
@@ -66,6 +100,18 @@ def pair(name, script, program=EDITOR, sizes=(SMALL, LARGE)):
     return large, output, memory, ratio <= AIM
 
 
+def shares(formula_seconds):
+    """How the time of a set and a get of a formula is shared out, against a text of the same length."""
+    text_seconds, _, _ = run(EDITOR, texts(LARGE))
+    asked, _, _ = run(EDITOR, formulas_asked(LARGE))
+    text_asked, _, _ = run(EDITOR, texts_asked(LARGE))
+    reading = formula_seconds - text_seconds
+    printing = (asked - formula_seconds) - (text_asked - text_seconds)
+    storing = asked - reading - printing
+    for name, seconds in (("reading", reading), ("printing", printing), ("storing and the rest", storing)):
+        print(f"  {name}: {seconds / asked * 100:.0f} % of a set and a get")
+
+
 def main():
     if not os.path.exists(EDITOR):
         sys.exit("bench: build the program first, by ./run examples/first.script")
@@ -77,8 +123,13 @@ def main():
     seconds, output, _, fast_sync = pair("edits with a sync after each", synced_each)
     synced = sum(len(line) - 5 for line in output.split(b"\n") if line.startswith(b"sync ")) // 2
     print(f"  {synced / seconds / 1e6:.1f} million bytes of sync a second")
+    seconds, _, memory, fast_set = pair("sets of a formula", formulas)
+    print(f"  {seconds / LARGE * 1e9:.0f} ns an edit, at most {memory / LARGE:.0f} bytes a set cell in all")
+    shares(seconds)
+    _, _, _, fast_read = pair(f"bytes of a formula, read {READS} times", long_formula)
     _, _, _, fast_print = pair("arguments printed in five forms", printed_call, PRINTER, (FEW, MANY))
-    sys.exit(0 if fast and fast_back and fast_sync and fast_print else 1)
+    all_fast = fast and fast_back and fast_sync and fast_set and fast_read and fast_print
+    sys.exit(0 if all_fast else 1)
 
 
 if __name__ == "__main__":

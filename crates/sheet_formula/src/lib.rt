@@ -1,0 +1,19 @@
+//! Formulas in one crate: trees, their texts both ways, references that move, and what cells hold.
+//!
+//! It passes on what `formula_tree`, `formula_print`, `formula_read`, `formula_move`,
+//! `formula_content` and `formula_input` hold; their contracts stand there.
+#![tactic(auto)]
+
+pub use formula_content::{Content, fits_at};
+pub use formula_input::{contents_read_again, print_content, read_input};
+pub use formula_move::{DisplaceData, displace_node, to_string_displaced};
+pub use formula_print::{
+    to_english_string, to_excel_array_formula_string, to_excel_string, to_localized_string,
+    to_rc_format,
+};
+pub use formula_read::{read_formula, text_has_one_tree};
+pub use formula_tree::{
+    ArrayItem, CellReferenceRC, CompareKind, Corner, CornerMap, MAX_DEPTH, Node, Parameter,
+    ProductKind, SumKind, UnaryKind, corner_at, has_kept_numbers, has_no_negative_number,
+    is_at_most_deep, is_parse_error, is_placed, move_node, rebase_node,
+};

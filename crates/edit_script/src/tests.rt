@@ -230,3 +230,48 @@ fn formulas_of_every_kind(rt: HostRuntime) -> Result<(), Fail> {
     assert!(rt; output.bytes().ends_with(FORMULAS_BOOK.as_bytes()));
     Ok(())
 }
+
+/// What formulas are made of, and what breaks them.
+const PIECES: [&str; 40] = [
+    "(", ")", "{", "}", "[", "]", ",", ";", ":", "+", "-", "*", "/", "^", "%", "&", "#", "@", "=",
+    "<", ">", "\"", "'", "!", "$", "A1", "B$2", "C:D", "3:4", "SUM", "LAMBDA", "LET(x,", "x",
+    "1.5", "1e3", "#REF!", "TRUE", " ", "\u{e9}", "Sheet1!",
+];
+
+/// A formula of pieces that are drawn one after another, with the state of the draw behind it.
+fn drawn_formula(alloc: Global, seed: u64) -> Result<(String, u64), Fail> {
+    let mut formula = String::new(alloc);
+    let mut state = seed;
+    for _ in 0..12 {
+        state = state
+            .wrapping_mul(6364136223846793005)
+            .wrapping_add(1442695040888963407);
+        if let Some(piece) = PIECES.get((state >> 33) as usize % PIECES.len()) {
+            formula.push_str(piece)?;
+        }
+    }
+    Ok((formula, state))
+}
+
+/// Texts of drawn pieces, each typed and asked for.
+fn drawn_script(alloc: Global, count: usize) -> Result<String, Fail> {
+    let mut script = String::new(alloc);
+    let mut seed = 1;
+    for _ in 0..count {
+        let (formula, next) = drawn_formula(alloc, seed)?;
+        script.push_str(format!(in alloc; "set 0 A1 ={formula}\nget 0 A1\n")?.as_str())?;
+        seed = next;
+    }
+    Ok(script)
+}
+
+/// No text stops a script, whatever stands behind the equals sign.
+#[test]
+fn drawn_formulas_are_answered(rt: HostRuntime) -> Result<(), Fail> {
+    let alloc = rt.alloc();
+    let (outcome, output) = run_failing(alloc, &drawn_script(alloc, 300)?, &[], &[])?;
+    assert_eq!(rt; outcome, Ok(()));
+    let lines = output.bytes().iter().filter(|byte| **byte == b'\n').count();
+    assert_eq!(rt; lines, 604);
+    Ok(())
+}

@@ -1,7 +1,6 @@
 -- What an input that is accepted found and made.
-use Rattle.std.proofs.Common.{◌≡◌, ℕ, ℤ, pos, Bool, true, false, cond, List, [], ◌∷◌, Option, Some, None, Result, Ok, Err, refl, ap, sym, subst, ◌∙◌, arith}
-use Rattle.std.specs.Prelude.{IfSome, slice_get, FitsSigned, ◌<◌, ◌^◌}
-use Rattle.std.specs.Int.{w32}
+use Rattle.std.proofs.Common.{◌≡◌, ℕ, ℤ, pos, Bool, true, false, cond, List, Option, Some, None, Result, Ok, Err, refl, ap, sym, ◌∙◌}
+use Rattle.std.specs.Prelude.{slice_get}
 use Rattle.std.specs.Cmp.{eq_by_cmp_equiv}
 use Rattle.std.specs.FinMap as fin
 use Rattle.base_values.specs.declared.EditError.{EditError}
@@ -12,13 +11,11 @@ use Rattle.base_values.specs.KeyMap.{get-with_entry}
 use Rattle.base_values.specs.Places.{is_line, place_of, position_total}
 use Rattle.sheet_grid.specs.declared.Cell.{Cell}
 use Rattle.formula_content.specs.declared.Content.{Content}
-use Rattle.sheet_grid.specs.CellEquals.{same_entry}
 use Rattle.sheet_grid.specs.Sheet.{Sheet, with_cell, shown_style, cell_put}
 use Rattle.sheet_grid.specs.Book.{Book, sheet_at, sheet_edit, with_sheet}
 use Rattle.sheet_history.specs.declared.Diff.{Diff}
-use Rattle.sheet_history.specs.declared.Diff.TheVariants.{Cell as CellDiff}
 use Rattle.script_editor.specs.Inputs.{entered, with_input, input_put, cell_change, place_change, plan_at, input_plan}
-use Rattle.script_editor.specs.Machine.{Edit, record_of}
+use Rattle.script_editor.specs.Machine.{record_of}
 use Rattle.script_editor.specs.Document.{Document, document_edit, recorded, cell_recorded}
 use Rattle.script_editor.specs.Machine.Edit.{Input}
 use Rattle.script_editor.proofs.InputLaws.{get_set}

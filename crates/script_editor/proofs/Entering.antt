@@ -1,7 +1,6 @@
 -- What an input that is accepted found and made.
-use Rattle.std.proofs.Common.{◌≡◌, ℕ, ℤ, pos, Bool, true, false, cond, List, [], ◌∷◌, Option, Some, None, Result, Ok, Err, refl, ap, sym, subst, ◌∙◌, arith}
-use Rattle.std.specs.Prelude.{IfSome, slice_get, FitsSigned, ◌<◌, ◌^◌}
-use Rattle.std.specs.Int.{w32}
+use Rattle.std.proofs.Common.{◌≡◌, ℕ, ℤ, pos, Bool, true, false, cond, List, Option, Some, None, Result, Ok, Err, refl, ap, sym, ◌∙◌}
+use Rattle.std.specs.Prelude.{slice_get}
 use Rattle.std.specs.Cmp.{eq_by_cmp_equiv}
 use Rattle.std.specs.FinMap as fin
 use Rattle.base_values.specs.declared.EditError.{EditError}
@@ -12,14 +11,12 @@ use Rattle.base_values.specs.KeyMap.{get-with_entry}
 use Rattle.base_values.specs.Places.{is_line, place_of, position_total}
 use Rattle.sheet_grid.specs.declared.Cell.{Cell}
 use Rattle.formula_content.specs.declared.Content.{Content}
-use Rattle.sheet_grid.specs.CellEquals.{same_entry}
 use Rattle.sheet_grid.specs.Sheet.{Sheet, with_cell, shown_style, cell_put}
 use Rattle.sheet_grid.specs.Book.{Book, sheet_at, sheet_edit, with_sheet}
 use Rattle.sheet_history.specs.declared.Diff.{Diff}
-use Rattle.sheet_history.specs.declared.Diff.TheVariants.{Cell as CellDiff}
 use Rattle.script_editor.specs.Inputs.{entered, with_input, input_put, cell_change, place_change, plan_at, input_plan}
-use Rattle.script_editor.specs.Machine.{Edit, record_of}
-use Rattle.script_editor.specs.Document.{Document, document_edit, recorded}
+use Rattle.script_editor.specs.Machine.{record_of}
+use Rattle.script_editor.specs.Document.{Document, document_edit, recorded, cell_recorded}
 use Rattle.script_editor.specs.Machine.Edit.{Input}
 use Rattle.script_editor.proofs.InputLaws.{get_set}
 
@@ -105,20 +102,19 @@ planned w index row column content new list is = go (sheet_at w index) refl (pla
     go (Ok sheet) one (Err error) two e = absurd (let never : Err error ≡ Ok (new, list) = e in cc)
     go (Err error) one q two e = absurd (let never : Err error ≡ Ok (new, list) = e in cc)
 
--- a planned entry that was put makes the edit, and the planned list is its record
-pub entered_document : (doc : Document) (later : Book) (index : ℕ) (row column : ℤ) (content : Content) (new : Option Cell) (list : List Diff)
-    → input_plan index row column content doc.book ≡ Ok (new, list) → sheet_edit doc.book index (λ s. cell_put s row column new) ≡ Ok later
-    → document_edit (Input index row column content) doc ≡ Ok (recorded list doc later)
-entered_document doc later index row column content new list plan put =
+-- to put a planned entry and its list is the edit
+pub recorded_document : (doc : Document) (index : ℕ) (row column : ℤ) (content : Content) (new : Option Cell) (list : List Diff)
+    → input_plan index row column content doc.book ≡ Ok (new, list) → cell_recorded index row column new list doc ≡ document_edit (Input index row column content) doc
+recorded_document doc index row column content new list plan =
     let it = planned doc.book index row column content new list plan in
     let w : Book = doc.book in
-    let book : Book = input_book w index it.sheet content it.place in
-    let edited : sheet_edit w index (λ s. cell_put s row column new) ≡ Ok (with_sheet w index (with_cell it.sheet it.place new)) =
+    let later : Book = with_sheet w index (with_cell it.sheet it.place new) in
+    let put : sheet_edit w index (λ s. cell_put s row column new) ≡ Ok later =
     (λ i. and_then (it.at i) (λ s. map_ok (with_sheet w index) (map_ok (λ p. with_cell s p new) (it.named i)))) in
-    let one : Ok (with_sheet w index (with_cell it.sheet it.place new)) ≡ Ok later = sym edited ∙ put in
-    let same : with_sheet w index (with_cell it.sheet it.place new) ≡ later = cc in
-    let last : book ≡ later = ap (λ e. with_sheet w index (with_cell it.sheet it.place e)) it.entry ∙ same in
+    let book : Book = input_book w index it.sheet content it.place in
+    let last : book ≡ later = ap (λ e. with_sheet w index (with_cell it.sheet it.place e)) it.entry in
     let made : input_put index row column content w ≡ Ok later = input_made w index row column content it.sheet it.place it.at it.named ∙ ap Ok last in
     let record_is : record_of (Input index row column content) w later ≡ list =
     ap (record_of (Input index row column content) w) (sym last) ∙ input_record w index row column content it.sheet it.place it.at it.named ∙ it.changes in
-    ap (map_ok (λ b. recorded (record_of (Input index row column content) w b) doc b)) made ∙ ap (λ l. Ok (recorded l doc later)) record_is
+    ap (map_ok (λ b. recorded list doc b)) put ∙ ap (λ l. Ok (recorded l doc later)) (sym record_is)
+    ∙ sym (ap (map_ok (λ b. recorded (record_of (Input index row column content) w b) doc b)) made)

@@ -1,7 +1,6 @@
 -- Workbooks that bytes can carry, before and after an input.
-use Rattle.std.proofs.Common.{◌≡◌, ◌≢◌, ℕ, ℤ, pos, ◌<◌, ◌^◌, lit<, Bool, true, false, cond, List, [], ◌∷◌, zero, suc, Option, Some, None, Result, Ok, Err, refl, ap, sym, subst, ◌∙◌, ⊎_elim, arith}
-use Rattle.std.specs.Prelude.{IfSome, IsTrue, slice_get, slice_set, FitsSigned, codes}
-use Rattle.std.specs.Int.{w32}
+use Rattle.std.proofs.Common.{◌≡◌, ℕ, lit<, Bool, true, false, cond, List, zero, suc, Option, Some, None, refl, ap, sym, subst, ◌∙◌, ⊎_elim}
+use Rattle.std.specs.Prelude.{IfSome, IsTrue, slice_get, codes}
 use Rattle.std.specs.Ordering.{eq_by_cmp}
 use Rattle.std.proofs.lemmas.Bool.{cases_eq}
 use Rattle.std.specs.FinMap as fin
@@ -14,13 +13,11 @@ use Rattle.sheet_grid.specs.declared.Cell.{Cell}
 use Rattle.formula_content.specs.declared.Content.{Content}
 use Rattle.formula_content.specs.declared.Content.TheVariants.{Empty, Number, Boolean, Error, Text, Formula, Dynamic}
 use Rattle.formula_content.specs.Fitting.{fits_at}
-use Rattle.sheet_grid.specs.CellEquals.{same_entry}
-use Rattle.sheet_grid.specs.FittingCells.{entry_fits_at, SheetsFit}
-use Rattle.sheet_grid.specs.FittingLaws.{cells_fit-put, cells_fit-at, sheets_fit-new, sheets_fit-set}
+use Rattle.sheet_grid.specs.FittingCells.{entry_fits_at}
+use Rattle.sheet_grid.specs.FittingLaws.{sheets_fit-new, sheets_fit-set}
 use Rattle.sheet_grid.specs.Sheet.{Sheet, with_cell, style_of, new_sheet}
 use Rattle.sheet_grid.specs.Book.{Book, index_of, with_sheet}
 use Rattle.sheet_wire.specs.CellBytes.{FitsCell, FitsContent}
-use Rattle.sheet_wire.specs.StyleBytes.{FitsStyle}
 use Rattle.sheet_wire.specs.Fitting.{default_style_fits}
 use Rattle.script_editor.specs.Inputs.{new_cell, entered}
 use Rattle.script_editor.specs.Machine.{first_book}

@@ -1,6 +1,6 @@
 -- A diff of one cell takes a workbook forward and back.
-use Rattle.std.proofs.Common.{◌≡◌, ◌≢◌, ℕ, ◌<◌, Bool, true, false, cond, List, [], ◌∷◌, map, length, get_or, zero, suc, Option, Some, None, Result, Ok, Err, refl, ap, sym, subst, ◌∙◌}
-use Rattle.std.specs.Prelude.{◌==◌, slice_get, slice_set, nat_lt, position}
+use Rattle.std.proofs.Common.{◌≡◌, ◌≢◌, ℕ, Bool, true, false, cond, List, [], ◌∷◌, zero, suc, Option, Some, None, Result, Ok, refl, ap, sym, ◌∙◌}
+use Rattle.std.specs.Prelude.{◌==◌, slice_get, slice_set, nat_lt}
 use Rattle.std.specs.List.{position_or_len}
 use Rattle.std.proofs.lemmas.List.{length-set}
 use Rattle.std.proofs.lemmas.List.Folds.{position_or_len-set}
@@ -19,7 +19,7 @@ use Rattle.base_values.specs.Places.{place_of, position_cmp, position_total, exa
 use Rattle.sheet_grid.specs.declared.Cell.{Cell}
 use Rattle.sheet_grid.specs.CellEquals.{same_entry, same_entry_decides}
 use Rattle.sheet_grid.specs.Sheet.{Sheet, with_cell, cell_put}
-use Rattle.sheet_grid.specs.Book.{Book, index_of, sheet_at, sheet_edit, with_sheet}
+use Rattle.sheet_grid.specs.Book.{Book, index_of, sheet_edit, with_sheet}
 use Rattle.sheet_grid.specs.FittingCells.{entry_fits_at}
 use Rattle.sheet_history.specs.declared.Diff.{Diff}
 use Rattle.sheet_history.specs.declared.Diff.TheVariants.{Cell as CellDiff}

@@ -1,5 +1,5 @@
 -- The changes of one cell are the record of the two workbooks.
-use Rattle.std.proofs.Common.{◌≡◌, ◌≢◌, ℕ, Bool, true, false, cond, List, [], ◌∷◌, map, zero, suc, Option, Some, None, Ok, refl, ap, sym, subst, ◌∙◌, ⊎_elim}
+use Rattle.std.proofs.Common.{◌≡◌, ◌≢◌, ℕ, Bool, true, false, cond, List, [], ◌∷◌, map, zero, suc, Option, Some, None, refl, ap, sym, ◌∙◌, ⊎_elim}
 use Rattle.std.specs.Prelude.{◌==◌, slice_get, slice_set, IsTrue}
 use Rattle.std.specs.Option.{option_map, option_and_then}
 use Rattle.std.specs.Ordering.{eq_by_cmp}
@@ -16,9 +16,8 @@ use Rattle.sheet_grid.specs.declared.Cell.{Cell}
 use Rattle.sheet_grid.specs.CellEquals.{same_entry, same_entry_decides}
 use Rattle.sheet_grid.specs.Sheet.{Sheet, with_cell}
 use Rattle.sheet_grid.specs.Book.{Book, index_of, with_sheet}
-use Rattle.sheet_history.specs.declared.Diff.{Diff}
 use Rattle.sheet_history.specs.declared.Diff.TheVariants.{Cell as CellDiff}
-use Rattle.sheet_history.specs.Records.{EntryKey, key_cmp, sheet_of_id, entry_at, frame_of, changed_entry, change_of, IsRecord}
+use Rattle.sheet_history.specs.Records.{EntryKey, key_cmp, entry_at, frame_of, changed_entry, change_of, IsRecord}
 use Rattle.sheet_history.specs.RecordLaws.{key_total, exact_keys}
 use Rattle.script_editor.specs.Inputs.{cell_change}
 use Rattle.script_editor.proofs.InputLaws.{get_set, get_set_other, index_of-with_sheet, unchanged}

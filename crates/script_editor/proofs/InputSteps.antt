@@ -1,35 +1,32 @@
 -- An input that is accepted is a sound step.
-use Rattle.std.proofs.Common.{◌≡◌, ℕ, ℤ, pos, Bool, true, false, cond, List, [], ◌∷◌, Option, Some, None, Result, Ok, Err, refl, ap, sym, subst, ◌∙◌, arith}
+use Rattle.std.proofs.Common.{◌≡◌, ℕ, ℤ, Bool, true, false, cond, [], ◌∷◌, Option, Some, Result, Ok, Err, refl, ap, sym, subst, ◌∙◌, arith}
 use Rattle.std.specs.Prelude.{IfSome, IsTrue, slice_get, FitsSigned, ◌<◌, ◌^◌}
 use Rattle.std.specs.Int.{w32}
-use Rattle.std.specs.Cmp.{eq_by_cmp_equiv}
 use Rattle.std.specs.FinMap as fin
 use Rattle.base_values.specs.declared.EditError.{EditError}
-use Rattle.base_values.specs.declared.EditError.TheVariants.{InvalidSheet, InvalidRow, InvalidColumn}
+use Rattle.base_values.specs.declared.EditError.TheVariants.{InvalidSheet}
 use Rattle.base_values.specs.declared.Position.{Position}
-use Rattle.base_values.specs.Answers.{and_then, map_ok, ok_or}
-use Rattle.base_values.specs.KeyMap.{get-with_entry}
-use Rattle.base_values.specs.Places.{is_line, place_of, position_total}
+use Rattle.base_values.specs.Answers.{map_ok}
+use Rattle.base_values.specs.Places.{place_of}
 use Rattle.sheet_grid.specs.declared.Cell.{Cell}
 use Rattle.formula_content.specs.declared.Content.{Content}
 use Rattle.formula_content.specs.Fitting.{fits_at}
 use Rattle.sheet_grid.specs.CellEquals.{same_entry}
 use Rattle.sheet_grid.specs.FittingCells.{entry_fits_at}
 use Rattle.sheet_grid.specs.FittingLaws.{place_is, cells_fit-at}
-use Rattle.sheet_grid.specs.Sheet.{Sheet, with_cell, shown_style}
-use Rattle.sheet_grid.specs.Book.{Book, sheet_at, sheet_edit, with_sheet}
-use Rattle.sheet_history.specs.declared.Diff.{Diff}
+use Rattle.sheet_grid.specs.Sheet.{Sheet}
+use Rattle.sheet_grid.specs.Book.{Book, sheet_at}
 use Rattle.sheet_history.specs.declared.Diff.TheVariants.{Cell as CellDiff}
 use Rattle.sheet_history.specs.Diffs.{forwarded, backed}
 use Rattle.sheet_history.specs.Records.{IsRecord}
 use Rattle.sheet_wire.specs.CellBytes.{FitsContent, FitsCell, FitsPosition}
 use Rattle.sheet_wire.specs.QueueBytes.{FitsList}
 use Rattle.sheet_wire.specs.Fitting.{cell_list_fits}
-use Rattle.script_editor.specs.Inputs.{entered, with_input, input_put, cell_change, place_change}
-use Rattle.script_editor.specs.Machine.{Edit, State, changed, edited, edit_of}
+use Rattle.script_editor.specs.Inputs.{input_put, cell_change, place_change}
+use Rattle.script_editor.specs.Machine.{State, edited, edit_of}
 use Rattle.script_editor.specs.Machine.Edit.{Input}
 use Rattle.script_editor.specs.Sound.{IsFit, IsSoundStep, IsSound}
-use Rattle.script_editor.proofs.Entering.{Found, accepted, place_parts, place_again, found_some, input_entry, input_book, input_record}
+use Rattle.script_editor.proofs.Entering.{accepted, place_parts, place_again, found_some, input_entry, input_book, input_record}
 use Rattle.script_editor.proofs.Fits.{entered_fits, entered_placed, later_fit}
 use Rattle.script_editor.proofs.InputLaws.{changes_forward, changes_back}
 use Rattle.script_editor.proofs.InputRecord.{changes_IsRecord}

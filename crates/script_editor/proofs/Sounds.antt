@@ -1,29 +1,20 @@
 -- Every step of the machine keeps it sound, and an editor's documents go along.
-use Rattle.std.proofs.Common.{◌≡◌, ◌≢◌, ℕ, ℤ, ◌+◌, ◌<◌, ◌^◌, Bool, true, false, cond, List, [], ◌∷◌, ◌++◌, map, length, Option, Some, None, Result, Ok, Err, refl, ap, sym, subst, ◌∙◌, arith}
-use Rattle.std.specs.Prelude.{IfSome, slice_get, IsOkAnd}
+use Rattle.std.proofs.Common.{◌≡◌, ℕ, ◌+◌, ◌<◌, ◌^◌, List, [], ◌∷◌, ◌++◌, map, length, Result, Ok, Err, refl, ap, sym, subst, ◌∙◌, arith}
 use Rattle.std.specs.List.{AllByRecursion}
 use Rattle.std.proofs.lemmas.List.{map_push}
-use Rattle.std.specs.FinMap as fin
 use Rattle.base_values.specs.declared.EditError.{EditError}
-use Rattle.base_values.specs.declared.EditError.TheVariants.{NoMemory}
-use Rattle.base_values.specs.declared.Position.{Position}
 use Rattle.base_values.specs.Answers.{Edits, and_then, map_ok}
-use Rattle.base_values.specs.Places.{place_of}
-use Rattle.formula_content.specs.declared.Content.{Content}
-use Rattle.sheet_grid.specs.Sheet.{Sheet}
-use Rattle.sheet_grid.specs.Book.{Book, sheet_at}
-use Rattle.sheet_history.specs.declared.Diff.{Diff}
-use Rattle.sheet_history.specs.declared.DiffType.{DiffType}
+use Rattle.sheet_grid.specs.Book.{Book}
 use Rattle.sheet_history.specs.declared.DiffType.TheVariants.{Undo, Redo}
 use Rattle.sheet_history.specs.declared.QueueDiffs.{QueueDiffs}
-use Rattle.sheet_history.specs.Diffs.{forwarded, backed, follow, in_entry, replayed, replayed_from}
+use Rattle.sheet_history.specs.Diffs.{forwarded, backed, follow, in_entry, replayed}
 use Rattle.sheet_history.specs.ReplayLaws.{replayed_from-push}
 use Rattle.sheet_wire.specs.QueueBytes.{FitsList, FitsEntry, spell_queue}
 use Rattle.sheet_wire.specs.QueueLaws.{queue_again}
 use Rattle.script_editor.specs.declared.editor.Editor.{Editor}
-use Rattle.script_editor.specs.Document.{Document, document, document_edit, document_undo, undo_at, document_redo, redo_at, recorded, taken_back, made_again, sending}
+use Rattle.script_editor.specs.Document.{Document, document, document_edit, document_undo, undo_at, document_redo, redo_at, recorded, taken_back, made_again}
 use Rattle.script_editor.specs.Machine.{Edit, Step, Sent, State, start, changed, record_of, step_record, edited, edit_of, undo_from, undo_of, redo_from, redo_of, synced_of, entry_of}
-use Rattle.script_editor.specs.Sound.{IsFit, IsSoundStep, Leads, Follows, IsSound}
+use Rattle.script_editor.specs.Sound.{IsSoundStep, Leads, Follows, IsSound}
 use Rattle.script_editor.specs.Stands.{StandsFor, Moves, document_of, replayed_bytes}
 use Rattle.script_editor.proofs.Fits.{first_fit}
 

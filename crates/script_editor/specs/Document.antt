@@ -1,9 +1,10 @@
 -- What an editor keeps: the workbook, and diffs of what was there before.
-use Rattle.std.proofs.Common.{ℕ, ℤ, List, [], ◌∷◌, ◌++◌, map, Result, Ok, Err}
+use Rattle.std.proofs.Common.{ℕ, ℤ, List, [], ◌∷◌, ◌++◌, map, Option, Result, Ok}
 use Rattle.base_values.specs.declared.EditError.{EditError}
 use Rattle.base_values.specs.Answers.{map_ok}
-use Rattle.formula_content.specs.declared.Content.{Content}
-use Rattle.sheet_grid.specs.Book.{Book}
+use Rattle.sheet_grid.specs.declared.Cell.{Cell}
+use Rattle.sheet_grid.specs.Sheet.{cell_put}
+use Rattle.sheet_grid.specs.Book.{Book, sheet_edit}
 use Rattle.sheet_history.specs.declared.Diff.{Diff}
 use Rattle.sheet_history.specs.declared.DiffType.{DiffType}
 use Rattle.sheet_history.specs.declared.DiffType.TheVariants.{Undo, Redo}
@@ -30,6 +31,10 @@ sending kind list queue = queue ++ record { kind = kind; list = list } ∷ []
 -- a document after an accepted edit
 abbrev pub recorded : List Diff → Document → Book → Document
 recorded list doc later = record { book = later; undo = list ∷ doc.undo; redo = []; queue = sending Redo list doc.queue }
+
+-- a cell, or none, put at a place, and a record of it
+abbrev pub cell_recorded : ℕ → ℤ → ℤ → Option Cell → List Diff → Document → Result Document EditError
+cell_recorded index row column entry list doc = map_ok (recorded list doc) (sheet_edit doc.book index (λ sheet. cell_put sheet row column entry))
 
 -- an edit of a document
 abbrev pub document_edit : Edit → Document → Result Document EditError

@@ -1,5 +1,5 @@
 -- What the input of a content does to a workbook.
-use Rattle.std.proofs.Common.{ℕ, ℤ, List, [], ◌∷◌, Option, Some, None, Result, Ok, Err, cond}
+use Rattle.std.proofs.Common.{ℕ, ℤ, List, [], ◌∷◌, Option, Some, None, Result, Ok}
 use Rattle.std.specs.Prelude.{if◌then◌else◌}
 use Rattle.std.specs.FinMap as fin
 use Rattle.base_values.specs.declared.EditError.{EditError}
@@ -9,7 +9,7 @@ use Rattle.base_values.specs.Places.{place_of}
 use Rattle.base_styles.specs.declared.Style.{Style}
 use Rattle.sheet_grid.specs.declared.Cell.{Cell}
 use Rattle.formula_content.specs.declared.Content.{Content}
-use Rattle.formula_content.specs.declared.Content.TheVariants.{Empty, Number, Boolean, Error, Text}
+use Rattle.formula_content.specs.declared.Content.TheVariants.{Empty}
 use Rattle.sheet_grid.specs.CellEquals.{same_entry}
 use Rattle.sheet_grid.specs.Sheet.{Sheet, with_cell, shown_style}
 use Rattle.sheet_grid.specs.Book.{Book, sheet_at, sheet_edit}

@@ -1,5 +1,5 @@
 -- The machine that keeps whole earlier and later workbooks.
-use Rattle.std.proofs.Common.{ℕ, ℤ, List, [], ◌∷◌, ◌++◌, map, Result, Ok, Err}
+use Rattle.std.proofs.Common.{ℕ, ℤ, List, [], ◌∷◌, ◌++◌, Result}
 use Rattle.std.specs.Prelude.{codes}
 use Rattle.base_values.specs.declared.EditError.{EditError}
 use Rattle.base_values.specs.Answers.{map_ok}

@@ -1,5 +1,5 @@
 -- For which states of the machine an editor stands, and what its calls do with them.
-use Rattle.std.proofs.Common.{◌≡◌, ◌≢◌, ℕ, List, map, Result, Ok, Err}
+use Rattle.std.proofs.Common.{◌≡◌, ◌≢◌, ℕ, List, map, Result, Err}
 use Rattle.std.specs.Prelude.{OnOk, IfErr, IsOkAnd}
 use Rattle.base_values.specs.declared.EditError.{EditError}
 use Rattle.base_values.specs.declared.EditError.TheVariants.{NoMemory}

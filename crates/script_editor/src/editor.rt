@@ -10,6 +10,9 @@ ghost use Rattle.sheet_grid.specs.FittingCells.{entry_fits_at, is_shallow_entry,
 ghost use Rattle.sheet_grid.specs.FittingProps.{sheets_fit_prop};
 ghost use Rattle.sheet_grid.specs.Sheet.{cell_put, style_of};
 ghost use Rattle.sheet_history.specs.Diffs.{IsKeptList};
+ghost use Rattle.sheet_history.specs.declared.DiffType.TheVariants.{Redo};
+ghost use Rattle.sheet_history.specs.Stacks.{undo_lists, redo_lists, spare};
+ghost use Rattle.script_editor.specs.Document.{sending};
 ghost use Rattle.script_editor.specs.Inputs.{cell_change, entered, input_plan};
 ghost use Rattle.script_editor.specs.Machine.Edit.{Input};
 
@@ -97,8 +100,29 @@ fn put_cell(
     workbook.put_cell(sheet, row, column, entry)
 }
 
+/// Makes room for a list on the stacks, and puts it in the queue as one that was made.
+fn send(
+    history: &mut History,
+    queue: &mut Items<QueueDiffs>,
+    list: &DiffList,
+) -> Result<(), EditError>
+    ensures sent { OnOk result (queue.new ≡ sending Redo list.now queue.old) }
+    ensures room { OnOk result (1 ≤ spare history.new) }
+    ensures queue { OnErr result (queue.new ≡ queue.old) }
+    ensures undo { undo_lists history.new ≡ undo_lists history.old }
+    ensures redo { redo_lists history.new ≡ redo_lists history.old }
+    ensures only { IsOkUnless result NoMemory }
+{
+    history.reserve()?;
+    queue.push(QueueDiffs {
+        kind: DiffType::Redo,
+        list: copy_of(list)?,
+    })?;
+    Ok(())
+}
+
 impl Editor {
-    ghost use Rattle.script_editor.specs.Document.{document_edit, document_undo, document_redo};
+    ghost use Rattle.script_editor.specs.Document.{cell_recorded, document_edit, document_undo, document_redo};
     ghost use Rattle.script_editor.specs.Machine.{State, start, edit_of, undo_of, redo_of, synced_of};
     ghost use Rattle.script_editor.specs.Stands.{StandsFor, Moves, book_of, document_of, sync_bytes, replayed_bytes};
 
@@ -146,6 +170,32 @@ impl Editor {
         Ok((new, list))
     }
 
+    /// Puts a cell, or none, in the workbook, and its record on the undo stack and in the queue.
+    fn put_recorded(
+        &mut self,
+        sheet: u32,
+        row: i32,
+        column: i32,
+        new: Option<Cell>,
+        list: DiffList,
+    ) -> Result<(), EditError>
+        requires kept { IfSome new IsKeptCell }
+        requires fits { IsTrue (entry_fits_at (record { row = row; column = column }) new) }
+        requires record { IsKeptList list }
+        ensures { Edits result (document_of self.old) (document_of self.new) (cell_recorded sheet row column new list (document_of self.old)) }
+    {
+        let length = self.queue.len();
+        send(&mut self.history, &mut self.queue, &list)?;
+        if let Err(error) = put_cell(&mut self.workbook, sheet, row, column, new) {
+            self.queue.truncate(length);
+            return Err(error);
+        }
+        match self.history.push(list) {
+            Ok(()) => Ok(()),
+            Err(_) => unreachable!(),
+        }
+    }
+
     /// Puts a content in the workbook, and its record on the undo stack and in the queue.
     fn enter(
         &mut self,
@@ -159,21 +209,7 @@ impl Editor {
         ensures { Edits result (document_of self.old) (document_of self.new) (document_edit (Input sheet row column content) (document_of self.old)) }
     {
         let (new, list) = self.plan(sheet, row, column, content)?;
-        let sent = QueueDiffs {
-            kind: DiffType::Redo,
-            list: copy_of(&list)?,
-        };
-        self.history.reserve()?;
-        let length = self.queue.len();
-        self.queue.push(sent)?;
-        if let Err(error) = put_cell(&mut self.workbook, sheet, row, column, new) {
-            self.queue.truncate(length);
-            return Err(error);
-        }
-        match self.history.push(list) {
-            Ok(()) => Ok(()),
-            Err(_) => unreachable!(),
-        }
+        self.put_recorded(sheet, row, column, new, list)
     }
 
     /// Puts a content at a row and a column of the sheet at an index, and records the change.

@@ -1,5 +1,4 @@
-use Rattle.std.proofs.Common.{ap, ◌∙◌, ◌<◌, ◌^◌, length, subst, List}
-use Rattle.sheet_history.specs.declared.QueueDiffs.{QueueDiffs}
+use Rattle.std.proofs.Common.{ap, ◌∙◌}
 use Rattle.sheet_wire.specs.QueueBytes.{spell_queue}
 use Rattle.script_editor.proofs.Sounds.{flushed_replays}
 use Rattle.script_editor.proofs.editor.Editor.flush_send_queue.Goals as goal

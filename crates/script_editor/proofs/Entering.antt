@@ -1,16 +1,17 @@
 -- What an input that is accepted found and made.
-use Rattle.std.proofs.Common.{◌≡◌, ℕ, ℤ, pos, Bool, true, false, cond, List, Option, Some, None, Result, Ok, Err, refl, ap, sym, ◌∙◌}
+use Rattle.std.proofs.Common.{◌≡◌, ℕ, ℤ, cond, List, Option, Some, None, Result, Ok, Err, refl, ap, sym, ◌∙◌}
 use Rattle.std.specs.Prelude.{slice_get}
 use Rattle.std.specs.Cmp.{eq_by_cmp_equiv}
 use Rattle.std.specs.FinMap as fin
 use Rattle.base_values.specs.declared.EditError.{EditError}
-use Rattle.base_values.specs.declared.EditError.TheVariants.{InvalidSheet, InvalidRow, InvalidColumn}
+use Rattle.base_values.specs.declared.EditError.TheVariants.{InvalidSheet}
 use Rattle.base_values.specs.declared.Position.{Position}
 use Rattle.base_values.specs.Answers.{and_then, map_ok, ok_or}
 use Rattle.base_values.specs.KeyMap.{get-with_entry}
-use Rattle.base_values.specs.Places.{is_line, place_of, position_total}
+use Rattle.base_values.specs.Places.{place_of, position_total}
 use Rattle.sheet_grid.specs.declared.Cell.{Cell}
 use Rattle.formula_content.specs.declared.Content.{Content}
+use Rattle.sheet_grid.specs.FittingLaws.{place_is}
 use Rattle.sheet_grid.specs.Sheet.{Sheet, with_cell, shown_style, cell_put}
 use Rattle.sheet_grid.specs.Book.{Book, sheet_at, sheet_edit, with_sheet}
 use Rattle.sheet_history.specs.declared.Diff.{Diff}
@@ -19,18 +20,6 @@ use Rattle.script_editor.specs.Machine.{record_of}
 use Rattle.script_editor.specs.Document.{Document, document_edit, recorded, cell_recorded}
 use Rattle.script_editor.specs.Machine.Edit.{Input}
 use Rattle.script_editor.proofs.InputLaws.{get_set}
-
--- the place at a row and a column has that row and that column
-pub place_parts : (row column : ℤ) (place : Position) → place_of row column ≡ Ok place → (row ≡ place.row) × (column ≡ place.column)
-unfolding place_of
-place_parts row column place is = go (is_line (pos 1048576) row) (is_line (pos 16384) column) is
-  where
-    go : (a b : Bool) → ◌≡◌ {A = Result Position EditError} (cond a (cond b (Ok (record { row = row; column = column })) (Err InvalidColumn)) (Err InvalidRow)) (Ok place) → (row ≡ place.row) × (column ≡ place.column)
-    go true true e =
-        let same : record { row = row; column = column } ≡ place = cc in
-        (ap (λ (p : Position). p.row) same, ap (λ (p : Position). p.column) same)
-    go true false e = cc
-    go false b e = cc
 
 pub found_some : (o : Option Sheet) (error : EditError) (sheet : Sheet) → ok_or error o ≡ Ok sheet → o ≡ Some sheet
 found_some None error sheet e = cc
@@ -53,9 +42,9 @@ accepted w index row column content later is = go (sheet_at w index) refl (place
     go (Ok sheet) one (Err error) two e = absurd (let never : Err error ≡ Ok later = e in cc)
     go (Err error) one q two e = absurd (let never : Err error ≡ Ok later = e in cc)
 
--- so it is found again
+-- a place that was found is found again at its own row and column
 pub place_again : (row column : ℤ) (place : Position) → place_of row column ≡ Ok place → place_of place.row place.column ≡ Ok place
-place_again row column place named = let parts = place_parts row column place named in (λ i. place_of (sym parts.0 i) (sym parts.1 i)) ∙ named
+place_again row column place named = ap (λ (p : Position). place_of p.row p.column) (sym (place_is row column place named)) ∙ named
 
 -- the entry that an input makes
 abbrev pub input_entry : Sheet → Content → Position → Option Cell

@@ -26,7 +26,7 @@ use Rattle.script_editor.specs.Inputs.{input_put, cell_change, place_change}
 use Rattle.script_editor.specs.Machine.{State, edited, edit_of}
 use Rattle.script_editor.specs.Machine.Edit.{Input}
 use Rattle.script_editor.specs.Sound.{IsFit, IsSoundStep, IsSound}
-use Rattle.script_editor.proofs.Entering.{accepted, place_parts, place_again, found_some, input_entry, input_book, input_record}
+use Rattle.script_editor.proofs.Entering.{accepted, place_again, found_some, input_entry, input_book, input_record}
 use Rattle.script_editor.proofs.Fits.{entered_fits, entered_placed, later_fit}
 use Rattle.script_editor.proofs.InputLaws.{changes_forward, changes_back}
 use Rattle.script_editor.proofs.InputRecord.{changes_IsRecord}
@@ -66,9 +66,7 @@ module _ (w : Book) (index : ℕ) (row column : ℤ) (content : Content) (fit : 
   new_placed = entered_placed place (fin.get sheet.cells place) content (subst (λ p. IsTrue (fits_at p content)) (place_is row column place named) may_stand)
 
   position_fits : FitsPosition place
-  position_fits =
-      let parts = place_parts row column place named in
-      record { row = subst (FitsSigned w32) parts.0 rows; column = subst (FitsSigned w32) parts.1 columns }
+  position_fits = subst FitsPosition (place_is row column place named) (record { row = rows; column = columns })
 
   input_step : IsSoundStep (record { edit = Input index row column content; before = w; after = after })
   input_step = record {

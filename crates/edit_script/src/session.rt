@@ -1,4 +1,4 @@
-ghost use Rattle.std.specs.Prelude.{◌≡◌, ◌≢◌, ◌++◌, [], OnOk, IfOk, IfErr, IsTrue, IsOkUnless};
+ghost use Rattle.std.specs.Prelude.{◌≡◌, ◌≢◌, ◌++◌, [], Ok, OnOk, IfOk, IfErr, IsTrue, IsOkUnless};
 ghost use Rattle.base_values.specs.Answers.{Answers};
 ghost use Rattle.base_values.specs.declared.EditError.TheVariants.{NoMemory};
 ghost use Rattle.formula_content.specs.Fitting.{fits_at};
@@ -66,6 +66,23 @@ fn position(row: i32, column: i32) -> Position
     Position { row, column }
 }
 
+/// Writes the content at a place.
+fn push_value(
+    alloc: Global,
+    out: &mut Vec<u8>,
+    place: Position,
+    content: &Content,
+) -> Result<(), EditError>
+    ensures text { OnOk result (out.new.items ≡ out.old.items ++ got place (Ok content.now)) }
+    ensures only { IsOkUnless result NoMemory }
+{
+    let text = english_text(alloc, place, content)?;
+    out.extend_from_slice(b"value ")?;
+    push_escaped(out, text.as_bytes())?;
+    out.push(b'\n')?;
+    Ok(())
+}
+
 /// Writes the answer to a question for the content at a place. Want of memory has none.
 fn push_content(
     alloc: Global,
@@ -78,13 +95,7 @@ fn push_content(
     ensures only { IsOkUnless result NoMemory }
 {
     match found {
-        Ok(content) => {
-            let text = english_text(alloc, place, &content)?;
-            out.extend_from_slice(b"value ")?;
-            push_escaped(out, text.as_bytes())?;
-            out.push(b'\n')?;
-            Ok(())
-        }
+        Ok(content) => push_value(alloc, out, place, &content),
         Err(error) => push_refusal(out, error),
     }
 }

@@ -1,0 +1,15 @@
+use Rattle.std.proofs.Common.{◌∙◌, subst, sym, w32, SFits}
+use Rattle.std.specs.Prelude.{IfOk, IsTrue}
+use Rattle.std.proofs.lemmas.Int.{to_z-of_z}
+use Rattle.base_values.specs.declared.Position.{Position}
+use Rattle.formula_content.specs.Fitting.{fits_at}
+use Rattle.sheet_grid.specs.FittingLaws.{place_is}
+use Rattle.edit_script.proofs.session.typed.Goals as goal
+
+pub returns-in-Ok-clause-fits : goal.returns-in-Ok-clause-fits
+returns-in-Ok-clause-fits c =
+    let row_fits : SFits w32 c.args.row = c.ranges.row in
+    let column_fits : SFits w32 c.args.column = c.ranges.column in
+    let named = simp to_z-of_z at (c.place_of.ensures.place) in
+    subst (λ (p : Position). IfOk c.english_input.result (λ content. IsTrue (fits_at p content)))
+    (sym (place_is c.args.row c.args.column c.in-Ok.place (sym named ∙ c.in-Ok.is))) c.english_input.ensures.fits

@@ -30,7 +30,7 @@ fn in_words(alloc: Global, command: Option<Command>) -> Result<String, AllocErro
 
 #[test]
 fn lines_read_as_commands(rt: HostRuntime) -> Result<(), Fail> {
-    let lines: [(&[u8], &str); 48] = [
+    let lines: [(&[u8], &str); 49] = [
         (b"set 0 A1 12", "sheet 0 row 1 column 1 |12|"),
         (b"set 0 A1", "sheet 0 row 1 column 1 ||"),
         (b"set 0 A1 ", "sheet 0 row 1 column 1 ||"),

@@ -3,7 +3,7 @@ use base_decimal::Decimal;
 use base_styles::Style;
 use base_tables::{Error, Locale, Zone};
 use base_values::{EditError, copy_of, same};
-use formula_tree::Node;
+use formula_tree::{Node, has_kept_numbers};
 use std::test::Fail;
 
 fn content_of(sheet: &Worksheet, row: i32, column: i32) -> Result<Content, EditError> {
@@ -15,8 +15,15 @@ fn content_of(sheet: &Worksheet, row: i32, column: i32) -> Result<Content, EditE
 
 /// A tree that is no formula: the setters do not ask.
 fn set_formulas(sheet: &mut Worksheet, style: &Style) -> Result<(), EditError> {
-    sheet.set_cell_with_formula(1, 7, Node::EmptyArgument, style)?;
-    sheet.set_cell_with_dynamic_formula(1, 8, Node::EmptyArgument, style)
+    let plain = Node::EmptyArgument;
+    if has_kept_numbers(&plain) {
+        sheet.set_cell_with_formula(1, 7, plain, style)?;
+    }
+    let dynamic = Node::EmptyArgument;
+    if has_kept_numbers(&dynamic) {
+        sheet.set_cell_with_dynamic_formula(1, 8, dynamic, style)?;
+    }
+    Ok(())
 }
 
 /// Each call that may find no memory, once where there is enough.

@@ -2,10 +2,8 @@ use super::{push_color, push_dump};
 use crate::english_input;
 use base_styles::{Color, Style, ThemeColor};
 use base_tables::{Locale, Zone};
-use base_values::{EditError, Position};
-use formula_tree::Node;
-use sheet_grid::{Cell, Content, Workbook};
-use std::alloc::Global;
+use base_values::Position;
+use sheet_grid::{Cell, Workbook};
 use std::test::Fail;
 
 #[test]
@@ -61,20 +59,14 @@ fn colors_are_printed(rt: HostRuntime) -> Result<(), Fail> {
     Ok(())
 }
 
-/// A cell with the content in the default style.
-fn plain(alloc: Global, content: Content) -> Result<Option<Cell>, EditError> {
-    let style = Style::new(alloc)?;
-    Ok(Some(Cell { content, style }))
-}
-
 #[test]
 fn formulas_are_printed(rt: HostRuntime) -> Result<(), Fail> {
     let alloc = rt.alloc();
     let mut workbook = Workbook::new_empty(alloc, "w", Locale::De, Zone::Utc)?;
     let sheet = workbook.worksheet_mut(0)?;
-    let formula = english_input(alloc, Position { row: 2, column: 3 }, "=b1+sum(1.50,$A$2)")?;
-    sheet.put_cell(2, 3, plain(alloc, formula)?)?;
-    sheet.put_cell(3, 1, plain(alloc, Content::Dynamic(Node::Boolean(true)))?)?;
+    let content = english_input(alloc, Position { row: 2, column: 3 }, "=b1+sum(1.50,$A$2)")?;
+    let style = Style::new(alloc)?;
+    sheet.put_cell(2, 3, Some(Cell { content, style }))?;
     let mut out = Vec::new(alloc);
     push_dump(alloc, &mut out, &workbook)?;
     assert_eq!(rt;
@@ -82,7 +74,6 @@ fn formulas_are_printed(rt: HostRuntime) -> Result<(), Fail> {
         b"book de UTC w
 sheet 1 visible 1 0 0 - Sheet1
 cell C2 - formula =B1+SUM(1.5,$A$2)
-cell A3 - dynamic =TRUE
 end
 "
             .as_slice()

@@ -106,15 +106,31 @@ fn is_read_as(alloc: Global, text: &str, expected: &Node) -> Result<bool, Fail> 
     Ok(same(&tree, expected))
 }
 
+/// Whether a word is read as a name.
+fn is_name(alloc: Global, word: &str) -> Result<bool, Fail> {
+    let expected = name(alloc, word)?;
+    is_read_as(alloc, word, &expected)
+}
+
 #[test]
 fn words_are_names(rt: HostRuntime) -> Result<(), Fail> {
-    let alloc = rt.alloc();
     for word in [
         "R1C1", "r2c3", "XFE1", "A1048577", "A01", "_", "Größe", "数", "a.b",
     ] {
-        assert!(rt; is_read_as(alloc, word, &name(alloc, word)?)?);
+        assert!(rt; is_name(rt.alloc(), word)?);
     }
-    assert!(rt; is_read_as(alloc, "R1C1!a1", &a1_on(alloc, "R1C1")?)?);
+    Ok(())
+}
+
+/// Whether a cell on a sheet whose name looks like a cell by numbers is read.
+fn is_on_sheet(alloc: Global) -> Result<bool, Fail> {
+    let expected = a1_on(alloc, "R1C1")?;
+    is_read_as(alloc, "R1C1!a1", &expected)
+}
+
+#[test]
+fn a_sheet_may_look_like_a_cell(rt: HostRuntime) -> Result<(), Fail> {
+    assert!(rt; is_on_sheet(rt.alloc())?);
     Ok(())
 }
 

@@ -60,12 +60,15 @@ fn corners_and_numbers(rt: HostRuntime) {
     assert!(rt; !number_fits(-1));
 }
 
+/// Whether so many minus signs before a number fit.
+fn minus_signs_fit(alloc: Global, count: u64) -> Result<bool, AllocError> {
+    let content = Content::Formula(minus_signs(alloc, count)?);
+    Ok(fits_at(C3, &content))
+}
+
 #[test]
 fn depth(rt: HostRuntime) -> Result<(), Fail> {
-    let alloc = rt.alloc();
-    let deepest = Content::Formula(minus_signs(alloc, 63)?);
-    assert!(rt; fits_at(C3, &deepest));
-    let deeper = Content::Formula(minus_signs(alloc, 64)?);
-    assert!(rt; !fits_at(C3, &deeper));
+    assert!(rt; minus_signs_fit(rt.alloc(), 63)?);
+    assert!(rt; !minus_signs_fit(rt.alloc(), 64)?);
     Ok(())
 }

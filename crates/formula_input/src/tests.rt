@@ -18,6 +18,13 @@ fn cell_a1(alloc: Global) -> CellReferenceRC
     }
 }
 
+/// The text that is printed of what an input is read as in A1.
+fn printed(alloc: Global, input: &str) -> Result<String, Fail> {
+    let context = cell_a1(alloc);
+    let content = read_input(alloc, input, &context, Locale::En, Language::En)?;
+    Ok(print_content(alloc, &content, &context, Locale::En, Language::En)?)
+}
+
 #[test]
 fn inputs_print_as_read(rt: HostRuntime) -> Result<(), Fail> {
     let inputs = [
@@ -66,21 +73,7 @@ fn inputs_print_as_read(rt: HostRuntime) -> Result<(), Fail> {
         (" 1", " 1"),
     ];
     for (input, text) in inputs {
-        let content = read_input(
-            rt.alloc(),
-            input,
-            &cell_a1(rt.alloc()),
-            Locale::En,
-            Language::En,
-        )?;
-        let printed = print_content(
-            rt.alloc(),
-            &content,
-            &cell_a1(rt.alloc()),
-            Locale::En,
-            Language::En,
-        )?;
-        assert_eq!(rt; printed.as_str(), text);
+        assert_eq!(rt; printed(rt.alloc(), input)?.as_str(), text);
     }
     Ok(())
 }

@@ -1,7 +1,8 @@
 // Ranges as a person types them, and that the calls that allocate succeed with ample memory.
-use crate::{Corner, Node, order_corners, rebase_node};
+use crate::{Corner, Node, rebase_node};
 use base_tables::Error;
 use base_values::{Position, same};
+use formula_tree::order_corners;
 use std::test::Fail;
 
 fn relative(row: i32, column: i32) -> Corner {

@@ -3,6 +3,7 @@
 //! definition, `printed`, at the form's style; it says where parentheses stand.
 #![tactic(auto)]
 
+mod bound_names;
 mod forms;
 mod kind;
 mod pieces;

@@ -4,7 +4,7 @@
 ghost use Rattle.std.specs.Prelude.{◌≡◌, IfOk, IsTrue};
 ghost use Rattle.std.specs.List.{All};
 ghost use Rattle.base_values.specs.Places.{IsPlace};
-ghost use Rattle.line_map.specs.Edit.{IsValid};
+ghost use Rattle.line_map.specs.Edit.{IsValid, IsWithin};
 ghost use Rattle.line_map.specs.Places.{AllLie};
 ghost use Rattle.line_map.specs.Trees.{Lies};
 
@@ -103,18 +103,39 @@ fn reads(alloc: Global, tree: &TreeAt, expected: &str) -> Result<bool, EditError
     Ok(printed(alloc, tree)?.as_str() == expected)
 }
 
-/// An edit of lines of the axis.
+/// The first line and the count of an edit, where the axis has such ones.
+fn lines_of<A: Axis>(first: i32, count: i32) -> Result<(i32, i32), EditError>
+    ensures { IfOk result (λ lines. IsWithin A.along.last lines.0 lines.1) }
+{
+    let first = line_of(A::LAST, first, EditError::InvalidRow)?;
+    let count = line_of(A::LAST, count, EditError::InvalidRow)?;
+    Ok((first, count))
+}
+
 #[tactic(auto, unfolding(crate::specs::Edit::IsValid))]
+fn insertion<A: Axis>(first: i32, count: i32) -> Result<LineEdit<A>, EditError>
+    ensures { IfOk result (λ edit. IsValid A.along.last edit.kind) }
+{
+    let (first, count) = lines_of::<A>(first, count)?;
+    Ok(LineEdit::new(EditKind::Insert { first, count }))
+}
+
+#[tactic(auto, unfolding(crate::specs::Edit::IsValid))]
+fn deletion<A: Axis>(first: i32, count: i32) -> Result<LineEdit<A>, EditError>
+    ensures { IfOk result (λ edit. IsValid A.along.last edit.kind) }
+{
+    let (first, count) = lines_of::<A>(first, count)?;
+    Ok(LineEdit::new(EditKind::Delete { first, count }))
+}
+
+/// An edit of lines of the axis.
 fn edit_of<A: Axis>(kind: EditKind) -> Result<LineEdit<A>, EditError>
     ensures { IfOk result (λ edit. IsValid A.along.last edit.kind) }
 {
-    let (first, count) = match kind {
-        EditKind::Insert { first, count } => (first, count),
-        EditKind::Delete { first, count } => (first, count),
-    };
-    line_of(A::LAST, first, EditError::InvalidRow)?;
-    line_of(A::LAST, count, EditError::InvalidRow)?;
-    Ok(LineEdit::new(kind))
+    match kind {
+        EditKind::Insert { first, count } => insertion(first, count),
+        EditKind::Delete { first, count } => deletion(first, count),
+    }
 }
 
 /// Whether a tree has this text after an edit.

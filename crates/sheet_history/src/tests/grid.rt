@@ -1,9 +1,9 @@
-use crate::{Cell, Content, Workbook, Worksheet};
 use base_decimal::Decimal;
 use base_styles::Style;
 use base_tables::{Error, Locale, Zone};
 use base_values::{EditError, copy_of, same};
 use formula_tree::{Node, has_kept_numbers};
+use sheet_grid::{Cell, Content, Workbook, Worksheet};
 use std::test::Fail;
 
 fn content_of(sheet: &Worksheet, row: i32, column: i32) -> Result<Content, EditError> {

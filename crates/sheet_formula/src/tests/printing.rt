@@ -145,7 +145,10 @@ fn is_text(found: Option<String>, text: &str) -> bool {
 #[test]
 fn english_texts(rt: HostRuntime) -> Result<(), Fail> {
     for (cell, text, printed) in ENGLISH {
-        assert!(rt; is_text(english(rt.alloc(), cell, text)?, printed), "{text}");
+        assert!(rt;
+            is_text(english(rt.alloc(), cell, text)?, printed),
+            "{text}"
+        );
     }
     Ok(())
 }

@@ -98,9 +98,17 @@ fn put_link(sheet: &mut Worksheet, alloc: Global) -> Result<(), EditError> {
 
 /// A row that has a height, and one that has nothing. Answers how many are kept.
 fn put_rows(sheet: &mut Worksheet) -> Result<usize, EditError> {
-    let high = RowAttr { height: Some(30), style: None, hidden: false };
+    let high = RowAttr {
+        height: Some(30),
+        style: None,
+        hidden: false,
+    };
     sheet.put_row(7, Some(high))?;
-    let plain = RowAttr { height: None, style: None, hidden: false };
+    let plain = RowAttr {
+        height: None,
+        style: None,
+        hidden: false,
+    };
     sheet.put_row(8, Some(plain))?;
     Ok(sheet.rows().count())
 }
@@ -108,9 +116,17 @@ fn put_rows(sheet: &mut Worksheet) -> Result<usize, EditError> {
 /// A column that has the default style, and one that has nothing. Answers how many are kept.
 fn put_columns(sheet: &mut Worksheet, alloc: Global) -> Result<usize, EditError> {
     let style = Some(Style::new(alloc)?);
-    let styled = ColumnAttr { width: None, style, hidden: false };
+    let styled = ColumnAttr {
+        width: None,
+        style,
+        hidden: false,
+    };
     sheet.put_column(7, Some(styled))?;
-    let plain = ColumnAttr { width: None, style: None, hidden: false };
+    let plain = ColumnAttr {
+        width: None,
+        style: None,
+        hidden: false,
+    };
     sheet.put_column(8, Some(plain))?;
     Ok(sheet.columns().count())
 }
@@ -152,10 +168,20 @@ fn clear(sheet: &mut Worksheet, places: &[(i32, i32)]) -> Result<(), EditError> 
 #[test]
 fn dimensions(rt: HostRuntime) -> Result<(), Fail> {
     let mut sheet = new_sheet(rt.alloc())?;
-    let first = WorksheetDimension { min_row: 1, max_row: 1, min_column: 1, max_column: 1 };
+    let first = WorksheetDimension {
+        min_row: 1,
+        max_row: 1,
+        min_column: 1,
+        max_column: 1,
+    };
     assert!(rt; sheet.dimension() == first);
     clear(&mut sheet, &[(9, 4), (3, 5), (5, 2), (5, 8)])?;
-    let around = WorksheetDimension { min_row: 3, max_row: 9, min_column: 2, max_column: 8 };
+    let around = WorksheetDimension {
+        min_row: 3,
+        max_row: 9,
+        min_column: 2,
+        max_column: 8,
+    };
     assert!(rt; sheet.dimension() == around);
     Ok(())
 }

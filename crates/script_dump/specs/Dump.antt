@@ -1,5 +1,5 @@
 -- The printed form of a workbook.
-use Rattle.std.specs.Prelude.{ℕ, Bool, true, false, List, [], ◌∷◌, ◌++◌, codes, decimal, if◌then◌else◌}
+use Rattle.std.specs.Prelude.{ℕ, ℤ, Bool, true, false, List, [], ◌∷◌, ◌++◌, Option, Some, None, codes, decimal, if◌then◌else◌}
 use Rattle.std.specs.Fmt.{signed_decimal}
 use Rattle.std.specs.FinMap as fin
 use Rattle.std.specs.List.{flat_map}
@@ -14,6 +14,9 @@ use Rattle.base_styles.specs.DefaultStyle.{default_style}
 use Rattle.sheet_grid.specs.Book.{Book}
 use Rattle.sheet_grid.specs.Sheet.{Sheet}
 use Rattle.sheet_grid.specs.declared.Cell.{Cell}
+use Rattle.sheet_grid.specs.declared.ColumnAttr.{ColumnAttr}
+use Rattle.sheet_grid.specs.declared.Link.{Link}
+use Rattle.sheet_grid.specs.declared.RowAttr.{RowAttr}
 use Rattle.formula_content.specs.declared.Content.{Content}
 use Rattle.formula_content.specs.declared.Content.TheVariants.{Empty, Formula, Dynamic}
 use Rattle.sheet_grid.specs.declared.SheetState.{SheetState}
@@ -49,6 +52,16 @@ same_style = style_eq.ghosts.eq
 abbrev pub style_text : Style → List ℕ
 style_text style = if same_style style default_style then codes "-" else hex (spell_style style)
 
+-- a size, and a dash where there is no own one
+abbrev pub size_text : Option ℤ → List ℕ
+size_text None = codes "-"
+size_text (Some size) = signed_decimal size
+
+-- the bytes of a row's or a column's style, also where it is the default, and a dash where there is none
+abbrev pub own_style_text : Option Style → List ℕ
+own_style_text None = codes "-"
+own_style_text (Some style) = hex (spell_style style)
+
 -- the word before a content's text
 abbrev pub content_word : Content → List ℕ
 content_word (Formula tree) = codes "formula "
@@ -73,9 +86,27 @@ sheet_line sheet = line (words (
 abbrev pub cell_line : Position × Cell → List ℕ
 cell_line (place, cell) = line (words (codes "cell" ∷ reference_text place ∷ style_text cell.style ∷ content_text place cell.content ∷ []))
 
--- a sheet, and then its cells by row and column
+-- what a row or a column has of its own
+abbrev pub attr_words : Option ℤ → Bool → Option Style → List (List ℕ)
+attr_words size hidden style = size_text size ∷ flag_text hidden ∷ own_style_text style ∷ []
+
+abbrev pub row_line : ℤ × RowAttr → List ℕ
+row_line (row, attr) = line (words (codes "row" ∷ signed_decimal row ∷ attr_words attr.height attr.hidden attr.style))
+
+abbrev pub column_line : ℤ × ColumnAttr → List ℕ
+column_line (column, attr) = line (words (codes "column" ∷ signed_decimal column ∷ attr_words attr.width attr.hidden attr.style))
+
+abbrev pub link_line : Position × Link → List ℕ
+link_line (place, link) = line (words (codes "link" ∷ reference_text place ∷ escaped link.target ∷ []))
+
+-- a sheet, then its rows, its columns, its cells by row and column, and its links
 abbrev pub sheet_lines : Sheet → List ℕ
-sheet_lines sheet = sheet_line sheet ++ flat_map cell_line (fin.entries sheet.cells)
+sheet_lines sheet =
+    sheet_line sheet
+    ++ (flat_map row_line (fin.entries sheet.rows)
+    ++ (flat_map column_line (fin.entries sheet.columns)
+    ++ (flat_map cell_line (fin.entries sheet.cells)
+    ++ flat_map link_line (fin.entries sheet.links))))
 
 -- a workbook, then its sheets in order
 abbrev pub dump : Book → List ℕ

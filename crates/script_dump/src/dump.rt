@@ -1,13 +1,17 @@
 ghost use Rattle.std.specs.Prelude.{◌≡◌, ◌++◌, ◌∷◌, [], codes, decimal, OnOk, IfOk, IsOkUnless};
+ghost use Rattle.std.specs.FinMap as fin;
 ghost use Rattle.std.specs.Fmt.{signed_decimal};
+ghost use Rattle.std.specs.List.{flat_map};
 ghost use Rattle.base_values.specs.Places.{IsPlace};
 ghost use Rattle.base_values.specs.declared.error.EditError.TheVariants.{NoMemory};
 ghost use Rattle.base_styles.specs.DefaultStyle.{default_style};
-ghost use Rattle.sheet_wire.specs.StyleBytes.{theme_code};
+ghost use Rattle.sheet_wire.specs.StyleBytes.{theme_code, spell_style};
 ghost use Rattle.script_lines.specs.Escapes.{escaped};
+ghost use Rattle.script_dump.specs.Text.{hex};
 ghost use Rattle.script_dump.specs.Dump.{flag_text, state_text, color_text, same_style, style_text, content_word, content_text, book_line, sheet_line, cell_line, sheet_lines, dump};
 
 use crate::english::english_text;
+use crate::lines::{push_columns, push_links, push_rows};
 use crate::text::{push_capital_hex, push_hex, push_line, push_signed, push_unsigned, push_word};
 use base_styles::{Color, Style, ThemeColor};
 use base_values::{EditError, Position};
@@ -16,7 +20,7 @@ use sheet_grid::{Cell, Content, SheetState, Workbook, Worksheet};
 use sheet_wire::encode_style;
 use std::alloc::{AllocError, Global};
 
-fn flag_text(flag: bool) -> &'static str
+pub(crate) fn flag_text(flag: bool) -> &'static str
     ensures { result.now ≡ flag_text flag }
 {
     if flag { "1" } else { "0" }
@@ -76,6 +80,20 @@ fn is_default(alloc: Global, style: &Style) -> Result<bool, EditError>
     Ok(*style == default)
 }
 
+/// Writes the bytes of a style in hexadecimal.
+pub(crate) fn push_style_bytes(
+    alloc: Global,
+    out: &mut Vec<u8>,
+    style: &Style,
+) -> Result<(), EditError>
+    ensures text { OnOk result (out.new.items ≡ out.old.items ++ hex (spell_style style.now)) }
+    ensures memory { IsOkUnless result NoMemory }
+{
+    let bytes = encode_style(alloc, style)?;
+    push_hex(out, bytes.as_slice())?;
+    Ok(())
+}
+
 fn push_style(alloc: Global, out: &mut Vec<u8>, style: &Style) -> Result<(), EditError>
     ensures text { OnOk result (out.new.items ≡ out.old.items ++ style_text style.now) }
     ensures memory { IsOkUnless result NoMemory }
@@ -84,9 +102,7 @@ fn push_style(alloc: Global, out: &mut Vec<u8>, style: &Style) -> Result<(), Edi
         out.extend_from_slice(b"-")?;
         return Ok(());
     }
-    let bytes = encode_style(alloc, style)?;
-    push_hex(out, bytes.as_slice())?;
-    Ok(())
+    push_style_bytes(alloc, out, style)
 }
 
 /// The word before the text of a content that is not empty.
@@ -187,15 +203,25 @@ fn push_sheet_line(alloc: Global, out: &mut Vec<u8>, sheet: &Worksheet) -> Resul
     push_sheet_end(alloc, out, sheet)
 }
 
+fn push_cells(alloc: Global, out: &mut Vec<u8>, sheet: &Worksheet) -> Result<(), EditError>
+    ensures text { OnOk result (out.new.items ≡ out.old.items ++ flat_map cell_line (fin.entries sheet.now.cells)) }
+    ensures memory { IsOkUnless result NoMemory }
+{
+    for (place, cell) in sheet.cells() {
+        push_cell(alloc, out, *place, cell)?;
+    }
+    Ok(())
+}
+
 fn push_sheet(alloc: Global, out: &mut Vec<u8>, sheet: &Worksheet) -> Result<(), EditError>
     ensures text { OnOk result (out.new.items ≡ out.old.items ++ sheet_lines sheet.now) }
     ensures memory { IsOkUnless result NoMemory }
 {
     push_sheet_line(alloc, out, sheet)?;
-    for (place, cell) in sheet.cells() {
-        push_cell(alloc, out, *place, cell)?;
-    }
-    Ok(())
+    push_rows(alloc, out, sheet)?;
+    push_columns(alloc, out, sheet)?;
+    push_cells(alloc, out, sheet)?;
+    push_links(alloc, out, sheet)
 }
 
 fn push_book_line(out: &mut Vec<u8>, workbook: &Workbook) -> Result<(), AllocError>
@@ -210,8 +236,9 @@ fn push_book_line(out: &mut Vec<u8>, workbook: &Workbook) -> Result<(), AllocErr
 }
 
 /// Writes the printed form of a workbook at the end: a line for the workbook, for each sheet a line
-/// and a line for each of its cells, by row and then by column, and last a line `end`. Texts are
-/// escaped, contents are printed in English, and styles are their bytes in hexadecimal.
+/// and lines for its rows, columns, cells and links, and last a line `end`. Texts are escaped,
+/// contents are printed in English, and styles are their bytes in hexadecimal. docs/SCRIPT.md has
+/// the lines.
 ///
 /// Only want of memory is refused. A front of it may then have been written.
 pub fn push_dump(alloc: Global, out: &mut Vec<u8>, workbook: &Workbook) -> Result<(), EditError>

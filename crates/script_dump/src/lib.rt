@@ -1,5 +1,5 @@
-//! A workbook in printed form: a line for its settings, and lines for its sheets and their
-//! cells.
+//! A workbook in printed form: a line for its settings, and lines for its sheets and what they
+//! hold.
 //!
 //! The layer above writes a workbook with `push_dump`, which is `dump`, and lines and bytes of its
 //! own with `push_line` and `push_hex`. It reads and prints contents with `english_input` and
@@ -8,6 +8,7 @@
 
 mod dump;
 mod english;
+mod lines;
 mod text;
 
 pub use dump::push_dump;

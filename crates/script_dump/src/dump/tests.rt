@@ -2,8 +2,9 @@ use super::{push_color, push_dump};
 use crate::english_input;
 use base_styles::{Color, Style, ThemeColor};
 use base_tables::{Locale, Zone};
-use base_values::Position;
-use sheet_grid::{Cell, Workbook};
+use base_values::{EditError, Position, Text};
+use sheet_grid::{Cell, ColumnAttr, Link, RowAttr, Workbook, Worksheet};
+use std::alloc::Global;
 use std::test::Fail;
 
 #[test]
@@ -34,6 +35,64 @@ sheet 1 visible 1 0 0 - Sheet1
 cell A1 - value -1.5
 cell AB2 0100000000000014020401ff00ab00000000000000000000000767656e6572616c00 value x\\\\y
 cell A3 - empty
+end
+"
+            .as_slice()
+    );
+    Ok(())
+}
+
+fn put_link(sheet: &mut Worksheet, alloc: Global) -> Result<(), EditError> {
+    let target = Text::new(String::from_str(alloc, "C:\\x")?);
+    sheet.put_link(3, 2, Some(Link { target }))
+}
+
+fn put_rows(sheet: &mut Worksheet, alloc: Global) -> Result<(), EditError> {
+    let high = RowAttr {
+        height: Some(30),
+        style: None,
+        hidden: true,
+    };
+    sheet.put_row(7, Some(high))?;
+    let style = Some(Style::new(alloc)?);
+    sheet.put_row(
+        2,
+        Some(RowAttr {
+            height: None,
+            style,
+            hidden: false,
+        }),
+    )
+}
+
+fn put_lines(sheet: &mut Worksheet, alloc: Global) -> Result<(), EditError> {
+    put_link(sheet, alloc)?;
+    put_rows(sheet, alloc)?;
+    sheet.cell_clear_contents(1, 3)?;
+    let wide = ColumnAttr {
+        width: Some(129),
+        style: None,
+        hidden: false,
+    };
+    sheet.put_column(16_384, Some(wide))
+}
+
+/// Rows, columns, cells and links, in this order.
+#[test]
+fn lines_are_printed(rt: HostRuntime) -> Result<(), Fail> {
+    let mut workbook = Workbook::new_empty(rt.alloc(), "book", Locale::En, Zone::Utc)?;
+    put_lines(workbook.worksheet_mut(0)?, rt.alloc())?;
+    let mut out = Vec::new(rt.alloc());
+    push_dump(rt.alloc(), &mut out, &workbook)?;
+    assert_eq!(rt;
+        out.as_slice(),
+        b"book en UTC book
+sheet 1 visible 1 0 0 - Sheet1
+row 2 - 0 000000000000000d000000000000000000000000000767656e6572616c00
+row 7 30 1 -
+column 16384 129 0 -
+cell C1 - empty
+link B3 C:\\\\x
 end
 "
             .as_slice()

@@ -1,11 +1,13 @@
-use Rattle.std.proofs.Common.{◌≡◌, ◌∷◌, ◌++◌, List, ℕ, rules, sym, ap, ◌∙◌, append_assoc}
+use Rattle.std.proofs.Common.{◌≡◌, ◌∷◌, ◌++◌, List, rules, sym}
+use Rattle.std.specs.FinMap as fin
 use Rattle.std.specs.List.{flat_map}
 use Rattle.std.proofs.lemmas.List.Elements.{All-head, All-same, All-rest}
 use Rattle.base_values.specs.Places.{IsPlace}
 use Rattle.base_values.specs.declared.Position.{Position}
 use Rattle.sheet_grid.specs.declared.Cell.{Cell}
 use Rattle.script_dump.specs.Dump.{cell_line}
-use Rattle.script_dump.proofs.dump.push_sheet.Goals as goal
+use Rattle.script_dump.proofs.Written.{written_more}
+use Rattle.script_dump.proofs.dump.push_cells.Goals as goal
 
 pub push_cell-requires : goal.push_cell-requires
 push_cell-requires c =
@@ -22,8 +24,5 @@ loop-place-preserved c =
       tt,
       tt,
       All-rest (λ (e : Position × Cell). IsPlace e.0) entry rest c.loop-place.place-iterator step c.loop-place.invariant.2,
-      ap (λ (text : List ℕ). text ++ flat_map cell_line rest) written
-          ∙ append_assoc c.loop-place.out.items (cell_line entry) (flat_map cell_line rest)
-          ∙ ap (λ (left : List (Position × Cell)). c.loop-place.out.items ++ flat_map cell_line left) (sym step)
-          ∙ c.loop-place.invariant.3,
+      written_more cell_line c.loop-place.out.items c.push_cell.new.out.items _ entry rest c.loop-place.place-iterator step written c.loop-place.invariant.3,
     )

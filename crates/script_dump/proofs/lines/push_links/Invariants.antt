@@ -3,13 +3,13 @@ use Rattle.std.specs.Prelude.{All}
 use Rattle.std.specs.FinMap as fin
 use Rattle.std.specs.List.{flat_map}
 use Rattle.base_values.specs.Places.{IsPlace}
-use Rattle.script_dump.specs.Dump.{sheet_line, cell_line}
-use Rattle.script_dump.proofs.dump.push_sheet.Given as goal
+use Rattle.script_dump.specs.Dump.{link_line}
+use Rattle.script_dump.proofs.lines.push_links.Given as goal
 
--- what is written, and the cells that are left
+-- what is written, and the links that are left
 abbrev pub invariant-loop-place : goal.invariant-loop-place
 invariant-loop-place l =
     (goal.iterator-loop-place).can_next l.place-iterator ×
     (goal.iterator-loop-place).is_finite l.place-iterator ×
     All (λ entry. IsPlace entry.0) l.place-iterator ×
-    (l.out.items ++ flat_map cell_line l.place-iterator ≡ (l.fn.out.items ++ sheet_line l.sheet) ++ flat_map cell_line (fin.entries l.sheet.cells))
+    (l.out.items ++ flat_map link_line l.place-iterator ≡ l.fn.out.items ++ flat_map link_line (fin.entries l.sheet.links))

@@ -1,4 +1,5 @@
 // Tests of the crates below, whose own check is long.
 mod bytes;
+mod forms;
 mod printing;
 mod trees;

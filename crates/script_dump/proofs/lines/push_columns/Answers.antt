@@ -14,7 +14,7 @@ loop-column-preserved c =
     let fits : SFits w32 c.in-Some.column.now = search rules in
     let said : c.push_column.new.out.items ≡ c.loop-column.out.items ++ column_line (cast_signed w32 (cast_unsigned w32 c.in-Some.column.now), c.in-Some.attr.now) = c.in_ok-push_column.ensures.text in
     let written : c.push_column.new.out.items ≡ c.loop-column.out.items ++ column_line entry =
-        said ∙ ap (λ (number : ℤ). c.loop-column.out.items ++ column_line (number, c.in-Some.attr.now)) (to_z-of_z w32 c.in-Some.column.now fits) in (
+    said ∙ ap (λ (number : ℤ). c.loop-column.out.items ++ column_line (number, c.in-Some.attr.now)) (to_z-of_z w32 c.in-Some.column.now fits) in (
       tt,
       tt,
       written_more column_line c.loop-column.out.items c.push_column.new.out.items _ entry rest c.loop-column.column-iterator step written c.loop-column.invariant.2,

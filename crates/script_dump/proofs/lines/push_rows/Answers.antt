@@ -14,7 +14,7 @@ loop-row-preserved c =
     let fits : SFits w32 c.in-Some.row.now = search rules in
     let said : c.push_row.new.out.items ≡ c.loop-row.out.items ++ row_line (cast_signed w32 (cast_unsigned w32 c.in-Some.row.now), c.in-Some.attr.now) = c.in_ok-push_row.ensures.text in
     let written : c.push_row.new.out.items ≡ c.loop-row.out.items ++ row_line entry =
-        said ∙ ap (λ (number : ℤ). c.loop-row.out.items ++ row_line (number, c.in-Some.attr.now)) (to_z-of_z w32 c.in-Some.row.now fits) in (
+    said ∙ ap (λ (number : ℤ). c.loop-row.out.items ++ row_line (number, c.in-Some.attr.now)) (to_z-of_z w32 c.in-Some.row.now fits) in (
       tt,
       tt,
       written_more row_line c.loop-row.out.items c.push_row.new.out.items _ entry rest c.loop-row.row-iterator step written c.loop-row.invariant.2,

@@ -11,7 +11,7 @@ ghost use Rattle.sheet_grid.specs.contracts.worksheet.Worksheet.{the_row as shee
 use crate::cell::Cell;
 use crate::worksheet::Worksheet;
 use base_tables::{Locale, Zone};
-use base_values::{EditError, Exact, Items, Text};
+use base_values::{EditError, Exact, Items, Text, copy_of};
 use std::alloc::{AllocError, Global};
 use std::marker::Model;
 
@@ -96,6 +96,20 @@ impl Workbook {
         ensures { result.now ≡ self.now.worksheets }
     {
         self.worksheets.as_slice()
+    }
+
+    /// A copy of the workbook that has these sheets in place of its own. Only want of memory is
+    /// refused.
+    pub fn with_worksheets(&self, worksheets: Items<Worksheet>) -> Result<Workbook, EditError>
+        ensures book { IfOk result (λ book. book ≡ record self.now { worksheets = worksheets }) }
+        ensures only { IsOkUnless result NoMemory }
+    {
+        Ok(Workbook {
+            name: copy_of(&self.name)?,
+            locale: self.locale,
+            zone: self.zone,
+            worksheets,
+        })
     }
 
     /// The sheet at an index, counted from 0. `InvalidSheet` where there is none.

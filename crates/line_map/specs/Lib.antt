@@ -1,0 +1,10 @@
+pub mod Edit
+pub mod Images
+pub mod Trial
+pub mod Lists
+pub mod Carried
+pub mod Places
+pub mod Areas
+pub mod Trees
+pub mod TreeLaws
+pub mod TreePlaces

@@ -1,0 +1,104 @@
+ghost use Rattle.std.specs.Prelude.{◌≡◌, IfSome};
+ghost use Rattle.base_values.specs.Places.{IsPlace};
+ghost use Rattle.line_map.specs.Trees.{target, corner_of, is_exposed, moved_corner};
+
+use crate::edit::LineEdit;
+use crate::places::place_image;
+use base_axis::Axis;
+use base_values::{Position, Text};
+use formula_tree::{
+    Corner, CornerMap, corner_at, corner_to, is_on_sheet, is_whole_columns, is_whole_rows,
+};
+
+/// Where a corner comes to stand: an exposed one where its line goes, and any other where it
+/// stands. `None` where that is outside the sheet.
+#[tactic(auto, unfolding(crate::specs::Trees::target))]
+fn target<A: Axis>(
+    edit: &LineEdit<A>,
+    from: Position,
+    exposed: bool,
+    corner: Corner,
+) -> Option<Position>
+    ensures at { result ≡ target A.along edit.now.kind from exposed corner }
+    ensures inside { IfSome result IsPlace }
+{
+    let place = corner_at(from, corner)?;
+    if !exposed {
+        return Some(place);
+    }
+    place_image(edit, place)
+}
+
+/// The corner with the same marks that stands there, seen from a place.
+fn corner_of(to: Position, corner: Corner, target: Option<Position>) -> Option<Corner>
+    requires to { IsPlace to }
+    requires target { IfSome target IsPlace }
+    ensures { result ≡ corner_of to corner target }
+{
+    match target {
+        Some(target) => Some(corner_to(to, corner.absolute_row, corner.absolute_column, target)),
+        None => None,
+    }
+}
+
+/// Whether the corners of a range are exposed: on the edited sheet, and not of a range that is
+/// whole along the axis.
+#[tactic(auto, unfolding(crate::specs::Trees::is_exposed))]
+fn is_exposed<A: Axis>(
+    own: &str,
+    edited: &str,
+    sheet: &Option<Text>,
+    first: Corner,
+    second: Corner,
+) -> bool
+    ensures { result ≡ is_exposed A.along own.now edited.now sheet.now first second }
+{
+    let (rows, columns) = (
+        is_whole_rows(first, second),
+        is_whole_columns(first, second),
+    );
+    is_on_sheet(own, edited, sheet) && !A::of(rows, columns)
+}
+
+/// Where the corners go of a formula that is carried along an edit.
+#[derive(Drop)]
+pub struct Following<'a, A: Axis> {
+    pub edit: LineEdit<A>,
+    /// The formula's place, before and afterwards.
+    pub from: Position,
+    pub to: Position,
+    /// The names of the formula's own sheet and of the edited one.
+    pub own: &'a str,
+    pub edited: &'a str,
+    pub ghost inside: { IsPlace to },
+}
+
+fn moved_corner<A: Axis>(map: &Following<'_, A>, exposed: bool, corner: Corner) -> Option<Corner>
+    ensures { result ≡ moved_corner A.along map.now.edit.kind map.now.from map.now.to exposed corner }
+{
+    corner_of(map.to, corner, target(&map.edit, map.from, exposed, corner))
+}
+
+impl<'a, A: Axis> CornerMap for Following<'a, A> {
+    ghost use Rattle.line_map.specs.Trees.{following};
+
+    ghost mapping = { λ self. following A.along self.edit.kind self.from self.to self.own.now self.edited.now };
+
+    fn reference(&self, sheet: &Option<Text>, corner: Corner) -> Option<Corner> {
+        let exposed = is_on_sheet(self.own, self.edited, sheet);
+        moved_corner(self, exposed, corner)
+    }
+
+    fn range(
+        &self,
+        sheet: &Option<Text>,
+        first: Corner,
+        second: Corner,
+    ) -> (Option<Corner>, Option<Corner>) {
+        let exposed = is_exposed::<A>(self.own, self.edited, sheet, first, second);
+        (
+            moved_corner(self, exposed, first),
+            moved_corner(self, exposed, second),
+        )
+    }
+}

@@ -3,7 +3,7 @@ use Rattle.std.proofs.Common.{◌≡◌, ℕ, Bool, true, false, cond, List, [],
 use Rattle.std.specs.Prelude.{◌==◌, if◌then◌else◌}
 use Rattle.std.specs.List.{find, fold, AllByRecursion, IsDistinct}
 use Rattle.std.specs.Ordering.{nat_cmp, eq_by_cmp}
-use Rattle.std.specs.Cmp.{nat_cmp_total}
+use Rattle.std.specs.Cmp.{nat_cmp_total, unsigned_Decides}
 use Rattle.std.specs.FinMap.{FinMap, empty, entries, get, get-empty, len-entries, empty_of_len, same_map, nat_cmp-IsAntisymmetric}
 use Rattle.base_values.specs.declared.Position.{Position}
 use Rattle.base_values.specs.CodedEq.{same_value, same_value_decides}
@@ -116,7 +116,7 @@ lost_at a e true given cells h = h refl
 lost_at a e false given cells h = none_lost cells
 
 any_at : {X : Type 0} (m : FinMap position_cmp X) (b : Bool) → is_empty m ≡ b → or_empty (if b then None else Some m) ≡ m
-any_at m true h = sym (empty_of_len m (len-entries m ∙ (let none : length (entries m) ≡ 0 = omega arith in none)))
+any_at m true h = sym (empty_of_len m (len-entries m ∙ (unsigned_Decides (length (entries m)) 0).0 h))
 any_at m false h = refl
 
 -- a map that was left out where it is empty
@@ -124,7 +124,7 @@ any_or_empty : {X : Type 0} (m : FinMap position_cmp X) → or_empty (if_any m) 
 any_or_empty m = any_at m _ refl
 
 differ : (m n : ℕ) → (m == n) ≡ false → eq_by_cmp nat_cmp m n ≡ false
-differ m n h = apart_keys nat_cmp nat_cmp_total nat_cmp-IsAntisymmetric m n (λ same. absurd (omega arith))
+differ m n h = apart_keys nat_cmp nat_cmp_total nat_cmp-IsAntisymmetric m n (λ same. let yes : (m == n) ≡ true = (unsigned_Decides m n).1 same in absurd (cc))
 
 module _ (a : Along) (e : EditKind) (id : ℕ) (edited : List ℕ) where
   abbrev step : FinMap nat_cmp (FinMap position_cmp Node) → Sheet → FinMap nat_cmp (FinMap position_cmp Node)
@@ -157,7 +157,7 @@ module _ (a : Along) (e : EditKind) (id : ℕ) (edited : List ℕ) where
       AllByRecursion (λ sheet. is_it sheet ≡ true → found ≡ Some sheet) sheets → AllByRecursion (λ sheet. is_it sheet ≡ true → cond (is_it first) (Some first) found ≡ Some sheet) sheets
   behind first found [] apart all = tt
   behind first found (sheet ∷ sheets) apart all = (
-    λ h. ap (λ b. cond b (Some first) found) (let other : (first.id == sheet.id) ≡ false = apart.0 in let not_it : (first.id == id) ≡ false = omega arith in not_it) ∙ all.0 h,
+    λ h. ap (λ b. cond b (Some first) found) (ap (λ n. first.id == n) (sym ((unsigned_Decides sheet.id id).0 h)) ∙ apart.0) ∙ all.0 h,
     behind first found sheets apart.1 all.1,
   )
 

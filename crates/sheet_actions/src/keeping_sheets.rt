@@ -1,4 +1,4 @@
-ghost use Rattle.std.specs.Prelude.{◌≡◌, ◌==◌, length, IfOk, IsOkUnless, OnOk};
+ghost use Rattle.std.specs.Prelude.{◌≡◌, ◌==◌, length, IfOk, IfSome, IsOkUnless};
 ghost use Rattle.std.specs.Option.{option_copied};
 ghost use Rattle.std.specs.FinMap as fin;
 ghost use Rattle.base_values.specs.declared.EditError.TheVariants.{NoMemory};
@@ -97,7 +97,7 @@ fn lost_cells<A: Axis>(
     edit: &LineEdit<A>,
     sheet: Option<&Worksheet>,
 ) -> Result<PlaceMap<Cell>, EditError>
-    ensures cells { IfOk result (λ lost. lost ≡ lost_cells A.along edit.now.kind (option_copied sheet)) }
+    ensures cells { IfOk result (λ lost. lost ≡ lost_cells A.along edit.now.kind (option_copied sheet.entry)) }
     ensures numbers { IfOk result KeptCells }
     ensures only { IsOkUnless result NoMemory }
 {

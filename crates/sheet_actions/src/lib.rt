@@ -4,19 +4,19 @@
 //! the lines back with it.
 #![tactic(auto)]
 
+mod back;
 mod contents;
+mod edit;
 mod following;
 mod keeping;
 mod keeping_sheets;
 mod kept;
-mod line_back;
-mod line_edit;
 mod overlays;
 mod sheet_edit;
 mod sheet_map;
 mod sheets;
 
+pub use back::line_back;
+pub use edit::line_edit;
 pub use kept::KeptLines;
-pub use line_back::line_back;
-pub use line_edit::line_edit;
 pub use sheet_map::SheetMap;

@@ -1,7 +1,8 @@
 -- What taking the lines back does not give of a workbook.
-use Rattle.std.proofs.Common.{ℕ, Bool, List, length, Option, Some, None}
+use Rattle.std.proofs.Common.{◌≡◌, ℕ, ◌+◌, ◌<◌, Bool, List, length, get_or, take, Option, Some, None, ap, sym, ◌∙◌}
 use Rattle.std.specs.Prelude.{◌==◌, if◌then◌else◌}
 use Rattle.std.specs.List.{fold}
+use Rattle.std.proofs.lemmas.List.Sums.{fold_more}
 use Rattle.std.specs.Ordering.{nat_cmp}
 use Rattle.std.specs.FinMap.{FinMap, empty, entries}
 use Rattle.base_values.specs.declared.Position.{Position}
@@ -64,6 +65,14 @@ sheet_kept a e id edited sheet = if_any (kept_trees (way_of a e id edited sheet)
 -- those of each sheet, under its id
 unfoldable pub kept_formulas : Along → EditKind → ℕ → List ℕ → List Sheet → FinMap nat_cmp (FinMap position_cmp Node)
 kept_formulas a e id edited sheets = fold (λ kept sheet. with_entry kept sheet.id (sheet_kept a e id edited sheet)) empty sheets
+
+-- what is kept of one more sheet
+pub kept_more : (a : Along) (e : EditKind) (id : ℕ) (edited : List ℕ) (sheets : List Sheet) (i : ℕ) (sheet : Sheet) → i < length sheets → sheet ≡ get_or sheets i sheet →
+    kept_formulas a e id edited (take (i + 1) sheets) ≡ with_entry (kept_formulas a e id edited (take i sheets)) sheet.id (sheet_kept a e id edited sheet)
+unfolding kept_formulas
+kept_more a e id edited sheets i sheet h is =
+    fold_more (λ kept sheet. with_entry kept sheet.id (sheet_kept a e id edited sheet)) empty sheets i sheet h
+    ∙ ap (λ s. with_entry (kept_formulas a e id edited (take i sheets)) s.id (sheet_kept a e id edited s)) (sym is)
 
 -- the cells of a sheet whose lines are lost
 abbrev pub lost_cells : Along → EditKind → Option Sheet → FinMap position_cmp Cell

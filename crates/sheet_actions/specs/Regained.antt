@@ -198,6 +198,24 @@ pub formulas_under : (a : Along) (e : EditKind) (id : ℕ) (edited : List ℕ) (
 unfolding kept_formulas
 formulas_under a e id edited sheets distinct = kept_under a e id edited sheets empty distinct
 
+-- an id that no sheet has is none of theirs
+none_has : (id : ℕ) (sheets : List Sheet) → find (λ sheet. sheet.id == id) sheets ≡ None → AllByRecursion (λ other. (id == other) ≡ false) (map (λ sheet. sheet.id) sheets)
+none_has id [] h = tt
+none_has id (sheet ∷ sheets) h = go (sheet.id == id) refl h
+  where
+    differs : (m n : ℕ) (b : Bool) → (m == n) ≡ false → (n == m) ≡ b → b ≡ false
+    differs m n false h i = refl
+    differs m n true h i = let yes : (m == n) ≡ true = (unsigned_Decides m n).1 (sym ((unsigned_Decides n m).0 i)) in absurd (cc)
+
+    go : (b : Bool) → (sheet.id == id) ≡ b → cond b (Some sheet) (find (λ other. other.id == id) sheets) ≡ None → AllByRecursion (λ other. (id == other) ≡ false) (map (λ sheet. sheet.id) (sheet ∷ sheets))
+    go true e g = absurd (cc)
+    go false e g = (differs sheet.id id (id == sheet.id) e refl, none_has id sheets g)
+
+-- and under it nothing is kept
+pub kept_elsewhere : (a : Along) (e : EditKind) (id : ℕ) (edited : List ℕ) (sheets : List Sheet) (n : ℕ) → find (λ sheet. sheet.id == n) sheets ≡ None → get (kept_formulas a e id edited sheets) n ≡ None
+unfolding kept_formulas
+kept_elsewhere a e id edited sheets n h = stays_under a e id edited sheets empty n (none_has n sheets h) ∙ get-empty nat_cmp n
+
 -- going back with what was kept gives the workbook
 pub book_regained : (a : Along) → IsAxis a → (e : EditKind) → IsValid a.last e → (id : ℕ) (book : Book) → HasDistinctIds book → book_back a e id (kept_lines a e id book) (book_followed a e id book) ≡ book
 unfolding kept_formulas

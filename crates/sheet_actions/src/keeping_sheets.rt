@@ -10,6 +10,7 @@ ghost use Rattle.sheet_actions.specs.Way.{way};
 ghost use Rattle.sheet_actions.specs.Kept.{kept_trees, is_empty, if_any, sheet_kept, kept_formulas, lost_cells, kept_lines};
 ghost use Rattle.sheet_actions.specs.KeptNumbers.{AreKeptTrees, AreKeptFormulas, AreKeptLines};
 
+use crate::entries::lost_entries;
 use crate::kept::KeptLines;
 use crate::overlays::KeptTrees;
 use crate::sheet_edit::SheetEdit;
@@ -18,7 +19,7 @@ use crate::sheets::{meeting, name_of, sheet_of};
 use base_axis::Axis;
 use base_values::{EditError, PlaceMap};
 use formula_tree::Node;
-use line_map::{LineEdit, Lost, lay};
+use line_map::{LineEdit, lay};
 use sheet_grid::{Cell, Workbook, Worksheet};
 use std::alloc::Global;
 
@@ -92,7 +93,6 @@ fn kept_formulas<A: Axis>(
 }
 
 /// The cells of a sheet whose lines are lost.
-#[tactic(auto, unfolding(line_map::specs::Carried::lost_map))]
 fn lost_cells<A: Axis>(
     alloc: Global,
     edit: &LineEdit<A>,
@@ -102,14 +102,9 @@ fn lost_cells<A: Axis>(
     ensures numbers { IfOk result KeptCells }
     ensures only { IsOkUnless result NoMemory }
 {
-    let none = PlaceMap::new(alloc);
     match sheet {
-        None => Ok(none),
-        Some(sheet) => {
-            let (edit, map) = (*edit, sheet.cell_map());
-            let places = map.places(alloc)?;
-            lay(&Lost { edit, map }, alloc, places.as_slice(), none)
-        }
+        None => Ok(PlaceMap::new(alloc)),
+        Some(sheet) => lost_entries(alloc, edit, sheet.cell_map()),
     }
 }
 

@@ -7,6 +7,7 @@
 mod back;
 mod contents;
 mod edit;
+mod entries;
 mod following;
 mod keeping;
 mod keeping_sheets;

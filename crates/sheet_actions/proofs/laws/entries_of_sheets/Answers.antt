@@ -1,5 +1,5 @@
 use Rattle.sheet_actions.specs.Followed.{way_of}
-use Rattle.sheet_actions.proofs.Entries.{get-followed, get-lost, get-kept_trees}
+use Rattle.sheet_actions.proofs.Held.{get-followed, get-lost, get-kept_trees}
 use Rattle.sheet_actions.proofs.laws.entries_of_sheets.Goals as goal
 
 pub returns-clause-followed : goal.returns-clause-followed

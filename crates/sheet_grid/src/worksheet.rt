@@ -1,4 +1,4 @@
-ghost use Rattle.std.specs.Prelude.{◌≡◌, IfOk, IfSome, IsOkUnless, IsTrue, All};
+ghost use Rattle.std.specs.Prelude.{◌≡◌, ◌≢◌, [], IfOk, IfSome, IsOkUnless, IsTrue, All};
 ghost use Rattle.std.specs.FinMap as fin;
 ghost use Rattle.base_values.specs.Answers.{Answers, Edits};
 ghost use Rattle.base_values.specs.Places.{IsPlace};
@@ -6,12 +6,20 @@ ghost use Rattle.base_values.specs.declared.EditError.TheVariants.{NoMemory};
 ghost use Rattle.base_decimal.specs.Kept.{IsKept};
 ghost use Rattle.formula_tree.specs.Numbers.{has_kept_numbers};
 ghost use Rattle.formula_content.specs.KeptContent.{IsKeptContent};
+ghost use Rattle.sheet_grid.specs.Dimension.{IsLeastRectangle, first_place};
 ghost use Rattle.sheet_grid.specs.KeptCell.{IsKeptCell, KeptCells};
 ghost use Rattle.sheet_grid.specs.Sheet.{Sheet, new_sheet, cell_at, cell_put, content_put, content_cleared, shown_style};
 ghost use Rattle.formula_content.specs.declared.Content.TheVariants.{Empty, Number, Boolean, Error as ErrorValue, Text as TextValue, Formula, Dynamic};
 
+mod lines;
+
 use crate::cell::Cell;
+use crate::column_attr::ColumnAttr;
+use crate::dimension::WorksheetDimension;
+use crate::link::Link;
+use crate::row_attr::RowAttr;
 use crate::state::SheetState;
+use base_axis::{ColumnAxis, LineMap, RowAxis};
 use base_decimal::Decimal;
 use base_styles::{Color, Style};
 use base_tables::Error;
@@ -34,6 +42,9 @@ pub struct Worksheet {
     frozen_rows: i32,
     frozen_columns: i32,
     cells: PlaceMap<Cell>,
+    links: PlaceMap<Link>,
+    rows: LineMap<RowAxis, RowAttr>,
+    columns: LineMap<ColumnAxis, ColumnAttr>,
 }
 
 impl Model for Worksheet {
@@ -57,6 +68,9 @@ impl Model for Worksheet {
       frozen_rows = s.frozen_rows;
       frozen_columns = s.frozen_columns;
       cells = s.cells;
+      links = s.links;
+      rows = s.rows;
+      columns = s.columns;
     } };
 
     ghost inverse = { λ s. record {
@@ -68,13 +82,16 @@ impl Model for Worksheet {
       frozen_rows = s.frozen_rows;
       frozen_columns = s.frozen_columns;
       cells = s.cells;
+      links = s.links;
+      rows = s.rows;
+      columns = s.columns;
     } };
 
     ghost invariant = { λ s. KeptCells s.cells };
 }
 
 impl Worksheet {
-    /// A visible sheet with grid lines and without a cell. It takes no memory.
+    /// A visible sheet with grid lines and nothing else. It takes no memory.
     pub fn new(alloc: Global, id: u32, name: Text) -> Worksheet
         ensures { result ≡ new_sheet id name }
     {
@@ -87,6 +104,9 @@ impl Worksheet {
             frozen_rows: 0,
             frozen_columns: 0,
             cells: PlaceMap::new(alloc),
+            links: PlaceMap::new(alloc),
+            rows: LineMap::new(alloc),
+            columns: LineMap::new(alloc),
         }
     }
 
@@ -155,11 +175,17 @@ impl Worksheet {
         &self.cells
     }
 
-    /// A copy of the sheet that has these cells in place of its own. Only want of memory is
-    /// refused.
-    pub fn with_cells(&self, cells: PlaceMap<Cell>) -> Result<Worksheet, EditError>
+    /// A copy of the sheet that has these cells, links, rows and columns in place of its own. Only
+    /// want of memory is refused.
+    pub fn with_parts(
+        &self,
+        cells: PlaceMap<Cell>,
+        links: PlaceMap<Link>,
+        rows: LineMap<RowAxis, RowAttr>,
+        columns: LineMap<ColumnAxis, ColumnAttr>,
+    ) -> Result<Worksheet, EditError>
         requires { KeptCells cells }
-        ensures sheet { IfOk result (λ sheet. sheet ≡ record self.now { cells = cells }) }
+        ensures sheet { IfOk result (λ sheet. sheet ≡ record self.now { cells = cells; links = links; rows = rows; columns = columns }) }
         ensures only { IsOkUnless result NoMemory }
     {
         Ok(Worksheet {
@@ -171,6 +197,9 @@ impl Worksheet {
             frozen_rows: self.frozen_rows,
             frozen_columns: self.frozen_columns,
             cells,
+            links,
+            rows,
+            columns,
         })
     }
 
@@ -185,6 +214,19 @@ impl Worksheet {
         match self.cells.get(place) {
             Some(cell) => Ok(Some(copy_of(cell)?)),
             None => Ok(None),
+        }
+    }
+
+    /// The least rectangle that holds the cells, with or without content; the first place of the
+    /// sheet where there is none. It takes no memory. docs/MODEL.md has the rule.
+    pub fn dimension(&self) -> WorksheetDimension
+        ensures none { fin.keys self.now.cells ≡ [] → result ≡ first_place }
+        ensures least { fin.keys self.now.cells ≢ [] → IsLeastRectangle (fin.keys self.now.cells) result }
+    {
+        let mut cells = self.cells();
+        match cells.next() {
+            Some((place, _cell)) => WorksheetDimension::of_places(*place, cells),
+            None => WorksheetDimension::of_place(Position { row: 1, column: 1 }),
         }
     }
 
@@ -363,6 +405,9 @@ impl Clone for Worksheet {
             frozen_rows: self.frozen_rows,
             frozen_columns: self.frozen_columns,
             cells: self.cells.clone()?,
+            links: self.links.clone()?,
+            rows: self.rows.clone()?,
+            columns: self.columns.clone()?,
         })
     }
 }

@@ -63,6 +63,13 @@ place_inverse a l e valid = record {
   forth = λ p q h. ap (λ x. place_image a x p) (sym (opposite_twice e)) ∙ place_back a l (opposite_of e) (valid_opposite a.last e valid) q p h;
 }
 
+-- lines of a map go to and fro
+pub line_inverse : (last : ℤ) (e : EditKind) → IsValid last e → Inverse (image_at last e) (image_at last (opposite_of e))
+line_inverse last e valid = record {
+  back = λ n m h. image_back last e valid n m h;
+  forth = λ n m h. ap (λ x. image_at last x n) (sym (opposite_twice e)) ∙ image_back last (opposite_of e) (valid_opposite last e valid) m n h;
+}
+
 carried_from : {F : Type 0} (f : F → F) (v : Option F) (y : F) → if_there v (λ x. Some (f x)) ≡ Some y → (x : F) × (v ≡ Some x) × (y ≡ f x)
 carried_from f None y h = absurd (cc)
 carried_from f (Some x) y h = (x, refl, let e : f x ≡ y = cc in sym e)

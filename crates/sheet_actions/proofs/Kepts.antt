@@ -1,6 +1,6 @@
 -- What is followed, kept and taken back holds numbers as a workbook keeps them.
-use Rattle.std.proofs.Common.{◌≡◌, ℕ, Bool, true, false, cond, List, [], ◌∷◌, Option, Some, None, refl, sym, subst, ◌∙◌}
-use Rattle.std.specs.Prelude.{IfSome, IsTrue, if◌then◌else◌}
+use Rattle.std.proofs.Common.{◌≡◌, ℕ, Bool, true, false, cond, List, [], ◌∷◌, Option, Some, None, Result, Ok, Err, refl, sym, subst, ◌∙◌}
+use Rattle.std.specs.Prelude.{IfOk, IfSome, IsTrue, if◌then◌else◌}
 use Rattle.std.specs.declared.cmp.Ordering.{Ordering}
 use Rattle.std.specs.Ordering.{eq_by_cmp, nat_cmp}
 use Rattle.std.specs.Cmp.{IsTotalOrder, nat_cmp_total}
@@ -25,6 +25,11 @@ use Rattle.sheet_actions.specs.Kept.{tree_of, there_and_back, unless_back, kept_
 use Rattle.sheet_actions.specs.KeptNumbers.{AreKeptTrees, AreKeptFormulas}
 use Rattle.sheet_actions.specs.Back.{with_tree, cells_back}
 use Rattle.sheet_actions.specs.MovedNumbers.{numbers-moved}
+
+-- what holds of the value holds of an answer that is the value
+pub if_ok_is : {X E : Type 0} (P : X → Type 0) (result : Result X E) (x : X) → IfOk result (λ y. y ≡ x) → P x → IfOk result P
+if_ok_is P (Ok y) x is h = subst P (sym is) h
+if_ok_is P (Err e) x is h = tt
 
 module _ {K X : Type 0} {R : K → K → Ordering} (total : IsTotalOrder R) (P : X → Type 0) where
   all_put : (m : FinMap R X) (key : K) (entry : Option X) → ((k : K) → IfSome (get m k) P) → IfSome entry P → (k : K) → IfSome (get (with_entry m key entry) k) P

@@ -7,19 +7,21 @@ ghost use Rattle.line_map.specs.Edit.{IsValid};
 ghost use Rattle.line_map.specs.Places.{place_image};
 ghost use Rattle.sheet_grid.specs.KeptCell.{KeptCells};
 ghost use Rattle.sheet_actions.specs.Way.{way};
-ghost use Rattle.sheet_actions.specs.Kept.{kept_trees, is_empty, if_any, sheet_kept, kept_formulas, lost_cells, kept_lines};
+ghost use Rattle.sheet_actions.specs.Kept.{kept_trees, is_empty, if_any, sheet_kept, kept_formulas, lost_cells, lost_links, lost_rows, lost_columns, kept_lines};
 ghost use Rattle.sheet_actions.specs.KeptNumbers.{AreKeptTrees, AreKeptFormulas, AreKeptLines};
 
+use crate::entries::lost_entries;
 use crate::kept::KeptLines;
+use crate::lines::{are_columns, are_rows, lost_lines};
 use crate::overlays::KeptTrees;
 use crate::sheet_edit::SheetEdit;
 use crate::sheet_map::SheetMap;
 use crate::sheets::{meeting, name_of, sheet_of};
-use base_axis::Axis;
+use base_axis::{Axis, ColumnAxis, LineMap, RowAxis};
 use base_values::{EditError, PlaceMap};
 use formula_tree::Node;
-use line_map::{LineEdit, Lost, lay};
-use sheet_grid::{Cell, Workbook, Worksheet};
+use line_map::{LineEdit, lay};
+use sheet_grid::{Cell, ColumnAttr, Link, RowAttr, Workbook, Worksheet};
 use std::alloc::Global;
 
 /// The trees of a sheet's formulas that do not come back, at their places before the edit.
@@ -92,7 +94,6 @@ fn kept_formulas<A: Axis>(
 }
 
 /// The cells of a sheet whose lines are lost.
-#[tactic(auto, unfolding(line_map::specs::Carried::lost_map))]
 fn lost_cells<A: Axis>(
     alloc: Global,
     edit: &LineEdit<A>,
@@ -102,14 +103,54 @@ fn lost_cells<A: Axis>(
     ensures numbers { IfOk result KeptCells }
     ensures only { IsOkUnless result NoMemory }
 {
-    let none = PlaceMap::new(alloc);
     match sheet {
-        None => Ok(none),
-        Some(sheet) => {
-            let (edit, map) = (*edit, sheet.cell_map());
-            let places = map.places(alloc)?;
-            lay(&Lost { edit, map }, alloc, places.as_slice(), none)
-        }
+        None => Ok(PlaceMap::new(alloc)),
+        Some(sheet) => lost_entries(alloc, edit, sheet.cell_map()),
+    }
+}
+
+/// Its links whose lines are lost.
+fn lost_links<A: Axis>(
+    alloc: Global,
+    edit: &LineEdit<A>,
+    sheet: Option<&Worksheet>,
+) -> Result<PlaceMap<Link>, EditError>
+    ensures links { IfOk result (λ lost. lost ≡ lost_links A.along edit.now.kind (option_copied sheet.entry)) }
+    ensures only { IsOkUnless result NoMemory }
+{
+    match sheet {
+        None => Ok(PlaceMap::new(alloc)),
+        Some(sheet) => lost_entries(alloc, edit, sheet.link_map()),
+    }
+}
+
+/// What its lost rows had.
+fn lost_rows<A: Axis>(
+    alloc: Global,
+    edit: &LineEdit<A>,
+    sheet: Option<&Worksheet>,
+) -> Result<LineMap<RowAxis, RowAttr>, EditError>
+    ensures rows { IfOk result (λ lost. lost ≡ lost_rows A.along edit.now.kind (option_copied sheet.entry)) }
+    ensures only { IsOkUnless result NoMemory }
+{
+    match sheet {
+        None => Ok(LineMap::new(alloc)),
+        Some(sheet) => lost_lines(alloc, edit, are_rows::<A>(), sheet.row_map()),
+    }
+}
+
+/// What its lost columns had.
+fn lost_columns<A: Axis>(
+    alloc: Global,
+    edit: &LineEdit<A>,
+    sheet: Option<&Worksheet>,
+) -> Result<LineMap<ColumnAxis, ColumnAttr>, EditError>
+    ensures columns { IfOk result (λ lost. lost ≡ lost_columns A.along edit.now.kind (option_copied sheet.entry)) }
+    ensures only { IsOkUnless result NoMemory }
+{
+    match sheet {
+        None => Ok(LineMap::new(alloc)),
+        Some(sheet) => lost_lines(alloc, edit, are_columns::<A>(), sheet.column_map()),
     }
 }
 
@@ -125,8 +166,13 @@ pub fn kept_lines<A: Axis>(
     ensures numbers { IfOk result AreKeptLines }
     ensures only { IsOkUnless result NoMemory }
 {
-    let cells = lost_cells(alloc, edit, sheet_of(workbook, id))?;
+    let sheet = sheet_of(workbook, id);
     let edited = name_of(workbook, id);
-    let formulas = kept_formulas(alloc, edit, id, edited, workbook.worksheets())?;
-    Ok(KeptLines { cells, formulas })
+    Ok(KeptLines {
+        cells: lost_cells(alloc, edit, sheet)?,
+        links: lost_links(alloc, edit, sheet)?,
+        rows: lost_rows(alloc, edit, sheet)?,
+        columns: lost_columns(alloc, edit, sheet)?,
+        formulas: kept_formulas(alloc, edit, id, edited, workbook.worksheets())?,
+    })
 }

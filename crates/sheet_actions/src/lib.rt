@@ -7,11 +7,13 @@
 mod back;
 mod contents;
 mod edit;
+mod entries;
 mod following;
 mod keeping;
 mod keeping_sheets;
 mod kept;
 mod laws;
+mod lines;
 mod overlays;
 mod sheet_edit;
 mod sheet_map;

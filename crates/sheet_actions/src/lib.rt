@@ -24,3 +24,7 @@ pub use edit::line_edit;
 pub use kept::KeptLines;
 pub use laws::{edit_and_back, entries_of_sheets, kept_under_ids};
 pub use sheet_map::SheetMap;
+pub use sheets::has_sheet;
+
+#[cfg(test)]
+mod tests;

@@ -135,6 +135,12 @@ unfolding line_image
 lines_inverse a e valid true = line_inverse a.last e valid
 lines_inverse a e valid false = own_inverse
 
+-- so do those of a sheet
+pub lines_go_inverse : (w : Way) → IsValid w.along.last w.kind → (is_along : Bool) → Inverse (line_goes w is_along) (line_goes (back w) is_along)
+unfolding line_goes
+lines_go_inverse w valid is_along = elim w.is_edited as (λ b. Inverse (λ n. if b then line_image w.along w.kind is_along n else Some n) (λ n. if b then line_image w.along (opposite_of w.kind) is_along n else Some n))
+    [ true ↦ lines_inverse w.along w.kind valid is_along | false ↦ own_inverse ]
+
 any_at : {X : Type 0} (m : FinMap position_cmp X) (b : Bool) → is_empty m ≡ b → or_empty (if b then None else Some m) ≡ m
 any_at m true h = sym (empty_of_len m (len-entries m ∙ (unsigned_Decides (length (entries m)) 0).0 h))
 any_at m false h = refl

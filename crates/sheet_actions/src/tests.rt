@@ -78,7 +78,7 @@ fn put_fives(alloc: Global, sheet: &mut Worksheet) -> Result<(), EditError> {
 fn first_sheet(alloc: Global, style: &Style) -> Result<Worksheet, EditError> {
     let mut sheet = Worksheet::new(alloc, 1, text(alloc, "Sheet1")?);
     sheet.set_cell_with_boolean(5, 1, true, style)?;
-    sheet.set_cell_with_error(LAST_ROW, 1, Error::Div, style)?;
+    sheet.set_cell_with_error(LAST_ROW, 1, Error::DivisionByZero, style)?;
     let left = Node::Reference(None, relative(4, -2));
     put_formula(&mut sheet, 3, plus_fixed(alloc, left)?, style)?;
     put_fives(alloc, &mut sheet)?;
@@ -224,7 +224,7 @@ fn rows_deleted(rt: HostRuntime) -> Result<(), Fail> {
     let book = two_sheets(alloc)?;
     let edit = deletion::<RowAxis>(5, 1)?;
     let (after, kept) = edited(alloc, &book, &edit)?;
-    assert!(rt; holds(&after, 0, LAST_ROW - 1, 1, &Content::Error(Error::Div))?);
+    assert!(rt; holds(&after, 0, LAST_ROW - 1, 1, &Content::Error(Error::DivisionByZero))?);
     let lost = plus_fixed(alloc, Node::Error(Error::Ref))?;
     assert!(rt; holds_formula(&after, 0, 3, lost)?);
     assert!(rt; holds_formula(&after, 1, 1, Node::Error(Error::Ref))?);

@@ -1,7 +1,8 @@
 // Ranges as a person types them, and that the calls that allocate succeed with ample memory.
-use crate::{Corner, Node, is_at_most_deep, order_corners, rebase_node};
+use crate::{Corner, Node, rebase_node};
 use base_tables::Error;
-use base_values::{Boxed, Position, same};
+use base_values::{Position, same};
+use formula_tree::order_corners;
 use std::test::Fail;
 
 fn relative(row: i32, column: i32) -> Corner {
@@ -61,12 +62,9 @@ fn orders_corners_in_t20(rt: HostRuntime) {
 
 #[test]
 fn rebases_with_ample_memory(rt: HostRuntime) -> Result<(), Fail> {
-    let alloc = rt.alloc();
     let place = Position { row: 1, column: 1 };
     let above = Node::Reference(None, relative(-1, 0));
     let lost = Node::Error(Error::Ref);
-    assert!(rt; same(&rebase_node(alloc, &above, place)?, &lost));
-    let joined = Node::Colon(Boxed::new(alloc, above.clone()?)?, Boxed::new(alloc, lost)?);
-    assert!(rt; is_at_most_deep(&rebase_node(alloc, &joined, place)?, 2));
+    assert!(rt; same(&rebase_node(rt.alloc(), &above, place)?, &lost));
     Ok(())
 }

@@ -1,9 +1,9 @@
 // Texts and their tokens, worked by hand from the grammar.
-use crate::lex_text;
 use base_decimal::Decimal;
 use base_tables::{Language, Locale};
 use base_values::{EditError, Position, Text, same};
 use formula_grammar::{CellMark, Profile, Token};
+use formula_lex::lex_text;
 use std::alloc::{AllocError, Global};
 use std::test::Fail;
 

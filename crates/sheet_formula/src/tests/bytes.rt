@@ -1,7 +1,7 @@
 // Trees whose bytes are worked out by hand from the table of the format, bytes that spell no tree,
 // and trees at the greatest depth.
-use crate::{node_at, push_node};
 use base_values::EditError;
+use formula_wire::{node_at, push_node};
 use std::test::*;
 
 /// Bytes that spell one tree, kind by kind.

@@ -155,7 +155,7 @@ fn sheet_back<A: Axis>(
     let links = links_back(alloc, &by, &kept.links, sheet.link_map())?;
     let rows = lines_back(alloc, &by, are_rows::<A>(), &kept.rows, sheet.row_map())?;
     let columns = lines_back(alloc, &by, are_columns::<A>(), &kept.columns, sheet.column_map())?;
-    sheet.with_parts(cells, links, rows, columns)
+    sheet.with_entries(cells, links, rows, columns)
 }
 
 fn sheets_back<A: Axis>(

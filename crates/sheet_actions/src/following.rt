@@ -70,7 +70,7 @@ fn followed_sheet<A: Axis>(
     let links = moved_entries(alloc, &by, sheet.link_map())?;
     let rows = followed_rows(alloc, &by, sheet)?;
     let columns = followed_columns(alloc, &by, sheet)?;
-    sheet.with_parts(cells, links, rows, columns)
+    sheet.with_entries(cells, links, rows, columns)
 }
 
 fn followed_sheets<A: Axis>(

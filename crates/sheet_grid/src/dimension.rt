@@ -6,7 +6,7 @@ use crate::cell::Cell;
 use base_values::Position;
 use std::collections::btree_map::Iter;
 
-/// A rectangle of places of a sheet, by its first and last row and column.
+/// A rectangle of places of a sheet, by its first and last row and column, each counted from 1.
 #[derive(Clone, Copy, Debug, PartialEq, Eq)]
 pub struct WorksheetDimension {
     pub min_row: i32,

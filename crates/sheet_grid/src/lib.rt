@@ -23,6 +23,3 @@ pub use row_attr::RowAttr;
 pub use state::SheetState;
 pub use workbook::Workbook;
 pub use worksheet::Worksheet;
-
-#[cfg(test)]
-mod tests;

@@ -1,16 +1,16 @@
-ghost use Rattle.std.specs.Prelude.{◌≡◌, ◌≢◌, [], IfOk, IfSome, IsOkUnless, IsTrue, All};
+ghost use Rattle.std.specs.Prelude.{◌≡◌, ◌≢◌, [], IfOk, IfSome, IsTrue, All};
 ghost use Rattle.std.specs.FinMap as fin;
 ghost use Rattle.base_values.specs.Answers.{Answers, Edits};
 ghost use Rattle.base_values.specs.Places.{IsPlace};
-ghost use Rattle.base_values.specs.declared.EditError.TheVariants.{NoMemory};
 ghost use Rattle.base_decimal.specs.Kept.{IsKept};
 ghost use Rattle.formula_tree.specs.Numbers.{has_kept_numbers};
 ghost use Rattle.formula_content.specs.KeptContent.{IsKeptContent};
 ghost use Rattle.sheet_grid.specs.Dimension.{IsLeastRectangle, first_place};
-ghost use Rattle.sheet_grid.specs.KeptCell.{IsKeptCell, KeptCells};
+ghost use Rattle.sheet_grid.specs.KeptCell.{IsKeptCell};
 ghost use Rattle.sheet_grid.specs.Sheet.{Sheet, new_sheet, cell_at, cell_put, content_put, content_cleared, shown_style};
 ghost use Rattle.formula_content.specs.declared.Content.TheVariants.{Empty, Number, Boolean, Error as ErrorValue, Text as TextValue, Formula, Dynamic};
 
+mod entries;
 mod lines;
 
 use crate::cell::Cell;
@@ -165,42 +165,6 @@ impl Worksheet {
         ensures inside { All (λ entry. IsPlace entry.0) result }
     {
         self.cells.iter()
-    }
-
-    /// The cells with their places, as a map.
-    pub fn cell_map(&self) -> &PlaceMap<Cell>
-        ensures map { result.now ≡ self.now.cells }
-        ensures kept { KeptCells result.now }
-    {
-        &self.cells
-    }
-
-    /// A copy of the sheet that has these cells, links, rows and columns in place of its own. Only
-    /// want of memory is refused.
-    pub fn with_parts(
-        &self,
-        cells: PlaceMap<Cell>,
-        links: PlaceMap<Link>,
-        rows: LineMap<RowAxis, RowAttr>,
-        columns: LineMap<ColumnAxis, ColumnAttr>,
-    ) -> Result<Worksheet, EditError>
-        requires { KeptCells cells }
-        ensures sheet { IfOk result (λ sheet. sheet ≡ record self.now { cells = cells; links = links; rows = rows; columns = columns }) }
-        ensures only { IsOkUnless result NoMemory }
-    {
-        Ok(Worksheet {
-            id: self.id,
-            name: copy_of(&self.name)?,
-            state: self.state,
-            color: self.color,
-            show_grid_lines: self.show_grid_lines,
-            frozen_rows: self.frozen_rows,
-            frozen_columns: self.frozen_columns,
-            cells,
-            links,
-            rows,
-            columns,
-        })
     }
 
     /// A copy of the cell at a row and a column, if there is one.

@@ -10,10 +10,7 @@ use super::Worksheet;
 use crate::column_attr::ColumnAttr;
 use crate::link::Link;
 use crate::row_attr::RowAttr;
-use base_axis::{ColumnAxis, LineMap, RowAxis};
-use base_values::{
-    EditError, LAST_COLUMN, LAST_ROW, PlaceMap, Position, copy_of, line_of, place_of,
-};
+use base_values::{EditError, LAST_COLUMN, LAST_ROW, Position, copy_of, line_of, place_of};
 use std::collections::btree_map::Iter;
 
 impl Worksheet {
@@ -39,27 +36,6 @@ impl Worksheet {
         ensures inside { All (λ entry. IsColumn entry.0) result }
     {
         self.columns.iter()
-    }
-
-    /// The links with their places, as a map.
-    pub fn link_map(&self) -> &PlaceMap<Link>
-        ensures { result.now ≡ self.now.links }
-    {
-        &self.links
-    }
-
-    /// What rows have of their own, as a map.
-    pub fn row_map(&self) -> &LineMap<RowAxis, RowAttr>
-        ensures { result.now ≡ self.now.rows }
-    {
-        &self.rows
-    }
-
-    /// What columns have of their own, as a map.
-    pub fn column_map(&self) -> &LineMap<ColumnAxis, ColumnAttr>
-        ensures { result.now ≡ self.now.columns }
-    {
-        &self.columns
     }
 
     /// A copy of the link at a row and a column, if there is one.

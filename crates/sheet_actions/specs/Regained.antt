@@ -170,8 +170,8 @@ module _ (a : Along) (e : EditKind) (id : ℕ) (edited : List ℕ) where
   kept_under [] m distinct = tt
   kept_under (sheet ∷ sheets) m distinct = (
     stays_under sheets (step m sheet) sheet.id distinct.0
-    ∙ get-with_entry nat_cmp_total m sheet.id (sheet_kept a e id edited sheet) sheet.id
-    ∙ ap (λ b. cond b (sheet_kept a e id edited sheet) (get m sheet.id)) (own_key nat_cmp nat_cmp_total nat_cmp-IsAntisymmetric sheet.id),
+        ∙ get-with_entry nat_cmp_total m sheet.id (sheet_kept a e id edited sheet) sheet.id
+        ∙ ap (λ b. cond b (sheet_kept a e id edited sheet) (get m sheet.id)) (own_key nat_cmp nat_cmp_total nat_cmp-IsAntisymmetric sheet.id),
     kept_under sheets (step m sheet) distinct.1,
   )
 

@@ -38,18 +38,18 @@ fn cells_back<A: Axis>(
     let made = followed_cells(alloc, &back(by), cells)?;
     let (by, followed) = (*by, cells);
     let places = trees.places(alloc)?;
-    let regained = RegainedCells { by, followed, trees };
+    let regained = RegainedCells {
+        by,
+        followed,
+        trees,
+    };
     let made = lay(&regained, alloc, places.as_slice(), made)?;
     let places = lost.places(alloc)?;
     lay(&Copied { map: lost }, alloc, places.as_slice(), made)
 }
 
 /// The trees kept of a sheet, or none.
-fn trees_of<'a>(
-    kept: &'a KeptLines,
-    none: &'a PlaceMap<Node>,
-    id: u32,
-) -> &'a PlaceMap<Node>
+fn trees_of<'a>(kept: &'a KeptLines, none: &'a PlaceMap<Node>, id: u32) -> &'a PlaceMap<Node>
     requires none { none.now ≡ empty }
     requires numbers { AreKeptLines kept.now }
     ensures trees { result.now ≡ or_empty (get kept.now.formulas id) }
@@ -62,11 +62,7 @@ fn trees_of<'a>(
 }
 
 /// The lost cells, if the sheet is the edited one.
-fn lost_of<'a>(
-    kept: &'a KeptLines,
-    none: &'a PlaceMap<Cell>,
-    is_edited: bool,
-) -> &'a PlaceMap<Cell>
+fn lost_of<'a>(kept: &'a KeptLines, none: &'a PlaceMap<Cell>, is_edited: bool) -> &'a PlaceMap<Cell>
     requires none { none.now ≡ empty }
     requires numbers { AreKeptLines kept.now }
     ensures cells { result.now ≡ lost_of is_edited kept.now.cells }
@@ -154,7 +150,13 @@ fn sheet_back<A: Axis>(
     let cells = sheet_cells_back(alloc, &by, kept, sheet)?;
     let links = links_back(alloc, &by, &kept.links, sheet.link_map())?;
     let rows = lines_back(alloc, &by, are_rows::<A>(), &kept.rows, sheet.row_map())?;
-    let columns = lines_back(alloc, &by, are_columns::<A>(), &kept.columns, sheet.column_map())?;
+    let columns = lines_back(
+        alloc,
+        &by,
+        are_columns::<A>(),
+        &kept.columns,
+        sheet.column_map(),
+    )?;
     sheet.with_entries(cells, links, rows, columns)
 }
 

@@ -23,7 +23,12 @@ pub fn moved_entries<A: Axis, F: Exact + Drop>(
 {
     let by = *by;
     let places = map.places(alloc)?;
-    lay(&Moved { by, map }, alloc, places.as_slice(), PlaceMap::new(alloc))
+    lay(
+        &Moved { by, map },
+        alloc,
+        places.as_slice(),
+        PlaceMap::new(alloc),
+    )
 }
 
 /// The entries of the edited sheet whose lines are lost.
@@ -38,7 +43,12 @@ pub fn lost_entries<A: Axis, F: Exact + Drop>(
 {
     let edit = *edit;
     let places = map.places(alloc)?;
-    lay(&Lost { edit, map }, alloc, places.as_slice(), PlaceMap::new(alloc))
+    lay(
+        &Lost { edit, map },
+        alloc,
+        places.as_slice(),
+        PlaceMap::new(alloc),
+    )
 }
 
 /// A map with these entries in place of its own.

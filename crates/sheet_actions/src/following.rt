@@ -27,7 +27,12 @@ pub fn followed_cells<A: Axis>(
 {
     let by = *by;
     let places = cells.places(alloc)?;
-    lay(&FollowedCells { by, cells }, alloc, places.as_slice(), PlaceMap::new(alloc))
+    lay(
+        &FollowedCells { by, cells },
+        alloc,
+        places.as_slice(),
+        PlaceMap::new(alloc),
+    )
 }
 
 /// What the rows of a sheet have, where they go.

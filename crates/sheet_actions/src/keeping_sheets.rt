@@ -37,7 +37,12 @@ fn kept_trees<A: Axis>(
 {
     let by = *by;
     let places = cells.places(alloc)?;
-    lay(&KeptTrees { by, cells }, alloc, places.as_slice(), PlaceMap::new(alloc))
+    lay(
+        &KeptTrees { by, cells },
+        alloc,
+        places.as_slice(),
+        PlaceMap::new(alloc),
+    )
 }
 
 fn is_empty(trees: &PlaceMap<Node>) -> bool

@@ -68,10 +68,24 @@ fn put_fives(alloc: Global, sheet: &mut Worksheet) -> Result<(), EditError> {
     sheet.put_link(5, 1, Some(Link { target }))?;
     let (style, hidden) = (None, false);
     let height = Some(50);
-    sheet.put_row(5, Some(RowAttr { height, style, hidden }))?;
+    sheet.put_row(
+        5,
+        Some(RowAttr {
+            height,
+            style,
+            hidden,
+        }),
+    )?;
     let style = None;
     let width = Some(50);
-    sheet.put_column(5, Some(ColumnAttr { width, style, hidden }))
+    sheet.put_column(
+        5,
+        Some(ColumnAttr {
+            width,
+            style,
+            hidden,
+        }),
+    )
 }
 
 /// `A5` holds TRUE, `C1` is `A5+$B$2`, and the last row of `A` holds an error.
@@ -174,12 +188,7 @@ fn holds(
     }
 }
 
-fn holds_formula(
-    book: &Workbook,
-    sheet: u32,
-    column: i32,
-    tree: Node,
-) -> Result<bool, EditError> {
+fn holds_formula(book: &Workbook, sheet: u32, column: i32, tree: Node) -> Result<bool, EditError> {
     holds(book, sheet, 1, column, &Content::Formula(tree))
 }
 
@@ -224,7 +233,15 @@ fn rows_deleted(rt: HostRuntime) -> Result<(), Fail> {
     let book = two_sheets(alloc)?;
     let edit = deletion::<RowAxis>(5, 1)?;
     let (after, kept) = edited(alloc, &book, &edit)?;
-    assert!(rt; holds(&after, 0, LAST_ROW - 1, 1, &Content::Error(Error::DivisionByZero))?);
+    assert!(rt;
+        holds(
+            &after,
+            0,
+            LAST_ROW - 1,
+            1,
+            &Content::Error(Error::DivisionByZero)
+        )?
+    );
     let lost = plus_fixed(alloc, Node::Error(Error::Ref))?;
     assert!(rt; holds_formula(&after, 0, 3, lost)?);
     assert!(rt; holds_formula(&after, 1, 1, Node::Error(Error::Ref))?);

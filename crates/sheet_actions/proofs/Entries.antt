@@ -8,6 +8,7 @@ use Rattle.std.specs.FinMap.{FinMap, empty, get, get-empty}
 use Rattle.base_values.specs.declared.Position.{Position}
 use Rattle.base_values.specs.Places.{position_cmp, position_total, exact_positions}
 use Rattle.base_axis.specs.Along.{Along, IsAxis}
+use Rattle.formula_tree.specs.declared.Node.{Node}
 use Rattle.sheet_grid.specs.declared.Cell.{Cell}
 use Rattle.sheet_grid.specs.Sheet.{Sheet}
 use Rattle.line_map.specs.declared.EditKind.{EditKind}
@@ -41,7 +42,7 @@ get-lost a l e valid cells p =
     ∙ lost_or_none cells (if_lost (place_image a e p) p)
 
 -- of a cell that goes nowhere no tree is kept
-stays_none : (v : Option Cell) (f : Cell → Option _) → ((cell : Cell) → f cell ≡ None) → None ≡ if_there v f
+stays_none : (v : Option Cell) (f : Cell → Option Node) → ((cell : Cell) → f cell ≡ None) → ◌≡◌ {A = Option Node} None (if_there v f)
 stays_none None f h = refl
 stays_none (Some cell) f h = sym (h cell)
 

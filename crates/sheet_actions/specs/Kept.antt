@@ -1,5 +1,5 @@
 -- What taking the lines back does not give of a workbook.
-use Rattle.std.proofs.Common.{◌≡◌, ℕ, ◌+◌, ◌<◌, Bool, List, length, get_or, take, Option, Some, None, ap, sym, ◌∙◌}
+use Rattle.std.proofs.Common.{◌≡◌, ℕ, ◌+◌, ◌<◌, Bool, List, [], length, get_or, take, Option, Some, None, refl, ap, sym, ◌∙◌}
 use Rattle.std.specs.Prelude.{◌==◌, if◌then◌else◌}
 use Rattle.std.specs.List.{fold}
 use Rattle.std.proofs.lemmas.List.Sums.{fold_more}
@@ -68,6 +68,11 @@ sheet_kept a e id edited sheet = if_any (kept_trees (way_of a e id edited sheet)
 -- those of each sheet, under its id
 unfoldable pub kept_formulas : Along → EditKind → ℕ → List ℕ → List Sheet → FinMap nat_cmp (FinMap position_cmp Node)
 kept_formulas a e id edited sheets = fold (λ kept sheet. with_entry kept sheet.id (sheet_kept a e id edited sheet)) empty sheets
+
+-- of no sheet nothing is kept
+pub kept_none : (a : Along) (e : EditKind) (id : ℕ) (edited : List ℕ) → empty ≡ kept_formulas a e id edited []
+unfolding kept_formulas
+kept_none a e id edited = refl
 
 -- what is kept of one more sheet
 pub kept_more : (a : Along) (e : EditKind) (id : ℕ) (edited : List ℕ) (sheets : List Sheet) (i : ℕ) (sheet : Sheet) → i < length sheets → sheet ≡ get_or sheets i sheet →

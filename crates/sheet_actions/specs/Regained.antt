@@ -259,15 +259,15 @@ formulas_under a e id edited sheets distinct = kept_under a e id edited sheets e
 -- an id that no sheet has is none of theirs
 none_has : (id : ℕ) (sheets : List Sheet) → find (λ sheet. sheet.id == id) sheets ≡ None → AllByRecursion (λ other. (id == other) ≡ false) (map (λ sheet. sheet.id) sheets)
 none_has id [] h = tt
-none_has id (sheet ∷ sheets) h = go (sheet.id == id) refl h
+none_has id (sheet ∷ sheets) h = go (none_has id sheets) (sheet.id == id) refl h
   where
     differs : (m n : ℕ) (b : Bool) → (m == n) ≡ false → (n == m) ≡ b → b ≡ false
     differs m n false h i = refl
     differs m n true h i = let yes : (m == n) ≡ true = (unsigned_Decides m n).1 (sym ((unsigned_Decides n m).0 i)) in absurd (cc)
 
-    go : (b : Bool) → (sheet.id == id) ≡ b → cond b (Some sheet) (find (λ other. other.id == id) sheets) ≡ None → AllByRecursion (λ other. (id == other) ≡ false) (map (λ sheet. sheet.id) (sheet ∷ sheets))
-    go true e g = absurd (cc)
-    go false e g = (differs sheet.id id (id == sheet.id) e refl, none_has id sheets g)
+    go : (find (λ other. other.id == id) sheets ≡ None → AllByRecursion (λ other. (id == other) ≡ false) (map (λ sheet. sheet.id) sheets)) → (b : Bool) → (sheet.id == id) ≡ b → cond b (Some sheet) (find (λ other. other.id == id) sheets) ≡ None → AllByRecursion (λ other. (id == other) ≡ false) (map (λ sheet. sheet.id) (sheet ∷ sheets))
+    go rest true e g = absurd (cc)
+    go rest false e g = (differs sheet.id id (id == sheet.id) e refl, rest g)
 
 -- and under it nothing is kept
 pub kept_elsewhere : (a : Along) (e : EditKind) (id : ℕ) (edited : List ℕ) (sheets : List Sheet) (n : ℕ) → find (λ sheet. sheet.id == n) sheets ≡ None → get (kept_formulas a e id edited sheets) n ≡ None

@@ -1,2 +1,2 @@
-mod Entries
+mod Held
 mod Kepts

@@ -1,5 +1,5 @@
 use Rattle.sheet_actions.specs.Followed.{way_of}
-use Rattle.sheet_actions.proofs.Entries.{get-followed, get-lost, get-kept_trees}
+use Rattle.sheet_actions.proofs.Held.{get-followed, get-lost, get-kept_trees}
 use Rattle.std.specs.Cmp.{int_cmp_total}
 use Rattle.std.specs.Ordering.{int_cmp}
 use Rattle.std.proofs.lemmas.Map.Lookups.{exact_signed}

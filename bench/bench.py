@@ -71,7 +71,12 @@ def synced_each(count):
 
 def printed_call(count):
     """Asks for a call of as many arguments in each form, so often."""
-    return [str(count), str(ROUNDS)]
+    return [str(count), str(ROUNDS), "0", "0"]
+
+
+def printed_names(count):
+    """Asks for a LET of as many names, each used once, in the form of Excel, so often."""
+    return ["0", "0", str(count), str(ROUNDS)]
 
 
 def run(program, lines):
@@ -128,7 +133,8 @@ def main():
     shares(seconds)
     _, _, _, fast_read = pair(f"bytes of a formula, read {READS} times", long_formula)
     _, _, _, fast_print = pair("arguments printed in five forms", printed_call, PRINTER, (FEW, MANY))
-    all_fast = fast and fast_back and fast_sync and fast_set and fast_read and fast_print
+    _, _, _, fast_names = pair("bound names printed for Excel", printed_names, PRINTER, (FEW, MANY))
+    all_fast = fast and fast_back and fast_sync and fast_set and fast_read and fast_print and fast_names
     sys.exit(0 if all_fast else 1)
 
 

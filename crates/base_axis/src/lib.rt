@@ -1,12 +1,14 @@
-//! The two directions of a sheet, so that what is done to rows and to columns is written once, and
-//! areas of its places.
+//! The two directions of a sheet, so that what is done to rows and to columns is written once, maps
+//! from their lines, and areas of places.
 #![tactic(auto)]
 
 mod area;
 mod axis;
+mod line_map;
 
 pub use area::Area;
 pub use axis::{Axis, ColumnAxis, RowAxis};
+pub use line_map::LineMap;
 
 #[cfg(test)]
 mod tests;

@@ -1,5 +1,5 @@
-use crate::{Axis, ColumnAxis, RowAxis};
-use base_values::Position;
+use crate::{Axis, ColumnAxis, LineMap, RowAxis};
+use base_values::{Position, copy_of, same};
 use std::test::Fail;
 
 /// A place of the third row and second column, asked along an axis.
@@ -19,5 +19,20 @@ fn along_both_axes(rt: HostRuntime) -> Result<(), Fail> {
     assert_eq!(rt; column, 2);
     assert!(rt; right == Position { row: 3, column: 7 });
     assert!(rt; !of_columns);
+    Ok(())
+}
+
+/// Each call on a map that may find no memory, once where there is enough.
+#[test]
+fn with_ample_memory(rt: HostRuntime) -> Result<(), Fail> {
+    let alloc = rt.alloc();
+    let mut map: LineMap<ColumnAxis, bool> = LineMap::new(alloc);
+    assert!(rt; map.insert(2, true)?.is_none());
+    map.put(3, Some(false))?;
+    assert_eq!(rt; map.lines(alloc)?.len(), 2);
+    assert!(rt; same(&copy_of(&map)?, &map));
+    assert_eq!(rt; map.iter().count(), 2);
+    map.put(3, None)?;
+    assert!(rt; map.get(3).is_none());
     Ok(())
 }

@@ -145,3 +145,133 @@ fn a_script_may_have_16_777_216_bytes(rt: HostRuntime) -> Result<(), Fail> {
     assert!(rt; output.bytes().is_empty());
     Ok(())
 }
+
+/// The second copy with the formulas.
+const FORMULAS_BOOK: &str = "copy
+book en UTC workbook
+sheet 1 visible 1 0 0 - Sheet1
+cell B1 - formula =IF(TRUE,1.5,\"a\"\"b\")
+cell C1 - formula =A1:B$2
+cell B2 - formula =1-3-(3+5)
+cell C2 - formula =SUM(A:A,,$3:4)/'My sheet'!A1
+cell B3 - formula =-(A2*2)
+cell C3 - formula ={1,-2;TRUE,#N/A}
+cell B4 - formula =(-A2)%
+cell C4 - formula =LAMBDA(x,[y],x+y)(2,)
+cell B5 - formula =(2^3)^4
+cell C5 - formula =@A1:A3
+cell B6 - formula =A2
+cell C6 - formula =A1#:tax(rate)
+cell B7 - formula =\"a\"\"b\"&(1=2)
+cell C7 - formula =1<>2<=3
+cell C8 - formula =1+
+end
+";
+
+/// A formula for each kind of node: its cell, how it is typed, and how it is printed.
+const FORMULAS: [(&str, &str, &str); 16] = [
+    (
+        "B1",
+        "=if(true, 1.50, \"a\"\"b\")",
+        "=IF(TRUE,1.5,\"a\"\"b\")",
+    ),
+    ("B2", "=(1 - 3) - (3+5)", "=1-3-(3+5)"),
+    ("B3", "=-(A2*2)", "=-(A2*2)"),
+    ("B4", "=(-A2)%", "=(-A2)%"),
+    ("B5", "=2^3^4", "=(2^3)^4"),
+    ("B6", "=+A2", "=A2"),
+    ("B7", "=\"a\"\"b\"&(1=2)", "=\"a\"\"b\"&(1=2)"),
+    ("C1", "=b$2:A1", "=A1:B$2"),
+    (
+        "C2",
+        "=SUM(A:A, ,$3:4)/'My sheet'!A1",
+        "=SUM(A:A,,$3:4)/'My sheet'!A1",
+    ),
+    ("C3", "={1,-2;TRUE,#N/A}", "={1,-2;TRUE,#N/A}"),
+    ("C4", "=lambda(x, [y], x+y)(2, )", "=LAMBDA(x,[y],x+y)(2,)"),
+    ("C5", "=@A1:A3", "=@A1:A3"),
+    ("C6", "=A1#:Tax(rate)", "=A1#:tax(rate)"),
+    ("C7", "=1<>2<=3", "=1<>2<=3"),
+    ("C8", "=1+", "=1+"),
+    ("C9", "=#REF!+1", "=#REF!+1"),
+];
+
+/// The formulas typed, asked for, the last two taken back and one of them made again, and all sent.
+fn formulas_script(alloc: Global) -> Result<String, Fail> {
+    let mut script = String::new(alloc);
+    for (cell, typed, _) in FORMULAS {
+        script.push_str(format!(in alloc; "set 0 {cell} {typed}\nget 0 {cell}\n")?.as_str())?;
+    }
+    script.push_str("undo\nundo\nredo\nsync\nshow\nset 0 B1\nundo\nsync\n")?;
+    Ok(script)
+}
+
+/// The answers up to the first sync.
+fn formulas_answered(alloc: Global) -> Result<String, Fail> {
+    let mut answers = String::new(alloc);
+    for (_, _, printed) in FORMULAS {
+        answers.push_str(format!(in alloc; "ok\nvalue {printed}\n")?.as_str())?;
+    }
+    answers.push_str("ok\nok\nok\nsync ")?;
+    Ok(answers)
+}
+
+/// The second copy has every formula but the one that stays undone.
+#[test]
+fn formulas_of_every_kind(rt: HostRuntime) -> Result<(), Fail> {
+    let alloc = rt.alloc();
+    let (outcome, output) = run_failing(alloc, &formulas_script(alloc)?, &[], &[])?;
+    assert_eq!(rt; outcome, Ok(()));
+    assert!(rt;
+        output
+            .bytes()
+            .starts_with(formulas_answered(alloc)?.as_bytes())
+    );
+    assert!(rt; output.bytes().ends_with(FORMULAS_BOOK.as_bytes()));
+    Ok(())
+}
+
+/// What formulas are made of, and what breaks them.
+const PIECES: [&str; 40] = [
+    "(", ")", "{", "}", "[", "]", ",", ";", ":", "+", "-", "*", "/", "^", "%", "&", "#", "@", "=",
+    "<", ">", "\"", "'", "!", "$", "A1", "B$2", "C:D", "3:4", "SUM", "LAMBDA", "LET(x,", "x",
+    "1.5", "1e3", "#REF!", "TRUE", " ", "\u{e9}", "Sheet1!",
+];
+
+/// A formula of pieces that are drawn one after another, with the state of the draw behind it.
+fn drawn_formula(alloc: Global, seed: u64) -> Result<(String, u64), Fail> {
+    let mut formula = String::new(alloc);
+    let mut state = seed;
+    for _ in 0..12 {
+        state = state
+            .wrapping_mul(6364136223846793005)
+            .wrapping_add(1442695040888963407);
+        if let Some(piece) = PIECES.get((state >> 33) as usize % PIECES.len()) {
+            formula.push_str(piece)?;
+        }
+    }
+    Ok((formula, state))
+}
+
+/// Texts of drawn pieces, each typed and asked for.
+fn drawn_script(alloc: Global, count: usize) -> Result<String, Fail> {
+    let mut script = String::new(alloc);
+    let mut seed = 1;
+    for _ in 0..count {
+        let (formula, next) = drawn_formula(alloc, seed)?;
+        script.push_str(format!(in alloc; "set 0 A1 ={formula}\nget 0 A1\n")?.as_str())?;
+        seed = next;
+    }
+    Ok(script)
+}
+
+/// No text stops a script, whatever stands behind the equals sign.
+#[test]
+fn drawn_formulas_are_answered(rt: HostRuntime) -> Result<(), Fail> {
+    let alloc = rt.alloc();
+    let (outcome, output) = run_failing(alloc, &drawn_script(alloc, 300)?, &[], &[])?;
+    assert_eq!(rt; outcome, Ok(()));
+    let lines = output.bytes().iter().filter(|byte| **byte == b'\n').count();
+    assert_eq!(rt; lines, 604);
+    Ok(())
+}

@@ -19,6 +19,3 @@ mod words;
 pub use profile::Profile;
 pub use read::{read_tokens, tokens_derive_one_tree};
 pub use token::{CellMark, Token};
-
-#[cfg(test)]
-mod tests;

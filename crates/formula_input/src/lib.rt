@@ -10,3 +10,6 @@ mod print;
 
 pub use input::read_input;
 pub use print::{contents_read_again, print_content};
+
+#[cfg(test)]
+mod tests;

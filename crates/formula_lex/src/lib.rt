@@ -9,6 +9,3 @@ mod lex;
 mod place;
 
 pub use lex::{lex_text, text_spells_one_list};
-
-#[cfg(test)]
-mod tests;

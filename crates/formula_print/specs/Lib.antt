@@ -4,5 +4,6 @@ pub mod Pieces
 pub mod Print
 pub mod PrintEquations
 pub mod Forms
+pub mod FirstPlaces
 pub mod Scope
 pub mod ScopeEquations

@@ -3,6 +3,7 @@
 //! definition, `printed`, at the form's style; it says where parentheses stand.
 #![tactic(auto)]
 
+mod bound_names;
 mod forms;
 mod kind;
 mod pieces;
@@ -11,8 +12,6 @@ mod reference;
 mod scope;
 mod store;
 mod style;
-#[cfg(test)]
-mod tests;
 
 pub use forms::{
     to_english_string, to_excel_array_formula_string, to_excel_string, to_localized_string,

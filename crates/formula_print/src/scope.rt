@@ -1,8 +1,7 @@
 ghost use Rattle.std.specs.Prelude.{◌≡◌, ◌++◌, ◌∷◌, [], take, map, IfOk, OnOk, length};
-ghost use Rattle.std.specs.List.{list_any};
-ghost use Rattle.base_tables.specs.Tables.{same_text};
 ghost use Rattle.formula_print.specs.Scope as spec;
 
+use crate::bound_names::BoundNames;
 use base_values::{Items, Text};
 use formula_tree::Parameter;
 use std::alloc::{AllocError, Global};
@@ -12,13 +11,7 @@ use std::alloc::{AllocError, Global};
 pub(crate) struct Scope {
     /// Whether bound names are marked there.
     pub marks: bool,
-    pub names: Items<Text>,
-}
-
-fn is_listed(name: &str, names: &[Text]) -> bool
-    ensures { result ≡ list_any (same_text name.now) names.now }
-{
-    names.iter().any(|bound| name == bound.as_str())
+    pub names: BoundNames,
 }
 
 fn with_prefix(alloc: Global, prefix: &str, name: &Text) -> Result<Text, AllocError>
@@ -51,14 +44,14 @@ impl Scope {
     {
         Scope {
             marks: true,
-            names: Items::empty(alloc),
+            names: BoundNames::empty(alloc),
         }
     }
 
     fn is_marked(&self, name: &Text) -> bool
         ensures { result ≡ spec.is_marked self.now name.now }
     {
-        self.marks && is_listed(name.as_str(), self.names.as_slice())
+        self.marks && self.names.contains(name)
     }
 
     /// A name where it is used.
@@ -102,7 +95,7 @@ impl Scope {
     pub(crate) fn bind(&mut self, name: &Text) -> Result<(), AllocError>
         ensures { OnOk result (self.new ≡ spec.bind self.old name.now) }
     {
-        self.names.push(name.clone()?)
+        self.names.push(name)
     }
 
     /// Binds the parameters of a lambda.

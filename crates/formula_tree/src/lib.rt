@@ -34,6 +34,3 @@ pub use parameter::Parameter;
 pub use parse_error::is_parse_error;
 pub use placed::is_placed;
 pub use rebase::rebase_node;
-
-#[cfg(test)]
-mod tests;

@@ -17,6 +17,3 @@ mod writing;
 pub use fitting::node_fits;
 pub use reading::node_at;
 pub use writing::push_node;
-
-#[cfg(test)]
-mod tests;

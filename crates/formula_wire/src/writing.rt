@@ -29,30 +29,12 @@ pub fn push_node(out: &mut Vec<u8>, node: &Node) -> Result<(), AllocError>
         Node::Text(text) => push_tagged_text(out, 2, text),
         Node::Reference(sheet, corner) => push_reference(out, sheet, *corner),
         Node::Range(sheet, first, second) => push_range(out, sheet, *first, *second),
-        Node::Colon(a, b) => {
-            push_boxed(out, &[5], a)?;
-            push_node(out, b.get())
-        }
-        Node::Concatenate(a, b) => {
-            push_boxed(out, &[6], a)?;
-            push_node(out, b.get())
-        }
-        Node::Compare(kind, a, b) => {
-            push_boxed(out, &[7, compare_code(*kind)], a)?;
-            push_node(out, b.get())
-        }
-        Node::Sum(kind, a, b) => {
-            push_boxed(out, &[8, sum_code(*kind)], a)?;
-            push_node(out, b.get())
-        }
-        Node::Product(kind, a, b) => {
-            push_boxed(out, &[9, product_code(*kind)], a)?;
-            push_node(out, b.get())
-        }
-        Node::Power(a, b) => {
-            push_boxed(out, &[10], a)?;
-            push_node(out, b.get())
-        }
+        Node::Colon(a, b) => push_pair(out, &[5], a, b),
+        Node::Concatenate(a, b) => push_pair(out, &[6], a, b),
+        Node::Compare(kind, a, b) => push_pair(out, &[7, compare_code(*kind)], a, b),
+        Node::Sum(kind, a, b) => push_pair(out, &[8, sum_code(*kind)], a, b),
+        Node::Product(kind, a, b) => push_pair(out, &[9, product_code(*kind)], a, b),
+        Node::Power(a, b) => push_pair(out, &[10], a, b),
         Node::Unary(kind, a) => push_boxed(out, &[11, unary_code(*kind)], a),
         Node::Call(function, all) => push_nodes(out, &[12, function.code()], all),
         Node::NamedCall(name, all) => push_named_call(out, name, all),
@@ -78,6 +60,20 @@ fn push_boxed(out: &mut Vec<u8>, head: &[u8], node: &Boxed<Node>) -> Result<(), 
 {
     out.extend_from_slice(head)?;
     push_node(out, node.get())
+}
+
+/// Adds the bytes that a node begins with, and two children.
+#[cycle(nodes)]
+fn push_pair(
+    out: &mut Vec<u8>,
+    head: &[u8],
+    left: &Boxed<Node>,
+    right: &Boxed<Node>,
+) -> Result<(), AllocError>
+    ensures { OnOk result (out.new.items ≡ out.old.items ++ (head.now ++ (spell_node left.now ++ spell_node right.now))) }
+{
+    push_boxed(out, head, left)?;
+    push_node(out, right.get())
 }
 
 /// Adds the bytes that a node begins with, and its arguments.

@@ -3,9 +3,10 @@ use Rattle.std.proofs.Common.{◌≡◌, ℤ, Bool, true, false, Option, Some, N
 use Rattle.std.specs.Prelude.{IfSome, cond, if◌then◌else◌}
 use Rattle.std.specs.Bool.{Decides}
 use Rattle.std.specs.Ordering.{eq_by_cmp}
-use Rattle.std.specs.FinMap.{FinMap, empty, get, insert, get-empty, get-insert}
+use Rattle.std.specs.FinMap.{FinMap, empty, get, get-empty}
 use Rattle.base_values.specs.declared.Position.{Position}
 use Rattle.base_values.specs.Places.{IsLine, IsPlace, position_cmp, position_total, exact_positions}
+use Rattle.base_values.specs.KeyMap.{with_entry, get-with_entry}
 use Rattle.base_axis.specs.Along.{Along, IsAxis}
 use Rattle.line_map.specs.declared.edit.EditKind.{EditKind}
 use Rattle.line_map.specs.Edit.{image_at, opposite_of, IsValid}
@@ -62,6 +63,13 @@ place_inverse a l e valid = record {
   forth = λ p q h. ap (λ x. place_image a x p) (sym (opposite_twice e)) ∙ place_back a l (opposite_of e) (valid_opposite a.last e valid) q p h;
 }
 
+-- lines of a map go to and fro
+pub line_inverse : (last : ℤ) (e : EditKind) → IsValid last e → Inverse (image_at last e) (image_at last (opposite_of e))
+line_inverse last e valid = record {
+  back = λ n m h. image_back last e valid n m h;
+  forth = λ n m h. ap (λ x. image_at last x n) (sym (opposite_twice e)) ∙ image_back last (opposite_of e) (valid_opposite last e valid) m n h;
+}
+
 carried_from : {F : Type 0} (f : F → F) (v : Option F) (y : F) → if_there v (λ x. Some (f x)) ≡ Some y → (x : F) × (v ≡ Some x) × (y ≡ f x)
 carried_from f None y h = absurd (cc)
 carried_from f (Some x) y h = (x, refl, let e : f x ≡ y = cc in sym e)
@@ -111,17 +119,18 @@ none_lie {F} Lies = record {
   items = λ p x h. let none : get (empty {X = F} {R = position_cmp}) p ≡ None = get-empty position_cmp p in absurd (cc);
 }
 
-one_more : {F : Type 0} (Lies : F → Type 0) (m : FinMap position_cmp F) → AllLie Lies m → (q : Position) (y : F) → IsPlace q → Lies y → (p : Position) (x : F) (b : Bool) → eq_by_cmp position_cmp p q ≡ b →
-    cond b (Some y) (get m p) ≡ Some x → IsPlace p × Lies x
-one_more Lies m all q y place lies p x true e h =
-    let same : p ≡ q = one_key position_cmp position_total exact_positions p q e in
-    let is : y ≡ x = cc in
-    (subst IsPlace (sym same) place, subst Lies is lies)
-one_more Lies m all q y place lies p x false e h = (all.places p x h, all.items p x h)
+of_some : {F : Type 0} (Lies : F → Type 0) (w : Option F) (x : F) → IfSome w Lies → w ≡ Some x → Lies x
+of_some Lies None x h e = absurd (cc)
+of_some Lies (Some y) x h e = let is : y ≡ x = cc in subst Lies is h
 
--- a map to which an entry comes lies inside
-pub more_lie : {F : Type 0} (Lies : F → Type 0) (m : FinMap position_cmp F) → AllLie Lies m → (q : Position) (y : F) → IsPlace q → Lies y → AllLie Lies (insert m q y)
-more_lie Lies m all q y place lies =
-    let found : (p : Position) (x : _) → get (insert m q y) p ≡ Some x → IsPlace p × Lies x =
-    λ p x h. one_more Lies m all q y place lies p x _ refl (sym (get-insert position_total m q y p) ∙ h) in
+entry_lies : {F : Type 0} (Lies : F → Type 0) (m : FinMap position_cmp F) → AllLie Lies m → (q : Position) (w : Option F) → IsPlace q → IfSome w Lies → (p : Position) (x : F) (b : Bool) → eq_by_cmp position_cmp p q ≡ b →
+    cond b w (get m p) ≡ Some x → IsPlace p × Lies x
+entry_lies Lies m all q w place lies p x true e h = (subst IsPlace (sym (one_key position_cmp position_total exact_positions p q e)) place, of_some Lies w x lies h)
+entry_lies Lies m all q w place lies p x false e h = (all.places p x h, all.items p x h)
+
+-- a map that has another entry at a place of the sheet, or none there, lies inside
+pub with_entry_lies : {F : Type 0} (Lies : F → Type 0) (m : FinMap position_cmp F) → AllLie Lies m → (q : Position) (w : Option F) → IsPlace q → IfSome w Lies → AllLie Lies (with_entry m q w)
+with_entry_lies Lies m all q w place lies =
+    let found : (p : Position) (x : _) → get (with_entry m q w) p ≡ Some x → IsPlace p × Lies x =
+    λ p x h. entry_lies Lies m all q w place lies p x _ refl (sym (get-with_entry position_total m q w p) ∙ h) in
     record { places = λ p x h. (found p x h).0; items = λ p x h. (found p x h).1 }

@@ -1,56 +1,60 @@
-// Trees in cells of a sheet, along insertions and deletions of rows. Their texts afterwards were
-// worked out by hand from where lines go.
-ghost use Rattle.std.specs.Prelude.{◌≡◌, IfOk, pos};
+// Formulas in cells, along insertions and deletions of lines. The texts were worked out by hand from
+// docs/MODEL.md: a line at an insertion or after it goes on by as many lines, a deleted one is lost,
+// one after a deletion goes back, and a cell that is lost keeps its formula.
+ghost use Rattle.std.specs.Prelude.{◌≡◌, IfOk, IsTrue};
 ghost use Rattle.std.specs.List.{All};
 ghost use Rattle.base_values.specs.Places.{IsPlace};
-ghost use Rattle.line_map.specs.Edit.{IsValid};
+ghost use Rattle.line_map.specs.Edit.{IsValid, IsWithin};
 ghost use Rattle.line_map.specs.Places.{AllLie};
 ghost use Rattle.line_map.specs.Trees.{Lies};
 
-use crate::{EditKind, Follow, KeptTree, LineEdit, TreeAt, comes_back, there_and_back};
+use crate::{
+    EditKind, Follow, KeptTree, LineEdit, TreeAt, comes_back, place_image, there_and_back,
+};
 use base_axis::{Area, Axis, ColumnAxis, RowAxis};
 use base_tables::Function;
-use base_values::{Boxed, EditError, Items, PlaceMap, Position, Text, copy_of, same};
+use base_values::{
+    Boxed, EditError, Items, PlaceMap, Position, Text, copy_of, line_of, place_of, same,
+};
 use formula_print::to_english_string;
 use formula_tree::{CellReferenceRC, Corner, Node, SumKind};
 use std::alloc::{AllocError, Global};
 use std::test::Fail;
 
+/// A corner by its rows below the formula's cell and its columns to the right of it.
+fn relative(row: i32, column: i32) -> Corner {
+    corner(false, row, false, column)
+}
+
+fn absolute(row: i32, column: i32) -> Corner {
+    corner(true, row, true, column)
+}
+
+fn corner(absolute_row: bool, row: i32, absolute_column: bool, column: i32) -> Corner {
+    Corner {
+        absolute_row,
+        row,
+        absolute_column,
+        column,
+    }
+}
+
+/// A formula of a table.
+#[derive(Clone, Copy)]
+enum Formula<'a> {
+    Reference(Corner),
+    OnSheet(&'a str, Corner),
+    Added(Corner, Corner),
+    SumOf(Corner, Corner),
+}
+
 fn text(alloc: Global, word: &str) -> Result<Text, AllocError> {
     Ok(Text::new(String::from_str(alloc, word)?))
 }
 
-/// A corner without marks of a formula in row 1 and column 3.
-fn relative(row: i32, column: i32) -> Corner {
-    Corner {
-        absolute_row: false,
-        row,
-        absolute_column: false,
-        column,
-    }
-}
-
-fn absolute(row: i32, column: i32) -> Corner {
-    Corner {
-        absolute_row: true,
-        row,
-        absolute_column: true,
-        column,
-    }
-}
-
-fn reference(corner: Corner) -> Node {
-    Node::Reference(None, corner)
-}
-
-fn on_sheet(alloc: Global, sheet: &str, corner: Corner) -> Result<Node, AllocError> {
-    Ok(Node::Reference(Some(text(alloc, sheet)?), corner))
-}
-
-/// `A5+$B$2` in C1
-fn added(alloc: Global) -> Result<Node, AllocError> {
-    let left = Boxed::new(alloc, reference(relative(4, -2)))?;
-    let right = Boxed::new(alloc, reference(absolute(2, 2)))?;
+fn added(alloc: Global, left: Corner, right: Corner) -> Result<Node, AllocError> {
+    let left = Boxed::new(alloc, Node::Reference(None, left))?;
+    let right = Boxed::new(alloc, Node::Reference(None, right))?;
     Ok(Node::Sum(SumKind::Add, left, right))
 }
 
@@ -60,27 +64,27 @@ fn sum_of(alloc: Global, first: Corner, second: Corner) -> Result<Node, AllocErr
     Ok(Node::Call(Function::Sum, all))
 }
 
-/// `SUM(A:A)` in C1
-fn whole_column(alloc: Global) -> Result<Node, AllocError> {
-    let first = Corner {
-        absolute_column: false,
-        column: -2,
-        ..absolute(1, 1)
-    };
-    let last = Corner {
-        absolute_column: false,
-        column: -2,
-        ..absolute(1_048_576, 1)
-    };
-    sum_of(alloc, first, last)
+fn node(alloc: Global, formula: Formula<'_>) -> Result<Node, AllocError> {
+    match formula {
+        Formula::Reference(corner) => Ok(Node::Reference(None, corner)),
+        Formula::OnSheet(name, corner) => Ok(Node::Reference(Some(text(alloc, name)?), corner)),
+        Formula::Added(left, right) => added(alloc, left, right),
+        Formula::SumOf(first, second) => sum_of(alloc, first, second),
+    }
 }
 
-fn tree_at(alloc: Global, node: Node, place: Position) -> Result<TreeAt, AllocError>
+/// A formula in a cell of a sheet, where `SHEET1` is edited.
+fn tree_at(
+    alloc: Global,
+    formula: Formula<'_>,
+    sheet: &str,
+    place: Position,
+) -> Result<TreeAt, AllocError>
     ensures { IfOk result (λ tree. tree.place ≡ place) }
 {
     Ok(TreeAt {
-        node,
-        sheet: text(alloc, "Sheet1")?,
+        node: node(alloc, formula)?,
+        sheet: text(alloc, sheet)?,
         place,
         edited: text(alloc, "SHEET1")?,
     })
@@ -95,142 +99,318 @@ fn printed(alloc: Global, tree: &TreeAt) -> Result<String, EditError> {
     to_english_string(alloc, &tree.node, &context)
 }
 
-/// Whether a tree has this text after an edit of rows.
-fn reads(
-    alloc: Global,
-    node: Node,
-    place: Position,
-    kind: EditKind,
-    expected: &str,
-) -> Result<bool, EditError>
-    requires place { IsPlace place }
-    requires valid { IsValid (pos 1048576) kind }
+fn reads(alloc: Global, tree: &TreeAt, expected: &str) -> Result<bool, EditError> {
+    Ok(printed(alloc, tree)?.as_str() == expected)
+}
+
+/// The first line and the count of an edit, where the axis has such ones.
+fn lines_of<A: Axis>(first: i32, count: i32) -> Result<(i32, i32), EditError>
+    ensures { IfOk result (λ lines. IsWithin A.along.last lines.0 lines.1) }
 {
-    let edit = LineEdit::<RowAxis>::new(kind);
-    let tree = tree_at(alloc, node, place)?;
-    let there = tree.follow(alloc, &edit)?;
-    Ok(printed(alloc, &there)?.as_str() == expected)
+    let first = line_of(A::LAST, first, EditError::InvalidRow)?;
+    let count = line_of(A::LAST, count, EditError::InvalidRow)?;
+    Ok((first, count))
 }
 
-#[test]
 #[tactic(auto, unfolding(crate::specs::Edit::IsValid))]
-fn references_follow(rt: HostRuntime) -> Result<(), Fail> {
-    let alloc = rt.alloc();
-    let two_at_3 = EditKind::Insert { first: 3, count: 2 };
-    let row_5 = EditKind::Delete { first: 5, count: 1 };
-    let c1 = Position { row: 1, column: 3 };
-    assert!(rt; reads(alloc, added(alloc)?, c1, two_at_3, "A7+$B$2")?);
-    assert!(rt; reads(alloc, added(alloc)?, c1, row_5, "#REF!+$B$2")?);
-    assert!(rt; reads(alloc, reference(relative(2, -2)), c1, two_at_3, "A5")?);
-    let named = on_sheet(alloc, "sheet1", relative(4, -2))?;
-    assert!(rt; reads(alloc, named, c1, two_at_3, "sheet1!A7")?);
-    let other = on_sheet(alloc, "Sheet2", relative(4, -2))?;
-    assert!(rt; reads(alloc, other, c1, two_at_3, "Sheet2!A5")?);
-    Ok(())
+fn insertion<A: Axis>(first: i32, count: i32) -> Result<LineEdit<A>, EditError>
+    ensures { IfOk result (λ edit. IsValid A.along.last edit.kind) }
+{
+    let (first, count) = lines_of::<A>(first, count)?;
+    Ok(LineEdit::new(EditKind::Insert { first, count }))
 }
 
-#[test]
 #[tactic(auto, unfolding(crate::specs::Edit::IsValid))]
-fn references_of_a_cell_that_goes_follow(rt: HostRuntime) -> Result<(), Fail> {
-    let alloc = rt.alloc();
-    let two_at_3 = EditKind::Insert { first: 3, count: 2 };
-    let c5 = Position { row: 5, column: 3 };
-    assert!(rt; reads(alloc, reference(relative(-4, -2)), c5, two_at_3, "A1")?);
-    assert!(rt; reads(alloc, reference(relative(0, -2)), c5, two_at_3, "A7")?);
-    Ok(())
+fn deletion<A: Axis>(first: i32, count: i32) -> Result<LineEdit<A>, EditError>
+    ensures { IfOk result (λ edit. IsValid A.along.last edit.kind) }
+{
+    let (first, count) = lines_of::<A>(first, count)?;
+    Ok(LineEdit::new(EditKind::Delete { first, count }))
 }
 
-#[test]
-#[tactic(auto, unfolding(crate::specs::Edit::IsValid))]
-fn ranges_follow(rt: HostRuntime) -> Result<(), Fail> {
-    let alloc = rt.alloc();
-    let c1 = Position { row: 1, column: 3 };
-    let c5 = Position { row: 5, column: 3 };
-    let row_4 = EditKind::Delete { first: 4, count: 1 };
-    let part = sum_of(alloc, relative(1, -2), relative(3, -2))?;
-    assert!(rt; reads(alloc, part, c1, row_4, "SUM(A2:#REF!)")?);
-    let rows = EditKind::Delete { first: 2, count: 3 };
-    let part = sum_of(alloc, relative(1, -2), relative(3, -2))?;
-    assert!(rt; reads(alloc, part, c1, rows, "SUM(#REF!:#REF!)")?);
-    let three_at_2 = EditKind::Insert { first: 2, count: 3 };
-    assert!(rt; reads(alloc, whole_column(alloc)?, c1, three_at_2, "SUM(A:A)")?);
-    let one_at_2 = EditKind::Insert { first: 2, count: 1 };
-    let nearly = sum_of(alloc, absolute(1, 1), absolute(1_048_575, 1))?;
-    assert!(rt; reads(alloc, nearly, c5, one_at_2, "SUM($A:$A)")?);
-    Ok(())
+/// An edit of lines of the axis.
+fn edit_of<A: Axis>(kind: EditKind) -> Result<LineEdit<A>, EditError>
+    ensures { IfOk result (λ edit. IsValid A.along.last edit.kind) }
+{
+    match kind {
+        EditKind::Insert { first, count } => insertion(first, count),
+        EditKind::Delete { first, count } => deletion(first, count),
+    }
 }
 
-/// One list of one tree, under one place of a sheet.
-#[tactic(auto, using(crate::specs::Places::none_lie, crate::specs::Places::more_lie))]
-fn one_list(
+/// Whether a tree has this text after an edit.
+fn follows<A: Axis>(
     alloc: Global,
-    tree: TreeAt,
-    place: Position,
-) -> Result<PlaceMap<Items<TreeAt>>, EditError>
-    requires tree { Lies tree }
-    requires place { IsPlace place }
+    tree: &TreeAt,
+    edit: &LineEdit<A>,
+    after: &str,
+) -> Result<bool, EditError>
+    requires valid { IsValid A.along.last edit.now.kind }
+    requires lies { Lies tree.now }
+{
+    reads(alloc, &tree.follow(alloc, edit)?, after)
+}
+
+/// Whether a tree has this text when it is regained after an edit.
+fn is_regained_as<A: Axis>(
+    alloc: Global,
+    tree: &TreeAt,
+    edit: &LineEdit<A>,
+    before: &str,
+) -> Result<bool, EditError>
+    requires valid { IsValid A.along.last edit.now.kind }
+    requires lies { Lies tree.now }
+{
+    reads(alloc, &there_and_back(alloc, tree, edit)?, before)
+}
+
+/// Whether a formula has these texts before an edit and after it, and the first one again when it
+/// is regained.
+fn goes<A: Axis>(
+    alloc: Global,
+    formula: Formula<'_>,
+    sheet: &str,
+    (row, column): (i32, i32),
+    kind: EditKind,
+    before: &str,
+    after: &str,
+) -> Result<bool, EditError> {
+    let edit = edit_of::<A>(kind)?;
+    let tree = tree_at(alloc, formula, sheet, place_of(row, column)?)?;
+    Ok(
+        reads(alloc, &tree, before)?
+            && follows(alloc, &tree, &edit, after)?
+            && is_regained_as(alloc, &tree, &edit, before)?,
+    )
+}
+
+fn insert(first: i32, count: i32) -> EditKind {
+    EditKind::Insert { first, count }
+}
+
+fn delete(first: i32, count: i32) -> EditKind {
+    EditKind::Delete { first, count }
+}
+
+/// In C1 of the edited sheet.
+#[test]
+fn references_follow_rows(rt: HostRuntime) -> Result<(), Fail> {
+    let alloc = rt.alloc();
+    let (a5, b2) = (relative(4, -2), absolute(2, 2));
+    let sum = Formula::Added(a5, b2);
+    let (own, other) = (
+        Formula::OnSheet("sheet1", a5),
+        Formula::OnSheet("Sheet2", a5),
+    );
+    let last = Formula::Reference(absolute(1_048_576, 1));
+    for (formula, kind, before, after) in [
+        (sum, insert(3, 3), "A5+$B$2", "A8+$B$2"),
+        (sum, insert(3, 2), "A5+$B$2", "A7+$B$2"),
+        (sum, insert(2, 1), "A5+$B$2", "A6+$B$3"),
+        (sum, insert(6, 1), "A5+$B$2", "A5+$B$2"),
+        (sum, delete(5, 1), "A5+$B$2", "#REF!+$B$2"),
+        (sum, delete(3, 2), "A5+$B$2", "A3+$B$2"),
+        (sum, delete(1, 1), "A5+$B$2", "A5+$B$2"),
+        (own, insert(3, 2), "sheet1!A5", "sheet1!A7"),
+        (other, insert(3, 2), "Sheet2!A5", "Sheet2!A5"),
+        (last, insert(2, 1), "$A$1048576", "#REF!"),
+    ] {
+        assert!(rt;
+            goes::<RowAxis>(alloc, formula, "Sheet1", (1, 3), kind, before, after)?,
+            "{after}"
+        );
+    }
+    Ok(())
+}
+
+/// In C1 of the edited sheet.
+#[test]
+fn ranges_follow_rows(rt: HostRuntime) -> Result<(), Fail> {
+    let alloc = rt.alloc();
+    let part = Formula::SumOf(relative(1, -2), relative(3, -2));
+    let whole = Formula::SumOf(
+        corner(true, 1, false, -2),
+        corner(true, 1_048_576, false, -2),
+    );
+    let nearly = Formula::SumOf(absolute(1, 1), absolute(1_048_575, 1));
+    let crossed = Formula::SumOf(corner(true, 5, false, -2), corner(false, 1, true, 2));
+    for (formula, kind, before, after) in [
+        (part, insert(2, 1), "SUM(A2:A4)", "SUM(A3:A5)"),
+        (part, insert(4, 2), "SUM(A2:A4)", "SUM(A2:A6)"),
+        (part, delete(3, 1), "SUM(A2:A4)", "SUM(A2:A3)"),
+        (part, delete(4, 1), "SUM(A2:A4)", "SUM(A2:#REF!)"),
+        (part, delete(2, 3), "SUM(A2:A4)", "SUM(#REF!:#REF!)"),
+        (whole, insert(2, 3), "SUM(A:A)", "SUM(A:A)"),
+        (whole, delete(2, 3), "SUM(A:A)", "SUM(A:A)"),
+        (nearly, insert(2, 1), "SUM($A$1:$A$1048575)", "SUM($A:$A)"),
+        (
+            nearly,
+            insert(2, 2),
+            "SUM($A$1:$A$1048575)",
+            "SUM($A$1:#REF!)",
+        ),
+        (crossed, insert(3, 2), "SUM(A$5:$B2)", "SUM(A2:$B$7)"),
+    ] {
+        assert!(rt;
+            goes::<RowAxis>(alloc, formula, "Sheet1", (1, 3), kind, before, after)?,
+            "{after}"
+        );
+    }
+    Ok(())
+}
+
+/// In C5 of the edited sheet and of another one.
+#[test]
+fn cells_go_with_their_rows(rt: HostRuntime) -> Result<(), Fail> {
+    let alloc = rt.alloc();
+    let (a1, a5) = (
+        Formula::Reference(relative(-4, -2)),
+        Formula::Reference(relative(0, -2)),
+    );
+    let on_edited = Formula::OnSheet("Sheet1", relative(0, -2));
+    for (sheet, formula, kind, before, after) in [
+        ("Sheet1", a1, insert(3, 2), "A1", "A1"),
+        ("Sheet1", a5, insert(3, 2), "A5", "A7"),
+        ("Sheet1", a5, delete(2, 2), "A5", "A3"),
+        ("Sheet1", a1, delete(5, 1), "A1", "A1"),
+        ("Sheet2", a5, insert(3, 2), "A5", "A5"),
+        ("Sheet2", on_edited, insert(3, 2), "Sheet1!A5", "Sheet1!A7"),
+        ("Sheet2", on_edited, delete(5, 1), "Sheet1!A5", "#REF!"),
+    ] {
+        assert!(rt;
+            goes::<RowAxis>(alloc, formula, sheet, (5, 3), kind, before, after)?,
+            "{after}"
+        );
+    }
+    Ok(())
+}
+
+/// In C1 of the edited sheet.
+#[test]
+fn formulas_follow_columns(rt: HostRuntime) -> Result<(), Fail> {
+    let alloc = rt.alloc();
+    let sum = Formula::Added(relative(4, -2), absolute(2, 2));
+    let part = Formula::SumOf(relative(1, -2), relative(3, -2));
+    let column = Formula::SumOf(
+        corner(true, 1, false, -2),
+        corner(true, 1_048_576, false, -2),
+    );
+    let row = Formula::SumOf(corner(false, 2, true, 1), corner(false, 2, true, 16_384));
+    let last = Formula::Reference(absolute(1, 16_384));
+    for (formula, kind, before, after) in [
+        (sum, insert(2, 1), "A5+$B$2", "A5+$C$2"),
+        (sum, insert(1, 2), "A5+$B$2", "C5+$D$2"),
+        (sum, delete(1, 1), "A5+$B$2", "#REF!+$A$2"),
+        (sum, delete(3, 1), "A5+$B$2", "A5+$B$2"),
+        (part, insert(1, 2), "SUM(A2:A4)", "SUM(C2:C4)"),
+        (part, delete(1, 1), "SUM(A2:A4)", "SUM(#REF!:#REF!)"),
+        (column, insert(1, 1), "SUM(A:A)", "SUM(B:B)"),
+        (row, insert(2, 1), "SUM(3:3)", "SUM(3:3)"),
+        (row, delete(1, 1), "SUM(3:3)", "SUM(3:3)"),
+        (last, insert(16_384, 1), "$XFD$1", "#REF!"),
+    ] {
+        assert!(rt;
+            goes::<ColumnAxis>(alloc, formula, "Sheet1", (1, 3), kind, before, after)?,
+            "{after}"
+        );
+    }
+    Ok(())
+}
+
+#[test]
+fn lines_go(rt: HostRuntime) -> Result<(), Fail> {
+    for (kind, line, image) in [
+        (insert(3, 2), 0, None),
+        (insert(3, 2), 2, Some(2)),
+        (insert(3, 2), 3, Some(5)),
+        (insert(3, 2), 1_048_574, Some(1_048_576)),
+        (insert(3, 2), 1_048_575, None),
+        (delete(3, 2), 2, Some(2)),
+        (delete(3, 2), 4, None),
+        (delete(3, 2), 5, Some(3)),
+        (delete(3, 2), 1_048_576, Some(1_048_574)),
+        (delete(3, 2), 1_048_577, None),
+    ] {
+        assert_eq!(rt;
+            LineEdit::<RowAxis>::new(kind).image(line),
+            image,
+            "line {line}"
+        );
+    }
+    let edit = LineEdit::<ColumnAxis>::new(insert(3, 2));
+    let place = place_of(7, 3)?;
+    assert_eq!(rt;
+        place_image(&edit, place),
+        Some(Position { row: 7, column: 5 })
+    );
+    Ok(())
+}
+
+/// Whether a follower that was carried along is regained as it was.
+fn is_regained<A: Axis, F: Follow<A>>(
+    alloc: Global,
+    value: &F,
+    edit: &LineEdit<A>,
+) -> Result<bool, EditError>
+    requires valid { IsValid A.along.last edit.now.kind }
+    requires lies { F.Lies value.now }
+    ensures { IfOk result IsTrue }
+{
+    Ok(same(&there_and_back(alloc, value, edit)?, value))
+}
+
+/// A list of `A5+$B$2` in C1.
+fn one_tree(alloc: Global) -> Result<Items<TreeAt>, EditError>
+    ensures { IfOk result (All Lies) }
+{
+    let formula = Formula::Added(relative(4, -2), absolute(2, 2));
+    let place = Position { row: 1, column: 3 };
+    let mut trees = Items::empty(alloc);
+    trees.push(tree_at(alloc, formula, "Sheet1", place)?)?;
+    Ok(trees)
+}
+
+/// The list under a place of a sheet.
+fn one_list(alloc: Global, place: Position) -> Result<PlaceMap<Items<TreeAt>>, EditError>
+    requires { IsPlace place }
     ensures { IfOk result (AllLie (All Lies)) }
 {
-    let mut trees = Items::empty(alloc);
-    trees.push(tree)?;
     let mut map = PlaceMap::new(alloc);
-    let _before = map.insert(place, trees)?;
+    map.put(place, Some(one_tree(alloc)?))?;
     Ok(map)
 }
 
-/// A map of lists of trees, along an edit and back.
-fn regained<A: Axis>(
-    alloc: Global,
-    map: &PlaceMap<Items<TreeAt>>,
-    edit: &LineEdit<A>,
-) -> Result<PlaceMap<Items<TreeAt>>, EditError>
-    requires valid { IsValid A.along.last edit.now.kind }
-    requires lies { AllLie (All Lies) map.now }
-    ensures { IfOk result (λ regained. regained ≡ map.now) }
-{
-    there_and_back::<A, PlaceMap<Items<TreeAt>>>(alloc, map, edit)
-}
-
-/// Whether a map with one list of one tree in C1 is regained.
-fn is_regained<A: Axis>(alloc: Global, edit: &LineEdit<A>) -> Result<bool, EditError>
-    requires { IsValid A.along.last edit.now.kind }
-{
-    let place = Position { row: 1, column: 3 };
-    let tree = tree_at(alloc, added(alloc)?, place)?;
-    let map = one_list(alloc, tree, place)?;
-    Ok(same(&regained(alloc, &map, edit)?, &map))
+/// Whether a map of one list under C1 is regained.
+fn lists_are_regained<A: Axis>(alloc: Global, kind: EditKind) -> Result<bool, EditError> {
+    let edit = edit_of::<A>(kind)?;
+    let map = one_list(alloc, place_of(1, 3)?)?;
+    is_regained(alloc, &map, &edit)
 }
 
 #[test]
-#[tactic(auto, unfolding(crate::specs::Edit::IsValid))]
 fn lists_under_places_are_regained(rt: HostRuntime) -> Result<(), Fail> {
     let alloc = rt.alloc();
-    let row_5 = LineEdit::<RowAxis>::new(EditKind::Delete { first: 5, count: 1 });
-    assert!(rt; is_regained(alloc, &row_5)?);
-    let column_c = LineEdit::<ColumnAxis>::new(EditKind::Delete { first: 3, count: 1 });
-    assert!(rt; is_regained(alloc, &column_c)?);
+    for kind in [insert(3, 2), delete(5, 1), delete(1, 1)] {
+        assert!(rt; lists_are_regained::<RowAxis>(alloc, kind)?);
+        assert!(rt; lists_are_regained::<ColumnAxis>(alloc, kind)?);
+    }
     Ok(())
 }
 
-/// What is kept of `A5+$B$2` in C1.
-fn kept_of(alloc: Global, kind: EditKind) -> Result<KeptTree, EditError>
-    requires { IsValid (pos 1048576) kind }
-{
-    let edit = LineEdit::<RowAxis>::new(kind);
-    let tree = tree_at(alloc, added(alloc)?, Position { row: 1, column: 3 })?;
+/// What is kept of `A5+$B$2` in C1 along an edit of rows.
+fn kept_of(alloc: Global, kind: EditKind) -> Result<KeptTree, EditError> {
+    let edit = edit_of::<RowAxis>(kind)?;
+    let formula = Formula::Added(relative(4, -2), absolute(2, 2));
+    let tree = tree_at(alloc, formula, "Sheet1", place_of(1, 3)?)?;
     tree.kept(alloc, &edit)
 }
 
 #[test]
-#[tactic(auto, unfolding(crate::specs::Edit::IsValid))]
 fn trees_are_kept_where_they_do_not_come_back(rt: HostRuntime) -> Result<(), Fail> {
     let alloc = rt.alloc();
-    let kept = kept_of(alloc, EditKind::Delete { first: 5, count: 1 })?;
-    assert!(rt; matches!(&kept, KeptTree::Whole(_)));
-    let kept = kept_of(alloc, EditKind::Delete { first: 1, count: 1 })?;
-    assert!(rt; matches!(&kept, KeptTree::Stays));
-    let kept = kept_of(alloc, EditKind::Delete { first: 9, count: 1 })?;
-    assert!(rt; matches!(&kept, KeptTree::Back));
+    assert!(rt; matches!(&kept_of(alloc, delete(5, 1))?, KeptTree::Whole(_)));
+    assert!(rt; matches!(&kept_of(alloc, delete(1, 1))?, KeptTree::Stays));
+    assert!(rt; matches!(&kept_of(alloc, delete(9, 1))?, KeptTree::Back));
     Ok(())
 }
 

@@ -1,6 +1,6 @@
 ghost use Rattle.std.specs.Prelude.{◌≡◌, IfSome};
 ghost use Rattle.base_values.specs.Places.{IsPlace};
-ghost use Rattle.line_map.specs.Trees.{target, corner_of, is_exposed, moved_corner};
+ghost use Rattle.line_map.specs.Trees.{target, is_exposed, moved_corner};
 
 use crate::edit::LineEdit;
 use crate::places::place_image;
@@ -27,18 +27,6 @@ fn target<A: Axis>(
         return Some(place);
     }
     place_image(edit, place)
-}
-
-/// The corner with the same marks that stands there, seen from a place.
-fn corner_of(to: Position, corner: Corner, target: Option<Position>) -> Option<Corner>
-    requires to { IsPlace to }
-    requires target { IfSome target IsPlace }
-    ensures { result ≡ corner_of to corner target }
-{
-    match target {
-        Some(target) => Some(corner_to(to, corner.absolute_row, corner.absolute_column, target)),
-        None => None,
-    }
 }
 
 /// Whether the corners of a range are exposed: on the edited sheet, and not of a range that is
@@ -73,10 +61,12 @@ pub struct Following<'a, A: Axis> {
     pub ghost inside: { IsPlace to },
 }
 
+/// Where a corner of the formula goes with its marks, seen from the formula's new place.
 fn moved_corner<A: Axis>(map: &Following<'_, A>, exposed: bool, corner: Corner) -> Option<Corner>
     ensures { result ≡ moved_corner A.along map.now.edit.kind map.now.from map.now.to exposed corner }
 {
-    corner_of(map.to, corner, target(&map.edit, map.from, exposed, corner))
+    let target = target(&map.edit, map.from, exposed, corner)?;
+    Some(corner_to(map.to, corner.absolute_row, corner.absolute_column, target))
 }
 
 impl<'a, A: Axis> CornerMap for Following<'a, A> {

@@ -14,9 +14,9 @@ use Rattle.sheet_grid.specs.declared.Cell.{Cell}
 use Rattle.sheet_grid.specs.Sheet.{Sheet}
 use Rattle.sheet_grid.specs.Book.{Book}
 use Rattle.line_map.specs.declared.EditKind.{EditKind}
-use Rattle.line_map.specs.Carried.{follow_map}
+use Rattle.line_map.specs.Carried.{follow_map, moved_map}
 use Rattle.line_map.specs.Trees.{following}
-use Rattle.sheet_actions.specs.Way.{Way, way, place_goes}
+use Rattle.sheet_actions.specs.Way.{Way, way, place_goes, line_goes, are_rows, are_columns}
 
 -- the tree of a formula that goes from a place to a place
 abbrev pub tree_followed : Way → Position → Position → Node → Node
@@ -62,8 +62,14 @@ name_of (Some sheet) = sheet.name
 abbrev pub way_of : Along → EditKind → ℕ → List ℕ → Sheet → Way
 way_of a e id edited sheet = way a e sheet.name edited (sheet.id == id)
 
+-- a sheet's cells, links, rows and columns, each where it goes
 abbrev pub sheet_followed : Along → EditKind → ℕ → List ℕ → Sheet → Sheet
-sheet_followed a e id edited sheet = record sheet { cells = cells_followed (way_of a e id edited sheet) sheet.cells }
+sheet_followed a e id edited sheet = record sheet {
+  cells = cells_followed (way_of a e id edited sheet) sheet.cells;
+  links = moved_map (place_goes (way_of a e id edited sheet)) sheet.links;
+  rows = moved_map (line_goes (way_of a e id edited sheet) (are_rows a)) sheet.rows;
+  columns = moved_map (line_goes (way_of a e id edited sheet) (are_columns a)) sheet.columns;
+}
 
 -- every sheet follows the edit of the sheet of an id; all else stays
 abbrev pub book_followed : Along → EditKind → ℕ → Book → Book

@@ -3,7 +3,7 @@ use Rattle.std.proofs.Common.{◌≡◌, ℕ, ◌+◌, ◌<◌, Bool, List, [], 
 use Rattle.std.specs.Prelude.{◌==◌, if◌then◌else◌}
 use Rattle.std.specs.List.{fold}
 use Rattle.std.proofs.lemmas.List.Sums.{fold_more}
-use Rattle.std.specs.Ordering.{nat_cmp}
+use Rattle.std.specs.Ordering.{nat_cmp, int_cmp}
 use Rattle.std.specs.FinMap.{FinMap, empty, entries}
 use Rattle.base_values.specs.declared.Position.{Position}
 use Rattle.base_values.specs.CodedEq.{same_value}
@@ -15,13 +15,16 @@ use Rattle.formula_tree.specs.contracts.node.Node.{the_row}
 use Rattle.formula_content.specs.declared.Content.{Content}
 use Rattle.formula_content.specs.declared.Content.TheVariants.{Empty, Number, Boolean, Error, Text, Formula, Dynamic}
 use Rattle.sheet_grid.specs.declared.Cell.{Cell}
+use Rattle.sheet_grid.specs.declared.Link.{Link}
+use Rattle.sheet_grid.specs.declared.RowAttr.{RowAttr}
+use Rattle.sheet_grid.specs.declared.ColumnAttr.{ColumnAttr}
 use Rattle.sheet_grid.specs.Sheet.{Sheet}
 use Rattle.sheet_grid.specs.Book.{Book}
 use Rattle.line_map.specs.declared.EditKind.{EditKind}
 use Rattle.line_map.specs.Carried.{if_there, lost_map, parts_map}
 use Rattle.line_map.specs.Places.{place_image}
 use Rattle.sheet_actions.specs.declared.kept.KeptLines.{KeptLines}
-use Rattle.sheet_actions.specs.Way.{Way, back, place_goes}
+use Rattle.sheet_actions.specs.Way.{Way, back, place_goes, line_image, are_rows, are_columns}
 use Rattle.sheet_actions.specs.Followed.{tree_followed, sheet_of, name_of, way_of}
 
 -- the tree of a formula
@@ -84,9 +87,27 @@ abbrev pub lost_cells : Along → EditKind → Option Sheet → FinMap position_
 lost_cells a e None = empty
 lost_cells a e (Some sheet) = lost_map (place_image a e) sheet.cells
 
+-- its links whose lines are lost
+abbrev pub lost_links : Along → EditKind → Option Sheet → FinMap position_cmp Link
+lost_links a e None = empty
+lost_links a e (Some sheet) = lost_map (place_image a e) sheet.links
+
+-- what its lost rows had
+abbrev pub lost_rows : Along → EditKind → Option Sheet → FinMap int_cmp RowAttr
+lost_rows a e None = empty
+lost_rows a e (Some sheet) = lost_map (line_image a e (are_rows a)) sheet.rows
+
+-- what its lost columns had
+abbrev pub lost_columns : Along → EditKind → Option Sheet → FinMap int_cmp ColumnAttr
+lost_columns a e None = empty
+lost_columns a e (Some sheet) = lost_map (line_image a e (are_columns a)) sheet.columns
+
 -- what is kept of a workbook whose sheet of an id is edited
 abbrev pub kept_lines : Along → EditKind → ℕ → Book → KeptLines
 kept_lines a e id book = record {
   cells = lost_cells a e (sheet_of book id);
+  links = lost_links a e (sheet_of book id);
+  rows = lost_rows a e (sheet_of book id);
+  columns = lost_columns a e (sheet_of book id);
   formulas = kept_formulas a e id (name_of (sheet_of book id)) book.worksheets;
 }

@@ -2,8 +2,10 @@
 use Rattle.std.proofs.Common.{◌≡◌, ℕ, Bool, true, false, cond, List, [], ◌∷◌, length, map, Option, Some, None, refl, ap, sym, ◌∙◌, arith}
 use Rattle.std.specs.Prelude.{◌==◌, if◌then◌else◌}
 use Rattle.std.specs.List.{find, fold, AllByRecursion, IsDistinct}
+use Rattle.std.specs.declared.cmp.Ordering.{Ordering}
 use Rattle.std.specs.Ordering.{nat_cmp, eq_by_cmp}
-use Rattle.std.specs.Cmp.{nat_cmp_total, unsigned_Decides}
+use Rattle.std.proofs.lemmas.Map.Lookups.{CmpEqualImpliesEq, exact_signed}
+use Rattle.std.specs.Cmp.{IsTotalOrder, nat_cmp_total, int_cmp_total, unsigned_Decides}
 use Rattle.std.specs.FinMap.{FinMap, empty, entries, get, get-empty, len-entries, empty_of_len, same_map, nat_cmp-IsAntisymmetric}
 use Rattle.base_values.specs.declared.Position.{Position}
 use Rattle.base_values.specs.CodedEq.{same_value, same_value_decides}
@@ -19,13 +21,13 @@ use Rattle.sheet_grid.specs.Sheet.{Sheet}
 use Rattle.sheet_grid.specs.Book.{Book}
 use Rattle.line_map.specs.declared.EditKind.{EditKind}
 use Rattle.line_map.specs.Edit.{opposite_of, IsValid}
-use Rattle.line_map.specs.Carried.{Inverse, own_inverse, own_key, apart_keys, if_there, lost_map, get-lost_map, map_regains}
-use Rattle.line_map.specs.Places.{place_image, place_inverse}
+use Rattle.line_map.specs.Carried.{Inverse, own_inverse, own_key, apart_keys, if_there, lost_map, overlaid, moved_map, get-lost_map, get-moved_map, map_regains, moved_regains}
+use Rattle.line_map.specs.Places.{place_image, place_inverse, line_inverse}
 use Rattle.sheet_actions.specs.declared.kept.KeptLines.{KeptLines}
-use Rattle.sheet_actions.specs.Way.{Way, back, place_goes}
+use Rattle.sheet_actions.specs.Way.{Way, back, place_goes, line_image, line_goes, are_rows, are_columns}
 use Rattle.sheet_actions.specs.Followed.{content_followed, with_tree_by, cell_moved, cell_followed, cells_followed, sheet_of, name_of, way_of, sheet_followed, book_followed}
-use Rattle.sheet_actions.specs.Kept.{tree_of, there_and_back, unless_back, kept_tree, kept_trees, is_empty, if_any, sheet_kept, kept_formulas, lost_cells, kept_lines}
-use Rattle.sheet_actions.specs.Back.{with_tree, cells_back, lost_of, or_empty, sheet_back, book_back}
+use Rattle.sheet_actions.specs.Kept.{tree_of, there_and_back, unless_back, kept_tree, kept_trees, is_empty, if_any, sheet_kept, kept_formulas, lost_cells, lost_links, lost_rows, lost_columns, kept_lines}
+use Rattle.sheet_actions.specs.Back.{with_tree, cells_back, moved_back, lost_of, or_empty, sheet_back, book_back}
 
 -- no two sheets have one id
 abbrev pub HasDistinctIds : Book → Type 0
@@ -115,6 +117,30 @@ lost_at : (a : Along) (e : EditKind) (b : Bool) (given cells : FinMap position_c
 lost_at a e true given cells h = h refl
 lost_at a e false given cells h = none_lost cells
 
+module _ {K X : Type 0} {R : K → K → Ordering} (total : IsTotalOrder R) (exact : CmpEqualImpliesEq R) where
+  -- where nothing goes anywhere a map stays as it is
+  stays_map : (m : FinMap R X) → moved_map Some m ≡ m
+  stays_map m = same_map total exact (moved_map Some m) m (λ p. get-moved_map R total exact Some Some own_inverse m p)
+
+  -- entries that move on the edited sheet go back, with those that were lost
+  parts_regained : (to from : K → Option K) → Inverse to from → (b : Bool) (given m : FinMap R X) → (b ≡ true → given ≡ lost_map to m) →
+      moved_back (λ p. if b then from p else Some p) b given (moved_map (λ p. if b then to p else Some p) m) ≡ m
+  unfolding moved_back
+  parts_regained to from i true given m h = ap (λ lost. overlaid lost (moved_map from (moved_map to m))) (h refl) ∙ moved_regains R total exact to from i m
+  parts_regained to from i false given m h = ap (moved_map Some) (stays_map m) ∙ stays_map m
+
+-- lines of an axis go to and fro
+lines_inverse : (a : Along) (e : EditKind) → IsValid a.last e → (is_along : Bool) → Inverse (line_image a e is_along) (line_image a (opposite_of e) is_along)
+unfolding line_image
+lines_inverse a e valid true = line_inverse a.last e valid
+lines_inverse a e valid false = own_inverse
+
+-- so do those of a sheet
+pub lines_go_inverse : (w : Way) → IsValid w.along.last w.kind → (is_along : Bool) → Inverse (line_goes w is_along) (line_goes (back w) is_along)
+unfolding line_goes
+lines_go_inverse w valid is_along = elim w.is_edited as (λ b. Inverse (λ n. if b then line_image w.along w.kind is_along n else Some n) (λ n. if b then line_image w.along (opposite_of w.kind) is_along n else Some n))
+    [ true ↦ lines_inverse w.along w.kind valid is_along | false ↦ own_inverse ]
+
 any_at : {X : Type 0} (m : FinMap position_cmp X) (b : Bool) → is_empty m ≡ b → or_empty (if b then None else Some m) ≡ m
 any_at m true h = sym (empty_of_len m (len-entries m ∙ (unsigned_Decides (length (entries m)) 0).0 h))
 any_at m false h = refl
@@ -144,8 +170,8 @@ module _ (a : Along) (e : EditKind) (id : ℕ) (edited : List ℕ) where
   kept_under [] m distinct = tt
   kept_under (sheet ∷ sheets) m distinct = (
     stays_under sheets (step m sheet) sheet.id distinct.0
-    ∙ get-with_entry nat_cmp_total m sheet.id (sheet_kept a e id edited sheet) sheet.id
-    ∙ ap (λ b. cond b (sheet_kept a e id edited sheet) (get m sheet.id)) (own_key nat_cmp nat_cmp_total nat_cmp-IsAntisymmetric sheet.id),
+        ∙ get-with_entry nat_cmp_total m sheet.id (sheet_kept a e id edited sheet) sheet.id
+        ∙ ap (λ b. cond b (sheet_kept a e id edited sheet) (get m sheet.id)) (own_key nat_cmp nat_cmp_total nat_cmp-IsAntisymmetric sheet.id),
     kept_under sheets (step m sheet) distinct.1,
   )
 
@@ -174,23 +200,55 @@ module _ (a : Along) (e : EditKind) (id : ℕ) (edited : List ℕ) where
   same_name (sheet ∷ sheets) = elim (is_it sheet) as (λ b. name_of (cond b (Some (sheet_followed a e id edited sheet)) (find is_it (map (sheet_followed a e id edited) sheets))) ≡ name_of (cond b (Some sheet) (find is_it sheets)))
       [ true ↦ refl | false ↦ same_name sheets ]
 
-module _ (a : Along) (l : IsAxis a) (e : EditKind) (valid : IsValid a.last e) (id : ℕ) (edited : List ℕ) where
-  -- a sheet is regained from what is kept of it
-  sheet_regained : (kept : KeptLines) (sheet : Sheet) → ((sheet.id == id) ≡ true → kept.cells ≡ lost_map (place_image a e) sheet.cells) → get kept.formulas sheet.id ≡ sheet_kept a e id edited sheet →
-      sheet_back a e id edited kept (sheet_followed a e id edited sheet) ≡ sheet
-  unfolding place_goes
-  sheet_regained kept sheet lost formulas =
-      let w : Way = way_of a e id edited sheet in
-      let cells : cells_back w (lost_of (sheet.id == id) kept.cells) (or_empty (get kept.formulas sheet.id)) (cells_followed w sheet.cells) ≡ sheet.cells =
-      (λ i. cells_back w (lost_at a e (sheet.id == id) kept.cells sheet.cells lost i) ((ap or_empty formulas ∙ any_or_empty (kept_trees w sheet.cells)) i) (cells_followed w sheet.cells))
-      ∙ cells_regained w l valid sheet.cells in
-      λ i. record sheet { cells = cells i }
+-- what is kept holds what was lost of the sheet
+record IsLostOf (a : Along) (e : EditKind) (kept : KeptLines) (found : Option Sheet) : Type 0 where
+  cells : kept.cells ≡ lost_cells a e found
+  links : kept.links ≡ lost_links a e found
+  rows : kept.rows ≡ lost_rows a e found
+  columns : kept.columns ≡ lost_columns a e found
 
-  all_regained : (kept : KeptLines) (found : Option Sheet) (sheets : List Sheet) → kept.cells ≡ lost_cells a e found → AllByRecursion (λ sheet. (sheet.id == id) ≡ true → found ≡ Some sheet) sheets →
+module _ (a : Along) (l : IsAxis a) (e : EditKind) (valid : IsValid a.last e) (id : ℕ) (edited : List ℕ) where
+  cells_of_sheet : (kept : KeptLines) (found : Option Sheet) → IsLostOf a e kept found → (sheet : Sheet) → ((sheet.id == id) ≡ true → found ≡ Some sheet) → get kept.formulas sheet.id ≡ sheet_kept a e id edited sheet →
+      cells_back (way_of a e id edited sheet) (lost_of (sheet.id == id) kept.cells) (or_empty (get kept.formulas sheet.id)) (cells_followed (way_of a e id edited sheet) sheet.cells) ≡ sheet.cells
+  unfolding place_goes
+  cells_of_sheet kept found lost sheet it formulas =
+      let w : Way = way_of a e id edited sheet in
+      (λ i. cells_back w (lost_at a e (sheet.id == id) kept.cells sheet.cells (λ h. lost.cells ∙ ap (lost_cells a e) (it h)) i) ((ap or_empty formulas ∙ any_or_empty (kept_trees w sheet.cells)) i) (cells_followed w sheet.cells))
+      ∙ cells_regained w l valid sheet.cells
+
+  links_of_sheet : (kept : KeptLines) (found : Option Sheet) → IsLostOf a e kept found → (sheet : Sheet) → ((sheet.id == id) ≡ true → found ≡ Some sheet) →
+      moved_back (place_goes (back (way_of a e id edited sheet))) (sheet.id == id) kept.links (moved_map (place_goes (way_of a e id edited sheet)) sheet.links) ≡ sheet.links
+  unfolding place_goes
+  links_of_sheet kept found lost sheet it =
+      parts_regained position_total exact_positions (place_image a e) (place_image a (opposite_of e)) (place_inverse a l e valid) (sheet.id == id) kept.links sheet.links (λ h. lost.links ∙ ap (lost_links a e) (it h))
+
+  rows_of_sheet : (kept : KeptLines) (found : Option Sheet) → IsLostOf a e kept found → (sheet : Sheet) → ((sheet.id == id) ≡ true → found ≡ Some sheet) →
+      moved_back (line_goes (back (way_of a e id edited sheet)) (are_rows a)) (sheet.id == id) kept.rows (moved_map (line_goes (way_of a e id edited sheet) (are_rows a)) sheet.rows) ≡ sheet.rows
+  unfolding line_goes
+  rows_of_sheet kept found lost sheet it =
+      parts_regained int_cmp_total exact_signed (line_image a e (are_rows a)) (line_image a (opposite_of e) (are_rows a)) (lines_inverse a e valid (are_rows a)) (sheet.id == id) kept.rows sheet.rows (λ h. lost.rows ∙ ap (lost_rows a e) (it h))
+
+  columns_of_sheet : (kept : KeptLines) (found : Option Sheet) → IsLostOf a e kept found → (sheet : Sheet) → ((sheet.id == id) ≡ true → found ≡ Some sheet) →
+      moved_back (line_goes (back (way_of a e id edited sheet)) (are_columns a)) (sheet.id == id) kept.columns (moved_map (line_goes (way_of a e id edited sheet) (are_columns a)) sheet.columns) ≡ sheet.columns
+  unfolding line_goes
+  columns_of_sheet kept found lost sheet it =
+      parts_regained int_cmp_total exact_signed (line_image a e (are_columns a)) (line_image a (opposite_of e) (are_columns a)) (lines_inverse a e valid (are_columns a)) (sheet.id == id) kept.columns sheet.columns (λ h. lost.columns ∙ ap (lost_columns a e) (it h))
+
+  -- a sheet is regained from what is kept of it
+  sheet_regained : (kept : KeptLines) (found : Option Sheet) → IsLostOf a e kept found → (sheet : Sheet) → ((sheet.id == id) ≡ true → found ≡ Some sheet) → get kept.formulas sheet.id ≡ sheet_kept a e id edited sheet →
+      sheet_back a e id edited kept (sheet_followed a e id edited sheet) ≡ sheet
+  sheet_regained kept found lost sheet it formulas = λ i. record sheet {
+    cells = cells_of_sheet kept found lost sheet it formulas i;
+    links = links_of_sheet kept found lost sheet it i;
+    rows = rows_of_sheet kept found lost sheet it i;
+    columns = columns_of_sheet kept found lost sheet it i;
+  }
+
+  all_regained : (kept : KeptLines) (found : Option Sheet) (sheets : List Sheet) → IsLostOf a e kept found → AllByRecursion (λ sheet. (sheet.id == id) ≡ true → found ≡ Some sheet) sheets →
       AllByRecursion (λ sheet. get kept.formulas sheet.id ≡ sheet_kept a e id edited sheet) sheets → map (sheet_back a e id edited kept) (map (sheet_followed a e id edited) sheets) ≡ sheets
-  all_regained kept found [] cells it under = refl
-  all_regained kept found (sheet ∷ sheets) cells it under =
-      λ i. sheet_regained kept sheet (λ h. cells ∙ ap (lost_cells a e) (it.0 h)) under.0 i ∷ all_regained kept found sheets cells it.1 under.1 i
+  all_regained kept found [] lost it under = refl
+  all_regained kept found (sheet ∷ sheets) lost it under =
+      λ i. sheet_regained kept found lost sheet it.0 under.0 i ∷ all_regained kept found sheets lost it.1 under.1 i
 
 -- what is kept of each sheet stands under its id
 pub formulas_under : (a : Along) (e : EditKind) (id : ℕ) (edited : List ℕ) (sheets : List Sheet) → IsDistinct ◌==◌ (map (λ sheet. sheet.id) sheets) →
@@ -223,5 +281,5 @@ book_regained a l e valid id book distinct =
     let edited : List ℕ = name_of (sheet_of book id) in
     let kept : KeptLines = kept_lines a e id book in
     let sheets : map (sheet_back a e id edited kept) (map (sheet_followed a e id edited) book.worksheets) ≡ book.worksheets =
-    all_regained a l e valid id edited kept (sheet_of book id) book.worksheets refl (it_is_found a e id edited book.worksheets distinct) (kept_under a e id edited book.worksheets empty distinct) in
+    all_regained a l e valid id edited kept (sheet_of book id) book.worksheets (record { cells = refl; links = refl; rows = refl; columns = refl }) (it_is_found a e id edited book.worksheets distinct) (kept_under a e id edited book.worksheets empty distinct) in
     λ i. record book { worksheets = (ap (λ name. map (sheet_back a e id name kept) (map (sheet_followed a e id edited) book.worksheets)) (same_name a e id edited book.worksheets) ∙ sheets) i }

@@ -6,8 +6,8 @@ ghost use Rattle.sheet_actions.specs.Kept.{kept_lines};
 ghost use Rattle.sheet_actions.specs.KeptNumbers.{AreKeptLines};
 
 use crate::following::followed_book;
-use crate::kept::KeptLines;
 use crate::keeping_sheets::kept_lines;
+use crate::kept::KeptLines;
 use base_axis::Axis;
 use base_values::EditError;
 use line_map::LineEdit;

@@ -1,15 +1,18 @@
 ghost use Rattle.std.specs.Prelude.{◌≡◌, IfOk, IsOkUnless, map};
 ghost use Rattle.base_values.specs.declared.EditError.TheVariants.{NoMemory};
-ghost use Rattle.sheet_actions.specs.Way.{way};
+ghost use Rattle.line_map.specs.Carried.{moved_map};
+ghost use Rattle.sheet_actions.specs.Way.{way, line_goes, are_rows, are_columns};
 ghost use Rattle.sheet_actions.specs.Followed.{cells_followed, sheet_followed, book_followed};
 
+use crate::entries::moved_entries;
+use crate::lines::{are_columns, are_rows, moved_lines};
 use crate::overlays::FollowedCells;
 use crate::sheet_edit::SheetEdit;
 use crate::sheets::{meeting, name_of};
-use base_axis::Axis;
+use base_axis::{Axis, ColumnAxis, LineMap, RowAxis};
 use base_values::{EditError, Items, PlaceMap};
 use line_map::{LineEdit, lay};
-use sheet_grid::{Cell, Workbook, Worksheet};
+use sheet_grid::{Cell, ColumnAttr, RowAttr, Workbook, Worksheet};
 use std::alloc::Global;
 
 /// The cells of a sheet, each where its place goes.
@@ -24,7 +27,36 @@ pub fn followed_cells<A: Axis>(
 {
     let by = *by;
     let places = cells.places(alloc)?;
-    lay(&FollowedCells { by, cells }, alloc, places.as_slice(), PlaceMap::new(alloc))
+    lay(
+        &FollowedCells { by, cells },
+        alloc,
+        places.as_slice(),
+        PlaceMap::new(alloc),
+    )
+}
+
+/// What the rows of a sheet have, where they go.
+pub fn followed_rows<A: Axis>(
+    alloc: Global,
+    by: &SheetEdit<'_, A>,
+    sheet: &Worksheet,
+) -> Result<LineMap<RowAxis, RowAttr>, EditError>
+    ensures rows { IfOk result (λ moved. moved ≡ moved_map (line_goes (way A.along by.now.edit.kind by.now.own.now by.now.edited.now by.now.is_edited) (are_rows A.along)) sheet.now.rows) }
+    ensures only { IsOkUnless result NoMemory }
+{
+    moved_lines(alloc, by, are_rows::<A>(), sheet.row_map())
+}
+
+/// What the columns of a sheet have, where they go.
+pub fn followed_columns<A: Axis>(
+    alloc: Global,
+    by: &SheetEdit<'_, A>,
+    sheet: &Worksheet,
+) -> Result<LineMap<ColumnAxis, ColumnAttr>, EditError>
+    ensures columns { IfOk result (λ moved. moved ≡ moved_map (line_goes (way A.along by.now.edit.kind by.now.own.now by.now.edited.now by.now.is_edited) (are_columns A.along)) sheet.now.columns) }
+    ensures only { IsOkUnless result NoMemory }
+{
+    moved_lines(alloc, by, are_columns::<A>(), sheet.column_map())
 }
 
 /// A sheet that follows an edit of the sheet of an id, which has that name.
@@ -40,7 +72,10 @@ fn followed_sheet<A: Axis>(
 {
     let by = meeting(edit, id, edited, sheet);
     let cells = followed_cells(alloc, &by, sheet.cell_map())?;
-    sheet.with_cells(cells)
+    let links = moved_entries(alloc, &by, sheet.link_map())?;
+    let rows = followed_rows(alloc, &by, sheet)?;
+    let columns = followed_columns(alloc, &by, sheet)?;
+    sheet.with_entries(cells, links, rows, columns)
 }
 
 fn followed_sheets<A: Axis>(

@@ -7,20 +7,21 @@ ghost use Rattle.line_map.specs.Edit.{IsValid};
 ghost use Rattle.line_map.specs.Places.{place_image};
 ghost use Rattle.sheet_grid.specs.KeptCell.{KeptCells};
 ghost use Rattle.sheet_actions.specs.Way.{way};
-ghost use Rattle.sheet_actions.specs.Kept.{kept_trees, is_empty, if_any, sheet_kept, kept_formulas, lost_cells, kept_lines};
+ghost use Rattle.sheet_actions.specs.Kept.{kept_trees, is_empty, if_any, sheet_kept, kept_formulas, lost_cells, lost_links, lost_rows, lost_columns, kept_lines};
 ghost use Rattle.sheet_actions.specs.KeptNumbers.{AreKeptTrees, AreKeptFormulas, AreKeptLines};
 
 use crate::entries::lost_entries;
 use crate::kept::KeptLines;
+use crate::lines::{are_columns, are_rows, lost_lines};
 use crate::overlays::KeptTrees;
 use crate::sheet_edit::SheetEdit;
 use crate::sheet_map::SheetMap;
 use crate::sheets::{meeting, name_of, sheet_of};
-use base_axis::Axis;
+use base_axis::{Axis, ColumnAxis, LineMap, RowAxis};
 use base_values::{EditError, PlaceMap};
 use formula_tree::Node;
 use line_map::{LineEdit, lay};
-use sheet_grid::{Cell, Workbook, Worksheet};
+use sheet_grid::{Cell, ColumnAttr, Link, RowAttr, Workbook, Worksheet};
 use std::alloc::Global;
 
 /// The trees of a sheet's formulas that do not come back, at their places before the edit.
@@ -36,7 +37,12 @@ fn kept_trees<A: Axis>(
 {
     let by = *by;
     let places = cells.places(alloc)?;
-    lay(&KeptTrees { by, cells }, alloc, places.as_slice(), PlaceMap::new(alloc))
+    lay(
+        &KeptTrees { by, cells },
+        alloc,
+        places.as_slice(),
+        PlaceMap::new(alloc),
+    )
 }
 
 fn is_empty(trees: &PlaceMap<Node>) -> bool
@@ -108,6 +114,51 @@ fn lost_cells<A: Axis>(
     }
 }
 
+/// Its links whose lines are lost.
+fn lost_links<A: Axis>(
+    alloc: Global,
+    edit: &LineEdit<A>,
+    sheet: Option<&Worksheet>,
+) -> Result<PlaceMap<Link>, EditError>
+    ensures links { IfOk result (λ lost. lost ≡ lost_links A.along edit.now.kind (option_copied sheet.entry)) }
+    ensures only { IsOkUnless result NoMemory }
+{
+    match sheet {
+        None => Ok(PlaceMap::new(alloc)),
+        Some(sheet) => lost_entries(alloc, edit, sheet.link_map()),
+    }
+}
+
+/// What its lost rows had.
+fn lost_rows<A: Axis>(
+    alloc: Global,
+    edit: &LineEdit<A>,
+    sheet: Option<&Worksheet>,
+) -> Result<LineMap<RowAxis, RowAttr>, EditError>
+    ensures rows { IfOk result (λ lost. lost ≡ lost_rows A.along edit.now.kind (option_copied sheet.entry)) }
+    ensures only { IsOkUnless result NoMemory }
+{
+    match sheet {
+        None => Ok(LineMap::new(alloc)),
+        Some(sheet) => lost_lines(alloc, edit, are_rows::<A>(), sheet.row_map()),
+    }
+}
+
+/// What its lost columns had.
+fn lost_columns<A: Axis>(
+    alloc: Global,
+    edit: &LineEdit<A>,
+    sheet: Option<&Worksheet>,
+) -> Result<LineMap<ColumnAxis, ColumnAttr>, EditError>
+    ensures columns { IfOk result (λ lost. lost ≡ lost_columns A.along edit.now.kind (option_copied sheet.entry)) }
+    ensures only { IsOkUnless result NoMemory }
+{
+    match sheet {
+        None => Ok(LineMap::new(alloc)),
+        Some(sheet) => lost_lines(alloc, edit, are_columns::<A>(), sheet.column_map()),
+    }
+}
+
 /// What is kept of a workbook whose sheet of an id is edited.
 pub fn kept_lines<A: Axis>(
     alloc: Global,
@@ -120,8 +171,13 @@ pub fn kept_lines<A: Axis>(
     ensures numbers { IfOk result AreKeptLines }
     ensures only { IsOkUnless result NoMemory }
 {
-    let cells = lost_cells(alloc, edit, sheet_of(workbook, id))?;
+    let sheet = sheet_of(workbook, id);
     let edited = name_of(workbook, id);
-    let formulas = kept_formulas(alloc, edit, id, edited, workbook.worksheets())?;
-    Ok(KeptLines { cells, formulas })
+    Ok(KeptLines {
+        cells: lost_cells(alloc, edit, sheet)?,
+        links: lost_links(alloc, edit, sheet)?,
+        rows: lost_rows(alloc, edit, sheet)?,
+        columns: lost_columns(alloc, edit, sheet)?,
+        formulas: kept_formulas(alloc, edit, id, edited, workbook.worksheets())?,
+    })
 }

@@ -13,6 +13,7 @@ mod keeping;
 mod keeping_sheets;
 mod kept;
 mod laws;
+mod lines;
 mod overlays;
 mod sheet_edit;
 mod sheet_map;
@@ -23,3 +24,7 @@ pub use edit::line_edit;
 pub use kept::KeptLines;
 pub use laws::{edit_and_back, entries_of_sheets, kept_under_ids};
 pub use sheet_map::SheetMap;
+pub use sheets::has_sheet;
+
+#[cfg(test)]
+mod tests;

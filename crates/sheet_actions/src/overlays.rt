@@ -14,7 +14,7 @@ use crate::contents::{followed_cell, with_tree};
 use crate::keeping::kept_tree;
 use crate::sheet_edit::{SheetEdit, place_goes};
 use base_axis::Axis;
-use base_values::{EditError, PlaceMap, Position};
+use base_values::{EditError, Exact, PlaceMap, Position, copy_of};
 use formula_tree::Node;
 use line_map::Overlay;
 use sheet_grid::Cell;
@@ -44,6 +44,34 @@ impl<'a, A: Axis> Overlay for FollowedCells<'a, A> {
         match self.cells.get(from) {
             None => Ok(None),
             Some(cell) => Ok(Some(followed_cell(alloc, &self.by, from, cell)?)),
+        }
+    }
+}
+
+/// Each entry goes where its place goes.
+#[derive_where(Clone, Copy)]
+pub struct Moved<'a, A: Axis, F: Exact + Drop> {
+    pub by: SheetEdit<'a, A>,
+    pub map: &'a PlaceMap<F>,
+}
+
+impl<'a, A: Axis, F: Exact + Drop> Overlay for Moved<'a, A, F> {
+    type Item = F;
+
+    ghost Fits = { λ _. ⊤ };
+
+    ghost place_of = { λ s. place_goes (way A.along s.by.edit.kind s.by.own.now s.by.edited.now s.by.is_edited) };
+
+    ghost item_of = { λ s p. if_there (get s.map.now p) (λ item. Some item) };
+
+    fn place(&self, from: Position) -> Option<Position> {
+        place_goes(&self.by, from)
+    }
+
+    fn item(&self, _alloc: Global, from: Position) -> Result<Option<F>, EditError> {
+        match self.map.get(from) {
+            None => Ok(None),
+            Some(item) => Ok(Some(copy_of(item)?)),
         }
     }
 }

@@ -1,4 +1,4 @@
-ghost use Rattle.std.specs.Prelude.{◌≡◌};
+ghost use Rattle.std.specs.Prelude.{◌≡◌, is_some};
 ghost use Rattle.std.specs.Option.{option_copied};
 ghost use Rattle.sheet_actions.specs.Followed.{sheet_of, name_of, way_of};
 ghost use Rattle.sheet_actions.specs.Way.{way};
@@ -16,6 +16,13 @@ pub fn sheet_of(workbook: &Workbook, id: u32) -> Option<&Worksheet>
         .worksheets()
         .iter()
         .find(|sheet| sheet.get_sheet_id() == id)
+}
+
+/// Whether a workbook has a sheet of this id.
+pub fn has_sheet(workbook: &Workbook, id: u32) -> bool
+    ensures { result ≡ is_some (sheet_of workbook.now id) }
+{
+    sheet_of(workbook, id).is_some()
 }
 
 /// The name of the sheet of an id.

@@ -17,3 +17,6 @@ pub use formula_tree::{
     ProductKind, SumKind, UnaryKind, corner_at, has_kept_numbers, has_no_negative_number,
     is_at_most_deep, is_parse_error, is_placed, move_node, rebase_node,
 };
+
+#[cfg(test)]
+mod tests;

@@ -1,2 +1,3 @@
 mod BookLemmas
 mod Kepts
+mod Rectangles

@@ -1,5 +1,5 @@
 -- A workbook, as contracts see it.
-use Rattle.std.proofs.Common.{ℕ, ℤ, List, [], ◌∷◌, Option, Result}
+use Rattle.std.proofs.Common.{ℕ, List, [], ◌∷◌, Option, Result}
 use Rattle.std.specs.Prelude.{◌==◌, position, slice_get, slice_set, codes}
 use Rattle.base_values.specs.declared.EditError.{EditError}
 use Rattle.base_values.specs.declared.EditError.TheVariants.{InvalidSheet}

@@ -1,5 +1,4 @@
 -- That the cells of a workbook fit has one proof at most, so that a type may hold it.
-use Rattle.std.specs.Prelude.{List}
 use Rattle.std.proofs.Props.{props}
 use Rattle.sheet_grid.specs.Book.{Book}
 use Rattle.sheet_grid.specs.FittingCells.{SheetsFit}

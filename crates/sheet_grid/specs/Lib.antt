@@ -1,9 +1,12 @@
 pub mod Book
 pub mod CellEquals
+pub mod Dimension
 pub mod FittingCells
 pub mod FittingLaws
 pub mod FittingProps
 pub mod KeptCell
+pub mod LineEquals
+pub mod Lines
 pub mod Sheet
 pub mod SheetEquals
 pub mod StateEquals

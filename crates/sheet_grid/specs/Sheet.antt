@@ -2,11 +2,13 @@
 use Rattle.std.proofs.Common.{ℕ, ℤ, pos, List, Option, Some, None, Result, Bool, true}
 use Rattle.std.specs.FinMap as fin
 use Rattle.std.specs.FinMap.{FinMap}
+use Rattle.std.specs.Ordering.{int_cmp}
 use Rattle.base_values.specs.declared.EditError.{EditError}
+use Rattle.base_values.specs.declared.EditError.TheVariants.{InvalidRow, InvalidColumn}
 use Rattle.base_values.specs.declared.Position.{Position}
 use Rattle.base_values.specs.Answers.{map_ok}
 use Rattle.base_values.specs.KeyMap.{with_entry}
-use Rattle.base_values.specs.Places.{position_cmp, place_of}
+use Rattle.base_values.specs.Places.{position_cmp, place_of, line_of}
 use Rattle.base_styles.specs.declared.Color.{Color}
 use Rattle.base_styles.specs.declared.Color.TheVariants.{None as NoColor}
 use Rattle.base_styles.specs.declared.Style.{Style}
@@ -16,6 +18,10 @@ use Rattle.sheet_grid.specs.declared.state.SheetState.TheVariants.{Visible}
 use Rattle.formula_content.specs.declared.Content.{Content}
 use Rattle.formula_content.specs.declared.Content.TheVariants.{Empty}
 use Rattle.sheet_grid.specs.declared.cell.Cell.{Cell}
+use Rattle.sheet_grid.specs.declared.link.Link.{Link}
+use Rattle.sheet_grid.specs.declared.row_attr.RowAttr.{RowAttr}
+use Rattle.sheet_grid.specs.declared.column_attr.ColumnAttr.{ColumnAttr}
+use Rattle.sheet_grid.specs.Lines.{kept_row, kept_column}
 
 pub record Sheet : Type 0 where
   pub id : ℕ
@@ -26,6 +32,9 @@ pub record Sheet : Type 0 where
   pub frozen_rows : ℤ
   pub frozen_columns : ℤ
   pub cells : FinMap position_cmp Cell
+  pub links : FinMap position_cmp Link
+  pub rows : FinMap int_cmp RowAttr
+  pub columns : FinMap int_cmp ColumnAttr
 
 -- a visible sheet with grid lines and nothing else
 abbrev pub new_sheet : ℕ → List ℕ → Sheet
@@ -38,6 +47,9 @@ new_sheet id name = record {
   frozen_rows = pos 0;
   frozen_columns = pos 0;
   cells = fin.empty;
+  links = fin.empty;
+  rows = fin.empty;
+  columns = fin.empty;
 }
 
 -- the cell at a row and a column, or the first of them that is outside
@@ -68,3 +80,27 @@ shown_style sheet place = style_of (fin.get sheet.cells place)
 abbrev pub content_cleared : Sheet → ℤ → ℤ → Result Sheet EditError
 content_cleared sheet row column =
     map_ok (λ place. with_cell sheet place (Some (record { content = Empty; style = shown_style sheet place }))) (place_of row column)
+
+-- the link at a row and a column, or the first of them that is outside
+abbrev pub link_at : Sheet → ℤ → ℤ → Result (Option Link) EditError
+link_at sheet row column = map_ok (λ place. fin.get sheet.links place) (place_of row column)
+
+-- that link is put, or the first of row and column that is outside is refused
+abbrev pub link_put : Sheet → ℤ → ℤ → Option Link → Result Sheet EditError
+link_put sheet row column entry = map_ok (λ place. record sheet { links = with_entry sheet.links place entry }) (place_of row column)
+
+-- what a row has of its own
+abbrev pub row_at : Sheet → ℤ → Result (Option RowAttr) EditError
+row_at sheet row = map_ok (λ line. fin.get sheet.rows line) (line_of (pos 1048576) row InvalidRow)
+
+-- a row has this of its own, and a plain entry counts as none
+abbrev pub row_put : Sheet → ℤ → Option RowAttr → Result Sheet EditError
+row_put sheet row entry = map_ok (λ line. record sheet { rows = with_entry sheet.rows line (kept_row entry) }) (line_of (pos 1048576) row InvalidRow)
+
+-- what a column has of its own
+abbrev pub column_at : Sheet → ℤ → Result (Option ColumnAttr) EditError
+column_at sheet column = map_ok (λ line. fin.get sheet.columns line) (line_of (pos 16384) column InvalidColumn)
+
+-- a column has this of its own, and a plain entry counts as none
+abbrev pub column_put : Sheet → ℤ → Option ColumnAttr → Result Sheet EditError
+column_put sheet column entry = map_ok (λ line. record sheet { columns = with_entry sheet.columns line (kept_column entry) }) (line_of (pos 16384) column InvalidColumn)

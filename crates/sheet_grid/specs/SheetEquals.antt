@@ -1,5 +1,5 @@
 -- `==` of sheets and workbooks is equality of their values.
-use Rattle.std.proofs.Common.{◌≡◌, refl, ap}
+use Rattle.std.proofs.Common.{◌≡◌, ap}
 use Rattle.std.specs.Bool.{Decides}
 use Rattle.std.specs.Cmp.{signed_Decides, unsigned_Decides, booleans_Decides}
 use Rattle.std.specs.Cmp.Lexicographic.{bytes_decides, pointwise_decides}
@@ -11,6 +11,7 @@ use Rattle.base_tables.specs.LocaleEquals.{locale_equals}
 use Rattle.base_tables.specs.ZoneEquals.{zone_equals}
 use Rattle.sheet_grid.specs.StateEquals.{state_equals}
 use Rattle.sheet_grid.specs.CellEquals.{cell_equals}
+use Rattle.sheet_grid.specs.LineEquals.{link_equals, row_attr_equals, column_attr_equals}
 use Rattle.sheet_grid.specs.Sheet.{Sheet}
 use Rattle.sheet_grid.specs.Book.{Book}
 use Rattle.sheet_grid.specs.contracts.worksheet.WorksheetPartialEq.TheImpl as worksheet
@@ -19,8 +20,8 @@ use Rattle.sheet_grid.specs.contracts.workbook.WorkbookPartialEq.TheImpl as work
 pub worksheet_equals : (a b : Sheet) → Decides (worksheet.ghosts.eq a b) (a ≡ b)
 worksheet_equals a b =
     Decides-like _
-    (λ p i. record { id = p.0 i; name = p.1.0 i; state = p.1.1.0 i; color = p.1.1.1.0 i; show_grid_lines = p.1.1.1.1.0 i; frozen_rows = p.1.1.1.1.1.0 i; frozen_columns = p.1.1.1.1.1.1.0 i; cells = p.1.1.1.1.1.1.1 i })
-    (λ e. (ap (λ x. x.id) e, (ap (λ x. x.name) e, (ap (λ x. x.state) e, (ap (λ x. x.color) e, (ap (λ x. x.show_grid_lines) e, (ap (λ x. x.frozen_rows) e, (ap (λ x. x.frozen_columns) e, ap (λ x. x.cells) e))))))))
+    (λ p i. record { id = p.0 i; name = p.1.0 i; state = p.1.1.0 i; color = p.1.1.1.0 i; show_grid_lines = p.1.1.1.1.0 i; frozen_rows = p.1.1.1.1.1.0 i; frozen_columns = p.1.1.1.1.1.1.0 i; cells = p.1.1.1.1.1.1.1.0 i; links = p.1.1.1.1.1.1.1.1.0 i; rows = p.1.1.1.1.1.1.1.1.1.0 i; columns = p.1.1.1.1.1.1.1.1.1.1 i })
+    (λ e. (ap (λ x. x.id) e, (ap (λ x. x.name) e, (ap (λ x. x.state) e, (ap (λ x. x.color) e, (ap (λ x. x.show_grid_lines) e, (ap (λ x. x.frozen_rows) e, (ap (λ x. x.frozen_columns) e, (ap (λ x. x.cells) e, (ap (λ x. x.links) e, (ap (λ x. x.rows) e, ap (λ x. x.columns) e)))))))))))
     (Decides-and _ _ (unsigned_Decides _ _)
     (Decides-and _ _ (bytes_decides _ _)
     (Decides-and _ _ (state_equals _ _)
@@ -28,7 +29,10 @@ worksheet_equals a b =
     (Decides-and _ _ (booleans_Decides _ _)
     (Decides-and _ _ (signed_Decides _ _)
     (Decides-and _ _ (signed_Decides _ _)
-    (same_entries_decides position_equals cell_equals _ _))))))))
+    (Decides-and _ _ (same_entries_decides position_equals cell_equals _ _)
+    (Decides-and _ _ (same_entries_decides position_equals link_equals _ _)
+    (Decides-and _ _ (same_entries_decides signed_Decides row_attr_equals _ _)
+    (same_entries_decides signed_Decides column_attr_equals _ _)))))))))))
 
 pub workbook_equals : (a b : Book) → Decides (workbook.ghosts.eq a b) (a ≡ b)
 workbook_equals a b =

@@ -1,20 +1,25 @@
 //! Sheets and workbooks.
 //!
-//! The layers above see a sheet as a record of its fields and of a finite map of cells, and a
-//! workbook as a record of its fields and of the list of its sheets. A setter changes the named
-//! entry and nothing else.
+//! The layers above see a sheet as a record of its fields and of finite maps of its cells, links,
+//! rows and columns, and a workbook as a record of its fields and of the list of its sheets. A
+//! setter changes the named entry and nothing else.
 #![tactic(auto)]
 
 mod cell;
+mod column_attr;
+mod dimension;
+mod link;
+mod row_attr;
 mod state;
 mod workbook;
 mod worksheet;
 
 pub use cell::Cell;
+pub use column_attr::ColumnAttr;
+pub use dimension::WorksheetDimension;
 pub use formula_content::Content;
+pub use link::Link;
+pub use row_attr::RowAttr;
 pub use state::SheetState;
 pub use workbook::Workbook;
 pub use worksheet::Worksheet;
-
-#[cfg(test)]
-mod tests;

@@ -106,7 +106,7 @@ impl Workbook {
     {
         Ok(Workbook {
             name: copy_of(&self.name)?,
-            locale: self.locale,
+            locale: self.locale(),
             zone: self.zone,
             worksheets,
         })

@@ -1,17 +1,25 @@
-ghost use Rattle.std.specs.Prelude.{◌≡◌, IfOk, IfSome, IsOkUnless, IsTrue, All};
+ghost use Rattle.std.specs.Prelude.{◌≡◌, ◌≢◌, [], IfOk, IfSome, IsTrue, All};
 ghost use Rattle.std.specs.FinMap as fin;
 ghost use Rattle.base_values.specs.Answers.{Answers, Edits};
 ghost use Rattle.base_values.specs.Places.{IsPlace};
-ghost use Rattle.base_values.specs.declared.EditError.TheVariants.{NoMemory};
 ghost use Rattle.base_decimal.specs.Kept.{IsKept};
 ghost use Rattle.formula_tree.specs.Numbers.{has_kept_numbers};
 ghost use Rattle.formula_content.specs.KeptContent.{IsKeptContent};
-ghost use Rattle.sheet_grid.specs.KeptCell.{IsKeptCell, KeptCells};
+ghost use Rattle.sheet_grid.specs.Dimension.{IsLeastRectangle, first_place};
+ghost use Rattle.sheet_grid.specs.KeptCell.{IsKeptCell};
 ghost use Rattle.sheet_grid.specs.Sheet.{Sheet, new_sheet, cell_at, cell_put, content_put, content_cleared, shown_style};
 ghost use Rattle.formula_content.specs.declared.Content.TheVariants.{Empty, Number, Boolean, Error as ErrorValue, Text as TextValue, Formula, Dynamic};
 
+mod entries;
+mod lines;
+
 use crate::cell::Cell;
+use crate::column_attr::ColumnAttr;
+use crate::dimension::WorksheetDimension;
+use crate::link::Link;
+use crate::row_attr::RowAttr;
 use crate::state::SheetState;
+use base_axis::{ColumnAxis, LineMap, RowAxis};
 use base_decimal::Decimal;
 use base_styles::{Color, Style};
 use base_tables::Error;
@@ -34,6 +42,9 @@ pub struct Worksheet {
     frozen_rows: i32,
     frozen_columns: i32,
     cells: PlaceMap<Cell>,
+    links: PlaceMap<Link>,
+    rows: LineMap<RowAxis, RowAttr>,
+    columns: LineMap<ColumnAxis, ColumnAttr>,
 }
 
 impl Model for Worksheet {
@@ -57,6 +68,9 @@ impl Model for Worksheet {
       frozen_rows = s.frozen_rows;
       frozen_columns = s.frozen_columns;
       cells = s.cells;
+      links = s.links;
+      rows = s.rows;
+      columns = s.columns;
     } };
 
     ghost inverse = { λ s. record {
@@ -68,13 +82,16 @@ impl Model for Worksheet {
       frozen_rows = s.frozen_rows;
       frozen_columns = s.frozen_columns;
       cells = s.cells;
+      links = s.links;
+      rows = s.rows;
+      columns = s.columns;
     } };
 
     ghost invariant = { λ s. KeptCells s.cells };
 }
 
 impl Worksheet {
-    /// A visible sheet with grid lines and without a cell. It takes no memory.
+    /// A visible sheet with grid lines and nothing else. It takes no memory.
     pub fn new(alloc: Global, id: u32, name: Text) -> Worksheet
         ensures { result ≡ new_sheet id name }
     {
@@ -87,6 +104,9 @@ impl Worksheet {
             frozen_rows: 0,
             frozen_columns: 0,
             cells: PlaceMap::new(alloc),
+            links: PlaceMap::new(alloc),
+            rows: LineMap::new(alloc),
+            columns: LineMap::new(alloc),
         }
     }
 
@@ -147,33 +167,6 @@ impl Worksheet {
         self.cells.iter()
     }
 
-    /// The cells with their places, as a map.
-    pub fn cell_map(&self) -> &PlaceMap<Cell>
-        ensures map { result.now ≡ self.now.cells }
-        ensures kept { KeptCells result.now }
-    {
-        &self.cells
-    }
-
-    /// A copy of the sheet that has these cells in place of its own. Only want of memory is
-    /// refused.
-    pub fn with_cells(&self, cells: PlaceMap<Cell>) -> Result<Worksheet, EditError>
-        requires { KeptCells cells }
-        ensures sheet { IfOk result (λ sheet. sheet ≡ record self.now { cells = cells }) }
-        ensures only { IsOkUnless result NoMemory }
-    {
-        Ok(Worksheet {
-            id: self.id,
-            name: copy_of(&self.name)?,
-            state: self.state,
-            color: self.color,
-            show_grid_lines: self.show_grid_lines,
-            frozen_rows: self.frozen_rows,
-            frozen_columns: self.frozen_columns,
-            cells,
-        })
-    }
-
     /// A copy of the cell at a row and a column, if there is one.
     ///
     /// `InvalidRow` where the row is outside the sheet, else `InvalidColumn` where the column is.
@@ -185,6 +178,19 @@ impl Worksheet {
         match self.cells.get(place) {
             Some(cell) => Ok(Some(copy_of(cell)?)),
             None => Ok(None),
+        }
+    }
+
+    /// The least rectangle that holds the cells, with or without content; the first place of the
+    /// sheet where there is none. It takes no memory. docs/MODEL.md has the rule.
+    pub fn dimension(&self) -> WorksheetDimension
+        ensures none { fin.keys self.now.cells ≡ [] → result ≡ first_place }
+        ensures least { fin.keys self.now.cells ≢ [] → IsLeastRectangle (fin.keys self.now.cells) result }
+    {
+        let mut cells = self.cells();
+        match cells.next() {
+            Some((place, _cell)) => WorksheetDimension::of_places(*place, cells),
+            None => WorksheetDimension::of_place(Position { row: 1, column: 1 }),
         }
     }
 
@@ -363,6 +369,9 @@ impl Clone for Worksheet {
             frozen_rows: self.frozen_rows,
             frozen_columns: self.frozen_columns,
             cells: self.cells.clone()?,
+            links: self.links.clone()?,
+            rows: self.rows.clone()?,
+            columns: self.columns.clone()?,
         })
     }
 }

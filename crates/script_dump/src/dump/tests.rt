@@ -58,3 +58,25 @@ fn colors_are_printed(rt: HostRuntime) -> Result<(), Fail> {
     assert_eq!(rt; out.as_slice(), b"-#09ABFFtheme:11".as_slice());
     Ok(())
 }
+
+#[test]
+fn formulas_are_printed(rt: HostRuntime) -> Result<(), Fail> {
+    let alloc = rt.alloc();
+    let mut workbook = Workbook::new_empty(alloc, "w", Locale::De, Zone::Utc)?;
+    let sheet = workbook.worksheet_mut(0)?;
+    let content = english_input(alloc, Position { row: 2, column: 3 }, "=b1+sum(1.50,$A$2)")?;
+    let style = Style::new(alloc)?;
+    sheet.put_cell(2, 3, Some(Cell { content, style }))?;
+    let mut out = Vec::new(alloc);
+    push_dump(alloc, &mut out, &workbook)?;
+    assert_eq!(rt;
+        out.as_slice(),
+        b"book de UTC w
+sheet 1 visible 1 0 0 - Sheet1
+cell C2 - formula =B1+SUM(1.5,$A$2)
+end
+"
+            .as_slice()
+    );
+    Ok(())
+}

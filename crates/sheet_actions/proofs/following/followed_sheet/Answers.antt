@@ -3,5 +3,5 @@ use Rattle.sheet_grid.specs.KeptCell.{KeptCells}
 use Rattle.sheet_actions.proofs.Kepts.{followed_kept}
 use Rattle.sheet_actions.proofs.following.followed_sheet.Goals as goal
 
-pub with_cells-requires : goal.with_cells-requires
-with_cells-requires g c = subst KeptCells (sym c.in_ok-cells.ensures.cells) (followed_kept _ _ c.cell_map.ensures.kept)
+pub with_entries-requires : goal.with_cells-requires
+with_entries-requires g c = subst KeptCells (sym c.in_ok-cells.ensures.cells) (followed_kept _ _ c.cell_map.ensures.kept)

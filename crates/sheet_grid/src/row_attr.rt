@@ -1,0 +1,44 @@
+ghost use Rattle.std.specs.Prelude.{◌≡◌};
+ghost use Rattle.sheet_grid.specs.Lines.{is_plain_row, kept_row};
+
+use base_styles::Style;
+use base_values::Exact;
+
+/// What a row of a sheet has of its own. docs/MODEL.md has the rules.
+#[derive(Clone, Debug, PartialEq, Eq, Drop)]
+pub struct RowAttr {
+    /// The height in half pixels, where it is not the usual one.
+    pub height: Option<i32>,
+    /// The style of the cells that have none. The default style counts as one here.
+    pub style: Option<Style>,
+    /// Whether the row is not shown.
+    pub hidden: bool,
+}
+
+impl RowAttr {
+    /// Whether a row has nothing of its own: no height, no style, and it is shown.
+    pub fn is_plain(&self) -> bool
+        ensures { result ≡ is_plain_row self.now }
+    {
+        self.height.is_none() && self.style.is_none() && !self.hidden
+    }
+
+    /// What a sheet keeps of an entry of a row: a plain one counts as none.
+    pub(crate) fn kept(entry: Option<RowAttr>) -> Option<RowAttr>
+        ensures { result ≡ kept_row entry }
+    {
+        let Some(attr) = entry else {
+            return None;
+        };
+        if attr.is_plain() { None } else { Some(attr) }
+    }
+}
+
+impl Exact for RowAttr {
+    ghost use Rattle.std.proofs.Common.{rules};
+    ghost use Rattle.sheet_grid.specs.LineEquals.{row_attr_equals};
+
+    ghost copies = { λ a b h. Prim.search rules };
+
+    ghost equals = { row_attr_equals };
+}

@@ -1,0 +1,72 @@
+//! All that a sheet holds at places, rows and columns, as whole maps.
+
+ghost use Rattle.std.specs.Prelude.{◌≡◌, IfOk, IsOkUnless};
+ghost use Rattle.base_values.specs.declared.EditError.TheVariants.{NoMemory};
+ghost use Rattle.sheet_grid.specs.KeptCell.{KeptCells};
+
+use super::Worksheet;
+use crate::cell::Cell;
+use crate::column_attr::ColumnAttr;
+use crate::link::Link;
+use crate::row_attr::RowAttr;
+use base_axis::{ColumnAxis, LineMap, RowAxis};
+use base_values::{EditError, PlaceMap, copy_of};
+
+impl Worksheet {
+    /// The cells by their places.
+    pub fn cell_map(&self) -> &PlaceMap<Cell>
+        ensures map { result.now ≡ self.now.cells }
+        ensures kept { KeptCells result.now }
+    {
+        &self.cells
+    }
+
+    /// The links by their places.
+    pub fn link_map(&self) -> &PlaceMap<Link>
+        ensures { result.now ≡ self.now.links }
+    {
+        &self.links
+    }
+
+    /// What rows have of their own.
+    pub fn row_map(&self) -> &LineMap<RowAxis, RowAttr>
+        ensures { result.now ≡ self.now.rows }
+    {
+        &self.rows
+    }
+
+    /// What columns have of their own.
+    pub fn column_map(&self) -> &LineMap<ColumnAxis, ColumnAttr>
+        ensures { result.now ≡ self.now.columns }
+    {
+        &self.columns
+    }
+
+    /// A copy of the sheet that holds these in place of its own cells, links, rows and columns.
+    /// Only want of memory is refused.
+    pub fn with_entries(
+        &self,
+        cells: PlaceMap<Cell>,
+        links: PlaceMap<Link>,
+        rows: LineMap<RowAxis, RowAttr>,
+        columns: LineMap<ColumnAxis, ColumnAttr>,
+    ) -> Result<Worksheet, EditError>
+        requires { KeptCells cells }
+        ensures sheet { IfOk result (λ sheet. sheet ≡ record self.now { cells = cells; links = links; rows = rows; columns = columns }) }
+        ensures only { IsOkUnless result NoMemory }
+    {
+        Ok(Worksheet {
+            id: self.id,
+            name: copy_of(&self.name)?,
+            state: self.state,
+            color: self.color,
+            show_grid_lines: self.show_grid_lines,
+            frozen_rows: self.frozen_rows,
+            frozen_columns: self.frozen_columns,
+            cells,
+            links,
+            rows,
+            columns,
+        })
+    }
+}

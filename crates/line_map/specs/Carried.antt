@@ -19,6 +19,10 @@ pub record Inverse {K : Type 0} (to from : K → Option K) : Type 0 where
 pub turned : {K : Type 0} {to from : K → Option K} → Inverse to from → Inverse from to
 turned i = record { back = λ p q h. i.forth q p h; forth = λ p q h. i.back q p h }
 
+-- where nothing goes anywhere
+pub own_inverse : {K : Type 0} → Inverse {K = K} Some Some
+own_inverse = record { back = λ p q e. sym e; forth = λ p q e. sym e }
+
 -- what a function gives of the value, if there is one
 abbrev pub if_there : {X Y : Type 0} → Option X → (X → Option Y) → Option Y
 if_there None f = None
@@ -57,21 +61,29 @@ module _ {K G : Type 0} {R : K → K → Ordering} where
       ∙ ap (λ j. put_at (to j) (give j) (laid to give (take i ks) m)) (sym e)
 
 module _ {K F : Type 0} {R : K → K → Ordering} where
-  -- the entries whose keys go somewhere, there
-  unfoldable pub follow_map : (K → Option K) → (F → F) → FinMap R F → FinMap R F
-  follow_map to f m = laid to (λ p. if_there (get m p) (λ x. Some (f x))) (keys m) empty
+  -- the entries whose keys go somewhere, there, each carried along from its key
+  unfoldable pub follow_map : (K → Option K) → (K → F → F) → FinMap R F → FinMap R F
+  follow_map to f m = laid to (λ p. if_there (get m p) (λ x. Some (f p x))) (keys m) empty
 
   -- the entries whose keys go nowhere
   unfoldable pub lost_map : (K → Option K) → FinMap R F → FinMap R F
   lost_map to m = laid (λ p. if_lost (to p) p) (λ p. if_there (get m p) Some) (keys m) empty
 
   -- the parts that the others have, under their keys
-  unfoldable pub parts_map : {P : Type 0} → (K → Option K) → (F → Option P) → FinMap R F → FinMap R P
-  parts_map to part m = laid (λ p. if_goes (to p) p) (λ p. if_there (get m p) part) (keys m) empty
+  unfoldable pub parts_map : {P : Type 0} → (K → Option K) → (K → F → Option P) → FinMap R F → FinMap R P
+  parts_map to part m = laid (λ p. if_goes (to p) p) (λ p. if_there (get m p) (part p)) (keys m) empty
+
+  -- a map with these entries in place of its own
+  unfoldable pub overlaid : FinMap R F → FinMap R F → FinMap R F
+  overlaid entries m = laid Some (get entries) (keys entries) m
 
   -- over the map that went back: what is regained from the parts, and then the lost entries
   unfoldable pub regain_map : {P : Type 0} → (K → Option K) → (F → P → F) → FinMap R F → FinMap R F → FinMap R P → FinMap R F → FinMap R F
   regain_map to r back lost parts m = laid Some (get lost) (keys lost) (laid Some (λ p. regained_by r (get parts p) (if_there (to p) (get m))) (keys parts) back)
+
+-- the entries whose keys go somewhere, there, as they are
+abbrev pub moved_map : {K F : Type 0} {R : K → K → Ordering} → (K → Option K) → FinMap R F → FinMap R F
+moved_map to m = follow_map to (λ _ x. x) m
 
 module _ {K : Type 0} (R : K → K → Ordering) (total : IsTotalOrder R) (exact : CmpEqualImpliesEq R) where
   tied : (o : Ordering) → is_eq o ≡ true → o ≡ Equal
@@ -83,10 +95,10 @@ module _ {K : Type 0} (R : K → K → Ordering) (total : IsTotalOrder R) (exact
   pub one_key : (p q : K) → eq_by_cmp R p q ≡ true → p ≡ q
   one_key p q h = exact p q (tied (R p q) h)
 
-  own_key : (p : K) → eq_by_cmp R p p ≡ true
+  pub own_key : (p : K) → eq_by_cmp R p p ≡ true
   own_key p = (eq_by_cmp_equiv total).refl p
 
-  apart_keys : (p q : K) → (p ≡ q → ⊥) → eq_by_cmp R p q ≡ false
+  pub apart_keys : (p q : K) → (p ≡ q → ⊥) → eq_by_cmp R p q ≡ false
   apart_keys p q h = elim (eq_by_cmp R p q) as (λ b. eq_by_cmp R p q ≡ b → b ≡ false) [ true ↦ λ e. absurd (h (one_key p q e)) | false ↦ λ e. refl ] refl
 
   same_either : {X : Type 0} (b : Bool) (x : X) → cond b x x ≡ x
@@ -151,22 +163,22 @@ module _ {K : Type 0} (R : K → K → Ordering) (total : IsTotalOrder R) (exact
   only_there None h = refl
   only_there (Some x) h = refl
 
-  over_nothing : {X Y : Type 0} (to from : K → Option K) (i : Inverse to from) (h : X → Option Y) (m : FinMap R X) (old : Option Y) (s : Option K) → old ≡ None →
-      over to from i (λ p. if_there (get m p) h) m old s ≡ if_there s (λ p. if_there (get m p) h)
+  over_nothing : {X Y : Type 0} (to from : K → Option K) (i : Inverse to from) (h : K → X → Option Y) (m : FinMap R X) (old : Option Y) (s : Option K) → old ≡ None →
+      over to from i (λ p. if_there (get m p) (h p)) m old s ≡ if_there s (λ p. if_there (get m p) (h p))
   over_nothing to from i h m old None e = e
-  over_nothing to from i h m old (Some p) e = ap (cond (is_some (get m p)) (if_there (get m p) h)) e ∙ only_there (get m p) h
+  over_nothing to from i h m old (Some p) e = ap (cond (is_some (get m p)) (if_there (get m p) (h p))) e ∙ only_there (get m p) (h p)
 
   -- what the entries of a map make at a key
-  get-made : {X Y : Type 0} (to from : K → Option K) → Inverse to from → (h : X → Option Y) (m : FinMap R X) (q : K) →
-      get (laid to (λ p. if_there (get m p) h) (keys m) (empty {R = R})) q ≡ if_there (from q) (λ p. if_there (get m p) h)
+  get-made : {X Y : Type 0} (to from : K → Option K) → Inverse to from → (h : K → X → Option Y) (m : FinMap R X) (q : K) →
+      get (laid to (λ p. if_there (get m p) (h p)) (keys m) (empty {R = R})) q ≡ if_there (from q) (λ p. if_there (get m p) (h p))
   get-made to from i h m q =
-      get-over to from i (λ p. if_there (get m p) h) m empty q ∙ over_nothing to from i h m _ (from q) (get-empty R q)
+      get-over to from i (λ p. if_there (get m p) (h p)) m empty q ∙ over_nothing to from i h m _ (from q) (get-empty R q)
 
   -- a carried map has at a key what the map had at the key before, carried along
-  pub get-follow_map : {F : Type 0} (to from : K → Option K) → Inverse to from → (f : F → F) (m : FinMap R F) (q : K) →
-      get (follow_map to f m) q ≡ if_there (from q) (λ p. if_there (get m p) (λ x. Some (f x)))
+  pub get-follow_map : {F : Type 0} (to from : K → Option K) → Inverse to from → (f : K → F → F) (m : FinMap R F) (q : K) →
+      get (follow_map to f m) q ≡ if_there (from q) (λ p. if_there (get m p) (λ x. Some (f p x)))
   unfolding follow_map
-  get-follow_map to from i f m q = get-made to from i (λ x. Some (f x)) m q
+  get-follow_map to from i f m q = get-made to from i (λ p x. Some (f p x)) m q
 
   module _ (to from : K → Option K) (i : Inverse to from) where
     lost_at : (p q : K) (t s : Option K) → to p ≡ t → to q ≡ s → if_lost t p ≡ Some q → if_lost s q ≡ Some p
@@ -187,14 +199,11 @@ module _ {K : Type 0} (R : K → K → Ordering) (total : IsTotalOrder R) (exact
 
     pub get-lost_map : {F : Type 0} (m : FinMap R F) (p : K) → get (lost_map to m) p ≡ if_there (if_lost (to p) p) (λ p. if_there (get m p) Some)
     unfolding lost_map
-    get-lost_map m p = get-made (λ p. if_lost (to p) p) (λ p. if_lost (to p) p) lost_inverse Some m p
+    get-lost_map m p = get-made (λ p. if_lost (to p) p) (λ p. if_lost (to p) p) lost_inverse (λ _. Some) m p
 
-    pub get-parts_map : {F P : Type 0} (part : F → Option P) (m : FinMap R F) (p : K) → get (parts_map to part m) p ≡ if_there (if_goes (to p) p) (λ p. if_there (get m p) part)
+    pub get-parts_map : {F P : Type 0} (part : K → F → Option P) (m : FinMap R F) (p : K) → get (parts_map to part m) p ≡ if_there (if_goes (to p) p) (λ p. if_there (get m p) (part p))
     unfolding parts_map
     get-parts_map part m p = get-made (λ p. if_goes (to p) p) (λ p. if_goes (to p) p) goes_inverse part m p
-
-  own_inverse : Inverse {K = K} Some Some
-  own_inverse = record { back = λ p q e. sym e; forth = λ p q e. sym e }
 
   -- of a lost entry, a part, its follower and what went back: what is regained
   abbrev settled : {F P : Type 0} → (F → P → F) → Option F → Option P → Option F → Option F → Option F
@@ -224,23 +233,60 @@ module _ {K : Type 0} (R : K → K → Ordering) (total : IsTotalOrder R) (exact
   alone r None = refl
   alone r (Some x) = refl
 
-  module _ {F P : Type 0} (to from : K → Option K) (i : Inverse to from) (f b : F → F) (part : F → Option P) (r : F → P → F) (m : FinMap R F) where
-    settled_at : ((p : K) (x : F) → get m p ≡ Some x → part x ≡ None → b (f x) ≡ x) → ((p : K) (x : F) → get m p ≡ Some x → (k : P) → part x ≡ Some k → r (f x) k ≡ x) →
-        (p : K) (t : Option K) → to p ≡ t →
-        settled r (if_there (if_lost t p) (λ p. if_there (get m p) Some)) (if_there (if_goes t p) (λ p. if_there (get m p) part)) (if_there t (get (follow_map to f m))) (if_there t (λ q. if_there (get (follow_map to f m) q) (λ w. Some (b w)))) ≡ get m p
-    settled_at h j p None e = alone r (get m p)
-    settled_at h j p (Some q) e =
-        let there : get (follow_map to f m) q ≡ if_there (get m p) (λ x. Some (f x)) =
-        get-follow_map to from i f m q ∙ ap (λ s. if_there s (λ p. if_there (get m p) (λ x. Some (f x)))) (i.back p q e) in
-        ap (λ w. settled r None (if_there (get m p) part) w (if_there w (λ w. Some (b w)))) there
-        ∙ settles f b part r (get m p) (h p) (j p)
+  module _ {F P : Type 0} (to from : K → Option K) (i : Inverse to from) (f b : K → F → F) (part : K → F → Option P) (r : F → P → F) (m : FinMap R F) where
+    -- each entry whose key goes on comes back, or has a part from which it is regained
+    pub record ComesBack : Type 0 where
+      pub alone : (p q : K) → to p ≡ Some q → (x : F) → get m p ≡ Some x → part p x ≡ None → b q (f p x) ≡ x
+      pub by_part : (p q : K) → to p ≡ Some q → (x : F) → get m p ≡ Some x → (k : P) → part p x ≡ Some k → r (f p x) k ≡ x
+
+    settled_at : ComesBack → (p : K) (t : Option K) → to p ≡ t →
+        settled r (if_there (if_lost t p) (λ p. if_there (get m p) Some)) (if_there (if_goes t p) (λ p. if_there (get m p) (part p))) (if_there t (get (follow_map to f m))) (if_there t (λ q. if_there (get (follow_map to f m) q) (λ w. Some (b q w)))) ≡ get m p
+    settled_at h p None e = alone r (get m p)
+    settled_at h p (Some q) e =
+        let there : get (follow_map to f m) q ≡ if_there (get m p) (λ x. Some (f p x)) =
+        get-follow_map to from i f m q ∙ ap (λ s. if_there s (λ p. if_there (get m p) (λ x. Some (f p x)))) (i.back p q e) in
+        ap (λ w. settled r None (if_there (get m p) (part p)) w (if_there w (λ w. Some (b q w)))) there
+        ∙ settles (f p) (b q) (part p) r (get m p) (h.alone p q e) (h.by_part p q e)
 
     -- what is carried along is regained, if each follower comes back or is regained from its part
-    pub map_regains : ((p : K) (x : F) → get m p ≡ Some x → part x ≡ None → b (f x) ≡ x) → ((p : K) (x : F) → get m p ≡ Some x → (k : P) → part x ≡ Some k → r (f x) k ≡ x) →
-        regain_map to r (follow_map from b (follow_map to f m)) (lost_map to m) (parts_map to part m) (follow_map to f m) ≡ m
-    map_regains h j = same_map total exact _ m (λ p.
+    pub map_regains : ComesBack → regain_map to r (follow_map from b (follow_map to f m)) (lost_map to m) (parts_map to part m) (follow_map to f m) ≡ m
+    map_regains h = same_map total exact _ m (λ p.
         get-regain_map to r (follow_map from b (follow_map to f m)) (lost_map to m) (parts_map to part m) (follow_map to f m) p
         ∙ ap (λ v. settled r v (get (parts_map to part m) p) (if_there (to p) (get (follow_map to f m))) (get (follow_map from b (follow_map to f m)) p)) (get-lost_map to from i m p)
         ∙ ap (λ v. settled r (if_there (if_lost (to p) p) (λ p. if_there (get m p) Some)) v (if_there (to p) (get (follow_map to f m))) (get (follow_map from b (follow_map to f m)) p)) (get-parts_map to from i part m p)
-        ∙ ap (settled r (if_there (if_lost (to p) p) (λ p. if_there (get m p) Some)) (if_there (if_goes (to p) p) (λ p. if_there (get m p) part)) (if_there (to p) (get (follow_map to f m)))) (get-follow_map from to (turned i) b (follow_map to f m) p)
-        ∙ settled_at h j p (to p) refl)
+        ∙ ap (settled r (if_there (if_lost (to p) p) (λ p. if_there (get m p) Some)) (if_there (if_goes (to p) p) (λ p. if_there (get m p) (part p))) (if_there (to p) (get (follow_map to f m)))) (get-follow_map from to (turned i) b (follow_map to f m) p)
+        ∙ settled_at h p (to p) refl)
+
+  as_it_is : {F : Type 0} (v : Option F) → if_there v (λ x. Some x) ≡ v
+  as_it_is None = refl
+  as_it_is (Some x) = refl
+
+  as_they_are : {F : Type 0} (m : FinMap R F) (s : Option K) → if_there s (λ p. if_there (get m p) (λ x. Some x)) ≡ if_there s (get m)
+  as_they_are m None = refl
+  as_they_are m (Some p) = as_it_is (get m p)
+
+  -- a moved map has at a key what the map had at the key before
+  pub get-moved_map : {F : Type 0} (to from : K → Option K) → Inverse to from → (m : FinMap R F) (q : K) → get (moved_map to m) q ≡ if_there (from q) (get m)
+  get-moved_map to from i m q = get-follow_map to from i (λ _ x. x) m q ∙ as_they_are m (from q)
+
+  -- a map over which entries are laid has these, and its own elsewhere
+  pub get-overlaid : {F : Type 0} (entries m : FinMap R F) (p : K) → get (overlaid entries m) p ≡ cond (is_some (get entries p)) (get entries p) (get m p)
+  unfolding overlaid
+  get-overlaid entries m p = get-over Some Some own_inverse (get entries) entries m p
+
+  lost_alone : {F : Type 0} (v : Option F) → cond (is_some (if_there v Some)) (if_there v Some) None ≡ v
+  lost_alone None = refl
+  lost_alone (Some x) = refl
+
+  module _ {F : Type 0} (to from : K → Option K) (i : Inverse to from) (m : FinMap R F) where
+    moved_at : (p : K) (t : Option K) → to p ≡ t →
+        cond (is_some (if_there (if_lost t p) (λ p. if_there (get m p) Some))) (if_there (if_lost t p) (λ p. if_there (get m p) Some)) (if_there t (get (moved_map to m))) ≡ get m p
+    moved_at p None e = lost_alone (get m p)
+    moved_at p (Some q) e = get-moved_map to from i m q ∙ ap (λ s. if_there s (get m)) (i.back p q e)
+
+    -- the lost entries laid over what went back give the map
+    pub moved_regains : overlaid (lost_map to m) (moved_map from (moved_map to m)) ≡ m
+    moved_regains = same_map total exact _ m (λ p.
+        get-overlaid (lost_map to m) (moved_map from (moved_map to m)) p
+        ∙ (λ j. cond (is_some (get-lost_map to from i m p j)) (get-lost_map to from i m p j) (get-moved_map from to (turned i) (moved_map to m) p j))
+        ∙ moved_at p (to p) refl)

@@ -63,6 +63,13 @@ place_inverse a l e valid = record {
   forth = λ p q h. ap (λ x. place_image a x p) (sym (opposite_twice e)) ∙ place_back a l (opposite_of e) (valid_opposite a.last e valid) q p h;
 }
 
+-- lines of a map go to and fro
+pub line_inverse : (last : ℤ) (e : EditKind) → IsValid last e → Inverse (image_at last e) (image_at last (opposite_of e))
+line_inverse last e valid = record {
+  back = λ n m h. image_back last e valid n m h;
+  forth = λ n m h. ap (λ x. image_at last x n) (sym (opposite_twice e)) ∙ image_back last (opposite_of e) (valid_opposite last e valid) m n h;
+}
+
 carried_from : {F : Type 0} (f : F → F) (v : Option F) (y : F) → if_there v (λ x. Some (f x)) ≡ Some y → (x : F) × (v ≡ Some x) × (y ≡ f x)
 carried_from f None y h = absurd (cc)
 carried_from f (Some x) y h = (x, refl, let e : f x ≡ y = cc in sym e)
@@ -80,10 +87,10 @@ module _ {F : Type 0} (a : Along) (l : IsAxis a) (e : EditKind) (valid : IsValid
       )
 
   -- a map that is carried along lies inside
-  pub map_stays : (Lies : F → Type 0) (f : F → F) → ((x : F) → Lies x → Lies (f x)) → (m : FinMap position_cmp F) → AllLie Lies m → AllLie Lies (follow_map (place_image a e) f m)
+  pub map_stays : (Lies : F → Type 0) (f : F → F) → ((x : F) → Lies x → Lies (f x)) → (m : FinMap position_cmp F) → AllLie Lies m → AllLie Lies (follow_map (place_image a e) (λ _. f) m)
   map_stays Lies f h m all =
-      let found : (q : Position) (y : F) → get (follow_map (place_image a e) f m) q ≡ Some y → IsPlace q × Lies y =
-      λ q y g. lie_at Lies f h m all q y _ refl (sym (get-follow_map position_cmp position_total exact_positions (place_image a e) (place_image a (opposite_of e)) (place_inverse a l e valid) f m q) ∙ g) in
+      let found : (q : Position) (y : F) → get (follow_map (place_image a e) (λ _. f) m) q ≡ Some y → IsPlace q × Lies y =
+      λ q y g. lie_at Lies f h m all q y _ refl (sym (get-follow_map position_cmp position_total exact_positions (place_image a e) (place_image a (opposite_of e)) (place_inverse a l e valid) (λ _. f) m q) ∙ g) in
       record { places = λ q y g. (found q y g).0; items = λ q y g. (found q y g).1 }
 
   module _ {P : Type 0} (same : F → F → Bool) (exact : (x y : F) → Decides (same x y) (x ≡ y)) (follow : EditKind → F → F) (kept : EditKind → F → P) where
@@ -97,12 +104,13 @@ module _ {F : Type 0} (a : Along) (l : IsAxis a) (e : EditKind) (valid : IsValid
 
     -- followers under places are regained
     pub places_regain : (r : F → P → F) (m : FinMap position_cmp F) → ((p : Position) (x : F) → get m p ≡ Some x → r (follow e x) (kept e x) ≡ x) →
-        regain_map (place_image a e) r (follow_map (place_image a (opposite_of e)) (follow (opposite_of e)) (follow_map (place_image a e) (follow e) m)) (lost_map (place_image a e) m) (parts_map (place_image a e) (part_of same follow kept e) m) (follow_map (place_image a e) (follow e) m) ≡ m
+        regain_map (place_image a e) r (follow_map (place_image a (opposite_of e)) (λ _. follow (opposite_of e)) (follow_map (place_image a e) (λ _. follow e) m)) (lost_map (place_image a e) m) (parts_map (place_image a e) (λ _. part_of same follow kept e) m) (follow_map (place_image a e) (λ _. follow e) m) ≡ m
     unfolding part_of
     places_regain r m h =
-        map_regains position_cmp position_total exact_positions (place_image a e) (place_image a (opposite_of e)) (place_inverse a l e valid) (follow e) (follow (opposite_of e)) (part_of same follow kept e) r m
-        (λ p x g i. no_part x _ refl i)
-        (λ p x g k i. ap (r (follow e x)) (the_part x _ k i) ∙ h p x g)
+        map_regains position_cmp position_total exact_positions (place_image a e) (place_image a (opposite_of e)) (place_inverse a l e valid) (λ _. follow e) (λ _. follow (opposite_of e)) (λ _. part_of same follow kept e) r m (record {
+          alone = λ p q there x g i. no_part x _ refl i;
+          by_part = λ p q there x g k i. ap (r (follow e x)) (the_part x _ k i) ∙ h p x g;
+        })
 
 -- a map without entries lies inside
 pub none_lie : {F : Type 0} (Lies : F → Type 0) → AllLie Lies empty

@@ -18,9 +18,9 @@ use base_values::PlaceMap;
 /// that does not come back its kept part, and of no other one.
 pub fn entries_of_maps<A: Axis, F: Follow<A>>(edit: &LineEdit<A>, map: &PlaceMap<F>)
     requires { IsValid A.along.last edit.now.kind }
-    ensures followed { (q : Position) → get (follow_map (place_image A.along edit.now.kind) (F.follow_of edit.now.kind) map.now) q ≡ if_there (place_image A.along (opposite_of edit.now.kind) q) (λ p. if_there (get map.now p) (λ x. Some (F.follow_of edit.now.kind x))) }
+    ensures followed { (q : Position) → get (follow_map (place_image A.along edit.now.kind) (λ _. F.follow_of edit.now.kind) map.now) q ≡ if_there (place_image A.along (opposite_of edit.now.kind) q) (λ p. if_there (get map.now p) (λ x. Some (F.follow_of edit.now.kind x))) }
     ensures lost { (p : Position) → get (lost_map (place_image A.along edit.now.kind) map.now) p ≡ if_there (if_lost (place_image A.along edit.now.kind p) p) (λ p. if_there (get map.now p) Some) }
-    ensures parts { (p : Position) → get (parts_map (place_image A.along edit.now.kind) (part_of F.eq F.follow_of F.kept_of edit.now.kind) map.now) p ≡ if_there (if_goes (place_image A.along edit.now.kind p) p) (λ p. if_there (get map.now p) (part_of F.eq F.follow_of F.kept_of edit.now.kind)) }
+    ensures parts { (p : Position) → get (parts_map (place_image A.along edit.now.kind) (λ _. part_of F.eq F.follow_of F.kept_of edit.now.kind) map.now) p ≡ if_there (if_goes (place_image A.along edit.now.kind p) p) (λ p. if_there (get map.now p) (part_of F.eq F.follow_of F.kept_of edit.now.kind)) }
 {
     let _ = edit;
     let _ = map;

@@ -19,9 +19,11 @@ mod tree_at;
 pub use edit::{EditKind, LineEdit, image_of_opposite};
 pub use follow::{Follow, comes_back, there_and_back};
 pub use laws::{entries_of_maps, followed_is_placed};
+pub use laying::{Overlay, lay};
+pub use overlays::{Copied, Lost};
 pub use place_map::KeptMap;
 pub use places::place_image;
-pub use tree_at::{KeptTree, TreeAt};
+pub use tree_at::{KeptTree, TreeAt, carried_node};
 
 #[cfg(test)]
 mod tests;

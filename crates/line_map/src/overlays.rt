@@ -46,12 +46,12 @@ impl<'a, A: Axis, F: Follow<A>> Overlay for Carried<'a, A, F> {
 
 /// Each entry whose line is lost stays as it is.
 #[derive_where(Clone, Copy)]
-pub struct Lost<'a, A: Axis, F: Follow<A>> {
+pub struct Lost<'a, A: Axis, F: Exact + Drop> {
     pub edit: LineEdit<A>,
     pub map: &'a PlaceMap<F>,
 }
 
-impl<'a, A: Axis, F: Follow<A>> Overlay for Lost<'a, A, F> {
+impl<'a, A: Axis, F: Exact + Drop> Overlay for Lost<'a, A, F> {
     type Item = F;
 
     ghost Fits = { λ _. ⊤ };

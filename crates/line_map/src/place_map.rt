@@ -25,11 +25,11 @@ impl<A: Axis, F: Follow<A>> Follow<A> for PlaceMap<F> {
 
     ghost Lies = { AllLie F.Lies };
 
-    ghost follow_of = { λ e. follow_map (place_image A.along e) (F.follow_of e) };
+    ghost follow_of = { λ e. follow_map (place_image A.along e) (λ _. F.follow_of e) };
 
-    ghost kept_of = { λ e m. record { lost = lost_map (place_image A.along e) m; parts = parts_map (place_image A.along e) (part_of F.eq F.follow_of F.kept_of e) m } };
+    ghost kept_of = { λ e m. record { lost = lost_map (place_image A.along e) m; parts = parts_map (place_image A.along e) (λ _. part_of F.eq F.follow_of F.kept_of e) m } };
 
-    ghost regain_of = { λ e m k. regain_map (place_image A.along e) (F.regain_of e) (follow_map (place_image A.along (opposite_of e)) (F.follow_of (opposite_of e)) m) k.lost k.parts m };
+    ghost regain_of = { λ e m k. regain_map (place_image A.along e) (F.regain_of e) (follow_map (place_image A.along (opposite_of e)) (λ _. F.follow_of (opposite_of e)) m) k.lost k.parts m };
 
     #[tactic(auto, unfolding(crate::specs::Carried::follow_map))]
     fn follow(&self, alloc: Global, edit: &LineEdit<A>) -> Result<PlaceMap<F>, EditError> {

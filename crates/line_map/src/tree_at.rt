@@ -2,7 +2,8 @@ ghost use Rattle.std.specs.Prelude.{◌≡◌, IfOk, IfSome, IsOkUnless};
 ghost use Rattle.base_values.specs.Places.{IsPlace};
 ghost use Rattle.base_values.specs.declared.EditError.TheVariants.{NoMemory};
 ghost use Rattle.line_map.specs.Edit.{IsValid, opposite_of};
-ghost use Rattle.line_map.specs.Trees.{Lies, goes, node_at, followed, kept, kept_by, regained};
+ghost use Rattle.formula_tree.specs.Moved.{moved};
+ghost use Rattle.line_map.specs.Trees.{Lies, following, goes, node_at, followed, kept, kept_by, regained};
 
 use crate::edit::LineEdit;
 use crate::follow::Follow;
@@ -57,6 +58,33 @@ fn goes<A: Axis>(edit: &LineEdit<A>, tree: &TreeAt) -> Option<Position>
     place_image(edit, tree.place)
 }
 
+/// A tree of the sheet named `own` that goes from a place to a place along an edit of the sheet
+/// named `edited`. Names are compared by simple case folding. Only want of memory is refused.
+/// docs/MODEL.md has the rules.
+pub fn carried_node<A: Axis>(
+    alloc: Global,
+    edit: &LineEdit<A>,
+    own: &str,
+    edited: &str,
+    from: Position,
+    to: Position,
+    node: &Node,
+) -> Result<Node, EditError>
+    requires { IsPlace to }
+    ensures node { IfOk result (λ carried. carried ≡ moved to (following A.along edit.now.kind from to own.now edited.now) node.now) }
+    ensures only { IsOkUnless result NoMemory }
+{
+    let edit = *edit;
+    let corners = Following {
+        edit,
+        from,
+        to,
+        own,
+        edited,
+    };
+    Ok(move_node(alloc, node, to, &corners)?)
+}
+
 /// The tree of the cell that goes there.
 #[tactic(auto, unfolding(crate::specs::Trees::node_at))]
 fn node_at<A: Axis>(
@@ -69,14 +97,8 @@ fn node_at<A: Axis>(
     ensures node { IfOk result (λ node. node ≡ node_at A.along edit.now.kind tree.now to) }
     ensures only { IsOkUnless result NoMemory }
 {
-    let corners = Following {
-        edit: *edit,
-        from: tree.place,
-        to,
-        own: tree.sheet.as_str(),
-        edited: tree.edited.as_str(),
-    };
-    Ok(move_node(alloc, &tree.node, to, &corners)?)
+    let (own, edited) = (tree.sheet.as_str(), tree.edited.as_str());
+    carried_node(alloc, edit, own, edited, tree.place, to, &tree.node)
 }
 
 /// The tree with another node, at another place.

@@ -8,7 +8,7 @@ pub returns-clause-followed : goal.returns-clause-followed
 returns-clause-followed g c =
     let a = g.A.Axis.along in
     let e = c.args.edit.now.kind in
-    get-follow_map position_cmp position_total exact_positions (place_image a e) (place_image a (opposite_of e)) (place_inverse a g.met.A.Axis.lawful e c.requires) (g.F.Follow.follow_of e) c.args.map.now
+    get-follow_map position_cmp position_total exact_positions (place_image a e) (place_image a (opposite_of e)) (place_inverse a g.met.A.Axis.lawful e c.requires) (λ _. g.F.Follow.follow_of e) c.args.map.now
 
 pub returns-clause-lost : goal.returns-clause-lost
 returns-clause-lost g c =
@@ -20,4 +20,4 @@ pub returns-clause-parts : goal.returns-clause-parts
 returns-clause-parts g c =
     let a = g.A.Axis.along in
     let e = c.args.edit.now.kind in
-    get-parts_map position_cmp position_total exact_positions (place_image a e) (place_image a (opposite_of e)) (place_inverse a g.met.A.Axis.lawful e c.requires) (part_of g.F.PartialEq.eq g.F.Follow.follow_of g.F.Follow.kept_of e) c.args.map.now
+    get-parts_map position_cmp position_total exact_positions (place_image a e) (place_image a (opposite_of e)) (place_inverse a g.met.A.Axis.lawful e c.requires) (λ _. part_of g.F.PartialEq.eq g.F.Follow.follow_of g.F.Follow.kept_of e) c.args.map.now

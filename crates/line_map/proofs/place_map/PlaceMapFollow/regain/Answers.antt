@@ -21,5 +21,5 @@ returns-clause-value g c =
     ∙ ap (laid Some (get lost) (keys lost)) (
     c.in_ok-back-2.ensures.map
     ∙ ap (λ ks. laid Some give ks c.in_ok-back.back) (c.as_slice.ensures.items ∙ c.in_ok-places.ensures.places)
-    ∙ ap (laid Some give (keys parts)) (c.in_ok-back.ensures.value ∙ ap (λ k. follow_map (place_image a k) (g.F.Follow.follow_of k) m) c.opposite.ensures.kind)))
+    ∙ ap (laid Some give (keys parts)) (c.in_ok-back.ensures.value ∙ ap (λ k. follow_map (place_image a k) (λ _. g.F.Follow.follow_of k) m) c.opposite.ensures.kind)))
     c.lay-2.ensures.map

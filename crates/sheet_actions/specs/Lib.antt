@@ -1,0 +1,9 @@
+pub mod SheetIds
+pub mod Way
+pub mod Followed
+pub mod Kept
+pub mod KeptNumbers
+pub mod KeptEquals
+pub mod Back
+pub mod Regained
+pub mod MovedNumbers

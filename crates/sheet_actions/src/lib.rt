@@ -1,0 +1,30 @@
+//! Lines inserted and deleted in a workbook.
+//!
+//! `line_edit` answers the workbook afterwards and what going back does not give; `line_back` takes
+//! the lines back with it.
+#![tactic(auto)]
+
+mod back;
+mod contents;
+mod edit;
+mod entries;
+mod following;
+mod keeping;
+mod keeping_sheets;
+mod kept;
+mod laws;
+mod lines;
+mod overlays;
+mod sheet_edit;
+mod sheet_map;
+mod sheets;
+
+pub use back::line_back;
+pub use edit::line_edit;
+pub use kept::KeptLines;
+pub use laws::{edit_and_back, entries_of_sheets, kept_under_ids};
+pub use sheet_map::SheetMap;
+pub use sheets::has_sheet;
+
+#[cfg(test)]
+mod tests;

@@ -1,0 +1,57 @@
+-- What the maps of followed and kept cells hold.
+use Rattle.std.proofs.Common.{◌≡◌, ℕ, Bool, true, false, cond, List, [], ◌∷◌, map, Option, Some, None, refl, ap, sym, ◌∙◌}
+use Rattle.std.specs.Prelude.{◌==◌}
+use Rattle.std.specs.Cmp.{unsigned_Decides}
+use Rattle.std.specs.List.{find, AllByRecursion}
+use Rattle.std.specs.Ordering.{nat_cmp}
+use Rattle.std.specs.FinMap.{FinMap, empty, get, get-empty}
+use Rattle.base_values.specs.declared.Position.{Position}
+use Rattle.base_values.specs.Places.{position_cmp, position_total, exact_positions}
+use Rattle.base_axis.specs.Along.{Along, IsAxis}
+use Rattle.formula_tree.specs.declared.Node.{Node}
+use Rattle.sheet_grid.specs.declared.Cell.{Cell}
+use Rattle.sheet_grid.specs.Sheet.{Sheet}
+use Rattle.line_map.specs.declared.EditKind.{EditKind}
+use Rattle.line_map.specs.Edit.{opposite_of, IsValid}
+use Rattle.line_map.specs.Carried.{if_there, if_lost, if_goes, lost_map, get-follow_map, get-lost_map, get-parts_map}
+use Rattle.line_map.specs.Places.{place_image, place_inverse}
+use Rattle.sheet_lines.specs.Way.{Way, back, place_goes}
+use Rattle.sheet_lines.specs.Followed.{cell_followed, cells_followed}
+use Rattle.sheet_lines.specs.Kept.{tree_of, there_and_back, unless_back, kept_tree, kept_trees, kept_formulas}
+use Rattle.sheet_lines.specs.Regained.{goes_inverse}
+
+-- followed cells have at a place the cell that goes there, carried along
+pub get-followed : (w : Way) → IsAxis w.along → IsValid w.along.last w.kind → (cells : FinMap position_cmp Cell) (q : Position) →
+    get (cells_followed w cells) q ≡ if_there (place_goes (back w) q) (λ p. if_there (get cells p) (λ cell. Some (cell_followed w p cell)))
+unfolding cells_followed
+get-followed w l valid cells q = get-follow_map position_cmp position_total exact_positions (place_goes w) (place_goes (back w)) (goes_inverse w l valid) (cell_followed w) cells q
+
+as_it_is : (v : Option Cell) → if_there v Some ≡ v
+as_it_is None = refl
+as_it_is (Some cell) = refl
+
+lost_or_none : (cells : FinMap position_cmp Cell) (o : Option Position) → if_there o (λ p. if_there (get cells p) Some) ≡ if_there o (get cells)
+lost_or_none cells None = refl
+lost_or_none cells (Some p) = as_it_is (get cells p)
+
+-- lost cells are those of places that go nowhere
+pub get-lost : (a : Along) → IsAxis a → (e : EditKind) → IsValid a.last e → (cells : FinMap position_cmp Cell) (p : Position) →
+    get (lost_map (place_image a e) cells) p ≡ if_there (if_lost (place_image a e p) p) (get cells)
+get-lost a l e valid cells p =
+    get-lost_map position_cmp position_total exact_positions (place_image a e) (place_image a (opposite_of e)) (place_inverse a l e valid) cells p
+    ∙ lost_or_none cells (if_lost (place_image a e p) p)
+
+-- of a cell that goes nowhere no tree is kept
+stays_none : (v : Option Cell) (f : Cell → Option Node) → ((cell : Cell) → f cell ≡ None) → ◌≡◌ {A = Option Node} None (if_there v f)
+stays_none None f h = refl
+stays_none (Some cell) f h = sym (h cell)
+
+-- kept trees are those that their cells' formulas do not get back
+pub get-kept_trees : (w : Way) → IsAxis w.along → IsValid w.along.last w.kind → (cells : FinMap position_cmp Cell) (p : Position) → get (kept_trees w cells) p ≡ if_there (get cells p) (kept_tree w p)
+unfolding kept_trees kept_tree
+get-kept_trees w l valid cells p =
+    get-parts_map position_cmp position_total exact_positions (place_goes w) (place_goes (back w)) (goes_inverse w l valid) (kept_tree w) cells p ∙ either (place_goes w p) refl
+  where
+    either : (o : Option Position) → place_goes w p ≡ o → if_there (if_goes o p) (λ p. if_there (get cells p) (kept_tree w p)) ≡ if_there (get cells p) (kept_tree w p)
+    either None h = stays_none (get cells p) (kept_tree w p) (λ cell. ap (λ o. if_there o (λ to. if_there (tree_of cell.content) (λ tree. unless_back (there_and_back w p to tree) tree))) h)
+    either (Some q) h = refl

@@ -1,0 +1,103 @@
+ghost use Rattle.std.specs.Prelude.{◌≡◌, IfOk, IsOkUnless};
+ghost use Rattle.std.specs.Option.{option_copied};
+ghost use Rattle.base_values.specs.Places.{IsPlace};
+ghost use Rattle.base_values.specs.declared.EditError.TheVariants.{NoMemory};
+ghost use Rattle.sheet_lines.specs.Way.{way};
+ghost use Rattle.sheet_lines.specs.Followed.{content_followed, cell_followed, with_tree_by};
+ghost use Rattle.sheet_lines.specs.Kept.{tree_of};
+ghost use Rattle.sheet_lines.specs.Back.{with_tree};
+
+use crate::sheet_edit::{SheetEdit, followed_tree, place_goes};
+use base_axis::Axis;
+use base_values::{EditError, Position, copy_of};
+use formula_content::Content;
+use formula_tree::Node;
+use sheet_grid::Cell;
+use std::alloc::Global;
+
+/// A content that goes from a place to a place.
+fn followed_content<A: Axis>(
+    alloc: Global,
+    by: &SheetEdit<'_, A>,
+    from: Position,
+    to: Position,
+    content: &Content,
+) -> Result<Content, EditError>
+    requires { IsPlace to }
+    ensures content { IfOk result (λ followed. followed ≡ content_followed (way A.along by.now.edit.kind by.now.own.now by.now.edited.now by.now.is_edited) from to content.now) }
+    ensures only { IsOkUnless result NoMemory }
+{
+    match content {
+        Content::Empty | Content::Number(_) => copy_of(content),
+        Content::Boolean(_) | Content::Error(_) | Content::Text(_) => copy_of(content),
+        Content::Formula(tree) => {
+            Ok(Content::Formula(followed_tree(alloc, by, from, to, tree)?))
+        }
+        Content::Dynamic(tree) => {
+            Ok(Content::Dynamic(followed_tree(alloc, by, from, to, tree)?))
+        }
+    }
+}
+
+/// A cell with another content.
+fn with_content(cell: &Cell, content: Content) -> Result<Cell, EditError>
+    ensures cell { IfOk result (λ changed. changed ≡ record cell.now { content = content }) }
+    ensures only { IsOkUnless result NoMemory }
+{
+    let style = copy_of(&cell.style)?;
+    Ok(Cell { content, style })
+}
+
+/// The cell of a place.
+#[tactic(auto, unfolding(crate::specs::Followed::cell_followed))]
+pub fn followed_cell<A: Axis>(
+    alloc: Global,
+    by: &SheetEdit<'_, A>,
+    from: Position,
+    cell: &Cell,
+) -> Result<Cell, EditError>
+    requires { IsPlace from }
+    ensures cell { IfOk result (λ followed. followed ≡ cell_followed (way A.along by.now.edit.kind by.now.own.now by.now.edited.now by.now.is_edited) from cell.now) }
+    ensures only { IsOkUnless result NoMemory }
+{
+    match place_goes(by, from) {
+        None => copy_of(cell),
+        Some(to) => {
+            let content = followed_content(alloc, by, from, to, &cell.content)?;
+            with_content(cell, content)
+        }
+    }
+}
+
+/// The tree of a formula.
+pub fn tree_of(content: &Content) -> Option<&Node>
+    ensures { option_copied result ≡ tree_of content.now }
+{
+    match content {
+        Content::Empty | Content::Number(_) => None,
+        Content::Boolean(_) | Content::Error(_) | Content::Text(_) => None,
+        Content::Formula(tree) | Content::Dynamic(tree) => Some(tree),
+    }
+}
+
+/// A content with that tree in place of its formula's.
+fn content_with_tree(content: &Content, tree: &Node) -> Result<Content, EditError>
+    ensures content { IfOk result (λ changed. changed ≡ with_tree_by (λ _. tree.now) content.now) }
+    ensures only { IsOkUnless result NoMemory }
+{
+    match content {
+        Content::Empty | Content::Number(_) => copy_of(content),
+        Content::Boolean(_) | Content::Error(_) | Content::Text(_) => copy_of(content),
+        Content::Formula(_) => Ok(Content::Formula(copy_of(tree)?)),
+        Content::Dynamic(_) => Ok(Content::Dynamic(copy_of(tree)?)),
+    }
+}
+
+/// A cell with that tree in place of its formula's.
+pub fn with_tree(cell: &Cell, tree: &Node) -> Result<Cell, EditError>
+    ensures cell { IfOk result (λ changed. changed ≡ with_tree cell.now tree.now) }
+    ensures only { IsOkUnless result NoMemory }
+{
+    let content = content_with_tree(&cell.content, tree)?;
+    with_content(cell, content)
+}

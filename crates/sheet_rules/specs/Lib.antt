@@ -1,0 +1,2 @@
+pub mod SheetNames
+pub mod WellFormed

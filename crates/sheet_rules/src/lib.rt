@@ -1,0 +1,13 @@
+//! Whether a workbook is well-formed.
+//!
+//! The layers above see the first rule that a workbook breaks, and that it breaks none.
+#![tactic(auto)]
+
+mod attributes;
+mod names;
+mod rules;
+
+pub use rules::{broken_rule, is_well_formed};
+
+#[cfg(test)]
+mod tests;

@@ -1,13 +1,13 @@
 -- The greatest line of a sheet is that of its dimension.
-use Rattle.std.proofs.Common.{◌≡◌, ◌≢◌, ℤ, pos, ◌≤ℤ◌, List, [], ◌∷◌, map, refl, sym, ap, subst, ◌∙◌, arith, ⊎_elim}
+use Rattle.std.proofs.Common.{◌≡◌, ◌≢◌, ℤ, pos, ◌≤ℤ◌, List, [], ◌∷◌, map, refl, sym, ap, subst, arith, ⊎_elim}
 use Rattle.std.proofs.lemmas.Int.{ints, fold-int_max_bounds, fold-int_max_reached}
 use Rattle.std.specs.Int.{int_max}
-use Rattle.std.specs.List.{All, Contains, fold}
+use Rattle.std.specs.List.{All, fold}
 use Rattle.std.proofs.lemmas.List.Elements.{All-contains, All-map, All-weaker}
 use Rattle.std.specs.FinMap.{entries, keys}
 use Rattle.base_values.specs.declared.Position.{Position}
 use Rattle.base_values.specs.Places.{IsPlace}
-use Rattle.base_axis.specs.Along.{Along, IsAxis, rows, columns}
+use Rattle.base_axis.specs.Along.{Along, IsAxis}
 use Rattle.sheet_grid.specs.declared.WorksheetDimension.{WorksheetDimension}
 use Rattle.sheet_grid.specs.Dimension.{IsGreatest, IsLeastRectangle, first_place}
 use Rattle.sheet_grid.specs.Sheet.{Sheet}

@@ -1,5 +1,5 @@
 -- Moving corners keeps a tree's numbers, by each rule.
-use Rattle.std.specs.Prelude.{◌≡◌, ℕ, Bool, true, ◌&&◌, List, [], ◌∷◌, map, Option, Some, None}
+use Rattle.std.specs.Prelude.{◌≡◌, ℕ, true, ◌&&◌, List, [], ◌∷◌, map, Option, Some, None}
 use Rattle.std.proofs.Common.{refl, ap, sym, ◌∙◌}
 use Rattle.std.specs.List.{AllByRecursion, list_all}
 use Rattle.base_values.specs.declared.Position.{Position}
@@ -11,7 +11,7 @@ use Rattle.formula_tree.specs.Induction.{induct}
 use Rattle.formula_tree.specs.Corners.{lower_corner, higher_corner}
 use Rattle.formula_tree.specs.declared.numbers.NumberRule.{NumberRule}
 use Rattle.formula_tree.specs.Numbers.{numbers_follow}
-use Rattle.formula_tree.specs.NumbersEquations.{numbers_boolean, numbers_number, numbers_text, numbers_reference, numbers_range, numbers_colon, numbers_concatenate, numbers_compare, numbers_sum, numbers_product, numbers_power, numbers_unary, numbers_call, numbers_named_call, numbers_array, numbers_name, numbers_error, numbers_parse_error, numbers_empty_argument, numbers_spill, numbers_lambda, numbers_lambda_call, numbers_implicit_intersection}
+use Rattle.formula_tree.specs.NumbersEquations.{numbers_reference, numbers_range, numbers_colon, numbers_concatenate, numbers_compare, numbers_sum, numbers_product, numbers_power, numbers_unary, numbers_call, numbers_named_call, numbers_error, numbers_spill, numbers_lambda, numbers_lambda_call, numbers_implicit_intersection}
 use Rattle.formula_tree.specs.Moved.{Mapping, moved, reference_to, range_to}
 use Rattle.formula_tree.specs.MovedEquations.{moved_boolean, moved_number, moved_text, moved_reference, moved_range, moved_colon, moved_concatenate, moved_compare, moved_sum, moved_product, moved_power, moved_unary, moved_call, moved_named_call, moved_array, moved_name, moved_error, moved_parse_error, moved_empty_argument, moved_spill, moved_lambda, moved_lambda_call, moved_implicit_intersection}
 

@@ -6,6 +6,7 @@ ghost use Rattle.base_axis.specs.Along.{rows};
 ghost use Rattle.line_map.specs.Areas.{last_line};
 ghost use Rattle.line_map.specs.Edit.{IsValid};
 ghost use Rattle.line_map.specs.declared.EditKind.TheVariants.{Insert, Delete};
+ghost use Rattle.sheet_lines.specs.Followed.{sheet_of};
 ghost use Rattle.sheet_actions.specs.GreatestLine.{greatest_line};
 ghost use Rattle.sheet_actions.specs.Planned.{first_of, count_of, within_edge, edit_allowed, lines_planned};
 
@@ -121,6 +122,18 @@ fn planned<A: Axis>(
     Ok((found.get_sheet_id(), LineEdit::new(edit)))
 }
 
+fn planned_rows(
+    workbook: &Workbook,
+    sheet: u32,
+    kind: EditKind,
+) -> Result<(u32, LineEdit<RowAxis>), EditError>
+    ensures planned { map_ok (λ plan. (plan.0, plan.1.kind)) result ≡ lines_planned rows InvalidRow kind sheet workbook.now }
+    ensures valid { IfOk result (λ plan. IsValid rows.last plan.1.kind) }
+    ensures there { IfOk result (λ plan. IsTrue (is_some (sheet_of workbook.now plan.0))) }
+{
+    planned(workbook, sheet, kind, EditError::InvalidRow)
+}
+
 /// The edit that inserts `count` empty rows at a row of the sheet at an index, and the id of that
 /// sheet. It takes no memory.
 ///
@@ -135,9 +148,11 @@ pub fn plan_insert(
     count: i32,
 ) -> Result<(u32, LineEdit<RowAxis>), EditError>
     ensures planned { map_ok (λ plan. (plan.0, plan.1.kind)) result ≡ lines_planned rows InvalidRow (Insert row count) sheet workbook.now }
+    ensures valid { IfOk result (λ plan. IsValid rows.last plan.1.kind) }
+    ensures there { IfOk result (λ plan. IsTrue (is_some (sheet_of workbook.now plan.0))) }
 {
-    let kind = EditKind::Insert { first: row, count };
-    planned(workbook, sheet, kind, EditError::InvalidRow)
+    let first = row;
+    planned_rows(workbook, sheet, EditKind::Insert { first, count })
 }
 
 /// The edit that deletes `count` rows from a row on of the sheet at an index, and the id of that
@@ -153,7 +168,9 @@ pub fn plan_delete(
     count: i32,
 ) -> Result<(u32, LineEdit<RowAxis>), EditError>
     ensures planned { map_ok (λ plan. (plan.0, plan.1.kind)) result ≡ lines_planned rows InvalidRow (Delete row count) sheet workbook.now }
+    ensures valid { IfOk result (λ plan. IsValid rows.last plan.1.kind) }
+    ensures there { IfOk result (λ plan. IsTrue (is_some (sheet_of workbook.now plan.0))) }
 {
-    let kind = EditKind::Delete { first: row, count };
-    planned(workbook, sheet, kind, EditError::InvalidRow)
+    let first = row;
+    planned_rows(workbook, sheet, EditKind::Delete { first, count })
 }

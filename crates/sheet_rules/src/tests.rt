@@ -1,0 +1,164 @@
+// Which rule workbooks break. What is expected was taken from the rules of docs/MODEL.md.
+use crate::broken_rule;
+use base_styles::Style;
+use base_tables::{Locale, Zone};
+use base_values::{EditError, Items, Text};
+use formula_content::Content;
+use formula_tree::{Corner, Node, has_kept_numbers};
+use sheet_grid::{Cell, ColumnAttr, RowAttr, Workbook, Worksheet};
+use std::alloc::Global;
+use std::test::Fail;
+
+fn named(alloc: Global, id: u32, name: &str) -> Result<Worksheet, EditError> {
+    let name = Text::new(String::from_str(alloc, name)?);
+    Ok(Worksheet::new(alloc, id, name))
+}
+
+fn broken(alloc: Global, sheets: Items<Worksheet>) -> Result<Option<u8>, EditError> {
+    let empty = Workbook::new_empty(alloc, "book", Locale::En, Zone::Utc)?;
+    let book = empty.with_worksheets(sheets)?;
+    Ok(broken_rule(&book))
+}
+
+/// The rule that a new workbook breaks.
+fn broken_by_new(alloc: Global) -> Result<Option<u8>, EditError> {
+    let new = Workbook::new_empty(alloc, "book", Locale::En, Zone::Utc)?;
+    Ok(broken_rule(&new))
+}
+
+/// The rule that a workbook of two empty sheets breaks: `Sheet1` of id 1, and this one.
+fn broken_beside(alloc: Global, id: u32, name: &str) -> Result<Option<u8>, EditError> {
+    let mut sheets = Items::empty(alloc);
+    sheets.push(named(alloc, 1, "Sheet1")?)?;
+    sheets.push(named(alloc, id, name)?)?;
+    broken(alloc, sheets)
+}
+
+/// Which sheets may stand beside each other, and under which names.
+#[test]
+fn sheets(rt: HostRuntime) -> Result<(), Fail> {
+    assert_eq!(rt; broken_by_new(rt.alloc())?, None);
+    for (id, name, rule) in [
+        (2, "Sheet2", None),
+        (1, "Sheet2", Some(1)),
+        (2, "sHEET1", Some(1)),
+        (2, "", Some(1)),
+        (2, "ééééééééééééééééééééééééééééééé", None),
+        (2, "abcdefghijklmnopqrstuvwxyz123456", Some(1)),
+        (2, "'a", Some(1)),
+        (2, "a'", Some(1)),
+        (2, "a'b", None),
+        (2, "a[b", Some(1)),
+        (2, "a\\b", Some(1)),
+    ] {
+        assert_eq!(rt; broken_beside(rt.alloc(), id, name)?, rule, "at {name}");
+    }
+    Ok(())
+}
+
+/// What is put at the first place, row or column of a sheet.
+#[derive(Clone, Copy)]
+enum Entry {
+    /// A row of this height.
+    Height(i32),
+    /// A column of this width.
+    Width(i32),
+    /// A row of the default style.
+    StyledRow,
+    /// A column of the default style.
+    StyledColumn,
+    /// An empty cell of this font size.
+    Font(i32),
+    /// A formula that leads so many rows down.
+    Formula(i32),
+}
+
+fn put_row(
+    sheet: &mut Worksheet,
+    height: Option<i32>,
+    style: Option<Style>,
+) -> Result<(), EditError> {
+    let hidden = false;
+    let attr = RowAttr {
+        height,
+        style,
+        hidden,
+    };
+    sheet.put_row(1, Some(attr))
+}
+
+fn put_column(
+    sheet: &mut Worksheet,
+    width: Option<i32>,
+    style: Option<Style>,
+) -> Result<(), EditError> {
+    let hidden = false;
+    let attr = ColumnAttr {
+        width,
+        style,
+        hidden,
+    };
+    sheet.put_column(1, Some(attr))
+}
+
+fn put_font(alloc: Global, sheet: &mut Worksheet, size: i32) -> Result<(), EditError> {
+    let mut style = Style::new(alloc)?;
+    style.font.sz = size;
+    let content = Content::Empty;
+    sheet.put_cell(1, 1, Some(Cell { content, style }))
+}
+
+fn put_formula(alloc: Global, sheet: &mut Worksheet, row: i32) -> Result<(), EditError> {
+    let style = Style::new(alloc)?;
+    let corner = Corner {
+        absolute_row: false,
+        row,
+        absolute_column: false,
+        column: 0,
+    };
+    let tree = Node::Reference(None, corner);
+    if has_kept_numbers(&tree) {
+        sheet.set_cell_with_formula(1, 1, tree, &style)?;
+    }
+    Ok(())
+}
+
+fn put(alloc: Global, sheet: &mut Worksheet, entry: Entry) -> Result<(), EditError> {
+    match entry {
+        Entry::Height(height) => put_row(sheet, Some(height), None),
+        Entry::Width(width) => put_column(sheet, Some(width), None),
+        Entry::StyledRow => put_row(sheet, None, Some(Style::new(alloc)?)),
+        Entry::StyledColumn => put_column(sheet, None, Some(Style::new(alloc)?)),
+        Entry::Font(size) => put_font(alloc, sheet, size),
+        Entry::Formula(row) => put_formula(alloc, sheet, row),
+    }
+}
+
+/// The rule that a workbook of one sheet with this in it breaks.
+fn broken_by(alloc: Global, entry: Entry) -> Result<Option<u8>, EditError> {
+    let mut sheet = named(alloc, 1, "Sheet1")?;
+    put(alloc, &mut sheet, entry)?;
+    let mut sheets = Items::empty(alloc);
+    sheets.push(sheet)?;
+    broken(alloc, sheets)
+}
+
+/// What may stand in a sheet.
+#[test]
+fn entries(rt: HostRuntime) -> Result<(), Fail> {
+    for (entry, rule) in [
+        (Entry::Formula(1), None),
+        (Entry::Formula(-1), Some(6)),
+        (Entry::Height(0), None),
+        (Entry::Height(-1), Some(7)),
+        (Entry::StyledRow, Some(7)),
+        (Entry::StyledColumn, None),
+        (Entry::Width(249), None),
+        (Entry::Width(250), Some(7)),
+        (Entry::Font(1), None),
+        (Entry::Font(0), Some(7)),
+    ] {
+        assert_eq!(rt; broken_by(rt.alloc(), entry)?, rule);
+    }
+    Ok(())
+}

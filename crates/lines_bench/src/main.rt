@@ -37,7 +37,12 @@ fn formula(alloc: Global) -> Result<Node, AllocError> {
     Ok(Node::Sum(SumKind::Add, left, right))
 }
 
-fn put_formula(alloc: Global, sheet: &mut Worksheet, row: i32, style: &Style) -> Result<(), EditError> {
+fn put_formula(
+    alloc: Global,
+    sheet: &mut Worksheet,
+    row: i32,
+    style: &Style,
+) -> Result<(), EditError> {
     let tree = formula(alloc)?;
     if has_kept_numbers(&tree) {
         sheet.set_cell_with_formula(row, 3, tree, style)?;
@@ -58,11 +63,11 @@ fn workbook_of(alloc: Global, count: i32) -> Result<Workbook, EditError> {
 
 /// Two rows come before a row.
 #[tactic(auto, unfolding(line_map::specs::Edit::IsValid))]
-fn insertion(row: i32) -> Result<LineEdit<RowAxis>, EditError>
-    ensures { IfOk result (λ edit. IsValid RowAxis.along.last edit.kind) }
+fn insertion<A: Axis>(row: i32) -> Result<LineEdit<A>, EditError>
+    ensures { IfOk result (λ edit. IsValid A.along.last edit.kind) }
 {
-    let first = line_of(RowAxis::LAST, row, EditError::InvalidRow)?;
-    let count = line_of(RowAxis::LAST, 2, EditError::BadCount)?;
+    let first = line_of(A::LAST, row, EditError::InvalidRow)?;
+    let count = line_of(A::LAST, 2, EditError::BadCount)?;
     Ok(LineEdit::new(EditKind::Insert { first, count }))
 }
 
@@ -72,7 +77,7 @@ fn cells_of(book: &Workbook) -> Result<usize, EditError> {
 
 /// How many cells there are after the last of these insertions.
 fn inserted(alloc: Global, book: &Workbook, rounds: usize) -> Result<usize, EditError> {
-    let edit = insertion(2)?;
+    let edit = insertion::<RowAxis>(2)?;
     let mut cells = 0;
     for _ in 0..rounds {
         if has_sheet(book, 1) {
@@ -85,7 +90,7 @@ fn inserted(alloc: Global, book: &Workbook, rounds: usize) -> Result<usize, Edit
 
 /// How many cells there are after the last time that an insertion was taken back.
 fn taken_back(alloc: Global, book: &Workbook, rounds: usize) -> Result<usize, EditError> {
-    let edit = insertion(2)?;
+    let edit = insertion::<RowAxis>(2)?;
     if !has_sheet(book, 1) {
         return Ok(0);
     }

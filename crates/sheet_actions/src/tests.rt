@@ -1,12 +1,18 @@
 // Rows of a model inserted and deleted, and what is refused. What stands where was worked out by hand
 // from docs/MODEL.md.
-use crate::Model;
+ghost use Rattle.base_axis.specs.Along.{rows};
+ghost use Rattle.line_map.specs.Edit.{IsValid};
+
+use crate::{Model, line_back, line_edit, plan_delete, plan_insert};
+use base_axis::RowAxis;
 use base_styles::Style;
 use base_tables::{Error, Locale, Zone};
 use base_values::{EditError, Items, LAST_ROW, Text, same};
 use formula_content::Content;
 use formula_tree::{Corner, Node, has_kept_numbers};
+use line_map::LineEdit;
 use sheet_grid::{Link, RowAttr, Workbook, Worksheet};
+use sheet_lines::has_sheet;
 use std::alloc::{AllocError, Global};
 use std::test::Fail;
 
@@ -29,6 +35,40 @@ fn answers(
         model.insert_rows(sheet, row, count),
         model.delete_rows(sheet, row, count),
     )
+}
+
+/// Whether an edit changes the workbook, and going back with what was kept gives it.
+fn comes_back(
+    alloc: Global,
+    book: &Workbook,
+    id: u32,
+    edit: &LineEdit<RowAxis>,
+) -> Result<bool, EditError>
+    requires { IsValid rows.last edit.now.kind }
+{
+    if !has_sheet(book, id) {
+        return Ok(false);
+    }
+    let (after, kept) = line_edit(alloc, book, id, edit)?;
+    if after == *book || !has_sheet(&after, id) {
+        return Ok(false);
+    }
+    let again = line_back(alloc, &after, id, edit, &kept)?;
+    Ok(again == *book)
+}
+
+/// Rows of the second of three sheets come and go back, and go and come back.
+#[test]
+fn three_sheets_come_back(rt: HostRuntime) -> Result<(), Fail> {
+    let alloc = rt.alloc();
+    let book = three_sheets(alloc)?;
+    for (row, count) in [(3, 2), (1, 5), (5, 1), (1, LAST_ROW - 5)] {
+        let (id, edit) = plan_insert(&book, 1, row, count)?;
+        assert!(rt; comes_back(alloc, &book, id, &edit)?);
+        let (id, edit) = plan_delete(&book, 1, row, count)?;
+        assert!(rt; comes_back(alloc, &book, id, &edit)?);
+    }
+    Ok(())
 }
 
 /// Two sheets of one id.

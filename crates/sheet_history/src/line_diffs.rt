@@ -1,6 +1,6 @@
 //! Diffs of lines: whether they can be made and taken back, and what they do.
 
-ghost use Rattle.std.specs.Prelude.{◌≡◌, ◌&&◌, ◌==◌, IsTrue, Some, is_none, is_some, not};
+ghost use Rattle.std.specs.Prelude.{◌≡◌, ◌&&◌, ◌+ℤ◌, IsTrue, Some, int_lt, is_none, is_some, not};
 ghost use Rattle.std.specs.List.{list_all};
 ghost use Rattle.std.specs.Option.{option_copied};
 ghost use Rattle.std.specs.FinMap.{entries};
@@ -51,12 +51,18 @@ fn is_valid(last: i32, kind: EditKind) -> bool
     }
 }
 
+fn is_past(last: i32, line: i32, count: i32) -> bool
+    ensures { result ≡ int_lt last (line +ℤ count) }
+{
+    i64::from(last) < i64::from(line) + i64::from(count)
+}
+
 /// Whether an insertion takes a place past the last line.
 fn is_pushed_past<A: Axis>(first: i32, count: i32, place: Position) -> bool
     ensures { result ≡ is_pushed_past A.along first count place }
 {
     let line = A::line(place);
-    first <= line && i64::from(A::LAST) < i64::from(line) + i64::from(count)
+    first <= line && is_past(A::LAST, line, count)
 }
 
 fn none_pushed<A: Axis>(first: i32, count: i32, sheet: &Worksheet) -> bool

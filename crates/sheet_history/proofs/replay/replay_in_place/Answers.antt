@@ -9,7 +9,7 @@ loop-index-preserved c =
     let entry = c.index-queue-index.result in
     let at = c.loop-index.index in
     let within : at < length c.args.queue.now = search rules in
-    let followed : in_entry at (follow entry.kind c.loop-index.workbook entry.list) ≡ Ok c.follow_by_rule.new.workbook = (c.in_ok-follow_by_rule.ensures.followed {u = _}).done in (
+    let followed : in_entry at (follow entry.kind c.loop-index.workbook entry.list) ≡ Ok c.follow_by_rule.new.workbook = (c.in_ok-follow_by_rule.ensures {u = _}).followed.done in (
       replayed-take c.args.workbook.now c.args.queue.now at entry within c.index-queue-index.is
           ∙ ap (λ r. and_then r (λ book. in_entry at (follow entry.kind book entry.list))) c.loop-index.invariant.0 ∙ followed,
       sym (replayed_from-drop at c.loop-index.workbook c.args.queue.now at entry within c.index-queue-index.is ∙ ap (λ r. and_then r (λ next. replayed_from (at + 1) next (drop (at + 1) c.args.queue.now))) followed)

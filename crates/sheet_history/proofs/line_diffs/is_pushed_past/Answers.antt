@@ -1,4 +1,4 @@
-use Rattle.std.proofs.Common.{◌≡◌, ℤ, ◌+ℤ◌, ◌∙◌, ◌&&◌, ap, sym, rules, to_z, of_z, w32, SFits, true}
+use Rattle.std.proofs.Common.{◌≡◌, ◌+ℤ◌, ◌∙◌, ◌&&◌, sym, rules, to_z, of_z, w32, SFits, true}
 use Rattle.std.specs.Prelude.{int_lt, int_le}
 use Rattle.std.proofs.lemmas.Int.{to_z-of_z}
 use Rattle.sheet_history.proofs.line_diffs.is_pushed_past.Goals as goal

@@ -1,6 +1,6 @@
-use Rattle.std.proofs.Common.{◌≡◌, ◌+◌, ◌<◌, length, drop, ap, sym, ◌∙◌, Ok, arith, rules}
+use Rattle.std.proofs.Common.{◌≡◌, ◌+◌, ◌<◌, length, drop, ap, sym, ◌∙◌, Ok, rules}
 use Rattle.base_values.specs.Answers.{and_then}
-use Rattle.sheet_history.specs.Diffs.{follow, in_entry, replayed, replayed_from}
+use Rattle.sheet_history.specs.Diffs.{follow, in_entry, replayed_from}
 use Rattle.sheet_history.proofs.ReplayLemmas.{replayed-take, replayed_from-drop}
 use Rattle.sheet_history.proofs.replay.replay_in_place.Goals as goal
 

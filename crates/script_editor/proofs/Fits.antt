@@ -17,8 +17,8 @@ use Rattle.sheet_grid.specs.FittingCells.{entry_fits_at}
 use Rattle.sheet_grid.specs.FittingLaws.{sheets_fit-new, sheets_fit-set}
 use Rattle.sheet_grid.specs.Sheet.{Sheet, with_cell, style_of, new_sheet}
 use Rattle.sheet_grid.specs.Book.{Book, index_of, with_sheet}
-use Rattle.sheet_wire.specs.CellBytes.{FitsCell, FitsContent}
-use Rattle.sheet_wire.specs.Fitting.{default_style_fits}
+use Rattle.cell_wire.specs.CellBytes.{FitsCell, FitsContent}
+use Rattle.cell_wire.specs.Fitting.{default_style_fits}
 use Rattle.script_editor.specs.Inputs.{new_cell, entered}
 use Rattle.script_editor.specs.Machine.{first_book}
 use Rattle.script_editor.specs.Sound.{IsFit, IsFitSheet}

@@ -19,7 +19,7 @@ use Rattle.sheet_grid.specs.Book.{Book, sheet_at}
 use Rattle.sheet_history.specs.declared.Diff.TheVariants.{Cell as CellDiff}
 use Rattle.sheet_history.specs.Diffs.{forwarded, backed}
 use Rattle.sheet_history.specs.Records.{IsRecord}
-use Rattle.sheet_wire.specs.CellBytes.{FitsContent, FitsCell, FitsPosition}
+use Rattle.cell_wire.specs.CellBytes.{FitsContent, FitsCell, FitsPosition}
 use Rattle.sheet_wire.specs.QueueBytes.{FitsList}
 use Rattle.sheet_wire.specs.Fitting.{cell_list_fits}
 use Rattle.script_editor.specs.Inputs.{input_put, cell_change, place_change}

@@ -9,7 +9,7 @@ use Rattle.sheet_grid.specs.Sheet.{Sheet}
 use Rattle.sheet_grid.specs.Book.{Book, index_of}
 use Rattle.sheet_history.specs.Diffs.{forwarded, backed, replayed}
 use Rattle.sheet_history.specs.Records.{IsRecord}
-use Rattle.sheet_wire.specs.CellBytes.{FitsCell}
+use Rattle.cell_wire.specs.CellBytes.{FitsCell}
 use Rattle.sheet_wire.specs.QueueBytes.{FitsList, FitsEntry}
 use Rattle.script_editor.specs.Machine.{Step, State, step_record, entry_of}
 

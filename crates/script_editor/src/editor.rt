@@ -19,11 +19,12 @@ ghost use Rattle.script_editor.specs.Machine.Edit.{Input};
 use base_styles::Style;
 use base_tables::{Locale, Zone};
 use base_values::{EditError, Items, Position, copy_of, place_of};
+use cell_wire::content_fits;
 use sheet_grid::{Cell, Content, Workbook};
 use sheet_history::{
     Diff, DiffList, DiffType, History, QueueDiffs, back_in_place, forward_in_place,
 };
-use sheet_wire::{content_fits, encode_queue};
+use sheet_wire::encode_queue;
 use std::alloc::Global;
 
 /// A workbook with undo, redo and a queue of what other copies have not had yet. Every cell of the

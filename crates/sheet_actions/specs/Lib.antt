@@ -6,7 +6,6 @@ pub mod FollowedTrees
 pub mod FollowedWellFormed
 pub mod GreatestLaws
 pub mod GreatestLine
-pub mod MovedNumbers
 pub mod Planned
 pub mod PlannedLaws
 pub mod Shown

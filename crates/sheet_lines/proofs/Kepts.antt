@@ -60,8 +60,8 @@ content_kept w p q (Number number) h = h
 content_kept w p q (Boolean truth) h = h
 content_kept w p q (Error error) h = h
 content_kept w p q (Text text) h = h
-content_kept w p q (Formula tree) h = numbers-moved q (following w.along w.kind p q w.own w.edited) tree ∙ h
-content_kept w p q (Dynamic tree) h = numbers-moved q (following w.along w.kind p q w.own w.edited) tree ∙ h
+content_kept w p q (Formula tree) h = numbers-moved _ q (following w.along w.kind p q w.own w.edited) tree ∙ h
+content_kept w p q (Dynamic tree) h = numbers-moved _ q (following w.along w.kind p q w.own w.edited) tree ∙ h
 
 moved_kept : (w : Way) (p : Position) (o : Option Position) (cell : Cell) → IsKeptCell cell → IsKeptCell (cell_moved w p o cell)
 moved_kept w p None cell h = h

@@ -3,4 +3,9 @@ mod Fits
 mod InputLaws
 mod InputRecord
 mod InputSteps
+mod KeptShallow
+mod Own
+mod RowPlans
+mod RowSteps
 mod Sounds
+mod Tested

@@ -6,4 +6,4 @@ use Rattle.sheet_lines.proofs.lines.lost_lines.Given as goal
 
 abbrev pub invariant-loop-line : goal.invariant-loop-line
 invariant-loop-line g l =
-    l.made ≡ laid (λ p. if_lost (line_image g.A.Axis.along l.edit.kind l.is_along p) p) (λ p. if_there (get l.map p) Some) (take l.line-index l.lines) empty
+    l.made ≡ laid (λ p. if_lost (line_image g.A.Axis.along l.edit.kind l.is_along p) p) (λ p. if_there (get l.map p) Some) (take l.line-index l.line-items) empty

@@ -4,4 +4,4 @@ use Rattle.line_map.specs.Carried.{laid}
 use Rattle.sheet_lines.proofs.lines.overlaid_lines.Given as goal
 
 abbrev pub invariant-loop-line : goal.invariant-loop-line
-invariant-loop-line g l = l.made ≡ laid Some (get l.entries) (take l.line-index l.lines) l.fn.map
+invariant-loop-line g l = l.made ≡ laid Some (get l.entries) (take l.line-index l.line-items) l.fn.map

@@ -1,2 +1,5 @@
+pub mod DefaultParts
+pub mod EntryLaws
 pub mod SheetNames
 pub mod WellFormed
+pub mod WellFormedLaws

@@ -4,9 +4,12 @@
 #![tactic(auto)]
 
 mod attributes;
+mod default_style;
+mod ids;
 mod names;
 mod rules;
 
+pub use names::is_sheet_name;
 pub use rules::{broken_rule, is_well_formed};
 
 #[cfg(test)]

@@ -1,14 +1,83 @@
 ghost use Rattle.std.specs.Prelude.{◌≡◌, is_none};
-ghost use Rattle.sheet_rules.specs.WellFormed.{broken_rule};
+ghost use Rattle.std.specs.List.{list_all};
+ghost use Rattle.sheet_rules.specs.WellFormed.{are_sheets, have_trees, have_attributes, is_count, are_frozen, broken_rule};
 
-use sheet_grid::Workbook;
+use crate::attributes::have_attributes;
+use crate::ids::have_distinct_ids;
+use crate::names::{have_distinct_names, have_names};
+use base_values::{LAST_COLUMN, LAST_ROW};
+use formula_content::fits_at;
+use sheet_grid::{Workbook, Worksheet};
+
+/// Rule 1: there is a sheet, ids are distinct, names are legal and distinct by case folding.
+#[tactic(auto, unfolding(crate::specs::WellFormed::are_sheets))]
+fn are_sheets(sheets: &[Worksheet]) -> bool
+    ensures { result ≡ are_sheets sheets.now }
+{
+    !sheets.is_empty()
+        && have_distinct_ids(sheets)
+        && have_names(sheets)
+        && have_distinct_names(sheets)
+}
+
+/// Rule 6: each formula may stand at its place.
+#[tactic(auto, unfolding(crate::specs::WellFormed::have_trees))]
+fn have_trees(sheet: &Worksheet) -> bool
+    ensures { result ≡ have_trees sheet.now }
+{
+    sheet
+        .cells()
+        .all(|(place, cell)| fits_at(*place, &cell.content))
+}
+
+fn all_have_trees(sheets: &[Worksheet]) -> bool
+    ensures { result ≡ list_all have_trees sheets.now }
+{
+    sheets.iter().all(have_trees)
+}
+
+fn all_have_attributes(sheets: &[Worksheet]) -> bool
+    ensures { result ≡ list_all have_attributes sheets.now }
+{
+    sheets.iter().all(have_attributes)
+}
+
+fn is_count(most: i32, count: i32) -> bool
+    ensures { result ≡ is_count most count }
+{
+    0 <= count && count <= most
+}
+
+/// Rule 9: fewer lines than the sheet has stay at its top and at its left.
+fn are_frozen(sheet: &Worksheet) -> bool
+    ensures { result ≡ are_frozen sheet.now }
+{
+    is_count(LAST_ROW - 1, sheet.frozen_rows()) && is_count(LAST_COLUMN - 1, sheet.frozen_columns())
+}
+
+fn all_are_frozen(sheets: &[Worksheet]) -> bool
+    ensures { result ≡ list_all are_frozen sheets.now }
+{
+    sheets.iter().all(are_frozen)
+}
 
 /// The number of the first rule that a workbook breaks, or none. It takes no memory.
 /// docs/MODEL.md has the rules with their numbers.
 pub fn broken_rule(workbook: &Workbook) -> Option<u8>
     ensures { result ≡ broken_rule workbook.now }
 {
-    unreachable!()
+    let sheets = workbook.worksheets();
+    if !are_sheets(sheets) {
+        Some(1)
+    } else if !all_have_trees(sheets) {
+        Some(6)
+    } else if !all_have_attributes(sheets) {
+        Some(7)
+    } else if !all_are_frozen(sheets) {
+        Some(9)
+    } else {
+        None
+    }
 }
 
 /// Whether a workbook breaks no rule. It takes no memory. docs/MODEL.md has the rules.

@@ -1,0 +1,122 @@
+-- What a workbook has that breaks no rule.
+use Rattle.std.proofs.Common.{◌≡◌, ℕ, ℤ, Bool, true, false, not, ◌&&◌, ◌||◌, List, [], ◌∷◌, map, length, Option, Some, None, refl, ap, sym, ◌∙◌, arith}
+use Rattle.std.specs.Prelude.{◌↔◌, ◌==◌, codes, if◌then◌else◌}
+use Rattle.std.specs.List.{list_all, list_any, IsDistinct, AllByRecursion}
+use Rattle.std.specs.Str.{chars}
+use Rattle.std.specs.Ordering.{int_cmp}
+use Rattle.std.specs.declared.cmp.Ordering.{Ordering}
+use Rattle.std.specs.FinMap.{entries, empty, len-entries, len-empty}
+use Rattle.std.proofs.lemmas.List.Elements.{All-from_recursion}
+use Rattle.base_values.specs.declared.Position.{Position}
+use Rattle.base_values.specs.Places.{position_cmp, position_total, exact_positions}
+use Rattle.base_tables.specs.declared.Locale.{Locale}
+use Rattle.base_tables.specs.declared.Zone.{Zone}
+use Rattle.formula_content.specs.Fitting.{fits_at}
+use Rattle.sheet_grid.specs.declared.Cell.{Cell}
+use Rattle.sheet_grid.specs.declared.RowAttr.{RowAttr}
+use Rattle.sheet_grid.specs.declared.ColumnAttr.{ColumnAttr}
+use Rattle.sheet_grid.specs.Sheet.{Sheet, new_sheet}
+use Rattle.sheet_grid.specs.Book.{Book, new_book}
+use Rattle.sheet_grid.specs.FittingCells.{entry_fits_at, CellsFit, SheetsFit}
+use Rattle.sheet_rules.specs.SheetNames.{is_sheet_name}
+use Rattle.sheet_rules.specs.EntryLaws.{both, passes_at_from_all, all_from_passes_at}
+use Rattle.sheet_rules.specs.WellFormed.{are_distinct, are_sheets, have_trees, is_row, is_column, has_font, have_attributes, are_frozen, IsWellFormed, ids_of}
+
+-- the rules of a workbook, each for all of its sheets
+abbrev pub KeepsRules : Book → Type 0
+KeepsRules book =
+    (are_sheets book.worksheets ≡ true) × (list_all have_trees book.worksheets ≡ true) × (list_all have_attributes book.worksheets ≡ true)
+    × (list_all are_frozen book.worksheets ≡ true)
+
+abbrev first_of : Bool → Bool → Bool → Bool → Option ℕ
+first_of a b c d = if not a then Some 1 else if not b then Some 6 else if not c then Some 7 else if not d then Some 9 else None
+
+rules_kept : (a b c d : Bool) → first_of a b c d ≡ None → (a ≡ true) × (b ≡ true) × (c ≡ true) × (d ≡ true)
+rules_kept true true true true h = (refl, refl, refl, refl)
+rules_kept true true true false h = absurd (let never : ◌≡◌ {A = Option ℕ} (Some 9) None = h in cc)
+rules_kept true true false d h = absurd (let never : ◌≡◌ {A = Option ℕ} (Some 7) None = h in cc)
+rules_kept true false c d h = absurd (let never : ◌≡◌ {A = Option ℕ} (Some 6) None = h in cc)
+rules_kept false b c d h = absurd (let never : ◌≡◌ {A = Option ℕ} (Some 1) None = h in cc)
+
+-- a well-formed workbook keeps each rule
+pub well_formed_parts : (book : Book) → IsWellFormed book → KeepsRules book
+well_formed_parts book h = rules_kept (are_sheets book.worksheets) (list_all have_trees book.worksheets) (list_all have_attributes book.worksheets) (list_all are_frozen book.worksheets) h
+
+-- and one that keeps each rule is well-formed
+pub well_formed_from_parts : (book : Book) → KeepsRules book → IsWellFormed book
+well_formed_from_parts book h = λ i. first_of (h.0 i) (h.1 i) (h.2 i) (h.3 i)
+
+-- the cells of a sheet fit where their trees may stand at their places
+pub cells_fit_from_trees : (sheet : Sheet) → have_trees sheet ≡ true → CellsFit sheet
+unfolding have_trees
+cells_fit_from_trees sheet h = passes_at_from_all position_cmp position_total exact_positions entry_fits_at (λ _. refl) sheet.cells h
+
+pub have_trees_from_cells_fit : (sheet : Sheet) → CellsFit sheet → have_trees sheet ≡ true
+unfolding have_trees
+have_trees_from_cells_fit sheet h = all_from_passes_at position_cmp position_total exact_positions entry_fits_at (λ _. refl) sheet.cells h
+
+pub have_trees_iff : (sheet : Sheet) → (have_trees sheet ≡ true) ↔ CellsFit sheet
+have_trees_iff sheet = (cells_fit_from_trees sheet, have_trees_from_cells_fit sheet)
+
+each_fits : (sheets : List Sheet) → list_all have_trees sheets ≡ true → AllByRecursion CellsFit sheets
+each_fits [] h = tt
+each_fits (sheet ∷ sheets) h = (cells_fit_from_trees sheet (both _ _ h).0, each_fits sheets (both _ _ h).1)
+
+-- the cells of a well-formed workbook fit
+pub sheets_fit_from_well_formed : (book : Book) → IsWellFormed book → SheetsFit book
+sheets_fit_from_well_formed book h = All-from_recursion CellsFit book.worksheets (each_fits book.worksheets (well_formed_parts book h).1)
+
+not_true : (b : Bool) → not b ≡ true → b ≡ false
+not_true false h = refl
+not_true true h = cc
+
+module _ {X : Type 0} (same : X → X → Bool) where
+  differs : (x : X) (xs : List X) → list_any (same x) xs ≡ false → AllByRecursion (λ y. same x y ≡ false) xs
+  differs x [] h = tt
+  differs x (y ∷ ys) h = none (same x y) refl (differs x ys) h
+    where
+      none : (b : Bool) → same x y ≡ b → (list_any (same x) ys ≡ false → AllByRecursion (λ z. same x z ≡ false) ys) → (b || list_any (same x) ys) ≡ false
+          → AllByRecursion (λ z. same x z ≡ false) (y ∷ ys)
+      none true is rest e = absurd (let never : true ≡ false = e in cc)
+      none false is rest e = (is, rest e)
+
+  -- a list that is told to be distinct is so
+  pub distinct_from_test : (xs : List X) → are_distinct same xs ≡ true → IsDistinct same xs
+  unfolding IsDistinct
+  distinct_from_test [] h = tt
+  distinct_from_test (x ∷ xs) h = (differs x xs (not_true _ (both _ _ h).0), distinct_from_test xs (both _ _ h).1)
+
+ids_differ : (sheets : List Sheet) → are_sheets sheets ≡ true → are_distinct (λ a b. a == b) (ids_of sheets) ≡ true
+unfolding are_sheets
+ids_differ sheets h = (both _ _ (both _ _ (both _ _ h).0).0).1
+
+-- no two sheets of a well-formed workbook have one id
+pub distinct_ids_from_well_formed : (book : Book) → IsWellFormed book → IsDistinct ◌==◌ (map (λ (sheet : Sheet). sheet.id) book.worksheets)
+distinct_ids_from_well_formed book h = distinct_from_test ◌==◌ (ids_of book.worksheets) (ids_differ book.worksheets (well_formed_parts book h).0)
+
+no_entries : {A : Type 0} (es : List A) → length es ≡ 0 → es ≡ []
+no_entries [] h = refl
+no_entries (e ∷ es) h = absurd (omega arith)
+
+entries-empty : {K X : Type 0} (R : K → K → Ordering) → entries (empty {X = X} {R = R}) ≡ []
+entries-empty {X = X} R = no_entries _ (sym (len-entries (empty {X = X} {R = R})) ∙ len-empty R X)
+
+new_sheets : are_sheets (new_sheet 1 (codes "Sheet1") ∷ []) ≡ true
+unfolding are_sheets is_sheet_name chars
+new_sheets = refl
+
+new_trees : (name : List ℕ) → have_trees (new_sheet 1 name) ≡ true
+unfolding have_trees
+new_trees name = ap (list_all (λ (entry : Position × Cell). fits_at entry.0 entry.1.content)) (entries-empty position_cmp)
+
+new_attributes : (name : List ℕ) → have_attributes (new_sheet 1 name) ≡ true
+unfolding have_attributes
+new_attributes name =
+    λ i. list_all (λ (entry : ℤ × RowAttr). is_row entry.1) (entries-empty int_cmp i) && list_all (λ (entry : ℤ × ColumnAttr). is_column entry.1) (entries-empty int_cmp i)
+    && list_all (λ (entry : Position × Cell). has_font entry.1.style) (entries-empty position_cmp i)
+
+-- a new workbook is well-formed
+pub well_formed-new : (name : List ℕ) (locale : Locale) (zone : Zone) → IsWellFormed (new_book name locale zone)
+well_formed-new name locale zone =
+    well_formed_from_parts (new_book name locale zone)
+    (new_sheets, ap (λ b. b && true) (new_trees (codes "Sheet1")), ap (λ b. b && true) (new_attributes (codes "Sheet1")), refl)

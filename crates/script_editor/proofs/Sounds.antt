@@ -21,7 +21,7 @@ use Rattle.sheet_wire.specs.QueueLaws.{queue_again}
 use Rattle.script_editor.specs.declared.editor.Editor.{Editor}
 use Rattle.script_editor.specs.Document.{Document, document, document_edit, document_undo, undo_at, document_redo, redo_at, recorded, undone, redone}
 use Rattle.script_editor.specs.Machine.{Edit, Step, Sent, State, start, changed, record_of, step_record, edited, edit_of, undo_from, undo_of, redo_from, redo_of, synced_of, entry_of}
-use Rattle.script_editor.specs.Sound.{IsSoundStep, Leads, Follows, IsSound}
+use Rattle.script_editor.specs.Sound.{IsSendable, IsSoundStep, Leads, Follows, IsSound}
 use Rattle.script_editor.specs.Reached.{IsReached}
 use Rattle.script_editor.specs.Stands.{StandsFor, Moves, document_of, replayed_bytes}
 use Rattle.script_editor.proofs.Tested.{passed}
@@ -164,6 +164,10 @@ moves old new s (Err error) f expected stands edits along sound = record {
     go : (e : Result State EditError) → map_ok document e ≡ Err error → e ≡ Err error
     go (Ok next) is = cc
     go (Err other) is = cc
+
+-- what bytes can carry of the editor's workbook they can of the state's
+pub sendable_in : (editor : Editor) (s : State) (edit : Edit) → StandsFor editor s → IsSendable edit (document_of editor).book → IsSendable edit s.present
+sendable_in editor s edit stands sendable = subst (IsSendable edit) (ap (λ (d : Document). d.book) stands.document) sendable
 
 -- what holds anyway holds of an accepted call too, and what an accepted call gives may be used for more
 pub on_ok : {A : Type 0} {T E : Type 0} (result : Result T E) → A → OnOk result A

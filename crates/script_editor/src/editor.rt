@@ -4,7 +4,6 @@ ghost use Rattle.base_values.specs.declared.EditError.TheVariants.{NoMemory};
 ghost use Rattle.formula_content.specs.Fitting.{fits_at};
 ghost use Rattle.formula_content.specs.KeptContent.{IsKeptContent};
 ghost use Rattle.line_map.specs.declared.EditKind.TheVariants.{Insert, Delete};
-ghost use Rattle.sheet_grid.specs.FittingCells.{SheetsFit};
 ghost use Rattle.sheet_rules.specs.WellFormed.{IsWellFormed};
 ghost use Rattle.script_editor.specs.Machine.Edit.{Input, Rows};
 ghost use Rattle.script_editor.specs.Reached.{document_in, IsReached};
@@ -12,7 +11,7 @@ ghost use Rattle.script_editor.specs.Reached.{document_in, IsReached};
 use crate::open_book::OpenBook;
 use base_tables::{Locale, Zone};
 use base_values::{EditError, Items};
-use sheet_actions::{plan_delete, plan_insert};
+use line_map::EditKind;
 use sheet_grid::{Content, Workbook};
 use sheet_history::History;
 use sheet_wire::encode_queue;
@@ -50,7 +49,6 @@ impl Editor {
     pub fn workbook(&self) -> &Workbook
         ensures now { result.now ≡ book_of self.now }
         ensures rules { IsWellFormed (book_of self.now) }
-        ensures fits { SheetsFit (book_of self.now) }
     {
         &self.book.workbook
     }
@@ -75,6 +73,13 @@ impl Editor {
         self.book.enter(sheet, row, column, content)
     }
 
+    fn edit_rows(&mut self, sheet: u32, kind: EditKind) -> Result<(), EditError>
+        ensures document { Edits result (document_of self.old) (document_of self.new) (document_edit (Rows sheet kind) (document_of self.old)) }
+        ensures next { (state : State) → StandsFor self.old state → Moves result self.new state (edit_of (Rows sheet kind) state) }
+    {
+        self.book.edit_rows(sheet, kind)
+    }
+
     /// Inserts empty rows in the sheet at an index, as many as the count, before a row. Its cells
     /// with their links and its rows go where their lines go, and the formulas of all sheets follow.
     ///
@@ -86,8 +91,7 @@ impl Editor {
         ensures document { Edits result (document_of self.old) (document_of self.new) (document_edit (Rows sheet (Insert row count)) (document_of self.old)) }
         ensures next { (state : State) → StandsFor self.old state → Moves result self.new state (edit_of (Rows sheet (Insert row count)) state) }
     {
-        let (id, edit) = plan_insert(&self.book.workbook, sheet, row, count)?;
-        self.book.edit_rows(id, &edit)
+        self.edit_rows(sheet, EditKind::Insert { first: row, count })
     }
 
     /// Deletes rows of the sheet at an index, as many as the count, from a row on. What stood there
@@ -100,8 +104,7 @@ impl Editor {
         ensures document { Edits result (document_of self.old) (document_of self.new) (document_edit (Rows sheet (Delete row count)) (document_of self.old)) }
         ensures next { (state : State) → StandsFor self.old state → Moves result self.new state (edit_of (Rows sheet (Delete row count)) state) }
     {
-        let (id, edit) = plan_delete(&self.book.workbook, sheet, row, count)?;
-        self.book.edit_rows(id, &edit)
+        self.edit_rows(sheet, EditKind::Delete { first: row, count })
     }
 
     /// Takes the newest step back. Without one nothing is done. Only want of memory is refused,

@@ -1,6 +1,6 @@
 ghost use Rattle.std.specs.Prelude.{◌≡◌, ◌≤◌, Ok, Some, [], ◌∷◌, take, IfOk, IfSome, IsTrue, OnOk, OnErr, IsOkUnless, is_some};
-ghost use Rattle.base_values.specs.Answers.{Answers, Edits};
-ghost use Rattle.base_values.specs.declared.EditError.TheVariants.{NoMemory};
+ghost use Rattle.base_values.specs.Answers.{Answers, Edits, map_ok};
+ghost use Rattle.base_values.specs.declared.EditError.TheVariants.{InvalidRow, NoMemory};
 ghost use Rattle.base_values.specs.declared.Position.{Position as Place};
 ghost use Rattle.base_axis.specs.Along.{rows};
 ghost use Rattle.formula_content.specs.Fitting.{fits_at};
@@ -13,6 +13,7 @@ ghost use Rattle.sheet_grid.specs.Sheet.{cell_put, style_of};
 ghost use Rattle.sheet_rules.specs.WellFormed.{IsWellFormed};
 ghost use Rattle.sheet_lines.specs.Followed.{sheet_of};
 ghost use Rattle.sheet_lines.specs.KeptNumbers.{AreKeptLines};
+ghost use Rattle.sheet_actions.specs.Planned.{lines_planned};
 ghost use Rattle.sheet_history.specs.Diffs.{AreShallowLines, IsKeptDiff, IsKeptList};
 ghost use Rattle.sheet_history.specs.declared.Diff.TheVariants.{Rows as RowsDiff};
 ghost use Rattle.sheet_history.specs.declared.DiffType.TheVariants.{Redo};
@@ -20,12 +21,13 @@ ghost use Rattle.sheet_history.specs.Stacks.{undo_lists, redo_lists, spare};
 ghost use Rattle.sheet_wire.specs.QueueBytes.{FitsList};
 ghost use Rattle.script_editor.specs.Document.{recorded, sending};
 ghost use Rattle.script_editor.specs.Inputs.{cell_change, entered, input_plan};
-ghost use Rattle.script_editor.specs.Machine.Edit.{Input};
+ghost use Rattle.script_editor.specs.Machine.Edit.{Input, Rows};
 
 use base_axis::RowAxis;
 use base_styles::Style;
 use base_values::{EditError, Items, Position, copy_of, place_of};
 use line_map::{EditKind, LineEdit};
+use sheet_actions::{plan_delete, plan_insert};
 use sheet_grid::{Cell, Content, Workbook};
 use sheet_history::{
     Diff, DiffList, DiffType, History, QueueDiffs, back_in_place, forward_in_place,
@@ -119,6 +121,20 @@ fn rows_change(
     ensures fits { IfOk result FitsList }
 {
     list_of(alloc, Diff::Rows { sheet, edit, kept })
+}
+
+/// The edit of the rows of the sheet at an index, and the id of that sheet.
+fn plan_rows(
+    workbook: &Workbook,
+    sheet: u32,
+    kind: EditKind,
+) -> Result<(u32, LineEdit<RowAxis>), EditError>
+    ensures { map_ok (λ plan. (plan.0, plan.1.kind)) result ≡ lines_planned rows InvalidRow kind sheet workbook.now }
+{
+    match kind {
+        EditKind::Insert { first, count } => plan_insert(workbook, sheet, first, count),
+        EditKind::Delete { first, count } => plan_delete(workbook, sheet, first, count),
+    }
 }
 
 /// Puts a cell, or none.
@@ -244,9 +260,9 @@ impl OpenBook {
         }
     }
 
-    /// Inserts rows in the sheet of an id, or deletes rows of it, and puts the record on the undo
-    /// stack and in the queue. Only want of memory is refused.
-    pub(crate) fn edit_rows(&mut self, id: u32, edit: &LineEdit<RowAxis>) -> Result<(), EditError>
+    /// Inserts rows in the sheet of an id, or deletes them, and puts the record on the undo stack
+    /// and in the queue. Only want of memory is refused.
+    fn make_rows(&mut self, id: u32, edit: &LineEdit<RowAxis>) -> Result<(), EditError>
         requires valid { IsValid rows.last edit.now.kind }
         requires there { IsTrue (is_some (sheet_of self.now.workbook id)) }
         requires rules { IsWellFormed self.now.workbook }
@@ -256,6 +272,17 @@ impl OpenBook {
         let (later, kept) = line_edit(self.alloc, &self.workbook, id, edit)?;
         let list = rows_change(self.alloc, id, edit.kind, kept)?;
         self.install(later, list)
+    }
+
+    /// Inserts rows in the sheet at an index, or deletes them, and puts the record on the undo stack
+    /// and in the queue. The refusals are those of `Editor::insert_rows` and `Editor::delete_rows`.
+    pub(crate) fn edit_rows(&mut self, sheet: u32, kind: EditKind) -> Result<(), EditError>
+        requires { IsWellFormed self.now.workbook }
+        ensures document { Edits result (document_in self.old) (document_in self.new) (document_edit (Rows sheet kind) (document_in self.old)) }
+        ensures sendable { OnOk result (IsSendable (Rows sheet kind) self.old.workbook) }
+    {
+        let (id, edit) = plan_rows(&self.workbook, sheet, kind)?;
+        self.make_rows(id, &edit)
     }
 
     /// Takes the newest list of the undo stack back in the workbook, and sends it.

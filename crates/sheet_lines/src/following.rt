@@ -95,7 +95,8 @@ fn followed_sheets<A: Axis>(
     Ok(made)
 }
 
-/// The workbook whose sheets follow an edit of the sheet of an id.
+/// The workbook whose sheets follow an edit of the sheet of an id, as `line_edit` answers it. Only
+/// want of memory is refused. docs/MODEL.md has the rules.
 pub fn followed_book<A: Axis>(
     alloc: Global,
     workbook: &Workbook,

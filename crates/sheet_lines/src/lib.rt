@@ -1,7 +1,7 @@
 //! Lines inserted and deleted in a workbook.
 //!
 //! `line_edit` answers the workbook afterwards and what going back does not give; `line_back` takes
-//! the lines back with it.
+//! the lines back with it; `followed_book` answers the workbook afterwards alone.
 #![tactic(auto)]
 
 mod back;
@@ -21,10 +21,8 @@ mod sheets;
 
 pub use back::line_back;
 pub use edit::line_edit;
+pub use following::followed_book;
 pub use kept::KeptLines;
 pub use laws::{edit_and_back, entries_of_sheets, kept_under_ids};
 pub use sheet_map::SheetMap;
 pub use sheets::has_sheet;
-
-#[cfg(test)]
-mod tests;

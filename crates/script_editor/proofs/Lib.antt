@@ -3,7 +3,6 @@ mod Fits
 mod InputLaws
 mod InputRecord
 mod InputSteps
-mod KeptShallow
 mod Own
 mod RowPlans
 mod RowSteps

@@ -1,33 +1,28 @@
 -- Rows that are inserted or deleted are a sound step.
-use Rattle.std.proofs.Common.{◌≡◌, ℕ, true, List, length, Some, Result, Ok, Err, refl, ap, sym, subst, ◌∙◌}
-use Rattle.std.specs.Prelude.{slice_get}
+use Rattle.std.proofs.Common.{◌≡◌, ℕ, List, length, Result, Ok, Err, refl, ap, sym, subst, ◌∙◌}
 use Rattle.base_values.specs.declared.EditError.{EditError}
-use Rattle.base_values.specs.declared.EditError.TheVariants.{InvalidSheet, InvalidRow}
+use Rattle.base_values.specs.declared.EditError.TheVariants.{InvalidRow}
 use Rattle.base_values.specs.Answers.{map_ok}
 use Rattle.base_axis.specs.Along.{rows}
 use Rattle.base_axis.specs.Lawful.{rows_lawful}
 use Rattle.line_map.specs.declared.EditKind.{EditKind}
-use Rattle.line_map.specs.Edit.{IsValid}
 use Rattle.sheet_grid.specs.Sheet.{Sheet}
 use Rattle.sheet_grid.specs.Book.{Book, sheet_at}
 use Rattle.sheet_rules.specs.WellFormed.{IsWellFormed}
-use Rattle.sheet_lines.specs.Followed.{sheet_of, book_followed}
+use Rattle.sheet_lines.specs.Followed.{book_followed}
 use Rattle.sheet_history.specs.declared.Diff.{Diff}
 use Rattle.sheet_history.specs.Diffs.{made, taken_back}
-use Rattle.sheet_history.specs.LineDiffs.{stays_inside}
 use Rattle.sheet_history.specs.LineRecords.{record_made, record_taken_back}
-use Rattle.sheet_history.specs.Records.{line_record}
+use Rattle.sheet_history.specs.Records.{IsRowEdit, line_record}
 use Rattle.sheet_wire.specs.QueueBytes.{FitsList}
 use Rattle.sheet_actions.specs.Planned.{lines_planned}
-use Rattle.sheet_actions.specs.FollowedRules.{followed_well_formed}
+use Rattle.sheet_actions.specs.FollowedWellFormed.{followed_well_formed}
 use Rattle.script_editor.specs.Document.{Document, document_edit, recorded, rows_recorded}
 use Rattle.script_editor.specs.Machine.{State, changed, record_of, edit_of}
 use Rattle.script_editor.specs.Machine.Edit.{Rows}
 use Rattle.script_editor.specs.RowEdits.{rows_record}
 use Rattle.script_editor.specs.Sound.{IsSendable, IsSoundStep, IsSound}
-use Rattle.script_editor.proofs.Entering.{found_some}
-use Rattle.script_editor.proofs.Own.{own_found}
-use Rattle.script_editor.proofs.RowPlans.{IsPlanned, rows_planned}
+use Rattle.script_editor.proofs.RowPlans.{IsPlanned, rows_planned, row_edit}
 use Rattle.script_editor.proofs.Sounds.{sound_edit, step_of}
 use Rattle.script_editor.proofs.Tested.{passes}
 
@@ -41,15 +36,13 @@ module _ (w : Book) (index : ℕ) (kind : EditKind) (id : ℕ) (edit : EditKind)
   plan_made = ap (map_ok (λ p. book_followed rows p.1 p.0 w)) plan
 
   plan_record : (later : Book) → record_of (Rows index kind) w later ≡ line_record edit id w
-  plan_record later = ap (rows_record kind w) it.at ∙ (λ i. line_record (sym it.edit_is i) (sym it.id_is i) w)
+  plan_record later = ap (rows_record kind w) it.at ∙ (λ i. line_record (it.edit_is i) (it.id_is i) w)
 
-  -- there is the sheet of the planned id
-  pub plan_found : IsWellFormed w → sheet_of w id ≡ Some it.sheet
-  plan_found rules = ap (sheet_of w) it.id_is ∙ own_found w rules index it.sheet (found_some (slice_get w.worksheets index) InvalidSheet it.sheet it.at)
+  -- a planned edit is one of rows of the workbook
+  pub plan_edit : IsWellFormed w → IsRowEdit edit id w
+  plan_edit rules = subst (λ e. IsRowEdit e id w) it.edit_is (subst (λ n. IsRowEdit kind n w) it.id_is (row_edit w index kind rules it.sheet it.at it.valid it.inside))
 
-  pub plan_valid : IsValid rows.last edit
-  plan_valid = subst (IsValid rows.last) (sym it.edit_is) it.valid
-
+  -- and bytes can carry its record, if they can carry that of the plan
   pub plan_sendable : FitsList (line_record edit id w) → IsSendable (Rows index kind) w
   plan_sendable fits later how = subst FitsList (sym (plan_record later)) fits
 
@@ -72,34 +65,38 @@ refused_document doc index kind error plan =
 record IsAccepted (w : Book) (index : ℕ) (kind : EditKind) (later : Book) : Type 0 where
   sheet : Sheet
   at : sheet_at w index ≡ Ok sheet
-  valid : IsValid rows.last kind
-  inside : stays_inside rows kind sheet ≡ true
+  edit : IsRowEdit kind sheet.id w
   followed : book_followed rows kind sheet.id w ≡ later
 
-accepted : (w : Book) (index : ℕ) (kind : EditKind) (later : Book) → changed (Rows index kind) w ≡ Ok later → IsAccepted w index kind later
-accepted w index kind later is = go (lines_planned rows InvalidRow kind index w) refl is
+accepted : (w : Book) (index : ℕ) (kind : EditKind) (later : Book) → IsWellFormed w → changed (Rows index kind) w ≡ Ok later → IsAccepted w index kind later
+accepted w index kind later rules is = go (lines_planned rows InvalidRow kind index w) refl is
   where
     go : (r : Result (ℕ × EditKind) EditError) → lines_planned rows InvalidRow kind index w ≡ r → map_ok (λ p. book_followed rows p.1 p.0 w) r ≡ Ok later → IsAccepted w index kind later
     go (Ok p) plan h =
-        let it = rows_planned w index kind p.0 p.1 plan in
+        let found = rows_planned w index kind p.0 p.1 plan in
         let same : book_followed rows p.1 p.0 w ≡ later = cc in
-        record { sheet = it.sheet; at = it.at; valid = it.valid; inside = it.inside; followed = (λ i. book_followed rows (sym it.edit_is i) (sym it.id_is i) w) ∙ same }
+        record {
+          sheet = found.sheet;
+          at = found.at;
+          edit = row_edit w index kind rules found.sheet found.at found.valid found.inside;
+          followed = (λ i. book_followed rows (found.edit_is i) (found.id_is i) w) ∙ same;
+        }
     go (Err error) plan h = absurd (let never : ◌≡◌ {A = Result Book EditError} (Err error) (Ok later) = h in cc)
 
-rows_step : (w : Book) (index : ℕ) (kind : EditKind) (later : Book) → IsWellFormed w → IsAccepted w index kind later → FitsList (record_of (Rows index kind) w later)
+rows_step : (w : Book) (index : ℕ) (kind : EditKind) (later : Book) → IsAccepted w index kind later → FitsList (record_of (Rows index kind) w later)
     → IsSoundStep (record { edit = Rows index kind; before = w; after = later })
-rows_step w index kind later rules it fits =
+rows_step w index kind later found fits =
+    let id : ℕ = found.sheet.id in
     let list : List Diff = record_of (Rows index kind) w later in
-    let recorded_is : list ≡ line_record kind it.sheet.id w = ap (rows_record kind w) it.at in
-    let found : sheet_of w it.sheet.id ≡ Some it.sheet = own_found w rules index it.sheet (found_some (slice_get w.worksheets index) InvalidSheet it.sheet it.at) in
-    let later_rules : IsWellFormed later = subst IsWellFormed it.followed (followed_well_formed rows rows_lawful kind it.valid it.sheet.id w rules) in
+    let recorded_is : list ≡ line_record kind id w = ap (rows_record kind w) found.at in
+    let later_rules : IsWellFormed later = subst IsWellFormed found.followed (followed_well_formed rows rows_lawful kind found.edit.valid id w found.edit.rules) in
     record {
-      before = rules;
+      before = found.edit.rules;
       after = later_rules;
-      forth = passes (length list) (made w list) later (ap (made w) recorded_is ∙ record_made kind it.valid it.sheet.id w rules it.sheet found it.inside ∙ ap Ok it.followed) later_rules;
+      forth = passes (length list) (made w list) later (ap (made w) recorded_is ∙ record_made kind id w found.edit ∙ ap Ok found.followed) later_rules;
       back = passes (length list) (taken_back later list) w
-          (ap (taken_back later) recorded_is ∙ ap (λ b. taken_back b (line_record kind it.sheet.id w)) (sym it.followed) ∙ record_taken_back kind it.valid it.sheet.id w rules it.sheet found) rules;
-      exact = record { sheet = it.sheet; there = it.at; followed = it.followed; recorded = recorded_is };
+          (ap (taken_back later) recorded_is ∙ ap (λ b. taken_back b (line_record kind id w)) (sym found.followed) ∙ record_taken_back kind id w found.edit) found.edit.rules;
+      exact = record { sheet = found.sheet; there = found.at; followed = found.followed; recorded = recorded_is };
       fits = fits;
     }
 
@@ -108,4 +105,4 @@ pub sound_rows : (index : ℕ) (kind : EditKind) (s next : State) → IsSound s 
 sound_rows index kind s next sound sendable is = sound_edit (Rows index kind) s next sound step is
   where
     step : (later : Book) → changed (Rows index kind) s.present ≡ Ok later → IsSoundStep (step_of (Rows index kind) s later)
-    step later how = rows_step s.present index kind later sound.present (accepted s.present index kind later how) (sendable later how)
+    step later how = rows_step s.present index kind later (accepted s.present index kind later sound.present how) (sendable later how)

@@ -1,20 +1,17 @@
-ghost use Rattle.std.specs.Prelude.{◌≡◌, ◌≤◌, Ok, Some, [], ◌∷◌, take, IfOk, IfSome, IsTrue, OnOk, OnErr, IsOkUnless, is_some};
+ghost use Rattle.std.specs.Prelude.{◌≡◌, ◌≤◌, Ok, Some, [], ◌∷◌, take, IfOk, IfSome, IsTrue, OnOk, OnErr, IsOkUnless};
 ghost use Rattle.base_values.specs.Answers.{Answers, Edits, map_ok};
 ghost use Rattle.base_values.specs.declared.EditError.TheVariants.{InvalidRow, NoMemory};
 ghost use Rattle.base_values.specs.declared.Position.{Position as Place};
 ghost use Rattle.base_axis.specs.Along.{rows};
 ghost use Rattle.formula_content.specs.Fitting.{fits_at};
 ghost use Rattle.formula_content.specs.KeptContent.{IsKeptContent};
-ghost use Rattle.line_map.specs.Edit.{IsValid};
 ghost use Rattle.sheet_grid.specs.Book.{sheet_edit};
 ghost use Rattle.sheet_grid.specs.FittingCells.{entry_fits_at, is_shallow_entry};
 ghost use Rattle.sheet_grid.specs.KeptCell.{IsKeptCell};
 ghost use Rattle.sheet_grid.specs.Sheet.{cell_put, style_of};
 ghost use Rattle.sheet_rules.specs.WellFormed.{IsWellFormed};
-ghost use Rattle.sheet_lines.specs.Followed.{sheet_of};
-ghost use Rattle.sheet_lines.specs.KeptNumbers.{AreKeptLines};
 ghost use Rattle.sheet_actions.specs.Planned.{lines_planned};
-ghost use Rattle.sheet_history.specs.Diffs.{AreShallowLines, IsKeptDiff, IsKeptList};
+ghost use Rattle.sheet_history.specs.Diffs.{IsKeptDiff, IsKeptList};
 ghost use Rattle.sheet_history.specs.declared.Diff.TheVariants.{Rows as RowsDiff};
 ghost use Rattle.sheet_history.specs.declared.DiffType.TheVariants.{Redo};
 ghost use Rattle.sheet_history.specs.Stacks.{undo_lists, redo_lists, spare};
@@ -114,8 +111,7 @@ fn rows_change(
     edit: EditKind,
     kept: KeptLines,
 ) -> Result<DiffList, EditError>
-    requires numbers { AreKeptLines kept }
-    requires shallow { AreShallowLines kept }
+    requires { IsKeptDiff (RowsDiff sheet edit kept) }
     ensures made { Answers result (Ok (RowsDiff sheet edit kept ∷ [])) }
     ensures kept { IfOk result IsKeptList }
     ensures fits { IfOk result FitsList }
@@ -173,7 +169,7 @@ fn send(
 }
 
 impl OpenBook {
-    ghost use Rattle.sheet_history.specs.Records.{line_record};
+    ghost use Rattle.sheet_history.specs.Records.{IsRowEdit, line_record};
     ghost use Rattle.script_editor.specs.Document.{cell_recorded, rows_recorded, document_edit, document_undo, document_redo};
     ghost use Rattle.script_editor.specs.Reached.{document_in};
     ghost use Rattle.script_editor.specs.Sound.{IsSendable};
@@ -263,9 +259,7 @@ impl OpenBook {
     /// Inserts rows in the sheet of an id, or deletes them, and puts the record on the undo stack
     /// and in the queue. Only want of memory is refused.
     fn make_rows(&mut self, id: u32, edit: &LineEdit<RowAxis>) -> Result<(), EditError>
-        requires valid { IsValid rows.last edit.now.kind }
-        requires there { IsTrue (is_some (sheet_of self.now.workbook id)) }
-        requires rules { IsWellFormed self.now.workbook }
+        requires { IsRowEdit edit.now.kind id self.now.workbook }
         ensures document { Edits result (document_in self.old) (document_in self.new) (Ok (rows_recorded edit.now.kind id (document_in self.old))) }
         ensures fits { OnOk result (FitsList (line_record edit.now.kind id self.old.workbook)) }
     {

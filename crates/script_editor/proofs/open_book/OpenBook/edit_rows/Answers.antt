@@ -1,16 +1,12 @@
-use Rattle.std.proofs.Common.{sym, subst, ap}
-use Rattle.std.specs.Prelude.{IsTrue, is_some}
+use Rattle.std.proofs.Common.{sym, subst}
 use Rattle.base_values.specs.Answers.{Edits}
 use Rattle.script_editor.specs.Reached.{document_in}
-use Rattle.script_editor.proofs.RowSteps.{plan_found, plan_valid, plan_sendable, planned_document}
+use Rattle.script_editor.proofs.RowSteps.{plan_edit, plan_sendable, planned_document}
 use Rattle.script_editor.proofs.Sounds.{on_ok_map}
 use Rattle.script_editor.proofs.open_book.OpenBook.edit_rows.Goals as goal
 
-pub make_rows-requires-clause-valid : goal.make_rows-requires-clause-valid
-make_rows-requires-clause-valid c = plan_valid c.args.self.now.workbook c.args.sheet c.args.kind c.in_ok-id.id c.in_ok-id.edit.kind ?
-
-pub make_rows-requires-clause-there : goal.make_rows-requires-clause-there
-make_rows-requires-clause-there c = ap is_some (plan_found c.args.self.now.workbook c.args.sheet c.args.kind c.in_ok-id.id c.in_ok-id.edit.kind ? c.requires)
+pub make_rows-requires : goal.make_rows-requires
+make_rows-requires c = plan_edit c.args.self.now.workbook c.args.sheet c.args.kind c.in_ok-id.id c.in_ok-id.edit.kind ? c.requires
 
 pub returns-clause-document : goal.returns-clause-document
 returns-clause-document c =

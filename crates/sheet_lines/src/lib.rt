@@ -20,9 +20,10 @@ mod sheet_map;
 mod sheets;
 
 pub use back::line_back;
+pub use contents::tree_of;
 pub use edit::line_edit;
 pub use following::followed_book;
 pub use kept::KeptLines;
 pub use laws::{edit_and_back, entries_of_sheets, kept_under_ids};
 pub use sheet_map::SheetMap;
-pub use sheets::has_sheet;
+pub use sheets::{has_sheet, sheet_of};

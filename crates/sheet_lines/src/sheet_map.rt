@@ -1,4 +1,5 @@
-ghost use Rattle.std.specs.Prelude.{◌≡◌, OnOk, OnErr, IfOk, IsOkUnless, nat_eq};
+ghost use Rattle.std.specs.Prelude.{◌≡◌, OnOk, OnErr, IfOk, IsOkUnless, nat_eq, All};
+ghost use Rattle.sheet_lines.specs.SheetIds.{IsSheetId};
 ghost use Rattle.std.specs.Option.{option_copied};
 ghost use Rattle.std.specs.FinMap as fin;
 ghost use Rattle.std.specs.Cmp.{partial_equiv_from_equiv, nat_eq_equiv};
@@ -8,6 +9,7 @@ ghost use Rattle.base_values.specs.declared.EditError.TheVariants.{NoMemory};
 use base_values::{EditError, Exact};
 use std::alloc::{AllocError, Global};
 use std::collections::BTreeMap;
+use std::collections::btree_map::Iter;
 use std::marker::Model;
 
 /// A map from ids of sheets.
@@ -59,8 +61,10 @@ impl<V: Drop> SheetMap<V> {
         Ok(self.map.insert(id, value)?)
     }
 
-    fn remove(&mut self, id: u32) -> Option<V>
-        ensures { self.new ≡ fin.remove self.old id }
+    /// Takes the entry of a sheet's id away, and answers it. It takes no memory.
+    pub fn remove(&mut self, id: u32) -> Option<V>
+        ensures before { result ≡ fin.get self.old id }
+        ensures removed { self.new ≡ fin.remove self.old id }
     {
         self.map.remove(&id)
     }
@@ -81,6 +85,16 @@ impl<V: Drop> SheetMap<V> {
             }
         }
         Ok(())
+    }
+}
+
+impl<V> SheetMap<V> {
+    /// The entries in ascending order of ids.
+    pub fn iter(&self) -> Iter<'_, u32, V>
+        ensures entries { result ≡ fin.entries self.now }
+        ensures ids { All (λ entry. IsSheetId entry.0) result }
+    {
+        self.map.iter()
     }
 }
 

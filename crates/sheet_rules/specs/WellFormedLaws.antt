@@ -51,10 +51,12 @@ pub cells_fit_from_trees : (sheet : Sheet) → have_trees sheet ≡ true → Cel
 unfolding have_trees
 cells_fit_from_trees sheet h = passes_at_from_all position_cmp position_total exact_positions entry_fits_at (λ _. refl) sheet.cells h
 
+-- and their trees may stand there where the cells fit
 pub have_trees_from_cells_fit : (sheet : Sheet) → CellsFit sheet → have_trees sheet ≡ true
 unfolding have_trees
 have_trees_from_cells_fit sheet h = all_from_passes_at position_cmp position_total exact_positions entry_fits_at (λ _. refl) sheet.cells h
 
+-- so the two are one
 pub have_trees_iff : (sheet : Sheet) → (have_trees sheet ≡ true) ↔ CellsFit sheet
 have_trees_iff sheet = (cells_fit_from_trees sheet, have_trees_from_cells_fit sheet)
 

@@ -1,5 +1,5 @@
 // Which rule workbooks break. What is expected was taken from the rules of docs/MODEL.md.
-use crate::{broken_rule, is_well_formed};
+use crate::broken_rule;
 use base_styles::Style;
 use base_tables::{Locale, Zone};
 use base_values::{EditError, Items, Text};
@@ -20,11 +20,10 @@ fn broken(alloc: Global, sheets: Items<Worksheet>) -> Result<Option<u8>, EditErr
     Ok(broken_rule(&book))
 }
 
-/// The rule that a workbook of this sheet breaks.
-fn broken_by(alloc: Global, sheet: Worksheet) -> Result<Option<u8>, EditError> {
-    let mut sheets = Items::empty(alloc);
-    sheets.push(sheet)?;
-    broken(alloc, sheets)
+/// The rule that a new workbook breaks.
+fn broken_by_new(alloc: Global) -> Result<Option<u8>, EditError> {
+    let new = Workbook::new_empty(alloc, "book", Locale::En, Zone::Utc)?;
+    Ok(broken_rule(&new))
 }
 
 /// The rule that a workbook of two empty sheets breaks: `Sheet1` of id 1, and this one.
@@ -38,77 +37,79 @@ fn broken_beside(alloc: Global, id: u32, name: &str) -> Result<Option<u8>, EditE
 /// Which sheets may stand beside each other, and under which names.
 #[test]
 fn sheets(rt: HostRuntime) -> Result<(), Fail> {
-    let alloc = rt.alloc();
-    let new = Workbook::new_empty(alloc, "book", Locale::En, Zone::Utc)?;
-    assert!(rt; is_well_formed(&new));
-    assert_eq!(rt; broken(alloc, Items::empty(alloc))?, Some(1));
-    assert_eq!(rt; broken_beside(alloc, 2, "Sheet2")?, None);
-    assert_eq!(rt; broken_beside(alloc, 1, "Sheet2")?, Some(1));
-    assert_eq!(rt; broken_beside(alloc, 2, "sHEET1")?, Some(1));
-    assert_eq!(rt; broken_beside(alloc, 2, "")?, Some(1));
-    assert_eq!(rt;
-        broken_beside(alloc, 2, "ééééééééééééééééééééééééééééééé")?,
-        None
-    );
-    assert_eq!(rt;
-        broken_beside(alloc, 2, "abcdefghijklmnopqrstuvwxyz123456")?,
-        Some(1)
-    );
-    assert_eq!(rt; broken_beside(alloc, 2, "'a")?, Some(1));
-    assert_eq!(rt; broken_beside(alloc, 2, "a'")?, Some(1));
-    assert_eq!(rt; broken_beside(alloc, 2, "a'b")?, None);
-    assert_eq!(rt; broken_beside(alloc, 2, "a[b")?, Some(1));
-    assert_eq!(rt; broken_beside(alloc, 2, "a\\b")?, Some(1));
+    assert_eq!(rt; broken_by_new(rt.alloc())?, None);
+    for (id, name, rule) in [
+        (2, "Sheet2", None),
+        (1, "Sheet2", Some(1)),
+        (2, "sHEET1", Some(1)),
+        (2, "", Some(1)),
+        (2, "ééééééééééééééééééééééééééééééé", None),
+        (2, "abcdefghijklmnopqrstuvwxyz123456", Some(1)),
+        (2, "'a", Some(1)),
+        (2, "a'", Some(1)),
+        (2, "a'b", None),
+        (2, "a[b", Some(1)),
+        (2, "a\\b", Some(1)),
+    ] {
+        assert_eq!(rt; broken_beside(rt.alloc(), id, name)?, rule, "at {name}");
+    }
     Ok(())
 }
 
-/// The rule that a row of this height and style breaks.
-fn broken_by_row(
-    alloc: Global,
+/// What is put at the first place, row or column of a sheet.
+#[derive(Clone, Copy)]
+enum Entry {
+    /// A row of this height.
+    Height(i32),
+    /// A column of this width.
+    Width(i32),
+    /// A row of the default style.
+    StyledRow,
+    /// A column of the default style.
+    StyledColumn,
+    /// An empty cell of this font size.
+    Font(i32),
+    /// A formula that leads so many rows down.
+    Formula(i32),
+}
+
+fn put_row(
+    sheet: &mut Worksheet,
     height: Option<i32>,
     style: Option<Style>,
-) -> Result<Option<u8>, EditError> {
-    let mut sheet = named(alloc, 1, "Sheet1")?;
+) -> Result<(), EditError> {
     let hidden = false;
     let attr = RowAttr {
         height,
         style,
         hidden,
     };
-    sheet.put_row(1, Some(attr))?;
-    broken_by(alloc, sheet)
+    sheet.put_row(1, Some(attr))
 }
 
-/// The rule that a column of this width and style breaks.
-fn broken_by_column(
-    alloc: Global,
+fn put_column(
+    sheet: &mut Worksheet,
     width: Option<i32>,
     style: Option<Style>,
-) -> Result<Option<u8>, EditError> {
-    let mut sheet = named(alloc, 1, "Sheet1")?;
+) -> Result<(), EditError> {
     let hidden = false;
     let attr = ColumnAttr {
         width,
         style,
         hidden,
     };
-    sheet.put_column(1, Some(attr))?;
-    broken_by(alloc, sheet)
+    sheet.put_column(1, Some(attr))
 }
 
-/// The rule that an empty cell of this font size breaks.
-fn broken_by_font(alloc: Global, size: i32) -> Result<Option<u8>, EditError> {
-    let mut sheet = named(alloc, 1, "Sheet1")?;
+fn put_font(alloc: Global, sheet: &mut Worksheet, size: i32) -> Result<(), EditError> {
     let mut style = Style::new(alloc)?;
     style.font.sz = size;
     let content = Content::Empty;
-    sheet.put_cell(1, 1, Some(Cell { content, style }))?;
-    broken_by(alloc, sheet)
+    sheet.put_cell(1, 1, Some(Cell { content, style }))
 }
 
-/// The rule that a formula in A1 breaks that leads so many rows down.
-fn broken_by_formula(alloc: Global, row: i32) -> Result<Option<u8>, EditError> {
-    let mut sheet = named(alloc, 1, "Sheet1")?;
+fn put_formula(alloc: Global, sheet: &mut Worksheet, row: i32) -> Result<(), EditError> {
+    let style = Style::new(alloc)?;
     let corner = Corner {
         absolute_row: false,
         row,
@@ -117,30 +118,47 @@ fn broken_by_formula(alloc: Global, row: i32) -> Result<Option<u8>, EditError> {
     };
     let tree = Node::Reference(None, corner);
     if has_kept_numbers(&tree) {
-        sheet.set_cell_with_formula(1, 1, tree, &Style::new(alloc)?)?;
+        sheet.set_cell_with_formula(1, 1, tree, &style)?;
     }
-    broken_by(alloc, sheet)
+    Ok(())
+}
+
+fn put(alloc: Global, sheet: &mut Worksheet, entry: Entry) -> Result<(), EditError> {
+    match entry {
+        Entry::Height(height) => put_row(sheet, Some(height), None),
+        Entry::Width(width) => put_column(sheet, Some(width), None),
+        Entry::StyledRow => put_row(sheet, None, Some(Style::new(alloc)?)),
+        Entry::StyledColumn => put_column(sheet, None, Some(Style::new(alloc)?)),
+        Entry::Font(size) => put_font(alloc, sheet, size),
+        Entry::Formula(row) => put_formula(alloc, sheet, row),
+    }
+}
+
+/// The rule that a workbook of one sheet with this in it breaks.
+fn broken_by(alloc: Global, entry: Entry) -> Result<Option<u8>, EditError> {
+    let mut sheet = named(alloc, 1, "Sheet1")?;
+    put(alloc, &mut sheet, entry)?;
+    let mut sheets = Items::empty(alloc);
+    sheets.push(sheet)?;
+    broken(alloc, sheets)
 }
 
 /// What may stand in a sheet.
 #[test]
 fn entries(rt: HostRuntime) -> Result<(), Fail> {
-    let alloc = rt.alloc();
-    assert_eq!(rt; broken_by_formula(alloc, 1)?, None);
-    assert_eq!(rt; broken_by_formula(alloc, -1)?, Some(6));
-    assert_eq!(rt; broken_by_row(alloc, Some(0), None)?, None);
-    assert_eq!(rt; broken_by_row(alloc, Some(-1), None)?, Some(7));
-    assert_eq!(rt;
-        broken_by_row(alloc, None, Some(Style::new(alloc)?))?,
-        Some(7)
-    );
-    assert_eq!(rt;
-        broken_by_column(alloc, None, Some(Style::new(alloc)?))?,
-        None
-    );
-    assert_eq!(rt; broken_by_column(alloc, Some(249), None)?, None);
-    assert_eq!(rt; broken_by_column(alloc, Some(250), None)?, Some(7));
-    assert_eq!(rt; broken_by_font(alloc, 1)?, None);
-    assert_eq!(rt; broken_by_font(alloc, 0)?, Some(7));
+    for (entry, rule) in [
+        (Entry::Formula(1), None),
+        (Entry::Formula(-1), Some(6)),
+        (Entry::Height(0), None),
+        (Entry::Height(-1), Some(7)),
+        (Entry::StyledRow, Some(7)),
+        (Entry::StyledColumn, None),
+        (Entry::Width(249), None),
+        (Entry::Width(250), Some(7)),
+        (Entry::Font(1), None),
+        (Entry::Font(0), Some(7)),
+    ] {
+        assert_eq!(rt; broken_by(rt.alloc(), entry)?, rule);
+    }
     Ok(())
 }

@@ -1,8 +1,12 @@
-pub mod DiffEquals
+pub mod Entries
+pub mod LineDiffs
 pub mod Diffs
+pub mod DiffEquals
 pub mod Stacks
 pub mod Records
 pub mod RecordLaws
 pub mod ReplayLaws
 pub mod KeptProps
-pub mod FitLaws
+pub mod RuleLaws
+pub mod TestedLaws
+pub mod LineRecords

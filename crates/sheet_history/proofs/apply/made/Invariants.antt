@@ -1,6 +1,6 @@
 use Rattle.std.proofs.Common.{◌≡◌, drop}
 use Rattle.sheet_history.specs.Diffs.{forward_from}
-use Rattle.sheet_history.proofs.apply.forward.Given as goal
+use Rattle.sheet_history.proofs.apply.made.Given as goal
 
 -- what is left takes the present workbook where the whole list takes the first
 abbrev pub invariant-loop-index : goal.invariant-loop-index

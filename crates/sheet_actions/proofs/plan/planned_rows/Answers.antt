@@ -1,0 +1,10 @@
+use Rattle.base_values.specs.declared.EditError.TheVariants.{InvalidRow}
+use Rattle.base_axis.specs.Along.{rows}
+use Rattle.sheet_actions.specs.PlannedLaws.{valid_planned, there_planned}
+use Rattle.sheet_actions.proofs.plan.planned_rows.Goals as goal
+
+pub returns-clause-valid : goal.returns-clause-valid
+returns-clause-valid c = valid_planned (λ plan. (plan.0, plan.1.kind)) rows InvalidRow c.args.kind c.args.sheet c.args.workbook.now c.planned.result c.planned.ensures
+
+pub returns-clause-there : goal.returns-clause-there
+returns-clause-there c = there_planned (λ plan. (plan.0, plan.1.kind)) rows InvalidRow c.args.kind c.args.sheet c.args.workbook.now c.planned.result c.planned.ensures

@@ -1,0 +1,53 @@
+-- A workbook that follows a line edit stays well-formed.
+use Rattle.std.proofs.Common.{◌≡◌, ℕ, Bool, true, suc, List, [], ◌∷◌, length, map, refl, ap, ◌∙◌}
+use Rattle.std.specs.Prelude.{◌&&◌, ◌==◌, nat_lt}
+use Rattle.std.specs.List.{list_all}
+use Rattle.base_axis.specs.Along.{Along, IsAxis}
+use Rattle.base_tables.specs.Folding.{same_folded}
+use Rattle.sheet_grid.specs.Sheet.{Sheet}
+use Rattle.sheet_grid.specs.Book.{Book}
+use Rattle.line_map.specs.declared.EditKind.{EditKind}
+use Rattle.line_map.specs.Edit.{IsValid}
+use Rattle.sheet_rules.specs.SheetNames.{is_sheet_name}
+use Rattle.sheet_rules.specs.EntryLaws.{both}
+use Rattle.sheet_rules.specs.WellFormed.{are_distinct, ids_of, names_of, are_sheets, have_trees, have_attributes, are_frozen, IsWellFormed}
+use Rattle.sheet_rules.specs.WellFormedLaws.{well_formed_parts, well_formed_from_parts}
+use Rattle.sheet_lines.specs.Followed.{sheet_of, name_of, sheet_followed, book_followed}
+use Rattle.sheet_actions.specs.FollowedTrees.{pass}
+use Rattle.sheet_actions.specs.FollowedSheets.{trees_stay, attributes_stay}
+
+-- a test that each sheet still passes
+all_follow : (P : Sheet → Bool) (f : Sheet → Sheet) → ((sheet : Sheet) → P sheet ≡ true → P (f sheet) ≡ true) → (sheets : List Sheet) → list_all P sheets ≡ true → list_all P (map f sheets) ≡ true
+all_follow P f h [] all = refl
+all_follow P f h (sheet ∷ sheets) all = let parts = both _ _ all in pass _ _ (h sheet parts.0) (all_follow P f h sheets parts.1)
+
+module _ (a : Along) (e : EditKind) (id : ℕ) (edited : List ℕ) where
+  same_count : (sheets : List Sheet) → length (map (sheet_followed a e id edited) sheets) ≡ length sheets
+  same_count [] = refl
+  same_count (sheet ∷ sheets) = ap suc (same_count sheets)
+
+  same_ids : (sheets : List Sheet) → ids_of (map (sheet_followed a e id edited) sheets) ≡ ids_of sheets
+  same_ids [] = refl
+  same_ids (sheet ∷ sheets) = λ i. sheet.id ∷ same_ids sheets i
+
+  same_names : (sheets : List Sheet) → names_of (map (sheet_followed a e id edited) sheets) ≡ names_of sheets
+  same_names [] = refl
+  same_names (sheet ∷ sheets) = λ i. sheet.name ∷ same_names sheets i
+
+  sheets_stay : (sheets : List Sheet) → are_sheets (map (sheet_followed a e id edited) sheets) ≡ are_sheets sheets
+  unfolding are_sheets
+  sheets_stay sheets = λ i.
+      nat_lt 0 (same_count sheets i) && are_distinct (λ m n. m == n) (same_ids sheets i) && list_all is_sheet_name (same_names sheets i) && are_distinct same_folded (same_names sheets i)
+
+-- whatever its sheets are, and whichever of them the edit is of
+pub followed_well_formed : (a : Along) → IsAxis a → (e : EditKind) → IsValid a.last e → (id : ℕ) (book : Book) → IsWellFormed book → IsWellFormed (book_followed a e id book)
+followed_well_formed a l e valid id book h =
+    let edited : List ℕ = name_of (sheet_of book id) in
+    let f : Sheet → Sheet = sheet_followed a e id edited in
+    let parts = well_formed_parts book h in
+    well_formed_from_parts (book_followed a e id book) (
+      sheets_stay a e id edited book.worksheets ∙ parts.0,
+      all_follow have_trees f (λ sheet. trees_stay a l e valid id edited sheet) book.worksheets parts.1,
+      all_follow have_attributes f (λ sheet. attributes_stay a l e valid id edited sheet) book.worksheets parts.2,
+      all_follow are_frozen f (λ _ frozen. frozen) book.worksheets parts.3,
+    )

@@ -1,5 +1,3 @@
-pub mod StyleBytes
-pub mod CellBytes
 pub mod QueueBytes
 pub mod PartsAgain
 pub mod QueueLaws

@@ -9,9 +9,9 @@ ghost use Rattle.sheet_wire.specs.QueueLaws.{IsNoQueue};
 ghost use Rattle.sheet_history.specs.declared.QueueDiffs.{QueueDiffs};
 
 use crate::codes::direction_of;
-use crate::reading_cells::{cell_at, position_at};
 use base_values::{EditError, Items};
 use base_wire::{byte_at, count_at, u32_at};
+use cell_wire::{cell_at, position_at};
 use sheet_grid::Cell;
 use sheet_history::{Diff, DiffList, DiffType, QueueDiffs};
 use std::alloc::Global;

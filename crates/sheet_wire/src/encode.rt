@@ -1,16 +1,14 @@
-//! The bytes of queues and styles.
+//! The bytes of queues.
 
 ghost use Rattle.std.specs.Prelude.{◌≡◌, ◌++◌, OnOk, IfOk, IsOkUnless};
 ghost use Rattle.base_values.specs.declared.EditError.TheVariants.{NoMemory};
 ghost use Rattle.base_wire.specs.Spelling.{spell_option};
-ghost use Rattle.sheet_wire.specs.StyleBytes.{spell_style};
-ghost use Rattle.sheet_wire.specs.CellBytes.{spell_cell};
+ghost use Rattle.cell_wire.specs.CellBytes.{spell_cell};
 ghost use Rattle.sheet_wire.specs.QueueBytes.{spell_diff, spell_entry, spell_queue};
 
 use crate::codes::direction_code;
-use crate::writing::{put_cell, put_position, put_style};
-use base_styles::Style;
 use base_values::EditError;
+use cell_wire::{put_cell, put_position};
 use sheet_grid::Cell;
 use sheet_history::{Diff, QueueDiffs};
 use std::alloc::{AllocError, Global};
@@ -70,15 +68,5 @@ pub fn encode_queue(alloc: Global, queue: &[QueueDiffs]) -> Result<Vec<u8>, Edit
     for entry in queue {
         put_entry(&mut out, entry)?;
     }
-    Ok(out)
-}
-
-/// The bytes of a style. Only want of memory is refused.
-pub fn encode_style(alloc: Global, style: &Style) -> Result<Vec<u8>, EditError>
-    ensures spelled { IfOk result (λ bytes. bytes.items ≡ spell_style style.now) }
-    ensures only { IsOkUnless result NoMemory }
-{
-    let mut out = Vec::new(alloc);
-    put_style(&mut out, style)?;
     Ok(out)
 }

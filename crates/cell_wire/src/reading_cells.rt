@@ -1,7 +1,8 @@
-//! Reading positions and cells from the front of bytes.
+//! Positions and cells from the front of bytes. Each reader answers the value and the bytes after it. It refuses
+//! with `ParseDiffs` bytes that are cut short or spell no such value.
 
 ghost use Rattle.base_values.specs.Answers.{Answers, map_ok};
-ghost use Rattle.sheet_wire.specs.CellBytes.{cell_at, content_at, position_at};
+ghost use Rattle.cell_wire.specs.CellBytes.{cell_at, content_at, position_at};
 
 use crate::reading_styles::style_at;
 use base_values::{EditError, Position};
@@ -10,8 +11,9 @@ use formula_wire::node_at;
 use sheet_grid::{Cell, Content};
 use std::alloc::Global;
 
+/// A row and a column, in the sheet or not (docs/FORMATS.md, "Bytes").
 #[tactic(auto, unfolding(crate::specs::CellBytes::position_at))]
-pub(crate) fn position_at(bytes: &[u8]) -> Result<(Position, &[u8]), EditError>
+pub fn position_at(bytes: &[u8]) -> Result<(Position, &[u8]), EditError>
     ensures { Answers (map_ok (λ x. (x.0, x.1.now)) result) (position_at bytes.now) }
 {
     let (row, rest) = i32_at(bytes)?;
@@ -54,8 +56,9 @@ fn content_at(alloc: Global, bytes: &[u8]) -> Result<(Content, &[u8]), EditError
     }
 }
 
+/// A content and a style (docs/FORMATS.md, "Bytes"). Also refuses with `NoMemory`.
 #[tactic(auto, unfolding(crate::specs::CellBytes::cell_at))]
-pub(crate) fn cell_at(alloc: Global, bytes: &[u8]) -> Result<(Cell, &[u8]), EditError>
+pub fn cell_at(alloc: Global, bytes: &[u8]) -> Result<(Cell, &[u8]), EditError>
     ensures { Answers (map_ok (λ x. (x.0, x.1.now)) result) (cell_at bytes.now) }
 {
     let (content, rest) = content_at(alloc, bytes)?;

@@ -1,8 +1,8 @@
-//! Reading styles from the front of bytes.
+//! Styles from the front of bytes.
 
 ghost use Rattle.base_values.specs.Answers.{Answers, map_ok};
 ghost use Rattle.base_wire.specs.Reading.{code_at};
-ghost use Rattle.sheet_wire.specs.StyleBytes.{alignment_at, alignment_option_at, border_at, border_code, border_item_at, border_styles, color_at, font_at, horizontal_code, horizontals, side_at, style_at, theme_code, theme_colors, vertical_code, verticals};
+ghost use Rattle.cell_wire.specs.StyleBytes.{alignment_at, alignment_option_at, border_at, border_code, border_item_at, border_styles, color_at, font_at, horizontal_code, horizontals, side_at, style_at, theme_code, theme_colors, vertical_code, verticals};
 
 use crate::codes::{border_style_of, horizontal_of, theme_of, vertical_of};
 use base_styles::{
@@ -158,8 +158,10 @@ fn alignment_option_at(bytes: &[u8]) -> Result<(Option<Alignment>, &[u8]), EditE
     }
 }
 
+/// A style, and the bytes after it (docs/FORMATS.md, "Bytes"). Refuses with `ParseDiffs` bytes that are cut
+/// short or spell no style, and with `NoMemory`.
 #[tactic(auto, unfolding(crate::specs::StyleBytes::style_at))]
-pub(crate) fn style_at(alloc: Global, bytes: &[u8]) -> Result<(Style, &[u8]), EditError>
+pub fn style_at(alloc: Global, bytes: &[u8]) -> Result<(Style, &[u8]), EditError>
     ensures { Answers (map_ok (λ x. (x.0, x.1.now)) result) (style_at bytes.now) }
 {
     let (font, rest) = font_at(bytes)?;

@@ -1,9 +1,9 @@
-//! Writing styles and cells at the end of bytes.
+//! Writing styles, positions and cells at the end of bytes. Want of memory may leave some of theirs there.
 
 ghost use Rattle.std.specs.Prelude.{◌≡◌, ◌++◌, OnOk};
 ghost use Rattle.base_wire.specs.Spelling.{spell_option};
-ghost use Rattle.sheet_wire.specs.StyleBytes.{spell_alignment, spell_border, spell_border_item, spell_color, spell_font, spell_style};
-ghost use Rattle.sheet_wire.specs.CellBytes.{spell_cell, spell_content, spell_position};
+ghost use Rattle.cell_wire.specs.StyleBytes.{spell_alignment, spell_border, spell_border_item, spell_color, spell_font, spell_style};
+ghost use Rattle.cell_wire.specs.CellBytes.{spell_cell, spell_content, spell_position};
 
 use crate::codes::{border_code, horizontal_code, theme_code, vertical_code};
 use base_styles::{Alignment, Border, BorderItem, Color, Font, Style};
@@ -73,7 +73,8 @@ fn put_alignment(out: &mut Vec<u8>, alignment: Option<Alignment>) -> Result<(), 
     Ok(())
 }
 
-pub(crate) fn put_style(out: &mut Vec<u8>, style: &Style) -> Result<(), AllocError>
+/// Adds the bytes of a style (docs/FORMATS.md, "Bytes").
+pub fn put_style(out: &mut Vec<u8>, style: &Style) -> Result<(), AllocError>
     ensures { OnOk result (out.new.items ≡ out.old.items ++ spell_style style.now) }
 {
     put_font(out, style.font)?;
@@ -83,8 +84,9 @@ pub(crate) fn put_style(out: &mut Vec<u8>, style: &Style) -> Result<(), AllocErr
     put_alignment(out, style.alignment)
 }
 
+/// Adds the row and the column of a position, in four bytes each (docs/FORMATS.md, "Bytes").
 #[tactic(auto, unfolding(crate::specs::CellBytes::spell_position))]
-pub(crate) fn put_position(out: &mut Vec<u8>, place: Position) -> Result<(), AllocError>
+pub fn put_position(out: &mut Vec<u8>, place: Position) -> Result<(), AllocError>
     ensures { OnOk result (out.new.items ≡ out.old.items ++ spell_position place) }
 {
     out.extend_from_slice(&place.row.to_be_bytes())?;
@@ -124,7 +126,8 @@ fn put_content(out: &mut Vec<u8>, content: &Content) -> Result<(), AllocError>
     Ok(())
 }
 
-pub(crate) fn put_cell(out: &mut Vec<u8>, cell: &Cell) -> Result<(), AllocError>
+/// Adds the bytes of a cell: its content, and its style (docs/FORMATS.md, "Bytes").
+pub fn put_cell(out: &mut Vec<u8>, cell: &Cell) -> Result<(), AllocError>
     ensures { OnOk result (out.new.items ≡ out.old.items ++ spell_cell cell.now) }
 {
     put_content(out, &cell.content)?;

@@ -13,7 +13,7 @@ use Rattle.base_wire.specs.Spelling.{spell_signed, spell_code, boolean_code, spe
 use Rattle.base_wire.specs.Parts.{boolean_at, error_at, spell_decimal, decimal_at}
 use Rattle.formula_wire.specs.NodeBytes.{spell_node, node_at}
 use Rattle.formula_wire.specs.Carried.{FitsNode}
-use Rattle.sheet_wire.specs.StyleBytes.{spell_style, style_at, FitsStyle}
+use Rattle.cell_wire.specs.StyleBytes.{spell_style, style_at, FitsStyle}
 
 -- ---- positions
 

@@ -3,6 +3,7 @@ mod Fits
 mod InputLaws
 mod InputRecord
 mod InputSteps
+mod KeptRows
 mod Own
 mod RowPlans
 mod RowSteps

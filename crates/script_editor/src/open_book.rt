@@ -15,7 +15,9 @@ ghost use Rattle.sheet_history.specs.Diffs.{IsKeptDiff, IsKeptList};
 ghost use Rattle.sheet_history.specs.declared.Diff.TheVariants.{Rows as RowsDiff};
 ghost use Rattle.sheet_history.specs.declared.DiffType.TheVariants.{Redo};
 ghost use Rattle.sheet_history.specs.Stacks.{undo_lists, redo_lists, spare};
+ghost use Rattle.sheet_wire.specs.Fitting.{IsKeptOfDiff};
 ghost use Rattle.sheet_wire.specs.QueueBytes.{FitsList};
+ghost use Rattle.sheet_wire.specs.RowsBytes.{IsKeptOfRows};
 ghost use Rattle.script_editor.specs.Document.{recorded, sending};
 ghost use Rattle.script_editor.specs.Inputs.{cell_change, entered, input_plan};
 ghost use Rattle.script_editor.specs.Machine.Edit.{Input, Rows};
@@ -61,14 +63,17 @@ fn entered(alloc: Global, old: &Option<Cell>, content: Content) -> Result<Option
     Ok(Some(Cell { content, style }))
 }
 
-/// A record of one diff. Bytes can carry it.
+/// A record of one diff. Bytes can carry it, or it is too large for them: that is want of memory.
 fn list_of(alloc: Global, diff: Diff) -> Result<DiffList, EditError>
-    requires { IsKeptDiff diff }
+    requires kept { IsKeptDiff diff }
+    requires of_rows { IsKeptOfDiff diff }
     ensures made { Answers result (Ok (diff ∷ [])) }
     ensures kept { IfOk result IsKeptList }
     ensures fits { IfOk result FitsList }
 {
-    diff_fits(&diff);
+    if !diff_fits(&diff) {
+        return Err(EditError::NoMemory);
+    }
     let mut list = Items::empty(alloc);
     list.push(diff)?;
     Ok(list)
@@ -111,7 +116,8 @@ fn rows_change(
     edit: EditKind,
     kept: KeptLines,
 ) -> Result<DiffList, EditError>
-    requires { IsKeptDiff (RowsDiff sheet edit kept) }
+    requires kept { IsKeptDiff (RowsDiff sheet edit kept) }
+    requires of_rows { IsKeptOfRows kept }
     ensures made { Answers result (Ok (RowsDiff sheet edit kept ∷ [])) }
     ensures kept { IfOk result IsKeptList }
     ensures fits { IfOk result FitsList }

@@ -1,6 +1,13 @@
-use Rattle.std.proofs.Common.{sym, subst}
+use Rattle.std.proofs.Common.{[], sym, subst}
 use Rattle.std.proofs.lemmas.List.Elements.{All-head}
+use Rattle.base_axis.specs.Along.{rows}
+use Rattle.sheet_lines.specs.Kept.{kept_lines}
+use Rattle.sheet_lines.specs.KeptNumbers.{AreKeptLines}
+use Rattle.sheet_history.specs.declared.Diff.TheVariants.{Rows as RowsDiff}
+use Rattle.sheet_history.specs.Diffs.{IsKeptDiff}
 use Rattle.sheet_history.specs.LineRecords.{record_kept}
+use Rattle.sheet_wire.specs.RowsBytes.{IsKeptOfRows}
+use Rattle.script_editor.proofs.KeptRows.{kept_of_rows}
 use Rattle.script_editor.proofs.RowPlans.{sheet_there}
 use Rattle.script_editor.proofs.open_book.OpenBook.make_rows.Goals as goal
 
@@ -10,5 +17,14 @@ line_edit-requires-clause-valid c = c.requires.valid
 pub line_edit-requires-clause-there : goal.line_edit-requires-clause-there
 line_edit-requires-clause-there c = sheet_there c.args.edit.now.kind _ c.requires.there
 
-pub rows_change-requires : goal.rows_change-requires
-rows_change-requires c = ?
+pub rows_change-requires-clause-kept : goal.rows_change-requires-clause-kept
+rows_change-requires-clause-kept c =
+    let it = c.in_ok-later.ensures {u = _} in
+    let edit = c.args.edit.now.kind in
+    let book = c.args.self.now.workbook in
+    let kept = kept_lines rows edit c.args.id book in
+    subst (λ k. IsKeptDiff (RowsDiff c.args.id edit k)) (sym it.kept)
+    (All-head IsKeptDiff (RowsDiff c.args.id edit kept) [] (record_kept edit c.args.id book c.requires (subst AreKeptLines it.kept it.numbers)))
+
+pub rows_change-requires-clause-of_rows : goal.rows_change-requires-clause-of_rows
+rows_change-requires-clause-of_rows c = subst IsKeptOfRows (sym (c.in_ok-later.ensures {u = _}).kept) (kept_of_rows c.args.edit.now.kind c.args.id c.args.self.now.workbook c.requires)

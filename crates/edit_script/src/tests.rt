@@ -116,8 +116,7 @@ fn rows_are_sent(rt: HostRuntime) -> Result<(), Fail> {
     let alloc = rt.alloc();
     let (outcome, output) = run_failing(alloc, "insert-rows 0 3 2\nsync", &[], &[])?;
     assert_eq!(rt; outcome, Ok(()));
-    let (bytes, book) = (TWO_ROWS, NEW_BOOK);
-    let expected = format!(in alloc; "ok\nsync {bytes}\ncopy\n{book}")?;
+    let expected = format!(in alloc; "ok\nsync {TWO_ROWS}\ncopy\n{NEW_BOOK}")?;
     assert_eq!(rt; output.bytes(), expected.as_bytes());
     Ok(())
 }

@@ -13,7 +13,7 @@ pub record IsOf (doc : Document) (s : State) : Type 0 where
 
 -- it is of some state
 abbrev pub IsReached : Document → Type 0
-IsReached doc = ∥ (s : State) × IsOf doc s ∥₁
+IsReached doc = ∥ ((s : State) × IsOf doc s) ∥₁
 
 -- the document of an open workbook
 abbrev pub document_in : OpenBook → Document

@@ -9,4 +9,6 @@ pub mod ReplayLaws
 pub mod KeptProps
 pub mod RuleLaws
 pub mod TestedLaws
+pub mod KeptTrees
+pub mod LineLaws
 pub mod LineRecords

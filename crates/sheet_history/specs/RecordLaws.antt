@@ -1,15 +1,14 @@
 -- Two workbooks have one record.
 use Rattle.std.proofs.Common.{◌≡◌, ℕ, Bool, true, List, map, T, ap, sym, subst, ◌∙◌}
-use Rattle.std.specs.Prelude.{IsTrue}
 use Rattle.std.specs.Cmp.{IsTotalOrder, on_total, then_total, nat_cmp_total}
 use Rattle.std.specs.Ordering.{nat_cmp}
-use Rattle.std.specs.FinMap.Entries.{same_entries, is_sorted}
+use Rattle.std.specs.FinMap.Entries.{same_entries}
 use Rattle.std.proofs.lemmas.Map.Lookups.{CmpEqualImpliesEq, exact_pairs, exact_unsigned}
 use Rattle.base_values.specs.declared.Position.{Position}
 use Rattle.base_values.specs.Places.{position_cmp, position_total, exact_positions}
 use Rattle.sheet_grid.specs.Book.{Book}
 use Rattle.sheet_history.specs.declared.diff.Diff.{Diff}
-use Rattle.sheet_history.specs.Records.{EntryKey, key_cmp, cell_diff, IsRecord}
+use Rattle.sheet_history.specs.Records.{key_cmp, cell_diff, IsRecord}
 
 pub key_total : IsTotalOrder key_cmp
 key_total = then_total (on_total (λ key. key.sheet) nat_cmp_total) (on_total (λ key. key.place) position_total)

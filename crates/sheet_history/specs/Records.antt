@@ -1,5 +1,5 @@
 -- The record of an edit: the entries in which two workbooks differ.
-use Rattle.std.proofs.Common.{◌≡◌, ℕ, List, [], ◌∷◌, map, Option, Some, None, Bool, cond}
+use Rattle.std.proofs.Common.{◌≡◌, ℕ, List, [], ◌∷◌, map, Option, Some, None}
 use Rattle.std.specs.Prelude.{slice_get, if◌then◌else◌, IsTrue}
 use Rattle.std.specs.Option.{option_map, option_and_then}
 use Rattle.std.specs.Ordering.{nat_cmp, ordering_then}

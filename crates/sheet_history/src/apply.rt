@@ -79,12 +79,7 @@ fn apply_forward(
 }
 
 /// Takes a diff's change back. `at` is its number in its list.
-fn apply_back(
-    alloc: Global,
-    workbook: &mut Workbook,
-    diff: &Diff,
-    at: u64,
-) -> Result<(), EditError>
+fn apply_back(alloc: Global, workbook: &mut Workbook, diff: &Diff, at: u64) -> Result<(), EditError>
     requires { IsKeptDiff diff.now }
     ensures { Edits result workbook.old workbook.new (step_back at workbook.old diff.now) }
 {
@@ -144,11 +139,7 @@ fn by_rule(workbook: Workbook, at: u64) -> Result<Workbook, EditError>
 /// but the result breaks a rule, with the number of diffs. A cell cannot be put where its sheet is
 /// not there, its position is outside, or it may not stand there. docs/MODEL.md says when lines can
 /// be inserted and deleted.
-pub fn forward(
-    alloc: Global,
-    workbook: &Workbook,
-    list: &DiffList,
-) -> Result<Workbook, EditError>
+pub fn forward(alloc: Global, workbook: &Workbook, list: &DiffList) -> Result<Workbook, EditError>
     requires { IsKeptList list.now }
     ensures { Answers result (forwarded workbook.now list.now) }
 {

@@ -1,6 +1,6 @@
 //! Diffs of lines: whether they can be made and taken back, and what they do.
 
-ghost use Rattle.std.specs.Prelude.{◌≡◌, ◌&&◌, ◌==◌, IsTrue, Some, is_none, is_some, not};
+ghost use Rattle.std.specs.Prelude.{◌≡◌, ◌&&◌, ◌+ℤ◌, IsTrue, Some, int_lt, is_none, is_some, not};
 ghost use Rattle.std.specs.List.{list_all};
 ghost use Rattle.std.specs.Option.{option_copied};
 ghost use Rattle.std.specs.FinMap.{entries};
@@ -51,20 +51,24 @@ fn is_valid(last: i32, kind: EditKind) -> bool
     }
 }
 
+fn is_past(last: i32, line: i32, count: i32) -> bool
+    ensures { result ≡ int_lt last (line +ℤ count) }
+{
+    i64::from(last) < i64::from(line) + i64::from(count)
+}
+
 /// Whether an insertion takes a place past the last line.
 fn is_pushed_past<A: Axis>(first: i32, count: i32, place: Position) -> bool
     ensures { result ≡ is_pushed_past A.along first count place }
 {
     let line = A::line(place);
-    first <= line && i64::from(A::LAST) < i64::from(line) + i64::from(count)
+    first <= line && is_past(A::LAST, line, count)
 }
 
 fn none_pushed<A: Axis>(first: i32, count: i32, sheet: &Worksheet) -> bool
     ensures { result ≡ list_all (λ (entry : Position × Cell). not (is_pushed_past A.along first count entry.0)) (entries sheet.now.cells) }
 {
-    sheet
-        .cells()
-        .all(|(place, _cell)| !is_pushed_past::<A>(first, count, *place))
+    sheet.cells().all(|(place, _cell)| !is_pushed_past::<A>(first, count, *place))
 }
 
 /// Whether no cell of a sheet is pushed past the last line.
@@ -100,7 +104,8 @@ fn is_lost_place<A: Axis>(edit: &LineEdit<A>, place: Position) -> bool
 fn are_lost_places<A: Axis, V>(edit: &LineEdit<A>, map: &PlaceMap<V>) -> bool
     ensures { result ≡ are_lost (place_image A.along edit.now.kind) map.now }
 {
-    map.iter().all(|(place, _value)| is_lost_place(edit, *place))
+    map.iter()
+        .all(|(place, _value)| is_lost_place(edit, *place))
 }
 
 #[tactic(auto, unfolding(sheet_lines::specs::Way::line_image))]
@@ -221,9 +226,7 @@ fn sheet_trees_stand<A: Axis>(
 {
     let is_edited = sheet.get_sheet_id() == id;
     let cells = sheet.cell_map();
-    trees
-        .iter()
-        .all(|(place, tree)| tree_stands(edit, is_edited, cells, *place, tree))
+    trees.iter().all(|(place, tree)| tree_stands(edit, is_edited, cells, *place, tree))
 }
 
 #[tactic(auto, unfolding(crate::specs::LineDiffs::trees_stand))]
@@ -251,22 +254,13 @@ fn formulas_stand<A: Axis>(
 ) -> bool
     ensures { result ≡ formulas_stand A.along edit.now.kind id formulas.now workbook.now }
 {
-    formulas
-        .iter()
-        .all(|(sheet, trees)| trees_stand(edit, id, sheet_of(workbook, *sheet), trees))
+    formulas.iter().all(|(sheet, trees)| trees_stand(edit, id, sheet_of(workbook, *sheet), trees))
 }
 
-fn goes_forward<A: Axis>(
-    edit: &LineEdit<A>,
-    id: u32,
-    kept: &KeptLines,
-    workbook: &Workbook,
-) -> bool
+fn goes_forward<A: Axis>(edit: &LineEdit<A>, id: u32, kept: &KeptLines, workbook: &Workbook) -> bool
     ensures { result ≡ goes_forward A.along id edit.now.kind kept.now workbook.now }
 {
-    is_valid(A::LAST, edit.kind)
-        && is_there_inside(edit, workbook, id)
-        && stand_on_lost(edit, kept)
+    is_valid(A::LAST, edit.kind) && is_there_inside(edit, workbook, id) && stand_on_lost(edit, kept)
 }
 
 /// Makes an edit of lines, where it can be made. `at` is the number of its diff.
@@ -298,12 +292,7 @@ fn is_there_inside_back<A: Axis>(edit: &LineEdit<A>, workbook: &Workbook, id: u3
     is_there_inside(&edit.opposite(), workbook, id)
 }
 
-fn goes_back<A: Axis>(
-    edit: &LineEdit<A>,
-    id: u32,
-    kept: &KeptLines,
-    workbook: &Workbook,
-) -> bool
+fn goes_back<A: Axis>(edit: &LineEdit<A>, id: u32, kept: &KeptLines, workbook: &Workbook) -> bool
     ensures value { result ≡ goes_back A.along id edit.now.kind kept.now workbook.now }
     ensures valid { IsTrue result → IsValid A.along.last edit.now.kind }
     ensures there { IsTrue result → IsTrue (is_some (sheet_of workbook.now id)) }

@@ -26,7 +26,14 @@ fn keeps_rules(list: &DiffList) -> bool
     ensures { result ≡ keeps_rules list.now }
 {
     match list.as_slice() {
-        [Diff::Cell { sheet: _, position: _, old: _, new }] => has_font(new),
+        [
+            Diff::Cell {
+                sheet: _,
+                position: _,
+                old: _,
+                new,
+            },
+        ] => has_font(new),
         _ => false,
     }
 }
@@ -36,17 +43,20 @@ fn keeps_rules_back(list: &DiffList) -> bool
     ensures { result ≡ keeps_rules_back list.now }
 {
     match list.as_slice() {
-        [Diff::Cell { sheet: _, position: _, old, new: _ }] => has_font(old),
+        [
+            Diff::Cell {
+                sheet: _,
+                position: _,
+                old,
+                new: _,
+            },
+        ] => has_font(old),
         _ => false,
     }
 }
 
 /// Makes the changes of a list in a well-formed workbook, and tests the result where it has to.
-fn follow_forward(
-    alloc: Global,
-    workbook: &mut Workbook,
-    list: &DiffList,
-) -> Result<(), EditError>
+fn follow_forward(alloc: Global, workbook: &mut Workbook, list: &DiffList) -> Result<(), EditError>
     requires kept { IsKeptList list.now }
     requires rules { IsWellFormed workbook.old }
     ensures { Edits result workbook.old workbook.new (forwarded workbook.old list.now) }
@@ -60,11 +70,7 @@ fn follow_forward(
 
 /// Takes the changes of a list back in a well-formed workbook, and tests the result where it has
 /// to.
-fn follow_back(
-    alloc: Global,
-    workbook: &mut Workbook,
-    list: &DiffList,
-) -> Result<(), EditError>
+fn follow_back(alloc: Global, workbook: &mut Workbook, list: &DiffList) -> Result<(), EditError>
     requires kept { IsKeptList list.now }
     requires rules { IsWellFormed workbook.old }
     ensures { Edits result workbook.old workbook.new (backed workbook.old list.now) }

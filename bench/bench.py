@@ -1,8 +1,9 @@
 #!/usr/bin/env python3
 """Times the built programs on inputs of two sizes, and prints how the times grow.
 
-Run ./run once before, and `rt run` in crates/formula_bench, so that the programs are built. The
-second input of each pair is ten times as long; the aim is that it takes at most 25 times as long.
+Run ./run once before, and `rt run <stdin` in crates/formula_bench and crates/lines_bench, so that the
+programs are built. The second input of each pair is ten times as long; the aim is that it takes at
+most 25 times as long, and 30 times where lines are inserted and taken back.
 The memory is the greatest resident set of the run.
 """
 
@@ -15,11 +16,14 @@ import time
 TOP = os.path.dirname(os.path.dirname(os.path.abspath(__file__)))
 EDITOR = os.path.join(TOP, "crates", "edit_script", "out", "edit_script")
 PRINTER = os.path.join(TOP, "crates", "formula_bench", "out", "formula_bench")
+LINES = os.path.join(TOP, "crates", "lines_bench", "out", "lines_bench")
 SMALL, LARGE = 10_000, 100_000
 FEW, MANY = 1_000, 10_000
 ROUNDS = 200
 READS = 20
 AIM = 25
+LINE_ROUNDS = 5
+LINE_AIM = 30
 
 
 FORMULA = "=A1+$B$2*SUM(C3:D9)"
@@ -105,6 +109,30 @@ def pair(name, script, program=EDITOR, sizes=(SMALL, LARGE)):
     return large, output, memory, ratio <= AIM
 
 
+def line_seconds(count, insertions, returns):
+    """The seconds of so many insertions in a workbook of so many formulas, or of so many ways back."""
+    seconds, _, _ = run(LINES, [str(count), str(insertions), str(returns)])
+    return seconds
+
+
+def line_edits():
+    """How the time of an insertion of rows grows, and of going back, each by itself."""
+    fast = True
+    times = {}
+    for count in (SMALL, LARGE):
+        built = line_seconds(count, 0, 0)
+        edited = line_seconds(count, LINE_ROUNDS, 0) - built
+        back = line_seconds(count, 0, LINE_ROUNDS) - built - edited / LINE_ROUNDS
+        times[count] = (edited, back)
+    for name, small, large in zip(("rows inserted", "rows taken back"), times[SMALL], times[LARGE]):
+        ratio = large / small
+        state = "ok" if ratio <= LINE_AIM else "TOO SLOW"
+        print(f"{name}: {SMALL} and {LARGE} formulas, ratio {ratio:.1f} (at most {LINE_AIM}: {state})")
+        print(f"  {large / LINE_ROUNDS / LARGE * 1e9:.0f} ns a formula")
+        fast = fast and ratio <= LINE_AIM
+    return fast
+
+
 def shares(formula_seconds):
     """How the time of a set and a get of a formula is shared out, against a text of the same length."""
     text_seconds, _, _ = run(EDITOR, texts(LARGE))
@@ -122,6 +150,9 @@ def main():
         sys.exit("bench: build the program first, by ./run examples/first.script")
     if not os.path.exists(PRINTER):
         sys.exit("bench: build the printing program first, by `rt run <stdin` in crates/formula_bench")
+    if not os.path.exists(LINES):
+        sys.exit("bench: build the program of line edits first, by `rt run <stdin` in crates/lines_bench")
+    fast_lines = line_edits()
     seconds, _, memory, fast = pair("sets", sets)
     print(f"  {seconds / LARGE * 1e9:.0f} ns an edit, at most {memory / LARGE:.0f} bytes a set cell in all")
     _, _, _, fast_back = pair("sets, undos and redos", all_and_back)
@@ -134,7 +165,7 @@ def main():
     _, _, _, fast_read = pair(f"bytes of a formula, read {READS} times", long_formula)
     _, _, _, fast_print = pair("arguments printed in five forms", printed_call, PRINTER, (FEW, MANY))
     _, _, _, fast_names = pair("bound names printed for Excel", printed_names, PRINTER, (FEW, MANY))
-    all_fast = fast and fast_back and fast_sync and fast_set and fast_read and fast_print and fast_names
+    all_fast = fast and fast_back and fast_sync and fast_set and fast_read and fast_print and fast_names and fast_lines
     sys.exit(0 if all_fast else 1)
 
 

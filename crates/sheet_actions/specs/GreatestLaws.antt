@@ -13,14 +13,7 @@ use Rattle.sheet_grid.specs.Dimension.{IsGreatest, IsLeastRectangle, first_place
 use Rattle.sheet_grid.specs.Sheet.{Sheet}
 use Rattle.sheet_actions.specs.GreatestLine.{greatest_line}
 
--- numbers have one greatest
-pub one_greatest : (numbers : List ℤ) (m n : ℤ) → IsGreatest numbers m → IsGreatest numbers n → m ≡ n
-one_greatest numbers m n g h =
-    let up : m ≤ℤ n = All-contains (λ k. k ≤ℤ n) numbers m h.above g.among in
-    let down : n ≤ℤ m = All-contains (λ k. k ≤ℤ m) numbers n g.above h.among in
-    omega (arith, ints)
-
--- of numbers that are at least 1 it is the greatest beside 1
+-- the greatest of numbers that are at least 1 is the greatest of them and 1
 greatest_is : (numbers : List ℤ) (g : ℤ) → All (λ k. pos 1 ≤ℤ k) numbers → IsGreatest numbers g → g ≡ fold int_max (pos 1) numbers
 greatest_is numbers g low h =
     let f : ℤ = fold int_max (pos 1) numbers in

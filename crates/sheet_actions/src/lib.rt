@@ -4,10 +4,15 @@
 //! `Model` makes such edits.
 #![tactic(auto)]
 
+mod laws;
 mod model;
 mod plan;
 
+pub use laws::edit_keeps_rules;
 pub use model::Model;
 pub use plan::{plan_delete, plan_insert};
 pub use sheet_lines::{KeptLines, line_back, line_edit};
 pub use sheet_rules::{broken_rule, is_well_formed};
+
+#[cfg(test)]
+mod tests;

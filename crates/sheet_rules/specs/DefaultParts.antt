@@ -1,10 +1,9 @@
 -- The default style, part by part.
-use Rattle.std.proofs.Common.{◌≡◌, Bool, false, ◌&&◌, List, ℕ, Option, Some, None, refl, ap, sym, ◌∙◌}
+use Rattle.std.proofs.Common.{◌≡◌, Bool, ◌&&◌, List, ℕ, Option, Some, None, refl, ap, sym}
 use Rattle.std.specs.Prelude.{is_none, codes, nat_eq}
 use Rattle.std.specs.Bool.{Decides}
-use Rattle.std.specs.Option.{option_eq}
 use Rattle.std.specs.Cmp.Lexicographic.{bytes_decides, pointwise}
-use Rattle.std.proofs.lemmas.Bool.Decides.{Decides-like, Decides-and, same_from_decides}
+use Rattle.std.proofs.lemmas.Bool.Decides.{Decides-like, Decides-and}
 use Rattle.base_values.specs.CodedEq.{is_same_value}
 use Rattle.base_styles.specs.ColorEquals.{color_equals}
 use Rattle.base_styles.specs.BorderEquals.{border_equals}

@@ -1,0 +1,23 @@
+ghost use Rattle.std.specs.Prelude.{◌≡◌};
+ghost use Rattle.line_map.specs.Edit.{IsValid};
+ghost use Rattle.sheet_lines.specs.Followed.{book_followed};
+ghost use Rattle.sheet_lines.specs.Kept.{kept_lines};
+ghost use Rattle.sheet_lines.specs.Back.{book_back};
+ghost use Rattle.sheet_rules.specs.WellFormed.{IsWellFormed};
+
+use base_axis::Axis;
+use line_map::LineEdit;
+use sheet_grid::Workbook;
+
+/// The law of line edits: a well-formed workbook stays well-formed, and going back with what was
+/// kept gives it, no matter what lies on lines that are lost.
+pub fn edit_keeps_rules<A: Axis>(workbook: &Workbook, sheet_id: u32, edit: &LineEdit<A>)
+    requires valid { IsValid A.along.last edit.now.kind }
+    requires rules { IsWellFormed workbook.now }
+    ensures rules { IsWellFormed (book_followed A.along edit.now.kind sheet_id workbook.now) }
+    ensures back { book_back A.along edit.now.kind sheet_id (kept_lines A.along edit.now.kind sheet_id workbook.now) (book_followed A.along edit.now.kind sheet_id workbook.now) ≡ workbook.now }
+{
+    let _ = workbook;
+    let _ = sheet_id;
+    let _ = edit;
+}

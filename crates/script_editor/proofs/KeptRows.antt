@@ -34,7 +34,6 @@ use Rattle.sheet_wire.specs.RowsBytes.{IsKeptOfRows}
 
 -- ---- rows
 
-
 not_plain : (b : Bool) → not b ≡ true → b ≡ false
 not_plain true h = cc
 not_plain false h = refl

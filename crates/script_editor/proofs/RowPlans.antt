@@ -44,7 +44,7 @@ module _ (a : Along) where
   none_past first count top [] most fits = refl
   none_past first count top (cell ∷ cells) most fits =
       λ i. not_past first count (a.line cell.0) top (All-head (λ line. line ≤ℤ top) (a.line cell.0) (map a.line (map (λ entry. entry.0) cells)) most) fits i
-          && none_past first count top cells (All-tail (λ line. line ≤ℤ top) (a.line cell.0) (map a.line (map (λ entry. entry.0) cells)) most) fits i
+      && none_past first count top cells (All-tail (λ line. line ≤ℤ top) (a.line cell.0) (map a.line (map (λ entry. entry.0) cells)) most) fits i
 
   insertion_stays : (sheet : Sheet) (first count : ℤ) → int_lt a.last (greatest_line a sheet +ℤ count) ≡ false → stays_inside a (Insert first count) sheet ≡ true
   unfolding greatest_line stays_inside

@@ -4,6 +4,7 @@ mod InputLaws
 mod InputRecord
 mod InputSteps
 mod KeptRows
+mod Lists
 mod Own
 mod RowPlans
 mod RowSteps

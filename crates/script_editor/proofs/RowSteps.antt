@@ -1,5 +1,5 @@
 -- Rows that are inserted or deleted are a sound step.
-use Rattle.std.proofs.Common.{◌≡◌, ℕ, List, length, Result, Ok, Err, refl, ap, sym, subst, ◌∙◌}
+use Rattle.std.proofs.Common.{◌≡◌, ℕ, List, [], ◌∷◌, length, Result, Ok, Err, refl, ap, sym, subst, ◌∙◌}
 use Rattle.base_values.specs.declared.EditError.{EditError}
 use Rattle.base_values.specs.declared.EditError.TheVariants.{InvalidRow}
 use Rattle.base_values.specs.Answers.{map_ok}
@@ -9,8 +9,11 @@ use Rattle.line_map.specs.declared.EditKind.{EditKind}
 use Rattle.sheet_grid.specs.Sheet.{Sheet}
 use Rattle.sheet_grid.specs.Book.{Book, sheet_at}
 use Rattle.sheet_rules.specs.WellFormed.{IsWellFormed}
+use Rattle.sheet_lines.specs.declared.KeptLines.{KeptLines}
 use Rattle.sheet_lines.specs.Followed.{book_followed}
+use Rattle.sheet_lines.specs.Kept.{kept_lines}
 use Rattle.sheet_history.specs.declared.Diff.{Diff}
+use Rattle.sheet_history.specs.declared.Diff.TheVariants.{Rows as RowsDiff}
 use Rattle.sheet_history.specs.Diffs.{made, taken_back}
 use Rattle.sheet_history.specs.LineRecords.{record_made, record_taken_back}
 use Rattle.sheet_history.specs.Records.{IsRowEdit, line_record}
@@ -58,6 +61,15 @@ planned_document doc index kind id edit plan =
 pub refused_document : (doc : Document) (index : ℕ) (kind : EditKind) (error : EditError) → lines_planned rows InvalidRow kind index doc.book ≡ Err error → document_edit (Rows index kind) doc ≡ Err error
 refused_document doc index kind error plan =
     ap (λ r. map_ok (λ later. recorded (record_of (Rows index kind) doc.book later) doc later) (map_ok (λ p. book_followed rows p.1 p.0 doc.book) r)) plan
+
+-- the list that was made is the record of the edit
+pub list_is : (kind : EditKind) (id : ℕ) (kept : KeptLines) (book : Book) (list : List Diff) → kept ≡ kept_lines rows kind id book → ◌≡◌ {A = Result (List Diff) EditError} (Ok (RowsDiff id kind kept ∷ [])) (Ok list) → list ≡ line_record kind id book
+list_is kind id kept book list kept_is made = let same : RowsDiff id kind kept ∷ [] ≡ list = cc in sym same ∙ ap (λ k. RowsDiff id kind k ∷ []) kept_is
+
+-- to install the followed workbook with it is to record the edit
+pub installed_document : (kind : EditKind) (id : ℕ) (doc : Document) (later : Book) (list : List Diff) → later ≡ book_followed rows kind id doc.book → list ≡ line_record kind id doc.book
+    → ◌≡◌ {A = Result Document EditError} (Ok (recorded list doc later)) (Ok (rows_recorded kind id doc))
+installed_document kind id doc later list later_is list_is = λ i. Ok (recorded (list_is i) doc (later_is i))
 
 -- ---- the step
 

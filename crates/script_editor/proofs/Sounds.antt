@@ -200,9 +200,9 @@ reached_rules doc reached = ∥∥₁_elim reached (hlevel props) (λ is. subst 
 
 -- ---- the bytes of a sync
 
-pub flushed_replays : (editor : Editor) (s : State) (bytes : List ℕ) → StandsFor editor s → length editor.queue < 2 ^ 63 → bytes ≡ spell_queue editor.queue → replayed_bytes s.synced bytes ≡ Ok s.present
+pub flushed_replays : (editor : Editor) (s : State) (bytes : List ℕ) → StandsFor editor s → length editor.book.queue < 2 ^ 63 → bytes ≡ spell_queue editor.book.queue → replayed_bytes s.synced bytes ≡ Ok s.present
 flushed_replays editor s bytes stands short is =
-    let queue : editor.queue ≡ map entry_of s.sent = ap (λ (d : Document). d.queue) stands.document in
+    let queue : editor.book.queue ≡ map entry_of s.sent = ap (λ (d : Document). d.queue) stands.document in
     let few : length (map entry_of s.sent) < 2 ^ 63 = subst (λ (q : List QueueDiffs). length q < 2 ^ 63) queue short in
     ap (replayed_bytes s.synced) (is ∙ ap spell_queue queue)
     ∙ ap (λ r. and_then r (replayed s.synced)) (queue_again (map entry_of s.sent) (record { short = omega arith; each = stands.sound.fits }))

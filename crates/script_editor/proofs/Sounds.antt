@@ -11,7 +11,7 @@ use Rattle.base_tables.specs.declared.Locale.TheVariants.{En}
 use Rattle.base_tables.specs.declared.Zone.TheVariants.{Utc}
 use Rattle.sheet_grid.specs.Book.{Book}
 use Rattle.sheet_rules.specs.WellFormed.{IsWellFormed}
-use Rattle.sheet_rules.specs.WellFormedLaws.{new_book_rules}
+use Rattle.sheet_rules.specs.WellFormedLaws.{well_formed-new}
 use Rattle.sheet_history.specs.declared.DiffType.TheVariants.{Undo, Redo}
 use Rattle.sheet_history.specs.declared.QueueDiffs.{QueueDiffs}
 use Rattle.sheet_history.specs.Diffs.{made, taken_back, forwarded, backed, follow, in_entry, replayed}
@@ -27,7 +27,7 @@ use Rattle.script_editor.specs.Stands.{StandsFor, Moves, document_of, replayed_b
 use Rattle.script_editor.proofs.Tested.{passed}
 
 pub sound_start : IsSound start
-sound_start = record { present = new_book_rules (codes "workbook") En Utc; past = tt; undone = tt; replays = refl; fits = tt }
+sound_start = record { present = well_formed-new (codes "workbook") En Utc; past = tt; undone = tt; replays = refl; fits = tt }
 
 all_push : {A : Type 0} (P : A → Type 0) (xs : List A) (x : A) → AllByRecursion P xs → P x → AllByRecursion P (xs ++ x ∷ [])
 all_push P [] x all p = (p, tt)

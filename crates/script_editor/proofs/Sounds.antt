@@ -22,7 +22,7 @@ use Rattle.script_editor.specs.declared.editor.Editor.{Editor}
 use Rattle.script_editor.specs.Document.{Document, document, document_edit, document_undo, undo_at, document_redo, redo_at, recorded, undone, redone}
 use Rattle.script_editor.specs.Machine.{Edit, Step, Sent, State, start, changed, record_of, step_record, edited, edit_of, undo_from, undo_of, redo_from, redo_of, synced_of, entry_of}
 use Rattle.script_editor.specs.Sound.{IsSendable, IsSoundStep, Leads, Follows, IsSound}
-use Rattle.script_editor.specs.Reached.{IsReached}
+use Rattle.script_editor.specs.Reached.{IsOf, IsReached}
 use Rattle.script_editor.specs.Stands.{StandsFor, Moves, document_of, replayed_bytes}
 use Rattle.script_editor.proofs.Tested.{passed}
 
@@ -197,6 +197,18 @@ reached_on old new result step moves reached = ∥∥₁_map reached (λ is. mov
 -- a document that is of some state has a well-formed workbook
 pub reached_rules : (doc : Document) → IsReached doc → IsWellFormed doc.book
 reached_rules doc reached = ∥∥₁_elim reached (hlevel props) (λ is. subst IsWellFormed (sym (ap (λ (d : Document). d.book) is.1.document)) is.1.sound.present)
+
+-- the document with an empty queue is of the state after a sync
+pub synced_document : (doc new : Document) (s : State) → IsOf doc s → new.book ≡ doc.book → new.undo ≡ doc.undo → new.redo ≡ doc.redo → new.queue ≡ [] → IsOf new (synced_of s)
+synced_document doc new s is book undo redo queue = record {
+  document = λ i. record {
+    book = (book ∙ ap (λ (d : Document). d.book) is.document) i;
+    undo = (undo ∙ ap (λ (d : Document). d.undo) is.document) i;
+    redo = (redo ∙ ap (λ (d : Document). d.redo) is.document) i;
+    queue = queue i;
+  };
+  sound = sound_sync s is.sound;
+}
 
 -- ---- the bytes of a sync
 

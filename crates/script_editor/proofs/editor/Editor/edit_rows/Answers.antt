@@ -17,3 +17,6 @@ returns-clause-next c = λ state stands.
     (on_ok_map c.edit_rows.result
     (λ sendable next is. sound_rows c.args.sheet c.args.kind state next stands.sound (sendable_in c.args.self.now state edit stands sendable) is)
     c.edit_rows.ensures.sendable)
+
+pub invariant_of-self : goal.invariant_of-self
+invariant_of-self c = record { reached = reached_on c.args.self.now _ c.edit_rows.result (edit_of (Rows c.args.sheet c.args.kind)) (returns-clause-next c) c.args.self.now.reached }

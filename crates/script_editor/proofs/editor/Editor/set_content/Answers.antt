@@ -21,3 +21,6 @@ returns-clause-next c = λ state stands.
     (on_ok_map c.enter.result
     (λ sendable next is. sound_input c.args.sheet c.args.row c.args.column c.args.content state next stands.sound c.requires.fits (sendable_in c.args.self.now state edit stands sendable) is)
     (simp to_z-of_z at c.enter.ensures.sendable))
+
+pub invariant_of-self : goal.invariant_of-self
+invariant_of-self c = record { reached = reached_on c.args.self.now _ c.enter.result (edit_of (Input c.args.sheet c.args.row c.args.column c.args.content)) (returns-clause-next c) c.args.self.now.reached }

@@ -11,8 +11,5 @@ returns-clause-replays c = λ state stands.
     flushed_replays c.args.self.now state c.in_ok-bytes.bytes.items stands c.as_slice.ensures.small
     ((c.in_ok-bytes.ensures {u = _}).spelled ∙ ap spell_queue c.as_slice.ensures.items)
 
-pub returns-clause-next : goal.returns-clause-next
-returns-clause-next c = λ state stands. synced_document (document_of c.args.self.now) _ state stands refl refl refl (search rules)
-
 pub invariant_of-self : goal.invariant_of-self
-invariant_of-self c = record { reached = ∥∥₁_map c.args.self.now.reached (λ is. (synced_of is.0, returns-clause-next c is.0 is.1)) }
+invariant_of-self c = record { reached = ∥∥₁_map c.args.self.now.reached (λ is. (synced_of is.0, synced_document (document_of c.args.self.now) _ is.0 is.1 refl refl refl (search rules))) }

@@ -1,3 +1,4 @@
+pub mod RowsBytes
 pub mod QueueBytes
 pub mod PartsAgain
 pub mod QueueLaws

@@ -4,10 +4,14 @@ ghost use Rattle.std.specs.Prelude.{IfSome, IsTrue};
 ghost use Rattle.sheet_grid.specs.FittingCells.{is_shallow_entry};
 ghost use Rattle.sheet_grid.specs.KeptCell.{IsKeptCell};
 ghost use Rattle.cell_wire.specs.CellBytes.{FitsCell};
+ghost use Rattle.sheet_wire.specs.RowsBytes.{FitsEdit};
 ghost use Rattle.sheet_wire.specs.QueueBytes.{FitsDiff};
+ghost use Rattle.sheet_wire.specs.Fitting.{IsKeptOfDiff};
 ghost use Rattle.sheet_history.specs.Diffs.{IsKeptDiff};
 
 use cell_wire::{cell_fits, position_fits};
+use kept_wire::kept_rows_fit;
+use line_map::EditKind;
 use sheet_grid::Cell;
 use sheet_history::Diff;
 
@@ -21,10 +25,20 @@ fn entry_fits(entry: &Option<Cell>)
     }
 }
 
-/// A diff whose cells have numbers as a sheet keeps them, and no formula deeper than 64, can be spelled.
-pub fn diff_fits(diff: &Diff)
-    requires { IsKeptDiff diff.now }
-    ensures { FitsDiff diff.now }
+fn edit_fits(edit: EditKind)
+    ensures { FitsEdit edit }
+{
+    match edit {
+        EditKind::Insert { .. } | EditKind::Delete { .. } => {}
+    }
+}
+
+/// Whether a diff can be spelled: one of cells always, one of rows where it keeps fewer than `2 ^ 64`
+/// trees. Its numbers are as a sheet keeps them, and no formula of it is deeper than 64.
+pub fn diff_fits(diff: &Diff) -> bool
+    requires kept { IsKeptDiff diff.now }
+    requires of_rows { IsKeptOfDiff diff.now }
+    ensures { IsTrue result → FitsDiff diff.now }
 {
     match diff {
         Diff::Cell {
@@ -37,6 +51,12 @@ pub fn diff_fits(diff: &Diff)
             position_fits(*position);
             entry_fits(old);
             entry_fits(new);
+            true
+        }
+        Diff::Rows { sheet, edit, kept } => {
+            let _parts = (*sheet, *edit);
+            edit_fits(*edit);
+            kept_rows_fit(kept)
         }
     }
 }

@@ -3,6 +3,8 @@ ghost use Rattle.base_values.specs.Answers.{Answers};
 ghost use Rattle.base_values.specs.declared.EditError.TheVariants.{NoMemory};
 ghost use Rattle.formula_content.specs.Fitting.{fits_at};
 ghost use Rattle.formula_content.specs.KeptContent.{IsKeptContent};
+ghost use Rattle.std.proofs.Props.{props};
+ghost use Rattle.sheet_rules.specs.WellFormed.{IsWellFormed};
 ghost use Rattle.edit_script.specs.Script.{content_at, refusal, outcome, got, typed};
 
 use base_values::{EditError, Position, copy_of, place_of};
@@ -12,13 +14,14 @@ use script_lines::{Command, push_escaped, read_command, split_first, without_ret
 use sheet_grid::{Content, Workbook};
 use std::alloc::Global;
 
-/// A script's editor, its second copy, and its answers so far.
+/// A script's editor, its second copy, which is well-formed, and its answers so far.
 #[derive(Drop)]
 pub(crate) struct Session {
     pub(crate) alloc: Global,
     pub(crate) editor: Editor,
     pub(crate) copy: Workbook,
     pub(crate) out: Vec<u8>,
+    ghost rules: { IsWellFormed copy } by { Prim.hlevel props },
 }
 
 fn push_refusal(out: &mut Vec<u8>, error: EditError) -> Result<(), EditError>
@@ -117,7 +120,7 @@ fn typed(alloc: Global, row: i32, column: i32, text: &str) -> Result<Content, Ed
 impl Session {
     ghost use Rattle.script_editor.specs.Machine.{State, start};
     ghost use Rattle.script_lines.specs.Commands.{command_of};
-    ghost use Rattle.script_lines.specs.declared.Command.TheVariants.{Set, Get, Undo, Redo, Sync, Show};
+    ghost use Rattle.script_lines.specs.declared.Command.TheVariants.{Set, Get, InsertRows, DeleteRows, Undo, Redo, Sync, Show};
     ghost use Rattle.edit_script.specs.Script.{reply_to, next_of, line_reply, line_next, lines_of, replies, after};
     ghost use Rattle.edit_script.specs.Session.{SessionStands, Runs, SoundThrough};
 
@@ -152,6 +155,22 @@ impl Session {
     {
         let found = content_at(self.editor.workbook(), sheet, row, column);
         push_content(self.alloc, &mut self.out, position(row, column), found)
+    }
+
+    fn insert_rows(&mut self, sheet: u32, row: i32, count: i32) -> Result<(), EditError>
+        ensures { (state : State) → SessionStands self.old state →
+            Runs result self.old self.new (reply_to (InsertRows sheet row count) state) (next_of (InsertRows sheet row count) state) }
+    {
+        let done = self.editor.insert_rows(sheet, row, count);
+        push_outcome(&mut self.out, done)
+    }
+
+    fn delete_rows(&mut self, sheet: u32, row: i32, count: i32) -> Result<(), EditError>
+        ensures { (state : State) → SessionStands self.old state →
+            Runs result self.old self.new (reply_to (DeleteRows sheet row count) state) (next_of (DeleteRows sheet row count) state) }
+    {
+        let done = self.editor.delete_rows(sheet, row, count);
+        push_outcome(&mut self.out, done)
     }
 
     fn undo(&mut self) -> Result<(), EditError>
@@ -203,6 +222,8 @@ impl Session {
                 text,
             } => self.set(sheet, row, column, text.as_str()),
             Command::Get { sheet, row, column } => self.get(sheet, row, column),
+            Command::InsertRows { sheet, row, count } => self.insert_rows(sheet, row, count),
+            Command::DeleteRows { sheet, row, count } => self.delete_rows(sheet, row, count),
             Command::Undo => self.undo(),
             Command::Redo => self.redo(),
             Command::Sync => self.sync(),

@@ -12,6 +12,10 @@ const NEW_BOOK: &str = "book en UTC workbook\nsheet 1 visible 1 0 0 - Sheet1\nen
 const ONE_CELL: &str =
     "494351310000000000000001010000000000000001010000000100000001000000010001010000000000000000000000000000000100000000000000000d000000000000000000000000000767656e6572616c00";
 
+/// The bytes of a sync after `insert-rows 0 3 2` alone.
+const TWO_ROWS: &str =
+    "4943513100000000000000010100000000000000010700000001000000000003000000020000000000000000000000000000000000000000000000000000000000000000000000000000000000";
+
 /// The outcome of a script whose listed reads and writes fail, and what was written.
 fn run_failing(
     alloc: Global,
@@ -64,6 +68,38 @@ fn scripts_are_answered(rt: HostRuntime) -> Result<(), Fail> {
             "set 0 A1 1\nset 0 A1\nshow",
             "ok\nok\nbook en UTC workbook\nsheet 1 visible 1 0 0 - Sheet1\ncell A1 - empty\nend\n",
         ),
+        (
+            "set 0 C1 =A5+$B$2\ninsert-rows 0 3 2\nget 0 C1",
+            "ok\nok\nvalue =A7+$B$2\n",
+        ),
+        (
+            "set 0 C1 =A5+$B$2\ndelete-rows 0 5 1\nget 0 C1\nundo\nget 0 C1",
+            "ok\nok\nvalue =#REF!+$B$2\nok\nvalue =A5+$B$2\n",
+        ),
+        (
+            "set 0 A1 1\nset 0 C5 =A1\ndelete-rows 0 1 1048576\nget 0 C5\nundo\nget 0 C5",
+            "ok\nok\nok\nvalue \nok\nvalue =A1\n",
+        ),
+        (
+            "set 0 A1048576 1\ninsert-rows 0 1 1\nget 0 A1048576",
+            "ok\nerror OverEdge\nvalue 1\n",
+        ),
+        (
+            "insert-rows 0 7 1048576\ninsert-rows 0 7 1048575\nundo",
+            "error OverEdge\nok\nok\n",
+        ),
+        (
+            "delete-rows 0 1048576 1\ndelete-rows 0 1048576 2\ninsert-rows 0 1 2147483647",
+            "ok\nerror TargetOutOfBounds\nerror OverEdge\n",
+        ),
+        (
+            "insert-rows 1 0 0\ninsert-rows 0 0 0\ndelete-rows 0 -1 1\ndelete-rows 0 1",
+            "error InvalidSheet\nerror BadCount\nerror InvalidRow\nerror BadLine\n",
+        ),
+        (
+            "set 0 A1 1\nundo\ninsert-rows 0 1 0\nredo\nget 0 A1",
+            "ok\nok\nerror BadCount\nok\nvalue 1\n",
+        ),
     ];
     for (script, answers) in scripts {
         let (outcome, output) = run_failing(rt.alloc(), script, &[], &[])?;
@@ -71,6 +107,17 @@ fn scripts_are_answered(rt: HostRuntime) -> Result<(), Fail> {
         assert!(rt; output.bytes().starts_with(answers.as_bytes()), "{script}");
         assert!(rt; output.bytes().ends_with(NEW_BOOK.as_bytes()), "{script}");
     }
+    Ok(())
+}
+
+/// Rows that came are sent with what they keep, which is nothing.
+#[test]
+fn rows_are_sent(rt: HostRuntime) -> Result<(), Fail> {
+    let alloc = rt.alloc();
+    let (outcome, output) = run_failing(alloc, "insert-rows 0 3 2\nsync", &[], &[])?;
+    assert_eq!(rt; outcome, Ok(()));
+    let expected = format!(in alloc; "ok\nsync {TWO_ROWS}\ncopy\n{NEW_BOOK}")?;
+    assert_eq!(rt; output.bytes(), expected.as_bytes());
     Ok(())
 }
 

@@ -21,7 +21,7 @@ use Rattle.formula_content.specs.declared.Content.{Content}
 use Rattle.formula_content.specs.declared.Content.TheVariants.{Empty, Formula, Dynamic}
 use Rattle.sheet_grid.specs.declared.SheetState.{SheetState}
 use Rattle.sheet_grid.specs.declared.SheetState.TheVariants.{Visible, Hidden, VeryHidden}
-use Rattle.sheet_wire.specs.StyleBytes.{theme_code, spell_style}
+use Rattle.cell_wire.specs.StyleBytes.{theme_code, spell_style}
 use Rattle.script_lines.specs.Escapes.{escaped}
 use Rattle.script_lines.specs.References.{reference_text}
 use Rattle.formula_input.specs.Inputs.{input_text}

@@ -5,7 +5,7 @@ ghost use Rattle.std.specs.List.{flat_map};
 ghost use Rattle.base_values.specs.Places.{IsPlace};
 ghost use Rattle.base_values.specs.declared.error.EditError.TheVariants.{NoMemory};
 ghost use Rattle.base_styles.specs.DefaultStyle.{default_style};
-ghost use Rattle.sheet_wire.specs.StyleBytes.{theme_code, spell_style};
+ghost use Rattle.cell_wire.specs.StyleBytes.{theme_code, spell_style};
 ghost use Rattle.script_lines.specs.Escapes.{escaped};
 ghost use Rattle.script_dump.specs.Text.{hex};
 ghost use Rattle.script_dump.specs.Dump.{flag_text, state_text, color_text, same_style, style_text, content_word, content_text, book_line, sheet_line, cell_line, sheet_lines, dump};
@@ -15,9 +15,9 @@ use crate::lines::{push_columns, push_links, push_rows};
 use crate::text::{push_capital_hex, push_hex, push_line, push_signed, push_unsigned, push_word};
 use base_styles::{Color, Style, ThemeColor};
 use base_values::{EditError, Position};
+use cell_wire::encode_style;
 use script_lines::{push_escaped, push_reference};
 use sheet_grid::{Cell, Content, SheetState, Workbook, Worksheet};
-use sheet_wire::encode_style;
 use std::alloc::{AllocError, Global};
 
 pub(crate) fn flag_text(flag: bool) -> &'static str

@@ -1,5 +1,5 @@
 -- What an input that is accepted found and made.
-use Rattle.std.proofs.Common.{◌≡◌, ℕ, ℤ, cond, List, Option, Some, None, Result, Ok, Err, refl, ap, sym, ◌∙◌}
+use Rattle.std.proofs.Common.{◌≡◌, ℕ, ℤ, cond, List, Option, Some, None, Result, Ok, Err, refl, ap, sym, subst, ◌∙◌}
 use Rattle.std.specs.Prelude.{slice_get}
 use Rattle.std.specs.Cmp.{eq_by_cmp_equiv}
 use Rattle.std.specs.FinMap as fin
@@ -15,6 +15,8 @@ use Rattle.sheet_grid.specs.FittingLaws.{place_is}
 use Rattle.sheet_grid.specs.Sheet.{Sheet, with_cell, shown_style, cell_put}
 use Rattle.sheet_grid.specs.Book.{Book, sheet_at, sheet_edit, with_sheet}
 use Rattle.sheet_history.specs.declared.Diff.{Diff}
+use Rattle.sheet_wire.specs.QueueBytes.{FitsList}
+use Rattle.script_editor.specs.Sound.{IsSendable}
 use Rattle.script_editor.specs.Inputs.{entered, with_input, input_put, cell_change, place_change, plan_at, input_plan}
 use Rattle.script_editor.specs.Machine.{record_of}
 use Rattle.script_editor.specs.Document.{Document, document_edit, recorded, cell_recorded}
@@ -91,19 +93,37 @@ planned w index row column content new list is = go (sheet_at w index) refl (pla
     go (Ok sheet) one (Err error) two e = absurd (let never : Err error ≡ Ok (new, list) = e in cc)
     go (Err error) one q two e = absurd (let never : Err error ≡ Ok (new, list) = e in cc)
 
+module _ (w : Book) (index : ℕ) (row column : ℤ) (content : Content) (new : Option Cell) (list : List Diff) (plan : input_plan index row column content w ≡ Ok (new, list)) where
+  abbrev it : Planned w index row column content new list
+  it = planned w index row column content new list plan
+
+  abbrev put_book : Book
+  put_book = with_sheet w index (with_cell it.sheet it.place new)
+
+  last : input_book w index it.sheet content it.place ≡ put_book
+  last = ap (λ e. with_sheet w index (with_cell it.sheet it.place e)) it.entry
+
+  plan_made : input_put index row column content w ≡ Ok put_book
+  plan_made = input_made w index row column content it.sheet it.place it.at it.named ∙ ap Ok last
+
+  plan_record : record_of (Input index row column content) w put_book ≡ list
+  plan_record = ap (record_of (Input index row column content) w) (sym last) ∙ input_record w index row column content it.sheet it.place it.at it.named ∙ it.changes
+
+  plan_put : sheet_edit w index (λ s. cell_put s row column new) ≡ Ok put_book
+  plan_put = λ i. and_then (it.at i) (λ s. map_ok (with_sheet w index) (map_ok (λ p. with_cell s p new) (it.named i)))
+
+  -- bytes can carry the record, if they can carry the list
+  pub plan_sendable : FitsList list → IsSendable (Input index row column content) w
+  plan_sendable fits later how =
+      let both : ◌≡◌ {A = Result Book EditError} (Ok put_book) (Ok later) = sym plan_made ∙ how in
+      let same : put_book ≡ later = cc in
+      subst FitsList (sym plan_record ∙ ap (record_of (Input index row column content) w) same) fits
+
 -- to put a planned entry and its list is the edit
 pub recorded_document : (doc : Document) (index : ℕ) (row column : ℤ) (content : Content) (new : Option Cell) (list : List Diff)
     → input_plan index row column content doc.book ≡ Ok (new, list) → cell_recorded index row column new list doc ≡ document_edit (Input index row column content) doc
 recorded_document doc index row column content new list plan =
-    let it = planned doc.book index row column content new list plan in
-    let w : Book = doc.book in
-    let later : Book = with_sheet w index (with_cell it.sheet it.place new) in
-    let put : sheet_edit w index (λ s. cell_put s row column new) ≡ Ok later =
-    (λ i. and_then (it.at i) (λ s. map_ok (with_sheet w index) (map_ok (λ p. with_cell s p new) (it.named i)))) in
-    let book : Book = input_book w index it.sheet content it.place in
-    let last : book ≡ later = ap (λ e. with_sheet w index (with_cell it.sheet it.place e)) it.entry in
-    let made : input_put index row column content w ≡ Ok later = input_made w index row column content it.sheet it.place it.at it.named ∙ ap Ok last in
-    let record_is : record_of (Input index row column content) w later ≡ list =
-    ap (record_of (Input index row column content) w) (sym last) ∙ input_record w index row column content it.sheet it.place it.at it.named ∙ it.changes in
-    ap (map_ok (λ b. recorded list doc b)) put ∙ ap (λ l. Ok (recorded l doc later)) (sym record_is)
-    ∙ sym (ap (map_ok (λ b. recorded (record_of (Input index row column content) w b) doc b)) made)
+    let later : Book = put_book doc.book index row column content new list plan in
+    ap (map_ok (λ b. recorded list doc b)) (plan_put doc.book index row column content new list plan)
+    ∙ ap (λ l. Ok (recorded l doc later)) (sym (plan_record doc.book index row column content new list plan))
+    ∙ sym (ap (map_ok (λ b. recorded (record_of (Input index row column content) doc.book b) doc b)) (plan_made doc.book index row column content new list plan))

@@ -1,63 +1,26 @@
--- Workbooks that bytes can carry, before and after an input.
-use Rattle.std.proofs.Common.{◌≡◌, ℕ, lit<, Bool, true, false, cond, List, zero, suc, Option, Some, None, refl, ap, sym, subst, ◌∙◌, ⊎_elim}
-use Rattle.std.specs.Prelude.{IfSome, IsTrue, slice_get, codes}
-use Rattle.std.specs.Ordering.{eq_by_cmp}
-use Rattle.std.proofs.lemmas.Bool.{cases_eq}
+-- The entry that an input makes may stand at its place, and has a font.
+use Rattle.std.proofs.Common.{◌≡◌, ℕ, ℤ, Bool, true, List, zero, suc, ◌∷◌, [], Option, Some, None, refl, ap, sym, ◌∙◌}
+use Rattle.std.specs.Prelude.{IsTrue, slice_get}
+use Rattle.std.specs.List.{list_all}
 use Rattle.std.specs.FinMap as fin
+use Rattle.std.specs.FinMap.{entries}
 use Rattle.base_values.specs.declared.Position.{Position}
-use Rattle.base_tables.specs.declared.Locale.TheVariants.{En}
-use Rattle.base_tables.specs.declared.Zone.TheVariants.{Utc}
-use Rattle.base_values.specs.KeyMap.{get-with_entry}
-use Rattle.base_values.specs.Places.{position_cmp, position_total}
-use Rattle.sheet_grid.specs.declared.Cell.{Cell}
+use Rattle.base_values.specs.Places.{position_cmp, position_total, exact_positions}
 use Rattle.formula_content.specs.declared.Content.{Content}
 use Rattle.formula_content.specs.declared.Content.TheVariants.{Empty, Number, Boolean, Error, Text, Formula, Dynamic}
 use Rattle.formula_content.specs.Fitting.{fits_at}
+use Rattle.sheet_grid.specs.declared.Cell.{Cell}
 use Rattle.sheet_grid.specs.FittingCells.{entry_fits_at}
-use Rattle.sheet_grid.specs.FittingLaws.{sheets_fit-new, sheets_fit-set}
-use Rattle.sheet_grid.specs.Sheet.{Sheet, with_cell, style_of, new_sheet}
-use Rattle.sheet_grid.specs.Book.{Book, index_of, with_sheet}
-use Rattle.sheet_wire.specs.CellBytes.{FitsCell, FitsContent}
-use Rattle.sheet_wire.specs.Fitting.{default_style_fits}
+use Rattle.sheet_grid.specs.Sheet.{Sheet, style_of}
+use Rattle.sheet_grid.specs.Book.{Book}
+use Rattle.sheet_rules.specs.EntryLaws.{both}
+use Rattle.sheet_rules.specs.WellFormed.{have_attributes, has_font, IsWellFormed}
+use Rattle.sheet_rules.specs.WellFormedLaws.{well_formed_parts}
+use Rattle.sheet_history.specs.Entries.{entry_holds}
+use Rattle.sheet_history.specs.RuleLaws.{entry_has_font}
 use Rattle.script_editor.specs.Inputs.{new_cell, entered}
-use Rattle.script_editor.specs.Machine.{first_book}
-use Rattle.script_editor.specs.Sound.{IsFit, IsFitSheet}
-use Rattle.script_editor.proofs.InputLaws.{get_set, get_set_other, index_of-with_sheet}
 
--- ---- the first workbook
-
-no_cells : (id : ℕ) (name : List ℕ) (place : Position) → IfSome (fin.get (new_sheet id name).cells place) FitsCell
-no_cells id name place = subst (λ o. IfSome o FitsCell) (sym (fin.get-empty position_cmp place)) tt
-
-abbrev first_sheet : Sheet
-first_sheet = new_sheet 1 (codes "Sheet1")
-
-pub first_fit : IsFit first_book
-first_fit = record { own = own; sheets = sheets; fits = sheets_fit-new (codes "workbook") En Utc }
-  where
-    own : (index : ℕ) (sheet : Sheet) → slice_get first_book.worksheets index ≡ Some sheet → index_of first_book sheet.id ≡ Some index
-    own zero sheet is = let same : first_sheet ≡ sheet = cc in ap (λ (s : Sheet). index_of first_book s.id) (sym same)
-    own (suc index) sheet is = cc
-
-    sheets : (index : ℕ) (sheet : Sheet) → slice_get first_book.worksheets index ≡ Some sheet → IsFitSheet sheet
-    sheets zero sheet is = let same : first_sheet ≡ sheet = cc in subst IsFitSheet same (record { id = lit< tt; cells = no_cells 1 (codes "Sheet1") })
-    sheets (suc index) sheet is = cc
-
--- ---- after an input
-
-made_cell : (content : Content) → FitsContent content → IfSome (new_cell content (style_of None)) FitsCell
-made_cell Empty fits = tt
-made_cell (Number number) fits = record { content = fits; style = default_style_fits }
-made_cell (Boolean value) fits = record { content = fits; style = default_style_fits }
-made_cell (Error error) fits = record { content = fits; style = default_style_fits }
-made_cell (Text text) fits = record { content = fits; style = default_style_fits }
-made_cell (Formula tree) fits = record { content = fits; style = default_style_fits }
-made_cell (Dynamic tree) fits = record { content = fits; style = default_style_fits }
-
--- the entry that an input makes fits
-pub entered_fits : (old : Option Cell) (content : Content) → IfSome old FitsCell → FitsContent content → IfSome (entered old content (style_of old)) FitsCell
-entered_fits None content before fits = made_cell content fits
-entered_fits (Some cell) content before fits = record { content = fits; style = before.style }
+-- ---- places
 
 new_placed : (place : Position) (content : Content) → IsTrue (fits_at place content) → IsTrue (entry_fits_at place (new_cell content (style_of None)))
 new_placed place Empty fits = refl
@@ -68,42 +31,43 @@ new_placed place (Text text) fits = fits
 new_placed place (Formula tree) fits = fits
 new_placed place (Dynamic tree) fits = fits
 
--- and it may stand where its content may
+-- an entry may stand where its content may
 pub entered_placed : (place : Position) (old : Option Cell) (content : Content) → IsTrue (fits_at place content) → IsTrue (entry_fits_at place (entered old content (style_of old)))
 entered_placed place None content fits = new_placed place content fits
 entered_placed place (Some cell) content fits = fits
 
-module _ (w : Book) (index : ℕ) (sheet : Sheet) (place : Position) (entry : Option Cell) (fit : IsFit w) (found : slice_get w.worksheets index ≡ Some sheet) (fits : IfSome entry FitsCell) (placed : IsTrue (entry_fits_at place entry)) where
-  abbrev changed : Sheet
-  changed = with_cell sheet place entry
+-- ---- fonts
 
-  abbrev later : Book
-  later = with_sheet w index changed
+new_font : (content : Content) → IsTrue (entry_has_font (new_cell content (style_of None)))
+new_font Empty = refl
+new_font (Number number) = refl
+new_font (Boolean value) = refl
+new_font (Error error) = refl
+new_font (Text text) = refl
+new_font (Formula tree) = refl
+new_font (Dynamic tree) = refl
 
-  cells_fit : (q : Position) (b : Bool) → IfSome (cond b entry (fin.get sheet.cells q)) FitsCell
-  cells_fit q true = fits
-  cells_fit q false = (fit.sheets index sheet found).cells q
+-- it has the font of the cell before, or the default one
+pub entered_font : (old : Option Cell) (content : Content) → IsTrue (entry_has_font old) → IsTrue (entry_has_font (entered old content (style_of old)))
+entered_font None content font = new_font content
+entered_font (Some cell) content font = font
 
-  changed_fit : IsFitSheet changed
-  changed_fit = record {
-    id = (fit.sheets index sheet found).id;
-    cells = λ q. subst (λ o. IfSome o FitsCell) (sym (get-with_entry position_total sheet.cells place entry q)) (cells_fit q (eq_by_cmp position_cmp q place));
-  }
+list_at : (sheets : List Sheet) (index : ℕ) (sheet : Sheet) → slice_get sheets index ≡ Some sheet → list_all have_attributes sheets ≡ true → have_attributes sheet ≡ true
+list_at [] index sheet found all = absurd (cc)
+list_at (s ∷ sheets) zero sheet found all = let same : s ≡ sheet = cc in ap have_attributes (sym same) ∙ (both _ _ all).0
+list_at (s ∷ sheets) (suc index) sheet found all = list_at sheets index sheet found (both _ _ all).1
 
-  there : (j : ℕ) (s : Sheet) → slice_get later.worksheets j ≡ Some s → (P : Sheet → Type 0) → ((j ≡ index) → P changed) → ((slice_get w.worksheets j ≡ Some s) → P s) → P s
-  there j s is P same other = ⊎_elim
-      (λ e.
-      let one : Some s ≡ Some changed = sym is ∙ ap (slice_get later.worksheets) e ∙ get_set w.worksheets index sheet changed found in
-      let it : changed ≡ s = cc in
-      subst P it (same e))
-      (λ apart. other (sym (get_set_other w.worksheets index j changed apart) ∙ is))
-      (cases_eq j index)
+fonts_of : (sheet : Sheet) → have_attributes sheet ≡ true → list_all (λ (entry : Position × Cell). has_font entry.1.style) (entries sheet.cells) ≡ true
+unfolding have_attributes
+fonts_of sheet all = (both _ _ (both _ _ all).1).1
 
-  pub later_fit : IsFit later
-  later_fit = record {
-    own = λ j s is. there j s is (λ t. index_of later t.id ≡ Some j)
-        (λ e. index_of-with_sheet w index changed.id sheet changed found refl ∙ fit.own index sheet found ∙ ap Some (sym e))
-        (λ was. index_of-with_sheet w index s.id sheet changed found refl ∙ fit.own j s was);
-    sheets = λ j s is. there j s is IsFitSheet (λ e. changed_fit) (λ was. fit.sheets j s was);
-    fits = sheets_fit-set w index sheet place entry placed found fit.fits;
-  }
+-- the entries of a well-formed workbook have a font
+pub found_font : (book : Book) → IsWellFormed book → (index : ℕ) (sheet : Sheet) → slice_get book.worksheets index ≡ Some sheet → (place : Position) → IsTrue (entry_has_font (fin.get sheet.cells place))
+found_font book rules index sheet found place = go (fin.get sheet.cells place) refl
+  where
+    fonts : list_all (λ (entry : Position × Cell). has_font entry.1.style) (entries sheet.cells) ≡ true
+    fonts = fonts_of sheet (list_at book.worksheets index sheet found (well_formed_parts book rules).1.1.0)
+
+    go : (o : Option Cell) → fin.get sheet.cells place ≡ o → IsTrue (entry_has_font o)
+    go None is = refl
+    go (Some cell) is = entry_holds position_cmp position_total exact_positions (λ (entry : Position × Cell). has_font entry.1.style) sheet.cells fonts place cell is

@@ -23,8 +23,8 @@ use Rattle.sheet_grid.specs.Book.{Book, index_of, sheet_edit, with_sheet}
 use Rattle.sheet_grid.specs.FittingCells.{entry_fits_at}
 use Rattle.sheet_history.specs.declared.Diff.{Diff}
 use Rattle.sheet_history.specs.declared.Diff.TheVariants.{Cell as CellDiff}
-use Rattle.sheet_history.specs.Diffs.{put_in, forwarded, backed}
-use Rattle.sheet_history.specs.FitLaws.{put_in-fitting}
+use Rattle.sheet_history.specs.Diffs.{put_in, made, taken_back}
+use Rattle.sheet_history.specs.TestedLaws.{put_in-fitting}
 use Rattle.script_editor.specs.Inputs.{cell_change}
 
 -- an item put where it stands changes nothing
@@ -116,18 +116,18 @@ module _ (w : Book) (index : ℕ) (sheet : Sheet) (place : Position) (entry : Op
   changes = cell_change sheet.id place before entry
 
   -- the changes of one cell lead to the later workbook, where the new one fits
-  pub changes_forward : entry_fits_at place entry ≡ true → forwarded w changes ≡ Ok later
+  pub changes_forward : entry_fits_at place entry ≡ true → made w changes ≡ Ok later
   changes_forward fits = split (same_entry before entry) refl
     where
-      split : (b : Bool) → same_entry before entry ≡ b → forwarded w (cond b [] (CellDiff sheet.id place before entry ∷ [])) ≡ Ok later
+      split : (b : Bool) → same_entry before entry ≡ b → made w (cond b [] (CellDiff sheet.id place before entry ∷ [])) ≡ Ok later
       split true e = ap Ok (sym (unchanged w index sheet place entry found ((same_entry_decides before entry).0 e)))
       split false e = ap (λ r. and_then r (λ next. Ok next)) (put_in_found w index sheet found own 0 place entry inside fits)
 
   -- and back, where the old one fits
-  pub changes_back : entry_fits_at place before ≡ true → backed later changes ≡ Ok w
+  pub changes_back : entry_fits_at place before ≡ true → taken_back later changes ≡ Ok w
   changes_back fits = split (same_entry before entry) refl
     where
-      split : (b : Bool) → same_entry before entry ≡ b → backed later (cond b [] (CellDiff sheet.id place before entry ∷ [])) ≡ Ok w
+      split : (b : Bool) → same_entry before entry ≡ b → taken_back later (cond b [] (CellDiff sheet.id place before entry ∷ [])) ≡ Ok w
       split true e = ap Ok (unchanged w index sheet place entry found ((same_entry_decides before entry).0 e))
       split false e =
           let twice : slice_set (slice_set w.worksheets index (with_cell sheet place entry)) index (with_cell (with_cell sheet place entry) place before) ≡ w.worksheets =

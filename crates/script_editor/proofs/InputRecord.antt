@@ -17,7 +17,7 @@ use Rattle.sheet_grid.specs.CellEquals.{same_entry, same_entry_decides}
 use Rattle.sheet_grid.specs.Sheet.{Sheet, with_cell}
 use Rattle.sheet_grid.specs.Book.{Book, index_of, with_sheet}
 use Rattle.sheet_history.specs.declared.Diff.TheVariants.{Cell as CellDiff}
-use Rattle.sheet_history.specs.Records.{EntryKey, key_cmp, entry_at, frame_of, changed_entry, change_of, IsRecord}
+use Rattle.sheet_history.specs.Records.{EntryKey, key_cmp, entry_at, frame_of, changed_entry, Change, cell_diff, IsRecord}
 use Rattle.sheet_history.specs.RecordLaws.{key_total, exact_keys}
 use Rattle.script_editor.specs.Inputs.{cell_change}
 use Rattle.script_editor.proofs.InputLaws.{get_set, get_set_other, index_of-with_sheet, unchanged}
@@ -54,7 +54,15 @@ module _ (w : Book) (index : ℕ) (sheet : Sheet) (place : Position) (entry : Op
       map-set (λ (s : Sheet). record s { cells = fin.empty }) w.worksheets index sheet changed found refl in
       λ i. record w { worksheets = same i }
 
-  ordered : (b : Bool) → IsTrue (fin.is_sorted key_cmp (map change_of (cond b [] (CellDiff sheet.id place (fin.get sheet.cells place) entry ∷ []))))
+  -- the change, if the entry is another one
+  abbrev change : Bool → List Change
+  change same = cond same [] ((here, (fin.get sheet.cells place, entry)) ∷ [])
+
+  made_of : (same : Bool) → cond same [] (CellDiff sheet.id place (fin.get sheet.cells place) entry ∷ []) ≡ map cell_diff (change same)
+  made_of true = refl
+  made_of false = refl
+
+  ordered : (same : Bool) → IsTrue (fin.is_sorted key_cmp (change same))
   ordered true = refl
   ordered false = refl
 
@@ -120,14 +128,16 @@ module _ (w : Book) (index : ℕ) (sheet : Sheet) (place : Position) (entry : Op
       tie_false t f = let never : true ≡ false = sym t ∙ f in cc
 
   changes_at : (b : Bool) → same_entry old entry ≡ b → (key : EntryKey)
-      → fin.find key_cmp key (map change_of (cond b [] (CellDiff sheet.id place old entry ∷ []))) ≡ changed_entry (entry_at w key) (entry_at later key)
+      → fin.find key_cmp key (change b) ≡ changed_entry (entry_at w key) (entry_at later key)
   changes_at true e key =
       sym (ap (λ book. changed_entry (entry_at w key) (entry_at book key)) (unchanged w index sheet place entry found ((same_entry_decides old entry).0 e)) ∙ changed_entry-same (entry_at w key))
   changes_at false e key = at_key e key (eq_by_cmp key_cmp key here) refl
 
   pub changes_IsRecord : IsRecord w later (cell_change sheet.id place old entry)
   changes_IsRecord = record {
+    changes = change (same_entry old entry);
+    made_of = made_of (same_entry old entry);
     frame = frame;
     ordered = ordered (same_entry old entry);
-    changes = changes_at (same_entry old entry) refl;
+    exact = changes_at (same_entry old entry) refl;
   }

@@ -3,4 +3,10 @@ mod Fits
 mod InputLaws
 mod InputRecord
 mod InputSteps
+mod KeptRows
+mod Lists
+mod Own
+mod RowPlans
+mod RowSteps
 mod Sounds
+mod Tested

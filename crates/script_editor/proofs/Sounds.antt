@@ -1,25 +1,33 @@
 -- Every step of the machine keeps it sound, and an editor's documents go along.
 use Rattle.std.proofs.Common.{◌≡◌, ℕ, ◌+◌, ◌<◌, ◌^◌, List, [], ◌∷◌, ◌++◌, map, length, Result, Ok, Err, refl, ap, sym, subst, ◌∙◌, arith}
+use Rattle.std.specs.Prelude.{OnOk, codes}
 use Rattle.std.specs.List.{AllByRecursion}
+use Rattle.std.proofs.Math.Logic.{∥∥₁_elim, ∥∥₁_map}
 use Rattle.std.proofs.lemmas.List.{map_push}
+use Rattle.std.proofs.Props.{props}
 use Rattle.base_values.specs.declared.EditError.{EditError}
 use Rattle.base_values.specs.Answers.{Edits, and_then, map_ok}
+use Rattle.base_tables.specs.declared.Locale.TheVariants.{En}
+use Rattle.base_tables.specs.declared.Zone.TheVariants.{Utc}
 use Rattle.sheet_grid.specs.Book.{Book}
+use Rattle.sheet_rules.specs.WellFormed.{IsWellFormed}
+use Rattle.sheet_rules.specs.WellFormedLaws.{well_formed-new}
 use Rattle.sheet_history.specs.declared.DiffType.TheVariants.{Undo, Redo}
 use Rattle.sheet_history.specs.declared.QueueDiffs.{QueueDiffs}
-use Rattle.sheet_history.specs.Diffs.{forwarded, backed, follow, in_entry, replayed}
+use Rattle.sheet_history.specs.Diffs.{made, taken_back, forwarded, backed, follow, in_entry, replayed}
 use Rattle.sheet_history.specs.ReplayLaws.{replayed_from-push}
 use Rattle.sheet_wire.specs.QueueBytes.{FitsList, FitsEntry, spell_queue}
 use Rattle.sheet_wire.specs.QueueLaws.{queue_again}
 use Rattle.script_editor.specs.declared.editor.Editor.{Editor}
-use Rattle.script_editor.specs.Document.{Document, document, document_edit, document_undo, undo_at, document_redo, redo_at, recorded, taken_back, made_again}
+use Rattle.script_editor.specs.Document.{Document, document, document_edit, document_undo, undo_at, document_redo, redo_at, recorded, undone, redone}
 use Rattle.script_editor.specs.Machine.{Edit, Step, Sent, State, start, changed, record_of, step_record, edited, edit_of, undo_from, undo_of, redo_from, redo_of, synced_of, entry_of}
-use Rattle.script_editor.specs.Sound.{IsSoundStep, Leads, Follows, IsSound}
+use Rattle.script_editor.specs.Sound.{IsSendable, IsSoundStep, Leads, Follows, IsSound}
+use Rattle.script_editor.specs.Reached.{IsOf, IsReached}
 use Rattle.script_editor.specs.Stands.{StandsFor, Moves, document_of, replayed_bytes}
-use Rattle.script_editor.proofs.Fits.{first_fit}
+use Rattle.script_editor.proofs.Tested.{passed}
 
 pub sound_start : IsSound start
-sound_start = record { present = first_fit; past = tt; undone = tt; replays = refl; fits = tt }
+sound_start = record { present = well_formed-new (codes "workbook") En Utc; past = tt; undone = tt; replays = refl; fits = tt }
 
 all_push : {A : Type 0} (P : A → Type 0) (xs : List A) (x : A) → AllByRecursion P xs → P x → AllByRecursion P (xs ++ x ∷ [])
 all_push P [] x all p = (p, tt)
@@ -53,6 +61,14 @@ sound_edited edit s later sound step = record {
   fits = fits_more s sound (record { kind = Redo; step = step_of edit s later }) step.fits;
 }
 
+-- the state after an edit that is accepted is sound, if its step is
+pub sound_edit : (edit : Edit) (s next : State) → IsSound s → ((later : Book) → changed edit s.present ≡ Ok later → IsSoundStep (step_of edit s later)) → edit_of edit s ≡ Ok next → IsSound next
+sound_edit edit s next sound step is = go (changed edit s.present) refl is
+  where
+    go : (r : Result Book EditError) → changed edit s.present ≡ r → map_ok (edited edit s) r ≡ Ok next → IsSound next
+    go (Err error) how e = absurd (let never : ◌≡◌ {A = Result State EditError} (Err error) (Ok next) = e in cc)
+    go (Ok later) how e = let same : edited edit s later ≡ next = cc in subst IsSound same (sound_edited edit s later sound (step later how))
+
 -- a document goes along with an edit
 pub document_edited : (edit : Edit) (s : State) → document_edit edit (document s) ≡ map_ok document (edit_of edit s)
 document_edited edit s = go (changed edit s.present)
@@ -82,7 +98,7 @@ undo_along : (s : State) (past : List Step) → Leads past s.present → undo_at
 undo_along s [] leads = refl
 undo_along s (step ∷ past) leads =
     let queue = sym (map_push entry_of s.sent (record { kind = Undo; step = step })) in
-    ap (map_ok (taken_back (step_record step) (map step_record past) (document s))) (ap (λ book. backed book (step_record step)) (sym leads.0) ∙ leads.1.back)
+    ap (map_ok (undone (step_record step) (map step_record past) (document s))) (ap (λ book. taken_back book (step_record step)) (sym leads.0) ∙ passed _ (taken_back step.after (step_record step)) step.before leads.1.back)
     ∙ (λ i. Ok (record { book = step.before; undo = map step_record past; redo = step_record step ∷ map step_record s.undone; queue = queue i }))
 
 -- a document goes along with an undo
@@ -104,12 +120,12 @@ redo_sound s (step ∷ undone) sound follows = record {
 pub sound_redo : (s : State) → IsSound s → IsSound (redo_of s)
 sound_redo s sound = redo_sound s s.undone sound sound.undone
 
-redo_along : (s : State) (undone : List Step) → Follows undone s.present → redo_at (map step_record undone) (document s) ≡ Ok (document (redo_from undone s))
+redo_along : (s : State) (later : List Step) → Follows later s.present → redo_at (map step_record later) (document s) ≡ Ok (document (redo_from later s))
 redo_along s [] follows = refl
-redo_along s (step ∷ undone) follows =
+redo_along s (step ∷ later) follows =
     let queue = sym (map_push entry_of s.sent (record { kind = Redo; step = step })) in
-    ap (map_ok (made_again (step_record step) (map step_record undone) (document s))) (ap (λ book. forwarded book (step_record step)) (sym follows.0) ∙ follows.1.forth)
-    ∙ (λ i. Ok (record { book = step.after; undo = step_record step ∷ map step_record s.past; redo = map step_record undone; queue = queue i }))
+    ap (map_ok (redone (step_record step) (map step_record later) (document s))) (ap (λ book. made book (step_record step)) (sym follows.0) ∙ passed _ (made step.before (step_record step)) step.after follows.1.forth)
+    ∙ (λ i. Ok (record { book = step.after; undo = step_record step ∷ map step_record s.past; redo = map step_record later; queue = queue i }))
 
 -- a document goes along with a redo
 pub document_redone : (s : State) → IsSound s → document_redo (document s) ≡ map_ok document (Ok (redo_of s))
@@ -125,7 +141,7 @@ sound_sync s sound = record { present = sound.present; past = sound.past; undone
 -- a call that edits the document as the machine's step does takes the editor to what stands for the next state
 pub moves : (old new : Editor) (s : State) (result : Result (Unit {0}) EditError) (f : Document → Result Document EditError) (expected : Result State EditError)
     → StandsFor old s → Edits result (document_of old) (document_of new) (f (document_of old)) → f (document s) ≡ map_ok document expected
-    → ((next : State) → expected ≡ Ok next → IsSound next) → Moves result new s expected
+    → OnOk result ((next : State) → expected ≡ Ok next → IsSound next) → Moves result new s expected
 moves old new s (Ok u) f expected stands edits along sound = go expected along sound
   where
     led : f (document s) ≡ Ok (document_of new)
@@ -149,14 +165,56 @@ moves old new s (Err error) f expected stands edits along sound = record {
     go (Ok next) is = cc
     go (Err other) is = cc
 
+-- what bytes can carry of the editor's workbook they can of the state's
+pub sendable_in : (editor : Editor) (s : State) (edit : Edit) → StandsFor editor s → IsSendable edit (document_of editor).book → IsSendable edit s.present
+sendable_in editor s edit stands sendable = subst (IsSendable edit) (ap (λ (d : Document). d.book) stands.document) sendable
+
+-- what holds anyway holds of an accepted call too, and what an accepted call gives may be used for more
+pub on_ok : {A : Type 0} {T E : Type 0} (result : Result T E) → A → OnOk result A
+on_ok (Ok value) holds = holds
+on_ok (Err error) holds = tt
+
+pub on_ok_map : {A B : Type 0} {T E : Type 0} (result : Result T E) → (A → B) → OnOk result A → OnOk result B
+on_ok_map (Ok value) f holds = f holds
+on_ok_map (Err error) f holds = tt
+
 pub ok_next : (s next : State) → ◌≡◌ {A = Result State EditError} (Ok s) (Ok next) → IsSound s → IsSound next
 ok_next s next is sound = let same : s ≡ next = cc in subst IsSound same sound
 
+-- ---- the states of a document
+
+-- an editor that a call left stands for the next state, or for the same one
+moved : (new : Editor) (s : State) (result : Result (Unit {0}) EditError) (expected : Result State EditError) → Moves result new s expected → (next : State) × StandsFor new next
+moved new s (Ok u) (Ok next) moves = (next, moves.done)
+moved new s (Ok u) (Err error) moves = absurd (moves.done)
+moved new s (Err error) expected moves = (s, moves.refused.0)
+
+-- where each state leads on to one, the document is of some state again
+pub reached_on : (old new : Editor) (result : Result (Unit {0}) EditError) (step : State → Result State EditError) → ((s : State) → StandsFor old s → Moves result new s (step s))
+    → IsReached (document_of old) → IsReached (document_of new)
+reached_on old new result step moves reached = ∥∥₁_map reached (λ is. moved new is.0 result (step is.0) (moves is.0 is.1))
+
+-- a document that is of some state has a well-formed workbook
+pub reached_rules : (doc : Document) → IsReached doc → IsWellFormed doc.book
+reached_rules doc reached = ∥∥₁_elim reached (hlevel props) (λ is. subst IsWellFormed (sym (ap (λ (d : Document). d.book) is.1.document)) is.1.sound.present)
+
+-- the document with an empty queue is of the state after a sync
+pub synced_document : (doc new : Document) (s : State) → IsOf doc s → new.book ≡ doc.book → new.undo ≡ doc.undo → new.redo ≡ doc.redo → new.queue ≡ [] → IsOf new (synced_of s)
+synced_document doc new s is book undo redo queue = record {
+  document = λ i. record {
+    book = (book ∙ ap (λ (d : Document). d.book) is.document) i;
+    undo = (undo ∙ ap (λ (d : Document). d.undo) is.document) i;
+    redo = (redo ∙ ap (λ (d : Document). d.redo) is.document) i;
+    queue = queue i;
+  };
+  sound = sound_sync s is.sound;
+}
+
 -- ---- the bytes of a sync
 
-pub flushed_replays : (editor : Editor) (s : State) (bytes : List ℕ) → StandsFor editor s → length editor.queue < 2 ^ 63 → bytes ≡ spell_queue editor.queue → replayed_bytes s.synced bytes ≡ Ok s.present
+pub flushed_replays : (editor : Editor) (s : State) (bytes : List ℕ) → StandsFor editor s → length editor.book.queue < 2 ^ 63 → bytes ≡ spell_queue editor.book.queue → replayed_bytes s.synced bytes ≡ Ok s.present
 flushed_replays editor s bytes stands short is =
-    let queue : editor.queue ≡ map entry_of s.sent = ap (λ (d : Document). d.queue) stands.document in
+    let queue : editor.book.queue ≡ map entry_of s.sent = ap (λ (d : Document). d.queue) stands.document in
     let few : length (map entry_of s.sent) < 2 ^ 63 = subst (λ (q : List QueueDiffs). length q < 2 ^ 63) queue short in
     ap (replayed_bytes s.synced) (is ∙ ap spell_queue queue)
     ∙ ap (λ r. and_then r (replayed s.synced)) (queue_again (map entry_of s.sent) (record { short = omega arith; each = stands.sound.fits }))

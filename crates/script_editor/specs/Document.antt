@@ -2,14 +2,18 @@
 use Rattle.std.proofs.Common.{ℕ, ℤ, List, [], ◌∷◌, ◌++◌, map, Option, Result, Ok}
 use Rattle.base_values.specs.declared.EditError.{EditError}
 use Rattle.base_values.specs.Answers.{map_ok}
+use Rattle.base_axis.specs.Along.{rows}
+use Rattle.line_map.specs.declared.EditKind.{EditKind}
 use Rattle.sheet_grid.specs.declared.Cell.{Cell}
 use Rattle.sheet_grid.specs.Sheet.{cell_put}
 use Rattle.sheet_grid.specs.Book.{Book, sheet_edit}
+use Rattle.sheet_lines.specs.Followed.{book_followed}
 use Rattle.sheet_history.specs.declared.Diff.{Diff}
 use Rattle.sheet_history.specs.declared.DiffType.{DiffType}
 use Rattle.sheet_history.specs.declared.DiffType.TheVariants.{Undo, Redo}
 use Rattle.sheet_history.specs.declared.QueueDiffs.{QueueDiffs}
-use Rattle.sheet_history.specs.Diffs.{forwarded, backed}
+use Rattle.sheet_history.specs.Diffs.{made, taken_back}
+use Rattle.sheet_history.specs.Records.{line_record}
 use Rattle.script_editor.specs.Machine.{Edit, State, changed, record_of, step_record, entry_of}
 
 pub record Document : Type 0 where
@@ -36,28 +40,32 @@ recorded list doc later = record { book = later; undo = list ∷ doc.undo; redo 
 abbrev pub cell_recorded : ℕ → ℤ → ℤ → Option Cell → List Diff → Document → Result Document EditError
 cell_recorded index row column entry list doc = map_ok (recorded list doc) (sheet_edit doc.book index (λ sheet. cell_put sheet row column entry))
 
+-- rows of the sheet of an id inserted or deleted, and their record
+abbrev pub rows_recorded : EditKind → ℕ → Document → Document
+rows_recorded kind id doc = recorded (line_record kind id doc.book) doc (book_followed rows kind id doc.book)
+
 -- an edit of a document
 abbrev pub document_edit : Edit → Document → Result Document EditError
 document_edit edit doc = map_ok (λ later. recorded (record_of edit doc.book later) doc later) (changed edit doc.book)
 
 -- a document after the newest list to undo was taken back
-abbrev pub taken_back : List Diff → List (List Diff) → Document → Book → Document
-taken_back list rest doc earlier = record { book = earlier; undo = rest; redo = list ∷ doc.redo; queue = sending Undo list doc.queue }
+abbrev pub undone : List Diff → List (List Diff) → Document → Book → Document
+undone list rest doc earlier = record { book = earlier; undo = rest; redo = list ∷ doc.redo; queue = sending Undo list doc.queue }
 
 abbrev pub undo_at : List (List Diff) → Document → Result Document EditError
 undo_at [] doc = Ok doc
-undo_at (list ∷ rest) doc = map_ok (taken_back list rest doc) (backed doc.book list)
+undo_at (list ∷ rest) doc = map_ok (undone list rest doc) (taken_back doc.book list)
 
 abbrev pub document_undo : Document → Result Document EditError
 document_undo doc = undo_at doc.undo doc
 
 -- a document after the newest list to redo was made again
-abbrev pub made_again : List Diff → List (List Diff) → Document → Book → Document
-made_again list rest doc later = record { book = later; undo = list ∷ doc.undo; redo = rest; queue = sending Redo list doc.queue }
+abbrev pub redone : List Diff → List (List Diff) → Document → Book → Document
+redone list rest doc later = record { book = later; undo = list ∷ doc.undo; redo = rest; queue = sending Redo list doc.queue }
 
 abbrev pub redo_at : List (List Diff) → Document → Result Document EditError
 redo_at [] doc = Ok doc
-redo_at (list ∷ rest) doc = map_ok (made_again list rest doc) (forwarded doc.book list)
+redo_at (list ∷ rest) doc = map_ok (redone list rest doc) (made doc.book list)
 
 abbrev pub document_redo : Document → Result Document EditError
 document_redo doc = redo_at doc.redo doc

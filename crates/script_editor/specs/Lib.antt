@@ -1,5 +1,7 @@
-pub mod Document
 pub mod Inputs
+pub mod RowEdits
 pub mod Machine
+pub mod Document
 pub mod Sound
+pub mod Reached
 pub mod Stands

@@ -7,25 +7,31 @@ use Rattle.base_values.specs.Places.{place_of}
 use Rattle.base_tables.specs.declared.Locale.TheVariants.{En}
 use Rattle.base_tables.specs.declared.Zone.TheVariants.{Utc}
 use Rattle.formula_content.specs.declared.Content.{Content}
+use Rattle.line_map.specs.declared.EditKind.{EditKind}
 use Rattle.sheet_grid.specs.Book.{Book, new_book, sheet_at}
 use Rattle.sheet_history.specs.declared.Diff.{Diff}
 use Rattle.sheet_history.specs.declared.DiffType.{DiffType}
 use Rattle.sheet_history.specs.declared.DiffType.TheVariants.{Undo, Redo}
 use Rattle.sheet_history.specs.declared.QueueDiffs.{QueueDiffs}
 use Rattle.script_editor.specs.Inputs.{input_put, place_change}
+use Rattle.script_editor.specs.RowEdits.{rows_edited, rows_record}
 
 -- an edit with its arguments
 pub data Edit : Type 0 where
   -- the content that goes to a row and a column of the sheet at an index
   Input : ℕ → ℤ → ℤ → Content → Edit
+  -- the rows that are inserted in the sheet at an index, or deleted from it
+  Rows : ℕ → EditKind → Edit
 
 -- the workbook after an edit, or the edit's first refusal
 abbrev pub changed : Edit → Book → Result Book EditError
 changed (Input index row column content) book = input_put index row column content book
+changed (Rows index kind) book = rows_edited index kind book
 
 -- the record of an edit that led from one workbook to another
 abbrev pub record_of : Edit → Book → Book → List Diff
 record_of (Input index row column content) earlier later = place_change (sheet_at earlier index) (sheet_at later index) (place_of row column)
+record_of (Rows index kind) earlier later = rows_record kind earlier (sheet_at earlier index)
 
 -- an accepted edit, with the whole workbook before it and the whole workbook after it
 pub record Step : Type 0 where

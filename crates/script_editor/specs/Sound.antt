@@ -1,37 +1,42 @@
 -- What holds of every state that the machine reaches.
-use Rattle.std.proofs.Common.{◌≡◌, ℕ, ◌<◌, ◌^◌, List, [], ◌∷◌, map, Some, Ok}
-use Rattle.std.specs.Prelude.{IfSome, slice_get}
+use Rattle.std.proofs.Common.{◌≡◌, ℕ, List, [], ◌∷◌, map, Ok}
 use Rattle.std.specs.List.{AllByRecursion}
-use Rattle.std.specs.FinMap as fin
-use Rattle.base_values.specs.declared.Position.{Position}
-use Rattle.sheet_grid.specs.FittingCells.{SheetsFit}
+use Rattle.base_axis.specs.Along.{rows}
+use Rattle.line_map.specs.declared.EditKind.{EditKind}
 use Rattle.sheet_grid.specs.Sheet.{Sheet}
-use Rattle.sheet_grid.specs.Book.{Book, index_of}
+use Rattle.sheet_grid.specs.Book.{Book, sheet_at}
+use Rattle.sheet_rules.specs.WellFormed.{IsWellFormed}
+use Rattle.sheet_lines.specs.Followed.{book_followed}
+use Rattle.sheet_history.specs.declared.Diff.{Diff}
 use Rattle.sheet_history.specs.Diffs.{forwarded, backed, replayed}
-use Rattle.sheet_history.specs.Records.{IsRecord}
-use Rattle.sheet_wire.specs.CellBytes.{FitsCell}
+use Rattle.sheet_history.specs.Records.{IsRecord, line_record}
 use Rattle.sheet_wire.specs.QueueBytes.{FitsList, FitsEntry}
-use Rattle.script_editor.specs.Machine.{Step, State, step_record, entry_of}
+use Rattle.script_editor.specs.Machine.{Edit, Step, State, changed, record_of, step_record, entry_of}
+use Rattle.script_editor.specs.Machine.Edit.{Input, Rows}
 
--- a sheet whose id and cells bytes can carry
-pub record IsFitSheet (sheet : Sheet) : Type 0 where
-  pub id : sheet.id < 2 ^ 32
-  pub cells : (place : Position) → IfSome (fin.get sheet.cells place) FitsCell
+-- every sheet follows an edit of rows of the sheet at an index, and a list has that edit, with what taking it back does not give
+pub record IsRowsRecord (index : ℕ) (kind : EditKind) (earlier later : Book) (list : List Diff) : Type 0 where
+  pub sheet : Sheet
+  pub there : sheet_at earlier index ≡ Ok sheet
+  pub followed : book_followed rows kind sheet.id earlier ≡ later
+  pub recorded : list ≡ line_record kind sheet.id earlier
 
--- a workbook of such sheets, no two of one id, since the first sheet with a sheet's id is that sheet. Every cell may stand at its
--- place
-pub record IsFit (book : Book) : Type 0 where
-  pub own : (index : ℕ) (sheet : Sheet) → slice_get book.worksheets index ≡ Some sheet → index_of book sheet.id ≡ Some index
-  pub sheets : (index : ℕ) (sheet : Sheet) → slice_get book.worksheets index ≡ Some sheet → IsFitSheet sheet
-  pub fits : SheetsFit book
+-- the record of an input has exactly the entries that changed, and that of an edit of rows is the edit itself
+abbrev pub IsExact : Edit → Book → Book → List Diff → Type 0
+IsExact (Input index row column content) earlier later list = IsRecord earlier later list
+IsExact (Rows index kind) earlier later list = IsRowsRecord index kind earlier later list
 
--- the record of a step has exactly the entries that changed, and takes its earlier workbook to its later one and back
+-- bytes can carry the record of an edit of a workbook, if it is accepted
+abbrev pub IsSendable : Edit → Book → Type 0
+IsSendable edit book = (later : Book) → changed edit book ≡ Ok later → FitsList (record_of edit book later)
+
+-- the record of a step takes its earlier workbook to its later one and back, and both are well-formed
 pub record IsSoundStep (step : Step) : Type 0 where
-  pub before : IsFit step.before
-  pub after : IsFit step.after
+  pub before : IsWellFormed step.before
+  pub after : IsWellFormed step.after
   pub forth : forwarded step.before (step_record step) ≡ Ok step.after
   pub back : backed step.after (step_record step) ≡ Ok step.before
-  pub exact : IsRecord step.before step.after (step_record step)
+  pub exact : IsExact step.edit step.before step.after (step_record step)
   pub fits : FitsList (step_record step)
 
 -- each step, the newest first, ends where the one after it begins, and the newest one at the present workbook
@@ -49,7 +54,7 @@ abbrev pub Replays : State → Type 0
 Replays s = replayed s.synced (map entry_of s.sent) ≡ Ok s.present
 
 pub record IsSound (s : State) : Type 0 where
-  pub present : IsFit s.present
+  pub present : IsWellFormed s.present
   pub past : Leads s.past s.present
   pub undone : Follows s.undone s.present
   pub replays : Replays s

@@ -6,25 +6,23 @@ use Rattle.base_values.specs.declared.EditError.TheVariants.{NoMemory}
 use Rattle.base_values.specs.Answers.{and_then}
 use Rattle.sheet_grid.specs.Book.{Book}
 use Rattle.sheet_history.specs.Diffs.{replayed}
-use Rattle.sheet_history.specs.Stacks.{undo_lists, redo_lists}
 use Rattle.sheet_wire.specs.QueueBytes.{queue_of, spell_queue}
 use Rattle.script_editor.specs.declared.editor.Editor.{Editor}
-use Rattle.script_editor.specs.Document.{Document, document}
+use Rattle.script_editor.specs.Document.{Document}
 use Rattle.script_editor.specs.Machine.{State, entry_of}
-use Rattle.script_editor.specs.Sound.{IsSound}
+use Rattle.script_editor.specs.Reached.{IsOf, document_in}
 
 -- the workbook that an editor shows
 abbrev pub book_of : Editor → Book
-book_of editor = editor.workbook
+book_of editor = editor.book.workbook
 
 -- what an editor keeps
 abbrev pub document_of : Editor → Document
-document_of editor = record { book = editor.workbook; undo = undo_lists editor.history; redo = redo_lists editor.history; queue = editor.queue }
+document_of editor = document_in editor.book
 
--- an editor stands for the states that it has the document of
-pub record StandsFor (editor : Editor) (s : State) : Type 0 where
-  pub document : document_of editor ≡ document s
-  pub sound : IsSound s
+-- an editor stands for the states that its document is of
+abbrev pub StandsFor : Editor → State → Type 0
+StandsFor editor s = IsOf (document_of editor) s
 
 -- a call takes an editor to one that stands for the expected state, or refuses as expected; a refusal, and want of memory, leave
 -- the state

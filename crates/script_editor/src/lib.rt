@@ -5,6 +5,7 @@
 #![tactic(auto)]
 
 mod editor;
+mod open_book;
 mod replay;
 
 pub use editor::Editor;

@@ -8,7 +8,7 @@ use Rattle.std.specs.List.{onto_first}
 use Rattle.std.proofs.lemmas.Str.{IsUtf8-from_is_utf8, is_utf8-from_IsUtf8}
 use Rattle.script_lines.specs.Parts.{parts_at}
 use Rattle.script_lines.specs.declared.command.Command.{Command}
-use Rattle.script_lines.specs.Commands.{alone, get_of, from_words, command_of}
+use Rattle.script_lines.specs.Commands.{alone, get_of, rows_of, from_words, command_of}
 
 first_part : (P : List (List ℕ) → Type 0) → ((word : List ℕ) (words : List (List ℕ)) → P (word ∷ words)) → (separator : ℕ) (bytes : List ℕ) → P (parts_at separator bytes)
 first_part P h separator [] = h [] []
@@ -48,3 +48,9 @@ many_words words sheet rest reference more one two = too_many sheet reference mo
 pub found_fits : (line : List ℕ) (answer : Result (Option Command) EditError) → IfOk answer (λ found. found ≡ command_of line) → IfOk answer (λ found. IfSome found CommandFits)
 found_fits line (Ok found) is = subst (λ o. IfSome o CommandFits) (sym is) (command_fits line)
 found_fits line (Err error) is = tt
+
+pub many_rows_words : (words sheet second row third count more : List ℕ) → parts_at 32 words ≡ sheet ∷ parts_at 32 second → parts_at 32 second ≡ row ∷ parts_at 32 third
+    → parts_at 32 third ≡ count ∷ parts_at 32 more → None ≡ rows_of (parts_at 32 words)
+many_rows_words words sheet second row third count more one two three =
+    first_part (λ rest. None ≡ rows_of (sheet ∷ row ∷ count ∷ rest)) (λ word rest. refl) 32 more
+    ∙ ap rows_of (sym (one ∙ ap (λ l. sheet ∷ l) two ∙ ap (λ l. sheet ∷ row ∷ l) three))

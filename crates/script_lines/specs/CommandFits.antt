@@ -1,6 +1,6 @@
 -- Bounds of what a line can name.
-use Rattle.std.proofs.Common.{◌≡◌, ℕ, ℤ, pos, ◌+◌, ◌^◌, ◌<◌, ◌≤◌, ◌≤ℤ◌, Bool, true, false, cond, List, [], ◌∷◌, ◌++◌, length, Option, Some, None, refl, sym, subst, arith}
-use Rattle.std.specs.Prelude.{IfSome, nat_lt}
+use Rattle.std.proofs.Common.{◌≡◌, ℕ, zero, suc, ℤ, pos, ◌+◌, ◌^◌, ◌<◌, ◌≤◌, ◌≤ℤ◌, ◌==◌, Bool, true, false, cond, List, [], ◌∷◌, ◌++◌, length, Option, Some, None, refl, sym, subst, arith, w32}
+use Rattle.std.specs.Prelude.{IfSome, FitsSigned, neg_ℤ, nat_lt}
 use Rattle.std.specs.Option.{option_and_then, option_map}
 use Rattle.std.specs.Str.{IsUtf8, is_utf8}
 use Rattle.std.specs.List.{list_all}
@@ -12,17 +12,18 @@ use Rattle.std.proofs.lemmas.Bool.{ltb-true, and_parts}
 use Rattle.std.proofs.lemmas.Bool.Decides.{nat_tests}
 use Rattle.std.proofs.lemmas.Int.{ints}
 use Rattle.script_lines.specs.Parts.{parts_at, text_of}
-use Rattle.script_lines.specs.Number.{are_digits, value_of, value_below, number_below}
+use Rattle.script_lines.specs.Number.{are_digits, value_of, value_below, number_below, signed_number}
 use Rattle.script_lines.specs.References.{is_between, is_letter, letter_value, letters_value, read_column, read_row, letters_of, digits_of, reference_of}
 use Rattle.script_lines.specs.ReferenceBounds.{read_row-lt}
 use Rattle.script_lines.specs.Letters.{all_letters}
 use Rattle.script_lines.specs.Escapes.{unescaped}
 use Rattle.script_lines.specs.EscapeLaws.{unescaped-IsUtf8}
 use Rattle.script_lines.specs.Unsupported.{is_unsupported}
-use Rattle.script_lines.specs.Commands.{alone, get_at, get_of, set_at, set_of, with_words, keyword_of, from_words, command_of}
+use Rattle.script_lines.specs.Commands.{alone, get_at, get_of, rows_at, rows_of, set_at, set_of, with_words, keyword_of, from_words, command_of}
 use Rattle.script_lines.specs.declared.reference.Reference.{Reference}
 use Rattle.script_lines.specs.declared.command.Command.{Command}
-use Rattle.script_lines.specs.declared.command.Command.TheVariants.{Set, Get, Undo, Redo, Sync, Show}
+use Rattle.script_lines.specs.declared.command.Command.TheVariants.{Set, Get, InsertRows, DeleteRows, Undo, Redo, Sync, Show}
+use Rattle.script_lines.specs.declared.parse.Rows.{Rows}
 use Rattle.script_lines.specs.declared.parse.Keyword.{Keyword}
 use Rattle.script_lines.specs.declared.parse.Keyword.TheVariants as keyword
 
@@ -33,10 +34,12 @@ pub record IsNamed (row column : ℤ) : Type 0 where
   pub column_low : pos 1 ≤ℤ column
   pub column_high : column ≤ℤ pos 18278
 
--- a sheet, a row and a column that a line can name, and a text in UTF-8
+-- a sheet, and a row and a column or numbers that a line can name, and a text in UTF-8
 abbrev pub CommandFits : Command → Type 0
 CommandFits (Set sheet row column text) = (sheet < 2 ^ 32) × IsNamed row column × IsUtf8 text
 CommandFits (Get sheet row column) = (sheet < 2 ^ 32) × IsNamed row column
+CommandFits (InsertRows sheet row count) = (sheet < 2 ^ 32) × FitsSigned w32 row × FitsSigned w32 count
+CommandFits (DeleteRows sheet row count) = (sheet < 2 ^ 32) × FitsSigned w32 row × FitsSigned w32 count
 CommandFits Undo = Unit {0}
 CommandFits Redo = Unit {0}
 CommandFits Sync = Unit {0}
@@ -64,6 +67,45 @@ below limit bytes = go (nat_lt (value_of bytes) limit) refl
 number_fits : (limit : ℕ) (bytes : List ℕ) → IfSome (number_below limit bytes) (λ v. v < limit)
 number_fits limit [] = tt
 number_fits limit (b ∷ bytes) = either (λ v. v < limit) (are_digits (b ∷ bytes)) (value_below limit (b ∷ bytes)) None (below limit (b ∷ bytes)) tt
+
+-- ---- rows and counts
+
+mapped : {A B : Type 0} (Q : A → Type 0) (P : B → Type 0) (o : Option A) (f : A → B) → IfSome o Q → ((a : A) → Q a → P (f a)) → IfSome (option_map f o) P
+mapped Q P None f q h = tt
+mapped Q P (Some a) f q h = h a q
+
+positive_fits : (n : ℕ) → n < 2 ^ 31 → FitsSigned w32 (pos n)
+positive_fits n lt = record { sfits = omega (arith, lt) }
+
+negative_fits : (n : ℕ) → n < 2 ^ 31 + 1 → FitsSigned w32 (neg_ℤ (pos n))
+negative_fits zero lt = record { sfits = omega arith }
+negative_fits (suc n) lt = record { sfits = omega (arith, lt) }
+
+signed_fits : (bytes : List ℕ) → IfSome (signed_number bytes) (FitsSigned w32)
+signed_fits [] = tt
+signed_fits (b ∷ bytes) =
+    either (FitsSigned w32) (b == 45) (option_map (λ n. neg_ℤ (pos n)) (number_below (2 ^ 31 + 1) bytes)) (option_map pos (number_below (2 ^ 31) (b ∷ bytes)))
+    (mapped (λ n. n < 2 ^ 31 + 1) (FitsSigned w32) (number_below (2 ^ 31 + 1) bytes) (λ n. neg_ℤ (pos n)) (number_fits (2 ^ 31 + 1) bytes) negative_fits)
+    (mapped (λ n. n < 2 ^ 31) (FitsSigned w32) (number_below (2 ^ 31) (b ∷ bytes)) pos (number_fits (2 ^ 31) (b ∷ bytes)) positive_fits)
+
+pub record RowsFit (rows : Rows) : Type 0 where
+  pub sheet : rows.sheet < 2 ^ 32
+  pub row : FitsSigned w32 rows.row
+  pub count : FitsSigned w32 rows.count
+
+rows_at_fits : (sheet row count : List ℕ) → IfSome (rows_at sheet row count) RowsFit
+rows_at_fits sheet row count =
+    step (λ index. index < 2 ^ 32) RowsFit (number_below (2 ^ 32) sheet) _ (number_fits (2 ^ 32) sheet)
+    (λ index i. step (FitsSigned w32) RowsFit (signed_number row) _ (signed_fits row)
+    (λ first f. step (FitsSigned w32) RowsFit (signed_number count) _ (signed_fits count)
+    (λ many m. record { sheet = i; row = f; count = m })))
+
+rows_of_fits : (words : List (List ℕ)) → IfSome (rows_of words) RowsFit
+rows_of_fits [] = tt
+rows_of_fits (sheet ∷ []) = tt
+rows_of_fits (sheet ∷ row ∷ []) = tt
+rows_of_fits (sheet ∷ row ∷ count ∷ []) = rows_at_fits sheet row count
+rows_of_fits (sheet ∷ row ∷ count ∷ word ∷ words) = tt
 
 -- ---- rows and columns
 
@@ -152,6 +194,8 @@ set_of_fits (sheet ∷ reference ∷ words) h = set_fits sheet reference (text_o
 words_fit : (k : Keyword) (words : List (List ℕ)) → IsUtf8 (text_of words) → IfSome (with_words k words) CommandFits
 words_fit keyword.Set words h = set_of_fits words h
 words_fit keyword.Get words h = get_of_fits words
+words_fit keyword.InsertRows words h = mapped RowsFit CommandFits (rows_of words) (λ rows. InsertRows rows.sheet rows.row rows.count) (rows_of_fits words) (λ rows r. (r.sheet, r.row, r.count))
+words_fit keyword.DeleteRows words h = mapped RowsFit CommandFits (rows_of words) (λ rows. DeleteRows rows.sheet rows.row rows.count) (rows_of_fits words) (λ rows r. (r.sheet, r.row, r.count))
 words_fit keyword.Undo words h = alone_fits Undo words tt
 words_fit keyword.Redo words h = alone_fits Redo words tt
 words_fit keyword.Sync words h = alone_fits Sync words tt

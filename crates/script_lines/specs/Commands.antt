@@ -2,16 +2,17 @@
 use Rattle.std.specs.Prelude.{ℕ, ◌^◌, Bool, List, [], ◌∷◌, if◌then◌else◌, nat_eq, codes}
 use Rattle.std.specs.Cmp.Lexicographic.{pointwise}
 use Rattle.std.specs.Str.{is_utf8}
-use Rattle.std.specs.Option.{option_and_then}
+use Rattle.std.specs.Option.{option_and_then, option_map}
 use Rattle.std.specs.declared.option.Option.{Option}
 use Rattle.std.specs.declared.option.Option.TheVariants.{Some, None}
 use Rattle.script_lines.specs.Parts.{parts_at, text_of}
-use Rattle.script_lines.specs.Number.{number_below}
+use Rattle.script_lines.specs.Number.{number_below, signed_number}
 use Rattle.script_lines.specs.References.{reference_of}
 use Rattle.script_lines.specs.Escapes.{unescaped}
 use Rattle.script_lines.specs.Unsupported.{is_unsupported}
 use Rattle.script_lines.specs.declared.command.Command.{Command}
-use Rattle.script_lines.specs.declared.command.Command.TheVariants.{Set, Get, Undo, Redo, Sync, Show}
+use Rattle.script_lines.specs.declared.command.Command.TheVariants.{Set, Get, InsertRows, DeleteRows, Undo, Redo, Sync, Show}
+use Rattle.script_lines.specs.declared.parse.Rows.{Rows}
 use Rattle.script_lines.specs.declared.parse.Keyword.{Keyword}
 use Rattle.script_lines.specs.declared.parse.Keyword.TheVariants as keyword
 
@@ -29,11 +30,13 @@ abbrev pub keyword_of : List ℕ → Option Keyword
 keyword_of word =
     if is_same word (codes "set") then Some keyword.Set
     else (if is_same word (codes "get") then Some keyword.Get
+    else (if is_same word (codes "insert-rows") then Some keyword.InsertRows
+    else (if is_same word (codes "delete-rows") then Some keyword.DeleteRows
     else (if is_same word (codes "undo") then Some keyword.Undo
     else (if is_same word (codes "redo") then Some keyword.Redo
     else (if is_same word (codes "sync") then Some keyword.Sync
     else (if is_same word (codes "show") then Some keyword.Show
-    else None)))))
+    else None)))))))
 
 -- a command that takes no words
 abbrev pub alone : Command → List (List ℕ) → Option Command
@@ -52,6 +55,19 @@ abbrev pub get_of : List (List ℕ) → Option Command
 get_of (sheet ∷ reference ∷ []) = get_at sheet reference
 get_of words = None
 
+-- a sheet, a row and a count
+abbrev pub rows_at : List ℕ → List ℕ → List ℕ → Option Rows
+rows_at sheet row count = do
+  index ← number_below (2 ^ 32) sheet
+  first ← signed_number row
+  many ← signed_number count
+  Some (record { sheet = index; row = first; count = many })
+
+-- `S N N` behind `insert-rows` or `delete-rows`
+abbrev pub rows_of : List (List ℕ) → Option Rows
+rows_of (sheet ∷ row ∷ count ∷ []) = rows_at sheet row count
+rows_of words = None
+
 -- `set` with a sheet, a reference and a text
 abbrev pub set_at : List ℕ → List ℕ → List ℕ → Option Command
 set_at sheet reference text = do
@@ -69,6 +85,8 @@ set_of words = None
 abbrev pub with_words : Keyword → List (List ℕ) → Option Command
 with_words keyword.Set words = set_of words
 with_words keyword.Get words = get_of words
+with_words keyword.InsertRows words = option_map (λ rows. InsertRows rows.sheet rows.row rows.count) (rows_of words)
+with_words keyword.DeleteRows words = option_map (λ rows. DeleteRows rows.sheet rows.row rows.count) (rows_of words)
 with_words keyword.Undo words = alone Undo words
 with_words keyword.Redo words = alone Redo words
 with_words keyword.Sync words = alone Sync words

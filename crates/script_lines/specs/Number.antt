@@ -1,6 +1,7 @@
 -- Decimal numbers.
-use Rattle.std.specs.Prelude.{ℕ, ◌+◌, ◌-◌, ◌*◌, ◌^◌, Bool, ◌&&◌, List, [], ◌∷◌, length, nat_lt, nat_le, if◌then◌else◌}
+use Rattle.std.specs.Prelude.{ℕ, ℤ, pos, neg_ℤ, ◌==◌, ◌+◌, ◌-◌, ◌*◌, ◌^◌, Bool, ◌&&◌, List, [], ◌∷◌, length, nat_lt, nat_le, if◌then◌else◌}
 use Rattle.std.specs.List.{list_all}
+use Rattle.std.specs.Option.{option_map}
 use Rattle.std.specs.declared.option.Option.{Option}
 use Rattle.std.specs.declared.option.Option.TheVariants.{Some, None}
 
@@ -25,3 +26,10 @@ value_below limit bytes = if nat_lt (value_of bytes) limit then Some (value_of b
 abbrev pub number_below : ℕ → List ℕ → Option ℕ
 number_below limit [] = None
 number_below limit (b ∷ bytes) = if are_digits (b ∷ bytes) then value_below limit (b ∷ bytes) else None
+
+-- the number of 32 bits that digits spell, behind a minus sign or without one
+abbrev pub signed_number : List ℕ → Option ℤ
+signed_number [] = None
+signed_number (b ∷ bytes) =
+    if b == 45 then option_map (λ n. neg_ℤ (pos n)) (number_below (2 ^ 31 + 1) bytes)
+    else option_map pos (number_below (2 ^ 31) (b ∷ bytes))

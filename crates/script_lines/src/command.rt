@@ -1,6 +1,6 @@
 use base_values::Text;
 
-/// What a line of a script asks for. Rows and columns are those that the line names, and may lie
+/// What a line of a script asks for. Rows, columns and counts are those that the line names, and may lie
 /// outside every sheet.
 #[derive(Debug, Drop)]
 pub enum Command {
@@ -16,6 +16,18 @@ pub enum Command {
         sheet: u32,
         row: i32,
         column: i32,
+    },
+    /// `insert-rows S N N`: insert as many empty rows as the count before a row.
+    InsertRows {
+        sheet: u32,
+        row: i32,
+        count: i32,
+    },
+    /// `delete-rows S N N`: delete as many rows as the count from a row on.
+    DeleteRows {
+        sheet: u32,
+        row: i32,
+        count: i32,
     },
     /// `undo`: take back the last edit.
     Undo,

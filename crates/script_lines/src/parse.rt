@@ -2,12 +2,13 @@ ghost use Rattle.std.specs.Prelude.{◌≡◌, IfOk, IfSome, IsOkUnless};
 ghost use Rattle.std.specs.Option.{option_copied};
 ghost use Rattle.base_values.specs.declared.error.EditError.TheVariants.{NoMemory};
 ghost use Rattle.script_lines.specs.Parts.{parts_at, parts_after};
+ghost use Rattle.script_lines.specs.declared.command.Command.TheVariants.{InsertRows, DeleteRows};
 ghost use Rattle.script_lines.specs.CommandFits.{CommandFits};
 ghost use Rattle.script_lines.specs.Commands as spec;
 
 use crate::command::Command;
 use crate::escape::unescape;
-use crate::number::read_u32;
+use crate::number::{read_i32, read_u32};
 use crate::parts::{split_word, text_of};
 use crate::reference::read_reference;
 use crate::unsupported::is_unsupported;
@@ -20,10 +21,20 @@ use std::str;
 enum Keyword {
     Set,
     Get,
+    InsertRows,
+    DeleteRows,
     Undo,
     Redo,
     Sync,
     Show,
+}
+
+/// What a command on rows names.
+#[derive(Clone, Copy, Debug, PartialEq, Eq)]
+struct Rows {
+    sheet: u32,
+    row: i32,
+    count: i32,
 }
 
 fn is_same(word: &[u8], name: &[u8]) -> bool
@@ -39,6 +50,10 @@ fn keyword_of(word: &[u8]) -> Option<Keyword>
         Some(Keyword::Set)
     } else if is_same(word, b"get") {
         Some(Keyword::Get)
+    } else if is_same(word, b"insert-rows") {
+        Some(Keyword::InsertRows)
+    } else if is_same(word, b"delete-rows") {
+        Some(Keyword::DeleteRows)
     } else if is_same(word, b"undo") {
         Some(Keyword::Undo)
     } else if is_same(word, b"redo") {
@@ -96,6 +111,43 @@ fn read_get(words: Option<&str>) -> Option<Command>
     }
 }
 
+fn rows_at(sheet: &str, row: &str, count: &str) -> Option<Rows>
+    ensures { result ≡ spec.rows_at sheet.now row.now count.now }
+{
+    let Some(sheet) = read_u32(sheet.as_bytes()) else {
+        return None;
+    };
+    let Some(row) = read_i32(row.as_bytes()) else {
+        return None;
+    };
+    match read_i32(count.as_bytes()) {
+        Some(count) => Some(Rows { sheet, row, count }),
+        None => None,
+    }
+}
+
+/// The words of `insert-rows` and `delete-rows`: a sheet, a row and a count.
+fn read_rows(words: Option<&str>) -> Option<Rows>
+    ensures { result ≡ spec.rows_of (parts_after 32 (option_copied words.entry)) }
+{
+    let Some(words) = words else {
+        return None;
+    };
+    let (sheet, words) = split_word(words);
+    let Some(words) = words else {
+        return None;
+    };
+    let (row, words) = split_word(words);
+    let Some(words) = words else {
+        return None;
+    };
+    let (count, words) = split_word(words);
+    match words {
+        None => rows_at(sheet, row, count),
+        Some(_) => None,
+    }
+}
+
 fn set_at(
     alloc: Global,
     sheet: &str,
@@ -142,6 +194,26 @@ fn read_set(alloc: Global, words: Option<&str>) -> Result<Option<Command>, EditE
     set_at(alloc, sheet, reference, text_of(words))
 }
 
+fn inserted(rows: Rows) -> Command
+    ensures { result ≡ InsertRows rows.sheet rows.row rows.count }
+{
+    Command::InsertRows {
+        sheet: rows.sheet,
+        row: rows.row,
+        count: rows.count,
+    }
+}
+
+fn deleted(rows: Rows) -> Command
+    ensures { result ≡ DeleteRows rows.sheet rows.row rows.count }
+{
+    Command::DeleteRows {
+        sheet: rows.sheet,
+        row: rows.row,
+        count: rows.count,
+    }
+}
+
 fn read_words(
     alloc: Global,
     keyword: Keyword,
@@ -154,6 +226,8 @@ fn read_words(
     match keyword {
         Keyword::Set => read_set(alloc, words),
         Keyword::Get => Ok(read_get(words)),
+        Keyword::InsertRows => Ok(read_rows(words).map(inserted)),
+        Keyword::DeleteRows => Ok(read_rows(words).map(deleted)),
         Keyword::Undo => Ok(alone(Command::Undo, words)),
         Keyword::Redo => Ok(alone(Command::Redo, words)),
         Keyword::Sync => Ok(alone(Command::Sync, words)),

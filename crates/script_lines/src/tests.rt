@@ -20,6 +20,12 @@ fn in_words(alloc: Global, command: Option<Command>) -> Result<String, AllocErro
         Some(Command::Get { sheet, row, column }) => {
             format!(in alloc; "sheet {sheet} row {row} column {column}")
         }
+        Some(Command::InsertRows { sheet, row, count }) => {
+            format!(in alloc; "insert: sheet {sheet} row {row} count {count}")
+        }
+        Some(Command::DeleteRows { sheet, row, count }) => {
+            format!(in alloc; "delete: sheet {sheet} row {row} count {count}")
+        }
         Some(Command::Undo) => format!(in alloc; "undo"),
         Some(Command::Redo) => format!(in alloc; "redo"),
         Some(Command::Sync) => format!(in alloc; "sync"),
@@ -30,7 +36,7 @@ fn in_words(alloc: Global, command: Option<Command>) -> Result<String, AllocErro
 
 #[test]
 fn lines_read_as_commands(rt: HostRuntime) -> Result<(), Fail> {
-    let lines: [(&[u8], &str); 49] = [
+    let lines: [(&[u8], &str); 68] = [
         (b"set 0 A1 12", "sheet 0 row 1 column 1 |12|"),
         (b"set 0 A1", "sheet 0 row 1 column 1 ||"),
         (b"set 0 A1 ", "sheet 0 row 1 column 1 ||"),
@@ -57,6 +63,31 @@ fn lines_read_as_commands(rt: HostRuntime) -> Result<(), Fail> {
         ),
         (b"set 0 A1 =1", "sheet 0 row 1 column 1 |=1|"),
         (b"get 1 C3", "sheet 1 row 3 column 3"),
+        (b"insert-rows 0 3 2", "insert: sheet 0 row 3 count 2"),
+        (
+            b"insert-rows 4294967295 2147483647 -2147483648",
+            "insert: sheet 4294967295 row 2147483647 count -2147483648",
+        ),
+        (b"delete-rows 00 -0 007", "delete: sheet 0 row 0 count 7"),
+        (
+            b"delete-rows 1 -12 -00003",
+            "delete: sheet 1 row -12 count -3",
+        ),
+        (b"insert-rows", "none"),
+        (b"insert-rows 0", "none"),
+        (b"insert-rows 0 1", "none"),
+        (b"insert-rows 0 1 ", "none"),
+        (b"insert-rows 0 1 2 ", "none"),
+        (b"insert-rows 0 1 2 3", "none"),
+        (b"insert-rows -0 1 2", "none"),
+        (b"insert-rows 0 1 2147483648", "none"),
+        (b"delete-rows 0 -2147483649 1", "none"),
+        (b"delete-rows 0 --1 1", "none"),
+        (b"delete-rows 0 - 1", "none"),
+        (b"delete-rows 0 +1 1", "none"),
+        (b"delete-rows 0 A1 1", "none"),
+        (b"delete-rows  0 1 1", "none"),
+        (b"Delete-rows 0 1 1", "none"),
         (b"undo", "undo"),
         (b"redo", "redo"),
         (b"sync", "sync"),

@@ -1,20 +1,29 @@
 -- What diffs do to a workbook, forward and back.
-use Rattle.std.proofs.Common.{◌≡◌, ◌≢◌, ℕ, ◌+◌, List, [], ◌∷◌, take, Option, Result, Ok, Err}
+use Rattle.std.proofs.Common.{◌≡◌, ◌≢◌, ℕ, ◌+◌, List, [], ◌∷◌, length, take, Option, Some, None, Result, Ok, Err}
 use Rattle.std.specs.Prelude.{IfSome, IfErr, IsTrue, OnOk, OnErr, All, if◌then◌else◌}
+use Rattle.std.specs.FinMap.{FinMap, get}
 use Rattle.base_values.specs.declared.EditError.{EditError}
 use Rattle.base_values.specs.declared.EditError.TheVariants.{DiffRefused, NoMemory}
 use Rattle.base_values.specs.declared.Position.{Position}
 use Rattle.base_values.specs.Answers.{and_then, ok_or, value_of}
+use Rattle.base_values.specs.Places.{position_cmp}
+use Rattle.base_axis.specs.Along.{rows}
+use Rattle.formula_tree.specs.declared.Node.{Node}
+use Rattle.formula_tree.specs.DepthBounds.{is_within}
 use Rattle.sheet_grid.specs.declared.Cell.{Cell}
 use Rattle.sheet_grid.specs.Book.{Book, edit_by_id}
 use Rattle.sheet_grid.specs.FittingCells.{entry_fits_at, is_shallow_entry}
 use Rattle.sheet_grid.specs.KeptCell.{IsKeptCell}
 use Rattle.sheet_grid.specs.Sheet.{cell_put}
+use Rattle.sheet_rules.specs.WellFormed.{broken_rule}
+use Rattle.sheet_lines.specs.declared.KeptLines.{KeptLines}
+use Rattle.sheet_lines.specs.KeptNumbers.{AreKeptLines}
 use Rattle.sheet_history.specs.declared.diff.Diff.{Diff}
-use Rattle.sheet_history.specs.declared.diff.Diff.TheVariants.{Cell as CellDiff}
+use Rattle.sheet_history.specs.declared.diff.Diff.TheVariants.{Cell as CellDiff, Rows as RowsDiff}
 use Rattle.sheet_history.specs.declared.diff.DiffType.{DiffType}
 use Rattle.sheet_history.specs.declared.diff.DiffType.TheVariants.{Undo, Redo}
 use Rattle.sheet_history.specs.declared.diff.QueueDiffs.{QueueDiffs}
+use Rattle.sheet_history.specs.LineDiffs.{lines_forward, lines_back}
 
 -- the workbook with this cell at a place of the sheet of an id, or with none. Where no sheet has the id, the place is outside or
 -- the cell may not stand there, the diff of that number is refused
@@ -24,13 +33,15 @@ put_in at book id place entry =
     then ok_or (DiffRefused 0 at) (value_of (edit_by_id book id (λ sheet. cell_put sheet place.row place.column entry)))
     else Err (DiffRefused 0 at)
 
--- forward puts the new value
+-- forward puts the new value, or edits the lines
 abbrev pub step_forward : ℕ → Book → Diff → Result Book EditError
 step_forward at book (CellDiff sheet place old new) = put_in at book sheet place new
+step_forward at book (RowsDiff sheet edit kept) = lines_forward at rows sheet edit kept book
 
--- back puts the old value
+-- back puts the old value, or takes the lines back
 abbrev pub step_back : ℕ → Book → Diff → Result Book EditError
 step_back at book (CellDiff sheet place old new) = put_in at book sheet place old
+step_back at book (RowsDiff sheet edit kept) = lines_back at rows sheet edit kept book
 
 -- the diffs in order, where the first has the number at
 abbrev pub forward_from : ℕ → Book → List Diff → Result Book EditError
@@ -42,23 +53,42 @@ abbrev pub back_from : ℕ → Book → List Diff → Result Book EditError
 back_from at book [] = Ok book
 back_from at book (diff ∷ diffs) = and_then (back_from (at + 1) book diffs) (λ next. step_back at next diff)
 
--- the workbook with the changes of a list made in order
-abbrev pub forwarded : Book → List Diff → Result Book EditError
-forwarded book diffs = forward_from 0 book diffs
+-- the workbook with the changes of a list made in order, whether or not it is well-formed
+abbrev pub made : Book → List Diff → Result Book EditError
+made book diffs = forward_from 0 book diffs
 
--- the workbook with the changes of a list taken back, the last one first
+-- the workbook with the changes of a list taken back, the last one first, whether or not it is well-formed
+abbrev pub taken_back : Book → List Diff → Result Book EditError
+taken_back book diffs = back_from 0 book diffs
+
+-- a workbook that breaks no rule. Of one that breaks some the diff of that number is refused
+unfoldable pub by_rule : ℕ → Book → Option ℕ → Result Book EditError
+by_rule at book None = Ok book
+by_rule at book (Some rule) = Err (DiffRefused 0 at)
+
+-- an answer whose workbook has to break no rule
+abbrev pub tested : ℕ → Result Book EditError → Result Book EditError
+tested at answer = and_then answer (λ book. by_rule at book (broken_rule book))
+
+-- the same of a well-formed workbook: else the diff behind the last one is refused
+abbrev pub forwarded : Book → List Diff → Result Book EditError
+forwarded book diffs = tested (length diffs) (made book diffs)
+
 abbrev pub backed : Book → List Diff → Result Book EditError
-backed book diffs = back_from 0 book diffs
+backed book diffs = tested (length diffs) (taken_back book diffs)
 
 -- a sent list followed in its direction
 abbrev pub follow : DiffType → Book → List Diff → Result Book EditError
 follow Undo book diffs = backed book diffs
 follow Redo book diffs = forwarded book diffs
 
--- a refusal names the entry that it comes from
+-- a refusal of a diff names the entry that it comes from
+abbrev pub of_entry : ℕ → EditError → EditError
+of_entry at (DiffRefused entry diff) = DiffRefused at diff
+of_entry at error = error
+
 abbrev pub in_entry : ℕ → Result Book EditError → Result Book EditError
-in_entry at (Err (DiffRefused entry diff)) = Err (DiffRefused at diff)
-in_entry at (Err error) = Err error
+in_entry at (Err error) = Err (of_entry at error)
 in_entry at (Ok book) = Ok book
 
 -- sent lists followed one after another, where the first has the number at
@@ -81,10 +111,20 @@ pub record Replays (result : Result (Unit {0}) EditError) (old new : Book) (entr
   pub refused : IfErr result (λ error. error ≢ NoMemory → replayed old entries ≡ Err error)
   pub stands : OnErr result (IsFrontOf entries old new)
 
--- the numbers of both cells are as a sheet keeps them, and their formulas at most 64 deep
+-- every tree of a map is at most 64 deep
+abbrev pub AreShallowTrees : FinMap position_cmp Node → Type 0
+AreShallowTrees trees = (place : Position) → IfSome (get trees place) (λ tree. IsTrue (is_within 64 tree))
+
+-- so is each kept formula
+pub record AreShallowLines (kept : KeptLines) : Type 0 where
+  pub cells : (place : Position) → IsTrue (is_shallow_entry (get kept.cells place))
+  pub formulas : (id : ℕ) → IfSome (get kept.formulas id) AreShallowTrees
+
+-- the numbers of what a diff holds are as a sheet keeps them, and its formulas at most 64 deep
 abbrev pub IsKeptDiff : Diff → Type 0
 IsKeptDiff (CellDiff sheet place old new) =
     IfSome old IsKeptCell × IfSome new IsKeptCell × IsTrue (is_shallow_entry old) × IsTrue (is_shallow_entry new)
+IsKeptDiff (RowsDiff sheet edit kept) = AreKeptLines kept × AreShallowLines kept
 
 abbrev pub IsKeptList : List Diff → Type 0
 IsKeptList diffs = All IsKeptDiff diffs

@@ -1,8 +1,14 @@
-pub mod DiffEquals
+pub mod Entries
+pub mod LineDiffs
 pub mod Diffs
+pub mod DiffEquals
 pub mod Stacks
 pub mod Records
 pub mod RecordLaws
 pub mod ReplayLaws
 pub mod KeptProps
-pub mod FitLaws
+pub mod RuleLaws
+pub mod TestedLaws
+pub mod KeptTrees
+pub mod LineLaws
+pub mod LineRecords

@@ -1,13 +1,19 @@
 ghost use Rattle.std.specs.Prelude.{◌≡◌, IfSome};
 ghost use Rattle.base_values.specs.Answers.{Answers, Edits};
-ghost use Rattle.sheet_grid.specs.FittingCells.{entry_fits_at, SheetsFit};
+ghost use Rattle.sheet_grid.specs.FittingCells.{entry_fits_at};
 ghost use Rattle.sheet_grid.specs.KeptCell.{IsKeptCell};
-ghost use Rattle.sheet_history.specs.Diffs.{IsKeptDiff, IsKeptList, IsKeptQueue, Replays, backed, follow, forwarded, in_entry, put_in, step_back, step_forward};
+ghost use Rattle.sheet_rules.specs.WellFormed.{broken_rule};
+ghost use Rattle.sheet_history.specs.Diffs.{IsKeptDiff, IsKeptList, backed, by_rule, forwarded, made, put_in, step_back, step_forward, taken_back};
 
-use crate::diff::{Diff, DiffList, DiffType, QueueDiffs};
+use crate::diff::{Diff, DiffList};
+use crate::line_diffs::{lines_back, lines_forward};
+use base_axis::RowAxis;
 use base_values::{EditError, Position, copy_of};
 use formula_content::fits_at;
+use line_map::{EditKind, LineEdit};
 use sheet_grid::{Cell, Workbook};
+use sheet_rules::is_well_formed;
+use std::alloc::Global;
 
 /// Whether what is put at a place, a cell or none, may stand there.
 fn entry_fits_at(place: Position, entry: &Option<Cell>) -> bool
@@ -43,8 +49,19 @@ fn put_in(
     }
 }
 
+fn rows_edit(kind: EditKind) -> LineEdit<RowAxis>
+    ensures { result.kind ≡ kind }
+{
+    LineEdit::new(kind)
+}
+
 /// Makes a diff's change. `at` is its number in its list.
-fn apply_forward(workbook: &mut Workbook, diff: &Diff, at: u64) -> Result<(), EditError>
+fn apply_forward(
+    alloc: Global,
+    workbook: &mut Workbook,
+    diff: &Diff,
+    at: u64,
+) -> Result<(), EditError>
     requires { IsKeptDiff diff.now }
     ensures { Edits result workbook.old workbook.new (step_forward at workbook.old diff.now) }
 {
@@ -55,11 +72,14 @@ fn apply_forward(workbook: &mut Workbook, diff: &Diff, at: u64) -> Result<(), Ed
             old: _,
             new,
         } => put_in(workbook, *sheet, *position, new, at),
+        Diff::Rows { sheet, edit, kept } => {
+            lines_forward(alloc, workbook, *sheet, &rows_edit(*edit), kept, at)
+        }
     }
 }
 
 /// Takes a diff's change back. `at` is its number in its list.
-fn apply_back(workbook: &mut Workbook, diff: &Diff, at: u64) -> Result<(), EditError>
+fn apply_back(alloc: Global, workbook: &mut Workbook, diff: &Diff, at: u64) -> Result<(), EditError>
     requires { IsKeptDiff diff.now }
     ensures { Edits result workbook.old workbook.new (step_back at workbook.old diff.now) }
 {
@@ -70,116 +90,111 @@ fn apply_back(workbook: &mut Workbook, diff: &Diff, at: u64) -> Result<(), EditE
             old,
             new: _,
         } => put_in(workbook, *sheet, *position, old, at),
+        Diff::Rows { sheet, edit, kept } => {
+            lines_back(alloc, workbook, *sheet, &rows_edit(*edit), kept, at)
+        }
     }
 }
 
 /// The workbook with the changes of a list made in order.
-///
-/// `DiffRefused` with entry 0 and the number of the first diff whose sheet is not there, whose
-/// position is outside, or whose new cell may not stand there.
-pub fn forward(workbook: &Workbook, list: &DiffList) -> Result<Workbook, EditError>
+fn made(alloc: Global, workbook: &Workbook, list: &DiffList) -> Result<Workbook, EditError>
     requires { IsKeptList list.now }
-    ensures { Answers result (forwarded workbook.now list.now) }
+    ensures { Answers result (made workbook.now list.now) }
 {
     let mut next = copy_of(workbook)?;
     for (index, diff) in list.as_slice().iter().enumerate() {
-        apply_forward(&mut next, diff, index as u64)?;
+        apply_forward(alloc, &mut next, diff, index as u64)?;
     }
     Ok(next)
 }
 
 /// The workbook with the changes of a list taken back, the last one first.
-///
-/// `DiffRefused` as `forward` answers it, of the old cells, with the number of the first diff that
-/// it comes to.
-pub fn back(workbook: &Workbook, list: &DiffList) -> Result<Workbook, EditError>
+fn taken_back(alloc: Global, workbook: &Workbook, list: &DiffList) -> Result<Workbook, EditError>
     requires { IsKeptList list.now }
-    ensures { Answers result (backed workbook.now list.now) }
+    ensures { Answers result (taken_back workbook.now list.now) }
 {
     let diffs = list.as_slice();
     let mut next = copy_of(workbook)?;
     for index in (0..diffs.len()).rev() {
-        apply_back(&mut next, &diffs[index], index as u64)?;
+        apply_back(alloc, &mut next, &diffs[index], index as u64)?;
     }
     Ok(next)
 }
 
-fn make_changes(workbook: &mut Workbook, list: &DiffList) -> Result<(), EditError>
-    requires { IsKeptList list.now }
-    ensures { Edits result workbook.old workbook.new (forwarded workbook.old list.now) }
+/// A workbook that breaks no rule. Of one that does the diff of that number is refused.
+#[tactic(auto, unfolding(crate::specs::Diffs::by_rule))]
+fn by_rule(workbook: Workbook, at: u64) -> Result<Workbook, EditError>
+    ensures { result ≡ by_rule at workbook (broken_rule workbook) }
 {
-    match list.as_slice() {
-        [] => Ok(()),
-        [diff] => apply_forward(workbook, diff, 0),
-        _ => {
-            *workbook = forward(workbook, list)?;
-            Ok(())
-        }
+    if is_well_formed(&workbook) {
+        Ok(workbook)
+    } else {
+        Err(EditError::DiffRefused { entry: 0, diff: at })
     }
 }
 
-/// Makes the changes of a list as `forward` does, in the workbook itself. A refusal leaves it as it
-/// was. A list of one diff costs no copy of the workbook.
-pub fn forward_in_place(workbook: &mut Workbook, list: &DiffList) -> Result<(), EditError>
-    requires { IsKeptList list.now }
-    ensures forwarded { Edits result workbook.old workbook.new (forwarded workbook.old list.now) }
-    ensures fits { SheetsFit workbook.old → SheetsFit workbook.new }
-{
-    make_changes(workbook, list)
-}
-
-fn undo_changes(workbook: &mut Workbook, list: &DiffList) -> Result<(), EditError>
-    requires { IsKeptList list.now }
-    ensures { Edits result workbook.old workbook.new (backed workbook.old list.now) }
-{
-    match list.as_slice() {
-        [] => Ok(()),
-        [diff] => apply_back(workbook, diff, 0),
-        _ => {
-            *workbook = back(workbook, list)?;
-            Ok(())
-        }
-    }
-}
-
-/// Takes the changes of a list back as `back` does, in the workbook itself. A refusal leaves it as
-/// it was. A list of one diff costs no copy of the workbook.
-pub fn back_in_place(workbook: &mut Workbook, list: &DiffList) -> Result<(), EditError>
-    requires { IsKeptList list.now }
-    ensures backed { Edits result workbook.old workbook.new (backed workbook.old list.now) }
-    ensures fits { SheetsFit workbook.old → SheetsFit workbook.new }
-{
-    undo_changes(workbook, list)
-}
-
-/// Follows one entry of a queue. `at` is its number in the queue.
-fn follow_entry(workbook: &mut Workbook, entry: &QueueDiffs, at: u64) -> Result<(), EditError>
-    requires { IsKeptList entry.now.list }
-    ensures { Edits result workbook.old workbook.new (in_entry at (follow entry.now.kind workbook.old entry.now.list)) }
-{
-    let followed = match entry.kind {
-        DiffType::Undo => back_in_place(workbook, &entry.list),
-        DiffType::Redo => forward_in_place(workbook, &entry.list),
-    };
-    match followed {
-        Err(EditError::DiffRefused { entry: _, diff }) => {
-            Err(EditError::DiffRefused { entry: at, diff })
-        }
-        other => other,
-    }
-}
-
-/// Follows the entries of a queue one after another, in the workbook itself: an entry of undo takes
-/// its list back, an entry of redo makes its changes.
+/// The well-formed workbook with the changes of a list made in order.
 ///
-/// `DiffRefused` with the numbers of the first entry and diff that do not fit. The entries before
-/// it stand, that entry changes nothing; the same holds of want of memory.
-pub fn replay_in_place(workbook: &mut Workbook, queue: &[QueueDiffs]) -> Result<(), EditError>
-    requires { IsKeptQueue queue.now }
-    ensures { Replays result workbook.old workbook.new queue.now }
+/// `DiffRefused` with entry 0 and the number of the first diff that cannot be made; where each can,
+/// but the result breaks a rule, with the number of diffs. A cell cannot be put where its sheet is
+/// not there, its position is outside, or it may not stand there. docs/MODEL.md says when lines can
+/// be inserted and deleted.
+pub fn forward(alloc: Global, workbook: &Workbook, list: &DiffList) -> Result<Workbook, EditError>
+    requires { IsKeptList list.now }
+    ensures { Answers result (forwarded workbook.now list.now) }
 {
-    for (index, entry) in queue.iter().enumerate() {
-        follow_entry(workbook, entry, index as u64)?;
+    let next = made(alloc, workbook, list)?;
+    by_rule(next, list.as_slice().len() as u64)
+}
+
+/// The well-formed workbook with the changes of a list taken back, the last one first.
+///
+/// `DiffRefused` as `forward` answers it, of the old cells and of lines that cannot be taken back,
+/// with the number of the first diff that it comes to.
+pub fn back(alloc: Global, workbook: &Workbook, list: &DiffList) -> Result<Workbook, EditError>
+    requires { IsKeptList list.now }
+    ensures { Answers result (backed workbook.now list.now) }
+{
+    let before = taken_back(alloc, workbook, list)?;
+    by_rule(before, list.as_slice().len() as u64)
+}
+
+/// Makes the changes of a list as `forward` does, in the workbook itself, and does not test the
+/// result. A refusal leaves it as it was. A list of one cell costs no copy of the workbook.
+pub fn forward_in_place(
+    alloc: Global,
+    workbook: &mut Workbook,
+    list: &DiffList,
+) -> Result<(), EditError>
+    requires { IsKeptList list.now }
+    ensures { Edits result workbook.old workbook.new (made workbook.old list.now) }
+{
+    match list.as_slice() {
+        [] => Ok(()),
+        [diff] => apply_forward(alloc, workbook, diff, 0),
+        _ => {
+            *workbook = made(alloc, workbook, list)?;
+            Ok(())
+        }
     }
-    Ok(())
+}
+
+/// Takes the changes of a list back as `back` does, in the workbook itself, and does not test the
+/// result. A refusal leaves it as it was. A list of one cell costs no copy of the workbook.
+pub fn back_in_place(
+    alloc: Global,
+    workbook: &mut Workbook,
+    list: &DiffList,
+) -> Result<(), EditError>
+    requires { IsKeptList list.now }
+    ensures { Edits result workbook.old workbook.new (taken_back workbook.old list.now) }
+{
+    match list.as_slice() {
+        [] => Ok(()),
+        [diff] => apply_back(alloc, workbook, diff, 0),
+        _ => {
+            *workbook = taken_back(alloc, workbook, list)?;
+            Ok(())
+        }
+    }
 }

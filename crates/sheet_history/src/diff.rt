@@ -1,7 +1,9 @@
 use base_values::{Exact, Items, Position};
+use line_map::EditKind;
 use sheet_grid::Cell;
+use sheet_lines::KeptLines;
 
-/// One entry of a workbook that changed, with its value before and after.
+/// One change of a workbook, so that it can be made again and taken back.
 #[derive(Clone, PartialEq, Eq, Drop)]
 pub enum Diff {
     /// The cell at a position of the sheet with that id. None stands for no cell.
@@ -11,9 +13,16 @@ pub enum Diff {
         old: Option<Cell>,
         new: Option<Cell>,
     },
+    /// Rows that were inserted in the sheet with that id or deleted from it, and what taking them
+    /// back does not give.
+    Rows {
+        sheet: u32,
+        edit: EditKind,
+        kept: KeptLines,
+    },
 }
 
-/// The record of one edit: the entries that it changed.
+/// The record of one edit: the changes that it made.
 pub type DiffList = Items<Diff>;
 
 /// In which direction a sent list of diffs is to be followed.

@@ -8,11 +8,14 @@ mod apply;
 mod diff;
 mod history;
 mod laws;
+mod line_diffs;
+mod replay;
 
-pub use apply::{back, back_in_place, forward, forward_in_place, replay_in_place};
+pub use apply::{back, back_in_place, forward, forward_in_place};
 pub use diff::{Diff, DiffList, DiffType, QueueDiffs};
 pub use history::History;
-pub use laws::records_are_unique;
+pub use laws::{line_records_go_both_ways, records_are_unique};
+pub use replay::replay_in_place;
 
 #[cfg(test)]
 mod tests;

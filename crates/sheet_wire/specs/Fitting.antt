@@ -1,45 +1,32 @@
 -- What bytes can carry: lists and queues of parts that fit, and the numbers in them.
-use Rattle.std.proofs.Common.{ℕ, zero, suc, ◌^◌, ◌<◌, List, [], ◌∷◌, ◌++◌, length, Option, Some, None, refl, arith}
-use Rattle.std.specs.Prelude.{IfSome, IsTrue, codes}
+use Rattle.std.proofs.Common.{ℕ, ◌^◌, ◌<◌, List, [], ◌∷◌, ◌++◌, length, Option, Some, None, refl, arith}
+use Rattle.std.specs.Prelude.{IfSome, IsTrue}
+use Rattle.std.specs.FinMap.{FinMap, get}
 use Rattle.std.specs.List.{AllByRecursion}
-use Rattle.std.specs.Str.{IsAscii}
 use Rattle.std.proofs.lemmas.List.Elements.{All-from_recursion}
-use Rattle.std.proofs.lemmas.Str.{IsUtf8-from_ascii}
 use Rattle.base_values.specs.declared.Position.{Position}
-use Rattle.base_styles.specs.DefaultStyle.{default_style}
-use Rattle.formula_content.specs.declared.Content.{Content}
-use Rattle.formula_content.specs.declared.Content.TheVariants.{Empty, Number, Boolean, Error as ErrorValue, Text, Formula, Dynamic}
+use Rattle.base_values.specs.Places.{position_cmp}
+use Rattle.formula_tree.specs.DepthBounds.{is_within}
+use Rattle.formula_tree.specs.Numbers.{has_kept_numbers}
 use Rattle.sheet_grid.specs.declared.Cell.{Cell}
-use Rattle.formula_content.specs.KeptContent.{IsKeptContent}
-use Rattle.formula_content.specs.Fitting.{is_shallow}
-use Rattle.formula_wire.specs.KeptLaws.{kept_from_carried}
 use Rattle.sheet_grid.specs.FittingCells.{is_shallow_entry}
 use Rattle.sheet_grid.specs.KeptCell.{IsKeptCell}
+use Rattle.sheet_lines.specs.declared.KeptLines.{KeptLines}
+use Rattle.sheet_lines.specs.KeptNumbers.{AreKeptTrees, AreKeptLines}
+use Rattle.formula_tree.specs.declared.Node.{Node}
 use Rattle.sheet_history.specs.declared.Diff.{Diff}
-use Rattle.sheet_history.specs.declared.Diff.TheVariants.{Cell as CellDiff}
+use Rattle.sheet_history.specs.declared.Diff.TheVariants.{Cell as CellDiff, Rows as RowsDiff}
 use Rattle.sheet_history.specs.declared.QueueDiffs.{QueueDiffs}
-use Rattle.sheet_history.specs.Diffs.{IsKeptDiff, IsKeptList, IsKeptQueue}
-use Rattle.sheet_wire.specs.StyleBytes.{FitsStyle}
-use Rattle.sheet_wire.specs.CellBytes.{FitsContent, FitsCell, FitsPosition}
+use Rattle.sheet_history.specs.Diffs.{AreShallowTrees, AreShallowLines, IsKeptDiff, IsKeptList, IsKeptQueue}
+use Rattle.cell_wire.specs.CellBytes.{FitsCell, FitsPosition}
 use Rattle.sheet_wire.specs.QueueBytes.{FitsDiff, FitsList, FitsEntry, FitsQueue}
+use Rattle.cell_wire.specs.Fitting.{shallow_content_from_fits, kept_cell_from_fits}
+use Rattle.kept_wire.specs.FormulaBytes.{AreKnownTrees}
+use Rattle.kept_wire.specs.KeptBytes.{IsKnownCell, FitsKeptRows}
+use Rattle.kept_wire.specs.KeptFits.{if_some, known_cells, known_trees, kept_lines_from_fits}
+use Rattle.sheet_wire.specs.RowsBytes.{IsKeptOfRows}
 
 -- ---- what fits
-
-ascii_by_items : (bytes : List ℕ) → AllByRecursion (λ b. b < 128) bytes → IsAscii bytes
-ascii_by_items [] all i = omega arith
-ascii_by_items (b ∷ bytes) all zero = all.0
-ascii_by_items (b ∷ bytes) all (suc i) = ascii_by_items bytes all.1 i
-
-general_ascii : AllByRecursion (λ b. b < 128) (codes "general")
-general_ascii = (omega arith, (omega arith, (omega arith, (omega arith, (omega arith, (omega arith, (omega arith, tt)))))))
-
-pub default_style_fits : FitsStyle default_style
-default_style_fits = record {
-  font = record { size = record { sfits = omega arith }; color = tt };
-  fill = tt;
-  border = record { left = tt; right = tt; top = tt; bottom = tt };
-  num_fmt = record { short = omega arith; utf8 = IsUtf8-from_ascii (codes "general") (ascii_by_items (codes "general") general_ascii) };
-}
 
 -- one cell diff
 pub cell_list_fits : (sheet : ℕ) (place : Position) (old new : Option Cell) → sheet < 2 ^ 32 → FitsPosition place → IfSome old FitsCell → IfSome new FitsCell → FitsList (CellDiff sheet place old new ∷ [])
@@ -61,27 +48,6 @@ queue_push_fits queue entry fits one short = record { short = short; each = all_
 
 -- ---- what fits is kept
 
-pub kept_content_from_fits : (content : Content) → FitsContent content → IsKeptContent content
-kept_content_from_fits Empty fits = tt
-kept_content_from_fits (Number number) fits = fits
-kept_content_from_fits (Boolean value) fits = tt
-kept_content_from_fits (ErrorValue error) fits = tt
-kept_content_from_fits (Text text) fits = tt
-kept_content_from_fits (Formula tree) fits = kept_from_carried tree fits.carried
-kept_content_from_fits (Dynamic tree) fits = kept_from_carried tree fits.carried
-
-pub shallow_content_from_fits : (content : Content) → FitsContent content → IsTrue (is_shallow content)
-shallow_content_from_fits Empty fits = refl
-shallow_content_from_fits (Number number) fits = refl
-shallow_content_from_fits (Boolean value) fits = refl
-shallow_content_from_fits (ErrorValue error) fits = refl
-shallow_content_from_fits (Text text) fits = refl
-shallow_content_from_fits (Formula tree) fits = fits.depth
-shallow_content_from_fits (Dynamic tree) fits = fits.depth
-
-pub kept_cell_from_fits : (cell : Cell) → FitsCell cell → IsKeptCell cell
-kept_cell_from_fits cell fits = kept_content_from_fits cell.content fits.content
-
 kept_option : (entry : Option Cell) → IfSome entry FitsCell → IfSome entry IsKeptCell
 kept_option None fits = tt
 kept_option (Some cell) fits = kept_cell_from_fits cell fits
@@ -90,9 +56,20 @@ shallow_option : (entry : Option Cell) → IfSome entry FitsCell → IsTrue (is_
 shallow_option None fits = refl
 shallow_option (Some cell) fits = shallow_content_from_fits cell.content fits.content
 
+shallow_known : (entry : Option Cell) → IfSome entry IsKnownCell → IsTrue (is_shallow_entry entry)
+shallow_known None known = refl
+shallow_known (Some cell) known = known.1
+
+shallow_lines : (kept : KeptLines) → FitsKeptRows kept → AreShallowLines kept
+shallow_lines kept fits = record {
+  cells = λ place. shallow_known (get kept.cells place) (known_cells kept fits place);
+  formulas = λ id. if_some (get kept.formulas id) (λ trees all place. if_some (get trees place) (λ tree known. known.1) (all place)) (known_trees kept fits id);
+}
+
 pub kept_diff_from_fits : (diff : Diff) → FitsDiff diff → IsKeptDiff diff
 kept_diff_from_fits (CellDiff sheet place old new) fits =
     (kept_option old fits.old, kept_option new fits.new, shallow_option old fits.old, shallow_option new fits.new)
+kept_diff_from_fits (RowsDiff sheet edit kept) fits = (kept_lines_from_fits kept fits.kept, shallow_lines kept fits.kept)
 
 kept_diffs : (diffs : List Diff) → AllByRecursion FitsDiff diffs → AllByRecursion IsKeptDiff diffs
 kept_diffs [] fits = tt
@@ -109,3 +86,30 @@ kept_entries (entry ∷ queue) fits = (kept_list_from_fits entry.list fits.0, ke
 -- so a queue that was read can be followed
 pub kept_queue_from_fits : (queue : List QueueDiffs) → FitsQueue queue → IsKeptQueue queue
 kept_queue_from_fits queue fits = All-from_recursion (λ entry. IsKeptList entry.list) queue (kept_entries queue fits.each)
+
+-- ---- what is kept may fit
+
+known_entry : (entry : Option Cell) → IfSome entry IsKeptCell → IsTrue (is_shallow_entry entry) → IfSome entry IsKnownCell
+known_entry None kept shallow = tt
+known_entry (Some cell) kept shallow = (kept, shallow)
+
+known_tree : (tree : Option Node) → IfSome tree (λ t. IsTrue (has_kept_numbers t)) → IfSome tree (λ t. IsTrue (is_within 64 t)) → IfSome tree (λ t. IsTrue (has_kept_numbers t) × IsTrue (is_within 64 t))
+known_tree None kept shallow = tt
+known_tree (Some tree) kept shallow = (kept, shallow)
+
+known_sheet : (trees : Option (FinMap position_cmp Node)) → IfSome trees AreKeptTrees → IfSome trees AreShallowTrees → IfSome trees AreKnownTrees
+known_sheet None kept shallow = tt
+known_sheet (Some trees) kept shallow = λ place. known_tree (get trees place) (kept place) (shallow place)
+
+-- the cells that lines keep are known
+pub cells_known : (kept : KeptLines) → AreKeptLines kept → AreShallowLines kept → (place : Position) → IfSome (get kept.cells place) IsKnownCell
+cells_known kept numbers shallow place = known_entry (get kept.cells place) (numbers.cells place) (shallow.cells place)
+
+-- and so are the trees
+pub trees_known : (kept : KeptLines) → AreKeptLines kept → AreShallowLines kept → (id : ℕ) → IfSome (get kept.formulas id) AreKnownTrees
+trees_known kept numbers shallow id = known_sheet (get kept.formulas id) (numbers.formulas id) (shallow.formulas id)
+
+-- what a diff keeps, if it is one of rows, is what such an edit keeps
+abbrev pub IsKeptOfDiff : Diff → Type 0
+IsKeptOfDiff (CellDiff sheet place old new) = Unit {0}
+IsKeptOfDiff (RowsDiff sheet edit kept) = IsKeptOfRows kept

@@ -1,5 +1,4 @@
-pub mod StyleBytes
-pub mod CellBytes
+pub mod RowsBytes
 pub mod QueueBytes
 pub mod PartsAgain
 pub mod QueueLaws

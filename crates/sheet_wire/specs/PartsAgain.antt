@@ -1,174 +1,21 @@
--- What is spelled of styles, cells and diffs is read again.
-use Rattle.std.proofs.Common.{◌≡◌, ℕ, ◌+◌, ◌^◌, ◌<◌, ◌≤◌, ◌&&◌, Bool, true, false, List, ◌++◌, length, Option, Some, None, Ok, refl, arith}
+-- What is spelled of diffs is read again.
+use Rattle.std.proofs.Common.{◌≡◌, ℕ, ◌+◌, ◌≤◌, List, [], ◌∷◌, ◌++◌, length, Some, Ok, refl, arith}
 use Rattle.std.specs.Prelude.{IfSome}
 use Rattle.std.specs.Int.{w32, to_be_bytes}
-use Rattle.base_styles.specs.declared.ThemeColor.{ThemeColor}
-use Rattle.base_styles.specs.declared.ThemeColor.TheVariants.{Light1, Dark1, Light2, Dark2, Accent1, Accent2, Accent3, Accent4, Accent5, Accent6, Hyperlink, FollowedHyperlink}
-use Rattle.base_styles.specs.declared.Color.{Color}
-use Rattle.base_styles.specs.declared.Color.TheVariants.{None as NoColor, Rgb, Theme}
-use Rattle.base_styles.specs.declared.BorderStyle.{BorderStyle}
-use Rattle.base_styles.specs.declared.BorderStyle.TheVariants.{Dotted, Thin, MediumDashDotDot, MediumDashDot, SlantDashDot, MediumDashed, Medium, Thick, Double}
-use Rattle.base_styles.specs.declared.HorizontalAlignment.{HorizontalAlignment}
-use Rattle.base_styles.specs.declared.HorizontalAlignment.TheVariants as horizontal
-use Rattle.base_styles.specs.declared.VerticalAlignment.{VerticalAlignment}
-use Rattle.base_styles.specs.declared.VerticalAlignment.TheVariants as vertical
-use Rattle.formula_content.specs.declared.Content.{Content}
-use Rattle.formula_content.specs.declared.Content.TheVariants.{Empty, Number, Boolean, Error as ErrorValue, Text, Formula, Dynamic}
+use Rattle.line_map.specs.declared.EditKind.{EditKind}
+use Rattle.line_map.specs.declared.EditKind.TheVariants.{Insert, Delete}
 use Rattle.sheet_history.specs.declared.Diff.{Diff}
-use Rattle.sheet_history.specs.declared.Diff.TheVariants.{Cell as CellDiff}
+use Rattle.sheet_history.specs.declared.Diff.TheVariants.{Cell as CellDiff, Rows as RowsDiff}
 use Rattle.sheet_history.specs.declared.DiffType.{DiffType}
 use Rattle.sheet_history.specs.declared.DiffType.TheVariants.{Undo, Redo}
 use Rattle.base_wire.specs.Reading.{Reader, map_at, number_at, ◌⊗◌, decoded}
-use Rattle.base_wire.specs.Spelling.{spell_option, spell_list}
-use Rattle.sheet_wire.specs.StyleBytes.{theme_code, theme_colors, spell_color, color_at, FitsColor, spell_font, font_made, font_at, FitsFont, border_code, border_styles, spell_border_item, border_item_made, border_item_at, FitsBorderItem, spell_border, border_made, side_at, border_at, FitsBorder, horizontal_code, horizontals, vertical_code, verticals, spell_alignment, alignment_made, alignment_at, alignment_option_at, spell_style, style_made, style_at, FitsStyle}
-use Rattle.sheet_wire.specs.CellBytes.{spell_position, position_made, position_at, FitsPosition, spell_content, content_at, FitsContent, spell_cell, cell_made, cell_at, FitsCell}
-use Rattle.sheet_wire.specs.QueueBytes.{spell_diff, cell_diff_made, entry_of_cell_at, cell_diff_at, diff_at, FitsDiff, FitsList, direction_code, directions, spell_entry, entry_made, list_of_diffs_at, entry_at, FitsEntry}
-use Rattle.base_wire.specs.Again.{ReadsAgain, Any, both_again, map_again, code_again, wide32, number_again, signed_again, text_again, option_again, list_again}
-use Rattle.base_wire.specs.PartsLaws.{boolean_again, error_again, decimal_again}
-use Rattle.formula_wire.specs.NodeLaws.{node_again}
-
--- ---- colours
-
-theme_known : (x : ThemeColor) → decoded theme_code theme_colors (theme_code x) ≡ Some x
-theme_known Light1 = refl
-theme_known Dark1 = refl
-theme_known Light2 = refl
-theme_known Dark2 = refl
-theme_known Accent1 = refl
-theme_known Accent2 = refl
-theme_known Accent3 = refl
-theme_known Accent4 = refl
-theme_known Accent5 = refl
-theme_known Accent6 = refl
-theme_known Hyperlink = refl
-theme_known FollowedHyperlink = refl
-
-color_again : ReadsAgain FitsColor spell_color color_at
-unfolding color_at
-color_again = record { again = one }
-  where
-    one : (x : Color) (rest : List ℕ) → FitsColor x → color_at (spell_color x ++ rest) ≡ Ok (x, rest)
-    one NoColor rest fits = refl
-    one (Rgb red green blue) rest fits = refl
-    one (Theme theme) rest fits = rw (theme_known theme) refl
-
--- ---- fonts
-
-font_again : ReadsAgain FitsFont spell_font font_at
-unfolding font_at
-font_again = record {
-  again = λ x rest fits.
-      (map_again (both_again boolean_again (both_again boolean_again (both_again boolean_again (both_again boolean_again (both_again (signed_again wide32) color_again)))))
-      font_made (λ font. (font.b, (font.i, (font.u, (font.strike, (font.sz, font.color)))))) (λ y. refl)).again x rest (tt, (tt, (tt, (tt, (fits.size, fits.color)))));
-}
-
--- ---- borders
-
-border_known : (x : BorderStyle) → decoded border_code border_styles (border_code x) ≡ Some x
-border_known Dotted = refl
-border_known Thin = refl
-border_known MediumDashDotDot = refl
-border_known MediumDashDot = refl
-border_known SlantDashDot = refl
-border_known MediumDashed = refl
-border_known Medium = refl
-border_known Thick = refl
-border_known Double = refl
-
-border_item_again : ReadsAgain FitsBorderItem spell_border_item border_item_at
-unfolding border_item_at
-border_item_again = record {
-  again = λ x rest fits.
-      (map_again (both_again (code_again border_code border_styles border_known) color_again)
-      border_item_made (λ item. (item.style, item.color)) (λ y. refl)).again x rest (tt, fits);
-}
-
-side_again : ReadsAgain (λ side. IfSome side FitsBorderItem) (spell_option spell_border_item) side_at
-unfolding side_at
-side_again = option_again border_item_again
-
-border_again : ReadsAgain FitsBorder spell_border border_at
-unfolding border_at
-border_again = record {
-  again = λ x rest fits.
-      (map_again (both_again side_again (both_again side_again (both_again side_again side_again)))
-      border_made (λ border. (border.left, (border.right, (border.top, border.bottom)))) (λ y. refl)).again x rest (fits.left, (fits.right, (fits.top, fits.bottom)));
-}
-
--- ---- alignments
-
-horizontal_known : (x : HorizontalAlignment) → decoded horizontal_code horizontals (horizontal_code x) ≡ Some x
-horizontal_known horizontal.General = refl
-horizontal_known horizontal.Left = refl
-horizontal_known horizontal.Center = refl
-horizontal_known horizontal.Right = refl
-horizontal_known horizontal.Fill = refl
-horizontal_known horizontal.Justify = refl
-horizontal_known horizontal.CenterContinuous = refl
-horizontal_known horizontal.Distributed = refl
-
-vertical_known : (x : VerticalAlignment) → decoded vertical_code verticals (vertical_code x) ≡ Some x
-vertical_known vertical.Bottom = refl
-vertical_known vertical.Center = refl
-vertical_known vertical.Distributed = refl
-vertical_known vertical.Justify = refl
-vertical_known vertical.Top = refl
-
-alignment_again : ReadsAgain Any spell_alignment alignment_at
-unfolding alignment_at
-alignment_again = record {
-  again = λ x rest fits.
-      (map_again (both_again (code_again horizontal_code horizontals horizontal_known) (both_again (code_again vertical_code verticals vertical_known) boolean_again))
-      alignment_made (λ alignment. (alignment.horizontal, (alignment.vertical, alignment.wrap_text))) (λ y. refl)).again x rest (tt, (tt, tt));
-}
-
-if_any : {A : Type 0} (o : Option A) → IfSome o Any
-if_any None = tt
-if_any (Some x) = tt
-
-alignment_option_again : ReadsAgain Any (spell_option spell_alignment) alignment_option_at
-unfolding alignment_option_at
-alignment_option_again = record { again = λ x rest fits. (option_again alignment_again).again x rest (if_any x) }
-
--- ---- styles
-
-pub style_again : ReadsAgain FitsStyle spell_style style_at
-unfolding style_at
-style_again = record {
-  again = λ x rest fits.
-      (map_again (both_again font_again (both_again color_again (both_again border_again (both_again text_again alignment_option_again))))
-      style_made (λ style. (style.font, (style.fill, (style.border, (style.num_fmt, style.alignment))))) (λ y. refl)).again x rest (fits.font, (fits.fill, (fits.border, (fits.num_fmt, tt))));
-}
-
--- ---- cells
-
-pub position_again : ReadsAgain FitsPosition spell_position position_at
-unfolding position_at spell_position
-position_again = record {
-  again = λ x rest fits.
-      (map_again (both_again (signed_again wide32) (signed_again wide32))
-      position_made (λ place. (place.row, place.column)) (λ y. refl)).again x rest (fits.row, fits.column);
-}
-
-pub content_again : ReadsAgain FitsContent spell_content content_at
-unfolding content_at
-content_again = record { again = one }
-  where
-    one : (x : Content) (rest : List ℕ) → FitsContent x → content_at (spell_content x ++ rest) ≡ Ok (x, rest)
-    one Empty rest fits = refl
-    one (Number number) rest fits = rw (decimal_again.again number rest fits) refl
-    one (Boolean value) rest fits = rw (boolean_again.again value rest tt) refl
-    one (ErrorValue error) rest fits = rw (error_again.again error rest tt) refl
-    one (Text text) rest fits = rw (text_again.again text rest fits) refl
-    one (Formula tree) rest fits = rw (node_again.again tree rest fits) refl
-    one (Dynamic tree) rest fits = rw (node_again.again tree rest fits) refl
-
-pub cell_again : ReadsAgain FitsCell spell_cell cell_at
-unfolding cell_at
-cell_again = record {
-  again = λ x rest fits.
-      (map_again (both_again content_again style_again) cell_made (λ cell. (cell.content, cell.style)) (λ y. refl)).again x rest (fits.content, fits.style);
-}
+use Rattle.base_wire.specs.Spelling.{spell_signed, spell_option, spell_list}
+use Rattle.cell_wire.specs.CellBytes.{spell_position, position_at, spell_cell, FitsCell}
+use Rattle.sheet_wire.specs.QueueBytes.{spell_diff, cell_diff_made, entry_of_cell_at, cell_diff_at, rows_diff_made, rows_diff_at, diff_at, FitsDiff, FitsList, direction_code, directions, spell_entry, entry_made, list_of_diffs_at, entry_at, FitsEntry}
+use Rattle.base_wire.specs.Again.{ReadsAgain, both_again, map_again, code_again, wide32, number_again, signed_again, option_again, list_again, after_again}
+use Rattle.cell_wire.specs.PartsAgain.{position_again, cell_again}
+use Rattle.kept_wire.specs.KeptLaws.{kept_rows_again}
+use Rattle.sheet_wire.specs.RowsBytes.{spell_edit, insertion, deletion, lines_at, edit_at, FitsEdit, spell_rows, rows_parts_at}
 
 -- ---- diffs and queues
 
@@ -179,8 +26,16 @@ cell_option_again = option_again cell_again
 map_reads : {A B : Type 0} (f : A → B) (r : Reader A) (bytes : List ℕ) (x : A) (rest : List ℕ) → r bytes ≡ Ok (x, rest) → map_at f r bytes ≡ Ok (f x, rest)
 map_reads f r bytes x rest h = rw h refl
 
+edit_again : ReadsAgain FitsEdit spell_edit edit_at
+unfolding edit_at
+edit_again = record { again = one }
+  where
+    one : (x : EditKind) (rest : List ℕ) → FitsEdit x → edit_at (spell_edit x ++ rest) ≡ Ok (x, rest)
+    one (Insert first count) rest fits = map_reads insertion lines_at ((spell_signed w32 first ++ spell_signed w32 count) ++ rest) (first, count) rest ((both_again (signed_again wide32) (signed_again wide32)).again (first, count) rest fits)
+    one (Delete first count) rest fits = map_reads deletion lines_at ((spell_signed w32 first ++ spell_signed w32 count) ++ rest) (first, count) rest ((both_again (signed_again wide32) (signed_again wide32)).again (first, count) rest fits)
+
 pub diff_again : ReadsAgain FitsDiff spell_diff diff_at
-unfolding diff_at cell_diff_at
+unfolding diff_at cell_diff_at rows_diff_at
 diff_again = record { again = one }
   where
     one : (x : Diff) (rest : List ℕ) → FitsDiff x → diff_at (spell_diff x ++ rest) ≡ Ok (x, rest)
@@ -188,9 +43,14 @@ diff_again = record { again = one }
         map_reads cell_diff_made (number_at w32 ⊗ position_at ⊗ entry_of_cell_at ⊗ entry_of_cell_at) ((to_be_bytes w32 sheet ++ (spell_position place ++ (spell_option spell_cell old ++ spell_option spell_cell new))) ++ rest) (sheet, (place, (old, new))) rest
         ((both_again (number_again wide32) (both_again position_again (both_again cell_option_again cell_option_again))).again (sheet, (place, (old, new))) rest
         (fits.sheet, (fits.place, (fits.old, fits.new))))
+    one (RowsDiff sheet edit kept) rest fits =
+        map_reads rows_diff_made rows_parts_at (spell_rows sheet edit kept ++ rest) (sheet, (edit, kept)) rest
+        ((both_again (number_again wide32) (after_again (both_again edit_again kept_rows_again) (0 ∷ []) refl)).again (sheet, (edit, kept)) rest
+        (fits.sheet, (fits.lines, fits.kept)))
 
 some_byte : (x : Diff) → 1 ≤ length (spell_diff x)
 some_byte (CellDiff sheet place old new) = omega arith
+some_byte (RowsDiff sheet edit kept) = omega arith
 
 list_of_diffs_again : ReadsAgain FitsList (spell_list spell_diff) list_of_diffs_at
 unfolding list_of_diffs_at

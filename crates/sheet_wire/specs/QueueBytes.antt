@@ -3,15 +3,18 @@ use Rattle.std.specs.Prelude.{ℕ, ◌<◌, ◌^◌, List, [], ◌∷◌, ◌++�
 use Rattle.std.specs.Int.{w32, to_be_bytes}
 use Rattle.base_values.specs.declared.EditError.{EditError}
 use Rattle.base_values.specs.declared.Position.{Position}
+use Rattle.line_map.specs.declared.EditKind.{EditKind}
 use Rattle.sheet_grid.specs.declared.Cell.{Cell}
+use Rattle.sheet_lines.specs.declared.KeptLines.{KeptLines}
 use Rattle.sheet_history.specs.declared.Diff.{Diff}
-use Rattle.sheet_history.specs.declared.Diff.TheVariants.{Cell as CellDiff}
+use Rattle.sheet_history.specs.declared.Diff.TheVariants.{Cell as CellDiff, Rows as RowsDiff}
 use Rattle.sheet_history.specs.declared.DiffType.{DiffType}
 use Rattle.sheet_history.specs.declared.DiffType.TheVariants.{Undo, Redo}
 use Rattle.sheet_history.specs.declared.QueueDiffs.{QueueDiffs}
 use Rattle.base_wire.specs.Reading.{Reader, refused, map_at, ◌⊗◌, tagged_at, code_at, number_at, option_at, list_at, after, whole}
 use Rattle.base_wire.specs.Spelling.{spell_code, spell_option, spell_list, FitsItems}
-use Rattle.sheet_wire.specs.CellBytes.{spell_position, position_at, FitsPosition, spell_cell, cell_at, FitsCell}
+use Rattle.cell_wire.specs.CellBytes.{spell_position, position_at, FitsPosition, spell_cell, cell_at, FitsCell}
+use Rattle.sheet_wire.specs.RowsBytes.{spell_rows, rows_parts_at, FitsRows}
 
 -- ---- diffs
 
@@ -19,6 +22,7 @@ use Rattle.sheet_wire.specs.CellBytes.{spell_position, position_at, FitsPosition
 abbrev pub spell_diff : Diff → List ℕ
 spell_diff (CellDiff sheet place old new) =
     1 ∷ (to_be_bytes w32 sheet ++ (spell_position place ++ (spell_option spell_cell old ++ spell_option spell_cell new)))
+spell_diff (RowsDiff sheet edit kept) = 7 ∷ spell_rows sheet edit kept
 
 abbrev pub cell_diff_made : ℕ × (Position × (Option Cell × Option Cell)) → Diff
 cell_diff_made x = CellDiff x.0 x.1.0 x.1.1.0 x.1.1.1
@@ -29,9 +33,18 @@ entry_of_cell_at = option_at cell_at
 unfoldable pub cell_diff_at : Reader Diff
 cell_diff_at = map_at cell_diff_made (number_at w32 ⊗ position_at ⊗ entry_of_cell_at ⊗ entry_of_cell_at)
 
+abbrev pub rows_diff_made : ℕ × (EditKind × KeptLines) → Diff
+rows_diff_made x = RowsDiff x.0 x.1.0 x.1.1
+
+unfoldable pub rows_diff_at : Reader Diff
+rows_diff_at = map_at rows_diff_made rows_parts_at
+
 -- what follows each tag
 abbrev pub diff_of : ℕ → Reader Diff
-diff_of tag = if tag == 1 then cell_diff_at else refused
+diff_of tag =
+    if tag == 1 then cell_diff_at
+    else if tag == 7 then rows_diff_at
+    else refused
 
 unfoldable pub diff_at : Reader Diff
 diff_at = tagged_at diff_of
@@ -45,6 +58,7 @@ pub record FitsCellDiff (id : ℕ) (position : Position) (before later : Option 
 
 abbrev pub FitsDiff : Diff → Type 0
 FitsDiff (CellDiff sheet place old new) = FitsCellDiff sheet place old new
+FitsDiff (RowsDiff sheet edit kept) = FitsRows sheet edit kept
 
 -- a list of diffs that bytes can carry
 abbrev pub FitsList : List Diff → Type 0

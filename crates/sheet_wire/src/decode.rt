@@ -1,17 +1,20 @@
 //! Queues from their bytes.
 
-ghost use Rattle.std.specs.Prelude.{◌≡◌, ◌≢◌, IfErr, IfOk, List};
+ghost use Rattle.std.specs.Prelude.{◌≡◌, ◌≢◌, [], ◌∷◌, IfErr, IfOk, List};
 ghost use Rattle.base_values.specs.Answers.{Answers, map_ok};
 ghost use Rattle.base_values.specs.declared.EditError.TheVariants.{NoMemory, ParseDiffs};
 ghost use Rattle.base_wire.specs.Reading.{code_at, many_at, rest_after};
-ghost use Rattle.sheet_wire.specs.QueueBytes.{cell_diff_at, diff_at, direction_code, directions, entry_at, entry_of_cell_at, list_of_diffs_at, magic, queue_of, spell_queue, FitsQueue};
+ghost use Rattle.sheet_wire.specs.RowsBytes.{edit_at, lines_at};
+ghost use Rattle.sheet_wire.specs.QueueBytes.{cell_diff_at, diff_at, direction_code, directions, entry_at, entry_of_cell_at, rows_diff_at, list_of_diffs_at, magic, queue_of, spell_queue, FitsQueue};
 ghost use Rattle.sheet_wire.specs.QueueLaws.{IsNoQueue};
 ghost use Rattle.sheet_history.specs.declared.QueueDiffs.{QueueDiffs};
 
 use crate::codes::direction_of;
-use crate::reading_cells::{cell_at, position_at};
 use base_values::{EditError, Items};
-use base_wire::{byte_at, count_at, u32_at};
+use base_wire::{byte_at, count_at, i32_at, u32_at};
+use cell_wire::{cell_at, position_at};
+use kept_wire::kept_rows_at;
+use line_map::EditKind;
 use sheet_grid::Cell;
 use sheet_history::{Diff, DiffList, DiffType, QueueDiffs};
 use std::alloc::Global;
@@ -48,6 +51,54 @@ fn cell_diff_at(alloc: Global, bytes: &[u8]) -> Result<(Diff, &[u8]), EditError>
     Ok((diff, rest))
 }
 
+/// The first line of an edit, and how many.
+fn lines_at(bytes: &[u8]) -> Result<((i32, i32), &[u8]), EditError>
+    ensures { Answers (map_ok (λ x. (x.0, x.1.now)) result) (lines_at bytes.now) }
+{
+    let (first, rest) = i32_at(bytes)?;
+    let (count, rest) = i32_at(rest)?;
+    Ok(((first, count), rest))
+}
+
+#[tactic(auto, unfolding(crate::specs::RowsBytes::edit_at))]
+fn edit_at(bytes: &[u8]) -> Result<(EditKind, &[u8]), EditError>
+    ensures { Answers (map_ok (λ x. (x.0, x.1.now)) result) (edit_at bytes.now) }
+{
+    let (kind, rest) = byte_at(bytes)?;
+    match kind {
+        0 => {
+            let ((first, count), rest) = lines_at(rest)?;
+            Ok((EditKind::Insert { first, count }, rest))
+        }
+        1 => {
+            let ((first, count), rest) = lines_at(rest)?;
+            Ok((EditKind::Delete { first, count }, rest))
+        }
+        _ => Err(EditError::ParseDiffs),
+    }
+}
+
+/// What stands after the byte of rows.
+fn after_rows(bytes: &[u8]) -> Result<&[u8], EditError>
+    ensures { Answers (map_ok (λ x. x.now) result) (rest_after (0 ∷ []) bytes.now) }
+{
+    match bytes.strip_prefix([0].as_slice()) {
+        Some(rest) => Ok(rest),
+        None => Err(EditError::ParseDiffs),
+    }
+}
+
+#[tactic(auto, unfolding(crate::specs::QueueBytes::rows_diff_at))]
+fn rows_diff_at(alloc: Global, bytes: &[u8]) -> Result<(Diff, &[u8]), EditError>
+    ensures { Answers (map_ok (λ x. (x.0, x.1.now)) result) (rows_diff_at bytes.now) }
+{
+    let (sheet, rest) = u32_at(bytes)?;
+    let rest = after_rows(rest)?;
+    let (edit, rest) = edit_at(rest)?;
+    let (kept, rest) = kept_rows_at(alloc, rest)?;
+    Ok((Diff::Rows { sheet, edit, kept }, rest))
+}
+
 #[tactic(auto, unfolding(crate::specs::QueueBytes::diff_at))]
 fn diff_at(alloc: Global, bytes: &[u8]) -> Result<(Diff, &[u8]), EditError>
     ensures { Answers (map_ok (λ x. (x.0, x.1.now)) result) (diff_at bytes.now) }
@@ -55,6 +106,7 @@ fn diff_at(alloc: Global, bytes: &[u8]) -> Result<(Diff, &[u8]), EditError>
     let (tag, rest) = byte_at(bytes)?;
     match tag {
         1 => cell_diff_at(alloc, rest),
+        7 => rows_diff_at(alloc, rest),
         _ => Err(EditError::ParseDiffs),
     }
 }

@@ -1,18 +1,20 @@
-//! The bytes of queues and styles.
+//! The bytes of queues.
 
 ghost use Rattle.std.specs.Prelude.{◌≡◌, ◌++◌, OnOk, IfOk, IsOkUnless};
 ghost use Rattle.base_values.specs.declared.EditError.TheVariants.{NoMemory};
 ghost use Rattle.base_wire.specs.Spelling.{spell_option};
-ghost use Rattle.sheet_wire.specs.StyleBytes.{spell_style};
-ghost use Rattle.sheet_wire.specs.CellBytes.{spell_cell};
+ghost use Rattle.cell_wire.specs.CellBytes.{spell_cell};
+ghost use Rattle.sheet_wire.specs.RowsBytes.{spell_edit, spell_rows};
 ghost use Rattle.sheet_wire.specs.QueueBytes.{spell_diff, spell_entry, spell_queue};
 
 use crate::codes::direction_code;
-use crate::writing::{put_cell, put_position, put_style};
-use base_styles::Style;
 use base_values::EditError;
+use cell_wire::{put_cell, put_position};
+use kept_wire::put_kept_rows;
+use line_map::EditKind;
 use sheet_grid::Cell;
 use sheet_history::{Diff, QueueDiffs};
+use sheet_lines::KeptLines;
 use std::alloc::{AllocError, Global};
 
 fn put_entry_of_cell(out: &mut Vec<u8>, entry: &Option<Cell>) -> Result<(), AllocError>
@@ -26,6 +28,33 @@ fn put_entry_of_cell(out: &mut Vec<u8>, entry: &Option<Cell>) -> Result<(), Allo
         }
     }
     Ok(())
+}
+
+fn put_edit(out: &mut Vec<u8>, edit: EditKind) -> Result<(), AllocError>
+    ensures { OnOk result (out.new.items ≡ out.old.items ++ spell_edit edit) }
+{
+    let (kind, first, count) = match edit {
+        EditKind::Insert { first, count } => (0, first, count),
+        EditKind::Delete { first, count } => (1, first, count),
+    };
+    out.push(kind)?;
+    out.extend_from_slice(&first.to_be_bytes())?;
+    out.extend_from_slice(&count.to_be_bytes())
+}
+
+/// Adds the id of a sheet, the byte of rows, the edit, and what it keeps.
+fn put_rows(
+    out: &mut Vec<u8>,
+    sheet: u32,
+    edit: EditKind,
+    kept: &KeptLines,
+) -> Result<(), AllocError>
+    ensures { OnOk result (out.new.items ≡ out.old.items ++ spell_rows sheet edit kept.now) }
+{
+    out.extend_from_slice(&sheet.to_be_bytes())?;
+    out.push(0)?;
+    put_edit(out, edit)?;
+    put_kept_rows(out, kept)
 }
 
 fn put_diff(out: &mut Vec<u8>, diff: &Diff) -> Result<(), AllocError>
@@ -43,6 +72,10 @@ fn put_diff(out: &mut Vec<u8>, diff: &Diff) -> Result<(), AllocError>
             put_position(out, *position)?;
             put_entry_of_cell(out, old)?;
             put_entry_of_cell(out, new)
+        }
+        Diff::Rows { sheet, edit, kept } => {
+            out.push(7)?;
+            put_rows(out, *sheet, *edit, kept)
         }
     }
 }
@@ -70,15 +103,5 @@ pub fn encode_queue(alloc: Global, queue: &[QueueDiffs]) -> Result<Vec<u8>, Edit
     for entry in queue {
         put_entry(&mut out, entry)?;
     }
-    Ok(out)
-}
-
-/// The bytes of a style. Only want of memory is refused.
-pub fn encode_style(alloc: Global, style: &Style) -> Result<Vec<u8>, EditError>
-    ensures spelled { IfOk result (λ bytes. bytes.items ≡ spell_style style.now) }
-    ensures only { IsOkUnless result NoMemory }
-{
-    let mut out = Vec::new(alloc);
-    put_style(&mut out, style)?;
     Ok(out)
 }

@@ -1,4 +1,4 @@
-//! Queues of diffs and styles as bytes, in both directions.
+//! Queues of diffs as bytes, in both directions.
 //!
 //! The layers above see a spelling, which is a function of the value, and a reading function on
 //! lists of bytes. Each value that bytes can carry has one spelling, which is read again as that
@@ -10,13 +10,10 @@ mod codes;
 mod decode;
 mod encode;
 mod fitting;
-mod reading_cells;
-mod reading_styles;
-mod writing;
 
 pub use decode::decode_queue;
-pub use encode::{encode_queue, encode_style};
-pub use fitting::{cell_fits, content_fits, diff_fits, position_fits, style_fits};
+pub use encode::encode_queue;
+pub use fitting::diff_fits;
 
 #[cfg(test)]
 mod tests;

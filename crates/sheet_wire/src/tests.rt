@@ -1,6 +1,7 @@
 use super::*;
 use base_styles::Style;
 use base_values::EditError;
+use cell_wire::encode_style;
 use std::test::*;
 
 /// One entry: a cell diff that puts the number 1 in the default style at row 1 and column 1 of the

@@ -1,0 +1,87 @@
+-- The bytes of positions, contents and cells.
+use Rattle.std.specs.Prelude.{ℕ, ℤ, List, [], ◌∷◌, ◌++◌, ◌==◌, if◌then◌else◌, FitsSigned}
+use Rattle.std.specs.Int.{w32}
+use Rattle.base_values.specs.declared.Position.{Position}
+use Rattle.base_tables.specs.Error.{error_code}
+use Rattle.base_decimal.specs.Kept.{IsKept}
+use Rattle.base_styles.specs.declared.Style.{Style}
+use Rattle.formula_content.specs.declared.Content.{Content}
+use Rattle.formula_content.specs.declared.Content.TheVariants.{Empty, Number, Boolean, Error as ErrorValue, Text, Formula, Dynamic}
+use Rattle.sheet_grid.specs.declared.Cell.{Cell}
+use Rattle.base_wire.specs.Reading.{Reader, plain, refused, map_at, ◌⊗◌, tagged_at, signed_at, text_at}
+use Rattle.base_wire.specs.Spelling.{spell_signed, spell_code, boolean_code, spell_text, FitsText}
+use Rattle.base_wire.specs.Parts.{boolean_at, error_at, spell_decimal, decimal_at}
+use Rattle.formula_wire.specs.NodeBytes.{spell_node, node_at}
+use Rattle.formula_wire.specs.Carried.{FitsNode}
+use Rattle.cell_wire.specs.StyleBytes.{spell_style, style_at, FitsStyle}
+
+-- ---- positions
+
+-- row and column
+unfoldable pub spell_position : Position → List ℕ
+spell_position place = spell_signed w32 place.row ++ spell_signed w32 place.column
+
+abbrev pub position_made : ℤ × ℤ → Position
+position_made x = record { row = x.0; column = x.1 }
+
+unfoldable pub position_at : Reader Position
+position_at = map_at position_made (signed_at w32 ⊗ signed_at w32)
+
+-- two numbers of 32 bits, inside the sheet or not
+pub record FitsPosition (place : Position) : Type 0 where
+  pub row : FitsSigned w32 place.row
+  pub column : FitsSigned w32 place.column
+
+-- ---- contents
+
+-- the kind, and then what it holds
+abbrev pub spell_content : Content → List ℕ
+spell_content Empty = 0 ∷ []
+spell_content (Number number) = 1 ∷ spell_decimal number
+spell_content (Boolean value) = 2 ∷ spell_code boolean_code value
+spell_content (ErrorValue error) = 3 ∷ spell_code error_code error
+spell_content (Text text) = 4 ∷ spell_text text
+spell_content (Formula tree) = 5 ∷ spell_node tree
+spell_content (Dynamic tree) = 6 ∷ spell_node tree
+
+-- what follows each kind
+abbrev pub content_of : ℕ → Reader Content
+content_of kind =
+    if kind == 0 then plain Empty
+    else if kind == 1 then map_at Number decimal_at
+    else if kind == 2 then map_at Boolean boolean_at
+    else if kind == 3 then map_at ErrorValue error_at
+    else if kind == 4 then map_at Text text_at
+    else if kind == 5 then map_at Formula node_at
+    else if kind == 6 then map_at Dynamic node_at
+    else refused
+
+unfoldable pub content_at : Reader Content
+content_at = tagged_at content_of
+
+-- a number is as a sheet keeps it, a text is one of Rust, and a tree one that bytes can carry
+abbrev pub FitsContent : Content → Type 0
+FitsContent Empty = Unit {0}
+FitsContent (Number number) = IsKept number
+FitsContent (Boolean value) = Unit {0}
+FitsContent (ErrorValue error) = Unit {0}
+FitsContent (Text text) = FitsText text
+FitsContent (Formula tree) = FitsNode tree
+FitsContent (Dynamic tree) = FitsNode tree
+
+-- ---- cells
+
+-- the content, and the style
+abbrev pub spell_cell : Cell → List ℕ
+spell_cell cell = spell_content cell.content ++ spell_style cell.style
+
+abbrev pub cell_made : Content × Style → Cell
+cell_made x = record { content = x.0; style = x.1 }
+
+unfoldable pub cell_at : Reader Cell
+cell_at = map_at cell_made (content_at ⊗ style_at)
+
+-- a cell whose parts bytes can carry
+pub record FitsCell (cell : Cell) : Type 0 where
+  pub content : FitsContent cell.content
+  pub style : FitsStyle cell.style

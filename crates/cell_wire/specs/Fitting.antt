@@ -1,0 +1,57 @@
+-- What bytes can carry: the default style, and the numbers in what they carry.
+use Rattle.std.proofs.Common.{ℕ, zero, suc, ◌<◌, List, [], ◌∷◌, refl, arith}
+use Rattle.std.specs.Prelude.{IsTrue, codes}
+use Rattle.std.specs.List.{AllByRecursion}
+use Rattle.std.specs.Str.{IsAscii}
+use Rattle.std.proofs.lemmas.Str.{IsUtf8-from_ascii}
+use Rattle.base_styles.specs.DefaultStyle.{default_style}
+use Rattle.formula_content.specs.declared.Content.{Content}
+use Rattle.formula_content.specs.declared.Content.TheVariants.{Empty, Number, Boolean, Error as ErrorValue, Text, Formula, Dynamic}
+use Rattle.sheet_grid.specs.declared.Cell.{Cell}
+use Rattle.formula_content.specs.KeptContent.{IsKeptContent}
+use Rattle.formula_content.specs.Fitting.{is_shallow}
+use Rattle.formula_wire.specs.KeptLaws.{kept_from_carried}
+use Rattle.sheet_grid.specs.KeptCell.{IsKeptCell}
+use Rattle.cell_wire.specs.StyleBytes.{FitsStyle}
+use Rattle.cell_wire.specs.CellBytes.{FitsContent, FitsCell}
+
+-- ---- what fits
+
+ascii_by_items : (bytes : List ℕ) → AllByRecursion (λ b. b < 128) bytes → IsAscii bytes
+ascii_by_items [] all i = omega arith
+ascii_by_items (b ∷ bytes) all zero = all.0
+ascii_by_items (b ∷ bytes) all (suc i) = ascii_by_items bytes all.1 i
+
+general_ascii : AllByRecursion (λ b. b < 128) (codes "general")
+general_ascii = (omega arith, (omega arith, (omega arith, (omega arith, (omega arith, (omega arith, (omega arith, tt)))))))
+
+pub default_style_fits : FitsStyle default_style
+default_style_fits = record {
+  font = record { size = record { sfits = omega arith }; color = tt };
+  fill = tt;
+  border = record { left = tt; right = tt; top = tt; bottom = tt };
+  num_fmt = record { short = omega arith; utf8 = IsUtf8-from_ascii (codes "general") (ascii_by_items (codes "general") general_ascii) };
+}
+
+-- ---- what fits is kept
+
+pub kept_content_from_fits : (content : Content) → FitsContent content → IsKeptContent content
+kept_content_from_fits Empty fits = tt
+kept_content_from_fits (Number number) fits = fits
+kept_content_from_fits (Boolean value) fits = tt
+kept_content_from_fits (ErrorValue error) fits = tt
+kept_content_from_fits (Text text) fits = tt
+kept_content_from_fits (Formula tree) fits = kept_from_carried tree fits.carried
+kept_content_from_fits (Dynamic tree) fits = kept_from_carried tree fits.carried
+
+pub shallow_content_from_fits : (content : Content) → FitsContent content → IsTrue (is_shallow content)
+shallow_content_from_fits Empty fits = refl
+shallow_content_from_fits (Number number) fits = refl
+shallow_content_from_fits (Boolean value) fits = refl
+shallow_content_from_fits (ErrorValue error) fits = refl
+shallow_content_from_fits (Text text) fits = refl
+shallow_content_from_fits (Formula tree) fits = fits.depth
+shallow_content_from_fits (Dynamic tree) fits = fits.depth
+
+pub kept_cell_from_fits : (cell : Cell) → FitsCell cell → IsKeptCell cell
+kept_cell_from_fits cell fits = kept_content_from_fits cell.content fits.content

@@ -1,0 +1,102 @@
+-- What is read of styles and cells was spelled so.
+use Rattle.std.proofs.Common.{refl}
+use Rattle.std.specs.Prelude.{IfSome}
+use Rattle.base_styles.specs.declared.Color.TheVariants.{None as NoColor, Theme}
+use Rattle.formula_content.specs.declared.Content.TheVariants.{Empty, Number, Boolean, Error as ErrorValue, Text, Formula, Dynamic}
+use Rattle.base_wire.specs.Spelling.{spell_option}
+use Rattle.cell_wire.specs.StyleBytes.{theme_code, theme_colors, spell_color, color_at, FitsColor, spell_font, font_made, font_at, FitsFont, border_code, border_styles, spell_border_item, border_item_made, border_item_at, FitsBorderItem, spell_border, border_made, side_at, border_at, FitsBorder, horizontal_code, horizontals, vertical_code, verticals, spell_alignment, alignment_made, alignment_at, alignment_option_at, spell_style, style_made, style_at, FitsStyle}
+use Rattle.cell_wire.specs.CellBytes.{spell_position, position_made, position_at, FitsPosition, spell_content, content_at, FitsContent, spell_cell, cell_made, cell_at, FitsCell}
+use Rattle.cell_wire.specs.StyleBytes.{rgb, color_of}
+use Rattle.cell_wire.specs.CellBytes.{content_of}
+use Rattle.base_wire.specs.Again.{Any}
+use Rattle.base_wire.specs.Spelled.{ReadsSpelled, both_spelled, map_spelled, fits_otherwise, byte_spelled, code_spelled, tag_map, tag_plain, tag_refused, tag_if, tagged_spelled, option_spelled, back32, signed_spelled, text_spelled}
+use Rattle.base_wire.specs.PartsLaws.{boolean_spelled, error_spelled, decimal_spelled}
+use Rattle.formula_wire.specs.NodeLaws.{node_spelled}
+
+-- ---- colours
+
+color_spelled : ReadsSpelled FitsColor spell_color color_at
+unfolding color_at
+color_spelled =
+    tagged_spelled color_of (λ kind.
+    tag_if kind 0 (tag_plain FitsColor spell_color 0 NoColor refl tt)
+    (tag_if kind 1 (tag_map (both_spelled byte_spelled (both_spelled byte_spelled byte_spelled)) rgb FitsColor spell_color 1 (λ x. refl) (λ x fits. fits))
+    (tag_if kind 2 (tag_map (code_spelled theme_code theme_colors) Theme FitsColor spell_color 2 (λ x. refl) (λ x fits. tt))
+    (tag_refused FitsColor spell_color kind))))
+
+-- ---- fonts
+
+font_spelled : ReadsSpelled FitsFont spell_font font_at
+unfolding font_at
+font_spelled =
+    fits_otherwise (λ x fits. record { size = fits.1.1.1.1.0; color = fits.1.1.1.1.1 })
+    (map_spelled (both_spelled boolean_spelled (both_spelled boolean_spelled (both_spelled boolean_spelled (both_spelled boolean_spelled (both_spelled (signed_spelled back32) color_spelled)))))
+    font_made (λ font. (font.b, (font.i, (font.u, (font.strike, (font.sz, font.color)))))) (λ x. refl))
+
+-- ---- borders
+
+border_item_spelled : ReadsSpelled FitsBorderItem spell_border_item border_item_at
+unfolding border_item_at
+border_item_spelled =
+    fits_otherwise (λ x fits. fits.1)
+    (map_spelled (both_spelled (code_spelled border_code border_styles) color_spelled) border_item_made (λ item. (item.style, item.color)) (λ x. refl))
+
+side_spelled : ReadsSpelled (λ side. IfSome side FitsBorderItem) (spell_option spell_border_item) side_at
+unfolding side_at
+side_spelled = option_spelled border_item_spelled
+
+border_spelled : ReadsSpelled FitsBorder spell_border border_at
+unfolding border_at
+border_spelled =
+    fits_otherwise (λ x fits. record { left = fits.0; right = fits.1.0; top = fits.1.1.0; bottom = fits.1.1.1 })
+    (map_spelled (both_spelled side_spelled (both_spelled side_spelled (both_spelled side_spelled side_spelled)))
+    border_made (λ border. (border.left, (border.right, (border.top, border.bottom)))) (λ x. refl))
+
+-- ---- alignments
+
+alignment_spelled : ReadsSpelled Any spell_alignment alignment_at
+unfolding alignment_at
+alignment_spelled =
+    fits_otherwise (λ x fits. tt)
+    (map_spelled (both_spelled (code_spelled horizontal_code horizontals) (both_spelled (code_spelled vertical_code verticals) boolean_spelled))
+    alignment_made (λ alignment. (alignment.horizontal, (alignment.vertical, alignment.wrap_text))) (λ x. refl))
+
+alignment_option_spelled : ReadsSpelled Any (spell_option spell_alignment) alignment_option_at
+unfolding alignment_option_at
+alignment_option_spelled = fits_otherwise (λ x fits. tt) (option_spelled alignment_spelled)
+
+-- ---- styles
+
+pub style_spelled : ReadsSpelled FitsStyle spell_style style_at
+unfolding style_at
+style_spelled =
+    fits_otherwise (λ x fits. record { font = fits.0; fill = fits.1.0; border = fits.1.1.0; num_fmt = fits.1.1.1.0 })
+    (map_spelled (both_spelled font_spelled (both_spelled color_spelled (both_spelled border_spelled (both_spelled text_spelled alignment_option_spelled))))
+    style_made (λ style. (style.font, (style.fill, (style.border, (style.num_fmt, style.alignment))))) (λ x. refl))
+
+-- ---- cells
+
+pub position_spelled : ReadsSpelled FitsPosition spell_position position_at
+unfolding position_at spell_position
+position_spelled =
+    fits_otherwise (λ x fits. record { row = fits.0; column = fits.1 })
+    (map_spelled (both_spelled (signed_spelled back32) (signed_spelled back32)) position_made (λ place. (place.row, place.column)) (λ x. refl))
+
+pub content_spelled : ReadsSpelled FitsContent spell_content content_at
+unfolding content_at
+content_spelled =
+    tagged_spelled content_of (λ kind.
+    tag_if kind 0 (tag_plain FitsContent spell_content 0 Empty refl tt)
+    (tag_if kind 1 (tag_map decimal_spelled Number FitsContent spell_content 1 (λ x. refl) (λ x fits. fits))
+    (tag_if kind 2 (tag_map boolean_spelled Boolean FitsContent spell_content 2 (λ x. refl) (λ x fits. tt))
+    (tag_if kind 3 (tag_map error_spelled ErrorValue FitsContent spell_content 3 (λ x. refl) (λ x fits. tt))
+    (tag_if kind 4 (tag_map text_spelled Text FitsContent spell_content 4 (λ x. refl) (λ x fits. fits))
+    (tag_if kind 5 (tag_map node_spelled Formula FitsContent spell_content 5 (λ x. refl) (λ x fits. fits))
+    (tag_if kind 6 (tag_map node_spelled Dynamic FitsContent spell_content 6 (λ x. refl) (λ x fits. fits))
+    (tag_refused FitsContent spell_content kind))))))))
+
+pub cell_spelled : ReadsSpelled FitsCell spell_cell cell_at
+unfolding cell_at
+cell_spelled =
+    fits_otherwise (λ x fits. record { content = fits.0; style = fits.1 })
+    (map_spelled (both_spelled content_spelled style_spelled) cell_made (λ cell. (cell.content, cell.style)) (λ x. refl))

@@ -1,0 +1,20 @@
+//! The bytes of styles.
+
+ghost use Rattle.std.specs.Prelude.{◌≡◌, IfOk, IsOkUnless};
+ghost use Rattle.base_values.specs.declared.EditError.TheVariants.{NoMemory};
+ghost use Rattle.cell_wire.specs.StyleBytes.{spell_style};
+
+use crate::writing::put_style;
+use base_styles::Style;
+use base_values::EditError;
+use std::alloc::Global;
+
+/// The bytes of a style. Only want of memory is refused.
+pub fn encode_style(alloc: Global, style: &Style) -> Result<Vec<u8>, EditError>
+    ensures spelled { IfOk result (λ bytes. bytes.items ≡ spell_style style.now) }
+    ensures only { IsOkUnless result NoMemory }
+{
+    let mut out = Vec::new(alloc);
+    put_style(&mut out, style)?;
+    Ok(out)
+}

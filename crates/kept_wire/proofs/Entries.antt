@@ -1,0 +1,35 @@
+-- Keys and values that fit make entries that fit.
+use Rattle.std.proofs.Common.{◌≡◌, ℕ, ◌^◌, ◌<◌, suc, List, [], ◌∷◌, ◌++◌, map, length, sym, subst, arith}
+use Rattle.std.specs.Prelude.{IfSome}
+use Rattle.std.specs.Cmp.{IsTotalOrder}
+use Rattle.std.specs.List.{All, AllByRecursion}
+use Rattle.std.specs.declared.cmp.Ordering.{Ordering}
+use Rattle.std.specs.FinMap.{FinMap, entries, get}
+use Rattle.base_wire.specs.Again.{Both}
+use Rattle.kept_wire.specs.MapBytes.{FitsMap}
+use Rattle.kept_wire.specs.FitsLaws.{entries_known}
+
+pub both_fit : {K X : Type 0} (P : K → Type 0) (Q : X → Type 0) (es : List (K × X)) → All (λ e. P e.0) es → AllByRecursion (λ e. Q e.1) es → AllByRecursion (Both P Q) es
+both_fit P Q [] keys values = tt
+both_fit P Q (e ∷ es) keys values = ((keys 0 e (omega arith), values.0), both_fit P Q es (λ k d lt. keys (suc k) d (omega arith)) values.1)
+
+module _ {K X : Type 0} {R : K → K → Ordering} where
+  -- what is known of the values of a map is known of what its iterator gives
+  pub known_there : IsTotalOrder R → (P : X → Type 0) (m : FinMap R X) (es : List (K × X)) → es ≡ entries m → ((q : K) → IfSome (get m q) P) → AllByRecursion (λ e. P e.1) es
+  known_there total P m es same known = subst (AllByRecursion (λ e. P e.1)) (sym same) (entries_known R total P m known)
+
+  -- a map fits by what its iterator gives
+  pub map_fits : (P : K → Type 0) (Q : X → Type 0) (m : FinMap R X) (es : List (K × X)) → es ≡ entries m → length es < 2 ^ 64 → All (λ e. P e.0) es → AllByRecursion (λ e. Q e.1) es → FitsMap P Q m
+  map_fits P Q m es same short keys values =
+      let all : AllByRecursion (Both P Q) (entries m) = subst (AllByRecursion (Both P Q)) same (both_fit P Q es keys values) in
+      let few : length (entries m) < 2 ^ 64 = subst (λ (fs : List (K × X)). length fs < 2 ^ 64) same short in
+      record { short = few; each = all }
+
+pub all_both : {X : Type 0} (P : X → Type 0) (xs ys : List X) → AllByRecursion P xs → AllByRecursion P ys → AllByRecursion P (xs ++ ys)
+all_both P [] ys g h = h
+all_both P (x ∷ xs) ys g h = (g.0, all_both P xs ys g.1 h)
+
+-- trees that fit at their places fit with the id of their sheet
+pub under_fits : {P X : Type 0} (Key : P → Type 0) (Value : X → Type 0) (id : ℕ) → id < 2 ^ 32 → (es : List (P × X)) → AllByRecursion (Both Key Value) es → AllByRecursion (Both (Both (λ i. i < 2 ^ 32) Key) Value) (map (λ f. ((id, f.0), f.1)) es)
+under_fits Key Value id small [] all = tt
+under_fits Key Value id small (e ∷ es) all = (((small, all.0.0), all.0.1), under_fits Key Value id small es all.1)

@@ -1,0 +1,5 @@
+pub mod Turns
+pub mod Entries
+pub mod Written
+pub mod Reinserted
+pub mod Counts

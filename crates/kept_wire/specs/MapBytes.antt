@@ -1,0 +1,27 @@
+-- The bytes of maps: how many entries they have, and the entries in the order of their keys.
+use Rattle.std.specs.Prelude.{List, ℕ}
+use Rattle.std.specs.FinMap.{FinMap, entries, from_entries, is_sorted}
+use Rattle.std.specs.declared.cmp.Ordering.{Ordering}
+use Rattle.base_wire.specs.Reading.{Reader, map_at, ◌⊗◌, check_at, list_at}
+use Rattle.base_wire.specs.Spelling.{spell_list, FitsItems}
+use Rattle.base_wire.specs.Again.{Both, spell_both}
+
+-- entries, each a key and its value
+abbrev pub spell_entries : {K X : Type 0} → (K → List ℕ) → (X → List ℕ) → List (K × X) → List ℕ
+spell_entries key value = spell_list (spell_both key value)
+
+-- entries whose keys rise strictly
+abbrev pub entries_at : {K X : Type 0} → (K → K → Ordering) → Reader K → Reader X → Reader (List (K × X))
+entries_at order key value = check_at (is_sorted order) (list_at (key ⊗ value))
+
+module _ {K X : Type 0} {order : K → K → Ordering} where
+  abbrev pub spell_map : (K → List ℕ) → (X → List ℕ) → FinMap order X → List ℕ
+  spell_map key value m = spell_entries key value (entries m)
+
+  -- a map of at most 2 ^ 64 - 1 entries, whose keys and values bytes can carry
+  abbrev pub FitsMap : (K → Type 0) → (X → Type 0) → FinMap order X → Type 0
+  FitsMap Key Value m = FitsItems (Both Key Value) (entries m)
+
+-- the map that such entries make
+abbrev pub map_of_at : {K X : Type 0} (order : K → K → Ordering) → Reader K → Reader X → Reader (FinMap order X)
+map_of_at order key value = map_at from_entries (entries_at order key value)

@@ -1,0 +1,18 @@
+use Rattle.std.proofs.Common.{sym, subst}
+use Rattle.base_values.specs.Answers.{Edits}
+use Rattle.script_editor.specs.Reached.{document_in}
+use Rattle.script_editor.proofs.RowSteps.{plan_edit, plan_sendable, planned_document}
+use Rattle.script_editor.proofs.Sounds.{on_ok_map}
+use Rattle.script_editor.proofs.open_book.OpenBook.edit_rows.Goals as goal
+
+pub make_rows-requires : goal.make_rows-requires
+make_rows-requires c = plan_edit c.args.self.now.workbook c.args.sheet c.args.kind c.in_ok-id.id c.in_ok-id.edit.kind (sym (c.in_ok-id.ensures {u = _})) c.requires
+
+pub returns-clause-document : goal.returns-clause-document
+returns-clause-document c =
+    let doc = document_in c.args.self.now in
+    subst (Edits c.make_rows.result doc (document_in c.make_rows.new.self)) (planned_document doc c.args.sheet c.args.kind c.in_ok-id.id c.in_ok-id.edit.kind (sym (c.in_ok-id.ensures {u = _}))) c.make_rows.ensures.document
+
+pub returns-clause-sendable : goal.returns-clause-sendable
+returns-clause-sendable c =
+    on_ok_map c.make_rows.result (λ fits. plan_sendable c.args.self.now.workbook c.args.sheet c.args.kind c.in_ok-id.id c.in_ok-id.edit.kind (sym (c.in_ok-id.ensures {u = _})) fits) c.make_rows.ensures.fits

@@ -1,0 +1,25 @@
+use Rattle.std.proofs.Common.{w32, SFits, subst}
+use Rattle.std.proofs.lemmas.Int.{to_z-of_z}
+use Rattle.base_values.specs.Answers.{Edits}
+use Rattle.script_editor.specs.Reached.{document_in}
+use Rattle.script_editor.proofs.Entering.{recorded_document, plan_sendable}
+use Rattle.script_editor.proofs.Sounds.{on_ok}
+use Rattle.script_editor.proofs.open_book.OpenBook.enter.Goals as goal
+
+pub returns-clause-document : goal.returns-clause-document
+returns-clause-document c =
+    let row_fits : SFits w32 c.args.row = c.ranges.row in
+    let column_fits : SFits w32 c.args.column = c.ranges.column in
+    let doc = document_in c.args.self.now in
+    let planned = simp to_z-of_z at (c.in_ok-new.ensures {u = _}).made.done in
+    subst (Edits c.put_recorded.result doc (document_in c.put_recorded.new.self))
+    (recorded_document doc c.args.sheet c.args.row c.args.column c.args.content c.in_ok-new.new c.in_ok-new.list planned)
+    (simp to_z-of_z at c.put_recorded.ensures)
+
+pub returns-clause-sendable : goal.returns-clause-sendable
+returns-clause-sendable c =
+    let row_fits : SFits w32 c.args.row = c.ranges.row in
+    let column_fits : SFits w32 c.args.column = c.ranges.column in
+    let planned = simp to_z-of_z at (c.in_ok-new.ensures {u = _}).made.done in
+    on_ok c.put_recorded.result
+    (plan_sendable c.args.self.now.workbook c.args.sheet c.args.row c.args.column c.args.content c.in_ok-new.new c.in_ok-new.list planned (c.in_ok-new.ensures {u = _}).fits)

@@ -14,7 +14,7 @@ use Rattle.edit_script.specs.Script.{line_next}
 -- the editor stands for the state, and the second copy is the workbook at the last sync
 pub record SessionStands (session : Session) (s : State) : Type 0 where
   pub editor : StandsFor session.editor s
-  pub copy : session.copy ≡ s.synced
+  pub copy : session.copy.workbook ≡ s.synced
 
 -- a command wrote its answer and took the session to what stands for the next state, unless memory ran out: nothing else stops
 -- it, so no line is answered by a refused diff

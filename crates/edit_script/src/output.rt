@@ -18,7 +18,7 @@ pub(crate) fn output_text(alloc: Global, script: &[u8]) -> Result<Vec<u8>, EditE
     let mut session = Session::new(alloc)?;
     session.run_lines(script)?;
     push_line(&mut session.out, b"copy")?;
-    push_dump(alloc, &mut session.out, &session.copy)?;
+    push_dump(alloc, &mut session.out, session.copy.workbook())?;
     let Session {
         alloc: _,
         editor: _,

@@ -3,25 +3,23 @@ ghost use Rattle.base_values.specs.Answers.{Answers};
 ghost use Rattle.base_values.specs.declared.EditError.TheVariants.{NoMemory};
 ghost use Rattle.formula_content.specs.Fitting.{fits_at};
 ghost use Rattle.formula_content.specs.KeptContent.{IsKeptContent};
-ghost use Rattle.std.proofs.Props.{props};
-ghost use Rattle.sheet_rules.specs.WellFormed.{IsWellFormed};
 ghost use Rattle.edit_script.specs.Script.{content_at, refusal, outcome, got, typed};
 
+use crate::second_copy::SecondCopy;
 use base_values::{EditError, Position, copy_of, place_of};
 use script_dump::{english_input, english_text, push_dump, push_hex, push_line};
-use script_editor::{Editor, replay_bytes};
+use script_editor::Editor;
 use script_lines::{Command, push_escaped, read_command, split_first, without_return};
 use sheet_grid::{Content, Workbook};
 use std::alloc::Global;
 
-/// A script's editor, its second copy, which is well-formed, and its answers so far.
+/// A script's editor, its second copy, and its answers so far.
 #[derive(Drop)]
 pub(crate) struct Session {
     pub(crate) alloc: Global,
     pub(crate) editor: Editor,
-    pub(crate) copy: Workbook,
+    pub(crate) copy: SecondCopy,
     pub(crate) out: Vec<u8>,
-    ghost rules: { IsWellFormed copy } by { Prim.hlevel props },
 }
 
 fn push_refusal(out: &mut Vec<u8>, error: EditError) -> Result<(), EditError>
@@ -131,7 +129,7 @@ impl Session {
         ensures only { IsOkUnless result NoMemory }
     {
         let editor = Editor::new(alloc)?;
-        let copy = copy_of(editor.workbook())?;
+        let copy = SecondCopy::of(editor.workbook())?;
         Ok(Session {
             alloc,
             editor,
@@ -200,7 +198,7 @@ impl Session {
         self.out.extend_from_slice(b"sync ")?;
         push_hex(&mut self.out, &bytes)?;
         self.out.push(b'\n')?;
-        replay_bytes(self.alloc, &mut self.copy, &bytes)
+        self.copy.follow(self.alloc, &bytes)
     }
 
     fn show(&mut self) -> Result<(), EditError>

@@ -1,6 +1,6 @@
 -- What bytes can carry: lists and queues of parts that fit, and the numbers in them.
-use Rattle.std.proofs.Common.{ℕ, ◌^◌, ◌<◌, List, [], ◌∷◌, ◌++◌, length, Option, Some, None, refl, arith}
-use Rattle.std.specs.Prelude.{IfSome, IsTrue}
+use Rattle.std.proofs.Common.{ℕ, ◌^◌, ◌<◌, Bool, true, List, [], ◌∷◌, ◌++◌, length, Option, Some, None, refl, arith}
+use Rattle.std.specs.Prelude.{IfSome, IsTrue, nat_lt}
 use Rattle.std.specs.FinMap.{FinMap, get}
 use Rattle.std.specs.List.{AllByRecursion}
 use Rattle.std.proofs.lemmas.List.Elements.{All-from_recursion}
@@ -22,6 +22,7 @@ use Rattle.cell_wire.specs.CellBytes.{FitsCell, FitsPosition}
 use Rattle.sheet_wire.specs.QueueBytes.{FitsDiff, FitsList, FitsEntry, FitsQueue}
 use Rattle.cell_wire.specs.Fitting.{shallow_content_from_fits, kept_cell_from_fits}
 use Rattle.kept_wire.specs.FormulaBytes.{AreKnownTrees}
+use Rattle.kept_wire.specs.Nested.{flat}
 use Rattle.kept_wire.specs.KeptBytes.{IsKnownCell, FitsKeptRows}
 use Rattle.kept_wire.specs.KeptFits.{if_some, known_cells, known_trees, kept_lines_from_fits}
 use Rattle.sheet_wire.specs.RowsBytes.{IsKeptOfRows}
@@ -108,6 +109,11 @@ cells_known kept numbers shallow place = known_entry (get kept.cells place) (num
 -- and so are the trees
 pub trees_known : (kept : KeptLines) → AreKeptLines kept → AreShallowLines kept → (id : ℕ) → IfSome (get kept.formulas id) AreKnownTrees
 trees_known kept numbers shallow id = known_sheet (get kept.formulas id) (numbers.formulas id) (shallow.formulas id)
+
+-- it keeps fewer than 2 ^ 64 trees, as every diff of a cell does
+abbrev pub keeps_few_trees : Diff → Bool
+keeps_few_trees (CellDiff sheet place old new) = true
+keeps_few_trees (RowsDiff sheet edit kept) = nat_lt (length (flat kept.formulas)) (2 ^ 64)
 
 -- what a diff keeps, if it is one of rows, is what such an edit keeps
 abbrev pub IsKeptOfDiff : Diff → Type 0

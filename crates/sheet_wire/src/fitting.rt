@@ -1,12 +1,12 @@
 //! What bytes can carry of diffs. Those of Rust's own types fit, given that their numbers are kept.
 
-ghost use Rattle.std.specs.Prelude.{IfSome, IsTrue};
+ghost use Rattle.std.specs.Prelude.{◌≡◌, IfSome, IsTrue};
 ghost use Rattle.sheet_grid.specs.FittingCells.{is_shallow_entry};
 ghost use Rattle.sheet_grid.specs.KeptCell.{IsKeptCell};
 ghost use Rattle.cell_wire.specs.CellBytes.{FitsCell};
 ghost use Rattle.sheet_wire.specs.RowsBytes.{FitsEdit};
 ghost use Rattle.sheet_wire.specs.QueueBytes.{FitsDiff};
-ghost use Rattle.sheet_wire.specs.Fitting.{IsKeptOfDiff};
+ghost use Rattle.sheet_wire.specs.Fitting.{IsKeptOfDiff, keeps_few_trees};
 ghost use Rattle.sheet_history.specs.Diffs.{IsKeptDiff};
 
 use cell_wire::{cell_fits, position_fits};
@@ -38,7 +38,8 @@ fn edit_fits(edit: EditKind)
 pub fn diff_fits(diff: &Diff) -> bool
     requires kept { IsKeptDiff diff.now }
     requires of_rows { IsKeptOfDiff diff.now }
-    ensures { IsTrue result → FitsDiff diff.now }
+    ensures few { result ≡ keeps_few_trees diff.now }
+    ensures fits { IsTrue result → FitsDiff diff.now }
 {
     match diff {
         Diff::Cell {

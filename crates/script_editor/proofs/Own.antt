@@ -29,8 +29,9 @@ own_place (s ∷ sheets) distinct zero sheet found =
     let same : s ≡ sheet = cc in
     ap (λ b. cond (not b) (1 + position_or_len (λ (t : Sheet). t.id == sheet.id) sheets) 0) (own_id s sheet same)
 own_place (s ∷ sheets) distinct (suc index) sheet found =
+    let last : 1 + index ≡ suc index = omega arith in
     ap (λ b. cond (not b) (1 + position_or_len (λ (t : Sheet). t.id == sheet.id) sheets) 0) (apart s sheets distinct.0 index sheet found)
-    ∙ ap (λ n. 1 + n) (own_place sheets distinct.1 index sheet found)
+    ∙ ap (λ n. 1 + n) (own_place sheets distinct.1 index sheet found) ∙ last
 
 inside : (sheets : List Sheet) (index : ℕ) (sheet : Sheet) → slice_get sheets index ≡ Some sheet → index < length sheets
 inside [] index sheet found = absurd (cc)

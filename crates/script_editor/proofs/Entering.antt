@@ -127,3 +127,15 @@ recorded_document doc index row column content new list plan =
     ap (map_ok (λ b. recorded list doc b)) (plan_put doc.book index row column content new list plan)
     ∙ ap (λ l. Ok (recorded l doc later)) (sym (plan_record doc.book index row column content new list plan))
     ∙ sym (ap (map_ok (λ b. recorded (record_of (Input index row column content) doc.book b) doc b)) (plan_made doc.book index row column content new list plan))
+
+-- and an input whose plan is refused is refused
+pub refused_input : (doc : Document) (index : ℕ) (row column : ℤ) (content : Content) (error : EditError)
+    → input_plan index row column content doc.book ≡ Err error → document_edit (Input index row column content) doc ≡ Err error
+refused_input doc index row column content error plan = go (sheet_at doc.book index) (place_of row column) plan
+  where
+    go : (r : Result Sheet EditError) (q : Result Position EditError) → and_then r (λ sheet. map_ok (plan_at sheet content) q) ≡ Err error
+        → map_ok (λ later. recorded (record_of (Input index row column content) doc.book later) doc later)
+          (and_then r (λ sheet. map_ok (with_sheet doc.book index) (map_ok (with_input sheet content) q))) ≡ Err error
+    go (Ok sheet) (Ok place) e = absurd (let never : ◌≡◌ {A = Result (Option Cell × List Diff) EditError} (Ok (plan_at sheet content place)) (Err error) = e in cc)
+    go (Ok sheet) (Err other) e = cc
+    go (Err other) q e = cc

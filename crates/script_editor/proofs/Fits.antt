@@ -1,6 +1,6 @@
 -- The entry that an input makes may stand at its place, and has a font.
 use Rattle.std.proofs.Common.{◌≡◌, ℕ, ℤ, Bool, true, List, zero, suc, ◌∷◌, [], Option, Some, None, refl, ap, sym, ◌∙◌}
-use Rattle.std.specs.Prelude.{IsTrue, slice_get}
+use Rattle.std.specs.Prelude.{IsTrue, slice_get, ◌&&◌}
 use Rattle.std.specs.List.{list_all}
 use Rattle.std.specs.FinMap as fin
 use Rattle.std.specs.FinMap.{entries}
@@ -10,11 +10,13 @@ use Rattle.formula_content.specs.declared.Content.{Content}
 use Rattle.formula_content.specs.declared.Content.TheVariants.{Empty, Number, Boolean, Error, Text, Formula, Dynamic}
 use Rattle.formula_content.specs.Fitting.{fits_at}
 use Rattle.sheet_grid.specs.declared.Cell.{Cell}
+use Rattle.sheet_grid.specs.declared.RowAttr.{RowAttr}
+use Rattle.sheet_grid.specs.declared.ColumnAttr.{ColumnAttr}
 use Rattle.sheet_grid.specs.FittingCells.{entry_fits_at}
 use Rattle.sheet_grid.specs.Sheet.{Sheet, style_of}
 use Rattle.sheet_grid.specs.Book.{Book}
 use Rattle.sheet_rules.specs.EntryLaws.{both}
-use Rattle.sheet_rules.specs.WellFormed.{have_attributes, has_font, IsWellFormed}
+use Rattle.sheet_rules.specs.WellFormed.{have_attributes, is_row, is_column, has_font, IsWellFormed}
 use Rattle.sheet_rules.specs.WellFormedLaws.{well_formed_parts}
 use Rattle.sheet_history.specs.Entries.{entry_holds}
 use Rattle.sheet_history.specs.RuleLaws.{entry_has_font}
@@ -59,14 +61,18 @@ list_at (s ∷ sheets) (suc index) sheet found all = list_at sheets index sheet 
 
 fonts_of : (sheet : Sheet) → have_attributes sheet ≡ true → list_all (λ (entry : Position × Cell). has_font entry.1.style) (entries sheet.cells) ≡ true
 unfolding have_attributes
-fonts_of sheet all = (both _ _ (both _ _ all).1).1
+fonts_of sheet all =
+    let row_test : Bool = list_all (λ (entry : ℤ × RowAttr). is_row entry.1) (entries sheet.rows) in
+    let column_test : Bool = list_all (λ (entry : ℤ × ColumnAttr). is_column entry.1) (entries sheet.columns) in
+    let font_test : Bool = list_all (λ (entry : Position × Cell). has_font entry.1.style) (entries sheet.cells) in
+    (both (row_test && column_test) font_test all).1
 
 -- the entries of a well-formed workbook have a font
 pub found_font : (book : Book) → IsWellFormed book → (index : ℕ) (sheet : Sheet) → slice_get book.worksheets index ≡ Some sheet → (place : Position) → IsTrue (entry_has_font (fin.get sheet.cells place))
 found_font book rules index sheet found place = go (fin.get sheet.cells place) refl
   where
     fonts : list_all (λ (entry : Position × Cell). has_font entry.1.style) (entries sheet.cells) ≡ true
-    fonts = fonts_of sheet (list_at book.worksheets index sheet found (well_formed_parts book rules).1.1.0)
+    fonts = fonts_of sheet (list_at book.worksheets index sheet found (well_formed_parts book rules).2)
 
     go : (o : Option Cell) → fin.get sheet.cells place ≡ o → IsTrue (entry_has_font o)
     go None is = refl

@@ -1,5 +1,5 @@
 -- An input that is accepted is a sound step.
-use Rattle.std.proofs.Common.{◌≡◌, ℕ, ℤ, List, Option, Ok, ap, sym, subst, ◌∙◌}
+use Rattle.std.proofs.Common.{◌≡◌, ℕ, ℤ, List, Option, Some, Ok, ap, sym, subst, ◌∙◌}
 use Rattle.std.specs.Prelude.{IsTrue, slice_get, length}
 use Rattle.std.specs.FinMap as fin
 use Rattle.base_values.specs.declared.EditError.TheVariants.{InvalidSheet}

@@ -1,5 +1,5 @@
 -- A sheet of a well-formed workbook is the one of its id.
-use Rattle.std.proofs.Common.{◌≡◌, ℕ, ◌+◌, zero, suc, ◌<◌, Bool, true, false, cond, List, [], ◌∷◌, length, map, Option, Some, refl, ap, sym, ◌∙◌, arith}
+use Rattle.std.proofs.Common.{◌≡◌, ℕ, ◌+◌, zero, suc, ◌<◌, Bool, true, false, cond, not, List, [], ◌∷◌, length, map, Option, Some, None, refl, ap, sym, ◌∙◌, arith}
 use Rattle.std.specs.Prelude.{◌==◌, slice_get, nat_lt}
 use Rattle.std.specs.List.{AllByRecursion, IsDistinct, find, position_or_len}
 use Rattle.std.specs.Cmp.{unsigned_Decides}
@@ -27,10 +27,11 @@ unfolding IsDistinct
 own_place [] distinct index sheet found = absurd (cc)
 own_place (s ∷ sheets) distinct zero sheet found =
     let same : s ≡ sheet = cc in
-    ap (λ b. cond (cond b false true) (1 + position_or_len (λ (t : Sheet). t.id == sheet.id) sheets) 0) (own_id s sheet same)
+    ap (λ b. cond (not b) (1 + position_or_len (λ (t : Sheet). t.id == sheet.id) sheets) 0) (own_id s sheet same)
 own_place (s ∷ sheets) distinct (suc index) sheet found =
-    ap (λ b. cond (cond b false true) (1 + position_or_len (λ (t : Sheet). t.id == sheet.id) sheets) 0) (apart s sheets distinct.0 index sheet found)
-    ∙ ap (λ n. 1 + n) (own_place sheets distinct.1 index sheet found)
+    let last : 1 + index ≡ suc index = omega arith in
+    ap (λ b. cond (not b) (1 + position_or_len (λ (t : Sheet). t.id == sheet.id) sheets) 0) (apart s sheets distinct.0 index sheet found)
+    ∙ ap (λ n. 1 + n) (own_place sheets distinct.1 index sheet found) ∙ last
 
 inside : (sheets : List Sheet) (index : ℕ) (sheet : Sheet) → slice_get sheets index ≡ Some sheet → index < length sheets
 inside [] index sheet found = absurd (cc)

@@ -39,12 +39,12 @@ module _ (a : Along) where
       none true = refl
       none false = refl
 
-  none_past : (first count top : ℤ) (cells : List (Position × Cell)) → All (λ line. line ≤ℤ top) (map a.line (map (λ entry. entry.0) cells)) → int_lt a.last (top +ℤ count) ≡ false
+  none_past : (first count top : ℤ) (cells : List (Position × Cell)) → All (λ line. line ≤ℤ top) (map a.line (map (λ (entry : Position × Cell). entry.0) cells)) → int_lt a.last (top +ℤ count) ≡ false
       → list_all (λ (entry : Position × Cell). not (is_pushed_past a first count entry.0)) cells ≡ true
   none_past first count top [] most fits = refl
   none_past first count top (cell ∷ cells) most fits =
-      λ i. not_past first count (a.line cell.0) top (All-head (λ line. line ≤ℤ top) (a.line cell.0) (map a.line (map (λ entry. entry.0) cells)) most) fits i
-      && none_past first count top cells (All-tail (λ line. line ≤ℤ top) (a.line cell.0) (map a.line (map (λ entry. entry.0) cells)) most) fits i
+      λ i. not_past first count (a.line cell.0) top (All-head (λ line. line ≤ℤ top) (a.line cell.0) (map a.line (map (λ (entry : Position × Cell). entry.0) cells)) most) fits i
+      && none_past first count top cells (All-tail (λ line. line ≤ℤ top) (a.line cell.0) (map a.line (map (λ (entry : Position × Cell). entry.0) cells)) most) fits i
 
   insertion_stays : (sheet : Sheet) (first count : ℤ) → int_lt a.last (greatest_line a sheet +ℤ count) ≡ false → stays_inside a (Insert first count) sheet ≡ true
   unfolding greatest_line stays_inside
@@ -95,9 +95,9 @@ pub record IsPlanned (w : Book) (index : ℕ) (kind : EditKind) (id : ℕ) (edit
 pub rows_planned : (w : Book) (index : ℕ) (kind : EditKind) (id : ℕ) (edit : EditKind) → lines_planned rows InvalidRow kind index w ≡ Ok (id, edit) → IsPlanned w index kind id edit
 rows_planned w index kind id edit is = go (sheet_at w index) refl is
   where
-    inner : (sheet : Sheet) → sheet_at w index ≡ Ok sheet → (q : Result EditKind EditError) → edit_allowed rows InvalidRow kind sheet ≡ q → map_ok (λ e. (sheet.id, e)) q ≡ Ok (id, edit) → IsPlanned w index kind id edit
+    inner : (sheet : Sheet) → sheet_at w index ≡ Ok sheet → (q : Result EditKind EditError) → edit_allowed rows InvalidRow kind sheet ≡ q → map_ok {B = ℕ × EditKind} (λ e. (sheet.id, e)) q ≡ Ok (id, edit) → IsPlanned w index kind id edit
     inner sheet at (Ok e) allows h =
-        let both : (sheet.id, e) ≡ (id, edit) = cc in
+        let both : ◌≡◌ {A = ℕ × EditKind} (sheet.id, e) (id, edit) = cc in
         let it = allowed rows InvalidRow sheet kind e allows in
         record {
           sheet = sheet;
@@ -109,7 +109,7 @@ rows_planned w index kind id edit is = go (sheet_at w index) refl is
         }
     inner sheet at (Err error) allows h = absurd (let never : ◌≡◌ {A = Result (ℕ × EditKind) EditError} (Err error) (Ok (id, edit)) = h in cc)
 
-    go : (r : Result Sheet EditError) → sheet_at w index ≡ r → and_then r (λ sheet. map_ok (λ e. (sheet.id, e)) (edit_allowed rows InvalidRow kind sheet)) ≡ Ok (id, edit) → IsPlanned w index kind id edit
+    go : (r : Result Sheet EditError) → sheet_at w index ≡ r → and_then {B = ℕ × EditKind} r (λ sheet. map_ok (λ e. (sheet.id, e)) (edit_allowed rows InvalidRow kind sheet)) ≡ Ok (id, edit) → IsPlanned w index kind id edit
     go (Ok sheet) at h = inner sheet at (edit_allowed rows InvalidRow kind sheet) refl h
     go (Err error) at h = absurd (let never : ◌≡◌ {A = Result (ℕ × EditKind) EditError} (Err error) (Ok (id, edit)) = h in cc)
 

@@ -36,7 +36,7 @@ module _ (w : Book) (index : ℕ) (kind : EditKind) (id : ℕ) (edit : EditKind)
   it = rows_planned w index kind id edit plan
 
   plan_made : changed (Rows index kind) w ≡ Ok (book_followed rows edit id w)
-  plan_made = ap (map_ok (λ p. book_followed rows p.1 p.0 w)) plan
+  plan_made = ap (map_ok (λ (p : ℕ × EditKind). book_followed rows p.1 p.0 w)) plan
 
   plan_record : (later : Book) → record_of (Rows index kind) w later ≡ line_record edit id w
   plan_record later = ap (rows_record kind w) it.at ∙ (λ i. line_record (it.edit_is i) (it.id_is i) w)
@@ -60,7 +60,7 @@ planned_document doc index kind id edit plan =
 -- and an edit whose plan is refused is refused
 pub refused_document : (doc : Document) (index : ℕ) (kind : EditKind) (error : EditError) → lines_planned rows InvalidRow kind index doc.book ≡ Err error → document_edit (Rows index kind) doc ≡ Err error
 refused_document doc index kind error plan =
-    ap (λ r. map_ok (λ later. recorded (record_of (Rows index kind) doc.book later) doc later) (map_ok (λ p. book_followed rows p.1 p.0 doc.book) r)) plan
+    ap (λ r. map_ok (λ later. recorded (record_of (Rows index kind) doc.book later) doc later) (map_ok (λ (p : ℕ × EditKind). book_followed rows p.1 p.0 doc.book) r)) plan
 
 -- the list that was made is the record of the edit
 pub list_is : (kind : EditKind) (id : ℕ) (kept : KeptLines) (book : Book) (list : List Diff) → kept ≡ kept_lines rows kind id book → ◌≡◌ {A = Result (List Diff) EditError} (Ok (RowsDiff id kind kept ∷ [])) (Ok list) → list ≡ line_record kind id book
@@ -83,7 +83,7 @@ record IsAccepted (w : Book) (index : ℕ) (kind : EditKind) (later : Book) : Ty
 accepted : (w : Book) (index : ℕ) (kind : EditKind) (later : Book) → IsWellFormed w → changed (Rows index kind) w ≡ Ok later → IsAccepted w index kind later
 accepted w index kind later rules is = go (lines_planned rows InvalidRow kind index w) refl is
   where
-    go : (r : Result (ℕ × EditKind) EditError) → lines_planned rows InvalidRow kind index w ≡ r → map_ok (λ p. book_followed rows p.1 p.0 w) r ≡ Ok later → IsAccepted w index kind later
+    go : (r : Result (ℕ × EditKind) EditError) → lines_planned rows InvalidRow kind index w ≡ r → map_ok (λ (p : ℕ × EditKind). book_followed rows p.1 p.0 w) r ≡ Ok later → IsAccepted w index kind later
     go (Ok p) plan h =
         let found = rows_planned w index kind p.0 p.1 plan in
         let same : book_followed rows p.1 p.0 w ≡ later = cc in

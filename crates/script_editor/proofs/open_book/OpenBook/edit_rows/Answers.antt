@@ -1,9 +1,15 @@
-use Rattle.std.proofs.Common.{sym, subst}
+use Rattle.std.proofs.Common.{refl, sym, subst}
+use Rattle.std.proofs.lemmas.Result.{err_from_is_err_and}
 use Rattle.base_values.specs.Answers.{Edits}
 use Rattle.script_editor.specs.Reached.{document_in}
-use Rattle.script_editor.proofs.RowSteps.{plan_edit, plan_sendable, planned_document}
+use Rattle.script_editor.proofs.RowSteps.{plan_edit, plan_sendable, planned_document, refused_document}
 use Rattle.script_editor.proofs.Sounds.{on_ok_map}
 use Rattle.script_editor.proofs.open_book.OpenBook.edit_rows.Goals as goal
+
+pub returns-in_err-id-clause-document : goal.returns-in_err-id-clause-document
+returns-in_err-id-clause-document c =
+    let p = err_from_is_err_and c.from_residual.result c.from_residual.ensures.1 in
+    rw (p.1, p.2) (record { done = tt; refused = (refl, λ other. refused_document (document_in c.args.self.now) c.args.sheet c.args.kind c.in_err-id.field-0.0 (sym c.in_err-id.ensures)) })
 
 pub make_rows-requires : goal.make_rows-requires
 make_rows-requires c = plan_edit c.args.self.now.workbook c.args.sheet c.args.kind c.in_ok-id.id c.in_ok-id.edit.kind (sym (c.in_ok-id.ensures {u = _})) c.requires

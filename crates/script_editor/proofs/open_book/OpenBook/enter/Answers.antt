@@ -1,10 +1,22 @@
-use Rattle.std.proofs.Common.{w32, SFits, subst}
+use Rattle.std.proofs.Common.{w32, SFits, refl, subst}
 use Rattle.std.proofs.lemmas.Int.{to_z-of_z}
+use Rattle.std.proofs.lemmas.Result.{err_from_is_err_and}
 use Rattle.base_values.specs.Answers.{Edits}
 use Rattle.script_editor.specs.Reached.{document_in}
-use Rattle.script_editor.proofs.Entering.{recorded_document, plan_sendable}
+use Rattle.script_editor.proofs.Entering.{recorded_document, plan_sendable, refused_input}
 use Rattle.script_editor.proofs.Sounds.{on_ok}
 use Rattle.script_editor.proofs.open_book.OpenBook.enter.Goals as goal
+
+pub returns-in_err-new-clause-document : goal.returns-in_err-new-clause-document
+returns-in_err-new-clause-document c =
+    let row_fits : SFits w32 c.args.row = c.ranges.row in
+    let column_fits : SFits w32 c.args.column = c.ranges.column in
+    let doc = document_in c.args.self.now in
+    let p = err_from_is_err_and c.from_residual.result c.from_residual.ensures.1 in
+    rw (p.1, p.2) (record {
+      done = tt;
+      refused = (refl, λ other. refused_input doc c.args.sheet c.args.row c.args.column c.args.content c.in_err-new.field-0.0 (simp to_z-of_z at (c.in_err-new.ensures.made.refused other)));
+    })
 
 pub returns-clause-document : goal.returns-clause-document
 returns-clause-document c =

@@ -1,6 +1,4 @@
 use Rattle.std.proofs.Common.{◌≡◌, ◌∷◌, ◌++◌, List, rules, sym}
-use Rattle.std.specs.FinMap as fin
-use Rattle.std.specs.List.{flat_map}
 use Rattle.std.proofs.lemmas.List.Elements.{All-head, All-same, All-rest}
 use Rattle.base_values.specs.Places.{IsPlace}
 use Rattle.base_values.specs.declared.Position.{Position}

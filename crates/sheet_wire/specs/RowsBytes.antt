@@ -52,10 +52,10 @@ abbrev pub rows_parts_at : Reader (ℕ × (EditKind × KeptLines))
 rows_parts_at = number_at w32 ⊗ after (0 ∷ []) (edit_at ⊗ kept_rows_at)
 
 -- the parts of an edit of rows, which bytes can carry
-pub record FitsRows (id : ℕ) (edit : EditKind) (kept : KeptLines) : Type 0 where
+pub record FitsRows (id : ℕ) (edit : EditKind) (part : KeptLines) : Type 0 where
   pub sheet : id < 2 ^ 32
   pub lines : FitsEdit edit
-  pub kept : FitsKeptRows kept
+  pub kept : FitsKeptRows part
 
 -- what an edit of rows keeps: of rows something of their own, of columns nothing, and of each sheet a tree or nothing
 pub record IsKeptOfRows (kept : KeptLines) : Type 0 where

@@ -1,8 +1,9 @@
 //! The bytes of queues.
 
-ghost use Rattle.std.specs.Prelude.{◌≡◌, ◌++◌, OnOk, IfOk, IsOkUnless};
+ghost use Rattle.std.specs.Prelude.{◌≡◌, ◌++◌, ◌∷◌, OnOk, IfOk, IsOkUnless};
+ghost use Rattle.std.specs.Int.{w32};
 ghost use Rattle.base_values.specs.declared.EditError.TheVariants.{NoMemory};
-ghost use Rattle.base_wire.specs.Spelling.{spell_option};
+ghost use Rattle.base_wire.specs.Spelling.{spell_option, spell_signed};
 ghost use Rattle.cell_wire.specs.CellBytes.{spell_cell};
 ghost use Rattle.sheet_wire.specs.RowsBytes.{spell_edit, spell_rows};
 ghost use Rattle.sheet_wire.specs.QueueBytes.{spell_diff, spell_entry, spell_queue};
@@ -30,16 +31,22 @@ fn put_entry_of_cell(out: &mut Vec<u8>, entry: &Option<Cell>) -> Result<(), Allo
     Ok(())
 }
 
-fn put_edit(out: &mut Vec<u8>, edit: EditKind) -> Result<(), AllocError>
-    ensures { OnOk result (out.new.items ≡ out.old.items ++ spell_edit edit) }
+/// Adds the byte of a kind of edit, the first line and how many.
+fn put_lines(out: &mut Vec<u8>, kind: u8, first: i32, count: i32) -> Result<(), AllocError>
+    ensures { OnOk result (out.new.items ≡ out.old.items ++ kind ∷ (spell_signed w32 first ++ spell_signed w32 count)) }
 {
-    let (kind, first, count) = match edit {
-        EditKind::Insert { first, count } => (0, first, count),
-        EditKind::Delete { first, count } => (1, first, count),
-    };
     out.push(kind)?;
     out.extend_from_slice(&first.to_be_bytes())?;
     out.extend_from_slice(&count.to_be_bytes())
+}
+
+fn put_edit(out: &mut Vec<u8>, edit: EditKind) -> Result<(), AllocError>
+    ensures { OnOk result (out.new.items ≡ out.old.items ++ spell_edit edit) }
+{
+    match edit {
+        EditKind::Insert { first, count } => put_lines(out, 0, first, count),
+        EditKind::Delete { first, count } => put_lines(out, 1, first, count),
+    }
 }
 
 /// Adds the id of a sheet, the byte of rows, the edit, and what it keeps.

@@ -12,6 +12,27 @@ const ONE_CELL: [u8; 84] = [
     13, 0, 0, 0, 0, 0, 0, 0, 0, 0, 0, 0, 0, 0, 7, 103, 101, 110, 101, 114, 97, 108, 0,
 ];
 
+/// One entry: two rows inserted before row 3 of the sheet of id 1, which keep nothing.
+const ROWS: [u8; 77] = [
+    73, 67, 81, 49, 0, 0, 0, 0, 0, 0, 0, 1, 1, 0, 0, 0, 0, 0, 0, 0, 1, 7, 0, 0, 0, 1, 0, 0, 0, 0,
+    0, 3, 0, 0, 0, 2, 0, 0, 0, 0, 0, 0, 0, 0, 0, 0, 0, 0, 0, 0, 0, 0, 0, 0, 0, 0, 0, 0, 0, 0, 0, 0,
+    0, 0, 0, 0, 0, 0, 0, 0, 0, 0, 0, 0, 0, 0, 0,
+];
+
+/// A place in `ROWS`, and the byte that is put there.
+const DAMAGED_ROWS: [(usize, u8); 7] = [
+    // Lines that are no rows, and an edit that neither inserts nor deletes.
+    (26, 1),
+    (27, 2),
+    // A kept cell, and a tree, that are not there.
+    (43, 1),
+    (67, 1),
+    // Merged cells, no option, and a rule.
+    (68, 1),
+    (68, 2),
+    (76, 1),
+];
+
 /// Bytes that are put in the place of those of `ONE_CELL`, where they stand.
 const DAMAGES: [[(usize, u8); 2]; 10] = [
     // The first letter.
@@ -50,6 +71,29 @@ fn damaged_queues_are_refused(rt: HostRuntime) {
         }
         assert!(rt; is_refused(rt, &bytes));
     }
+}
+
+#[test]
+fn damaged_edits_of_rows_are_refused(rt: HostRuntime) {
+    for (at, byte) in DAMAGED_ROWS {
+        let mut bytes = ROWS;
+        if let Some(place) = bytes.get_mut(at) {
+            *place = byte;
+        }
+        assert!(rt; is_refused(rt, &bytes));
+    }
+}
+
+#[test]
+fn edits_of_rows_are_read_and_written(rt: HostRuntime) -> Result<(), Fail> {
+    let queue = decode_queue(rt.alloc(), &ROWS)
+        .ok()
+        .ok_or("the bytes are a queue")?;
+    let bytes = encode_queue(rt.alloc(), queue.as_slice())
+        .ok()
+        .ok_or("there is memory")?;
+    assert_eq!(rt; bytes.as_slice(), ROWS.as_slice());
+    Ok(())
 }
 
 #[test]

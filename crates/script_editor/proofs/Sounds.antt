@@ -183,16 +183,30 @@ ok_next s next is sound = let same : s ≡ next = cc in subst IsSound same sound
 
 -- ---- the states of a document
 
--- an editor that a call left stands for the next state, or for the same one
-moved : (new : Editor) (s : State) (result : Result (Unit {0}) EditError) (expected : Result State EditError) → Moves result new s expected → (next : State) × StandsFor new next
-moved new s (Ok u) (Ok next) moves = (next, moves.done)
-moved new s (Ok u) (Err error) moves = absurd (moves.done)
-moved new s (Err error) expected moves = (s, moves.refused.0)
+-- a document that a call left is of the next state, or of the same one
+moved : (old new : Document) (s : State) (result : Result (Unit {0}) EditError) (f : Document → Result Document EditError) (expected : Result State EditError)
+    → IsOf old s → Edits result old new (f old) → f (document s) ≡ map_ok document expected
+    → OnOk result ((next : State) → expected ≡ Ok next → IsSound next) → (next : State) × IsOf new next
+moved old new s (Ok u) f expected is edits along sound = go expected along sound
+  where
+    led : f (document s) ≡ Ok new
+    led = ap f (sym is.document) ∙ edits.done
 
--- where each state leads on to one, the document is of some state again
-pub reached_on : (old new : Editor) (result : Result (Unit {0}) EditError) (step : State → Result State EditError) → ((s : State) → StandsFor old s → Moves result new s (step s))
-    → IsReached (document_of old) → IsReached (document_of new)
-reached_on old new result step moves reached = ∥∥₁_map reached (λ is. moved new is.0 result (step is.0) (moves is.0 is.1))
+    go : (e : Result State EditError) → f (document s) ≡ map_ok document e → ((next : State) → e ≡ Ok next → IsSound next) → (next : State) × IsOf new next
+    go (Ok next) same keeps =
+        let both : ◌≡◌ {A = Result Document EditError} (Ok new) (Ok (document next)) = sym led ∙ same in
+        let documents : new ≡ document next = cc in
+        (next, record { document = documents; sound = keeps next refl })
+    go (Err error) same keeps = absurd (let never : ◌≡◌ {A = Result Document EditError} (Ok new) (Err error) = sym led ∙ same in cc)
+moved old new s (Err error) f expected is edits along sound = (s, record { document = edits.refused.0 ∙ is.document; sound = is.sound })
+
+-- where each state leads on to a sound one, as the document does, the document is of some state again
+pub reached_on : (old new : Document) (result : Result (Unit {0}) EditError) (f : Document → Result Document EditError) (step : State → Result State EditError)
+    → Edits result old new (f old)
+    → ((s : State) → IsOf old s → (f (document s) ≡ map_ok document (step s)) × OnOk result ((next : State) → step s ≡ Ok next → IsSound next))
+    → IsReached old → IsReached new
+reached_on old new result f step edits goes reached =
+    ∥∥₁_map reached (λ is. moved old new is.0 result f (step is.0) is.1 edits (goes is.0 is.1).0 (goes is.0 is.1).1)
 
 -- a document that is of some state has a well-formed workbook
 pub reached_rules : (doc : Document) → IsReached doc → IsWellFormed doc.book

@@ -19,4 +19,14 @@ returns-clause-next c = λ state stands.
     c.edit_rows.ensures.sendable)
 
 pub invariant_of-self : goal.invariant_of-self
-invariant_of-self c = record { reached = reached_on c.args.self.now _ c.edit_rows.result (edit_of (Rows c.args.sheet c.args.kind)) (returns-clause-next c) c.args.self.now.reached }
+invariant_of-self c =
+    let edit = Rows c.args.sheet c.args.kind in
+    record {
+      reached = reached_on (document_of c.args.self.now) _ c.edit_rows.result (document_edit edit) (edit_of edit) c.edit_rows.ensures.document
+          (λ state is. (
+            document_edited edit state,
+            on_ok_map c.edit_rows.result
+            (λ sendable next same. sound_rows c.args.sheet c.args.kind state next is.sound (sendable_in c.args.self.now state edit is sendable) same)
+            c.edit_rows.ensures.sendable,
+          )) c.args.self.now.reached;
+    }

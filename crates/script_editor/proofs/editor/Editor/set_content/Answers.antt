@@ -23,4 +23,16 @@ returns-clause-next c = λ state stands.
     (simp to_z-of_z at c.enter.ensures.sendable))
 
 pub invariant_of-self : goal.invariant_of-self
-invariant_of-self c = record { reached = reached_on c.args.self.now _ c.enter.result (edit_of (Input c.args.sheet c.args.row c.args.column c.args.content)) (returns-clause-next c) c.args.self.now.reached }
+invariant_of-self c =
+    let row_fits : SFits w32 c.args.row = c.ranges.row in
+    let column_fits : SFits w32 c.args.column = c.ranges.column in
+    let edit = Input c.args.sheet c.args.row c.args.column c.args.content in
+    record {
+      reached = reached_on (document_of c.args.self.now) _ c.enter.result (document_edit edit) (edit_of edit) (simp to_z-of_z at c.enter.ensures.document)
+          (λ state is. (
+            document_edited edit state,
+            on_ok_map c.enter.result
+            (λ sendable next same. sound_input c.args.sheet c.args.row c.args.column c.args.content state next is.sound c.requires.fits (sendable_in c.args.self.now state edit is sendable) same)
+            (simp to_z-of_z at c.enter.ensures.sendable),
+          )) c.args.self.now.reached;
+    }

@@ -1,6 +1,7 @@
 use Rattle.std.proofs.Common.{Ok}
 use Rattle.script_editor.specs.Document.{document_undo}
 use Rattle.script_editor.specs.Machine.{undo_of}
+use Rattle.script_editor.specs.Stands.{document_of}
 use Rattle.script_editor.proofs.Sounds.{moves, on_ok, document_undone, sound_undo, ok_next, reached_on}
 use Rattle.script_editor.proofs.editor.Editor.undo.Goals as goal
 
@@ -10,4 +11,7 @@ returns-clause-next c = λ state stands.
     (document_undone state stands.sound) (on_ok c.take_back.result (λ next is. ok_next (undo_of state) next is (sound_undo state stands.sound)))
 
 pub invariant_of-self : goal.invariant_of-self
-invariant_of-self c = record { reached = reached_on c.args.self.now _ c.take_back.result (λ s. Ok (undo_of s)) (returns-clause-next c) c.args.self.now.reached }
+invariant_of-self c = record {
+  reached = reached_on (document_of c.args.self.now) _ c.take_back.result document_undo (λ state. Ok (undo_of state)) c.take_back.ensures
+      (λ state is. (document_undone state is.sound, on_ok c.take_back.result (λ next same. ok_next (undo_of state) next same (sound_undo state is.sound)))) c.args.self.now.reached;
+}

@@ -135,7 +135,7 @@ refused_input doc index row column content error plan = go (sheet_at doc.book in
   where
     go : (r : Result Sheet EditError) (q : Result Position EditError) → and_then r (λ sheet. map_ok (plan_at sheet content) q) ≡ Err error
         → map_ok (λ later. recorded (record_of (Input index row column content) doc.book later) doc later)
-          (and_then r (λ sheet. map_ok (with_sheet doc.book index) (map_ok (with_input sheet content) q))) ≡ Err error
+        (and_then r (λ sheet. map_ok (with_sheet doc.book index) (map_ok (with_input sheet content) q))) ≡ Err error
     go (Ok sheet) (Ok place) e = absurd (let never : ◌≡◌ {A = Result (Option Cell × List Diff) EditError} (Ok (plan_at sheet content place)) (Err error) = e in cc)
     go (Ok sheet) (Err other) e = cc
     go (Err other) q e = cc

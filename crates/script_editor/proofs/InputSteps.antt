@@ -19,7 +19,7 @@ use Rattle.sheet_history.specs.Diffs.{made, taken_back}
 use Rattle.sheet_history.specs.Records.{IsRecord}
 use Rattle.sheet_history.specs.RuleLaws.{well_formed-set}
 use Rattle.sheet_wire.specs.QueueBytes.{FitsList}
-use Rattle.script_editor.specs.Inputs.{input_put, cell_change, place_change}
+use Rattle.script_editor.specs.Inputs.{cell_change, place_change}
 use Rattle.script_editor.specs.Machine.{State, changed, record_of, edit_of}
 use Rattle.script_editor.specs.Machine.Edit.{Input}
 use Rattle.script_editor.specs.Sound.{IsSendable, IsSoundStep, IsSound}

@@ -23,7 +23,7 @@ use Rattle.sheet_grid.specs.Lines.{is_plain_row}
 use Rattle.sheet_grid.specs.Sheet.{Sheet}
 use Rattle.sheet_grid.specs.Book.{Book}
 use Rattle.sheet_rules.specs.EntryLaws.{both}
-use Rattle.sheet_rules.specs.WellFormed.{have_attributes, is_row, is_column, is_size, is_row_style, has_font, IsWellFormed}
+use Rattle.sheet_rules.specs.WellFormed.{have_attributes, is_row, is_column, is_size, is_row_style, has_font}
 use Rattle.sheet_rules.specs.WellFormedLaws.{well_formed_parts}
 use Rattle.sheet_lines.specs.Way.{line_image}
 use Rattle.sheet_lines.specs.Followed.{sheet_of, name_of}

@@ -1,5 +1,5 @@
 -- A sheet of a well-formed workbook is the one of its id.
-use Rattle.std.proofs.Common.{◌≡◌, ℕ, ◌+◌, zero, suc, ◌<◌, Bool, true, false, cond, not, List, [], ◌∷◌, length, map, Option, Some, None, refl, ap, sym, ◌∙◌, arith}
+use Rattle.std.proofs.Common.{◌≡◌, ℕ, ◌+◌, zero, suc, ◌<◌, true, false, cond, not, List, [], ◌∷◌, length, map, Some, None, ap, sym, ◌∙◌, arith}
 use Rattle.std.specs.Prelude.{◌==◌, slice_get, nat_lt}
 use Rattle.std.specs.List.{AllByRecursion, IsDistinct, find, position_or_len}
 use Rattle.std.specs.Cmp.{unsigned_Decides}

@@ -26,7 +26,7 @@ invariant_of-self c =
           (λ state is. (
             document_edited edit state,
             on_ok_map c.edit_rows.result
-            (λ sendable next same. sound_rows c.args.sheet c.args.kind state next is.sound (sendable_in c.args.self.now state edit is sendable) same)
-            c.edit_rows.ensures.sendable,
+                (λ sendable next same. sound_rows c.args.sheet c.args.kind state next is.sound (sendable_in c.args.self.now state edit is sendable) same)
+                c.edit_rows.ensures.sendable,
           )) c.args.self.now.reached;
     }

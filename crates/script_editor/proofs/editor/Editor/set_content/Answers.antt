@@ -32,7 +32,7 @@ invariant_of-self c =
           (λ state is. (
             document_edited edit state,
             on_ok_map c.enter.result
-            (λ sendable next same. sound_input c.args.sheet c.args.row c.args.column c.args.content state next is.sound c.requires.fits (sendable_in c.args.self.now state edit is sendable) same)
-            (simp to_z-of_z at c.enter.ensures.sendable),
+                (λ sendable next same. sound_input c.args.sheet c.args.row c.args.column c.args.content state next is.sound c.requires.fits (sendable_in c.args.self.now state edit is sendable) same)
+                (simp to_z-of_z at c.enter.ensures.sendable),
           )) c.args.self.now.reached;
     }

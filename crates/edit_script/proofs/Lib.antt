@@ -1,3 +1,4 @@
 mod Ends
+mod Lines
 mod Onlys
 mod Runs

@@ -1,5 +1,5 @@
 -- A line that is not empty does what is said there.
-use Rattle.std.proofs.Common.{◌≡◌, ℕ, List, [], ◌∷◌, Bool, true, false, Option, Result, length, subst}
+use Rattle.std.proofs.Common.{◌≡◌, ℕ, List, [], ◌∷◌, true, false, Option, Result, length, subst}
 use Rattle.std.specs.Prelude.{◌==◌}
 use Rattle.base_values.specs.declared.EditError.{EditError}
 use Rattle.script_lines.specs.Commands.{command_of}

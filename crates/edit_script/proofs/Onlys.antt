@@ -1,5 +1,5 @@
 -- A step that cannot be refused stops for want of memory alone.
-use Rattle.std.proofs.Common.{◌≡◌, ◌≢◌, List, ℕ, Result, Ok, Err, refl, sym, ◌∙◌}
+use Rattle.std.proofs.Common.{◌≡◌, ◌≢◌, Result, Ok, Err, refl}
 use Rattle.std.specs.Prelude.{IsOkUnless, IfErr}
 use Rattle.base_values.specs.declared.EditError.{EditError}
 use Rattle.base_values.specs.declared.EditError.TheVariants.{NoMemory}

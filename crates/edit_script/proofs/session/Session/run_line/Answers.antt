@@ -1,4 +1,4 @@
-use Rattle.std.proofs.Common.{◌≡◌, ◌∙◌, sym, Some, None}
+use Rattle.std.proofs.Common.{◌∙◌, sym, Some, None}
 use Rattle.edit_script.proofs.Lines.{line_ran}
 use Rattle.edit_script.proofs.session.Session.run_line.Goals as goal
 

@@ -23,6 +23,7 @@ use Rattle.script_editor.specs.Inputs.{cell_change, place_change}
 use Rattle.script_editor.specs.Machine.{State, changed, record_of, edit_of}
 use Rattle.script_editor.specs.Machine.Edit.{Input}
 use Rattle.script_editor.specs.Sound.{IsSendable, IsSoundStep, IsSound}
+use Rattle.script_editor.specs.BothWays.{GoesBothWays}
 use Rattle.script_editor.proofs.Entering.{accepted, place_again, found_some, input_entry, input_book, input_record}
 use Rattle.script_editor.proofs.Fits.{entered_placed, entered_font, found_font}
 use Rattle.script_editor.proofs.InputLaws.{changes_forward, changes_back}
@@ -63,15 +64,21 @@ module _ (w : Book) (index : ℕ) (row column : ℤ) (content : Content) (rules 
   later_rules : IsWellFormed after
   later_rules = well_formed-set w index sheet place new new_placed (entered_font (fin.get sheet.cells place) content (found_font w rules index sheet found place)) found rules
 
-  input_step : FitsList list → IsSoundStep (record { edit = Input index row column content; before = w; after = after })
-  input_step fits = record {
-    before = rules;
-    after = later_rules;
+  input_both : GoesBothWays (Input index row column content) w after
+  input_both = record {
+    rules = later_rules;
     forth = passes (length list) (made w list) after (ap (made w) recorded_is ∙ changes_forward w index sheet place new found own inside new_placed) later_rules;
     back = passes (length list) (taken_back after list) w (ap (taken_back after) recorded_is ∙ changes_back w index sheet place new found own inside before_placed) rules;
     exact = subst (IsRecord w after) (sym recorded_is) (changes_IsRecord w index sheet place new found own);
-    fits = fits;
   }
+
+-- an accepted input in a well-formed workbook goes both ways, if its content may stand at its place
+pub inputs_go_both_ways : (index : ℕ) (row column : ℤ) (content : Content) (earlier later : Book) → IsWellFormed earlier → IsTrue (fits_at (record { row = row; column = column }) content)
+    → changed (Input index row column content) earlier ≡ Ok later → GoesBothWays (Input index row column content) earlier later
+inputs_go_both_ways index row column content earlier later rules may_stand how =
+    let it = accepted earlier index row column content later how in
+    subst (λ book. GoesBothWays (Input index row column content) earlier book) it.made
+    (input_both earlier index row column content rules may_stand it.sheet it.place it.at it.named)
 
 -- the state after an input is sound
 pub sound_input : (index : ℕ) (row column : ℤ) (content : Content) (s next : State) → IsSound s → IsTrue (fits_at (record { row = row; column = column }) content)
@@ -80,8 +87,5 @@ sound_input index row column content s next sound may_stand sendable is = sound_
   where
     step : (later : Book) → changed (Input index row column content) s.present ≡ Ok later → IsSoundStep (step_of (Input index row column content) s later)
     step later how =
-        let it = accepted s.present index row column content later how in
-        let fits : FitsList (record_of (Input index row column content) s.present (input_book s.present index it.sheet content it.place)) =
-        subst (λ book. FitsList (record_of (Input index row column content) s.present book)) (sym it.made) (sendable later how) in
-        subst (λ book. IsSoundStep (step_of (Input index row column content) s book)) it.made
-        (input_step s.present index row column content sound.present may_stand it.sheet it.place it.at it.named fits)
+        let both = inputs_go_both_ways index row column content s.present later sound.present may_stand how in
+        record { before = sound.present; after = both.rules; forth = both.forth; back = both.back; exact = both.exact; fits = sendable later how }

@@ -25,6 +25,7 @@ use Rattle.script_editor.specs.Machine.{State, changed, record_of, edit_of}
 use Rattle.script_editor.specs.Machine.Edit.{Rows}
 use Rattle.script_editor.specs.RowEdits.{rows_record}
 use Rattle.script_editor.specs.Sound.{IsSendable, IsSoundStep, IsSound}
+use Rattle.script_editor.specs.BothWays.{GoesBothWays}
 use Rattle.script_editor.proofs.RowPlans.{IsPlanned, rows_planned, row_edit}
 use Rattle.script_editor.proofs.Sounds.{sound_edit, step_of}
 use Rattle.script_editor.proofs.Tested.{passes}
@@ -95,26 +96,33 @@ accepted w index kind later rules is = go (lines_planned rows InvalidRow kind in
         }
     go (Err error) plan h = absurd (let never : ◌≡◌ {A = Result Book EditError} (Err error) (Ok later) = h in cc)
 
-rows_step : (w : Book) (index : ℕ) (kind : EditKind) (later : Book) → IsAccepted w index kind later → FitsList (record_of (Rows index kind) w later)
-    → IsSoundStep (record { edit = Rows index kind; before = w; after = later })
-rows_step w index kind later found fits =
+rows_both : (w : Book) (index : ℕ) (kind : EditKind) (later : Book) → IsAccepted w index kind later → GoesBothWays (Rows index kind) w later
+rows_both w index kind later found =
     let id : ℕ = found.sheet.id in
     let list : List Diff = record_of (Rows index kind) w later in
     let recorded_is : list ≡ line_record kind id w = ap (rows_record kind w) found.at in
     let later_rules : IsWellFormed later = subst IsWellFormed found.followed (followed_well_formed rows rows_lawful kind found.edit.valid id w found.edit.rules) in
     record {
-      before = found.edit.rules;
-      after = later_rules;
+      rules = later_rules;
       forth = passes (length list) (made w list) later (ap (made w) recorded_is ∙ record_made kind id w found.edit ∙ ap Ok found.followed) later_rules;
       back = passes (length list) (taken_back later list) w
           (ap (taken_back later) recorded_is ∙ ap (λ b. taken_back b (line_record kind id w)) (sym found.followed) ∙ record_taken_back kind id w found.edit) found.edit.rules;
       exact = record { sheet = found.sheet; there = found.at; followed = found.followed; recorded = recorded_is };
-      fits = fits;
     }
+
+-- an accepted edit of rows of a well-formed workbook goes both ways
+pub rows_go_both_ways : (index : ℕ) (kind : EditKind) (earlier later : Book) → IsWellFormed earlier → changed (Rows index kind) earlier ≡ Ok later → GoesBothWays (Rows index kind) earlier later
+rows_go_both_ways index kind earlier later rules how = rows_both earlier index kind later (accepted earlier index kind later rules how)
+
+rows_step : (w : Book) (index : ℕ) (kind : EditKind) (later : Book) → IsWellFormed w → changed (Rows index kind) w ≡ Ok later → FitsList (record_of (Rows index kind) w later)
+    → IsSoundStep (record { edit = Rows index kind; before = w; after = later })
+rows_step w index kind later rules how fits =
+    let both = rows_go_both_ways index kind w later rules how in
+    record { before = rules; after = both.rules; forth = both.forth; back = both.back; exact = both.exact; fits = fits }
 
 -- the state after rows were inserted or deleted is sound
 pub sound_rows : (index : ℕ) (kind : EditKind) (s next : State) → IsSound s → IsSendable (Rows index kind) s.present → edit_of (Rows index kind) s ≡ Ok next → IsSound next
 sound_rows index kind s next sound sendable is = sound_edit (Rows index kind) s next sound step is
   where
     step : (later : Book) → changed (Rows index kind) s.present ≡ Ok later → IsSoundStep (step_of (Rows index kind) s later)
-    step later how = rows_step s.present index kind later (accepted s.present index kind later sound.present how) (sendable later how)
+    step later how = rows_step s.present index kind later sound.present how (sendable later how)

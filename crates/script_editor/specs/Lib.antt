@@ -3,5 +3,6 @@ pub mod RowEdits
 pub mod Machine
 pub mod Document
 pub mod Sound
+pub mod BothWays
 pub mod Reached
 pub mod Stands

@@ -5,8 +5,10 @@
 #![tactic(auto)]
 
 mod editor;
+mod laws;
 mod open_book;
 mod replay;
 
 pub use editor::Editor;
+pub use laws::edits_go_both_ways;
 pub use replay::replay_bytes;

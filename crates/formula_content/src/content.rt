@@ -1,4 +1,5 @@
 use base_decimal::Decimal;
+use base_shared::Shared;
 use base_tables::Error;
 use base_values::{Exact, Text};
 use formula_tree::Node;
@@ -12,9 +13,9 @@ pub enum Content {
     Error(Error),
     Text(Text),
     /// A formula.
-    Formula(Node),
+    Formula(Shared<Node>),
     /// A formula whose value may spill over the cells around.
-    Dynamic(Node),
+    Dynamic(Shared<Node>),
 }
 
 impl Exact for Content {

@@ -29,6 +29,6 @@ pub fn fits_at(place: Position, content: &Content) -> bool
     match content {
         Content::Empty | Content::Number(_) => true,
         Content::Boolean(_) | Content::Error(_) | Content::Text(_) => true,
-        Content::Formula(tree) | Content::Dynamic(tree) => tree_fits_at(place, tree),
+        Content::Formula(tree) | Content::Dynamic(tree) => tree_fits_at(place, tree.get()),
     }
 }

@@ -1,6 +1,7 @@
 // Which formulas fit a place, at the borders of each rule.
 use crate::{Content, fits_at};
 use base_decimal::Decimal;
+use base_shared::Shared;
 use base_values::{Boxed, Position};
 use formula_tree::{Corner, Node, UnaryKind};
 use std::alloc::{AllocError, Global};
@@ -35,34 +36,36 @@ fn minus_signs(alloc: Global, count: u64) -> Result<Node, AllocError> {
     Ok(node)
 }
 
-fn reference_fits(corner: Corner) -> bool {
-    fits_at(C3, &Content::Dynamic(Node::Reference(None, corner)))
+fn tree_fits(alloc: Global, tree: Node) -> Result<bool, AllocError> {
+    Ok(fits_at(C3, &Content::Dynamic(Shared::new(alloc, tree)?)))
 }
 
-fn range_fits(first: Corner, second: Corner) -> bool {
-    fits_at(C3, &Content::Dynamic(Node::Range(None, first, second)))
+fn reference_fits(alloc: Global, corner: Corner) -> Result<bool, AllocError> {
+    tree_fits(alloc, Node::Reference(None, corner))
 }
 
-fn number_fits(mantissa: i128) -> bool {
-    fits_at(C3, &Content::Formula(number(mantissa)))
+fn range_fits(alloc: Global, first: Corner, second: Corner) -> Result<bool, AllocError> {
+    tree_fits(alloc, Node::Range(None, first, second))
 }
 
 #[test]
-fn corners_and_numbers(rt: HostRuntime) {
+fn corners_and_numbers(rt: HostRuntime) -> Result<(), Fail> {
+    let alloc = rt.alloc();
     // in C3, A1 and the column before A, the last row and the one after it
-    assert!(rt; reference_fits(relative(-2, -2)));
-    assert!(rt; !reference_fits(relative(0, -3)));
-    assert!(rt; reference_fits(relative(1_048_573, 0)));
-    assert!(rt; !reference_fits(relative(1_048_574, 0)));
-    assert!(rt; range_fits(relative(0, 0), relative(1, 1)));
-    assert!(rt; !range_fits(relative(0, 1), relative(1, 0)));
-    assert!(rt; number_fits(0));
-    assert!(rt; !number_fits(-1));
+    assert!(rt; reference_fits(alloc, relative(-2, -2))?);
+    assert!(rt; !reference_fits(alloc, relative(0, -3))?);
+    assert!(rt; reference_fits(alloc, relative(1_048_573, 0))?);
+    assert!(rt; !reference_fits(alloc, relative(1_048_574, 0))?);
+    assert!(rt; range_fits(alloc, relative(0, 0), relative(1, 1))?);
+    assert!(rt; !range_fits(alloc, relative(0, 1), relative(1, 0))?);
+    assert!(rt; tree_fits(alloc, number(0))?);
+    assert!(rt; !tree_fits(alloc, number(-1))?);
+    Ok(())
 }
 
 /// Whether so many minus signs before a number fit.
 fn minus_signs_fit(alloc: Global, count: u64) -> Result<bool, AllocError> {
-    let content = Content::Formula(minus_signs(alloc, count)?);
+    let content = Content::Formula(Shared::new(alloc, minus_signs(alloc, count)?)?);
     Ok(fits_at(C3, &content))
 }
 

@@ -23,7 +23,7 @@ pub use laying::{Overlay, lay};
 pub use overlays::{Copied, Lost};
 pub use place_map::KeptMap;
 pub use places::place_image;
-pub use tree_at::{KeptTree, TreeAt, carried_node};
+pub use tree_at::{KeptTree, TreeAt, carried_comes_back, carried_node, is_carried_still};
 
 #[cfg(test)]
 mod tests;

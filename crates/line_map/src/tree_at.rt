@@ -1,7 +1,8 @@
-ghost use Rattle.std.specs.Prelude.{◌≡◌, IfOk, IfSome, IsOkUnless};
+ghost use Rattle.std.specs.Prelude.{◌≡◌, IfOk, IfSome, IsOkUnless, IsTrue};
 ghost use Rattle.base_values.specs.Places.{IsPlace};
 ghost use Rattle.base_values.specs.declared.EditError.TheVariants.{NoMemory};
 ghost use Rattle.line_map.specs.Edit.{IsValid, opposite_of};
+ghost use Rattle.base_tables.specs.Folding.{same_folded};
 ghost use Rattle.formula_tree.specs.Moved.{moved};
 ghost use Rattle.line_map.specs.Trees.{Lies, following, goes, node_at, followed, kept, kept_by, regained};
 
@@ -12,6 +13,7 @@ use crate::tree::Following;
 use base_axis::Axis;
 use base_tables::same_by_folding;
 use base_values::{EditError, Exact, Position, Text, copy_of, same};
+use formula_back::{comes_back, is_still};
 use formula_tree::{Node, move_node};
 use std::alloc::Global;
 
@@ -66,11 +68,13 @@ pub fn carried_node<A: Axis>(
     edit: &LineEdit<A>,
     own: &str,
     edited: &str,
+    is_own: bool,
     from: Position,
     to: Position,
     node: &Node,
 ) -> Result<Node, EditError>
-    requires { IsPlace to }
+    requires inside { IsPlace to }
+    requires named { is_own ≡ same_folded own.now edited.now }
     ensures node { IfOk result (λ carried. carried ≡ moved to (following A.along edit.now.kind from to own.now edited.now) node.now) }
     ensures only { IsOkUnless result NoMemory }
 {
@@ -81,8 +85,71 @@ pub fn carried_node<A: Axis>(
         to,
         own,
         edited,
+        is_own,
     };
     Ok(move_node(alloc, node, to, &corners)?)
+}
+
+/// Whether a tree that goes from a place to a place is the same tree there. It takes no memory.
+pub fn is_carried_still<A: Axis>(
+    edit: &LineEdit<A>,
+    own: &str,
+    edited: &str,
+    is_own: bool,
+    from: Position,
+    to: Position,
+    node: &Node,
+) -> bool
+    requires inside { IsPlace to }
+    requires named { is_own ≡ same_folded own.now edited.now }
+    ensures { IsTrue result → moved to (following A.along edit.now.kind from to own.now edited.now) node.now ≡ node.now }
+{
+    let edit = *edit;
+    let corners = Following {
+        edit,
+        from,
+        to,
+        own,
+        edited,
+        is_own,
+    };
+    is_still(node, to, &corners)
+}
+
+/// Whether a tree that goes from a place to a place, and back along the opposite, is the tree that
+/// it was. It takes no memory.
+pub fn carried_comes_back<A: Axis>(
+    edit: &LineEdit<A>,
+    own: &str,
+    edited: &str,
+    is_own: bool,
+    from: Position,
+    to: Position,
+    node: &Node,
+) -> bool
+    requires valid { IsValid A.along.last edit.now.kind }
+    requires from { IsPlace from }
+    requires to { IsPlace to }
+    requires named { is_own ≡ same_folded own.now edited.now }
+    ensures { IsTrue result → moved from (following A.along (opposite_of edit.now.kind) to from own.now edited.now) (moved to (following A.along edit.now.kind from to own.now edited.now) node.now) ≡ node.now }
+{
+    let there = Following {
+        edit: *edit,
+        from,
+        to,
+        own,
+        edited,
+        is_own,
+    };
+    let back = Following {
+        edit: edit.opposite(),
+        from: to,
+        to: from,
+        own,
+        edited,
+        is_own,
+    };
+    comes_back(node, from, to, &there, &back)
 }
 
 /// The tree of the cell that goes there.
@@ -98,7 +165,8 @@ fn node_at<A: Axis>(
     ensures only { IsOkUnless result NoMemory }
 {
     let (own, edited) = (tree.sheet.as_str(), tree.edited.as_str());
-    carried_node(alloc, edit, own, edited, tree.place, to, &tree.node)
+    let is_own = same_by_folding(own, edited);
+    carried_node(alloc, edit, own, edited, is_own, tree.place, to, &tree.node)
 }
 
 /// The tree with another node, at another place.

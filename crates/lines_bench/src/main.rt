@@ -11,6 +11,7 @@ ghost use Rattle.line_map.specs.Edit.{IsValid, IsWithin};
 
 use anyhow::{Context, Result};
 use base_axis::{Axis, RowAxis};
+use base_shared::Shared;
 use base_styles::Style;
 use base_tables::{Locale, Zone};
 use base_values::{Boxed, EditError, LAST_ROW, line_of};
@@ -41,7 +42,7 @@ fn put_formula(
     alloc: Global,
     sheet: &mut Worksheet,
     row: i32,
-    style: &Style,
+    style: &Shared<Style>,
 ) -> Result<(), EditError> {
     let tree = formula(alloc)?;
     if has_kept_numbers(&tree) {
@@ -53,7 +54,7 @@ fn put_formula(
 /// A workbook whose first rows have a formula each.
 fn workbook_of(alloc: Global, count: i32) -> Result<Workbook, EditError> {
     let mut book = Workbook::new_empty(alloc, "bench", Locale::En, Zone::Utc)?;
-    let style = Style::new(alloc)?;
+    let style = Shared::new(alloc, Style::new(alloc)?)?;
     let sheet = book.worksheet_mut(0)?;
     for row in 1..=count {
         put_formula(alloc, sheet, row, &style)?;

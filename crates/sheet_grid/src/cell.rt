@@ -1,5 +1,6 @@
 ghost use Rattle.std.specs.Prelude.{◌≡◌};
 
+use base_shared::Shared;
 use base_styles::Style;
 use base_values::Exact;
 use formula_content::Content;
@@ -9,7 +10,7 @@ use std::alloc::AllocError;
 #[derive(PartialEq, Eq, Drop)]
 pub struct Cell {
     pub content: Content,
-    pub style: Style,
+    pub style: Shared<Style>,
 }
 
 impl Clone for Cell {

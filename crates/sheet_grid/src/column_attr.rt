@@ -1,6 +1,7 @@
 ghost use Rattle.std.specs.Prelude.{◌≡◌};
 ghost use Rattle.sheet_grid.specs.Lines.{is_plain_column, kept_column};
 
+use base_shared::Shared;
 use base_styles::Style;
 use base_values::Exact;
 
@@ -10,7 +11,7 @@ pub struct ColumnAttr {
     /// The width in half pixels, where it is not the usual one.
     pub width: Option<i32>,
     /// The style of the cells that have none. The default style counts as one here.
-    pub style: Option<Style>,
+    pub style: Option<Shared<Style>>,
     /// Whether the column is not shown.
     pub hidden: bool,
 }

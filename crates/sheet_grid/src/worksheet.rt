@@ -3,6 +3,7 @@ ghost use Rattle.std.specs.FinMap as fin;
 ghost use Rattle.base_values.specs.Answers.{Answers, Edits};
 ghost use Rattle.base_values.specs.Places.{IsPlace};
 ghost use Rattle.base_decimal.specs.Kept.{IsKept};
+ghost use Rattle.base_styles.specs.DefaultStyle.{default_style};
 ghost use Rattle.formula_tree.specs.Numbers.{has_kept_numbers};
 ghost use Rattle.formula_content.specs.KeptContent.{IsKeptContent};
 ghost use Rattle.sheet_grid.specs.Dimension.{IsLeastRectangle, first_place};
@@ -21,6 +22,7 @@ use crate::row_attr::RowAttr;
 use crate::state::SheetState;
 use base_axis::{ColumnAxis, LineMap, RowAxis};
 use base_decimal::Decimal;
+use base_shared::Shared;
 use base_styles::{Color, Style};
 use base_tables::Error;
 use base_values::{EditError, Exact, PlaceMap, Position, Text, copy_of, place_of};
@@ -194,13 +196,26 @@ impl Worksheet {
         }
     }
 
+    fn default_style(&self) -> Result<Shared<Style>, EditError>
+        ensures { Answers result (Ok default_style) }
+    {
+        let alloc = self.name.allocator();
+        Ok(Shared::new(alloc, Style::new(alloc)?)?)
+    }
+
+    fn shared_tree(&self, tree: Node) -> Result<Shared<Node>, EditError>
+        ensures { Answers result (Ok tree) }
+    {
+        Ok(Shared::new(self.name.allocator(), tree)?)
+    }
+
     /// A copy of the style that a place shows: its cell's, else the default.
-    fn style_at(&self, place: Position) -> Result<Style, EditError>
+    fn style_at(&self, place: Position) -> Result<Shared<Style>, EditError>
         ensures { Answers result (Ok (shown_style self.now place)) }
     {
         match self.cells.get(place) {
             Some(cell) => copy_of(&cell.style),
-            None => Style::new(self.name.allocator()),
+            None => self.default_style(),
         }
     }
 
@@ -221,7 +236,7 @@ impl Worksheet {
         row: i32,
         column: i32,
         content: Content,
-        style: &Style,
+        style: &Shared<Style>,
     ) -> Result<(), EditError>
         requires { IsKeptContent content }
         ensures { Edits result self.old self.new (content_put self.old row column content style.now) }
@@ -239,7 +254,7 @@ impl Worksheet {
         row: i32,
         column: i32,
         value: Decimal,
-        style: &Style,
+        style: &Shared<Style>,
     ) -> Result<(), EditError>
         requires { IsKept value }
         ensures { Edits result self.old self.new (content_put self.old row column (Number value) style.now) }
@@ -255,7 +270,7 @@ impl Worksheet {
         row: i32,
         column: i32,
         value: bool,
-        style: &Style,
+        style: &Shared<Style>,
     ) -> Result<(), EditError>
         ensures { Edits result self.old self.new (content_put self.old row column (Boolean value) style.now) }
     {
@@ -270,7 +285,7 @@ impl Worksheet {
         row: i32,
         column: i32,
         value: Error,
-        style: &Style,
+        style: &Shared<Style>,
     ) -> Result<(), EditError>
         ensures { Edits result self.old self.new (content_put self.old row column (ErrorValue value) style.now) }
     {
@@ -285,7 +300,7 @@ impl Worksheet {
         row: i32,
         column: i32,
         value: &str,
-        style: &Style,
+        style: &Shared<Style>,
     ) -> Result<(), EditError>
         ensures { Edits result self.old self.new (content_put self.old row column (TextValue value.now) style.now) }
     {
@@ -303,12 +318,14 @@ impl Worksheet {
         row: i32,
         column: i32,
         value: Node,
-        style: &Style,
+        style: &Shared<Style>,
     ) -> Result<(), EditError>
         requires { IsTrue (has_kept_numbers value) }
         ensures { Edits result self.old self.new (content_put self.old row column (Formula value) style.now) }
     {
-        self.put_content(row, column, Content::Formula(value), style)
+        let _place = place_of(row, column)?;
+        let tree = self.shared_tree(value)?;
+        self.put_content(row, column, Content::Formula(tree), style)
     }
 
     /// Sets the cell at a row and a column to a formula whose value may spill, with a style. The
@@ -320,12 +337,14 @@ impl Worksheet {
         row: i32,
         column: i32,
         value: Node,
-        style: &Style,
+        style: &Shared<Style>,
     ) -> Result<(), EditError>
         requires { IsTrue (has_kept_numbers value) }
         ensures { Edits result self.old self.new (content_put self.old row column (Dynamic value) style.now) }
     {
-        self.put_content(row, column, Content::Dynamic(value), style)
+        let _place = place_of(row, column)?;
+        let tree = self.shared_tree(value)?;
+        self.put_content(row, column, Content::Dynamic(tree), style)
     }
 
     /// Empties the cell at a row and a column, and keeps the style that the place shows. A place
@@ -348,7 +367,7 @@ impl Worksheet {
         &mut self,
         row: i32,
         column: i32,
-        style: &Style,
+        style: &Shared<Style>,
     ) -> Result<(), EditError>
         ensures { Edits result self.old self.new (content_put self.old row column Empty style.now) }
     {

@@ -6,7 +6,7 @@ use Rattle.std.proofs.lemmas.List.Sums.{fold_more}
 use Rattle.std.specs.Ordering.{nat_cmp, int_cmp}
 use Rattle.std.specs.FinMap.{FinMap, empty, entries}
 use Rattle.base_values.specs.declared.Position.{Position}
-use Rattle.base_values.specs.CodedEq.{same_value}
+use Rattle.base_values.specs.CodedEq.{same_value, same_value_decides}
 use Rattle.base_values.specs.KeyMap.{with_entry}
 use Rattle.base_values.specs.Places.{position_cmp}
 use Rattle.base_axis.specs.Along.{Along}
@@ -44,6 +44,11 @@ there_and_back w from to tree = tree_followed (back w) to from (tree_followed w 
 -- a tree, unless it is what comes back
 unfoldable pub unless_back : Node → Node → Option Node
 unless_back back tree = if same_value the_row.coded back tree then None else Some tree
+
+-- of a tree that comes back nothing is kept
+pub nothing_kept : (back tree : Node) → back ≡ tree → None ≡ unless_back back tree
+unfolding unless_back
+nothing_kept back tree e = sym (ap (λ b. if b then None else Some tree) ((same_value_decides the_row.coded back tree).1 e))
 
 -- the tree of a formula that goes somewhere, where going back does not give it
 unfoldable pub kept_tree : Way → Position → Cell → Option Node

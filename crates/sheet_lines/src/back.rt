@@ -16,6 +16,7 @@ use crate::overlays::RegainedCells;
 use crate::sheet_edit::{SheetEdit, back};
 use crate::sheets::{meeting, name_of};
 use base_axis::{Axis, LineMap};
+use base_shared::Shared;
 use base_values::{EditError, Exact, Items, PlaceMap};
 use formula_tree::Node;
 use line_map::{Copied, LineEdit, lay};
@@ -28,7 +29,7 @@ fn cells_back<A: Axis>(
     alloc: Global,
     by: &SheetEdit<'_, A>,
     lost: &PlaceMap<Cell>,
-    trees: &PlaceMap<Node>,
+    trees: &PlaceMap<Shared<Node>>,
     cells: &PlaceMap<Cell>,
 ) -> Result<PlaceMap<Cell>, EditError>
     requires { IsValid A.along.last by.now.edit.kind }
@@ -49,7 +50,7 @@ fn cells_back<A: Axis>(
 }
 
 /// The trees kept of a sheet, or none.
-fn trees_of<'a>(kept: &'a KeptLines, none: &'a PlaceMap<Node>, id: u32) -> &'a PlaceMap<Node>
+fn trees_of<'a>(kept: &'a KeptLines, none: &'a PlaceMap<Shared<Node>>, id: u32) -> &'a PlaceMap<Shared<Node>>
     requires none { none.now ≡ empty }
     requires numbers { AreKeptLines kept.now }
     ensures trees { result.now ≡ or_empty (get kept.now.formulas id) }

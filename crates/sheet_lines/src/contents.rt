@@ -9,6 +9,7 @@ ghost use Rattle.sheet_lines.specs.Back.{with_tree};
 
 use crate::sheet_edit::{SheetEdit, followed_tree, place_goes};
 use base_axis::Axis;
+use base_shared::Shared;
 use base_values::{EditError, Position, copy_of};
 use formula_content::Content;
 use formula_tree::Node;
@@ -70,7 +71,7 @@ pub fn followed_cell<A: Axis>(
 }
 
 /// The tree of a formula.
-pub fn tree_of(content: &Content) -> Option<&Node>
+pub fn tree_of(content: &Content) -> Option<&Shared<Node>>
     ensures { option_copied result ≡ tree_of content.now }
 {
     match content {
@@ -81,7 +82,7 @@ pub fn tree_of(content: &Content) -> Option<&Node>
 }
 
 /// A content with that tree in place of its formula's.
-fn content_with_tree(content: &Content, tree: &Node) -> Result<Content, EditError>
+fn content_with_tree(content: &Content, tree: &Shared<Node>) -> Result<Content, EditError>
     ensures content { IfOk result (λ changed. changed ≡ with_tree_by (λ _. tree.now) content.now) }
     ensures only { IsOkUnless result NoMemory }
 {
@@ -94,7 +95,7 @@ fn content_with_tree(content: &Content, tree: &Node) -> Result<Content, EditErro
 }
 
 /// A cell with that tree in place of its formula's.
-pub fn with_tree(cell: &Cell, tree: &Node) -> Result<Cell, EditError>
+pub fn with_tree(cell: &Cell, tree: &Shared<Node>) -> Result<Cell, EditError>
     ensures cell { IfOk result (λ changed. changed ≡ with_tree cell.now tree.now) }
     ensures only { IsOkUnless result NoMemory }
 {

@@ -18,6 +18,7 @@ use crate::sheet_edit::SheetEdit;
 use crate::sheet_map::SheetMap;
 use crate::sheets::{meeting, name_of, sheet_of};
 use base_axis::{Axis, ColumnAxis, LineMap, RowAxis};
+use base_shared::Shared;
 use base_values::{EditError, PlaceMap};
 use formula_tree::Node;
 use line_map::{LineEdit, lay};
@@ -30,7 +31,7 @@ fn kept_trees<A: Axis>(
     alloc: Global,
     by: &SheetEdit<'_, A>,
     cells: &PlaceMap<Cell>,
-) -> Result<PlaceMap<Node>, EditError>
+) -> Result<PlaceMap<Shared<Node>>, EditError>
     requires { IsValid A.along.last by.now.edit.kind }
     ensures trees { IfOk result (λ kept. kept ≡ kept_trees (way A.along by.now.edit.kind by.now.own.now by.now.edited.now by.now.is_edited) cells.now) }
     ensures only { IsOkUnless result NoMemory }
@@ -45,14 +46,14 @@ fn kept_trees<A: Axis>(
     )
 }
 
-fn is_empty(trees: &PlaceMap<Node>) -> bool
+fn is_empty(trees: &PlaceMap<Shared<Node>>) -> bool
     ensures { result ≡ is_empty trees.now }
 {
     trees.iter().len() == 0
 }
 
 /// A map, if it has an entry.
-fn if_any(trees: PlaceMap<Node>) -> Option<PlaceMap<Node>>
+fn if_any(trees: PlaceMap<Shared<Node>>) -> Option<PlaceMap<Shared<Node>>>
     ensures { result ≡ if_any trees }
 {
     if is_empty(&trees) { None } else { Some(trees) }
@@ -65,7 +66,7 @@ fn sheet_kept<A: Axis>(
     id: u32,
     edited: &str,
     sheet: &Worksheet,
-) -> Result<Option<PlaceMap<Node>>, EditError>
+) -> Result<Option<PlaceMap<Shared<Node>>>, EditError>
     requires { IsValid A.along.last edit.now.kind }
     ensures kept { IfOk result (λ kept. kept ≡ sheet_kept A.along edit.now.kind id edited.now sheet.now) }
     ensures numbers { IfOk result (λ kept. IfSome kept AreKeptTrees) }
@@ -84,7 +85,7 @@ fn kept_formulas<A: Axis>(
     id: u32,
     edited: &str,
     sheets: &[Worksheet],
-) -> Result<SheetMap<PlaceMap<Node>>, EditError>
+) -> Result<SheetMap<PlaceMap<Shared<Node>>>, EditError>
     requires { IsValid A.along.last edit.now.kind }
     ensures kept { IfOk result (λ kept. kept ≡ kept_formulas A.along edit.now.kind id edited.now sheets.now) }
     ensures numbers { IfOk result AreKeptFormulas }

@@ -2,6 +2,7 @@ ghost use Rattle.std.specs.Prelude.{◌≡◌};
 
 use crate::sheet_map::SheetMap;
 use base_axis::{ColumnAxis, LineMap, RowAxis};
+use base_shared::Shared;
 use base_values::{Exact, PlaceMap};
 use formula_tree::Node;
 use sheet_grid::{Cell, ColumnAttr, Link, RowAttr};
@@ -18,7 +19,7 @@ pub struct KeptLines {
     pub columns: LineMap<ColumnAxis, ColumnAttr>,
     /// By sheet, the trees of the other formulas that do not come back, at their places before the
     /// edit. A sheet without such a tree has no entry.
-    pub formulas: SheetMap<PlaceMap<Node>>,
+    pub formulas: SheetMap<PlaceMap<Shared<Node>>>,
 }
 
 impl Clone for KeptLines {

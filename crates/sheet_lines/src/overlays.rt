@@ -14,6 +14,7 @@ use crate::contents::{followed_cell, with_tree};
 use crate::keeping::kept_tree;
 use crate::sheet_edit::{SheetEdit, place_goes};
 use base_axis::Axis;
+use base_shared::Shared;
 use base_values::{EditError, Exact, PlaceMap, Position, copy_of};
 use formula_tree::Node;
 use line_map::Overlay;
@@ -84,7 +85,7 @@ pub struct KeptTrees<'a, A: Axis> {
 }
 
 impl<'a, A: Axis> Overlay for KeptTrees<'a, A> {
-    type Item = Node;
+    type Item = Shared<Node>;
 
     ghost Fits = { λ s. IsValid A.along.last s.by.edit.kind };
 
@@ -99,7 +100,7 @@ impl<'a, A: Axis> Overlay for KeptTrees<'a, A> {
         }
     }
 
-    fn item(&self, alloc: Global, from: Position) -> Result<Option<Node>, EditError> {
+    fn item(&self, alloc: Global, from: Position) -> Result<Option<Shared<Node>>, EditError> {
         match self.cells.get(from) {
             None => Ok(None),
             Some(cell) => kept_tree(alloc, &self.by, from, cell),
@@ -112,7 +113,7 @@ impl<'a, A: Axis> Overlay for KeptTrees<'a, A> {
 pub struct RegainedCells<'a, A: Axis> {
     pub by: SheetEdit<'a, A>,
     pub followed: &'a PlaceMap<Cell>,
-    pub trees: &'a PlaceMap<Node>,
+    pub trees: &'a PlaceMap<Shared<Node>>,
 }
 
 /// The cell that stands where a place goes.

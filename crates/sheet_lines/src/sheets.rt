@@ -5,6 +5,7 @@ ghost use Rattle.sheet_lines.specs.Way.{way};
 
 use crate::sheet_edit::SheetEdit;
 use base_axis::Axis;
+use base_tables::same_by_folding;
 use line_map::LineEdit;
 use sheet_grid::{Workbook, Worksheet};
 
@@ -45,10 +46,12 @@ pub fn meeting<'a, A: Axis>(
     ensures way { way A.along result.edit.kind result.own.now result.edited.now result.is_edited ≡ way_of A.along edit.now.kind id edited.now sheet.now }
     ensures kind { result.edit.kind ≡ edit.now.kind }
 {
+    let own = sheet.get_name();
     SheetEdit {
         edit: *edit,
-        own: sheet.get_name(),
+        own,
         edited,
+        is_own: same_by_folding(own, edited),
         is_edited: sheet.get_sheet_id() == id,
     }
 }

@@ -42,6 +42,22 @@ impl<T> Items<T> {
         }
     }
 
+    /// The list without an item, with room for as many.
+    pub fn with_room(alloc: Global, count: usize) -> Result<Items<T>, AllocError>
+        ensures { IfOk result (λ items. items ≡ []) }
+    {
+        Ok(Items {
+            items: Vec::with_capacity(alloc, count)?,
+        })
+    }
+
+    /// Gives back the room that no item takes.
+    pub fn fit(&mut self)
+        ensures { self.new ≡ self.old }
+    {
+        self.items.shrink_to_fit();
+    }
+
     /// Lends the items.
     pub fn as_slice(&self) -> &[T]
         ensures items { result.now ≡ self.now }
@@ -79,7 +95,7 @@ impl<T> Items<T> {
 }
 
 impl<T: Drop> Items<T> {
-    /// Adds an item at the end. Want of memory leaves the list as it was.
+    /// Adds an item at the end. Where memory runs out the list is as it was.
     pub fn push(&mut self, item: T) -> Result<(), AllocError>
         ensures ok { OnOk result (self.new ≡ self.old ++ item ∷ []) }
         ensures small { length self.new < 2 ^ 63 }

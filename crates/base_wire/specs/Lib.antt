@@ -1,10 +1,5 @@
-pub mod Reading
+pub mod Reads
 pub mod Spelling
 pub mod Parts
-pub mod Again
-pub mod Sixteen
-pub mod Spelled
-pub mod Refusals
-pub mod PartsLaws
-pub mod Form
-pub mod Many
+pub mod Reading
+pub mod laws

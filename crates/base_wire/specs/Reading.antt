@@ -7,10 +7,7 @@ use Rattle.std.specs.Str.{is_utf8}
 use Rattle.base_values.specs.declared.EditError.{EditError}
 use Rattle.base_values.specs.declared.EditError.TheVariants.{ParseDiffs}
 use Rattle.base_values.specs.Answers.{ok_or}
-
--- what a reader gives: a value and the bytes after it, or the refusal
-abbrev pub Read : Type 0 → Type 0
-Read A = Result (A × List ℕ) EditError
+use Rattle.base_wire.specs.Reads.{Read}
 
 abbrev pub Reader : Type 0 → Type 0
 Reader A = List ℕ → Read A

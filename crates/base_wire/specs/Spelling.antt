@@ -41,3 +41,14 @@ pub record FitsText (text : List ℕ) : Type 0 where
 pub record FitsItems {A : Type 0} (Fits : A → Type 0) (xs : List A) : Type 0 where
   pub short : length xs < 2 ^ 64
   pub each : AllByRecursion Fits xs
+
+-- one part, and then another
+abbrev pub spell_both : {A B : Type 0} → (A → List ℕ) → (B → List ℕ) → A × B → List ℕ
+spell_both s t x = s x.0 ++ t x.1
+
+abbrev pub Both : {A B : Type 0} → (A → Type 0) → (B → Type 0) → A × B → Type 0
+Both F G x = F x.0 × G x.1
+
+-- every value of the type
+abbrev pub Any : {A : Type 0} → A → Type 0
+Any x = Unit {0}

@@ -1,21 +1,23 @@
-//! The parts of which every format of bytes is made: numbers, booleans, error values, decimals and
-//! texts, how they are pushed at the end of bytes and read from their front.
+//! The parts of which every format of bytes is made: numbers, booleans, error values, decimals,
+//! texts, options and lists.
 //!
-//! The layers above see of each part a spelling, which is a function of the value, and a reading
-//! function on lists of bytes; `specs/` has these functions also for options and lists of any
-//! part, and the laws with which a format is put together: what is spelled is read again, what is
-//! read was spelled so, and what is refused is refused with `ParseDiffs`.
+//! A [`Part`] is a type whose values have a spelling. The layers above see of it the spelling, which is
+//! a function of the value, and what bytes can carry: a value that they can carry is read again from
+//! its spelling, whatever follows, what is read was spelled so, and all else is refused with
+//! `ParseDiffs`. `specs/Reading.antt` has each reader's steps as a function, which serves proofs
+//! alone; `specs/laws/` ties them to the spellings.
 #![tactic(auto)]
 
 mod codes;
+mod many;
+mod part;
 mod reading;
+mod values;
 mod writing;
 
 pub use codes::boolean_code;
-pub use reading::{
-    boolean_at, byte_at, count_at, decimal_at, error_at, i32_at, text_at, u32_at, u64_at,
-};
-pub use writing::{push_decimal, push_text};
+pub use many::put_items;
+pub use part::Part;
 
 #[cfg(test)]
 mod tests;

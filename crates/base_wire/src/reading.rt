@@ -17,7 +17,7 @@ use base_values::{EditError, Text};
 use std::alloc::Global;
 
 /// The first byte.
-pub fn byte_at(bytes: &[u8]) -> Result<(u8, &[u8]), EditError>
+pub(crate) fn byte_at(bytes: &[u8]) -> Result<(u8, &[u8]), EditError>
     ensures { Answers (map_ok (λ x. (x.0, x.1.now)) result) (byte_at bytes.now) }
 {
     match bytes {
@@ -27,7 +27,7 @@ pub fn byte_at(bytes: &[u8]) -> Result<(u8, &[u8]), EditError>
 }
 
 /// Four bytes as a number, the highest first.
-pub fn u32_at(bytes: &[u8]) -> Result<(u32, &[u8]), EditError>
+pub(crate) fn u32_at(bytes: &[u8]) -> Result<(u32, &[u8]), EditError>
     ensures { Answers (map_ok (λ x. (x.0, x.1.now)) result) (number_at w32 bytes.now) }
 {
     if bytes.len() < 4 {
@@ -39,7 +39,7 @@ pub fn u32_at(bytes: &[u8]) -> Result<(u32, &[u8]), EditError>
 }
 
 /// Eight bytes as a number, the highest first.
-pub fn u64_at(bytes: &[u8]) -> Result<(u64, &[u8]), EditError>
+pub(crate) fn u64_at(bytes: &[u8]) -> Result<(u64, &[u8]), EditError>
     ensures { Answers (map_ok (λ x. (x.0, x.1.now)) result) (number_at w64 bytes.now) }
 {
     if bytes.len() < 8 {
@@ -53,7 +53,7 @@ pub fn u64_at(bytes: &[u8]) -> Result<(u64, &[u8]), EditError>
 }
 
 /// Four bytes as a signed number in two's complement.
-pub fn i32_at(bytes: &[u8]) -> Result<(i32, &[u8]), EditError>
+pub(crate) fn i32_at(bytes: &[u8]) -> Result<(i32, &[u8]), EditError>
     ensures { Answers (map_ok (λ x. (x.0, x.1.now)) result) (signed_at w32 bytes.now) }
 {
     let (number, rest) = u32_at(bytes)?;
@@ -75,7 +75,7 @@ fn i128_at(bytes: &[u8]) -> Result<(i128, &[u8]), EditError>
 }
 
 /// A byte that is 0 or 1.
-pub fn boolean_at(bytes: &[u8]) -> Result<(bool, &[u8]), EditError>
+pub(crate) fn boolean_at(bytes: &[u8]) -> Result<(bool, &[u8]), EditError>
     ensures { Answers (map_ok (λ x. (x.0, x.1.now)) result) (boolean_at bytes.now) }
 {
     let (code, rest) = byte_at(bytes)?;
@@ -103,7 +103,7 @@ fn utf8_of(bytes: &[u8]) -> Result<&str, EditError>
 }
 
 /// The byte of an error value: 0 to 11.
-pub fn error_at(bytes: &[u8]) -> Result<(Error, &[u8]), EditError>
+pub(crate) fn error_at(bytes: &[u8]) -> Result<(Error, &[u8]), EditError>
     ensures { Answers (map_ok (λ x. (x.0, x.1.now)) result) (error_at bytes.now) }
 {
     let (code, rest) = byte_at(bytes)?;
@@ -115,7 +115,7 @@ pub fn error_at(bytes: &[u8]) -> Result<(Error, &[u8]), EditError>
 
 /// A decimal that a workbook keeps.
 #[tactic(auto, unfolding(crate::specs::Parts::decimal_at))]
-pub fn decimal_at(bytes: &[u8]) -> Result<(Decimal, &[u8]), EditError>
+pub(crate) fn decimal_at(bytes: &[u8]) -> Result<(Decimal, &[u8]), EditError>
     ensures { Answers (map_ok (λ x. (x.0, x.1.now)) result) (decimal_at bytes.now) }
 {
     let (mantissa, rest) = i128_at(bytes)?;
@@ -129,7 +129,7 @@ pub fn decimal_at(bytes: &[u8]) -> Result<(Decimal, &[u8]), EditError>
 
 /// A count of items, which is no greater than the number of the bytes after it: each item takes one
 /// at least.
-pub fn count_at(bytes: &[u8]) -> Result<(u64, &[u8]), EditError>
+pub(crate) fn count_at(bytes: &[u8]) -> Result<(u64, &[u8]), EditError>
     ensures { Answers (map_ok (λ x. (x.0, x.1.now)) result) (count_at bytes.now) }
 {
     let (count, rest) = u64_at(bytes)?;
@@ -141,7 +141,7 @@ pub fn count_at(bytes: &[u8]) -> Result<(u64, &[u8]), EditError>
 
 /// A length, and so many bytes of UTF-8. Also refuses with `NoMemory`.
 #[tactic(auto, unfolding(crate::specs::Reading::text_at))]
-pub fn text_at(alloc: Global, bytes: &[u8]) -> Result<(Text, &[u8]), EditError>
+pub(crate) fn text_at(alloc: Global, bytes: &[u8]) -> Result<(Text, &[u8]), EditError>
     ensures { Answers (map_ok (λ x. (x.0, x.1.now)) result) (text_at bytes.now) }
 {
     let (count, rest) = u64_at(bytes)?;

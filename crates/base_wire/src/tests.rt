@@ -1,4 +1,5 @@
-use super::*;
+use crate::reading::{boolean_at, decimal_at, error_at, text_at};
+use crate::writing::push_text;
 use base_values::{EditError, Text};
 use std::test::*;
 

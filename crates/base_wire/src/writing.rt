@@ -1,7 +1,7 @@
-//! Texts and decimals at the end of bytes. Want of memory may leave some of them there.
+//! Texts and decimals at the end of bytes. Out of memory may leave some of them there.
 
 ghost use Rattle.std.specs.Prelude.{◌≡◌, ◌++◌, OnOk};
-ghost use Rattle.base_wire.specs.Spelling.{spell_text};
+ghost use Rattle.base_wire.specs.Spelling.{spell_text, FitsText};
 ghost use Rattle.base_wire.specs.Parts.{spell_decimal};
 
 use base_decimal::Decimal;
@@ -9,8 +9,9 @@ use base_values::Text;
 use std::alloc::AllocError;
 
 /// Adds the length of a text in eight bytes, and its UTF-8 (docs/FORMATS.md, "Bytes").
-pub fn push_text(out: &mut Vec<u8>, text: &Text) -> Result<(), AllocError>
-    ensures { OnOk result (out.new.items ≡ out.old.items ++ spell_text text.now) }
+pub(crate) fn push_text(out: &mut Vec<u8>, text: &Text) -> Result<(), AllocError>
+    ensures spelled { OnOk result (out.new.items ≡ out.old.items ++ spell_text text.now) }
+    ensures fits { OnOk result (FitsText text.now) }
 {
     let bytes = text.as_str().as_bytes();
     out.extend_from_slice(&(bytes.len() as u64).to_be_bytes())?;
@@ -19,7 +20,7 @@ pub fn push_text(out: &mut Vec<u8>, text: &Text) -> Result<(), AllocError>
 
 /// Adds the mantissa of a decimal in sixteen bytes, and its places (docs/FORMATS.md, "Bytes").
 #[tactic(auto, unfolding(crate::specs::Parts::spell_decimal))]
-pub fn push_decimal(out: &mut Vec<u8>, number: Decimal) -> Result<(), AllocError>
+pub(crate) fn push_decimal(out: &mut Vec<u8>, number: Decimal) -> Result<(), AllocError>
     ensures { OnOk result (out.new.items ≡ out.old.items ++ spell_decimal number) }
 {
     out.extend_from_slice(&number.mantissa.to_be_bytes())?;

@@ -17,8 +17,9 @@ use Rattle.base_wire.specs.Reading.{decoded}
 use Rattle.base_wire.specs.Spelling.{spell_option}
 use Rattle.cell_wire.specs.StyleBytes.{theme_code, theme_colors, spell_color, color_at, FitsColor, spell_font, font_made, font_at, FitsFont, border_code, border_styles, spell_border_item, border_item_made, border_item_at, FitsBorderItem, spell_border, border_made, side_at, border_at, FitsBorder, horizontal_code, horizontals, vertical_code, verticals, spell_alignment, alignment_made, alignment_at, alignment_option_at, spell_style, style_made, style_at, FitsStyle}
 use Rattle.cell_wire.specs.CellBytes.{spell_position, position_made, position_at, FitsPosition, spell_content, content_at, FitsContent, spell_cell, cell_made, cell_at, FitsCell}
-use Rattle.base_wire.specs.Again.{ReadsAgain, Any, both_again, map_again, code_again, wide32, signed_again, text_again, option_again}
-use Rattle.base_wire.specs.PartsLaws.{boolean_again, error_again, decimal_again}
+use Rattle.base_wire.specs.laws.Again.{ReadsAgain, both_again, map_again, code_again, wide32, signed_again, text_again, option_again}
+use Rattle.base_wire.specs.Spelling.{Any}
+use Rattle.base_wire.specs.laws.Parts.{boolean_again, error_again, decimal_again}
 use Rattle.formula_wire.specs.NodeLaws.{node_again}
 
 -- ---- colours

@@ -8,9 +8,9 @@ use Rattle.cell_wire.specs.StyleBytes.{theme_code, theme_colors, spell_color, co
 use Rattle.cell_wire.specs.CellBytes.{spell_position, position_made, position_at, FitsPosition, spell_content, content_at, FitsContent, spell_cell, cell_made, cell_at, FitsCell}
 use Rattle.cell_wire.specs.StyleBytes.{rgb, color_of}
 use Rattle.cell_wire.specs.CellBytes.{content_of}
-use Rattle.base_wire.specs.Again.{Any}
-use Rattle.base_wire.specs.Spelled.{ReadsSpelled, both_spelled, map_spelled, fits_otherwise, byte_spelled, code_spelled, tag_map, tag_plain, tag_refused, tag_if, tagged_spelled, option_spelled, back32, signed_spelled, text_spelled}
-use Rattle.base_wire.specs.PartsLaws.{boolean_spelled, error_spelled, decimal_spelled}
+use Rattle.base_wire.specs.Spelling.{Any}
+use Rattle.base_wire.specs.laws.Spelled.{ReadsSpelled, both_spelled, map_spelled, fits_otherwise, byte_spelled, code_spelled, tag_map, tag_plain, tag_refused, tag_if, tagged_spelled, option_spelled, back32, signed_spelled, text_spelled}
+use Rattle.base_wire.specs.laws.Parts.{boolean_spelled, error_spelled, decimal_spelled}
 use Rattle.formula_wire.specs.NodeLaws.{node_spelled}
 
 -- ---- colours

@@ -7,7 +7,7 @@ use Rattle.std.proofs.lemmas.Bool.{and_from, lt-ltb}
 use Rattle.std.proofs.lemmas.List.Folds.{list_all_more}
 use Rattle.formula_tree.specs.declared.Corner.{Corner}
 use Rattle.base_wire.specs.Spelling.{FitsText}
-use Rattle.base_wire.specs.Form.{is_text, is_list, text_passes}
+use Rattle.base_wire.specs.laws.Form.{is_text, is_list, text_passes}
 use Rattle.formula_wire.specs.Carried.{is_corner}
 use Rattle.formula_wire.specs.PartLaws.{signed_passes}
 

@@ -9,7 +9,7 @@ use Rattle.formula_tree.specs.declared.Node.{Node, fold-Node}
 use Rattle.formula_tree.specs.declared.Node.TheOpen.{Node-F}
 use Rattle.formula_tree.specs.declared.Node.TheOpen as layer
 use Rattle.formula_tree.specs.DepthBounds.{is_within}
-use Rattle.base_wire.specs.Form.{if_passes, is_text, is_list}
+use Rattle.base_wire.specs.laws.Form.{if_passes, is_text, is_list}
 
 -- a number of 32 bits
 abbrev pub is_signed : ℤ → Bool

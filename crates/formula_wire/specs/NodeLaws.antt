@@ -8,10 +8,10 @@ use Rattle.formula_tree.specs.declared.Node.TheVariants as node
 use Rattle.formula_tree.specs.Induction.{induct}
 use Rattle.formula_tree.specs.DepthBounds.{is_within}
 use Rattle.base_wire.specs.Reading.{Reader, refused, map_at, ◌⊗◌}
-use Rattle.base_wire.specs.Again.{ReadsAgain}
-use Rattle.base_wire.specs.Spelled.{ReadsSpelled, TagSpelled, tag_map, tag_plain, tag_refused, tag_if, tagged_spelled, fits_otherwise}
-use Rattle.base_wire.specs.Refusals.{IsPlain, map_plain, plain_plain, refused_plain, if_plain, tagged_plain}
-use Rattle.base_wire.specs.Form.{Passes, Form, form_of, both_form, decimal_form, text_form, list_form}
+use Rattle.base_wire.specs.laws.Again.{ReadsAgain}
+use Rattle.base_wire.specs.laws.Spelled.{ReadsSpelled, TagSpelled, tag_map, tag_plain, tag_refused, tag_if, tagged_spelled, fits_otherwise}
+use Rattle.base_wire.specs.laws.Refusals.{IsPlain, map_plain, plain_plain, refused_plain, if_plain, tagged_plain}
+use Rattle.base_wire.specs.laws.Form.{Passes, Form, form_of, both_form, decimal_form, text_form, list_form}
 use Rattle.formula_wire.specs.PartBytes.{sheet_at, corner_at}
 use Rattle.formula_wire.specs.PartLaws.{boolean_form, error_form, compare_form, sum_form, product_form, unary_form, function_form, corner_form, sheet_form, lines_form, parameters_form}
 use Rattle.formula_wire.specs.NodeBytes.{spell_node, reference_made, range_made, colon_made, concatenate_made, compare_made, sum_made, product_made, power_made, unary_made, call_made, named_call_made, lambda_made, lambda_call_made, node_of, node_within, node_at}

@@ -5,8 +5,8 @@ use Rattle.base_values.specs.declared.EditError.{EditError}
 use Rattle.base_values.specs.declared.EditError.TheVariants.{ParseDiffs}
 use Rattle.formula_tree.specs.declared.Node.{Node}
 use Rattle.formula_tree.specs.Numbers.{has_kept_numbers}
-use Rattle.base_wire.specs.Refusals.{Refuses}
-use Rattle.base_wire.specs.Spelled.{IsBytes}
+use Rattle.base_wire.specs.laws.Refusals.{Refuses}
+use Rattle.base_wire.specs.laws.Spelled.{IsBytes}
 use Rattle.formula_wire.specs.NodeBytes.{spell_node, node_at}
 use Rattle.formula_wire.specs.Carried.{FitsNode}
 use Rattle.formula_wire.specs.KeptLaws.{kept_from_carried}

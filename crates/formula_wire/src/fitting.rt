@@ -4,7 +4,7 @@ ghost use Rattle.std.specs.Prelude.{◌≡◌, IsTrue, true};
 ghost use Rattle.std.specs.List.{list_all};
 ghost use Rattle.formula_tree.specs.DepthBounds.{is_within};
 ghost use Rattle.formula_tree.specs.Numbers.{has_kept_numbers};
-ghost use Rattle.base_wire.specs.Form.{if_passes, is_list, is_text};
+ghost use Rattle.base_wire.specs.laws.Form.{if_passes, is_list, is_text};
 ghost use Rattle.formula_wire.specs.KeptNumbers.{is_kept_item};
 ghost use Rattle.formula_wire.specs.Carried.{is_carried, is_corner, is_item, is_parameter, FitsNode};
 

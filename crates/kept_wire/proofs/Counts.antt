@@ -8,7 +8,7 @@ use Rattle.std.proofs.lemmas.Bool.{lt-ltb, le-ltb}
 use Rattle.std.proofs.lemmas.List.{length-append}
 use Rattle.base_values.specs.Places.{position_cmp}
 use Rattle.formula_tree.specs.declared.Node.{Node}
-use Rattle.base_wire.specs.Again.{spell_both}
+use Rattle.base_wire.specs.Spelling.{spell_both}
 use Rattle.formula_wire.specs.NodeBytes.{spell_node}
 use Rattle.kept_wire.specs.KeyBytes.{spell_sheet_place}
 use Rattle.kept_wire.specs.Nested.{flat, under}

@@ -5,7 +5,7 @@ use Rattle.std.specs.Cmp.{IsTotalOrder}
 use Rattle.std.specs.List.{All, AllByRecursion}
 use Rattle.std.specs.declared.cmp.Ordering.{Ordering}
 use Rattle.std.specs.FinMap.{FinMap, entries, get}
-use Rattle.base_wire.specs.Again.{Both}
+use Rattle.base_wire.specs.Spelling.{Both}
 use Rattle.kept_wire.specs.MapBytes.{FitsMap}
 use Rattle.kept_wire.specs.FitsLaws.{entries_known}
 

@@ -10,7 +10,7 @@ use Rattle.base_values.specs.Places.{position_cmp}
 use Rattle.formula_tree.specs.declared.Node.{Node}
 use Rattle.base_wire.specs.Reading.{Reader, map_at}
 use Rattle.base_wire.specs.Spelling.{FitsItems}
-use Rattle.base_wire.specs.Again.{Both}
+use Rattle.base_wire.specs.Spelling.{Both}
 use Rattle.formula_wire.specs.NodeBytes.{spell_node, node_at}
 use Rattle.formula_wire.specs.Carried.{FitsNode}
 use Rattle.kept_wire.specs.MapBytes.{spell_entries, entries_at}

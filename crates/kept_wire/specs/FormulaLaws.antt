@@ -6,9 +6,10 @@ use Rattle.std.specs.Cmp.{nat_cmp_total}
 use Rattle.std.specs.FinMap.{is_sorted}
 use Rattle.base_values.specs.Places.{position_total, exact_positions}
 use Rattle.base_wire.specs.Spelling.{FitsItems}
-use Rattle.base_wire.specs.Again.{ReadsAgain, Both, both_again, check_again, list_again}
-use Rattle.base_wire.specs.Spelled.{ReadsSpelled, both_spelled, check_spelled, list_spelled}
-use Rattle.base_wire.specs.Refusals.{IsPlain, both_plain, map_plain, check_plain, list_plain}
+use Rattle.base_wire.specs.laws.Again.{ReadsAgain, both_again, check_again, list_again}
+use Rattle.base_wire.specs.Spelling.{Both}
+use Rattle.base_wire.specs.laws.Spelled.{ReadsSpelled, both_spelled, check_spelled, list_spelled}
+use Rattle.base_wire.specs.laws.Refusals.{IsPlain, both_plain, map_plain, check_plain, list_plain}
 use Rattle.formula_wire.specs.NodeBytes.{spell_node}
 use Rattle.formula_wire.specs.Carried.{FitsNode}
 use Rattle.formula_wire.specs.NodeLaws.{node_again, node_spelled, node_plain}

@@ -13,7 +13,7 @@ use Rattle.sheet_grid.specs.declared.Cell.{Cell}
 use Rattle.sheet_grid.specs.KeptCell.{IsKeptCell}
 use Rattle.sheet_lines.specs.declared.kept.KeptLines.{KeptLines}
 use Rattle.sheet_lines.specs.KeptNumbers.{AreKeptTrees, AreKeptLines}
-use Rattle.base_wire.specs.Again.{Both}
+use Rattle.base_wire.specs.Spelling.{Both}
 use Rattle.formula_wire.specs.Carried.{FitsNode}
 use Rattle.formula_wire.specs.KeptLaws.{kept_from_carried}
 use Rattle.cell_wire.specs.CellBytes.{FitsCell}

@@ -8,17 +8,18 @@ use Rattle.std.proofs.lemmas.Map.Lookups.{exact_signed}
 use Rattle.base_values.specs.Places.{position_cmp, position_total, exact_positions, IsPlace, IsRow}
 use Rattle.base_wire.specs.Reading.{plain, after}
 use Rattle.base_wire.specs.Spelling.{spell_signed}
-use Rattle.base_wire.specs.Again.{ReadsAgain, Any, both_again, after_again}
+use Rattle.base_wire.specs.laws.Again.{ReadsAgain, both_again, after_again}
+use Rattle.base_wire.specs.Spelling.{Any}
 use Rattle.base_values.specs.declared.EditError.{EditError}
 use Rattle.base_values.specs.declared.EditError.TheVariants.{ParseDiffs}
-use Rattle.base_wire.specs.Spelled.{IsBytes, IsSpelled, ReadsSpelled, ok_is, both_spelled, after_spelled}
+use Rattle.base_wire.specs.laws.Spelled.{IsBytes, IsSpelled, ReadsSpelled, ok_is, both_spelled, after_spelled}
 use Rattle.sheet_grid.specs.declared.Cell.{Cell}
 use Rattle.sheet_grid.specs.declared.Link.{Link}
 use Rattle.sheet_grid.specs.declared.RowAttr.{RowAttr}
 use Rattle.sheet_grid.specs.declared.ColumnAttr.{ColumnAttr}
 use Rattle.sheet_lines.specs.declared.kept.KeptLines.{KeptLines}
 use Rattle.kept_wire.specs.FormulaBytes.{Formulas}
-use Rattle.base_wire.specs.Refusals.{Refuses, IsPlain, both_plain, map_plain, plain_plain, after_plain}
+use Rattle.base_wire.specs.laws.Refusals.{Refuses, IsPlain, both_plain, map_plain, plain_plain, after_plain}
 use Rattle.cell_wire.specs.CellBytes.{spell_position, spell_cell, FitsCell}
 use Rattle.cell_wire.specs.PartsAgain.{cell_again}
 use Rattle.cell_wire.specs.PartsSpelled.{cell_spelled}

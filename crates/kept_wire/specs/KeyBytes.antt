@@ -7,9 +7,10 @@ use Rattle.base_values.specs.declared.Position.{Position}
 use Rattle.base_values.specs.Places.{is_line, IsLine, IsPlace}
 use Rattle.base_wire.specs.Reading.{Reader, map_at, ◌⊗◌, check_at, number_at, signed_at}
 use Rattle.base_wire.specs.Spelling.{spell_signed}
-use Rattle.base_wire.specs.Again.{ReadsAgain, Both, spell_both, both_again, map_again, check_again, wide32, number_again, signed_again}
-use Rattle.base_wire.specs.Spelled.{ReadsSpelled, both_spelled, map_spelled, fits_otherwise, check_spelled, back32, number_spelled, signed_spelled}
-use Rattle.base_wire.specs.Refusals.{IsPlain, both_plain, map_plain, check_plain, number_plain, signed_plain}
+use Rattle.base_wire.specs.laws.Again.{ReadsAgain, both_again, map_again, check_again, wide32, number_again, signed_again}
+use Rattle.base_wire.specs.Spelling.{Both, spell_both}
+use Rattle.base_wire.specs.laws.Spelled.{ReadsSpelled, both_spelled, map_spelled, fits_otherwise, check_spelled, back32, number_spelled, signed_spelled}
+use Rattle.base_wire.specs.laws.Refusals.{IsPlain, both_plain, map_plain, check_plain, number_plain, signed_plain}
 use Rattle.cell_wire.specs.CellBytes.{spell_position, position_made}
 
 -- ---- lines

@@ -3,10 +3,10 @@ use Rattle.std.proofs.Common.{◌≡◌, ℤ, Bool, true, false, Option, refl}
 use Rattle.std.specs.Prelude.{not}
 use Rattle.std.specs.Int.{w32}
 use Rattle.base_styles.specs.declared.Style.{Style}
-use Rattle.base_wire.specs.Again.{ReadsAgain, both_again, map_again, check_again, wide32, signed_again, text_again, option_again}
-use Rattle.base_wire.specs.Spelled.{ReadsSpelled, both_spelled, map_spelled, fits_otherwise, check_spelled, back32, signed_spelled, text_spelled, option_spelled}
-use Rattle.base_wire.specs.Refusals.{IsPlain, both_plain, map_plain, check_plain, signed_plain, text_plain, option_plain}
-use Rattle.base_wire.specs.PartsLaws.{boolean_again, boolean_spelled, boolean_plain}
+use Rattle.base_wire.specs.laws.Again.{ReadsAgain, both_again, map_again, check_again, wide32, signed_again, text_again, option_again}
+use Rattle.base_wire.specs.laws.Spelled.{ReadsSpelled, both_spelled, map_spelled, fits_otherwise, check_spelled, back32, signed_spelled, text_spelled, option_spelled}
+use Rattle.base_wire.specs.laws.Refusals.{IsPlain, both_plain, map_plain, check_plain, signed_plain, text_plain, option_plain}
+use Rattle.base_wire.specs.laws.Parts.{boolean_again, boolean_spelled, boolean_plain}
 use Rattle.cell_wire.specs.PartsAgain.{style_again}
 use Rattle.cell_wire.specs.PartsSpelled.{style_spelled}
 use Rattle.cell_wire.specs.Refusals.{style_plain}

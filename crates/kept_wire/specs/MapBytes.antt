@@ -4,7 +4,7 @@ use Rattle.std.specs.FinMap.{FinMap, entries, from_entries, is_sorted}
 use Rattle.std.specs.declared.cmp.Ordering.{Ordering}
 use Rattle.base_wire.specs.Reading.{Reader, map_at, ◌⊗◌, check_at, list_at}
 use Rattle.base_wire.specs.Spelling.{spell_list, FitsItems}
-use Rattle.base_wire.specs.Again.{Both, spell_both}
+use Rattle.base_wire.specs.Spelling.{Both, spell_both}
 
 -- entries, each a key and its value
 abbrev pub spell_entries : {K X : Type 0} → (K → List ℕ) → (X → List ℕ) → List (K × X) → List ℕ

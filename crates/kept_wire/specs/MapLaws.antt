@@ -8,9 +8,10 @@ use Rattle.std.specs.FinMap.{FinMap, entries, entries_sorted, from_entries, is_s
 use Rattle.std.specs.FinMap.Entries as order
 use Rattle.base_wire.specs.Reading.{Reader, map_at, ◌⊗◌, check_at, list_at}
 use Rattle.base_wire.specs.Spelling.{spell_list, FitsItems}
-use Rattle.base_wire.specs.Again.{ReadsAgain, Both, spell_both, both_again, map_again, check_again, list_again}
-use Rattle.base_wire.specs.Spelled.{ReadsSpelled, IsSpelled, bind_ok, ok_is, both_spelled, fits_otherwise, check_spelled, list_spelled}
-use Rattle.base_wire.specs.Refusals.{IsPlain, both_plain, map_plain, check_plain, list_plain}
+use Rattle.base_wire.specs.laws.Again.{ReadsAgain, both_again, map_again, check_again, list_again}
+use Rattle.base_wire.specs.Spelling.{Both, spell_both}
+use Rattle.base_wire.specs.laws.Spelled.{ReadsSpelled, IsSpelled, bind_ok, ok_is, both_spelled, fits_otherwise, check_spelled, list_spelled}
+use Rattle.base_wire.specs.laws.Refusals.{IsPlain, both_plain, map_plain, check_plain, list_plain}
 use Rattle.kept_wire.specs.MapBytes.{spell_map, map_of_at, FitsMap}
 
 pub holds : (b : Bool) → T b → b ≡ true

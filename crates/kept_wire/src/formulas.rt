@@ -6,7 +6,7 @@ ghost use Rattle.std.specs.List.{flat_map};
 ghost use Rattle.base_values.specs.Answers.{Answers, map_ok};
 ghost use Rattle.base_values.specs.Places.{IsPlace};
 ghost use Rattle.base_values.specs.declared.EditError.TheVariants.{NoMemory};
-ghost use Rattle.base_wire.specs.Again.{spell_both};
+ghost use Rattle.base_wire.specs.Spelling.{spell_both};
 ghost use Rattle.formula_wire.specs.NodeBytes.{spell_node};
 ghost use Rattle.kept_wire.specs.KeyBytes.{spell_sheet_place, IsSheetPlace};
 ghost use Rattle.kept_wire.specs.Nested.{grouped, or_empty, under, with_pair};

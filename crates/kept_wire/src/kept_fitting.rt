@@ -4,7 +4,7 @@ ghost use Rattle.std.specs.Prelude.{◌≡◌, ◌<◌, ◌^◌, ℕ, ℤ, false
 ghost use Rattle.std.specs.FinMap.{empty, get};
 ghost use Rattle.std.specs.List.{AllByRecursion};
 ghost use Rattle.base_values.specs.declared.Position.{Position};
-ghost use Rattle.base_wire.specs.Again.{Both};
+ghost use Rattle.base_wire.specs.Spelling.{Both};
 ghost use Rattle.formula_wire.specs.Carried.{FitsNode};
 ghost use Rattle.sheet_grid.specs.Lines.{is_plain_row};
 ghost use Rattle.kept_wire.specs.KeyBytes.{IsSheetPlace};

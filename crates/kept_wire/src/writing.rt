@@ -2,7 +2,7 @@
 
 ghost use Rattle.std.specs.Prelude.{◌≡◌, ◌++◌, OnOk, List};
 ghost use Rattle.std.specs.FinMap.{entries};
-ghost use Rattle.base_wire.specs.Again.{spell_both};
+ghost use Rattle.base_wire.specs.Spelling.{spell_both};
 ghost use Rattle.kept_wire.specs.MapBytes.{spell_entries};
 
 use crate::keys::Keys;

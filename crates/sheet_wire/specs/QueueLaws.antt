@@ -2,13 +2,13 @@
 use Rattle.std.proofs.Common.{◌≡◌, ◌≢◌, ℕ, List, Ok, Err, refl, ap, sym, subst, ◌∙◌, arith}
 use Rattle.base_values.specs.declared.EditError.{EditError}
 use Rattle.base_values.specs.declared.EditError.TheVariants.{ParseDiffs}
-use Rattle.base_wire.specs.Refusals.{Refuses}
+use Rattle.base_wire.specs.laws.Refusals.{Refuses}
 use Rattle.sheet_wire.specs.Refusals.{queue_refuses}
 use Rattle.sheet_history.specs.declared.QueueDiffs.{QueueDiffs}
 use Rattle.sheet_wire.specs.QueueBytes.{magic, spell_queue, queue_of, FitsQueue}
-use Rattle.base_wire.specs.Again.{list_again, after_again, whole_again}
+use Rattle.base_wire.specs.laws.Again.{list_again, after_again, whole_again}
 use Rattle.sheet_wire.specs.PartsAgain.{entry_again}
-use Rattle.base_wire.specs.Spelled.{IsBytes, list_spelled, after_spelled, whole_spelled}
+use Rattle.base_wire.specs.laws.Spelled.{IsBytes, list_spelled, after_spelled, whole_spelled}
 use Rattle.sheet_wire.specs.PartsSpelled.{entry_spelled}
 
 -- a queue that bytes can carry is read again from its spelling

@@ -1,6 +1,6 @@
 use Rattle.std.proofs.Common.{◌≡◌, take}
 use Rattle.std.specs.List.{list_all}
-use Rattle.base_wire.specs.Form.{is_list}
+use Rattle.base_wire.specs.laws.Form.{is_list}
 use Rattle.formula_wire.specs.KeptNumbers.{is_kept_item}
 use Rattle.formula_wire.specs.Carried.{is_item}
 use Rattle.formula_wire.proofs.fitting.check_lines.Given as goal

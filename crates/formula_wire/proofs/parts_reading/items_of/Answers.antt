@@ -1,6 +1,6 @@
 use Rattle.std.proofs.lemmas.Result.{err_from_is_err_and}
 use Rattle.formula_wire.specs.PartBytes.{item_at}
-use Rattle.base_wire.specs.Many.{goes_on, ends, is_done}
+use Rattle.base_wire.specs.laws.Many.{goes_on, ends, is_done}
 use Rattle.formula_wire.proofs.parts_reading.items_of.Goals as goal
 
 pub returns-in_err-item : goal.returns-in_err-item

@@ -1,6 +1,6 @@
 use Rattle.std.proofs.lemmas.Result.{err_from_is_err_and}
 use Rattle.formula_wire.specs.PartBytes.{line_at}
-use Rattle.base_wire.specs.Many.{goes_on, ends, is_done}
+use Rattle.base_wire.specs.laws.Many.{goes_on, ends, is_done}
 use Rattle.formula_wire.proofs.parts_reading.lines_of.Goals as goal
 
 pub returns-in_err-line : goal.returns-in_err-line

@@ -1,7 +1,7 @@
 use Rattle.std.proofs.Common.{◌≡◌, ◌-◌}
 use Rattle.base_wire.specs.Reading.{many_at}
 use Rattle.formula_wire.specs.PartBytes.{parameter_at}
-use Rattle.base_wire.specs.Many.{with_front}
+use Rattle.base_wire.specs.laws.Many.{with_front}
 use Rattle.formula_wire.proofs.parts_reading.parameters_of.Given as goal
 
 -- what was read so far and what is still to be read are the whole

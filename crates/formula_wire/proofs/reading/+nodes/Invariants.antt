@@ -1,6 +1,6 @@
 use Rattle.std.proofs.Common.{◌≡◌, ◌-◌, ◌+◌, ◌*◌}
 use Rattle.base_wire.specs.Reading.{many_at}
-use Rattle.base_wire.specs.Many.{with_front}
+use Rattle.base_wire.specs.laws.Many.{with_front}
 use Rattle.formula_wire.specs.NodeBytes.{node_within}
 use Rattle.formula_wire.proofs.reading.+nodes.Given as goal
 

@@ -5,7 +5,7 @@ use Rattle.base_values.specs.declared.EditError.TheVariants.{NoMemory, ParseDiff
 use Rattle.base_values.specs.Answers.{Answers, map_ok}
 use Rattle.formula_tree.specs.declared.Node.{Node}
 use Rattle.formula_tree.specs.Numbers.{has_kept_numbers}
-use Rattle.base_wire.specs.Spelled.{IsBytes}
+use Rattle.base_wire.specs.laws.Spelled.{IsBytes}
 use Rattle.formula_wire.specs.NodeBytes.{spell_node, node_at}
 use Rattle.formula_wire.specs.Carried.{FitsNode}
 use Rattle.formula_wire.specs.NodeLaws.{node_again}

@@ -1,6 +1,6 @@
 use Rattle.std.proofs.Common.{◌≡◌, ◌++◌}
 use Rattle.std.specs.List.{flat_map}
-use Rattle.base_wire.specs.Again.{spell_both}
+use Rattle.base_wire.specs.Spelling.{spell_both}
 use Rattle.formula_wire.specs.NodeBytes.{spell_node}
 use Rattle.kept_wire.specs.KeyBytes.{spell_sheet_place}
 use Rattle.kept_wire.specs.Nested.{under}

@@ -3,7 +3,7 @@ use Rattle.std.specs.Cmp.{nat_cmp_total}
 use Rattle.std.specs.FinMap.{FinMap, entries}
 use Rattle.std.specs.List.{flat_map, AllByRecursion}
 use Rattle.base_values.specs.Places.{position_cmp, IsPlace}
-use Rattle.base_wire.specs.Again.{Both}
+use Rattle.base_wire.specs.Spelling.{Both}
 use Rattle.formula_tree.specs.declared.Node.{Node}
 use Rattle.formula_wire.specs.Carried.{FitsNode}
 use Rattle.sheet_lines.specs.SheetIds.{IsSheetId}

@@ -1,5 +1,5 @@
 use Rattle.std.specs.List.{flat_map, AllByRecursion}
-use Rattle.base_wire.specs.Again.{Both}
+use Rattle.base_wire.specs.Spelling.{Both}
 use Rattle.formula_wire.specs.Carried.{FitsNode}
 use Rattle.sheet_lines.specs.SheetIds.{IsSheetId}
 use Rattle.kept_wire.specs.KeyBytes.{IsSheetPlace}

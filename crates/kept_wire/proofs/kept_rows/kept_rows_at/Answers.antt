@@ -3,7 +3,7 @@ use Rattle.std.specs.Prelude.{IfOk, IfErr}
 use Rattle.base_values.specs.declared.EditError.{EditError}
 use Rattle.base_values.specs.declared.EditError.TheVariants.{NoMemory, ParseDiffs}
 use Rattle.base_values.specs.Answers.{Answers, map_ok}
-use Rattle.base_wire.specs.Spelled.{IsBytes}
+use Rattle.base_wire.specs.laws.Spelled.{IsBytes}
 use Rattle.sheet_lines.specs.declared.kept.KeptLines.{KeptLines}
 use Rattle.kept_wire.specs.KeptBytes.{spell_kept_rows, kept_rows_at, FitsKeptRows}
 use Rattle.kept_wire.specs.KeptLaws.{kept_rows_again, read_is, refused_is, BeginsWithNoKeptRows}

@@ -2,7 +2,7 @@ use Rattle.std.proofs.Common.{◌≡◌, ◌++◌, [], ◌∷◌, All, subst, sy
 use Rattle.std.proofs.lemmas.List.Elements.{All-push}
 use Rattle.std.proofs.lemmas.Result.{err_from_is_err_and}
 use Rattle.base_wire.specs.Reading.{◌⊗◌}
-use Rattle.base_wire.specs.Many.{goes_on, ends, is_done}
+use Rattle.base_wire.specs.laws.Many.{goes_on, ends, is_done}
 use Rattle.kept_wire.proofs.reading.entries_of.Goals as goal
 
 pub returns-in_err-entry-clause-read : goal.returns-in_err-entry-clause-read

@@ -1,6 +1,6 @@
 use Rattle.std.proofs.Common.{◌≡◌, ◌-◌, All}
 use Rattle.base_wire.specs.Reading.{◌⊗◌, many_at}
-use Rattle.base_wire.specs.Many.{with_front}
+use Rattle.base_wire.specs.laws.Many.{with_front}
 use Rattle.kept_wire.proofs.reading.entries_of.Given as goal
 
 -- what was read so far and what is still to be read are the whole, and keys lie inside

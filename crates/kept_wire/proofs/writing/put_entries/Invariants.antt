@@ -1,7 +1,7 @@
 use Rattle.std.proofs.Common.{◌≡◌, ◌++◌}
 use Rattle.std.specs.List.{flat_map}
 use Rattle.std.specs.Int.{w64, to_be_bytes}
-use Rattle.base_wire.specs.Again.{spell_both}
+use Rattle.base_wire.specs.Spelling.{spell_both}
 use Rattle.kept_wire.proofs.writing.put_entries.Given as goal
 
 -- what is written, and the entries that are left

@@ -5,7 +5,7 @@ use Rattle.base_values.specs.declared.EditError.TheVariants.{NoMemory, ParseDiff
 use Rattle.base_values.specs.Answers.{Answers}
 use Rattle.sheet_history.specs.declared.QueueDiffs.{QueueDiffs}
 use Rattle.sheet_wire.specs.QueueBytes.{queue_of, spell_queue, FitsQueue}
-use Rattle.base_wire.specs.Spelled.{IsBytes}
+use Rattle.base_wire.specs.laws.Spelled.{IsBytes}
 use Rattle.sheet_wire.specs.QueueLaws.{IsNoQueue, queue_again, queue_spelled, refused_no_queue}
 use Rattle.sheet_wire.proofs.decode.decode_queue.Goals as goal
 

@@ -1,6 +1,6 @@
 use Rattle.std.proofs.lemmas.Result.{err_from_is_err_and}
 use Rattle.sheet_wire.specs.QueueBytes.{entry_at}
-use Rattle.base_wire.specs.Many.{goes_on, ends, is_done}
+use Rattle.base_wire.specs.laws.Many.{goes_on, ends, is_done}
 use Rattle.sheet_wire.proofs.decode.entries_of.Goals as goal
 
 pub returns-in_err-entry : goal.returns-in_err-entry

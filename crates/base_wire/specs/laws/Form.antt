@@ -1,5 +1,5 @@
 -- The three laws of a part of a format together, and how they are made from those of its parts.
-use Rattle.std.proofs.Common.{◌≡◌, ℕ, ◌^◌, ◌≤◌, ◌<◌, ◌&&◌, ltb, Bool, true, false, List, [], ◌∷◌, length, Option, Some, None, refl, ap, sym, ◌∙◌, arith}
+use Rattle.std.proofs.Common.{◌≡◌, ℕ, ◌^◌, ◌≤◌, ◌&&◌, ltb, Bool, true, List, [], ◌∷◌, length, Option, Some, None, refl}
 use Rattle.std.specs.Prelude.{IfSome, nat_lt}
 use Rattle.std.specs.List.{list_all, AllByRecursion}
 use Rattle.std.specs.Str.{is_utf8}
@@ -9,10 +9,11 @@ use Rattle.base_decimal.specs.Kept.{is_kept}
 use Rattle.base_wire.specs.Reading.{Reader, ◌⊗◌, map_at, text_at, option_at, list_at, code_at, decoded, coded_at}
 use Rattle.base_wire.specs.Spelling.{spell_code, spell_text, spell_option, spell_list, FitsText, FitsItems}
 use Rattle.base_wire.specs.Parts.{spell_decimal, decimal_at}
-use Rattle.base_wire.specs.Again.{ReadsAgain, Any, Both, spell_both, both_again, map_again, coded_again, text_again, option_again, list_again}
-use Rattle.base_wire.specs.Spelled.{ReadsSpelled, both_spelled, map_spelled, fits_otherwise, coded_spelled, found_code, text_spelled, option_spelled, list_spelled}
-use Rattle.base_wire.specs.Refusals.{IsPlain, both_plain, map_plain, coded_plain, text_plain, option_plain, list_plain}
-use Rattle.base_wire.specs.PartsLaws.{decimal_again, decimal_spelled, decimal_plain}
+use Rattle.base_wire.specs.laws.Again.{ReadsAgain, both_again, map_again, coded_again, text_again, option_again, list_again}
+use Rattle.base_wire.specs.Spelling.{spell_both}
+use Rattle.base_wire.specs.laws.Spelled.{ReadsSpelled, both_spelled, map_spelled, fits_otherwise, coded_spelled, found_code, text_spelled, option_spelled, list_spelled}
+use Rattle.base_wire.specs.laws.Refusals.{IsPlain, both_plain, map_plain, coded_plain, text_plain, option_plain, list_plain}
+use Rattle.base_wire.specs.laws.Parts.{decimal_again, decimal_spelled, decimal_plain}
 
 -- a value passes a test
 abbrev pub Passes : {A : Type 0} → (A → Bool) → A → Type 0

@@ -1,7 +1,7 @@
 -- The laws of the bytes of booleans, error values and decimals.
-use Rattle.std.proofs.Common.{◌≡◌, ◌+◌, ◌^◌, ◌<◌, ◌≤◌, ◌&&◌, Bool, true, false, Some, refl, arith}
+use Rattle.std.proofs.Common.{◌≡◌, ◌+◌, ◌^◌, ◌<◌, ◌≤◌, ◌&&◌, Bool, true, false, ℕ, List, [], ◌∷◌, length, Option, Some, None, refl, arith}
 use Rattle.std.specs.Prelude.{FitsSigned, unsigned_abs}
-use Rattle.std.specs.Int.{w128}
+use Rattle.std.specs.Int.{w32, w64, w128, to_be_bytes}
 use Rattle.std.proofs.lemmas.Bool.{leb-true, ltb-true}
 use Rattle.std.proofs.lemmas.Int.{fits_signed_from_abs}
 use Rattle.std.proofs.Math.Nat.{pow-le-pow_right}
@@ -11,12 +11,14 @@ use Rattle.base_tables.specs.Error.{all_errors, error_code, error_of_code}
 use Rattle.base_tables.specs.Tables.{found_number}
 use Rattle.base_decimal.specs.declared.Decimal.{Decimal}
 use Rattle.base_decimal.specs.Kept.{is_kept, IsKept}
-use Rattle.base_wire.specs.Reading.{decoded}
-use Rattle.base_wire.specs.Spelling.{spell_code, boolean_code, booleans}
+use Rattle.base_wire.specs.Reading.{decoded, byte_at, number_at, signed_at, text_at}
+use Rattle.base_wire.specs.Spelling.{spell_code, boolean_code, booleans, spell_signed, spell_text, spell_option, FitsText}
+use Rattle.base_wire.specs.laws.Format.{Format}
 use Rattle.base_wire.specs.Parts.{boolean_at, error_at, spell_decimal, decimal_made, decimal_at}
-use Rattle.base_wire.specs.Again.{ReadsAgain, Any, both_again, map_again, check_again, byte_again, coded_again, code_again, wide128, signed_again}
-use Rattle.base_wire.specs.Spelled.{ReadsSpelled, both_spelled, map_spelled, fits_otherwise, check_spelled, byte_spelled, coded_spelled, code_spelled, back128, signed_spelled}
-use Rattle.base_wire.specs.Refusals.{IsPlain, both_plain, map_plain, check_plain, byte_plain, coded_plain, code_plain, signed_plain}
+use Rattle.base_wire.specs.laws.Again.{ReadsAgain, both_again, map_again, check_again, byte_again, coded_again, code_again, wide32, wide64, wide128, number_again, signed_again, text_again}
+use Rattle.base_wire.specs.Spelling.{Any}
+use Rattle.base_wire.specs.laws.Spelled.{ReadsSpelled, both_spelled, map_spelled, fits_otherwise, check_spelled, byte_spelled, coded_spelled, code_spelled, back32, back64, back128, number_spelled, signed_spelled, text_spelled}
+use Rattle.base_wire.specs.laws.Refusals.{IsPlain, both_plain, map_plain, check_plain, byte_plain, coded_plain, code_plain, number_plain, signed_plain, text_plain}
 
 -- ---- booleans
 
@@ -95,3 +97,37 @@ decimal_spelled =
 pub decimal_plain : IsPlain decimal_at
 unfolding decimal_at
 decimal_plain = check_plain is_kept (map_plain decimal_made (both_plain (signed_plain w128) byte_plain))
+
+-- ---- all three laws of each
+
+pub byte_format : Format (λ b. b < 2 ^ 8) (λ b. b ∷ []) byte_at
+byte_format = record { again = byte_again; spelled = byte_spelled; plain = byte_plain }
+
+pub short_format : Format (λ n. n < 2 ^ 32) (to_be_bytes w32) (number_at w32)
+short_format = record { again = number_again wide32; spelled = number_spelled back32; plain = number_plain w32 }
+
+pub long_format : Format (λ n. n < 2 ^ 64) (to_be_bytes w64) (number_at w64)
+long_format = record { again = number_again wide64; spelled = number_spelled back64; plain = number_plain w64 }
+
+pub signed_format : Format (FitsSigned w32) (spell_signed w32) (signed_at w32)
+signed_format = record { again = signed_again wide32; spelled = signed_spelled back32; plain = signed_plain w32 }
+
+pub boolean_format : Format Any (spell_code boolean_code) boolean_at
+boolean_format = record { again = boolean_again; spelled = boolean_spelled; plain = boolean_plain }
+
+pub error_format : Format Any (spell_code error_code) error_at
+error_format = record { again = error_again; spelled = error_spelled; plain = error_plain }
+
+pub decimal_format : Format IsKept spell_decimal decimal_at
+decimal_format = record { again = decimal_again; spelled = decimal_spelled; plain = decimal_plain }
+
+pub text_format : Format FitsText spell_text text_at
+text_format = record { again = text_again; spelled = text_spelled; plain = text_plain }
+
+pub decimal_some : (x : Decimal) → 1 ≤ length (spell_decimal x)
+unfolding spell_decimal
+decimal_some x = omega arith
+
+pub option_some : {A : Type 0} (s : A → List ℕ) (o : Option A) → 1 ≤ length (spell_option s o)
+option_some s None = omega arith
+option_some s (Some x) = omega arith

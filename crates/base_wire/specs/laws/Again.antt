@@ -11,23 +11,13 @@ use Rattle.std.proofs.lemmas.Int.{to_z-of_z}
 use Rattle.std.proofs.lemmas.Str.{is_utf8-from_IsUtf8}
 use mir.Val.{bits}
 use Rattle.std.proofs.Math.Facts.{Fits-of_z}
-use Rattle.base_wire.specs.Sixteen.{from_be_bytes-to_be_bytes_16}
+use Rattle.base_wire.specs.laws.Sixteen.{from_be_bytes-to_be_bytes_16}
 use Rattle.base_wire.specs.Reading.{Reader, after, whole, map_at, ◌⊗◌, check_at, byte_at, decoded, coded_at, code_at, number_at, signed_at, text_at, option_at, many_at, list_at}
-use Rattle.base_wire.specs.Spelling.{spell_signed, spell_code, spell_text, spell_option, spell_list, FitsText, FitsItems}
+use Rattle.base_wire.specs.Spelling.{spell_signed, spell_code, spell_text, spell_option, spell_list, spell_both, Any, Both, FitsText, FitsItems}
 
 -- what is spelled is read again
 pub record ReadsAgain {A : Type 0} (Fits : A → Type 0) (spell : A → List ℕ) (read : Reader A) : Type 0 where
   pub again : (x : A) (rest : List ℕ) → Fits x → read (spell x ++ rest) ≡ Ok (x, rest)
-
--- what fits always
-abbrev pub Any : {A : Type 0} → A → Type 0
-Any x = Unit {0}
-
-abbrev pub Both : {A B : Type 0} → (A → Type 0) → (B → Type 0) → A × B → Type 0
-Both F G x = F x.0 × G x.1
-
-abbrev pub spell_both : {A B : Type 0} → (A → List ℕ) → (B → List ℕ) → A × B → List ℕ
-spell_both s t x = s x.0 ++ t x.1
 
 module _ {A B : Type 0} {F : A → Type 0} {G : B → Type 0} {s : A → List ℕ} {t : B → List ℕ} {r : Reader A} {q : Reader B} where
   pub both_again : ReadsAgain F s r → ReadsAgain G t q → ReadsAgain (Both F G) (spell_both s t) (r ⊗ q)

@@ -1,0 +1,60 @@
+//! What every part of a format is: a type whose values have a spelling (docs/FORMATS.md).
+
+ghost use Rattle.std.specs.Prelude.{◌≡◌, ◌++◌, ◌≤◌, OnOk, List, ℕ, length};
+ghost use Rattle.base_values.specs.Answers.{Answers, map_ok};
+ghost use Rattle.base_wire.specs.Reads.{Reads};
+ghost use Rattle.base_wire.specs.Reading.{Reader};
+ghost use Rattle.base_wire.specs.laws.Format.{Format};
+
+use base_values::EditError;
+use std::alloc::{AllocError, Global};
+
+/// A type whose values are written as bytes and read from them.
+pub trait Part: Drop {
+    /// What reading shares among the values that it makes.
+    type Context;
+
+    /// What writing asks of a value of Rust's own types, such as that its numbers are canonical.
+    ghost Known: { Self → Type 0 };
+
+    /// Bytes can carry the value.
+    ghost Fits: { Self → Type 0 };
+
+    /// The bytes of a value.
+    ghost spelling: { Self → List ℕ };
+
+    /// Serves proofs alone: the steps of a reader as a function.
+    ghost reading: { Reader Self };
+
+    /// Adds the bytes of the value. Out of memory may leave some of them there.
+    fn put(&self, out: &mut Vec<u8>) -> Result<(), AllocError>
+        ensures spelled { OnOk result (out.new.items ≡ out.old.items ++ spelling self.now) }
+        ensures fits { OnOk result (Known self.now → Fits self.now) };
+
+    /// The value at the front of bytes, and the bytes after it.
+    ///
+    /// Refuses with `ParseDiffs` bytes that begin with the spelling of no value, and with `NoMemory`.
+    fn take<'a>(
+        alloc: Global,
+        context: &Self::Context,
+        bytes: &'a [u8],
+    ) -> Result<(Self, &'a [u8]), EditError>
+        ensures { Reads Fits spelling bytes.now (map_ok (λ x. (x.0, x.1.now)) result) };
+
+    /// The laws that tie the spelling to the reader's steps.
+    ghost format: { Format Fits spelling reading };
+
+    /// Each value takes a byte at least.
+    ghost some: { (x : Self) → 1 ≤ length (spelling x) };
+}
+
+/// What `take` answers, by the steps of the reader.
+pub(crate) fn read<'a, V: Part>(
+    alloc: Global,
+    context: &V::Context,
+    bytes: &'a [u8],
+) -> Result<(V, &'a [u8]), EditError>
+    ensures { Answers (map_ok (λ x. (x.0, x.1.now)) result) (V.reading bytes.now) }
+{
+    V::take(alloc, context, bytes)
+}

@@ -42,7 +42,8 @@ impl<T> Items<T> {
         }
     }
 
-    /// The list without an item, with room for as many.
+    /// The list without an item, with room for `count` items: that many pushes take no more memory.
+    /// Fails where that room is not there.
     pub fn with_room(alloc: Global, count: usize) -> Result<Items<T>, AllocError>
         ensures { IfOk result (λ items. items ≡ []) }
     {
@@ -51,7 +52,7 @@ impl<T> Items<T> {
         })
     }
 
-    /// Gives back the room that no item takes.
+    /// Gives back the room that no item takes. It cannot fail, and the items stay.
     pub fn fit(&mut self)
         ensures { self.new ≡ self.old }
     {

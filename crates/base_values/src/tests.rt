@@ -8,8 +8,9 @@ fn with_ample_memory(rt: HostRuntime) -> Result<(), Fail> {
     let text = Text::new(String::from_str(alloc, "one")?);
     assert!(rt; same(&copy_of(&text)?, &text));
 
-    let mut items = Items::empty(alloc);
+    let mut items = Items::with_room(alloc, 2)?;
     items.push(copy_of(&text)?)?;
+    items.fit();
     assert_eq!(rt; items.len(), 1);
     assert!(rt; same(&copy_of(&items)?, &items));
     items.truncate(0);

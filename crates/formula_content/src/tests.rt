@@ -2,7 +2,7 @@
 use crate::{Content, fits_at};
 use base_decimal::Decimal;
 use base_shared::Shared;
-use base_values::{Boxed, Position};
+use base_values::Position;
 use formula_tree::{Corner, Node, UnaryKind};
 use std::alloc::{AllocError, Global};
 use std::test::Fail;
@@ -24,7 +24,7 @@ fn relative(row: i32, column: i32) -> Corner {
 }
 
 fn minus(alloc: Global, child: Node) -> Result<Node, AllocError> {
-    Ok(Node::Unary(UnaryKind::Minus, Boxed::new(alloc, child)?))
+    Ok(Node::Unary(UnaryKind::Minus, Shared::new(alloc, child)?))
 }
 
 /// So many minus signs before a number.

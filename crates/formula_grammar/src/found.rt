@@ -3,8 +3,9 @@ ghost use Rattle.formula_tree.specs.Depth.{depth_of, greatest};
 ghost use Rattle.formula_grammar.specs.Outcome.{Makes};
 
 use crate::fault::Fault;
+use base_shared::Shared;
 use base_tables::Function;
-use base_values::{Boxed, Items, Text};
+use base_values::{Items, Text};
 use formula_tree::{CompareKind, MAX_DEPTH, Node, Parameter, ProductKind, SumKind, UnaryKind};
 use std::alloc::{AllocError, Global};
 use std::marker::Model;
@@ -77,8 +78,8 @@ impl Found {
         ensures { Makes (Node.Compare kind left right) result }
     {
         let depth = left.depth.max(right.depth) + 1;
-        let left = Boxed::new(alloc, left.into_node())?;
-        let right = Boxed::new(alloc, right.into_node())?;
+        let left = Shared::new(alloc, left.into_node())?;
+        let right = Shared::new(alloc, right.into_node())?;
         Found::above(Node::Compare(kind, left, right), depth)
     }
 
@@ -87,8 +88,8 @@ impl Found {
         ensures { Makes (Node.Concatenate left right) result }
     {
         let depth = left.depth.max(right.depth) + 1;
-        let left = Boxed::new(alloc, left.into_node())?;
-        let right = Boxed::new(alloc, right.into_node())?;
+        let left = Shared::new(alloc, left.into_node())?;
+        let right = Shared::new(alloc, right.into_node())?;
         Found::above(Node::Concatenate(left, right), depth)
     }
 
@@ -97,8 +98,8 @@ impl Found {
         ensures { Makes (Node.Sum kind left right) result }
     {
         let depth = left.depth.max(right.depth) + 1;
-        let left = Boxed::new(alloc, left.into_node())?;
-        let right = Boxed::new(alloc, right.into_node())?;
+        let left = Shared::new(alloc, left.into_node())?;
+        let right = Shared::new(alloc, right.into_node())?;
         Found::above(Node::Sum(kind, left, right), depth)
     }
 
@@ -112,8 +113,8 @@ impl Found {
         ensures { Makes (Node.Product kind left right) result }
     {
         let depth = left.depth.max(right.depth) + 1;
-        let left = Boxed::new(alloc, left.into_node())?;
-        let right = Boxed::new(alloc, right.into_node())?;
+        let left = Shared::new(alloc, left.into_node())?;
+        let right = Shared::new(alloc, right.into_node())?;
         Found::above(Node::Product(kind, left, right), depth)
     }
 
@@ -122,8 +123,8 @@ impl Found {
         ensures { Makes (Node.Power left right) result }
     {
         let depth = left.depth.max(right.depth) + 1;
-        let left = Boxed::new(alloc, left.into_node())?;
-        let right = Boxed::new(alloc, right.into_node())?;
+        let left = Shared::new(alloc, left.into_node())?;
+        let right = Shared::new(alloc, right.into_node())?;
         Found::above(Node::Power(left, right), depth)
     }
 
@@ -132,8 +133,8 @@ impl Found {
         ensures { Makes (Node.Colon left right) result }
     {
         let depth = left.depth.max(right.depth) + 1;
-        let left = Boxed::new(alloc, left.into_node())?;
-        let right = Boxed::new(alloc, right.into_node())?;
+        let left = Shared::new(alloc, left.into_node())?;
+        let right = Shared::new(alloc, right.into_node())?;
         Found::above(Node::Colon(left, right), depth)
     }
 
@@ -142,7 +143,7 @@ impl Found {
         ensures { Makes (Node.Unary kind operand) result }
     {
         let depth = operand.depth + 1;
-        let operand = Boxed::new(alloc, operand.into_node())?;
+        let operand = Shared::new(alloc, operand.into_node())?;
         Found::above(Node::Unary(kind, operand), depth)
     }
 
@@ -151,7 +152,7 @@ impl Found {
         ensures { Makes (Node.Spill operand) result }
     {
         let depth = operand.depth + 1;
-        let operand = Boxed::new(alloc, operand.into_node())?;
+        let operand = Shared::new(alloc, operand.into_node())?;
         Found::above(Node::Spill(operand), depth)
     }
 
@@ -160,7 +161,7 @@ impl Found {
         ensures { Makes (Node.ImplicitIntersection operand) result }
     {
         let depth = operand.depth + 1;
-        let operand = Boxed::new(alloc, operand.into_node())?;
+        let operand = Shared::new(alloc, operand.into_node())?;
         Found::above(Node::ImplicitIntersection(operand), depth)
     }
 
@@ -185,7 +186,7 @@ impl Found {
         ensures { Makes (Node.Lambda parameters body) result }
     {
         let depth = body.depth + 1;
-        let body = Boxed::new(alloc, body.into_node())?;
+        let body = Shared::new(alloc, body.into_node())?;
         Found::above(Node::Lambda(parameters, body), depth)
     }
 
@@ -194,7 +195,7 @@ impl Found {
         ensures { Makes (Node.LambdaCall callee arguments) result }
     {
         let depth = callee.depth.max(arguments.depth) + 1;
-        let callee = Boxed::new(alloc, callee.into_node())?;
+        let callee = Shared::new(alloc, callee.into_node())?;
         Found::above(Node::LambdaCall(callee, arguments.into_nodes()), depth)
     }
 }

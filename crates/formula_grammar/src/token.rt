@@ -1,4 +1,5 @@
 use base_decimal::Decimal;
+use base_shared::Shared;
 use base_tables::Error;
 use base_values::{Exact, Text};
 
@@ -37,10 +38,10 @@ pub enum Token {
     /// A word that is taken neither as a cell nor as a range, with its letters.
     Word(Text),
     /// A cell, maybe of a named sheet.
-    Reference(Option<Text>, CellMark),
+    Reference(Option<Shared<Text>>, CellMark),
     /// A range, maybe of a named sheet, with its corners as written. Of whole columns the rows are
     /// the absolute first and last one, of whole rows the columns.
-    Range(Option<Text>, CellMark, CellMark),
+    Range(Option<Shared<Text>>, CellMark, CellMark),
     /// `=`
     Equal,
     /// `<>`

@@ -7,6 +7,7 @@ ghost use Rattle.formula_grammar.specs.Outcome.{Gives, Makes};
 use crate::fault::Fault;
 use crate::found::{Found, FoundAll};
 use crate::token::CellMark;
+use base_shared::Shared;
 use base_tables::{Language, function_by_name, read_boolean};
 use base_values::{Position, Text, place_of};
 use formula_tree::{Node, corner_to, order_corners};
@@ -43,7 +44,11 @@ pub fn worded(language: Language, word: &Text) -> Result<Found, AllocError>
 
 /// A cell, as a formula at `place` sees it. Outside where the cell lies outside the sheet.
 #[tactic(auto, using(crate::proofs::Depths::depths))]
-pub fn reference(place: Position, sheet: &Option<Text>, mark: CellMark) -> Result<Found, Fault>
+pub fn reference(
+    place: Position,
+    sheet: &Option<Shared<Text>>,
+    mark: CellMark,
+) -> Result<Found, Fault>
     requires { IsPlace place }
     ensures { Gives (spec.reference_at place sheet.now mark (mark_place mark)) result }
 {
@@ -58,7 +63,7 @@ pub fn reference(place: Position, sheet: &Option<Text>, mark: CellMark) -> Resul
 #[tactic(auto, using(crate::proofs::Depths::depths))]
 pub fn range(
     place: Position,
-    sheet: &Option<Text>,
+    sheet: &Option<Shared<Text>>,
     first: CellMark,
     second: CellMark,
 ) -> Result<Found, Fault>

@@ -10,6 +10,7 @@ ghost use Rattle.formula_read.specs.Formula.{formula_of, profile_of};
 ghost use Rattle.formula_input.specs.Inputs.{value_of_text, input_of};
 
 use base_decimal::Decimal;
+use base_shared::Shared;
 use base_tables::{Language, Locale, read_boolean, read_error};
 use base_values::{EditError, Text};
 use formula_content::Content;
@@ -56,7 +57,7 @@ fn formula_content(
     ensures memory { IsOkUnless result NoMemory }
 {
     let tree = read_formula(alloc, text, context, locale, language)?;
-    Ok(Content::Formula(tree))
+    Ok(Content::Formula(Shared::new(alloc, tree)?))
 }
 
 /// The content that a text is read as in a cell inside the sheet: nothing where it is empty; what

@@ -98,8 +98,8 @@ pub fn print_content(
         Content::Boolean(value) => Ok(String::from_str(alloc, language.boolean(*value))?),
         Content::Error(error) => Ok(String::from_str(alloc, error.text())?),
         Content::Text(text) => print_text(alloc, text.as_str(), context, locale, language),
-        Content::Formula(tree) => print_formula(alloc, tree, context, locale, language),
-        Content::Dynamic(tree) => print_formula(alloc, tree, context, locale, language),
+        Content::Formula(tree) => print_formula(alloc, tree.get(), context, locale, language),
+        Content::Dynamic(tree) => print_formula(alloc, tree.get(), context, locale, language),
     }
 }
 

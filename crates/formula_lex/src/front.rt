@@ -10,6 +10,7 @@ use crate::characters::{Class, ends_before, goes_on_word, is_digit, past, run, s
 use crate::errors::error;
 use crate::place::{cell, range};
 use base_decimal::Decimal;
+use base_shared::Shared;
 use base_tables::{Language, Locale, reads_as_cell};
 use base_values::Text;
 use formula_grammar::{Profile, Token};
@@ -29,7 +30,7 @@ fn text_of(alloc: Global, characters: &[char]) -> Result<Text, AllocError>
 
 /// A range, or else a cell, at the front of the text, which stands on this sheet.
 #[tactic(auto, unfolding(crate::specs::Lex::place_at))]
-fn place(sheet: Option<Text>, text: &[char]) -> Option<(Token, &[char])>
+fn place(sheet: Option<Shared<Text>>, text: &[char]) -> Option<(Token, &[char])>
     ensures { seen result ≡ spec.place_at sheet text.now }
 {
     if let Some(((first, second), rest)) = range(text) {
@@ -40,7 +41,7 @@ fn place(sheet: Option<Text>, text: &[char]) -> Option<(Token, &[char])>
 }
 
 /// What stands on the sheet, behind its name.
-fn on_sheet(sheet: Text, text: &[char]) -> Option<(Token, &[char])>
+fn on_sheet(sheet: Shared<Text>, text: &[char]) -> Option<(Token, &[char])>
     ensures { seen result ≡ spec.on_sheet sheet text.now }
 {
     let (_, rest) = run(Class::Blank, past('!', text)?);
@@ -69,7 +70,7 @@ fn word(alloc: Global, text: &[char]) -> Result<Option<(Token, &[char])>, AllocE
     if is_cell(word, name.as_str()) {
         return Ok(None);
     }
-    Ok(on_sheet(name, rest))
+    Ok(on_sheet(Shared::new(alloc, name)?, rest))
 }
 
 fn goes_on_number(locale: Locale, c: char) -> bool
@@ -156,7 +157,9 @@ fn quoted_sheet(alloc: Global, text: &[char]) -> Result<Option<(Token, &[char])>
     ensures { IfOk result (λ found. seen found ≡ spec.quoted_sheet_at text.now) }
 {
     match quoted(alloc, '\'', text) {
-        Ok(Some((sheet, rest))) if !sheet.as_str().is_empty() => Ok(on_sheet(sheet, rest)),
+        Ok(Some((sheet, rest))) if !sheet.as_str().is_empty() => {
+            Ok(on_sheet(Shared::new(alloc, sheet)?, rest))
+        }
         Ok(_) => Ok(None),
         Err(error) => Err(error),
     }

@@ -2,6 +2,7 @@ ghost use Rattle.base_values.specs.Places.{IsPlace};
 
 use crate::displace_data::DisplaceData;
 use crate::images::{displaced_corner, is_exposed, is_reached};
+use base_shared::Shared;
 use base_values::{Position, Text};
 use formula_tree::{Corner, CornerMap};
 
@@ -20,14 +21,14 @@ impl<'a> CornerMap for Displacement<'a> {
 
     ghost mapping = { λ self. displacing self.own.now self.place self.data.now };
 
-    fn reference(&self, sheet: &Option<Text>, corner: Corner) -> Option<Corner> {
+    fn reference(&self, sheet: &Option<Shared<Text>>, corner: Corner) -> Option<Corner> {
         let exposed = is_reached(self.own, self.data, sheet);
         displaced_corner(self.place, self.data, exposed, corner)
     }
 
     fn range(
         &self,
-        sheet: &Option<Text>,
+        sheet: &Option<Shared<Text>>,
         first: Corner,
         second: Corner,
     ) -> (Option<Corner>, Option<Corner>) {

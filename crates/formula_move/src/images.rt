@@ -5,6 +5,7 @@ ghost use Rattle.formula_tree.specs.Corners as corners;
 
 use crate::displace_data::DisplaceData;
 use crate::lines::{shifted, stepped};
+use base_shared::Shared;
 use base_values::{LAST_COLUMN, LAST_ROW, Position, Text};
 use formula_tree::{Corner, corner_at, corner_to, is_on_sheet, is_whole_columns, is_whole_rows};
 
@@ -101,7 +102,7 @@ fn image_of(displacement: &DisplaceData<'_>, place: Position) -> Option<Position
 /// Whether a reference or range with this sheet name, in a formula of the sheet `own`, stands on
 /// the displaced sheet.
 #[tactic(auto, unfolding(crate::specs::Displace::is_reached))]
-pub fn is_reached(own: &str, displacement: &DisplaceData<'_>, name: &Option<Text>) -> bool
+pub fn is_reached(own: &str, displacement: &DisplaceData<'_>, name: &Option<Shared<Text>>) -> bool
     ensures { result ≡ is_reached own.now displacement.now name.now }
 {
     match displacement {
@@ -133,7 +134,7 @@ fn is_spared(displacement: &DisplaceData<'_>, rows: bool, columns: bool) -> bool
 pub fn is_exposed(
     own: &str,
     displacement: &DisplaceData<'_>,
-    name: &Option<Text>,
+    name: &Option<Shared<Text>>,
     first: Corner,
     second: Corner,
 ) -> bool

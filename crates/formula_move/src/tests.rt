@@ -2,6 +2,7 @@
 ghost use Rattle.std.specs.Prelude.{◌≡◌, IfOk, pos};
 
 use crate::{DisplaceData, displace_node, to_string_displaced};
+use base_shared::Shared;
 use base_tables::{Language, Locale};
 use base_values::{EditError, Text, same};
 use formula_tree::{CellReferenceRC, Corner, Node};
@@ -154,8 +155,9 @@ fn displaces_ranges(rt: HostRuntime) -> Result<(), Fail> {
     Ok(())
 }
 
-fn data(alloc: Global) -> Result<Option<Text>, EditError> {
-    Ok(Some(Text::new(String::from_str(alloc, "Data")?)))
+fn data(alloc: Global) -> Result<Option<Shared<Text>>, EditError> {
+    let name = Text::new(String::from_str(alloc, "Data")?);
+    Ok(Some(Shared::new(alloc, name)?))
 }
 
 fn shown_of_data(alloc: Global, sheet: &'static str, row: i32) -> Result<String, EditError> {

@@ -3,6 +3,7 @@ ghost use Rattle.base_tables.specs.Column.{column_name};
 ghost use Rattle.formula_print.specs.References as spec;
 
 use crate::style::Corners;
+use base_shared::Shared;
 use base_tables::{number_to_column, quote_name};
 use base_values::{Position, Text};
 use formula_tree::{Corner, corner_at, is_whole_columns, is_whole_rows};
@@ -83,12 +84,12 @@ fn push_quoted_name(name: &str, out: &mut String) -> Result<(), AllocError>
     }
 }
 
-fn push_sheet(sheet: &Option<Text>, out: &mut String) -> Result<(), AllocError>
+fn push_sheet(sheet: &Option<Shared<Text>>, out: &mut String) -> Result<(), AllocError>
     ensures { OnOk result (string_bytes out.new ≡ string_bytes out.old ++ spec.sheet_text sheet.now) }
 {
     match sheet {
         Some(name) => {
-            push_quoted_name(name.as_str(), out)?;
+            push_quoted_name(name.get().as_str(), out)?;
             out.push_str("!")
         }
         None => Ok(()),
@@ -96,7 +97,7 @@ fn push_sheet(sheet: &Option<Text>, out: &mut String) -> Result<(), AllocError>
 }
 
 fn push_reference_at(
-    sheet: &Option<Text>,
+    sheet: &Option<Shared<Text>>,
     corner: Corner,
     at: Option<Position>,
     out: &mut String,
@@ -113,7 +114,7 @@ fn push_reference_at(
 }
 
 fn push_range_at(
-    sheet: &Option<Text>,
+    sheet: &Option<Shared<Text>>,
     first: Corner,
     from: Option<Position>,
     second: Corner,
@@ -158,7 +159,7 @@ fn push_row_column(corner: Corner, out: &mut String) -> Result<(), AllocError>
 #[tactic(auto, unfolding(crate::specs::References::reference_text))]
 pub(crate) fn push_reference(
     corners: Corners,
-    sheet: &Option<Text>,
+    sheet: &Option<Shared<Text>>,
     corner: Corner,
     out: &mut String,
 ) -> Result<(), AllocError>
@@ -177,7 +178,7 @@ pub(crate) fn push_reference(
 #[tactic(auto, unfolding(crate::specs::References::range_text))]
 pub(crate) fn push_range(
     corners: Corners,
-    sheet: &Option<Text>,
+    sheet: &Option<Shared<Text>>,
     first: Corner,
     second: Corner,
     out: &mut String,
@@ -201,7 +202,7 @@ pub(crate) fn push_range(
 
 /// Whether the text of a reference begins with a cell without a sheet.
 #[tactic(auto, unfolding(crate::specs::References::reference_cell_first))]
-pub(crate) fn is_cell_first(corners: Corners, sheet: &Option<Text>, corner: Corner) -> bool
+pub(crate) fn is_cell_first(corners: Corners, sheet: &Option<Shared<Text>>, corner: Corner) -> bool
     ensures { result ≡ spec.reference_cell_first corners sheet.now corner }
 {
     match corners {
@@ -222,7 +223,7 @@ fn is_shortened(first: Corner, from: Option<Position>, second: Corner, to: Optio
 #[tactic(auto, unfolding(crate::specs::References::range_cell_first))]
 pub(crate) fn is_range_cell_first(
     corners: Corners,
-    sheet: &Option<Text>,
+    sheet: &Option<Shared<Text>>,
     first: Corner,
     second: Corner,
 ) -> bool

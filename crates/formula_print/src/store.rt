@@ -2,8 +2,9 @@ ghost use Rattle.std.specs.Prelude.{◌≡◌, ◌<◌, ◌+◌, ◌&&◌, nat_l
 ghost use Rattle.formula_print.specs.Scope as spec;
 
 use crate::scope::Scope;
+use base_shared::Shared;
 use base_tables::Function;
-use base_values::{Boxed, Items, Text};
+use base_values::Items;
 use formula_tree::{Node, Parameter};
 use std::alloc::AllocError;
 
@@ -22,15 +23,6 @@ fn is_name_place(is_turn: bool, at: usize, count: usize) -> bool
     is_turn && at + 1 < count
 }
 
-fn copy_of_sheet(sheet: &Option<Text>) -> Result<Option<Text>, AllocError>
-    ensures { IfOk result (λ copy. copy ≡ sheet.now) }
-{
-    match sheet {
-        None => Ok(None),
-        Some(name) => Ok(Some(name.clone()?)),
-    }
-}
-
 /// A tree as Excel stores it, with the marks of bound names.
 #[cycle(store)]
 #[tactic(auto, using(crate::specs::ScopeEquations::stores))]
@@ -42,15 +34,15 @@ pub(crate) fn stored(node: &Node, scope: &mut Scope) -> Result<Node, AllocError>
         Node::Boolean(value) => Ok(Node::Boolean(*value)),
         Node::Number(value) => Ok(Node::Number(*value)),
         Node::Text(text) => Ok(Node::Text(text.clone()?)),
-        Node::Reference(sheet, corner) => Ok(Node::Reference(copy_of_sheet(sheet)?, *corner)),
-        Node::Range(sheet, a, b) => Ok(Node::Range(copy_of_sheet(sheet)?, *a, *b)),
-        Node::Colon(a, b) => Ok(Node::Colon(boxed(a, scope)?, boxed(b, scope)?)),
-        Node::Concatenate(a, b) => Ok(Node::Concatenate(boxed(a, scope)?, boxed(b, scope)?)),
-        Node::Compare(kind, a, b) => Ok(Node::Compare(*kind, boxed(a, scope)?, boxed(b, scope)?)),
-        Node::Sum(kind, a, b) => Ok(Node::Sum(*kind, boxed(a, scope)?, boxed(b, scope)?)),
-        Node::Product(kind, a, b) => Ok(Node::Product(*kind, boxed(a, scope)?, boxed(b, scope)?)),
-        Node::Power(a, b) => Ok(Node::Power(boxed(a, scope)?, boxed(b, scope)?)),
-        Node::Unary(kind, a) => Ok(Node::Unary(*kind, boxed(a, scope)?)),
+        Node::Reference(sheet, corner) => Ok(Node::Reference(sheet.clone()?, *corner)),
+        Node::Range(sheet, a, b) => Ok(Node::Range(sheet.clone()?, *a, *b)),
+        Node::Colon(a, b) => Ok(Node::Colon(child(a, scope)?, child(b, scope)?)),
+        Node::Concatenate(a, b) => Ok(Node::Concatenate(child(a, scope)?, child(b, scope)?)),
+        Node::Compare(kind, a, b) => Ok(Node::Compare(*kind, child(a, scope)?, child(b, scope)?)),
+        Node::Sum(kind, a, b) => Ok(Node::Sum(*kind, child(a, scope)?, child(b, scope)?)),
+        Node::Product(kind, a, b) => Ok(Node::Product(*kind, child(a, scope)?, child(b, scope)?)),
+        Node::Power(a, b) => Ok(Node::Power(child(a, scope)?, child(b, scope)?)),
+        Node::Unary(kind, a) => Ok(Node::Unary(*kind, child(a, scope)?)),
         Node::Call(function, all) => Ok(Node::Call(*function, arguments(*function, all, scope)?)),
         Node::NamedCall(name, all) => Ok(Node::NamedCall(
             scope.used_name(name)?,
@@ -61,27 +53,27 @@ pub(crate) fn stored(node: &Node, scope: &mut Scope) -> Result<Node, AllocError>
         Node::Error(error) => Ok(Node::Error(*error)),
         Node::ParseError(text) => Ok(Node::ParseError(text.clone()?)),
         Node::EmptyArgument => Ok(Node::EmptyArgument),
-        Node::Spill(a) => Ok(Node::Spill(boxed(a, scope)?)),
+        Node::Spill(a) => Ok(Node::Spill(child(a, scope)?)),
         Node::Lambda(parameters, a) => lambda(parameters, a, scope),
-        Node::LambdaCall(a, all) => Ok(Node::LambdaCall(boxed(a, scope)?, stored_all(all, scope)?)),
-        Node::ImplicitIntersection(a) => Ok(Node::ImplicitIntersection(boxed(a, scope)?)),
+        Node::LambdaCall(a, all) => Ok(Node::LambdaCall(child(a, scope)?, stored_all(all, scope)?)),
+        Node::ImplicitIntersection(a) => Ok(Node::ImplicitIntersection(child(a, scope)?)),
     }
 }
 
 #[cycle(store)]
-fn boxed(node: &Boxed<Node>, scope: &mut Scope) -> Result<Boxed<Node>, AllocError>
+fn child(node: &Shared<Node>, scope: &mut Scope) -> Result<Shared<Node>, AllocError>
     ensures tree { IfOk result (λ tree. tree ≡ spec.stored scope.old node.now) }
     ensures scope { OnOk result (scope.new ≡ scope.old) }
 {
     let inner = stored(node.get(), scope)?;
-    Boxed::new(scope.names.allocator(), inner)
+    Shared::new(scope.names.allocator(), inner)
 }
 
 #[cycle(store)]
 #[tactic(auto, using(crate::proofs::Stores::forgets))]
 fn lambda(
     parameters: &Items<Parameter>,
-    body: &Boxed<Node>,
+    body: &Shared<Node>,
     scope: &mut Scope,
 ) -> Result<Node, AllocError>
     ensures tree { IfOk result (λ tree. tree ≡ Node.Lambda (map spec.stored_parameter parameters.now) (spec.stored (spec.bind_parameters scope.old parameters.now) body.now)) }
@@ -89,7 +81,7 @@ fn lambda(
 {
     let outer = scope.names.len();
     scope.bind_parameters(parameters.as_slice())?;
-    let body = boxed(body, scope)?;
+    let body = child(body, scope)?;
     scope.forget(outer);
     Ok(Node::Lambda(scope.stored_parameters(parameters.as_slice())?, body))
 }
@@ -146,7 +138,7 @@ fn bound_arguments(nodes: &Items<Node>, scope: &mut Scope) -> Result<Items<Node>
 {
     let items = nodes.as_slice();
     let outer = scope.names.len();
-    let mut trees = Items::empty(scope.names.allocator());
+    let mut trees = Items::with_room(scope.names.allocator(), items.len())?;
     let mut is_place = true;
     for (at, node) in items.iter().enumerate() {
         let binds = is_name_place(is_place, at, items.len());
@@ -163,7 +155,7 @@ fn stored_all(nodes: &Items<Node>, scope: &mut Scope) -> Result<Items<Node>, All
     ensures tree { IfOk result (λ trees. trees ≡ spec.all_within scope.old (map spec.scoped nodes.now)) }
     ensures scope { OnOk result (scope.new ≡ scope.old) }
 {
-    let mut trees = Items::empty(scope.names.allocator());
+    let mut trees = Items::with_room(scope.names.allocator(), nodes.len())?;
     for node in nodes.as_slice() {
         trees.push(stored(node, scope)?)?;
     }

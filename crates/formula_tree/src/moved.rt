@@ -2,11 +2,11 @@ ghost use Rattle.std.specs.Prelude.{◌≡◌, IfOk, map, List, ℕ, Option};
 ghost use Rattle.formula_tree.specs.Corners.{lower_corner, higher_corner};
 ghost use Rattle.formula_tree.specs.Moved.{Mapping, reference_to, range_to, moved};
 
-use crate::copies::copy_sheet;
 use crate::corner::{Corner, order_corners};
 use crate::node::Node;
+use base_shared::Shared;
 use base_tables::Error;
-use base_values::{Boxed, Items, Position, Text};
+use base_values::{Items, Position, Text};
 use std::alloc::{AllocError, Global};
 
 /// Where the corners of a tree go, by the sheet that their node names.
@@ -15,13 +15,13 @@ pub trait CornerMap {
     ghost mapping: { Self → Mapping };
 
     /// Where the corner of a reference goes. `None` where it is lost.
-    fn reference(&self, sheet: &Option<Text>, corner: Corner) -> Option<Corner>
+    fn reference(&self, sheet: &Option<Shared<Text>>, corner: Corner) -> Option<Corner>
         ensures { result ≡ (mapping self.now).reference sheet.now corner };
 
     /// Where the two corners of a range go, each `None` where it is lost.
     fn range(
         &self,
-        sheet: &Option<Text>,
+        sheet: &Option<Shared<Text>>,
         first: Corner,
         second: Corner,
     ) -> (Option<Corner>, Option<Corner>)
@@ -31,11 +31,11 @@ pub trait CornerMap {
 
 /// A reference to where its corner went.
 #[tactic(auto, unfolding(crate::specs::Moved::reference_to))]
-fn reference_to(sheet: &Option<Text>, corner: Option<Corner>) -> Result<Node, AllocError>
+fn reference_to(sheet: &Option<Shared<Text>>, corner: Option<Corner>) -> Result<Node, AllocError>
     ensures { IfOk result (λ tree. tree ≡ reference_to sheet.now corner) }
 {
     match corner {
-        Some(corner) => Ok(Node::Reference(copy_sheet(sheet)?, corner)),
+        Some(corner) => Ok(Node::Reference(sheet.clone()?, corner)),
         None => Ok(Node::Error(Error::Ref)),
     }
 }
@@ -43,20 +43,20 @@ fn reference_to(sheet: &Option<Text>, corner: Option<Corner>) -> Result<Node, Al
 /// A range of which no corner is lost, with them in order.
 fn ordered_range(
     to: Position,
-    sheet: &Option<Text>,
+    sheet: &Option<Shared<Text>>,
     first: Corner,
     second: Corner,
 ) -> Result<Node, AllocError>
     ensures { IfOk result (λ tree. tree ≡ Node.Range sheet.now (lower_corner to first second) (higher_corner to first second)) }
 {
     let (lower, higher) = order_corners(to, first, second);
-    Ok(Node::Range(copy_sheet(sheet)?, lower, higher))
+    Ok(Node::Range(sheet.clone()?, lower, higher))
 }
 
 fn colon(alloc: Global, left: Node, right: Node) -> Result<Node, AllocError>
     ensures { IfOk result (λ tree. tree ≡ Node.Colon left right) }
 {
-    Ok(Node::Colon(Boxed::new(alloc, left)?, Boxed::new(alloc, right)?))
+    Ok(Node::Colon(Shared::new(alloc, left)?, Shared::new(alloc, right)?))
 }
 
 /// A range between where its corners went.
@@ -64,7 +64,7 @@ fn colon(alloc: Global, left: Node, right: Node) -> Result<Node, AllocError>
 fn range_to(
     alloc: Global,
     to: Position,
-    sheet: &Option<Text>,
+    sheet: &Option<Shared<Text>>,
     first: Option<Corner>,
     second: Option<Corner>,
 ) -> Result<Node, AllocError>
@@ -158,14 +158,14 @@ pub fn move_node<M: CornerMap>(
 #[cycle(moving)]
 fn child<M: CornerMap>(
     alloc: Global,
-    node: &Boxed<Node>,
+    node: &Shared<Node>,
     to: Position,
     corners: &M,
-) -> Result<Boxed<Node>, AllocError>
+) -> Result<Shared<Node>, AllocError>
     ensures { IfOk result (λ tree. tree ≡ moved to (M.mapping corners.now) node.now) }
 {
     let inner = move_node(alloc, node.get(), to, corners)?;
-    Boxed::new(alloc, inner)
+    Shared::new(alloc, inner)
 }
 
 #[cycle(moving)]
@@ -177,7 +177,7 @@ fn children<M: CornerMap>(
 ) -> Result<Items<Node>, AllocError>
     ensures { IfOk result (λ trees. trees ≡ map (moved to (M.mapping corners.now)) nodes.now) }
 {
-    let mut trees = Items::empty(alloc);
+    let mut trees = Items::with_room(alloc, nodes.len())?;
     for node in nodes.as_slice() {
         trees.push(move_node(alloc, node, to, corners)?)?;
     }

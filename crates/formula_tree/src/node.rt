@@ -8,8 +8,9 @@ use crate::operator::{CompareKind, ProductKind, SumKind, UnaryKind};
 use crate::parameter::Parameter;
 use crate::sameness::same_node;
 use base_decimal::Decimal;
+use base_shared::Shared;
 use base_tables::{Error, Function};
-use base_values::{Boxed, Exact, Items, Text};
+use base_values::{Exact, Items, Text};
 use std::alloc::AllocError;
 
 /// The syntax tree of a formula.
@@ -19,19 +20,19 @@ pub enum Node {
     Number(Decimal),
     Text(Text),
     /// A cell, of the named sheet or of the formula's own.
-    Reference(Option<Text>, Corner),
+    Reference(Option<Shared<Text>>, Corner),
     /// The cells between two corners, of the named sheet or of the formula's own.
-    Range(Option<Text>, Corner, Corner),
+    Range(Option<Shared<Text>>, Corner, Corner),
     /// The range operator, `left:right`.
-    Colon(Boxed<Node>, Boxed<Node>),
+    Colon(Shared<Node>, Shared<Node>),
     /// `left & right`
-    Concatenate(Boxed<Node>, Boxed<Node>),
-    Compare(CompareKind, Boxed<Node>, Boxed<Node>),
-    Sum(SumKind, Boxed<Node>, Boxed<Node>),
-    Product(ProductKind, Boxed<Node>, Boxed<Node>),
+    Concatenate(Shared<Node>, Shared<Node>),
+    Compare(CompareKind, Shared<Node>, Shared<Node>),
+    Sum(SumKind, Shared<Node>, Shared<Node>),
+    Product(ProductKind, Shared<Node>, Shared<Node>),
     /// `base ^ exponent`
-    Power(Boxed<Node>, Boxed<Node>),
-    Unary(UnaryKind, Boxed<Node>),
+    Power(Shared<Node>, Shared<Node>),
+    Unary(UnaryKind, Shared<Node>),
     /// A call of a function, with its arguments.
     Call(Function, Items<Node>),
     /// A call of a name that is no function.
@@ -45,13 +46,13 @@ pub enum Node {
     /// An argument that is left empty.
     EmptyArgument,
     /// The array that is spilled from a cell, `reference#`.
-    Spill(Boxed<Node>),
+    Spill(Shared<Node>),
     /// Parameters and body.
-    Lambda(Items<Parameter>, Boxed<Node>),
+    Lambda(Items<Parameter>, Shared<Node>),
     /// What is called, and its arguments.
-    LambdaCall(Boxed<Node>, Items<Node>),
+    LambdaCall(Shared<Node>, Items<Node>),
     /// The one value where the formula's row or column meets a range, `@range`.
-    ImplicitIntersection(Boxed<Node>),
+    ImplicitIntersection(Shared<Node>),
 }
 
 impl Clone for Node {

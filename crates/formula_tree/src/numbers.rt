@@ -5,7 +5,8 @@ ghost use Rattle.formula_tree.specs.Numbers.{number_follows, constant_follows, l
 use crate::array_item::ArrayItem;
 use crate::node::Node;
 use base_decimal::Decimal;
-use base_values::{Boxed, Items};
+use base_shared::Shared;
+use base_values::Items;
 
 /// What may be asked of the numbers of a tree.
 #[derive(Clone, Copy, Debug, PartialEq, Eq)]
@@ -84,13 +85,13 @@ fn numbers_follow(node: &Node, rule: NumberRule) -> bool
         Node::Text(_) => true,
         Node::Reference(_, _) => true,
         Node::Range(..) => true,
-        Node::Colon(a, b) => boxed_follows(a, rule) && boxed_follows(b, rule),
-        Node::Concatenate(a, b) => boxed_follows(a, rule) && boxed_follows(b, rule),
-        Node::Compare(_, a, b) => boxed_follows(a, rule) && boxed_follows(b, rule),
-        Node::Sum(_, a, b) => boxed_follows(a, rule) && boxed_follows(b, rule),
-        Node::Product(_, a, b) => boxed_follows(a, rule) && boxed_follows(b, rule),
-        Node::Power(a, b) => boxed_follows(a, rule) && boxed_follows(b, rule),
-        Node::Unary(_, a) => boxed_follows(a, rule),
+        Node::Colon(a, b) => child_follows(a, rule) && child_follows(b, rule),
+        Node::Concatenate(a, b) => child_follows(a, rule) && child_follows(b, rule),
+        Node::Compare(_, a, b) => child_follows(a, rule) && child_follows(b, rule),
+        Node::Sum(_, a, b) => child_follows(a, rule) && child_follows(b, rule),
+        Node::Product(_, a, b) => child_follows(a, rule) && child_follows(b, rule),
+        Node::Power(a, b) => child_follows(a, rule) && child_follows(b, rule),
+        Node::Unary(_, a) => child_follows(a, rule),
         Node::Call(_, all) => all_follow(all, rule),
         Node::NamedCall(_, all) => all_follow(all, rule),
         Node::Array(lines) => lines_follow(lines, rule),
@@ -98,15 +99,15 @@ fn numbers_follow(node: &Node, rule: NumberRule) -> bool
         Node::Error(_) => true,
         Node::ParseError(_) => true,
         Node::EmptyArgument => true,
-        Node::Spill(a) => boxed_follows(a, rule),
-        Node::Lambda(_, a) => boxed_follows(a, rule),
-        Node::LambdaCall(a, all) => boxed_follows(a, rule) && all_follow(all, rule),
-        Node::ImplicitIntersection(a) => boxed_follows(a, rule),
+        Node::Spill(a) => child_follows(a, rule),
+        Node::Lambda(_, a) => child_follows(a, rule),
+        Node::LambdaCall(a, all) => child_follows(a, rule) && all_follow(all, rule),
+        Node::ImplicitIntersection(a) => child_follows(a, rule),
     }
 }
 
 #[cycle(numbers)]
-fn boxed_follows(node: &Boxed<Node>, rule: NumberRule) -> bool
+fn child_follows(node: &Shared<Node>, rule: NumberRule) -> bool
     ensures { result ≡ numbers_follow rule node.now }
 {
     numbers_follow(node.get(), rule)

@@ -4,7 +4,8 @@ ghost use Rattle.formula_tree.specs.Placed.{is_placed, is_placed_range};
 
 use crate::corner::{Corner, are_in_order, is_inside};
 use crate::node::Node;
-use base_values::{Boxed, Items, Position};
+use base_shared::Shared;
+use base_values::{Items, Position};
 
 #[tactic(auto, unfolding(crate::specs::Placed::is_placed_range))]
 fn is_placed_range(place: Position, first: Corner, second: Corner) -> bool
@@ -26,13 +27,13 @@ pub fn is_placed(node: &Node, place: Position) -> bool
         Node::Text(_) => true,
         Node::Reference(_, corner) => is_inside(place, *corner),
         Node::Range(_, first, second) => is_placed_range(place, *first, *second),
-        Node::Colon(a, b) => is_boxed_placed(a, place) && is_boxed_placed(b, place),
-        Node::Concatenate(a, b) => is_boxed_placed(a, place) && is_boxed_placed(b, place),
-        Node::Compare(_, a, b) => is_boxed_placed(a, place) && is_boxed_placed(b, place),
-        Node::Sum(_, a, b) => is_boxed_placed(a, place) && is_boxed_placed(b, place),
-        Node::Product(_, a, b) => is_boxed_placed(a, place) && is_boxed_placed(b, place),
-        Node::Power(a, b) => is_boxed_placed(a, place) && is_boxed_placed(b, place),
-        Node::Unary(_, a) => is_boxed_placed(a, place),
+        Node::Colon(a, b) => is_child_placed(a, place) && is_child_placed(b, place),
+        Node::Concatenate(a, b) => is_child_placed(a, place) && is_child_placed(b, place),
+        Node::Compare(_, a, b) => is_child_placed(a, place) && is_child_placed(b, place),
+        Node::Sum(_, a, b) => is_child_placed(a, place) && is_child_placed(b, place),
+        Node::Product(_, a, b) => is_child_placed(a, place) && is_child_placed(b, place),
+        Node::Power(a, b) => is_child_placed(a, place) && is_child_placed(b, place),
+        Node::Unary(_, a) => is_child_placed(a, place),
         Node::Call(_, all) => are_placed(all, place),
         Node::NamedCall(_, all) => are_placed(all, place),
         Node::Array(_) => true,
@@ -40,15 +41,15 @@ pub fn is_placed(node: &Node, place: Position) -> bool
         Node::Error(_) => true,
         Node::ParseError(_) => true,
         Node::EmptyArgument => true,
-        Node::Spill(a) => is_boxed_placed(a, place),
-        Node::Lambda(_, a) => is_boxed_placed(a, place),
-        Node::LambdaCall(a, all) => is_boxed_placed(a, place) && are_placed(all, place),
-        Node::ImplicitIntersection(a) => is_boxed_placed(a, place),
+        Node::Spill(a) => is_child_placed(a, place),
+        Node::Lambda(_, a) => is_child_placed(a, place),
+        Node::LambdaCall(a, all) => is_child_placed(a, place) && are_placed(all, place),
+        Node::ImplicitIntersection(a) => is_child_placed(a, place),
     }
 }
 
 #[cycle(placed)]
-fn is_boxed_placed(node: &Boxed<Node>, place: Position) -> bool
+fn is_child_placed(node: &Shared<Node>, place: Position) -> bool
     ensures { result ≡ is_placed place node.now }
 {
     is_placed(node.get(), place)

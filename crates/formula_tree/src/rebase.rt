@@ -5,6 +5,7 @@ ghost use Rattle.formula_tree.specs.Rebase.{kept, filling, rebased};
 use crate::corner::{Corner, is_inside};
 use crate::moved::{CornerMap, move_node};
 use crate::node::Node;
+use base_shared::Shared;
 use base_values::{EditError, Position, Text};
 use std::alloc::Global;
 
@@ -28,13 +29,13 @@ struct Filling {
 impl CornerMap for Filling {
     ghost mapping = { λ self. filling self.to };
 
-    fn reference(&self, _sheet: &Option<Text>, corner: Corner) -> Option<Corner> {
+    fn reference(&self, _sheet: &Option<Shared<Text>>, corner: Corner) -> Option<Corner> {
         kept(self.to, corner)
     }
 
     fn range(
         &self,
-        _sheet: &Option<Text>,
+        _sheet: &Option<Shared<Text>>,
         first: Corner,
         second: Corner,
     ) -> (Option<Corner>, Option<Corner>) {

@@ -1,7 +1,8 @@
 ghost use Rattle.std.specs.Prelude.{◌≡◌, IsTrue, ◌↔◌};
 
 use crate::node::Node;
-use base_values::{Boxed, Items, same};
+use base_shared::Shared;
+use base_values::{Items, same};
 
 /// Whether two trees are equal.
 #[cycle(same)]
@@ -14,19 +15,19 @@ pub fn same_node(a: &Node, b: &Node) -> bool
         (Node::Text(x), Node::Text(y)) => same(x, y),
         (Node::Reference(s, x), Node::Reference(t, y)) => same(s, t) && same(x, y),
         (Node::Range(s, x, u), Node::Range(t, y, v)) => same(s, t) && same(x, y) && same(u, v),
-        (Node::Colon(x, u), Node::Colon(y, v)) => same_boxed(x, y) && same_boxed(u, v),
-        (Node::Concatenate(x, u), Node::Concatenate(y, v)) => same_boxed(x, y) && same_boxed(u, v),
+        (Node::Colon(x, u), Node::Colon(y, v)) => same_child(x, y) && same_child(u, v),
+        (Node::Concatenate(x, u), Node::Concatenate(y, v)) => same_child(x, y) && same_child(u, v),
         (Node::Compare(j, x, u), Node::Compare(k, y, v)) => same(j, k)
-            && same_boxed(x, y)
-            && same_boxed(u, v),
+            && same_child(x, y)
+            && same_child(u, v),
         (Node::Sum(j, x, u), Node::Sum(k, y, v)) => same(j, k)
-            && same_boxed(x, y)
-            && same_boxed(u, v),
+            && same_child(x, y)
+            && same_child(u, v),
         (Node::Product(j, x, u), Node::Product(k, y, v)) => same(j, k)
-            && same_boxed(x, y)
-            && same_boxed(u, v),
-        (Node::Power(x, u), Node::Power(y, v)) => same_boxed(x, y) && same_boxed(u, v),
-        (Node::Unary(j, x), Node::Unary(k, y)) => same(j, k) && same_boxed(x, y),
+            && same_child(x, y)
+            && same_child(u, v),
+        (Node::Power(x, u), Node::Power(y, v)) => same_child(x, y) && same_child(u, v),
+        (Node::Unary(j, x), Node::Unary(k, y)) => same(j, k) && same_child(x, y),
         (Node::Call(f, us), Node::Call(g, vs)) => same(f, g) && same_nodes(us, vs),
         (Node::NamedCall(f, us), Node::NamedCall(g, vs)) => same(f, g) && same_nodes(us, vs),
         (Node::Array(xs), Node::Array(ys)) => same(xs, ys),
@@ -34,18 +35,18 @@ pub fn same_node(a: &Node, b: &Node) -> bool
         (Node::Error(x), Node::Error(y)) => same(x, y),
         (Node::ParseError(x), Node::ParseError(y)) => same(x, y),
         (Node::EmptyArgument, Node::EmptyArgument) => true,
-        (Node::Spill(x), Node::Spill(y)) => same_boxed(x, y),
-        (Node::Lambda(ps, x), Node::Lambda(qs, y)) => same(ps, qs) && same_boxed(x, y),
+        (Node::Spill(x), Node::Spill(y)) => same_child(x, y),
+        (Node::Lambda(ps, x), Node::Lambda(qs, y)) => same(ps, qs) && same_child(x, y),
         (Node::LambdaCall(x, us), Node::LambdaCall(y, vs)) => {
-            same_boxed(x, y) && same_nodes(us, vs)
+            same_child(x, y) && same_nodes(us, vs)
         }
-        (Node::ImplicitIntersection(x), Node::ImplicitIntersection(y)) => { same_boxed(x, y) }
+        (Node::ImplicitIntersection(x), Node::ImplicitIntersection(y)) => { same_child(x, y) }
         _ => false,
     }
 }
 
 #[cycle(same)]
-fn same_boxed(a: &Boxed<Node>, b: &Boxed<Node>) -> bool
+fn same_child(a: &Shared<Node>, b: &Shared<Node>) -> bool
     ensures { IsTrue result ↔ (a.now ≡ b.now) }
 {
     same_node(a.get(), b.get())

@@ -8,7 +8,8 @@ ghost use Rattle.base_wire.specs.laws.Form.{if_passes, is_list, is_text};
 ghost use Rattle.formula_wire.specs.KeptNumbers.{is_kept_item};
 ghost use Rattle.formula_wire.specs.Carried.{is_carried, is_corner, is_item, is_parameter, FitsNode};
 
-use base_values::{Boxed, Items, Text};
+use base_shared::Shared;
+use base_values::{Items, Text};
 use formula_tree::{ArrayItem, Corner, Node, Parameter};
 
 /// A tree that is at most 64 deep and whose numbers are as a workbook keeps them can be spelled.
@@ -32,11 +33,11 @@ fn check_text(text: &Text)
     let _text = text.as_str();
 }
 
-fn check_sheet(sheet: &Option<Text>)
+fn check_sheet(sheet: &Option<Shared<Text>>)
     ensures { if_passes is_text sheet.now ≡ true }
 {
     if let Some(name) = sheet {
-        check_text(name);
+        check_text(name.get());
     }
 }
 
@@ -143,7 +144,7 @@ fn check_node(node: &Node)
 }
 
 #[cycle(fits)]
-fn check_boxed(node: &Boxed<Node>)
+fn check_boxed(node: &Shared<Node>)
     ensures { is_carried node.now ≡ has_kept_numbers node.now }
 {
     check_node(node.get());

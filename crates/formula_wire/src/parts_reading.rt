@@ -4,6 +4,7 @@ ghost use Rattle.base_values.specs.Answers.{Answers, map_ok};
 ghost use Rattle.base_wire.specs.Reading.{many_at};
 ghost use Rattle.formula_wire.specs.PartBytes.{corner_at, item_at, line_at, lines_at, parameter_at, parameters_at, sheet_at};
 
+use base_shared::Shared;
 use base_values::{EditError, Items, Text};
 use base_wire::{boolean_at, byte_at, count_at, decimal_at, error_at, i32_at, text_at};
 use formula_tree::{ArrayItem, Corner, Parameter};
@@ -27,7 +28,10 @@ pub(crate) fn corner_at(bytes: &[u8]) -> Result<(Corner, &[u8]), EditError>
 }
 
 #[tactic(auto, unfolding(crate::specs::PartBytes::sheet_at))]
-pub(crate) fn sheet_at(alloc: Global, bytes: &[u8]) -> Result<(Option<Text>, &[u8]), EditError>
+pub(crate) fn sheet_at(
+    alloc: Global,
+    bytes: &[u8],
+) -> Result<(Option<Shared<Text>>, &[u8]), EditError>
     ensures { Answers (map_ok (λ x. (x.0, x.1.now)) result) (sheet_at bytes.now) }
 {
     let (flag, rest) = byte_at(bytes)?;
@@ -35,7 +39,7 @@ pub(crate) fn sheet_at(alloc: Global, bytes: &[u8]) -> Result<(Option<Text>, &[u
         0 => Ok((None, rest)),
         1 => {
             let (name, rest) = text_at(alloc, rest)?;
-            Ok((Some(name), rest))
+            Ok((Some(Shared::new(alloc, name)?), rest))
         }
         _ => Err(EditError::ParseDiffs),
     }

@@ -4,6 +4,7 @@ ghost use Rattle.std.specs.Prelude.{◌≡◌, ◌∷◌, ◌++◌, OnOk};
 ghost use Rattle.base_wire.specs.Spelling.{spell_text};
 ghost use Rattle.formula_wire.specs.PartBytes.{spell_corner, spell_item, spell_line, spell_lines, spell_parameter, spell_parameters, spell_sheet};
 
+use base_shared::Shared;
 use base_values::{Items, Text};
 use base_wire::{boolean_code, push_decimal, push_text};
 use formula_tree::{ArrayItem, Corner, Parameter};
@@ -27,12 +28,12 @@ pub(crate) fn push_corner(out: &mut Vec<u8>, corner: Corner) -> Result<(), Alloc
     out.extend_from_slice(&corner.column.to_be_bytes())
 }
 
-pub(crate) fn push_sheet(out: &mut Vec<u8>, sheet: &Option<Text>) -> Result<(), AllocError>
+pub(crate) fn push_sheet(out: &mut Vec<u8>, sheet: &Option<Shared<Text>>) -> Result<(), AllocError>
     ensures { OnOk result (out.new.items ≡ out.old.items ++ spell_sheet sheet.now) }
 {
     match sheet {
         None => out.extend_from_slice(&[0]),
-        Some(name) => push_tagged_text(out, 1, name),
+        Some(name) => push_tagged_text(out, 1, name.get()),
     }
 }
 

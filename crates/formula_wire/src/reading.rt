@@ -14,7 +14,8 @@ ghost use Rattle.formula_wire.specs.NodeReading.{BeginsWithNoNode};
 
 use crate::codes::{compare_at, function_at, product_at, sum_at, unary_at};
 use crate::parts_reading::{corner_at, lines_at, parameters_at, sheet_at};
-use base_values::{Boxed, EditError, Items};
+use base_shared::Shared;
+use base_values::{EditError, Items};
 use base_wire::{boolean_at, byte_at, count_at, decimal_at, error_at, text_at};
 use formula_tree::{MAX_DEPTH, Node};
 use std::alloc::Global;
@@ -146,11 +147,11 @@ fn call_at(alloc: Global, tag: u8, bytes: &[u8], below: u64) -> Result<(Node, &[
 }
 
 #[cycle(nodes)]
-fn boxed_at(alloc: Global, bytes: &[u8], most: u64) -> Result<(Boxed<Node>, &[u8]), EditError>
+fn boxed_at(alloc: Global, bytes: &[u8], most: u64) -> Result<(Shared<Node>, &[u8]), EditError>
     ensures { Answers (map_ok (λ x. (x.0, x.1.now)) result) (node_within most bytes.now) }
 {
     let (node, rest) = node_within(alloc, bytes, most)?;
-    Ok((Boxed::new(alloc, node)?, rest))
+    Ok((Shared::new(alloc, node)?, rest))
 }
 
 /// Two trees, one after the other.
@@ -159,7 +160,7 @@ fn pair_at(
     alloc: Global,
     bytes: &[u8],
     most: u64,
-) -> Result<((Boxed<Node>, Boxed<Node>), &[u8]), EditError>
+) -> Result<((Shared<Node>, Shared<Node>), &[u8]), EditError>
     ensures { Answers (map_ok (λ x. (x.0, x.1.now)) result) ((node_within most ⊗ node_within most) bytes.now) }
 {
     let (left, rest) = boxed_at(alloc, bytes, most)?;

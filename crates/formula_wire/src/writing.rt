@@ -12,7 +12,8 @@ use crate::parts_writing::{
     push_corner, push_lines, push_parameters, push_sheet, push_tagged_text,
 };
 use base_decimal::Decimal;
-use base_values::{Boxed, Items, Text};
+use base_shared::Shared;
+use base_values::{Items, Text};
 use base_wire::{boolean_code, push_decimal, push_text};
 use formula_tree::{ArrayItem, Corner, Node, Parameter};
 use std::alloc::AllocError;
@@ -73,7 +74,7 @@ pub fn push_node(out: &mut Vec<u8>, node: &Node) -> Result<(), AllocError>
 
 /// Adds the bytes that a node begins with, and a child.
 #[cycle(nodes)]
-fn push_boxed(out: &mut Vec<u8>, head: &[u8], node: &Boxed<Node>) -> Result<(), AllocError>
+fn push_boxed(out: &mut Vec<u8>, head: &[u8], node: &Shared<Node>) -> Result<(), AllocError>
     ensures { OnOk result (out.new.items ≡ out.old.items ++ (head.now ++ spell_node node.now)) }
 {
     out.extend_from_slice(head)?;
@@ -110,7 +111,7 @@ fn push_named_call(
 fn push_lambda(
     out: &mut Vec<u8>,
     parameters: &Items<Parameter>,
-    body: &Boxed<Node>,
+    body: &Shared<Node>,
 ) -> Result<(), AllocError>
     ensures { OnOk result (out.new.items ≡ out.old.items ++ 20 ∷ (spell_parameters parameters.now ++ spell_node body.now)) }
 {
@@ -126,7 +127,11 @@ fn push_number(out: &mut Vec<u8>, number: Decimal) -> Result<(), AllocError>
     push_decimal(out, number)
 }
 
-fn push_reference(out: &mut Vec<u8>, sheet: &Option<Text>, corner: Corner) -> Result<(), AllocError>
+fn push_reference(
+    out: &mut Vec<u8>,
+    sheet: &Option<Shared<Text>>,
+    corner: Corner,
+) -> Result<(), AllocError>
     ensures { OnOk result (out.new.items ≡ out.old.items ++ 3 ∷ (spell_sheet sheet.now ++ spell_corner corner)) }
 {
     out.push(3)?;
@@ -136,7 +141,7 @@ fn push_reference(out: &mut Vec<u8>, sheet: &Option<Text>, corner: Corner) -> Re
 
 fn push_range(
     out: &mut Vec<u8>,
-    sheet: &Option<Text>,
+    sheet: &Option<Shared<Text>>,
     first: Corner,
     second: Corner,
 ) -> Result<(), AllocError>

@@ -12,10 +12,9 @@ use crate::{
     EditKind, Follow, KeptTree, LineEdit, TreeAt, comes_back, place_image, there_and_back,
 };
 use base_axis::{Area, Axis, ColumnAxis, RowAxis};
+use base_shared::Shared;
 use base_tables::Function;
-use base_values::{
-    Boxed, EditError, Items, PlaceMap, Position, Text, copy_of, line_of, place_of, same,
-};
+use base_values::{EditError, Items, PlaceMap, Position, Text, copy_of, line_of, place_of, same};
 use formula_print::to_english_string;
 use formula_tree::{CellReferenceRC, Corner, Node, SumKind};
 use std::alloc::{AllocError, Global};
@@ -53,8 +52,8 @@ fn text(alloc: Global, word: &str) -> Result<Text, AllocError> {
 }
 
 fn added(alloc: Global, left: Corner, right: Corner) -> Result<Node, AllocError> {
-    let left = Boxed::new(alloc, Node::Reference(None, left))?;
-    let right = Boxed::new(alloc, Node::Reference(None, right))?;
+    let left = Shared::new(alloc, Node::Reference(None, left))?;
+    let right = Shared::new(alloc, Node::Reference(None, right))?;
     Ok(Node::Sum(SumKind::Add, left, right))
 }
 
@@ -67,7 +66,10 @@ fn sum_of(alloc: Global, first: Corner, second: Corner) -> Result<Node, AllocErr
 fn node(alloc: Global, formula: Formula<'_>) -> Result<Node, AllocError> {
     match formula {
         Formula::Reference(corner) => Ok(Node::Reference(None, corner)),
-        Formula::OnSheet(name, corner) => Ok(Node::Reference(Some(text(alloc, name)?), corner)),
+        Formula::OnSheet(name, corner) => Ok(Node::Reference(
+            Some(Shared::new(alloc, text(alloc, name)?)?),
+            corner,
+        )),
         Formula::Added(left, right) => added(alloc, left, right),
         Formula::SumOf(first, second) => sum_of(alloc, first, second),
     }

@@ -7,6 +7,7 @@ ghost use Rattle.line_map.specs.Trees.{target, is_exposed, moved_corner};
 use crate::edit::LineEdit;
 use crate::places::place_image;
 use base_axis::Axis;
+use base_shared::Shared;
 use base_tables::same_by_folding;
 use base_values::{Position, Text};
 use formula_tree::{Corner, CornerMap, corner_at, corner_to, is_whole_columns, is_whole_rows};
@@ -32,11 +33,11 @@ fn target<A: Axis>(
 
 /// Whether a reference or range with this sheet name stands on the edited sheet.
 #[tactic(auto, unfolding(formula_tree::specs::OnSheet::is_on_sheet))]
-fn is_on_edited<A: Axis>(map: &Following<'_, A>, sheet: &Option<Text>) -> bool
+fn is_on_edited<A: Axis>(map: &Following<'_, A>, sheet: &Option<Shared<Text>>) -> bool
     ensures { result ≡ is_on_sheet map.now.own.now map.now.edited.now sheet.now }
 {
     match sheet {
-        Some(name) => same_by_folding(name.as_str(), map.edited),
+        Some(name) => same_by_folding(name.get().as_str(), map.edited),
         None => map.is_own,
     }
 }
@@ -46,7 +47,7 @@ fn is_on_edited<A: Axis>(map: &Following<'_, A>, sheet: &Option<Text>) -> bool
 #[tactic(auto, unfolding(crate::specs::Trees::is_exposed))]
 fn is_exposed<A: Axis>(
     map: &Following<'_, A>,
-    sheet: &Option<Text>,
+    sheet: &Option<Shared<Text>>,
     first: Corner,
     second: Corner,
 ) -> bool
@@ -88,14 +89,14 @@ impl<'a, A: Axis> CornerMap for Following<'a, A> {
 
     ghost mapping = { λ self. following A.along self.edit.kind self.from self.to self.own.now self.edited.now };
 
-    fn reference(&self, sheet: &Option<Text>, corner: Corner) -> Option<Corner> {
+    fn reference(&self, sheet: &Option<Shared<Text>>, corner: Corner) -> Option<Corner> {
         let exposed = is_on_edited(self, sheet);
         moved_corner(self, exposed, corner)
     }
 
     fn range(
         &self,
-        sheet: &Option<Text>,
+        sheet: &Option<Shared<Text>>,
         first: Corner,
         second: Corner,
     ) -> (Option<Corner>, Option<Corner>) {

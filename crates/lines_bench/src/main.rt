@@ -14,7 +14,7 @@ use base_axis::{Axis, RowAxis};
 use base_shared::Shared;
 use base_styles::Style;
 use base_tables::{Locale, Zone};
-use base_values::{Boxed, EditError, LAST_ROW, line_of};
+use base_values::{EditError, LAST_ROW, line_of};
 use formula_tree::{Corner, Node, SumKind, has_kept_numbers};
 use line_map::{EditKind, LineEdit};
 use sheet_grid::{Workbook, Worksheet};
@@ -33,8 +33,8 @@ fn reference(absolute: bool, row: i32, column: i32) -> Node {
 
 /// The place two columns to the left, and `$B$2`.
 fn formula(alloc: Global) -> Result<Node, AllocError> {
-    let left = Boxed::new(alloc, reference(false, 0, -2))?;
-    let right = Boxed::new(alloc, reference(true, 2, 2))?;
+    let left = Shared::new(alloc, reference(false, 0, -2))?;
+    let right = Shared::new(alloc, reference(true, 2, 2))?;
     Ok(Node::Sum(SumKind::Add, left, right))
 }
 

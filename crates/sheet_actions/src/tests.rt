@@ -5,6 +5,7 @@ ghost use Rattle.line_map.specs.Edit.{IsValid};
 
 use crate::{Model, line_back, line_edit, plan_delete, plan_insert};
 use base_axis::RowAxis;
+use base_shared::Shared;
 use base_styles::Style;
 use base_tables::{Error, Locale, Zone};
 use base_values::{EditError, Items, LAST_ROW, Text, same};
@@ -109,7 +110,7 @@ fn refusals(rt: HostRuntime) -> Result<(), Fail> {
 }
 
 /// A reference to a place so many rows below a formula's cell and so many columns to its right.
-fn below(sheet: Option<Text>, rows: i32, columns: i32) -> Node {
+fn below(sheet: Option<Shared<Text>>, rows: i32, columns: i32) -> Node {
     let corner = Corner {
         absolute_row: false,
         row: rows,
@@ -132,7 +133,7 @@ fn sheet_of_five(
     alloc: Global,
     id: u32,
     name: &str,
-    of: Option<Text>,
+    of: Option<Shared<Text>>,
 ) -> Result<Worksheet, EditError> {
     let style = Style::new(alloc)?;
     let mut sheet = Worksheet::new(alloc, id, text(alloc, name)?);
@@ -156,9 +157,19 @@ fn sheet_of_five(
 /// second.
 fn three_sheets(alloc: Global) -> Result<Workbook, EditError> {
     let mut sheets = Items::empty(alloc);
-    sheets.push(sheet_of_five(alloc, 2, "One", Some(text(alloc, "two")?))?)?;
+    sheets.push(sheet_of_five(
+        alloc,
+        2,
+        "One",
+        Some(Shared::new(alloc, text(alloc, "two")?)?),
+    )?)?;
     sheets.push(sheet_of_five(alloc, 7, "Two", None)?)?;
-    sheets.push(sheet_of_five(alloc, 1, "Three", Some(text(alloc, "TWO")?))?)?;
+    sheets.push(sheet_of_five(
+        alloc,
+        1,
+        "Three",
+        Some(Shared::new(alloc, text(alloc, "TWO")?)?),
+    )?)?;
     empty_book(alloc)?.with_worksheets(sheets)
 }
 
@@ -196,10 +207,10 @@ fn three_sheets_follow(rt: HostRuntime) -> Result<(), Fail> {
     let over = Err(EditError::OverEdge);
     assert_eq!(rt; model.insert_rows(1, 6, LAST_ROW - 4), over);
     model.insert_rows(1, 3, 2)?;
-    let first = below(Some(text(alloc, "two")?), 6, -1);
+    let first = below(Some(Shared::new(alloc, text(alloc, "two")?)?), 6, -1);
     assert!(rt; stands(&model, 7, first, below(None, 6, -1))?);
     model.delete_rows(1, 2, 3)?;
-    let first = below(Some(text(alloc, "two")?), 3, -1);
+    let first = below(Some(Shared::new(alloc, text(alloc, "two")?)?), 3, -1);
     assert!(rt; stands(&model, 4, first, below(None, 3, -1))?);
     model.delete_rows(1, 4, 1)?;
     let three = model.workbook().worksheet(2)?;

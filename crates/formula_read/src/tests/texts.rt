@@ -3,6 +3,7 @@ ghost use Rattle.formula_tree.specs.Context.{context_place};
 ghost use Rattle.base_values.specs.Places.{IsPlace};
 
 use crate::read_formula;
+use base_shared::Shared;
 use base_tables::{Function, Language, Locale};
 use base_values::{Items, Text, same};
 use formula_tree::{CellReferenceRC, Corner, Node, is_parse_error};
@@ -97,7 +98,8 @@ fn a1_on(alloc: Global, sheet: &str) -> Result<Node, AllocError> {
         absolute_column: false,
         column: -19,
     };
-    Ok(Node::Reference(Some(Text::new(String::from_str(alloc, sheet)?)), corner))
+    let sheet = Text::new(String::from_str(alloc, sheet)?);
+    Ok(Node::Reference(Some(Shared::new(alloc, sheet)?), corner))
 }
 
 /// Whether an English text is read as this tree.

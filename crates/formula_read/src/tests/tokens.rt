@@ -1,5 +1,6 @@
 // Texts and their tokens, worked by hand from the grammar.
 use base_decimal::Decimal;
+use base_shared::Shared;
 use base_tables::{Language, Locale};
 use base_values::{EditError, Position, Text, same};
 use formula_grammar::{CellMark, Profile, Token};
@@ -187,8 +188,9 @@ fn is_token(alloc: Global, text: &str, expected: &Token) -> Result<bool, EditErr
     }
 }
 
-fn sheet(alloc: Global, name: &str) -> Result<Option<Text>, AllocError> {
-    Ok(Some(Text::new(String::from_str(alloc, name)?)))
+fn sheet(alloc: Global, name: &str) -> Result<Option<Shared<Text>>, AllocError> {
+    let name = Text::new(String::from_str(alloc, name)?);
+    Ok(Some(Shared::new(alloc, name)?))
 }
 
 #[test]

@@ -4,8 +4,9 @@
 //! minus of one operand; `SUM/2` calls with the last two trees as arguments, and `call/2` calls the
 //! tree before them; `LAMBDA:a,[b]` takes the last tree as its body; `none` is an empty argument.
 use base_decimal::Decimal;
+use base_shared::Shared;
 use base_tables::{Language, Locale, function_by_name, read_error};
-use base_values::{Boxed, Items, Text};
+use base_values::{Items, Text};
 use formula_tree::{
     ArrayItem, CompareKind, Corner, Node, Parameter, ProductKind, SumKind, UnaryKind,
 };
@@ -25,8 +26,8 @@ fn last(trees: &mut Vec<Node>) -> Node {
     trees.pop().unwrap_or(Node::EmptyArgument)
 }
 
-fn last_boxed(alloc: Global, trees: &mut Vec<Node>) -> Result<Boxed<Node>, AllocError> {
-    Boxed::new(alloc, last(trees))
+fn last_boxed(alloc: Global, trees: &mut Vec<Node>) -> Result<Shared<Node>, AllocError> {
+    Shared::new(alloc, last(trees))
 }
 
 fn last_trees(count: usize, trees: &mut Vec<Node>) -> Result<Items<Node>, AllocError> {
@@ -69,7 +70,7 @@ fn is_infix(word: &str) -> bool {
     }
 }
 
-fn infix(word: &str, left: Boxed<Node>, right: Boxed<Node>) -> Node {
+fn infix(word: &str, left: Shared<Node>, right: Shared<Node>) -> Node {
     match word {
         "+" => Node::Sum(SumKind::Add, left, right),
         "-" => Node::Sum(SumKind::Subtract, left, right),
@@ -100,7 +101,7 @@ fn is_unary(word: &str) -> bool {
     }
 }
 
-fn unary(word: &str, operand: Boxed<Node>) -> Node {
+fn unary(word: &str, operand: Shared<Node>) -> Node {
     match word {
         "neg" => Node::Unary(UnaryKind::Minus, operand),
         "%" => Node::Unary(UnaryKind::Percent, operand),
@@ -226,9 +227,9 @@ fn reference_or_name(alloc: Global, word: &str) -> Result<Node, AllocError> {
     }
 }
 
-fn sheet(alloc: Global, word: &str) -> Result<Option<Text>, AllocError> {
+fn sheet(alloc: Global, word: &str) -> Result<Option<Shared<Text>>, AllocError> {
     match word.split_once('!') {
-        Some((sheet, _)) => Ok(Some(spaced(alloc, sheet)?)),
+        Some((sheet, _)) => Ok(Some(Shared::new(alloc, spaced(alloc, sheet)?)?)),
         None => Ok(None),
     }
 }

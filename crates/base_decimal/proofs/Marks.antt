@@ -6,7 +6,8 @@ use Rattle.base_tables.specs.declared.locale.Locale.TheVariants.{En, De, Fr, Es}
 use Rattle.base_tables.specs.Locale.{decimal_sign}
 use Rattle.base_decimal.specs.declared.decimal.Decimal.{Decimal}
 use Rattle.base_decimal.specs.Kept.{IsKept}
-use Rattle.base_decimal.specs.Numeral.{Reads, decimal_of}
+use Rattle.base_decimal.specs.Numeral.{Reads}
+use Rattle.base_decimal.specs.laws.Reading.{decimal_of}
 use Rattle.base_decimal.specs.Printed.{printed}
 use Rattle.base_decimal.proofs.Numerals.{IsMark, reads_only, reads_found}
 use Rattle.base_decimal.proofs.Prints.{printed_back}

@@ -8,7 +8,8 @@ use Rattle.base_decimal.specs.declared.decimal.Decimal.{Decimal}
 use Rattle.base_decimal.specs.declared.numeral.Sign.{Sign}
 use Rattle.base_decimal.specs.declared.numeral.Sign.TheVariants.{Absent, Plus, Minus}
 use Rattle.base_decimal.specs.Digits.{is_digit, span, stops}
-use Rattle.base_decimal.specs.Numeral.{Fraction, NoFraction, Places, Exponent, NoExponent, Power, Numeral, fraction_text, sign_text, exponent_text, numeral_text, is_exponent_letter, is_numeral_fraction, is_exponent_len, is_numeral_exponent, IsNumeral, numerator, numeral_places, fraction_at, sign_at, exponent_after, exponent_at, numeral_at, whole_value, value_at, decimal_of, minus_text, Reads}
+use Rattle.base_decimal.specs.Numeral.{Fraction, NoFraction, Places, Exponent, NoExponent, Power, Numeral, fraction_text, sign_text, exponent_text, numeral_text, is_exponent_letter, is_numeral_fraction, is_exponent_len, is_numeral_exponent, IsNumeral, numerator, numeral_places, minus_text, Reads}
+use Rattle.base_decimal.specs.laws.Reading.{fraction_at, sign_at, exponent_after, exponent_at, numeral_at, whole_value, value_at, decimal_of}
 use Rattle.base_decimal.specs.Value.{kept_of}
 use Rattle.base_decimal.proofs.Spans.{and_both, both_and, span_at, span_parts, span_all}
 use Rattle.base_decimal.proofs.Values.{kept_found, kept_only}

@@ -12,7 +12,8 @@ use Rattle.std.proofs.lemmas.Str.Parse.{IsNumeralModel, numerals_by_fold}
 use Rattle.base_decimal.specs.declared.decimal.Decimal.{Decimal}
 use Rattle.base_decimal.specs.Digits.{is_digit, number_after, number_of}
 use Rattle.base_decimal.specs.Kept.{is_kept, IsKept}
-use Rattle.base_decimal.specs.Numeral.{Fraction, NoFraction, Places, NoExponent, Numeral, numeral_text, fraction_text, fraction_digits, minus_text, IsNumeral, is_numeral_fraction, numerator, numeral_places, decimal_of, Reads}
+use Rattle.base_decimal.specs.Numeral.{Fraction, NoFraction, Places, NoExponent, Numeral, numeral_text, fraction_text, fraction_digits, minus_text, IsNumeral, is_numeral_fraction, numerator, numeral_places, Reads}
+use Rattle.base_decimal.specs.laws.Reading.{decimal_of}
 use Rattle.base_decimal.specs.Printed.{last_digits, places_text, digits_text, printed}
 use Rattle.base_decimal.specs.Value.{SameValue, decimal_from}
 use Rattle.base_decimal.proofs.Numerals.{IsMark, reads_only}

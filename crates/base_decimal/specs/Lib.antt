@@ -1,8 +1,8 @@
 pub mod Arithmetic
-pub mod DecimalEquals
 pub mod Digits
 pub mod Kept
 pub mod Numeral
 pub mod Printed
 pub mod Seen
 pub mod Value
+pub mod laws

@@ -1,14 +1,13 @@
 -- How numbers are written: digits, maybe the decimal sign and digits, maybe an exponent.
-use Rattle.std.specs.Prelude.{◌≡◌, ℕ, ◌+◌, ◌*◌, ◌^◌, ◌<◌, Bool, true, false, ◌&&◌, ◌||◌, ◌==◌, nat_le, List, [], ◌∷◌, ◌++◌, length, IsTrue, Option, Some, None, if◌then◌else◌}
+use Rattle.std.specs.Prelude.{◌≡◌, ℕ, ◌+◌, ◌*◌, ◌^◌, ◌<◌, Bool, true, false, ◌&&◌, ◌||◌, ◌==◌, nat_le, List, [], ◌∷◌, ◌++◌, length, IsTrue}
 use Rattle.std.specs.List.{list_all}
-use Rattle.std.specs.Option.{option_map, option_and_then}
 use Rattle.base_decimal.specs.declared.decimal.Decimal.{Decimal}
 use Rattle.base_decimal.specs.declared.numeral.Scale.{Scale}
 use Rattle.base_decimal.specs.declared.numeral.Sign.{Sign}
 use Rattle.base_decimal.specs.declared.numeral.Sign.TheVariants.{Absent, Plus, Minus}
-use Rattle.base_decimal.specs.Digits.{is_digit, span, number_of}
+use Rattle.base_decimal.specs.Digits.{is_digit, number_of}
 use Rattle.base_decimal.specs.Kept.{IsKept}
-use Rattle.base_decimal.specs.Value.{SameValue, decimal_from, kept_of}
+use Rattle.base_decimal.specs.Value.{SameValue, decimal_from}
 
 -- ---- the parts of a number
 
@@ -93,51 +92,7 @@ numerator n = number_of (n.whole ++ fraction_digits n.fraction) * 10 ^ (exponent
 abbrev pub numeral_places : Numeral → ℕ
 numeral_places n = length (fraction_digits n.fraction) + (exponent_scale n.exponent).down
 
--- ---- reading one
-
-abbrev pub fraction_at : ℕ → List ℕ → Fraction × List ℕ
-fraction_at mark [] = (NoFraction, [])
-fraction_at mark (b ∷ text) =
-    if b == mark then (let s = span is_digit text in (Places s.0, s.1)) else (NoFraction, b ∷ text)
-
-abbrev pub sign_at : List ℕ → Sign × List ℕ
-sign_at [] = (Absent, [])
-sign_at (b ∷ text) = if b == 43 then (Plus, text) else (if b == 45 then (Minus, text) else (Absent, b ∷ text))
-
--- an exponent after its letter
-abbrev pub exponent_after : ℕ → Sign × List ℕ → Option (Exponent × List ℕ)
-exponent_after letter signed =
-    let s = span is_digit signed.1 in
-    if is_exponent_len (length s.0) then Some (Power letter signed.0 s.0, s.1) else None
-
-abbrev pub exponent_at : List ℕ → Option (Exponent × List ℕ)
-exponent_at [] = Some (NoExponent, [])
-exponent_at (b ∷ text) =
-    if is_exponent_letter b then exponent_after b (sign_at text) else Some (NoExponent, b ∷ text)
-
--- the number at the front of a text, and what follows it
-unfoldable pub numeral_at : ℕ → List ℕ → Option (Numeral × List ℕ)
-numeral_at mark text =
-    let w = span is_digit text in
-    let f = fraction_at mark w.1 in
-    if nat_le 1 (length w.0)
-    then option_map (λ e. (record { whole = w.0; fraction = f.0; exponent = e.0 }, e.1)) (exponent_at f.1)
-    else None
-
--- the kept decimal that a number with a sign writes, if nothing follows it and there is one
-abbrev pub whole_value : Bool → Numeral × List ℕ → Option Decimal
-whole_value negative (n, []) = kept_of negative (numerator n) (numeral_places n)
-whole_value negative (n, _ ∷ _) = None
-
-abbrev pub value_at : ℕ → Bool → List ℕ → Option Decimal
-value_at mark negative text = option_and_then (whole_value negative) (numeral_at mark text)
-
--- the kept decimal that a whole text writes, if there is one
-unfoldable pub decimal_of : ℕ → List ℕ → Option Decimal
-decimal_of mark [] = None
-decimal_of mark (b ∷ text) = if b == 45 then value_at mark true text else value_at mark false (b ∷ text)
-
--- ---- the same as a relation
+-- ---- which text is which number
 
 abbrev pub minus_text : Bool → List ℕ
 minus_text true = 45 ∷ []

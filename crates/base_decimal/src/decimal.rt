@@ -24,7 +24,7 @@ pub struct Decimal {
 
 impl Exact for Decimal {
     ghost use Rattle.std.proofs.Common.{rules};
-    ghost use Rattle.base_decimal.specs.DecimalEquals.{decimal_equals};
+    ghost use Rattle.base_decimal.specs.laws.DecimalEquals.{decimal_equals};
 
     ghost copies = { λ a b h. Prim.search rules };
 
@@ -41,7 +41,8 @@ fn sign_byte(locale: Locale) -> u8
 impl Decimal {
     ghost use Rattle.base_decimal.specs.declared.decimal.Decimal.{Decimal as AnyDecimal};
     ghost use Rattle.base_decimal.specs.Kept.{IsKept};
-    ghost use Rattle.base_decimal.specs.Numeral.{Reads, decimal_of};
+    ghost use Rattle.base_decimal.specs.Numeral.{Reads};
+    ghost use Rattle.base_decimal.specs.laws.Reading.{decimal_of};
     ghost use Rattle.base_decimal.specs.Printed.{printed};
 
     /// The number that a text writes: maybe a minus, then digits, maybe the locale's decimal sign

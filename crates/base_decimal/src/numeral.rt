@@ -2,7 +2,8 @@ ghost use Rattle.std.specs.Prelude.{◌≡◌, ℕ, ◌+◌, ◌*◌, ◌^◌, �
 ghost use Rattle.std.specs.List.{list_all};
 ghost use Rattle.std.specs.Option.{option_map};
 ghost use Rattle.base_decimal.specs.Digits.{is_digit, number_of};
-ghost use Rattle.base_decimal.specs.Numeral.{is_exponent_len, is_exponent_letter, exponent_scale, exponent_after, exponent_at, fraction_digits, fraction_at, sign_at, sign_scale};
+ghost use Rattle.base_decimal.specs.Numeral.{is_exponent_len, is_exponent_letter, exponent_scale, fraction_digits, sign_scale};
+ghost use Rattle.base_decimal.specs.laws.Reading.{exponent_after, exponent_at, fraction_at, sign_at};
 ghost use Rattle.base_decimal.specs.Seen.{seen};
 ghost use Rattle.base_decimal.specs.Value.{fifteen_places};
 

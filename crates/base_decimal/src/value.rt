@@ -1,7 +1,7 @@
 ghost use Rattle.std.specs.Prelude.{◌≡◌, ℕ, ◌+◌, ◌-◌, ◌*◌, ◌^◌, ◌<◌, ◌≤◌, ◌++◌, length, take, drop, true, IfSome, List};
 ghost use Rattle.std.specs.List.{list_all};
 ghost use Rattle.base_decimal.specs.Digits.{is_digit, number_of};
-ghost use Rattle.base_decimal.specs.Numeral.{decimal_of, value_at};
+ghost use Rattle.base_decimal.specs.laws.Reading.{decimal_of, value_at};
 ghost use Rattle.base_decimal.specs.Value.{decimal_from, fifteen_places, kept_of};
 
 use crate::decimal::{Decimal, from_parts};
@@ -58,7 +58,7 @@ fn kept(negative: bool, whole: &[u8], fraction: &[u8], scale: Scale) -> Option<D
 }
 
 /// The kept decimal that a text without a minus writes, if there is one. Its sign is given.
-#[tactic(auto, unfolding(crate::specs::Numeral::numeral_at))]
+#[tactic(auto, unfolding(crate::specs::laws::Reading::numeral_at))]
 fn number_value(text: &[u8], mark: u8, negative: bool) -> Option<Decimal>
     ensures { result ≡ value_at mark negative text.now }
 {
@@ -77,7 +77,7 @@ fn number_value(text: &[u8], mark: u8, negative: bool) -> Option<Decimal>
 }
 
 /// The kept decimal that a whole text writes, if there is one.
-#[tactic(auto, unfolding(crate::specs::Numeral::decimal_of, crate::specs::Numeral::numeral_at))]
+#[tactic(auto, unfolding(crate::specs::laws::Reading::decimal_of, crate::specs::laws::Reading::numeral_at))]
 pub fn read(text: &[u8], mark: u8) -> Option<Decimal>
     ensures { result ≡ decimal_of mark text.now }
 {

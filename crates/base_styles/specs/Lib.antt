@@ -1,5 +1,2 @@
-pub mod AlignmentEquals
-pub mod BorderEquals
-pub mod ColorEquals
 pub mod DefaultStyle
-pub mod StyleEquals
+pub mod laws

@@ -15,7 +15,7 @@ pub enum HorizontalAlignment {
 
 impl Exact for HorizontalAlignment {
     ghost use Rattle.std.proofs.Common.{rules};
-    ghost use Rattle.base_styles.specs.AlignmentEquals.{horizontal_equals};
+    ghost use Rattle.base_styles.specs.laws.AlignmentEquals.{horizontal_equals};
 
     ghost copies = { λ a b h. Prim.search rules };
 
@@ -34,7 +34,7 @@ pub enum VerticalAlignment {
 
 impl Exact for VerticalAlignment {
     ghost use Rattle.std.proofs.Common.{rules};
-    ghost use Rattle.base_styles.specs.AlignmentEquals.{vertical_equals};
+    ghost use Rattle.base_styles.specs.laws.AlignmentEquals.{vertical_equals};
 
     ghost copies = { λ a b h. Prim.search rules };
 
@@ -51,7 +51,7 @@ pub struct Alignment {
 
 impl Exact for Alignment {
     ghost use Rattle.std.proofs.Common.{rules};
-    ghost use Rattle.base_styles.specs.AlignmentEquals.{alignment_equals};
+    ghost use Rattle.base_styles.specs.laws.AlignmentEquals.{alignment_equals};
 
     ghost copies = { λ a b h. Prim.search rules };
 

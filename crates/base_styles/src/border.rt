@@ -17,7 +17,7 @@ pub enum BorderStyle {
 
 impl Exact for BorderStyle {
     ghost use Rattle.std.proofs.Common.{rules};
-    ghost use Rattle.base_styles.specs.BorderEquals.{border_style_equals};
+    ghost use Rattle.base_styles.specs.laws.BorderEquals.{border_style_equals};
 
     ghost copies = { λ a b h. Prim.search rules };
 
@@ -33,7 +33,7 @@ pub struct BorderItem {
 
 impl Exact for BorderItem {
     ghost use Rattle.std.proofs.Common.{rules};
-    ghost use Rattle.base_styles.specs.BorderEquals.{border_item_equals};
+    ghost use Rattle.base_styles.specs.laws.BorderEquals.{border_item_equals};
 
     ghost copies = { λ a b h. Prim.search rules };
 
@@ -51,7 +51,7 @@ pub struct Border {
 
 impl Exact for Border {
     ghost use Rattle.std.proofs.Common.{rules};
-    ghost use Rattle.base_styles.specs.BorderEquals.{border_equals};
+    ghost use Rattle.base_styles.specs.laws.BorderEquals.{border_equals};
 
     ghost copies = { λ a b h. Prim.search rules };
 

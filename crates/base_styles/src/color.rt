@@ -19,7 +19,7 @@ pub enum ThemeColor {
 
 impl Exact for ThemeColor {
     ghost use Rattle.std.proofs.Common.{rules};
-    ghost use Rattle.base_styles.specs.ColorEquals.{theme_color_equals};
+    ghost use Rattle.base_styles.specs.laws.ColorEquals.{theme_color_equals};
 
     ghost copies = { λ a b h. Prim.search rules };
 
@@ -36,7 +36,7 @@ pub enum Color {
 
 impl Exact for Color {
     ghost use Rattle.std.proofs.Common.{rules};
-    ghost use Rattle.base_styles.specs.ColorEquals.{color_equals};
+    ghost use Rattle.base_styles.specs.laws.ColorEquals.{color_equals};
 
     ghost copies = { λ a b h. Prim.search rules };
 

@@ -25,7 +25,7 @@ pub struct Font {
 
 impl Exact for Font {
     ghost use Rattle.std.proofs.Common.{rules};
-    ghost use Rattle.base_styles.specs.StyleEquals.{font_equals};
+    ghost use Rattle.base_styles.specs.laws.StyleEquals.{font_equals};
 
     ghost copies = { λ a b h. Prim.search rules };
 
@@ -46,7 +46,7 @@ pub struct Style {
 
 impl Exact for Style {
     ghost use Rattle.std.proofs.Common.{rules};
-    ghost use Rattle.base_styles.specs.StyleEquals.{style_equals};
+    ghost use Rattle.base_styles.specs.laws.StyleEquals.{style_equals};
 
     ghost copies = { λ a b h. Prim.search rules };
 
@@ -57,7 +57,7 @@ impl Style {
     ghost use Rattle.base_styles.specs.DefaultStyle.{default_style};
 
     /// The default style: no marks, size 13, no colours, no borders, the number format `general`,
-    /// no alignment. Only want of memory is refused.
+    /// no alignment. The only error is `NoMemory`.
     pub fn new(alloc: Global) -> Result<Style, EditError>
         ensures made { IfOk result (λ style. style ≡ default_style) }
         ensures only { IsOkUnless result NoMemory }

@@ -1,6 +1,5 @@
 -- The error values: their numbers, and how they are written.
-use Rattle.std.proofs.Common.{subst, refl, ◌∙◌}
-use Rattle.std.specs.Prelude.{◌≡◌, ℕ, Bool, false, Option, Some, List, [], ◌∷◌, ◌++◌, codes, slice_get, if◌then◌else◌}
+use Rattle.std.specs.Prelude.{ℕ, Bool, false, Option, Some, List, [], ◌∷◌, ◌++◌, codes, slice_get, if◌then◌else◌}
 use Rattle.base_tables.specs.declared.error.Error.{Error}
 use Rattle.base_tables.specs.declared.error.Error.TheVariants.{Ref, Name, Value, DivisionByZero, NotAvailable, Number, General, NotImplemented, Spill, Calc, Circular, Null}
 use Rattle.base_tables.specs.declared.language.Language.{Language}
@@ -58,14 +57,3 @@ is_own_reference_error Es text = same_text (codes "#" ++ inverted_exclamation ++
 -- the error that a text is read as
 abbrev pub error_of_text : Language → List ℕ → Option Error
 error_of_text language text = if is_own_reference_error language text then Some Ref else entry_named error_text all_errors text
-
--- each language reads an error's text as the error
-pub error_of_text-error_text : (language : Language) (error : Error) → error_of_text language (error_text error) ≡ Some error
-error_of_text-error_text En Ref = refl
-error_of_text-error_text De Ref = refl
-error_of_text-error_text Fr Ref = refl
-error_of_text-error_text Es Ref = refl
-error_of_text-error_text _ _ = refl
-
-pub read_back : (language : Language) (text : List ℕ) (error : Error) (read : Option Error) → read ≡ error_of_text language text → error_text error ≡ text → read ≡ Some error
-read_back language text error read e f = e ∙ subst (λ t. error_of_text language t ≡ Some error) f (error_of_text-error_text language error)

@@ -2,8 +2,6 @@
 use Rattle.std.proofs.Common.{◌≡◌}
 use Rattle.std.specs.Prelude.{ℕ, Bool, List, map}
 use Rattle.std.specs.Str.{chars}
-use Rattle.std.specs.Bool.{Decides}
-use Rattle.std.specs.Cmp.Lexicographic.{bytes_decides}
 use Rattle.ucd_case.specs.CaseFolding.{simple_fold}
 use Rattle.base_tables.specs.Tables.{same_text}
 
@@ -18,7 +16,3 @@ SameFolded a b = folded (chars a) ≡ folded (chars b)
 -- whether they are
 unfoldable pub same_folded : List ℕ → List ℕ → Bool
 same_folded a b = same_text (folded (chars a)) (folded (chars b))
-
-pub same_folded_decides : (a b : List ℕ) → Decides (same_folded a b) (SameFolded a b)
-unfolding same_folded
-same_folded_decides a b = bytes_decides (folded (chars a)) (folded (chars b))

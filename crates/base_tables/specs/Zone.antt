@@ -1,8 +1,8 @@
 -- The time zones: their numbers and names.
-use Rattle.std.specs.Prelude.{◌≡◌, ℕ, Option, Some, List, [], ◌∷◌, codes, slice_get}
+use Rattle.std.specs.Prelude.{ℕ, Option, List, [], ◌∷◌, codes, slice_get}
 use Rattle.base_tables.specs.declared.zone.Zone.{Zone}
 use Rattle.base_tables.specs.declared.zone.Zone.TheVariants.{Utc, EuropeBerlin, EuropeParis, EuropeMadrid, AmericaNewYork, AsiaTokyo}
-use Rattle.base_tables.specs.Tables.{entry_named, found_name}
+use Rattle.base_tables.specs.Tables.{entry_named}
 
 -- in the order of their codes
 abbrev pub all_zones : List Zone
@@ -30,7 +30,3 @@ zone_name AsiaTokyo = codes "Asia/Tokyo"
 
 abbrev pub zone_of_name : List ℕ → Option Zone
 zone_of_name text = entry_named zone_name all_zones text
-
--- the zone that is found has the name
-pub found_zone : (text : List ℕ) (zone : Zone) → zone_of_name text ≡ Some zone → zone_name zone ≡ text
-found_zone = found_name zone_name all_zones

@@ -35,7 +35,7 @@ fn push_column(name: &mut String, column: u32) -> Result<(), AllocError>
     Ok(())
 }
 
-#[tactic(auto, using(crate::specs::ColumnLaws::letters_name_column))]
+#[tactic(auto, using(crate::specs::laws::ColumnLaws::letters_name_column))]
 fn column_text(alloc: Global, column: u32) -> Result<String, AllocError>
     requires low { 1 ≤ column }
     requires high { column ≤ 16384 }
@@ -121,7 +121,7 @@ pub(crate) fn is_column_name(letters: &[u8]) -> bool
 }
 
 /// The column that one to three letters name, in either case, or `None` where the text names none.
-#[tactic(auto, unfolding(crate::specs::Column::column_of_name), using(crate::specs::ColumnLaws::found_column))]
+#[tactic(auto, unfolding(crate::specs::Column::column_of_name), using(crate::specs::laws::ColumnLaws::found_column))]
 pub fn column_to_number(text: &str) -> Option<i32>
     ensures value { result ≡ column_of_name text.now }
     ensures named { IfSome result (λ column. column_name column ≡ Some (map to_ascii_uppercase text.now)) }

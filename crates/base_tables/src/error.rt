@@ -123,7 +123,7 @@ fn english_error(text: &str) -> Option<Error>
 
 /// The error that the text is read as: an English text in every language, and further `#BEZUG!` in
 /// German and `#¡REF!` in Spanish. The spelling is exact.
-#[tactic(auto, using(crate::specs::Error::read_back))]
+#[tactic(auto, using(crate::specs::laws::Error::read_back))]
 pub fn read_error(text: &str, language: Language) -> Option<Error>
     ensures value { result ≡ error_of_text language text.now }
     // What an error prints is read as that error.
@@ -137,7 +137,7 @@ pub fn read_error(text: &str, language: Language) -> Option<Error>
 
 impl Exact for Error {
     ghost use Rattle.std.proofs.Common.{rules};
-    ghost use Rattle.base_tables.specs.ErrorEquals.{error_equals};
+    ghost use Rattle.base_tables.specs.laws.ErrorEquals.{error_equals};
 
     ghost copies = { λ a b h. Prim.search rules };
 

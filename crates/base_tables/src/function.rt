@@ -179,7 +179,7 @@ pub fn function_by_name(text: &str, language: Language) -> Option<Function>
 impl Exact for Function {
     ghost use Rattle.std.proofs.Common.{rules};
     ghost use Rattle.base_tables.specs.Tables.{lowered};
-    ghost use Rattle.base_tables.specs.FunctionEquals.{function_equals};
+    ghost use Rattle.base_tables.specs.laws.FunctionEquals.{function_equals};
 
     ghost copies = { λ a b h. Prim.search rules };
 

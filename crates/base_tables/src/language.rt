@@ -120,7 +120,7 @@ pub fn read_boolean(text: &str, language: Language) -> Option<bool>
 impl Exact for Language {
     ghost use Rattle.std.proofs.Common.{rules};
     ghost use Rattle.base_tables.specs.Tables.{lowered};
-    ghost use Rattle.base_tables.specs.LanguageEquals.{language_equals};
+    ghost use Rattle.base_tables.specs.laws.LanguageEquals.{language_equals};
 
     ghost copies = { λ a b h. Prim.search rules };
 

@@ -116,7 +116,7 @@ pub fn get_locale(text: &str) -> Result<Locale, EditError>
 
 impl Exact for Locale {
     ghost use Rattle.std.proofs.Common.{rules};
-    ghost use Rattle.base_tables.specs.LocaleEquals.{locale_equals};
+    ghost use Rattle.base_tables.specs.laws.LocaleEquals.{locale_equals};
 
     ghost copies = { λ a b h. Prim.search rules };
 

@@ -80,7 +80,7 @@ impl Zone {
 /// The time zone with that name, spelled exactly.
 ///
 /// `ZoneName` where no time zone has it.
-#[tactic(auto, using(crate::specs::Zone::found_zone))]
+#[tactic(auto, using(crate::specs::laws::Zone::found_zone))]
 pub fn get_zone(text: &str) -> Result<Zone, EditError>
     ensures value { result ≡ ok_or EditError.ZoneName (zone_of_name text.now) }
     ensures named { IfOk result (λ zone. zone_name zone ≡ text.now) }
@@ -93,7 +93,7 @@ pub fn get_zone(text: &str) -> Result<Zone, EditError>
 
 impl Exact for Zone {
     ghost use Rattle.std.proofs.Common.{rules};
-    ghost use Rattle.base_tables.specs.ZoneEquals.{zone_equals};
+    ghost use Rattle.base_tables.specs.laws.ZoneEquals.{zone_equals};
 
     ghost copies = { λ a b h. Prim.search rules };
 

@@ -5,8 +5,8 @@ use Rattle.std.specs.Cmp.{booleans_Decides}
 use Rattle.std.specs.Cmp.Lexicographic.{bytes_decides}
 use Rattle.std.proofs.lemmas.Bool.Decides.{Decides-like}
 use Rattle.base_values.specs.CodedEq.{same_value_decides}
-use Rattle.base_decimal.specs.DecimalEquals.{decimal_equals}
-use Rattle.base_tables.specs.ErrorEquals.{error_equals}
+use Rattle.base_decimal.specs.laws.DecimalEquals.{decimal_equals}
+use Rattle.base_tables.specs.laws.ErrorEquals.{error_equals}
 use Rattle.formula_tree.specs.contracts.node.Node.{the_row as node_row}
 use Rattle.formula_content.specs.declared.content.Content.{Content}
 use Rattle.formula_content.specs.declared.content.Content.TheVariants.{Empty, Number, Boolean, Error, Text, Formula, Dynamic}

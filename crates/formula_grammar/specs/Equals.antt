@@ -5,8 +5,8 @@ use Rattle.std.specs.Cmp.{signed_Decides, booleans_Decides}
 use Rattle.std.specs.Cmp.Lexicographic.{bytes_decides}
 use Rattle.std.proofs.lemmas.Bool.Decides.{Decides-like, Decides-and}
 use Rattle.base_values.specs.Decided.{option_equals}
-use Rattle.base_tables.specs.ErrorEquals.{error_equals}
-use Rattle.base_decimal.specs.DecimalEquals.{decimal_equals}
+use Rattle.base_tables.specs.laws.ErrorEquals.{error_equals}
+use Rattle.base_decimal.specs.laws.DecimalEquals.{decimal_equals}
 use Rattle.formula_grammar.specs.declared.token.CellMark.{CellMark}
 use Rattle.formula_grammar.specs.contracts.token.CellMarkPartialEq.TheImpl as cell_mark
 use Rattle.formula_grammar.specs.declared.token.Token.{Token}

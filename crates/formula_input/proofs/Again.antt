@@ -9,12 +9,13 @@ use Rattle.base_tables.specs.declared.Language.TheVariants as language
 use Rattle.base_tables.specs.declared.Locale.{Locale}
 use Rattle.base_tables.specs.declared.Error.{Error}
 use Rattle.base_tables.specs.declared.Error.TheVariants as error
-use Rattle.base_tables.specs.Error.{error_text, error_of_text, error_of_text-error_text}
+use Rattle.base_tables.specs.Error.{error_text, error_of_text}
+use Rattle.base_tables.specs.laws.Error.{error_of_text-error_text}
 use Rattle.base_tables.specs.Language.{boolean_text, boolean_of_text}
 use Rattle.base_tables.specs.Locale.{decimal_sign}
 use Rattle.base_decimal.specs.declared.Decimal.{Decimal}
 use Rattle.base_decimal.specs.Digits.{is_digit}
-use Rattle.base_decimal.specs.Numeral.{decimal_of, numeral_at, value_at, whole_value}
+use Rattle.base_decimal.specs.laws.Reading.{decimal_of, numeral_at, value_at, whole_value}
 use Rattle.base_decimal.specs.Printed.{printed}
 use Rattle.base_decimal.proofs.Marks.{prints_back}
 use Rattle.base_values.specs.declared.Position.{Position}

@@ -11,7 +11,7 @@ use Rattle.base_tables.specs.Language.{boolean_of_text}
 use Rattle.base_tables.specs.Locale.{decimal_sign}
 use Rattle.base_tables.specs.Tables.{same_text}
 use Rattle.base_decimal.specs.declared.Decimal.{Decimal}
-use Rattle.base_decimal.specs.Numeral.{decimal_of}
+use Rattle.base_decimal.specs.laws.Reading.{decimal_of}
 use Rattle.formula_grammar.specs.declared.Profile.{Profile}
 use Rattle.formula_content.specs.declared.Content.{Content}
 use Rattle.formula_content.specs.declared.Content.TheVariants.{Empty, Number, Boolean, Error as ErrorContent, Text, Formula, Dynamic}

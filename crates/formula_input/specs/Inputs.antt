@@ -7,7 +7,7 @@ use Rattle.base_tables.specs.Error.{error_text, error_of_text}
 use Rattle.base_tables.specs.Language.{boolean_text, boolean_of_text}
 use Rattle.base_tables.specs.Locale.{decimal_sign}
 use Rattle.base_tables.specs.Tables.{same_text}
-use Rattle.base_decimal.specs.Numeral.{decimal_of}
+use Rattle.base_decimal.specs.laws.Reading.{decimal_of}
 use Rattle.base_decimal.specs.Printed.{printed}
 use Rattle.formula_print.specs.Forms.{localized_text}
 use Rattle.formula_tree.specs.declared.Node.{Node}

@@ -9,8 +9,10 @@ use Rattle.base_tables.specs.declared.Error.{Error}
 use Rattle.base_tables.specs.declared.Error.TheVariants.{Ref, Name, Value, DivisionByZero, NotAvailable, Number, General, NotImplemented, Spill, Calc, Circular, Null}
 use Rattle.base_tables.specs.declared.Language.{Language}
 use Rattle.base_tables.specs.declared.Language.TheVariants.{En, De, Fr, Es}
-use Rattle.base_tables.specs.Error.{all_errors, error_text, error_of_text, error_of_text-error_text, inverted_exclamation, is_own_reference_error}
-use Rattle.base_tables.specs.Tables.{entry_named, found_name}
+use Rattle.base_tables.specs.Error.{all_errors, error_text, error_of_text, inverted_exclamation, is_own_reference_error}
+use Rattle.base_tables.specs.laws.Error.{error_of_text-error_text}
+use Rattle.base_tables.specs.Tables.{entry_named}
+use Rattle.base_tables.specs.laws.Tables.{found_name}
 use Rattle.formula_lex.specs.Characters.{Text}
 use Rattle.formula_lex.specs.Lex.{past, strip, english_error, own_error, error_at}
 use Rattle.formula_lex.proofs.ErrorCharacters.{error_encoded, error_scalars, error_characters, german_characters, spanish_characters}

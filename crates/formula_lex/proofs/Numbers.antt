@@ -15,7 +15,8 @@ use Rattle.base_tables.specs.Locale.{decimal_sign}
 use Rattle.base_tables.specs.Word.{is_digit, goes_on_word}
 use Rattle.base_decimal.specs.declared.Decimal.{Decimal}
 use Rattle.base_decimal.specs.Digits.{stops}
-use Rattle.base_decimal.specs.Numeral.{Fraction, NoFraction, Places, Exponent, NoExponent, Power, Numeral, IsNumeral, fraction_text, sign_text, exponent_text, numeral_text, is_numeral_fraction, is_numeral_exponent, is_exponent_len, is_exponent_letter, minus_text, decimal_of}
+use Rattle.base_decimal.specs.Numeral.{Fraction, NoFraction, Places, Exponent, NoExponent, Power, Numeral, IsNumeral, fraction_text, sign_text, exponent_text, numeral_text, is_numeral_fraction, is_numeral_exponent, is_exponent_len, is_exponent_letter, minus_text}
+use Rattle.base_decimal.specs.laws.Reading.{decimal_of}
 use Rattle.base_decimal.specs.declared.numeral.Sign.{Sign}
 use Rattle.base_decimal.specs.declared.numeral.Sign.TheVariants.{Absent, Plus, Minus}
 use Rattle.base_decimal.proofs.Marks.{sign_is_mark, sign_is_ascii}

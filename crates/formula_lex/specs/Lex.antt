@@ -11,7 +11,8 @@ use Rattle.base_tables.specs.Error.{all_errors, error_text}
 use Rattle.base_tables.specs.Locale.{decimal_sign}
 use Rattle.base_tables.specs.Word.{is_digit, starts_word, goes_on_word, reads_as_cell}
 use Rattle.base_decimal.specs.Digits.{span, stops}
-use Rattle.base_decimal.specs.Numeral.{is_exponent_letter, decimal_of}
+use Rattle.base_decimal.specs.Numeral.{is_exponent_letter}
+use Rattle.base_decimal.specs.laws.Reading.{decimal_of}
 use Rattle.formula_grammar.specs.declared.CellMark.{CellMark}
 use Rattle.formula_grammar.specs.declared.Token.{Token}
 use Rattle.formula_grammar.specs.declared.Token.TheVariants as t

@@ -4,8 +4,8 @@ use Rattle.std.specs.Bool.{Decides}
 use Rattle.std.specs.Cmp.{signed_Decides, booleans_Decides}
 use Rattle.std.specs.Cmp.Lexicographic.{bytes_decides}
 use Rattle.std.proofs.lemmas.Bool.Decides.{Decides-like, Decides-and}
-use Rattle.base_tables.specs.ErrorEquals.{error_equals}
-use Rattle.base_decimal.specs.DecimalEquals.{decimal_equals}
+use Rattle.base_tables.specs.laws.ErrorEquals.{error_equals}
+use Rattle.base_decimal.specs.laws.DecimalEquals.{decimal_equals}
 use Rattle.formula_tree.specs.declared.operator.CompareKind.{CompareKind}
 use Rattle.formula_tree.specs.declared.operator.CompareKind.TheVariants as c
 use Rattle.formula_tree.specs.contracts.operator.CompareKindPartialEq.TheImpl as compare_kind

@@ -7,7 +7,8 @@ use Rattle.base_tables.specs.declared.Error.{Error}
 use Rattle.base_tables.specs.Error.{error_code}
 use Rattle.base_tables.specs.declared.Function.{Function}
 use Rattle.base_tables.specs.declared.Function.TheVariants as function
-use Rattle.base_tables.specs.Function.{function_code, function_of_code, found_function}
+use Rattle.base_tables.specs.Function.{function_code, function_of_code}
+use Rattle.base_tables.specs.laws.Function.{found_function}
 use Rattle.formula_tree.specs.declared.ArrayItem.{ArrayItem}
 use Rattle.formula_tree.specs.declared.ArrayItem.TheVariants as item
 use Rattle.formula_tree.specs.declared.CompareKind.{CompareKind}

@@ -4,7 +4,7 @@ use Rattle.std.specs.Bool.{Decides}
 use Rattle.std.proofs.lemmas.Bool.Decides.{Decides-like, Decides-and}
 use Rattle.std.specs.Option.{option_eq}
 use Rattle.base_values.specs.Decided.{option_equals}
-use Rattle.base_styles.specs.StyleEquals.{style_equals}
+use Rattle.base_styles.specs.laws.StyleEquals.{style_equals}
 use Rattle.formula_content.specs.ContentEquals.{content_equals}
 use Rattle.sheet_grid.specs.declared.cell.Cell.{Cell}
 use Rattle.sheet_grid.specs.contracts.cell.CellPartialEq.TheImpl as cell

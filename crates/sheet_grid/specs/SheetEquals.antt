@@ -6,9 +6,9 @@ use Rattle.std.specs.Cmp.Lexicographic.{bytes_decides, pointwise_decides}
 use Rattle.std.proofs.lemmas.Bool.Decides.{Decides-like, Decides-and}
 use Rattle.base_values.specs.PositionEquals.{position_equals}
 use Rattle.base_values.specs.KeyMap.{same_entries_decides}
-use Rattle.base_styles.specs.ColorEquals.{color_equals}
-use Rattle.base_tables.specs.LocaleEquals.{locale_equals}
-use Rattle.base_tables.specs.ZoneEquals.{zone_equals}
+use Rattle.base_styles.specs.laws.ColorEquals.{color_equals}
+use Rattle.base_tables.specs.laws.LocaleEquals.{locale_equals}
+use Rattle.base_tables.specs.laws.ZoneEquals.{zone_equals}
 use Rattle.sheet_grid.specs.StateEquals.{state_equals}
 use Rattle.sheet_grid.specs.CellEquals.{cell_equals}
 use Rattle.sheet_grid.specs.LineEquals.{link_equals, row_attr_equals, column_attr_equals}

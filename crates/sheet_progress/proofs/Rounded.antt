@@ -7,7 +7,7 @@ use Rattle.std.proofs.lemmas.Bool.{cases_lt}
 use Rattle.std.proofs.lemmas.Bool.Decides.{nat_tests}
 use Rattle.std.proofs.lemmas.Int.{to_z-of_z, unsigned_abs-mul, fits_signed_from_abs}
 use Rattle.std.proofs.lemmas.Nat.{pow-add, mul-le}
-use Rattle.base_tables.specs.Tables.{both_parts}
+use Rattle.base_tables.specs.laws.Tables.{both_parts}
 use Rattle.base_decimal.specs.declared.Decimal.{Decimal}
 use Rattle.base_decimal.specs.Arithmetic.{IsRounded, mantissa_at, rounded}
 use Rattle.base_decimal.specs.Kept.{IsKept, is_kept, is_trimmed}

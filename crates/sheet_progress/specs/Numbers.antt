@@ -8,7 +8,7 @@ use Rattle.base_tables.specs.Locale.{decimal_sign, group_sign}
 use Rattle.base_tables.specs.Word.{is_digit, front, behind}
 use Rattle.base_decimal.specs.declared.Decimal.{Decimal}
 use Rattle.base_decimal.specs.Arithmetic.{mantissa_at, rounded}
-use Rattle.base_decimal.specs.Numeral.{decimal_of}
+use Rattle.base_decimal.specs.laws.Reading.{decimal_of}
 use Rattle.base_decimal.specs.Printed.{printed}
 
 -- ---- which texts are numbers, as lists of characters

@@ -5,9 +5,9 @@ use Rattle.std.specs.Bool.{Decides}
 use Rattle.std.specs.Cmp.Lexicographic.{bytes_decides, pointwise}
 use Rattle.std.proofs.lemmas.Bool.Decides.{Decides-like, Decides-and}
 use Rattle.base_values.specs.CodedEq.{is_same_value}
-use Rattle.base_styles.specs.ColorEquals.{color_equals}
-use Rattle.base_styles.specs.BorderEquals.{border_equals}
-use Rattle.base_styles.specs.StyleEquals.{font_equals}
+use Rattle.base_styles.specs.laws.ColorEquals.{color_equals}
+use Rattle.base_styles.specs.laws.BorderEquals.{border_equals}
+use Rattle.base_styles.specs.laws.StyleEquals.{font_equals}
 use Rattle.base_styles.specs.declared.alignment.Alignment.{Alignment}
 use Rattle.base_styles.specs.declared.style.Style.{Style}
 use Rattle.base_styles.specs.declared.style.Font.{Font}

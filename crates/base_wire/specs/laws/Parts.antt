@@ -8,7 +8,7 @@ use Rattle.std.proofs.Math.Nat.{pow-le-pow_right}
 use Rattle.base_tables.specs.declared.Error.{Error}
 use Rattle.base_tables.specs.declared.Error.TheVariants.{Ref, Name, Value, DivisionByZero, NotAvailable, Number, General, NotImplemented, Spill, Calc, Circular, Null}
 use Rattle.base_tables.specs.Error.{all_errors, error_code, error_of_code}
-use Rattle.base_tables.specs.Tables.{found_number}
+use Rattle.base_tables.specs.laws.Tables.{found_number}
 use Rattle.base_decimal.specs.declared.Decimal.{Decimal}
 use Rattle.base_decimal.specs.Kept.{is_kept, IsKept}
 use Rattle.base_wire.specs.Reading.{decoded, byte_at, number_at, signed_at, text_at}

@@ -1,5 +1,5 @@
 use Rattle.std.proofs.Common.{sym, ◌∙◌}
-use Rattle.base_tables.specs.Folding.{same_folded_decides}
+use Rattle.base_tables.specs.laws.Folding.{same_folded_decides}
 use Rattle.base_tables.proofs.folding.same_by_folding.Goals as goal
 
 pub returns-clause-same : goal.returns-clause-same

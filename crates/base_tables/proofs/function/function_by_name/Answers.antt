@@ -1,6 +1,8 @@
 use Rattle.std.proofs.Common.{◌≡◌, sym, ◌∙◌}
-use Rattle.base_tables.specs.Tables.{lowered, if_some}
-use Rattle.base_tables.specs.Function.{function_name, named_function, read_function}
+use Rattle.base_tables.specs.Tables.{lowered}
+use Rattle.base_tables.specs.laws.Tables.{if_some}
+use Rattle.base_tables.specs.Function.{function_name}
+use Rattle.base_tables.specs.laws.Function.{named_function, read_function}
 use Rattle.base_tables.proofs.function.function_by_name.Goals as goal
 
 pub returns-clause-named : goal.returns-clause-named

@@ -1,6 +1,6 @@
 use Rattle.std.proofs.Common.{sym, ap, ◌∙◌}
 use Rattle.base_tables.specs.Word.{reads_as_row_column}
-use Rattle.base_tables.specs.WordLaws.{reads_as_row_column-chars}
+use Rattle.base_tables.specs.laws.WordLaws.{reads_as_row_column-chars}
 use Rattle.base_tables.proofs.quote.reads_as_row_column.Goals as goal
 
 pub returns : goal.returns

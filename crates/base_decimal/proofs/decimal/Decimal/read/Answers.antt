@@ -1,6 +1,6 @@
 use Rattle.std.proofs.Common.{◌≡◌, ◌∙◌}
 use Rattle.base_tables.specs.Locale.{decimal_sign}
-use Rattle.base_decimal.specs.Numeral.{decimal_of}
+use Rattle.base_decimal.specs.laws.Reading.{decimal_of}
 use Rattle.base_decimal.proofs.Marks.{only_reads}
 use Rattle.base_decimal.proofs.decimal.Decimal.read.Goals as goal
 

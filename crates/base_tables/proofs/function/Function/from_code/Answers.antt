@@ -1,6 +1,7 @@
 use Rattle.std.proofs.Common.{◌≡◌, sym, ◌∙◌}
-use Rattle.base_tables.specs.Tables.{if_some}
-use Rattle.base_tables.specs.Function.{function_code, found_function}
+use Rattle.base_tables.specs.laws.Tables.{if_some}
+use Rattle.base_tables.specs.Function.{function_code}
+use Rattle.base_tables.specs.laws.Function.{found_function}
 use Rattle.base_tables.proofs.function.Function.from_code.Goals as goal
 
 pub returns-clause-back : goal.returns-clause-back

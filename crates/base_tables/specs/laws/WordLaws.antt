@@ -5,7 +5,7 @@ use Rattle.std.proofs.lemmas.Str.{encodes-IsAscii, chars_from_encodes}
 use Rattle.std.specs.Prelude.{nat_lt, ◌==◌, ◌||◌, encode_utf8_all}
 use Rattle.std.specs.List.{list_all, prefix_len}
 use Rattle.std.specs.Str.{chars, IsUtf8, IsAscii}
-use Rattle.base_tables.specs.Tables.{both, both_parts}
+use Rattle.base_tables.specs.laws.Tables.{both, both_parts}
 use Rattle.base_tables.specs.Column.{is_letter}
 use Rattle.base_tables.specs.Word.{is_digit, is_count, behind, reads_as_cell, is_column_part, reads_as_row_column}
 

@@ -5,9 +5,9 @@ use Rattle.std.specs.Cmp.{booleans_Decides, signed_Decides}
 use Rattle.std.specs.Cmp.Lexicographic.{bytes_decides}
 use Rattle.std.proofs.lemmas.Bool.Decides.{Decides-like, Decides-and}
 use Rattle.base_values.specs.Decided.{option_equals}
-use Rattle.base_styles.specs.ColorEquals.{color_equals}
-use Rattle.base_styles.specs.BorderEquals.{border_equals}
-use Rattle.base_styles.specs.AlignmentEquals.{alignment_equals}
+use Rattle.base_styles.specs.laws.ColorEquals.{color_equals}
+use Rattle.base_styles.specs.laws.BorderEquals.{border_equals}
+use Rattle.base_styles.specs.laws.AlignmentEquals.{alignment_equals}
 use Rattle.base_styles.specs.declared.style.Font.{Font}
 use Rattle.base_styles.specs.contracts.style.FontPartialEq.TheImpl as font
 use Rattle.base_styles.specs.declared.style.Style.{Style}

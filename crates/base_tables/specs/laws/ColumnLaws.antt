@@ -5,7 +5,7 @@ use Rattle.std.specs.Prelude.{nat_le}
 use Rattle.std.specs.List.{list_all}
 use Rattle.std.specs.Char.{to_ascii_uppercase}
 use Rattle.base_values.specs.Places.{is_line}
-use Rattle.base_tables.specs.Tables.{both, both_parts}
+use Rattle.base_tables.specs.laws.Tables.{both, both_parts}
 use Rattle.base_tables.specs.Column.{is_between, is_letter, letter_value, letter_of, letters_number, last_value, number_before, column_letters, column_name, is_column_name, column_of_name}
 
 value_bounds : (c : ℕ) → is_letter c ≡ true → (1 ≤ letter_value c) × (letter_value c ≤ 26)

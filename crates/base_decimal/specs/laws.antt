@@ -1,0 +1,2 @@
+pub mod DecimalEquals
+pub mod Reading

@@ -1,0 +1,4 @@
+pub mod AlignmentEquals
+pub mod BorderEquals
+pub mod ColorEquals
+pub mod StyleEquals

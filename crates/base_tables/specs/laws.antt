@@ -1,0 +1,12 @@
+pub mod ColumnLaws
+pub mod ErrorEquals
+pub mod FunctionEquals
+pub mod LanguageEquals
+pub mod LocaleEquals
+pub mod WordLaws
+pub mod ZoneEquals
+pub mod Tables
+pub mod Error
+pub mod Function
+pub mod Folding
+pub mod Zone

@@ -3,6 +3,7 @@ ghost use Rattle.base_values.specs.declared.Position.{Position};
 ghost use Rattle.sheet_grid.specs.Dimension.{IsLeastRectangle};
 
 use crate::cell::Cell;
+use base_shared::Shared;
 use base_values::Position;
 use std::collections::btree_map::Iter;
 
@@ -41,7 +42,10 @@ impl WorksheetDimension {
     }
 
     /// The least rectangle that holds a place and those of some cells.
-    pub(crate) fn of_places(first: Position, rest: Iter<'_, Position, Cell>) -> WorksheetDimension
+    pub(crate) fn of_places(
+        first: Position,
+        rest: Iter<'_, Position, Shared<Cell>>,
+    ) -> WorksheetDimension
         ensures { IsLeastRectangle (first ∷ map (λ entry. entry.0) rest.entry) result }
     {
         let mut found = WorksheetDimension::of_place(first);

@@ -43,7 +43,7 @@ pub struct Worksheet {
     show_grid_lines: bool,
     frozen_rows: i32,
     frozen_columns: i32,
-    cells: PlaceMap<Cell>,
+    cells: PlaceMap<Shared<Cell>>,
     links: PlaceMap<Link>,
     rows: LineMap<RowAxis, RowAttr>,
     columns: LineMap<ColumnAxis, ColumnAttr>,
@@ -162,7 +162,7 @@ impl Worksheet {
     }
 
     /// The cells with their places, by row and then by column.
-    pub fn cells(&self) -> Iter<'_, Position, Cell>
+    pub fn cells(&self) -> Iter<'_, Position, Shared<Cell>>
         ensures entries { result ≡ fin.entries self.now.cells }
         ensures inside { All (λ entry. IsPlace entry.0) result }
     {
@@ -173,6 +173,21 @@ impl Worksheet {
     ///
     /// `InvalidRow` where the row is outside the sheet, else `InvalidColumn` where the column is.
     pub fn cell(&self, row: i32, column: i32) -> Result<Option<Cell>, EditError>
+        ensures found { Answers result (cell_at self.now row column) }
+        ensures kept { IfOk result (λ found. IfSome found IsKeptCell) }
+    {
+        let place = place_of(row, column)?;
+        match self.cells.get(place) {
+            Some(cell) => Ok(Some(copy_of(cell.get())?)),
+            None => Ok(None),
+        }
+    }
+
+    /// The cell at a row and a column, if there is one, held together with the sheet: it takes no
+    /// memory.
+    ///
+    /// `InvalidRow` where the row is outside the sheet, else `InvalidColumn` where the column is.
+    pub fn shared_cell(&self, row: i32, column: i32) -> Result<Option<Shared<Cell>>, EditError>
         ensures found { Answers result (cell_at self.now row column) }
         ensures kept { IfOk result (λ found. IfSome found IsKeptCell) }
     {
@@ -214,7 +229,7 @@ impl Worksheet {
         ensures { Answers result (Ok (shown_style self.now place)) }
     {
         match self.cells.get(place) {
-            Some(cell) => copy_of(&cell.style),
+            Some(cell) => copy_of(&cell.get().style),
             None => self.default_style(),
         }
     }
@@ -224,6 +239,33 @@ impl Worksheet {
     /// `InvalidRow` where the row is outside the sheet, else `InvalidColumn` where the column is.
     /// To take a cell away needs no memory.
     pub fn put_cell(&mut self, row: i32, column: i32, entry: Option<Cell>) -> Result<(), EditError>
+        requires { IfSome entry IsKeptCell }
+        ensures { Edits result self.old self.new (cell_put self.old row column entry) }
+    {
+        let _place = place_of(row, column)?;
+        let entry = self.shared_entry(entry)?;
+        self.put_shared_cell(row, column, entry)
+    }
+
+    fn shared_entry(&self, entry: Option<Cell>) -> Result<Option<Shared<Cell>>, EditError>
+        ensures { Answers result (Ok entry) }
+    {
+        match entry {
+            Some(cell) => Ok(Some(Shared::new(self.name.allocator(), cell)?)),
+            None => Ok(None),
+        }
+    }
+
+    /// Sets the cell at a row and a column to one that others hold too, or takes it away.
+    ///
+    /// `InvalidRow` where the row is outside the sheet, else `InvalidColumn` where the column is.
+    /// To take a cell away needs no memory.
+    pub fn put_shared_cell(
+        &mut self,
+        row: i32,
+        column: i32,
+        entry: Option<Shared<Cell>>,
+    ) -> Result<(), EditError>
         requires { IfSome entry IsKeptCell }
         ensures { Edits result self.old self.new (cell_put self.old row column entry) }
     {

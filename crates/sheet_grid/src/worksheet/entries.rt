@@ -10,11 +10,12 @@ use crate::column_attr::ColumnAttr;
 use crate::link::Link;
 use crate::row_attr::RowAttr;
 use base_axis::{ColumnAxis, LineMap, RowAxis};
+use base_shared::Shared;
 use base_values::{EditError, PlaceMap, copy_of};
 
 impl Worksheet {
     /// The cells by their places.
-    pub fn cell_map(&self) -> &PlaceMap<Cell>
+    pub fn cell_map(&self) -> &PlaceMap<Shared<Cell>>
         ensures map { result.now ≡ self.now.cells }
         ensures kept { KeptCells result.now }
     {
@@ -46,7 +47,7 @@ impl Worksheet {
     /// Only want of memory is refused.
     pub fn with_entries(
         &self,
-        cells: PlaceMap<Cell>,
+        cells: PlaceMap<Shared<Cell>>,
         links: PlaceMap<Link>,
         rows: LineMap<RowAxis, RowAttr>,
         columns: LineMap<ColumnAxis, ColumnAttr>,

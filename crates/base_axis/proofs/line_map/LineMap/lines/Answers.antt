@@ -10,5 +10,5 @@ pub returns-clause-lines : goal.returns-clause-lines
 returns-clause-lines g c =
     let listed : c.new.result ≡ keys c.self.inside.map = search rules in
     listed
-    ∙ sym (keys-made int_cmp_total exact_signed c.self.inside.map c.self.invariant)
+    ∙ sym (keys-made int_cmp_total exact_signed c.self.inside.map c.self.invariant.ordered)
     ∙ ap fin.keys c.self.view_is

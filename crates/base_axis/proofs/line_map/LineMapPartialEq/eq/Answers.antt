@@ -7,5 +7,5 @@ use Rattle.base_axis.proofs.line_map.LineMapPartialEq.eq.Goals as goal
 
 pub returns : goal.returns
 returns g c =
-    c.eq.ensures ∙ sym (same_entries-made int_cmp_total exact_signed int_eq g.V.PartialEq.eq c.self.inside.map c.other.inside.map c.self.invariant c.other.invariant)
+    c.eq.ensures ∙ sym (same_entries-made int_cmp_total exact_signed int_eq g.V.PartialEq.eq c.self.inside.map c.other.inside.map c.self.invariant.ordered c.other.invariant.ordered)
     ∙ (λ i. same_entries int_eq g.V.PartialEq.eq (c.self.view_is i) (c.other.view_is i))

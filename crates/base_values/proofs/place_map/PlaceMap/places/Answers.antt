@@ -9,5 +9,5 @@ pub returns-clause-places : goal.returns-clause-places
 returns-clause-places g c =
     let listed : c.new.result ≡ keys c.self.inside.map = search rules in
     listed
-    ∙ sym (keys-made position_total exact_positions c.self.inside.map c.self.invariant)
+    ∙ sym (keys-made position_total exact_positions c.self.inside.map c.self.invariant.ordered)
     ∙ ap fin.keys c.self.view_is

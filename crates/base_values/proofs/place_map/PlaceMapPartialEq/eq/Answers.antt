@@ -5,5 +5,5 @@ use Rattle.base_values.proofs.place_map.PlaceMapPartialEq.eq.Goals as goal
 
 pub returns : goal.returns
 returns g c =
-    c.eq.ensures ∙ sym (same_entries-made position_total exact_positions same_position g.V.PartialEq.eq c.self.inside.map c.other.inside.map c.self.invariant c.other.invariant)
+    c.eq.ensures ∙ sym (same_entries-made position_total exact_positions same_position g.V.PartialEq.eq c.self.inside.map c.other.inside.map c.self.invariant.ordered c.other.invariant.ordered)
     ∙ (λ i. same_entries same_position g.V.PartialEq.eq (c.self.view_is i) (c.other.view_is i))

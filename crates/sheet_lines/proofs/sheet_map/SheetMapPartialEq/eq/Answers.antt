@@ -7,5 +7,5 @@ use Rattle.sheet_lines.proofs.sheet_map.SheetMapPartialEq.eq.Goals as goal
 
 pub returns : goal.returns
 returns g c =
-    c.eq.ensures ∙ sym (same_entries-made nat_cmp_total exact_unsigned nat_eq g.V.PartialEq.eq c.self.inside.map c.other.inside.map c.self.invariant c.other.invariant)
+    c.eq.ensures ∙ sym (same_entries-made nat_cmp_total exact_unsigned nat_eq g.V.PartialEq.eq c.self.inside.map c.other.inside.map c.self.invariant.ordered c.other.invariant.ordered)
     ∙ (λ i. same_entries nat_eq g.V.PartialEq.eq (c.self.view_is i) (c.other.view_is i))

@@ -1,0 +1,12 @@
+use Rattle.std.proofs.Common.{◌≡◌, ap, sym, ◌∙◌, rules}
+use Rattle.std.specs.FinMap as fin
+use Rattle.std.specs.BTreeMap.{keys}
+use Rattle.std.specs.Cmp.{int_cmp_total}
+use Rattle.std.proofs.lemmas.Map.Lookups.{exact_signed}
+use Rattle.base_values.specs.KeyMap.{keys-made}
+use Rattle.base_values.proofs.number_map.NumberMap.keys.Goals as goal
+
+pub returns-clause-keys : goal.returns-clause-keys
+returns-clause-keys g c =
+    let listed : c.new.result ≡ keys c.self.inside.map = search rules in
+    listed ∙ sym (keys-made int_cmp_total exact_signed c.self.inside.map c.self.invariant) ∙ ap fin.keys c.self.view_is

@@ -1,0 +1,11 @@
+use Rattle.std.proofs.Common.{sym, ◌∙◌}
+use Rattle.base_values.specs.KeyMap.{same_entries, same_entries-made}
+use Rattle.std.specs.Cmp.{int_cmp_total}
+use Rattle.std.proofs.lemmas.Map.Lookups.{exact_signed}
+use Rattle.std.specs.Ordering.{int_eq}
+use Rattle.base_values.proofs.number_map.NumberMapPartialEq.eq.Goals as goal
+
+pub returns : goal.returns
+returns g c =
+    c.eq.ensures ∙ sym (same_entries-made int_cmp_total exact_signed int_eq g.V.PartialEq.eq c.self.inside.map c.other.inside.map c.self.invariant c.other.invariant)
+    ∙ (λ i. same_entries int_eq g.V.PartialEq.eq (c.self.view_is i) (c.other.view_is i))

@@ -1,0 +1,11 @@
+use Rattle.std.proofs.Common.{◌≡◌, ap, sym, ◌∙◌, rules}
+use Rattle.std.specs.FinMap as fin
+use Rattle.std.specs.BTreeMap.{keys}
+use Rattle.base_values.specs.Places.{position_total, exact_positions}
+use Rattle.base_values.specs.KeyMap.{keys-made}
+use Rattle.base_values.proofs.position_map.PositionMap.keys.Goals as goal
+
+pub returns-clause-keys : goal.returns-clause-keys
+returns-clause-keys g c =
+    let listed : c.new.result ≡ keys c.self.inside.map = search rules in
+    listed ∙ sym (keys-made position_total exact_positions c.self.inside.map c.self.invariant) ∙ ap fin.keys c.self.view_is

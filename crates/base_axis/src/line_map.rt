@@ -50,8 +50,7 @@ impl<A: Axis, V> LineMap<A, V> {
 }
 
 impl<A: Axis, V: Drop> LineMap<A, V> {
-    /// Sets the entry of a line, and answers the one before. Only want of memory is refused, and
-    /// leaves the map as it was.
+    /// Sets the entry of a line, and returns the one before. `NoMemory` leaves the map as it was.
     pub fn insert(&mut self, line: i32, value: V) -> Result<Option<V>, EditError>
         requires { IsLine A.along.last line }
         ensures before { IfOk result (λ before. before ≡ fin.get self.old line) }
@@ -62,7 +61,7 @@ impl<A: Axis, V: Drop> LineMap<A, V> {
         Ok(self.map.insert(line, value)?)
     }
 
-    /// Takes the entry of a line away, and answers it. It takes no memory.
+    /// Takes the entry of a line away, and returns it. It takes no memory.
     pub fn remove(&mut self, line: i32) -> Option<V>
         ensures before { result ≡ fin.get self.old line }
         ensures removed { self.new ≡ fin.remove self.old line }
@@ -70,11 +69,12 @@ impl<A: Axis, V: Drop> LineMap<A, V> {
         self.map.remove(&line)
     }
 
-    /// Sets the entry of a line, or takes it away. Only want of memory is refused, and leaves the
-    /// map as it was.
+    /// Sets the entry of a line, or takes it away, which takes no memory. `NoMemory` leaves the map
+    /// as it was.
     pub fn put(&mut self, line: i32, entry: Option<V>) -> Result<(), EditError>
         requires { IsLine A.along.last line }
         ensures ok { OnOk result (self.new ≡ with_entry self.old line entry) }
+        ensures away { entry ≡ None → result ≡ Ok tt }
         ensures err { OnErr result (self.new ≡ self.old) }
         ensures only { IsOkUnless result NoMemory }
     {
@@ -106,7 +106,8 @@ impl<A: Axis, V> LineMap<A, V> {
         self.map.iter()
     }
 
-    /// The lines that have an entry, in ascending order. Only want of memory is refused.
+    /// The lines that have an entry, in ascending order. Returns `NoMemory` where there is no
+    /// room for the list.
     pub fn lines(&self, alloc: Global) -> Result<Items<i32>, EditError>
         ensures lines { IfOk result (λ lines. lines ≡ fin.keys self.now) }
         ensures inside { IfOk result (All (IsLine A.along.last)) }

@@ -1,14 +1,13 @@
 -- Places of a sheet, and their order.
-use Rattle.std.proofs.Common.{ℕ, ℤ, pos, ◌≤ℤ◌, Bool, ◌&&◌, Result, Ok, Err, refl, ap}
-use Rattle.std.specs.Cmp.{IsTotalOrder, IsEquivalence, on_total, then_total, int_cmp_total, nat_cmp_total, and_equiv, on_equiv, int_eq_equiv, nat_eq_equiv}
-use Rattle.std.proofs.lemmas.Map.Lookups.{CmpEqualImpliesEq, exact_pairs, exact_signed, exact_unsigned}
+use Rattle.std.proofs.Common.{ℤ, pos, ◌≤ℤ◌, Bool, ◌&&◌, Result, Ok, Err, refl, ap}
+use Rattle.std.specs.Cmp.{IsTotalOrder, IsEquivalence, on_total, then_total, int_cmp_total, and_equiv, on_equiv, int_eq_equiv}
+use Rattle.std.proofs.lemmas.Map.Lookups.{CmpEqualImpliesEq, exact_pairs, exact_signed}
 use Rattle.std.specs.declared.cmp.Ordering.{Ordering}
-use Rattle.std.specs.Ordering.{int_cmp, nat_cmp, int_eq, ordering_then}
-use Rattle.std.specs.Coded.{Coded, code_by, coded×, coded_ℕ, coded_ℤ}
+use Rattle.std.specs.Ordering.{int_cmp, int_eq, ordering_then}
+use Rattle.std.specs.Coded.{Coded, code_by, coded×, coded_ℤ}
 use Rattle.std.specs.Prelude.{if◌then◌else◌}
-use Rattle.std.specs.Prelude.{int_le, nat_eq}
+use Rattle.std.specs.Prelude.{int_le}
 use Rattle.base_values.specs.declared.position.Position.{Position}
-use Rattle.base_values.specs.declared.position.SheetPlace.{SheetPlace}
 use Rattle.base_values.specs.declared.error.EditError.{EditError}
 use Rattle.base_values.specs.declared.error.EditError.TheVariants.{InvalidRow, InvalidColumn}
 
@@ -16,17 +15,9 @@ use Rattle.base_values.specs.declared.error.EditError.TheVariants.{InvalidRow, I
 abbrev pub position_cmp : Position → Position → Ordering
 position_cmp a b = ordering_then (int_cmp a.row b.row) (int_cmp a.column b.column)
 
--- by sheet, and then by position
-abbrev pub sheet_place_cmp : SheetPlace → SheetPlace → Ordering
-sheet_place_cmp a b = ordering_then (nat_cmp a.sheet b.sheet) (position_cmp a.position b.position)
-
 -- as a pair of numbers
 abbrev pub coded_position : Coded Position
 coded_position = code_by (ℤ × ℤ) (coded× coded_ℤ coded_ℤ) (λ p. (p.row, p.column)) (λ p. record { row = p.0; column = p.1 }) (λ _. refl)
-
--- as a number and a position
-abbrev pub coded_sheet_place : Coded SheetPlace
-coded_sheet_place = code_by (ℕ × Position) (coded× coded_ℕ coded_position) (λ p. (p.sheet, p.position)) (λ p. record { sheet = p.0; position = p.1 }) (λ _. refl)
 
 -- a line of an axis with this last line
 abbrev pub IsLine : ℤ → ℤ → Type 0
@@ -51,26 +42,12 @@ position_total = then_total (on_total (λ p. p.row) int_cmp_total) (on_total (λ
 pub exact_positions : CmpEqualImpliesEq position_cmp
 exact_positions a b h = ap (λ (p : ℤ × ℤ). record { row = p.0; column = p.1 }) (exact_pairs int_cmp int_cmp exact_signed exact_signed (a.row, a.column) (b.row, b.column) h)
 
-pub sheet_place_total : IsTotalOrder sheet_place_cmp
-sheet_place_total = then_total (on_total (λ p. p.sheet) nat_cmp_total) (on_total (λ p. p.position) position_total)
-
--- places of a workbook that compare alike are one
-pub exact_sheet_places : CmpEqualImpliesEq sheet_place_cmp
-exact_sheet_places a b h = ap (λ (p : ℕ × Position). record { sheet = p.0; position = p.1 }) (exact_pairs nat_cmp position_cmp exact_unsigned exact_positions (a.sheet, a.position) (b.sheet, b.position) h)
-
 -- whether two positions are one
 abbrev pub same_position : Position → Position → Bool
 same_position a b = int_eq a.row b.row && int_eq a.column b.column
 
 pub position_equiv : IsEquivalence same_position
 position_equiv = and_equiv (on_equiv (λ p. p.row) int_eq_equiv) (on_equiv (λ p. p.column) int_eq_equiv)
-
--- whether two places of a workbook are one
-abbrev pub same_sheet_place : SheetPlace → SheetPlace → Bool
-same_sheet_place a b = nat_eq a.sheet b.sheet && same_position a.position b.position
-
-pub sheet_place_equiv : IsEquivalence same_sheet_place
-sheet_place_equiv = and_equiv (on_equiv (λ p. p.sheet) nat_eq_equiv) (on_equiv (λ p. p.position) position_equiv)
 
 -- whether a line is one of an axis
 abbrev pub is_line : ℤ → ℤ → Bool

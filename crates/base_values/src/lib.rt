@@ -6,22 +6,16 @@ mod boxed;
 mod error;
 mod exact;
 mod items;
-mod number_map;
 mod place_map;
 mod position;
-mod position_map;
-mod sheet_place_map;
 mod text;
 
 pub use boxed::Boxed;
 pub use error::EditError;
 pub use exact::{Exact, copy_of, same};
 pub use items::Items;
-pub use number_map::NumberMap;
 pub use place_map::PlaceMap;
-pub use position::{LAST_COLUMN, LAST_ROW, Position, SheetPlace, line_of, place_of};
-pub use position_map::PositionMap;
-pub use sheet_place_map::SheetPlaceMap;
+pub use position::{LAST_COLUMN, LAST_ROW, Position, line_of, place_of};
 pub use text::Text;
 
 #[cfg(test)]

@@ -63,10 +63,12 @@ impl<V: Drop> PlaceMap<V> {
         self.map.remove(&place)
     }
 
-    /// Sets the entry of a place, or takes it away.
+    /// Sets the entry of a place, or takes it away, which takes no memory. `NoMemory` leaves the map
+    /// as it was.
     pub fn put(&mut self, place: Position, entry: Option<V>) -> Result<(), EditError>
         requires { IsPlace place }
         ensures ok { OnOk result (self.new ≡ with_entry self.old place entry) }
+        ensures away { entry ≡ None → result ≡ Ok tt }
         ensures err { OnErr result (self.new ≡ self.old) }
         ensures only { IsOkUnless result NoMemory }
     {

@@ -26,23 +26,6 @@ impl Exact for Position {
     ghost equals = { position_equals };
 }
 
-/// A place of a workbook: the id of a sheet, and a position in it. Ordered by sheet, then by
-/// position.
-#[derive(Clone, Copy, Debug, PartialEq, Eq, PartialOrd, Ord)]
-pub struct SheetPlace {
-    pub sheet: u32,
-    pub position: Position,
-}
-
-impl Exact for SheetPlace {
-    ghost use Rattle.std.proofs.Common.{rules};
-    ghost use Rattle.base_values.specs.PositionEquals.{sheet_place_equals};
-
-    ghost copies = { λ a b h. Prim.search rules };
-
-    ghost equals = { sheet_place_equals };
-}
-
 fn is_line(last: i32, line: i32) -> bool
     ensures value { result ≡ is_line last line }
     ensures inside { IsTrue result → IsLine last line }

@@ -1,5 +1,10 @@
 pub mod Digits
-pub mod Splitting
-pub mod Words
-pub mod Unescaping
+pub mod EscapeLaws
+pub mod Fitting
+pub mod Letters
+pub mod Plain
 pub mod Printed
+pub mod ReferenceBounds
+pub mod Splitting
+pub mod Unescaping
+pub mod Words

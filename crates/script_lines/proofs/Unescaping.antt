@@ -3,7 +3,7 @@ use Rattle.std.proofs.Common.{◌≡◌, ℕ, List, [], ◌∷◌, ◌++◌, Opt
 use Rattle.std.specs.Prelude.{IfSome}
 use Rattle.std.specs.Str.{IsUtf8}
 use Rattle.script_lines.specs.Escapes.{unescaped, onto}
-use Rattle.script_lines.specs.EscapeLaws.{unescaped-IsUtf8}
+use Rattle.script_lines.proofs.EscapeLaws.{unescaped-IsUtf8}
 
 -- one byte more
 one_more : (text : List ℕ) (b : ℕ) (o : Option (List ℕ)) → option_map (λ t. text ++ t) (onto b o) ≡ option_map (λ t. (text ++ b ∷ []) ++ t) o

@@ -1,7 +1,8 @@
 -- More words than a command has, and lines that are text.
 use Rattle.std.proofs.Common.{◌≡◌, ℕ, ◌==◌, Bool, true, false, cond, List, [], ◌∷◌, Option, None, Result, Ok, Err, refl, sym, ap, subst, ◌∙◌}
 use Rattle.std.specs.Prelude.{IfOk, IfSome}
-use Rattle.script_lines.specs.CommandFits.{CommandFits, command_fits}
+use Rattle.script_lines.specs.CommandFits.{CommandFits}
+use Rattle.script_lines.proofs.Fitting.{command_fits}
 use Rattle.base_values.specs.declared.error.EditError.{EditError}
 use Rattle.std.specs.Str.{IsUtf8, is_utf8}
 use Rattle.std.specs.List.{onto_first}

@@ -1,10 +1,7 @@
 pub mod Parts
 pub mod Number
 pub mod References
-pub mod ReferenceBounds
 pub mod Escapes
-pub mod EscapeLaws
 pub mod Unsupported
 pub mod Commands
-pub mod Letters
 pub mod CommandFits

@@ -1,4 +1,5 @@
-ghost use Rattle.std.specs.Prelude.{◌≡◌, ◌<◌, ◌++◌, ◌∷◌, length, OnOk, IfOk, IsOkUnless, IfSome, MatchOption, Some};
+ghost use Rattle.std.specs.Prelude.{◌≡◌, ◌<◌, ◌++◌, ◌∷◌, ◌==◌, length, not, OnOk, IfOk, IsOkUnless, IfSome, MatchOption, Some};
+ghost use Rattle.std.specs.List.{list_any};
 ghost use Rattle.std.specs.Str.{IsUtf8};
 ghost use Rattle.std.specs.Option.{option_map};
 ghost use Rattle.base_values.specs.declared.error.EditError.TheVariants.{NoMemory};
@@ -79,12 +80,23 @@ fn text_from(bytes: Vec<u8>) -> Option<Text>
     }
 }
 
+/// Whether no backslash stands in a text.
+fn is_plain(text: &[u8]) -> bool
+    ensures { result ≡ not (list_any (λ b. b == 92) text.now) }
+{
+    !text.contains(&b'\\')
+}
+
 /// The text that an escaped text stands for. None where a backslash stands before anything but
 /// `n` and a backslash.
 pub(crate) fn unescape(alloc: Global, text: &str) -> Result<Option<Text>, EditError>
     ensures value { IfOk result (λ found. found ≡ unescaped text.now) }
     ensures err { IsOkUnless result NoMemory }
 {
+    // Most texts stand for themselves: they are copied at once.
+    if is_plain(text.as_bytes()) {
+        return Ok(Some(Text::new(text.to_string(alloc)?)));
+    }
     match unescape_bytes(alloc, text.as_bytes())? {
         Some(bytes) => Ok(text_from(bytes)),
         None => Ok(None),

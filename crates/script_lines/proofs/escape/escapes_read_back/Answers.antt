@@ -1,4 +1,4 @@
-use Rattle.script_lines.specs.EscapeLaws.{unescaped-escaped, only_escaped}
+use Rattle.script_lines.proofs.EscapeLaws.{unescaped-escaped, only_escaped}
 use Rattle.script_lines.proofs.escape.escapes_read_back.Goals as goal
 
 pub returns-clause-undone : goal.returns-clause-undone

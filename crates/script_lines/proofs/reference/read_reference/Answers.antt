@@ -1,4 +1,4 @@
-use Rattle.script_lines.specs.Letters.{all_letters}
+use Rattle.script_lines.proofs.Letters.{all_letters}
 use Rattle.script_lines.proofs.reference.read_reference.Goals as goal
 
 pub column_of-requires : goal.column_of-requires

@@ -1,5 +1,5 @@
 use Rattle.std.proofs.Common.{◌∙◌, arith}
-use Rattle.script_lines.specs.ReferenceBounds.{row_is, read_row-lt}
+use Rattle.script_lines.proofs.ReferenceBounds.{row_is, read_row-lt}
 use Rattle.script_lines.proofs.reference.row_of.Goals as goal
 
 pub returns-clause-value : goal.returns-clause-value

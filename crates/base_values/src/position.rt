@@ -1,4 +1,5 @@
-ghost use Rattle.std.specs.Prelude.{◌≡◌, IfOk, IsTrue};
+ghost use Rattle.std.specs.Prelude.{◌≡◌, ◌≢◌, Err, IfOk, IsTrue};
+ghost use Rattle.base_values.specs.declared.error.EditError.TheVariants.{NoMemory};
 ghost use Rattle.base_values.specs.Places.{IsLine, IsPlace, is_line, line_of, place_of};
 
 use crate::error::EditError;
@@ -33,11 +34,12 @@ fn is_line(last: i32, line: i32) -> bool
     1 <= line && line <= last
 }
 
-/// A line of an axis that ends at `last`. A line outside it is answered by the refusal.
+/// A line of an axis that ends at `last`, or the refusal where it lies outside.
 #[tactic(auto, unfolding(crate::specs::Places::line_of))]
 pub fn line_of(last: i32, line: i32, refusal: EditError) -> Result<i32, EditError>
     ensures line { result ≡ line_of last line refusal }
     ensures inside { IfOk result (IsLine last) }
+    ensures sure { refusal ≢ NoMemory → result ≢ Err NoMemory }
 {
     if !is_line(last, line) {
         return Err(refusal);
@@ -52,6 +54,7 @@ pub fn line_of(last: i32, line: i32, refusal: EditError) -> Result<i32, EditErro
 pub fn place_of(row: i32, column: i32) -> Result<Position, EditError>
     ensures place { result ≡ place_of row column }
     ensures inside { IfOk result IsPlace }
+    ensures sure { result ≢ Err NoMemory }
 {
     if !is_line(LAST_ROW, row) {
         return Err(EditError::InvalidRow);

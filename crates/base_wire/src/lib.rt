@@ -12,6 +12,7 @@ mod codes;
 mod many;
 mod part;
 mod reading;
+mod shared;
 mod values;
 mod writing;
 

@@ -12,18 +12,18 @@ use base_values::{EditError, Items};
 use std::alloc::{AllocError, Global};
 
 /// 0 for nothing, or 1 and the value.
-fn option_at<'a, V: Part>(
+fn option_at<'a, P: Part>(
     alloc: Global,
-    context: &V::Context,
+    context: &P::Context,
     bytes: &'a [u8],
-) -> Result<(Option<V>, &'a [u8]), EditError>
-    ensures { Answers (map_ok (λ x. (x.0, x.1.now)) result) (option_at V.reading bytes.now) }
+) -> Result<(Option<P::Value>, &'a [u8]), EditError>
+    ensures { Answers (map_ok (λ x. (x.0, x.1.now)) result) (option_at P.reading bytes.now) }
 {
     let (flag, rest) = byte_at(bytes)?;
     match flag {
         0 => Ok((None, rest)),
         1 => {
-            let (value, rest) = read::<V>(alloc, context, rest)?;
+            let (value, rest) = read::<P>(alloc, context, rest)?;
             Ok((Some(value), rest))
         }
         _ => Err(EditError::ParseDiffs),
@@ -31,18 +31,18 @@ fn option_at<'a, V: Part>(
 }
 
 /// So many items, one after the other.
-fn many_at<'a, V: Part>(
+fn many_at<'a, P: Part>(
     alloc: Global,
-    context: &V::Context,
+    context: &P::Context,
     count: u64,
     bytes: &'a [u8],
-) -> Result<(Vec<V>, &'a [u8]), EditError>
-    ensures { Answers (map_ok (λ x. (x.0.items, x.1.now)) result) (many_at V.reading count bytes.now) }
+) -> Result<(Vec<P::Value>, &'a [u8]), EditError>
+    ensures { Answers (map_ok (λ x. (x.0.items, x.1.now)) result) (many_at P.reading count bytes.now) }
 {
     let mut items = Vec::new(alloc);
     let mut rest = bytes;
     'reads: for _ in 0..count {
-        let (item, after) = read::<V>(alloc, context, rest)?;
+        let (item, after) = read::<P>(alloc, context, rest)?;
         items.push(item)?;
         rest = after;
     }
@@ -50,54 +50,56 @@ fn many_at<'a, V: Part>(
 }
 
 /// A count, and so many items.
-fn list_at<'a, V: Part>(
+fn list_at<'a, P: Part>(
     alloc: Global,
-    context: &V::Context,
+    context: &P::Context,
     bytes: &'a [u8],
-) -> Result<(Items<V>, &'a [u8]), EditError>
-    ensures { Answers (map_ok (λ x. (x.0, x.1.now)) result) (list_at V.reading bytes.now) }
+) -> Result<(Items<P::Value>, &'a [u8]), EditError>
+    ensures { Answers (map_ok (λ x. (x.0, x.1.now)) result) (list_at P.reading bytes.now) }
 {
     let (count, rest) = count_at(bytes)?;
-    let (items, rest) = many_at::<V>(alloc, context, count, rest)?;
+    let (items, rest) = many_at::<P>(alloc, context, count, rest)?;
     Ok((Items::new(items), rest))
 }
 
 /// Adds how many items there are, in eight bytes, and each of them (docs/FORMATS.md, "Bytes"). Out of
 /// memory may leave some of them there.
-pub fn put_items<V: Part>(out: &mut Vec<u8>, items: &[V]) -> Result<(), AllocError>
-    ensures spelled { OnOk result (out.new.items ≡ out.old.items ++ spell_list V.spelling items.now) }
-    ensures fits { OnOk result (AllByRecursion V.Known items.now → FitsItems V.Fits items.now) }
+pub fn put_items<P: Part>(out: &mut Vec<u8>, items: &[P::Value]) -> Result<(), AllocError>
+    ensures spelled { OnOk result (out.new.items ≡ out.old.items ++ spell_list P.spelling items.now) }
+    ensures fits { OnOk result (AllByRecursion P.Known items.now → FitsItems P.Fits items.now) }
 {
     out.extend_from_slice(&(items.len() as u64).to_be_bytes())?;
     for item in items {
-        item.put(out)?;
+        P::put(out, item)?;
     }
     Ok(())
 }
 
-impl<V: Part> Part for Option<V> {
+impl<P: Part> Part for Option<P> {
     ghost use Rattle.std.specs.Prelude.{IfSome};
     ghost use Rattle.base_wire.specs.Reading.{option_at};
     ghost use Rattle.base_wire.specs.Spelling.{spell_option};
     ghost use Rattle.base_wire.specs.laws.Format.{option_format};
     ghost use Rattle.base_wire.specs.laws.Parts.{option_some};
 
-    type Context = V::Context;
+    type Value = Option<P::Value>;
 
-    ghost Known = { λ o. IfSome o V.Known };
+    type Context = P::Context;
 
-    ghost Fits = { λ o. IfSome o V.Fits };
+    ghost Known = { λ o. IfSome o P.Known };
 
-    ghost spelling = { spell_option V.spelling };
+    ghost Fits = { λ o. IfSome o P.Fits };
 
-    ghost reading = { option_at V.reading };
+    ghost spelling = { spell_option P.spelling };
 
-    fn put(&self, out: &mut Vec<u8>) -> Result<(), AllocError> {
-        match self {
+    ghost reading = { option_at P.reading };
+
+    fn put(out: &mut Vec<u8>, value: &Option<P::Value>) -> Result<(), AllocError> {
+        match value {
             None => out.push(0)?,
             Some(value) => {
                 out.push(1)?;
-                value.put(out)?;
+                P::put(out, value)?;
             }
         }
         Ok(())
@@ -105,47 +107,49 @@ impl<V: Part> Part for Option<V> {
 
     fn take<'a>(
         alloc: Global,
-        context: &V::Context,
+        context: &P::Context,
         bytes: &'a [u8],
-    ) -> Result<(Option<V>, &'a [u8]), EditError> {
-        option_at::<V>(alloc, context, bytes)
+    ) -> Result<(Option<P::Value>, &'a [u8]), EditError> {
+        option_at::<P>(alloc, context, bytes)
     }
 
-    ghost format = { option_format V.format };
+    ghost format = { option_format P.format };
 
-    ghost some = { option_some V.spelling };
+    ghost some = { option_some P.spelling };
 }
 
-impl<V: Part> Part for Items<V> {
+impl<P: Part> Part for Items<P> {
     ghost use Rattle.std.proofs.Common.{arith};
     ghost use Rattle.std.specs.List.{AllByRecursion};
     ghost use Rattle.base_wire.specs.Reading.{list_at};
     ghost use Rattle.base_wire.specs.Spelling.{spell_list, FitsItems};
     ghost use Rattle.base_wire.specs.laws.Format.{list_format};
 
-    type Context = V::Context;
+    type Value = Items<P::Value>;
 
-    ghost Known = { AllByRecursion V.Known };
+    type Context = P::Context;
 
-    ghost Fits = { FitsItems V.Fits };
+    ghost Known = { AllByRecursion P.Known };
 
-    ghost spelling = { spell_list V.spelling };
+    ghost Fits = { FitsItems P.Fits };
 
-    ghost reading = { list_at V.reading };
+    ghost spelling = { spell_list P.spelling };
 
-    fn put(&self, out: &mut Vec<u8>) -> Result<(), AllocError> {
-        put_items(out, self.as_slice())
+    ghost reading = { list_at P.reading };
+
+    fn put(out: &mut Vec<u8>, value: &Items<P::Value>) -> Result<(), AllocError> {
+        put_items::<P>(out, value.as_slice())
     }
 
     fn take<'a>(
         alloc: Global,
-        context: &V::Context,
+        context: &P::Context,
         bytes: &'a [u8],
-    ) -> Result<(Items<V>, &'a [u8]), EditError> {
-        list_at::<V>(alloc, context, bytes)
+    ) -> Result<(Items<P::Value>, &'a [u8]), EditError> {
+        list_at::<P>(alloc, context, bytes)
     }
 
-    ghost format = { list_format V.format V.some };
+    ghost format = { list_format P.format P.some };
 
     ghost some = { λ x. Prim.omega arith };
 }

@@ -9,27 +9,31 @@ ghost use Rattle.base_wire.specs.laws.Format.{Format};
 use base_values::EditError;
 use std::alloc::{AllocError, Global};
 
-/// A type whose values are written as bytes and read from them.
-pub trait Part: Drop {
+/// A part of a format: how the values of a type are written as bytes and read from them. A type of this
+/// crate's own imports is its own part; for others a crate declares a type that stands for the part.
+pub trait Part {
+    /// The type whose values are written.
+    type Value: Drop;
+
     /// What reading shares among the values that it makes.
     type Context;
 
     /// What writing asks of a value of Rust's own types, such as that its numbers are canonical.
-    ghost Known: { Self → Type 0 };
+    ghost Known: { Self.Value → Type 0 };
 
     /// Bytes can carry the value.
-    ghost Fits: { Self → Type 0 };
+    ghost Fits: { Self.Value → Type 0 };
 
     /// The bytes of a value.
-    ghost spelling: { Self → List ℕ };
+    ghost spelling: { Self.Value → List ℕ };
 
     /// Serves proofs alone: the steps of a reader as a function.
-    ghost reading: { Reader Self };
+    ghost reading: { Reader Self.Value };
 
     /// Adds the bytes of the value. Out of memory may leave some of them there.
-    fn put(&self, out: &mut Vec<u8>) -> Result<(), AllocError>
-        ensures spelled { OnOk result (out.new.items ≡ out.old.items ++ spelling self.now) }
-        ensures fits { OnOk result (Known self.now → Fits self.now) };
+    fn put(out: &mut Vec<u8>, value: &Self::Value) -> Result<(), AllocError>
+        ensures spelled { OnOk result (out.new.items ≡ out.old.items ++ spelling value.now) }
+        ensures fits { OnOk result (Known value.now → Fits value.now) };
 
     /// The value at the front of bytes, and the bytes after it.
     ///
@@ -38,23 +42,23 @@ pub trait Part: Drop {
         alloc: Global,
         context: &Self::Context,
         bytes: &'a [u8],
-    ) -> Result<(Self, &'a [u8]), EditError>
+    ) -> Result<(Self::Value, &'a [u8]), EditError>
         ensures { Reads Fits spelling bytes.now (map_ok (λ x. (x.0, x.1.now)) result) };
 
     /// The laws that tie the spelling to the reader's steps.
     ghost format: { Format Fits spelling reading };
 
     /// Each value takes a byte at least.
-    ghost some: { (x : Self) → 1 ≤ length (spelling x) };
+    ghost some: { (x : Self.Value) → 1 ≤ length (spelling x) };
 }
 
 /// What `take` answers, by the steps of the reader.
-pub(crate) fn read<'a, V: Part>(
+pub(crate) fn read<'a, P: Part>(
     alloc: Global,
-    context: &V::Context,
+    context: &P::Context,
     bytes: &'a [u8],
-) -> Result<(V, &'a [u8]), EditError>
-    ensures { Answers (map_ok (λ x. (x.0, x.1.now)) result) (V.reading bytes.now) }
+) -> Result<(P::Value, &'a [u8]), EditError>
+    ensures { Answers (map_ok (λ x. (x.0, x.1.now)) result) (P.reading bytes.now) }
 {
-    V::take(alloc, context, bytes)
+    P::take(alloc, context, bytes)
 }

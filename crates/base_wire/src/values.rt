@@ -16,6 +16,8 @@ impl Part for u8 {
     ghost use Rattle.base_wire.specs.Reading.{byte_at};
     ghost use Rattle.base_wire.specs.laws.Parts.{byte_format};
 
+    type Value = u8;
+
     type Context = ();
 
     ghost Known = { Any };
@@ -26,8 +28,8 @@ impl Part for u8 {
 
     ghost reading = { byte_at };
 
-    fn put(&self, out: &mut Vec<u8>) -> Result<(), AllocError> {
-        out.push(*self)?;
+    fn put(out: &mut Vec<u8>, value: &u8) -> Result<(), AllocError> {
+        out.push(*value)?;
         Ok(())
     }
 
@@ -52,6 +54,8 @@ impl Part for u32 {
     ghost use Rattle.base_wire.specs.Reading.{number_at};
     ghost use Rattle.base_wire.specs.laws.Parts.{short_format};
 
+    type Value = u32;
+
     type Context = ();
 
     ghost Known = { Any };
@@ -62,8 +66,8 @@ impl Part for u32 {
 
     ghost reading = { number_at w32 };
 
-    fn put(&self, out: &mut Vec<u8>) -> Result<(), AllocError> {
-        out.extend_from_slice(&self.to_be_bytes())
+    fn put(out: &mut Vec<u8>, value: &u32) -> Result<(), AllocError> {
+        out.extend_from_slice(&value.to_be_bytes())
     }
 
     fn take<'a>(
@@ -87,6 +91,8 @@ impl Part for u64 {
     ghost use Rattle.base_wire.specs.Reading.{number_at};
     ghost use Rattle.base_wire.specs.laws.Parts.{long_format};
 
+    type Value = u64;
+
     type Context = ();
 
     ghost Known = { Any };
@@ -97,8 +103,8 @@ impl Part for u64 {
 
     ghost reading = { number_at w64 };
 
-    fn put(&self, out: &mut Vec<u8>) -> Result<(), AllocError> {
-        out.extend_from_slice(&self.to_be_bytes())
+    fn put(out: &mut Vec<u8>, value: &u64) -> Result<(), AllocError> {
+        out.extend_from_slice(&value.to_be_bytes())
     }
 
     fn take<'a>(
@@ -122,6 +128,8 @@ impl Part for i32 {
     ghost use Rattle.base_wire.specs.Reading.{signed_at};
     ghost use Rattle.base_wire.specs.laws.Parts.{signed_format};
 
+    type Value = i32;
+
     type Context = ();
 
     ghost Known = { Any };
@@ -132,8 +140,8 @@ impl Part for i32 {
 
     ghost reading = { signed_at w32 };
 
-    fn put(&self, out: &mut Vec<u8>) -> Result<(), AllocError> {
-        out.extend_from_slice(&self.to_be_bytes())
+    fn put(out: &mut Vec<u8>, value: &i32) -> Result<(), AllocError> {
+        out.extend_from_slice(&value.to_be_bytes())
     }
 
     fn take<'a>(
@@ -155,6 +163,8 @@ impl Part for bool {
     ghost use Rattle.base_wire.specs.Parts.{boolean_at};
     ghost use Rattle.base_wire.specs.laws.Parts.{boolean_format};
 
+    type Value = bool;
+
     type Context = ();
 
     ghost Known = { Any };
@@ -165,8 +175,8 @@ impl Part for bool {
 
     ghost reading = { boolean_at };
 
-    fn put(&self, out: &mut Vec<u8>) -> Result<(), AllocError> {
-        out.push(boolean_code(*self))?;
+    fn put(out: &mut Vec<u8>, value: &bool) -> Result<(), AllocError> {
+        out.push(boolean_code(*value))?;
         Ok(())
     }
 
@@ -190,6 +200,8 @@ impl Part for Error {
     ghost use Rattle.base_wire.specs.Parts.{error_at};
     ghost use Rattle.base_wire.specs.laws.Parts.{error_format};
 
+    type Value = Error;
+
     type Context = ();
 
     ghost Known = { Any };
@@ -200,8 +212,8 @@ impl Part for Error {
 
     ghost reading = { error_at };
 
-    fn put(&self, out: &mut Vec<u8>) -> Result<(), AllocError> {
-        out.push(self.code())?;
+    fn put(out: &mut Vec<u8>, value: &Error) -> Result<(), AllocError> {
+        out.push(value.code())?;
         Ok(())
     }
 
@@ -223,6 +235,8 @@ impl Part for Decimal {
     ghost use Rattle.base_wire.specs.Parts.{spell_decimal, decimal_at};
     ghost use Rattle.base_wire.specs.laws.Parts.{decimal_format, decimal_some};
 
+    type Value = Decimal;
+
     type Context = ();
 
     ghost Known = { IsKept };
@@ -233,8 +247,8 @@ impl Part for Decimal {
 
     ghost reading = { decimal_at };
 
-    fn put(&self, out: &mut Vec<u8>) -> Result<(), AllocError> {
-        push_decimal(out, *self)
+    fn put(out: &mut Vec<u8>, value: &Decimal) -> Result<(), AllocError> {
+        push_decimal(out, *value)
     }
 
     fn take<'a>(
@@ -256,6 +270,8 @@ impl Part for Text {
     ghost use Rattle.base_wire.specs.Reading.{text_at};
     ghost use Rattle.base_wire.specs.laws.Parts.{text_format};
 
+    type Value = Text;
+
     type Context = ();
 
     ghost Known = { Any };
@@ -266,8 +282,8 @@ impl Part for Text {
 
     ghost reading = { text_at };
 
-    fn put(&self, out: &mut Vec<u8>) -> Result<(), AllocError> {
-        push_text(out, self)
+    fn put(out: &mut Vec<u8>, value: &Text) -> Result<(), AllocError> {
+        push_text(out, value)
     }
 
     fn take<'a>(

@@ -9,6 +9,7 @@ use Rattle.formula_tree.specs.declared.Node.{Node, fold-Node}
 use Rattle.formula_tree.specs.declared.Node.TheOpen.{Node-F}
 use Rattle.formula_tree.specs.declared.Node.TheOpen as layer
 use Rattle.formula_tree.specs.DepthBounds.{is_within}
+use Rattle.formula_tree.specs.Numbers.{has_kept_numbers}
 use Rattle.base_wire.specs.laws.Form.{if_passes, is_text, is_list}
 
 -- a number of 32 bits
@@ -62,4 +63,9 @@ is_carried = fold-Node Bool carried_layer
 -- a tree that bytes can carry: at most 64 deep, of parts that they can carry
 pub record FitsNode (node : Node) : Type 0 where
   pub carried : IsTrue (is_carried node)
+  pub depth : IsTrue (is_within 64 node)
+
+-- what writing asks of a tree: its numbers are kept, and it is at most 64 deep
+pub record IsKnownNode (node : Node) : Type 0 where
+  pub kept : IsTrue (has_kept_numbers node)
   pub depth : IsTrue (is_within 64 node)

@@ -46,7 +46,8 @@ each_line_kept : (lines : List (List ArrayItem)) → list_all (is_list is_item) 
 each_line_kept [] h = refl
 each_line_kept (line ∷ lines) h = let p = and_parts (is_list is_item line) (list_all (is_list is_item) lines) h in and_from (list_all is_kept_item line) (list_all (list_all is_kept_item) lines) (line_kept line p.0) (each_line_kept lines p.1)
 
-lines_kept : (lines : List (List ArrayItem)) → is_list (is_list is_item) lines ≡ true → list_all (list_all is_kept_item) lines ≡ true
+-- the constants of an array that bytes can carry are kept
+pub lines_kept : (lines : List (List ArrayItem)) → is_list (is_list is_item) lines ≡ true → list_all (list_all is_kept_item) lines ≡ true
 lines_kept lines h = each_line_kept lines (and_parts (nat_lt (length lines) (2 ^ 64)) (list_all (is_list is_item) lines) h).1
 
 -- ---- trees

@@ -130,17 +130,22 @@ call_of read others tag =
     else if tag == 22 then map_at node.ImplicitIntersection read
     else others tag
 
+-- what follows the tags of operators of several kinds
+abbrev pub kinded_of : Reader Node → (ℕ → Reader Node) → ℕ → Reader Node
+kinded_of read others tag =
+    if tag == 7 then map_at compare_made (compare_at ⊗ read ⊗ read)
+    else if tag == 8 then map_at sum_made (sum_at ⊗ read ⊗ read)
+    else if tag == 9 then map_at product_made (product_at ⊗ read ⊗ read)
+    else if tag == 11 then map_at unary_made (unary_at ⊗ read)
+    else others tag
+
 -- what follows the tags of the other operators
 abbrev pub operator_of : Reader Node → (ℕ → Reader Node) → ℕ → Reader Node
 operator_of read others tag =
     if tag == 5 then map_at colon_made (read ⊗ read)
     else if tag == 6 then map_at concatenate_made (read ⊗ read)
-    else if tag == 7 then map_at compare_made (compare_at ⊗ read ⊗ read)
-    else if tag == 8 then map_at sum_made (sum_at ⊗ read ⊗ read)
-    else if tag == 9 then map_at product_made (product_at ⊗ read ⊗ read)
     else if tag == 10 then map_at power_made (read ⊗ read)
-    else if tag == 11 then map_at unary_made (unary_at ⊗ read)
-    else others tag
+    else kinded_of read others tag
 
 -- what follows each tag, where the children are read by a reader that reaches so deep
 abbrev pub node_of : Reader Node → ℕ → ℕ → Reader Node

@@ -11,6 +11,7 @@ use Rattle.base_wire.specs.Reading.{Reader, refused, map_at, ◌⊗◌}
 use Rattle.base_wire.specs.laws.Again.{ReadsAgain}
 use Rattle.base_wire.specs.laws.Spelled.{ReadsSpelled, TagSpelled, tag_map, tag_plain, tag_refused, tag_if, tagged_spelled, fits_otherwise}
 use Rattle.base_wire.specs.laws.Refusals.{IsPlain, map_plain, plain_plain, refused_plain, if_plain, tagged_plain}
+use Rattle.base_wire.specs.laws.Format.{Format}
 use Rattle.base_wire.specs.laws.Form.{Passes, Form, form_of, both_form, decimal_form, text_form, list_form}
 use Rattle.formula_wire.specs.PartBytes.{sheet_at, corner_at}
 use Rattle.formula_wire.specs.PartLaws.{boolean_form, error_form, compare_form, sum_form, product_form, unary_form, function_form, corner_form, sheet_form, lines_form, parameters_form}
@@ -127,10 +128,10 @@ level_spelled : (rest : ℕ) → Form (fits_within rest) spell_node (node_within
 level_spelled rest law tag =
     tag_if tag 5 (kind_spelled rest 5 (both_form law law) colon_made (λ x. spell_of_colon x.0 x.1) (λ x. fits_colon rest x.0 x.1))
     (tag_if tag 6 (kind_spelled rest 6 (both_form law law) concatenate_made (λ x. spell_of_concatenate x.0 x.1) (λ x. fits_concatenate rest x.0 x.1))
+    (tag_if tag 10 (kind_spelled rest 10 (both_form law law) power_made (λ x. spell_of_power x.0 x.1) (λ x. fits_power rest x.0 x.1))
     (tag_if tag 7 (kind_spelled rest 7 (both_form compare_form (both_form law law)) compare_made (λ x. spell_of_compare x.0 x.1.0 x.1.1) (λ x. fits_compare rest x.0 x.1.0 x.1.1))
     (tag_if tag 8 (kind_spelled rest 8 (both_form sum_form (both_form law law)) sum_made (λ x. spell_of_sum x.0 x.1.0 x.1.1) (λ x. fits_sum rest x.0 x.1.0 x.1.1))
     (tag_if tag 9 (kind_spelled rest 9 (both_form product_form (both_form law law)) product_made (λ x. spell_of_product x.0 x.1.0 x.1.1) (λ x. fits_product rest x.0 x.1.0 x.1.1))
-    (tag_if tag 10 (kind_spelled rest 10 (both_form law law) power_made (λ x. spell_of_power x.0 x.1) (λ x. fits_power rest x.0 x.1))
     (tag_if tag 11 (kind_spelled rest 11 (both_form unary_form law) unary_made (λ x. spell_of_unary x.0 x.1) (λ x. fits_unary rest x.0 x.1))
     (tag_if tag 12 (kind_spelled rest 12 (both_form function_form (list_form law some_byte)) call_made (λ x. spell_of_call x.0 x.1) (λ x. fits_call rest x.0 x.1))
     (tag_if tag 13 (kind_spelled rest 13 (both_form text_form (list_form law some_byte)) named_call_made (λ x. spell_of_named_call x.0 x.1) (λ x. fits_named_call rest x.0 x.1))
@@ -154,10 +155,10 @@ level_plain : (rest : ℕ) → Form (fits_within rest) spell_node (node_within r
 level_plain rest law tag =
     if_plain (eqb tag 5) (map_plain colon_made (both_form law law).plain)
     (if_plain (eqb tag 6) (map_plain concatenate_made (both_form law law).plain)
+    (if_plain (eqb tag 10) (map_plain power_made (both_form law law).plain)
     (if_plain (eqb tag 7) (map_plain compare_made (both_form compare_form (both_form law law)).plain)
     (if_plain (eqb tag 8) (map_plain sum_made (both_form sum_form (both_form law law)).plain)
     (if_plain (eqb tag 9) (map_plain product_made (both_form product_form (both_form law law)).plain)
-    (if_plain (eqb tag 10) (map_plain power_made (both_form law law).plain)
     (if_plain (eqb tag 11) (map_plain unary_made (both_form unary_form law).plain)
     (if_plain (eqb tag 12) (map_plain call_made (both_form function_form (list_form law some_byte)).plain)
     (if_plain (eqb tag 13) (map_plain named_call_made (both_form text_form (list_form law some_byte)).plain)
@@ -223,3 +224,7 @@ node_spelled = fits_otherwise node_out (within_form 64).spelled
 pub node_plain : IsPlain node_at
 unfolding node_at
 node_plain = (within_form 64).plain
+
+-- the three laws together
+pub node_format : Format FitsNode spell_node node_at
+node_format = record { again = node_again; spelled = node_spelled; plain = node_plain }

@@ -144,7 +144,7 @@ item_spelled =
     (tag_if kind 3 (tag_map error_form.spelled item.Error (Passes is_item) spell_item 3 (λ x. refl) (λ x h. refl))
     (tag_refused (Passes is_item) spell_item kind)))))
 
-item_form : Form is_item spell_item item_at
+pub item_form : Form is_item spell_item item_at
 unfolding item_at
 item_form = record {
   again = item_again;
@@ -157,7 +157,7 @@ item_form = record {
       (if_plain _ (map_plain item.Error error_form.plain) refused_plain))));
 }
 
-item_some : (x : ArrayItem) → 1 ≤ length (spell_item x)
+pub item_some : (x : ArrayItem) → 1 ≤ length (spell_item x)
 item_some (item.Boolean value) = omega arith
 item_some (item.Number value) = omega arith
 item_some (item.Text text) = omega arith
@@ -177,7 +177,7 @@ parameter_passes : (b : Bool) → b && true ≡ b
 parameter_passes true = refl
 parameter_passes false = refl
 
-parameter_form : Form is_parameter spell_parameter parameter_at
+pub parameter_form : Form is_parameter spell_parameter parameter_at
 unfolding parameter_at
 parameter_form =
     let form = map_form (both_form text_form boolean_form) parameter_made (λ parameter. (parameter.name, parameter.optional)) (λ y. refl) (λ x. refl) in

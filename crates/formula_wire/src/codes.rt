@@ -6,10 +6,11 @@ ghost use Rattle.base_values.specs.declared.EditError.TheVariants.{ParseDiffs};
 ghost use Rattle.base_wire.specs.Reading.{decoded};
 ghost use Rattle.formula_wire.specs.PartBytes.{compare_at, compare_code, comparisons, function_at, product_at, product_code, products, sum_at, sum_code, sums, unaries, unary_at, unary_code};
 
+use crate::read::read;
 use base_tables::Function;
 use base_values::EditError;
-use base_wire::byte_at;
 use formula_tree::{CompareKind, ProductKind, SumKind, UnaryKind};
+use std::alloc::Global;
 
 pub(crate) fn compare_code(kind: CompareKind) -> u8
     ensures { result ≡ compare_code kind }
@@ -38,10 +39,10 @@ fn compare_of(code: u8) -> Result<CompareKind, EditError>
     }
 }
 
-pub(crate) fn compare_at(bytes: &[u8]) -> Result<(CompareKind, &[u8]), EditError>
+pub(crate) fn compare_at(alloc: Global, bytes: &[u8]) -> Result<(CompareKind, &[u8]), EditError>
     ensures { Answers (map_ok (λ x. (x.0, x.1.now)) result) (compare_at bytes.now) }
 {
-    let (code, rest) = byte_at(bytes)?;
+    let (code, rest) = read::<u8>(alloc, bytes)?;
     let kind = compare_of(code)?;
     Ok((kind, rest))
 }
@@ -65,10 +66,10 @@ fn sum_of(code: u8) -> Result<SumKind, EditError>
     }
 }
 
-pub(crate) fn sum_at(bytes: &[u8]) -> Result<(SumKind, &[u8]), EditError>
+pub(crate) fn sum_at(alloc: Global, bytes: &[u8]) -> Result<(SumKind, &[u8]), EditError>
     ensures { Answers (map_ok (λ x. (x.0, x.1.now)) result) (sum_at bytes.now) }
 {
-    let (code, rest) = byte_at(bytes)?;
+    let (code, rest) = read::<u8>(alloc, bytes)?;
     let kind = sum_of(code)?;
     Ok((kind, rest))
 }
@@ -92,10 +93,10 @@ fn product_of(code: u8) -> Result<ProductKind, EditError>
     }
 }
 
-pub(crate) fn product_at(bytes: &[u8]) -> Result<(ProductKind, &[u8]), EditError>
+pub(crate) fn product_at(alloc: Global, bytes: &[u8]) -> Result<(ProductKind, &[u8]), EditError>
     ensures { Answers (map_ok (λ x. (x.0, x.1.now)) result) (product_at bytes.now) }
 {
-    let (code, rest) = byte_at(bytes)?;
+    let (code, rest) = read::<u8>(alloc, bytes)?;
     let kind = product_of(code)?;
     Ok((kind, rest))
 }
@@ -119,18 +120,18 @@ fn unary_of(code: u8) -> Result<UnaryKind, EditError>
     }
 }
 
-pub(crate) fn unary_at(bytes: &[u8]) -> Result<(UnaryKind, &[u8]), EditError>
+pub(crate) fn unary_at(alloc: Global, bytes: &[u8]) -> Result<(UnaryKind, &[u8]), EditError>
     ensures { Answers (map_ok (λ x. (x.0, x.1.now)) result) (unary_at bytes.now) }
 {
-    let (code, rest) = byte_at(bytes)?;
+    let (code, rest) = read::<u8>(alloc, bytes)?;
     let kind = unary_of(code)?;
     Ok((kind, rest))
 }
 
-pub(crate) fn function_at(bytes: &[u8]) -> Result<(Function, &[u8]), EditError>
+pub(crate) fn function_at(alloc: Global, bytes: &[u8]) -> Result<(Function, &[u8]), EditError>
     ensures { Answers (map_ok (λ x. (x.0, x.1.now)) result) (function_at bytes.now) }
 {
-    let (code, rest) = byte_at(bytes)?;
+    let (code, rest) = read::<u8>(alloc, bytes)?;
     match Function::from_code(code) {
         Some(function) => Ok((function, rest)),
         None => Err(EditError::ParseDiffs),

@@ -1,26 +1,38 @@
-//! Corners, arrays and parameters at the end of bytes.
+//! Corners, arrays, parameters and nodes without children at the end of bytes. Those of Rust's own types
+//! fit, where their numbers are kept.
 
-ghost use Rattle.std.specs.Prelude.{◌≡◌, ◌∷◌, ◌++◌, OnOk};
+ghost use Rattle.std.specs.Prelude.{◌≡◌, ◌∷◌, ◌++◌, ◌&&◌, true, OnOk};
+ghost use Rattle.std.specs.List.{list_all};
+ghost use Rattle.base_wire.specs.Parts.{spell_decimal};
 ghost use Rattle.base_wire.specs.Spelling.{spell_text};
-ghost use Rattle.formula_wire.specs.PartBytes.{spell_corner, spell_item, spell_line, spell_lines, spell_parameter, spell_parameters, spell_sheet};
+ghost use Rattle.base_wire.specs.laws.Form.{if_passes, is_list, is_text};
+ghost use Rattle.formula_wire.specs.Carried.{is_corner, is_item, is_parameter};
+ghost use Rattle.formula_wire.specs.KeptNumbers.{is_kept_item};
+ghost use Rattle.formula_wire.specs.PartBytes.{spell_corner, spell_lines, spell_parameters, spell_sheet};
 
+use crate::parts::{ConstantPart, ParameterPart};
+use base_decimal::Decimal;
 use base_shared::Shared;
 use base_values::{Items, Text};
-use base_wire::{boolean_code, push_decimal, push_text};
+use base_wire::{Part, boolean_code, put_items};
 use formula_tree::{ArrayItem, Corner, Parameter};
 use std::alloc::AllocError;
 
 /// Adds a tag and a text.
+#[tactic(auto, using(crate::proofs::Fits::text_carried, crate::proofs::Joins::pieces))]
 pub(crate) fn push_tagged_text(out: &mut Vec<u8>, tag: u8, text: &Text) -> Result<(), AllocError>
-    ensures { OnOk result (out.new.items ≡ out.old.items ++ tag ∷ spell_text text.now) }
+    ensures spelled { OnOk result (out.new.items ≡ out.old.items ++ tag ∷ spell_text text.now) }
+    ensures carried { OnOk result (is_text text.now ≡ true) }
 {
     out.push(tag)?;
-    push_text(out, text)
+    Text::put(out, text)?;
+    Ok(())
 }
 
-#[tactic(auto, unfolding(crate::specs::PartBytes::spell_corner))]
-pub(crate) fn push_corner(out: &mut Vec<u8>, corner: Corner) -> Result<(), AllocError>
-    ensures { OnOk result (out.new.items ≡ out.old.items ++ spell_corner corner) }
+#[tactic(auto, using(crate::proofs::Fits::corner_carried), unfolding(crate::specs::PartBytes::spell_corner))]
+fn push_corner(out: &mut Vec<u8>, corner: Corner) -> Result<(), AllocError>
+    ensures spelled { OnOk result (out.new.items ≡ out.old.items ++ spell_corner corner) }
+    ensures carried { OnOk result (is_corner corner ≡ true) }
 {
     out.push(boolean_code(corner.absolute_row))?;
     out.extend_from_slice(&corner.row.to_be_bytes())?;
@@ -28,8 +40,9 @@ pub(crate) fn push_corner(out: &mut Vec<u8>, corner: Corner) -> Result<(), Alloc
     out.extend_from_slice(&corner.column.to_be_bytes())
 }
 
-pub(crate) fn push_sheet(out: &mut Vec<u8>, sheet: &Option<Shared<Text>>) -> Result<(), AllocError>
-    ensures { OnOk result (out.new.items ≡ out.old.items ++ spell_sheet sheet.now) }
+fn push_sheet(out: &mut Vec<u8>, sheet: &Option<Shared<Text>>) -> Result<(), AllocError>
+    ensures spelled { OnOk result (out.new.items ≡ out.old.items ++ spell_sheet sheet.now) }
+    ensures carried { OnOk result (if_passes is_text sheet.now ≡ true) }
 {
     match sheet {
         None => out.extend_from_slice(&[0]),
@@ -37,63 +50,68 @@ pub(crate) fn push_sheet(out: &mut Vec<u8>, sheet: &Option<Shared<Text>>) -> Res
     }
 }
 
-fn push_item(out: &mut Vec<u8>, item: &ArrayItem) -> Result<(), AllocError>
-    ensures { OnOk result (out.new.items ≡ out.old.items ++ spell_item item.now) }
+pub(crate) fn push_number(out: &mut Vec<u8>, number: Decimal) -> Result<(), AllocError>
+    ensures { OnOk result (out.new.items ≡ out.old.items ++ 1 ∷ spell_decimal number) }
 {
-    match item {
-        ArrayItem::Boolean(value) => out.extend_from_slice(&[0, boolean_code(*value)])?,
-        ArrayItem::Number(number) => {
-            out.push(1)?;
-            push_decimal(out, *number)?;
-        }
-        ArrayItem::Text(text) => push_tagged_text(out, 2, text)?,
-        ArrayItem::Error(error) => out.extend_from_slice(&[3, error.code()])?,
-    }
+    out.push(1)?;
+    Decimal::put(out, &number)
+}
+
+#[tactic(auto, using(crate::proofs::Joins::pieces))]
+pub(crate) fn push_reference(
+    out: &mut Vec<u8>,
+    sheet: &Option<Shared<Text>>,
+    corner: Corner,
+) -> Result<(), AllocError>
+    ensures spelled { OnOk result (out.new.items ≡ out.old.items ++ 3 ∷ (spell_sheet sheet.now ++ spell_corner corner)) }
+    ensures carried { OnOk result (if_passes is_text sheet.now && is_corner corner ≡ true) }
+{
+    out.push(3)?;
+    push_sheet(out, sheet)?;
+    push_corner(out, corner)?;
     Ok(())
 }
 
-fn push_line(out: &mut Vec<u8>, line: &Items<ArrayItem>) -> Result<(), AllocError>
-    ensures { OnOk result (out.new.items ≡ out.old.items ++ spell_line line.now) }
+#[tactic(auto, using(crate::proofs::Joins::pieces))]
+pub(crate) fn push_range(
+    out: &mut Vec<u8>,
+    sheet: &Option<Shared<Text>>,
+    first: Corner,
+    second: Corner,
+) -> Result<(), AllocError>
+    ensures spelled { OnOk result (out.new.items ≡ out.old.items ++ 4 ∷ (spell_sheet sheet.now ++ (spell_corner first ++ spell_corner second))) }
+    ensures carried { OnOk result (if_passes is_text sheet.now && (is_corner first && is_corner second) ≡ true) }
 {
-    let items = line.as_slice();
-    out.extend_from_slice(&(items.len() as u64).to_be_bytes())?;
-    for item in items {
-        push_item(out, item)?;
-    }
+    out.push(4)?;
+    push_sheet(out, sheet)?;
+    push_corner(out, first)?;
+    push_corner(out, second)?;
     Ok(())
 }
 
-pub(crate) fn push_lines(
+#[tactic(auto, using(crate::proofs::Fits::lines_carried, crate::proofs::Joins::pieces))]
+pub(crate) fn push_array(
     out: &mut Vec<u8>,
     lines: &Items<Items<ArrayItem>>,
 ) -> Result<(), AllocError>
-    ensures { OnOk result (out.new.items ≡ out.old.items ++ spell_lines lines.now) }
+    ensures spelled { OnOk result (out.new.items ≡ out.old.items ++ 14 ∷ spell_lines lines.now) }
+    ensures carried { OnOk result (is_list (is_list is_item) lines.now ≡ list_all (list_all is_kept_item) lines.now) }
 {
-    let lines = lines.as_slice();
-    out.extend_from_slice(&(lines.len() as u64).to_be_bytes())?;
-    for line in lines {
-        push_line(out, line)?;
-    }
+    out.push(14)?;
+    put_items::<Items<ConstantPart>>(out, lines.as_slice())?;
     Ok(())
 }
 
-fn push_parameter(out: &mut Vec<u8>, parameter: &Parameter) -> Result<(), AllocError>
-    ensures { OnOk result (out.new.items ≡ out.old.items ++ spell_parameter parameter.now) }
-{
-    push_text(out, &parameter.name)?;
-    out.extend_from_slice(&[boolean_code(parameter.optional)])
-}
-
+/// Adds the tag of a lambda, and its parameters.
+#[tactic(auto, using(crate::proofs::Fits::parameters_carried, crate::proofs::Joins::pieces))]
 pub(crate) fn push_parameters(
     out: &mut Vec<u8>,
     parameters: &Items<Parameter>,
 ) -> Result<(), AllocError>
-    ensures { OnOk result (out.new.items ≡ out.old.items ++ spell_parameters parameters.now) }
+    ensures spelled { OnOk result (out.new.items ≡ out.old.items ++ 20 ∷ spell_parameters parameters.now) }
+    ensures carried { OnOk result (is_list is_parameter parameters.now ≡ true) }
 {
-    let parameters = parameters.as_slice();
-    out.extend_from_slice(&(parameters.len() as u64).to_be_bytes())?;
-    for parameter in parameters {
-        push_parameter(out, parameter)?;
-    }
+    out.push(20)?;
+    put_items::<ParameterPart>(out, parameters.as_slice())?;
     Ok(())
 }

@@ -8,15 +8,18 @@ ghost use Rattle.formula_tree.specs.Numbers.{has_kept_numbers};
 ghost use Rattle.base_values.specs.Answers.{Answers, map_ok};
 ghost use Rattle.base_wire.specs.Reading.{list_at, many_at, map_at, ◌⊗◌};
 ghost use Rattle.formula_wire.specs.PartBytes.{corner_at, sheet_at};
-ghost use Rattle.formula_wire.specs.NodeBytes.{call_of, leaf_of, node_at, node_of, node_within, range_at, range_made, reference_made, spell_node, text_of};
+ghost use Rattle.formula_wire.specs.NodeBytes.{call_of, kinded_of, leaf_of, node_at, node_of, node_within, range_at, range_made, reference_made, spell_node, text_of};
 ghost use Rattle.formula_wire.specs.Carried.{FitsNode};
 ghost use Rattle.formula_wire.specs.NodeReading.{BeginsWithNoNode};
 
 use crate::codes::{compare_at, function_at, product_at, sum_at, unary_at};
-use crate::parts_reading::{corner_at, lines_at, parameters_at, sheet_at};
+use crate::parts::{ConstantPart, ParameterPart};
+use crate::parts_reading::{corner_at, count_at};
+use crate::read::read;
+use base_decimal::Decimal;
+use base_tables::Error;
 use base_shared::Shared;
-use base_values::{EditError, Items};
-use base_wire::{boolean_at, byte_at, count_at, decimal_at, error_at, text_at};
+use base_values::{EditError, Items, Text};
 use formula_tree::{MAX_DEPTH, Node};
 use std::alloc::Global;
 
@@ -25,8 +28,6 @@ use std::alloc::Global;
 /// Refuses with `ParseDiffs` bytes that are cut short, that spell no tree or one that is more than
 /// 64 deep, and with `NoMemory`.
 pub fn node_at(alloc: Global, bytes: &[u8]) -> Result<(Node, &[u8]), EditError>
-    ensures read { Answers (map_ok (λ x. (x.0, x.1.now)) result) (node_at bytes.now) }
-
     // What is read was spelled so, and what follows it is left.
     ensures spelled { IfOk result (λ x. bytes.now ≡ spell_node x.0 ++ x.1.now) }
     ensures fits { IfOk result (λ x. FitsNode x.0) }
@@ -40,7 +41,7 @@ pub fn node_at(alloc: Global, bytes: &[u8]) -> Result<(Node, &[u8]), EditError>
 }
 
 #[tactic(auto, unfolding(crate::specs::NodeBytes::node_at))]
-fn read_node(alloc: Global, bytes: &[u8]) -> Result<(Node, &[u8]), EditError>
+pub(crate) fn read_node(alloc: Global, bytes: &[u8]) -> Result<(Node, &[u8]), EditError>
     ensures { Answers (map_ok (λ x. (x.0, x.1.now)) result) (node_at bytes.now) }
 {
     node_within(alloc, bytes, MAX_DEPTH)
@@ -64,7 +65,7 @@ fn node_within(alloc: Global, bytes: &[u8], most: u64) -> Result<(Node, &[u8]), 
 fn level_at(alloc: Global, bytes: &[u8], below: u64) -> Result<(Node, &[u8]), EditError>
     ensures { Answers (map_ok (λ x. (x.0, x.1.now)) result) (node_within (below + 1) bytes.now) }
 {
-    let (tag, rest) = byte_at(bytes)?;
+    let (tag, rest) = read::<u8>(alloc, bytes)?;
     operator_at(alloc, tag, rest, below)
 }
 
@@ -81,27 +82,37 @@ fn operator_at(alloc: Global, tag: u8, bytes: &[u8], below: u64) -> Result<(Node
             let ((left, right), rest) = pair_at(alloc, bytes, below)?;
             Ok((Node::Concatenate(left, right), rest))
         }
-        7 => {
-            let (kind, rest) = compare_at(bytes)?;
-            let ((left, right), rest) = pair_at(alloc, rest, below)?;
-            Ok((Node::Compare(kind, left, right), rest))
-        }
-        8 => {
-            let (kind, rest) = sum_at(bytes)?;
-            let ((left, right), rest) = pair_at(alloc, rest, below)?;
-            Ok((Node::Sum(kind, left, right), rest))
-        }
-        9 => {
-            let (kind, rest) = product_at(bytes)?;
-            let ((left, right), rest) = pair_at(alloc, rest, below)?;
-            Ok((Node::Product(kind, left, right), rest))
-        }
         10 => {
             let ((base, exponent), rest) = pair_at(alloc, bytes, below)?;
             Ok((Node::Power(base, exponent), rest))
         }
+        _ => kinded_at(alloc, tag, bytes, below),
+    }
+}
+
+/// An operator of several kinds.
+#[cycle(nodes)]
+fn kinded_at(alloc: Global, tag: u8, bytes: &[u8], below: u64) -> Result<(Node, &[u8]), EditError>
+    ensures { Answers (map_ok (λ x. (x.0, x.1.now)) result) (kinded_of (node_within below) (call_of (node_within below) (leaf_of below)) tag bytes.now) }
+{
+    match tag {
+        7 => {
+            let (kind, rest) = compare_at(alloc, bytes)?;
+            let ((left, right), rest) = pair_at(alloc, rest, below)?;
+            Ok((Node::Compare(kind, left, right), rest))
+        }
+        8 => {
+            let (kind, rest) = sum_at(alloc, bytes)?;
+            let ((left, right), rest) = pair_at(alloc, rest, below)?;
+            Ok((Node::Sum(kind, left, right), rest))
+        }
+        9 => {
+            let (kind, rest) = product_at(alloc, bytes)?;
+            let ((left, right), rest) = pair_at(alloc, rest, below)?;
+            Ok((Node::Product(kind, left, right), rest))
+        }
         11 => {
-            let (kind, rest) = unary_at(bytes)?;
+            let (kind, rest) = unary_at(alloc, bytes)?;
             let (operand, rest) = boxed_at(alloc, rest, below)?;
             Ok((Node::Unary(kind, operand), rest))
         }
@@ -110,17 +121,18 @@ fn operator_at(alloc: Global, tag: u8, bytes: &[u8], below: u64) -> Result<(Node
 }
 
 #[cycle(nodes)]
+#[tactic(auto, unfolding(crate::specs::PartBytes::parameters_at))]
 fn call_at(alloc: Global, tag: u8, bytes: &[u8], below: u64) -> Result<(Node, &[u8]), EditError>
     ensures { Answers (map_ok (λ x. (x.0, x.1.now)) result) (call_of (node_within below) (leaf_of below) tag bytes.now) }
 {
     match tag {
         12 => {
-            let (function, rest) = function_at(bytes)?;
+            let (function, rest) = function_at(alloc, bytes)?;
             let (arguments, rest) = nodes_at(alloc, rest, below)?;
             Ok((Node::Call(function, arguments), rest))
         }
         13 => {
-            let (name, rest) = text_at(alloc, bytes)?;
+            let (name, rest) = read::<Text>(alloc, bytes)?;
             let (arguments, rest) = nodes_at(alloc, rest, below)?;
             Ok((Node::NamedCall(name, arguments), rest))
         }
@@ -129,7 +141,7 @@ fn call_at(alloc: Global, tag: u8, bytes: &[u8], below: u64) -> Result<(Node, &[
             Ok((Node::Spill(operand), rest))
         }
         20 => {
-            let (parameters, rest) = parameters_at(alloc, bytes)?;
+            let (parameters, rest) = read::<Items<ParameterPart>>(alloc, bytes)?;
             let (body, rest) = boxed_at(alloc, rest, below)?;
             Ok((Node::Lambda(parameters, body), rest))
         }
@@ -172,7 +184,7 @@ fn pair_at(
 fn nodes_at(alloc: Global, bytes: &[u8], most: u64) -> Result<(Items<Node>, &[u8]), EditError>
     ensures { Answers (map_ok (λ x. (x.0, x.1.now)) result) (list_at (node_within most) bytes.now) }
 {
-    let (count, rest) = count_at(bytes)?;
+    let (count, rest) = count_at(alloc, bytes)?;
     let (nodes, rest) = nodes_of(alloc, count, rest, most)?;
     Ok((Items::new(nodes), rest))
 }
@@ -198,26 +210,27 @@ fn nodes_of(
 }
 
 /// A tree without children.
+#[tactic(auto, unfolding(crate::specs::PartBytes::lines_at, crate::specs::PartBytes::line_at))]
 fn leaf_at(alloc: Global, tag: u8, bytes: &[u8], below: u64) -> Result<(Node, &[u8]), EditError>
     ensures { Answers (map_ok (λ x. (x.0, x.1.now)) result) (leaf_of below tag bytes.now) }
 {
     match tag {
         0 => {
-            let (value, rest) = boolean_at(bytes)?;
+            let (value, rest) = read::<bool>(alloc, bytes)?;
             Ok((Node::Boolean(value), rest))
         }
         1 => {
-            let (number, rest) = decimal_at(bytes)?;
+            let (number, rest) = read::<Decimal>(alloc, bytes)?;
             Ok((Node::Number(number), rest))
         }
         3 => reference_at(alloc, bytes),
         4 => range_at(alloc, bytes, below),
         14 => {
-            let (lines, rest) = lines_at(alloc, bytes)?;
+            let (lines, rest) = read::<Items<Items<ConstantPart>>>(alloc, bytes)?;
             Ok((Node::Array(lines), rest))
         }
         16 => {
-            let (error, rest) = error_at(bytes)?;
+            let (error, rest) = read::<Error>(alloc, bytes)?;
             Ok((Node::Error(error), rest))
         }
         18 => Ok((Node::EmptyArgument, bytes)),
@@ -225,24 +238,26 @@ fn leaf_at(alloc: Global, tag: u8, bytes: &[u8], below: u64) -> Result<(Node, &[
     }
 }
 
+#[tactic(auto, unfolding(crate::specs::PartBytes::sheet_at))]
 fn reference_at(alloc: Global, bytes: &[u8]) -> Result<(Node, &[u8]), EditError>
     ensures { Answers (map_ok (λ x. (x.0, x.1.now)) result) (map_at reference_made (sheet_at ⊗ corner_at) bytes.now) }
 {
-    let (sheet, rest) = sheet_at(alloc, bytes)?;
-    let (corner, rest) = corner_at(rest)?;
+    let (sheet, rest) = read::<Option<Shared<Text>>>(alloc, bytes)?;
+    let (corner, rest) = corner_at(alloc, rest)?;
     Ok((Node::Reference(sheet, corner), rest))
 }
 
 /// A range, which is 2 deep, so that it must be let reach one deeper than its own place.
+#[tactic(auto, unfolding(crate::specs::PartBytes::sheet_at))]
 fn range_at(alloc: Global, bytes: &[u8], below: u64) -> Result<(Node, &[u8]), EditError>
     ensures { Answers (map_ok (λ x. (x.0, x.1.now)) result) (range_at below bytes.now) }
 {
     if below == 0 {
         return Err(EditError::ParseDiffs);
     }
-    let (sheet, rest) = sheet_at(alloc, bytes)?;
-    let (first, rest) = corner_at(rest)?;
-    let (second, rest) = corner_at(rest)?;
+    let (sheet, rest) = read::<Option<Shared<Text>>>(alloc, bytes)?;
+    let (first, rest) = corner_at(alloc, rest)?;
+    let (second, rest) = corner_at(alloc, rest)?;
     Ok((Node::Range(sheet, first, second), rest))
 }
 
@@ -252,15 +267,15 @@ fn text_leaf_at(alloc: Global, tag: u8, bytes: &[u8]) -> Result<(Node, &[u8]), E
 {
     match tag {
         2 => {
-            let (text, rest) = text_at(alloc, bytes)?;
+            let (text, rest) = read::<Text>(alloc, bytes)?;
             Ok((Node::Text(text), rest))
         }
         15 => {
-            let (name, rest) = text_at(alloc, bytes)?;
+            let (name, rest) = read::<Text>(alloc, bytes)?;
             Ok((Node::Name(name), rest))
         }
         17 => {
-            let (text, rest) = text_at(alloc, bytes)?;
+            let (text, rest) = read::<Text>(alloc, bytes)?;
             Ok((Node::ParseError(text), rest))
         }
         _ => Err(EditError::ParseDiffs),

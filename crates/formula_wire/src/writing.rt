@@ -1,28 +1,42 @@
 //! Trees at the end of bytes.
 
-ghost use Rattle.std.specs.Prelude.{◌≡◌, ◌∷◌, ◌++◌, OnOk};
+ghost use Rattle.std.specs.Prelude.{◌≡◌, ◌∷◌, ◌++◌, ◌&&◌, true, OnOk};
+ghost use Rattle.std.specs.List.{list_all};
+ghost use Rattle.formula_tree.specs.Numbers.{has_kept_numbers};
 ghost use Rattle.base_wire.specs.Spelling.{spell_text};
 ghost use Rattle.base_wire.specs.Parts.{spell_decimal};
+ghost use Rattle.base_wire.specs.laws.Form.{if_passes, is_list, is_text};
+ghost use Rattle.formula_wire.specs.Carried.{is_carried, is_corner, is_item, is_parameter, FitsNode, IsKnownNode};
+ghost use Rattle.formula_wire.specs.KeptNumbers.{is_kept_item};
 ghost use Rattle.formula_wire.specs.PartBytes.{spell_corner, spell_lines, spell_parameters, spell_sheet};
 ghost use Rattle.formula_wire.specs.NodeBytes.{spell_node};
 ghost use Rattle.formula_wire.specs.SpellEquations.{spell_nodes};
 
 use crate::codes::{compare_code, product_code, sum_code, unary_code};
 use crate::parts_writing::{
-    push_corner, push_lines, push_parameters, push_sheet, push_tagged_text,
+    push_array, push_number, push_parameters, push_range, push_reference, push_tagged_text,
 };
-use base_decimal::Decimal;
 use base_shared::Shared;
 use base_values::{Items, Text};
-use base_wire::{boolean_code, push_decimal, push_text};
-use formula_tree::{ArrayItem, Corner, Node, Parameter};
+use base_wire::boolean_code;
+use formula_tree::{Node, Parameter};
 use std::alloc::AllocError;
 
-/// Adds the bytes of a tree (docs/FORMATS.md, "Bytes"). Want of memory may leave some of them there.
-#[cycle(nodes)]
-#[tactic(auto, using(crate::specs::SpellEquations::spellings, crate::proofs::Joins::pieces))]
+/// Adds the bytes of a tree (docs/FORMATS.md, "Bytes"). Bytes can carry a tree that is at most 64 deep and
+/// whose numbers are canonical. Out of memory may leave some of its bytes there.
 pub fn push_node(out: &mut Vec<u8>, node: &Node) -> Result<(), AllocError>
-    ensures { OnOk result (out.new.items ≡ out.old.items ++ spell_node node.now) }
+    ensures spelled { OnOk result (out.new.items ≡ out.old.items ++ spell_node node.now) }
+    ensures fits { OnOk result (IsKnownNode node.now → FitsNode node.now) }
+{
+    push_tree(out, node)
+}
+
+/// Of a tree of Rust's own types only the numbers may not fit.
+#[cycle(nodes)]
+#[tactic(auto, using(crate::specs::SpellEquations::spellings, crate::specs::CarriedEquations::carryings, crate::proofs::Numbers::kept, crate::proofs::Joins::pieces))]
+fn push_tree(out: &mut Vec<u8>, node: &Node) -> Result<(), AllocError>
+    ensures spelled { OnOk result (out.new.items ≡ out.old.items ++ spell_node node.now) }
+    ensures carried { OnOk result (is_carried node.now ≡ has_kept_numbers node.now) }
 {
     match node {
         Node::Boolean(value) => out.extend_from_slice(&[0, boolean_code(*value)]),
@@ -32,27 +46,27 @@ pub fn push_node(out: &mut Vec<u8>, node: &Node) -> Result<(), AllocError>
         Node::Range(sheet, first, second) => push_range(out, sheet, *first, *second),
         Node::Colon(a, b) => {
             push_boxed(out, &[5], a)?;
-            push_node(out, b.get())
+            push_boxed(out, &[], b)
         }
         Node::Concatenate(a, b) => {
             push_boxed(out, &[6], a)?;
-            push_node(out, b.get())
+            push_boxed(out, &[], b)
         }
         Node::Compare(kind, a, b) => {
             push_boxed(out, &[7, compare_code(*kind)], a)?;
-            push_node(out, b.get())
+            push_boxed(out, &[], b)
         }
         Node::Sum(kind, a, b) => {
             push_boxed(out, &[8, sum_code(*kind)], a)?;
-            push_node(out, b.get())
+            push_boxed(out, &[], b)
         }
         Node::Product(kind, a, b) => {
             push_boxed(out, &[9, product_code(*kind)], a)?;
-            push_node(out, b.get())
+            push_boxed(out, &[], b)
         }
         Node::Power(a, b) => {
             push_boxed(out, &[10], a)?;
-            push_node(out, b.get())
+            push_boxed(out, &[], b)
         }
         Node::Unary(kind, a) => push_boxed(out, &[11, unary_code(*kind)], a),
         Node::Call(function, all) => push_nodes(out, &[12, function.code()], all),
@@ -75,87 +89,55 @@ pub fn push_node(out: &mut Vec<u8>, node: &Node) -> Result<(), AllocError>
 /// Adds the bytes that a node begins with, and a child.
 #[cycle(nodes)]
 fn push_boxed(out: &mut Vec<u8>, head: &[u8], node: &Shared<Node>) -> Result<(), AllocError>
-    ensures { OnOk result (out.new.items ≡ out.old.items ++ (head.now ++ spell_node node.now)) }
+    ensures spelled { OnOk result (out.new.items ≡ out.old.items ++ (head.now ++ spell_node node.now)) }
+    ensures carried { OnOk result (is_carried node.now ≡ has_kept_numbers node.now) }
 {
     out.extend_from_slice(head)?;
-    push_node(out, node.get())
+    push_tree(out, node.get())
 }
 
 /// Adds the bytes that a node begins with, and its arguments.
 #[cycle(nodes)]
+#[tactic(auto, using(crate::proofs::Fits::lists, crate::proofs::Joins::pieces))]
 fn push_nodes(out: &mut Vec<u8>, head: &[u8], nodes: &Items<Node>) -> Result<(), AllocError>
-    ensures { OnOk result (out.new.items ≡ out.old.items ++ (head.now ++ spell_nodes nodes.now)) }
+    ensures spelled { OnOk result (out.new.items ≡ out.old.items ++ (head.now ++ spell_nodes nodes.now)) }
+    ensures carried { OnOk result (is_list is_carried nodes.now ≡ list_all has_kept_numbers nodes.now) }
 {
     out.extend_from_slice(head)?;
     let nodes = nodes.as_slice();
     out.extend_from_slice(&(nodes.len() as u64).to_be_bytes())?;
     for node in nodes {
-        push_node(out, node)?;
+        push_tree(out, node)?;
     }
     Ok(())
 }
 
 #[cycle(nodes)]
+#[tactic(auto, using(crate::proofs::Joins::pieces))]
 fn push_named_call(
     out: &mut Vec<u8>,
     name: &Text,
     arguments: &Items<Node>,
 ) -> Result<(), AllocError>
-    ensures { OnOk result (out.new.items ≡ out.old.items ++ 13 ∷ (spell_text name.now ++ spell_nodes arguments.now)) }
+    ensures spelled { OnOk result (out.new.items ≡ out.old.items ++ 13 ∷ (spell_text name.now ++ spell_nodes arguments.now)) }
+    ensures carried { OnOk result (is_text name.now && is_list is_carried arguments.now ≡ list_all has_kept_numbers arguments.now) }
 {
     push_tagged_text(out, 13, name)?;
-    push_nodes(out, &[], arguments)
+    push_nodes(out, &[], arguments)?;
+    Ok(())
 }
 
 #[cycle(nodes)]
+#[tactic(auto, using(crate::proofs::Joins::pieces))]
 fn push_lambda(
     out: &mut Vec<u8>,
     parameters: &Items<Parameter>,
     body: &Shared<Node>,
 ) -> Result<(), AllocError>
-    ensures { OnOk result (out.new.items ≡ out.old.items ++ 20 ∷ (spell_parameters parameters.now ++ spell_node body.now)) }
+    ensures spelled { OnOk result (out.new.items ≡ out.old.items ++ 20 ∷ (spell_parameters parameters.now ++ spell_node body.now)) }
+    ensures carried { OnOk result (is_list is_parameter parameters.now && is_carried body.now ≡ has_kept_numbers body.now) }
 {
-    out.push(20)?;
     push_parameters(out, parameters)?;
-    push_node(out, body.get())
-}
-
-fn push_number(out: &mut Vec<u8>, number: Decimal) -> Result<(), AllocError>
-    ensures { OnOk result (out.new.items ≡ out.old.items ++ 1 ∷ spell_decimal number) }
-{
-    out.push(1)?;
-    push_decimal(out, number)
-}
-
-fn push_reference(
-    out: &mut Vec<u8>,
-    sheet: &Option<Shared<Text>>,
-    corner: Corner,
-) -> Result<(), AllocError>
-    ensures { OnOk result (out.new.items ≡ out.old.items ++ 3 ∷ (spell_sheet sheet.now ++ spell_corner corner)) }
-{
-    out.push(3)?;
-    push_sheet(out, sheet)?;
-    push_corner(out, corner)
-}
-
-fn push_range(
-    out: &mut Vec<u8>,
-    sheet: &Option<Shared<Text>>,
-    first: Corner,
-    second: Corner,
-) -> Result<(), AllocError>
-    ensures { OnOk result (out.new.items ≡ out.old.items ++ 4 ∷ (spell_sheet sheet.now ++ (spell_corner first ++ spell_corner second))) }
-{
-    out.push(4)?;
-    push_sheet(out, sheet)?;
-    push_corner(out, first)?;
-    push_corner(out, second)
-}
-
-fn push_array(out: &mut Vec<u8>, lines: &Items<Items<ArrayItem>>) -> Result<(), AllocError>
-    ensures { OnOk result (out.new.items ≡ out.old.items ++ 14 ∷ spell_lines lines.now) }
-{
-    out.push(14)?;
-    push_lines(out, lines)
+    push_tree(out, body.get())?;
+    Ok(())
 }

@@ -1,4 +1,4 @@
--- The three laws of a part of a format together, and how they are made from those of its parts.
+-- Parts whose values fit where they pass a test, and how their laws are made from those of their own parts.
 use Rattle.std.proofs.Common.{◌≡◌, ℕ, ◌^◌, ◌≤◌, ◌&&◌, ltb, Bool, true, List, [], ◌∷◌, length, Option, Some, None, refl}
 use Rattle.std.specs.Prelude.{IfSome, nat_lt}
 use Rattle.std.specs.List.{list_all, AllByRecursion}
@@ -9,6 +9,7 @@ use Rattle.base_decimal.specs.Kept.{is_kept}
 use Rattle.base_wire.specs.Reading.{Reader, ◌⊗◌, map_at, text_at, option_at, list_at, code_at, decoded, coded_at}
 use Rattle.base_wire.specs.Spelling.{spell_code, spell_text, spell_option, spell_list, FitsText, FitsItems}
 use Rattle.base_wire.specs.Parts.{spell_decimal, decimal_at}
+use Rattle.base_wire.specs.laws.Format.{Format}
 use Rattle.base_wire.specs.laws.Again.{ReadsAgain, both_again, map_again, coded_again, text_again, option_again, list_again}
 use Rattle.base_wire.specs.Spelling.{spell_both}
 use Rattle.base_wire.specs.laws.Spelled.{ReadsSpelled, both_spelled, map_spelled, fits_otherwise, coded_spelled, found_code, text_spelled, option_spelled, list_spelled}
@@ -19,11 +20,9 @@ use Rattle.base_wire.specs.laws.Parts.{decimal_again, decimal_spelled, decimal_p
 abbrev pub Passes : {A : Type 0} → (A → Bool) → A → Type 0
 Passes test x = test x ≡ true
 
--- values that pass a test are read again from their spelling, what is read was spelled so and passes, and all else is refused with ParseDiffs
-pub record Form {A : Type 0} (test : A → Bool) (spell : A → List ℕ) (read : Reader A) : Type 0 where
-  pub again : ReadsAgain (Passes test) spell read
-  pub spelled : ReadsSpelled (Passes test) spell read
-  pub plain : IsPlain read
+-- the laws of a part whose values fit where they pass a test
+abbrev pub Form : {A : Type 0} → (A → Bool) → (A → List ℕ) → Reader A → Type 0
+Form test spell read = Format (Passes test) spell read
 
 -- the same of what fits where the test is passed
 again_where : {A : Type 0} {F G : A → Type 0} {s : A → List ℕ} {r : Reader A} → ((x : A) → G x → F x) → ReadsAgain F s r → ReadsAgain G s r
@@ -96,7 +95,8 @@ option_out test (Some x) h = h
 pub option_form : {A : Type 0} {p : A → Bool} {s : A → List ℕ} {r : Reader A} → Form p s r → Form (if_passes p) (spell_option s) (option_at r)
 option_form {p} form = form_of (option_again form.again) (option_spelled form.spelled) (option_plain form.plain) (option_into p) (option_out p)
 
-each_passes : {A : Type 0} (test : A → Bool) (xs : List A) → list_all test xs ≡ true → AllByRecursion (Passes test) xs
+-- each item of a list that passes does
+pub each_passes : {A : Type 0} (test : A → Bool) (xs : List A) → list_all test xs ≡ true → AllByRecursion (Passes test) xs
 each_passes test [] h = tt
 each_passes test (x ∷ xs) h = let p = and_parts (test x) (list_all test xs) h in (p.0, each_passes test xs p.1)
 
@@ -109,7 +109,8 @@ items_into test xs h =
     let p = and_parts (ltb (length xs) (2 ^ 64)) (list_all test xs) h in
     record { short = ltb-true (length xs) (2 ^ 64) p.0; each = each_passes test xs p.1 }
 
-items_out : {A : Type 0} (test : A → Bool) (xs : List A) → FitsItems (Passes test) xs → Passes (is_list test) xs
+-- a list that fits passes
+pub items_out : {A : Type 0} (test : A → Bool) (xs : List A) → FitsItems (Passes test) xs → Passes (is_list test) xs
 items_out test xs fits = and_from (ltb (length xs) (2 ^ 64)) (list_all test xs) (lt-ltb (length xs) (2 ^ 64) fits.short) (all_pass test xs fits.each)
 
 pub list_form : {A : Type 0} {p : A → Bool} {s : A → List ℕ} {r : Reader A} → Form p s r → ((x : A) → 1 ≤ length (s x)) → Form (is_list p) (spell_list s) (list_at r)

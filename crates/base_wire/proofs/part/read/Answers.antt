@@ -3,4 +3,4 @@ use Rattle.base_wire.specs.laws.Format.{answers}
 use Rattle.base_wire.proofs.part.read.Goals as goal
 
 pub returns : goal.returns
-returns g c = answers g.met.V.Part.format c.args.bytes.now _ (λ i. omega (arith, c.type_inv.bytes i)) c.take.ensures
+returns g c = answers g.met.P.Part.format c.args.bytes.now _ (λ i. omega (arith, c.type_inv.bytes i)) c.take.ensures

@@ -9,10 +9,13 @@ abbrev pub decreases-node_within : goal.decreases-node_within
 decreases-node_within l = l.most * 8
 
 abbrev pub decreases-level_at : goal.decreases-level_at
-decreases-level_at l = l.below * 8 + 6
+decreases-level_at l = l.below * 8 + 7
 
 abbrev pub decreases-operator_at : goal.decreases-operator_at
-decreases-operator_at l = l.below * 8 + 5
+decreases-operator_at l = l.below * 8 + 6
+
+abbrev pub decreases-kinded_at : goal.decreases-kinded_at
+decreases-kinded_at l = l.below * 8 + 5
 
 abbrev pub decreases-call_at : goal.decreases-call_at
 decreases-call_at l = l.below * 8 + 4

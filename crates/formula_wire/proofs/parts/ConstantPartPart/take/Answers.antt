@@ -1,0 +1,7 @@
+use Rattle.std.proofs.Common.{arith}
+use Rattle.base_wire.specs.laws.Format.{reads}
+use Rattle.formula_wire.specs.PartLaws.{item_form}
+use Rattle.formula_wire.proofs.parts.ConstantPartPart.take.Goals as goal
+
+pub returns : goal.returns
+returns c = reads item_form c.args.bytes.now _ (λ i. omega (arith, c.type_inv.bytes i)) c.item_at.ensures

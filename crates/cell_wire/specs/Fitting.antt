@@ -10,7 +10,7 @@ use Rattle.formula_content.specs.declared.Content.TheVariants.{Empty, Number, Bo
 use Rattle.sheet_grid.specs.declared.Cell.{Cell}
 use Rattle.formula_content.specs.KeptContent.{IsKeptContent}
 use Rattle.formula_content.specs.Fitting.{is_shallow}
-use Rattle.formula_wire.specs.KeptLaws.{kept_from_carried}
+use Rattle.formula_wire.specs.laws.KeptLaws.{kept_from_carried}
 use Rattle.sheet_grid.specs.KeptCell.{IsKeptCell}
 use Rattle.cell_wire.specs.StyleBytes.{FitsStyle}
 use Rattle.cell_wire.specs.CellBytes.{FitsContent, FitsCell}

@@ -20,7 +20,7 @@ use Rattle.cell_wire.specs.CellBytes.{spell_position, position_made, position_at
 use Rattle.base_wire.specs.laws.Again.{ReadsAgain, both_again, map_again, code_again, wide32, signed_again, text_again, option_again}
 use Rattle.base_wire.specs.Spelling.{Any}
 use Rattle.base_wire.specs.laws.Parts.{boolean_again, error_again, decimal_again}
-use Rattle.formula_wire.specs.NodeLaws.{node_again}
+use Rattle.formula_wire.specs.laws.NodeLaws.{node_again}
 
 -- ---- colours
 

@@ -11,7 +11,7 @@ use Rattle.cell_wire.specs.CellBytes.{content_of}
 use Rattle.base_wire.specs.Spelling.{Any}
 use Rattle.base_wire.specs.laws.Spelled.{ReadsSpelled, both_spelled, map_spelled, fits_otherwise, byte_spelled, code_spelled, tag_map, tag_plain, tag_refused, tag_if, tagged_spelled, option_spelled, back32, signed_spelled, text_spelled}
 use Rattle.base_wire.specs.laws.Parts.{boolean_spelled, error_spelled, decimal_spelled}
-use Rattle.formula_wire.specs.NodeLaws.{node_spelled}
+use Rattle.formula_wire.specs.laws.NodeLaws.{node_spelled}
 
 -- ---- colours
 

@@ -11,9 +11,9 @@ use Rattle.formula_tree.specs.declared.Parameter.{Parameter}
 use Rattle.base_wire.specs.Spelling.{Any, FitsItems, FitsText}
 use Rattle.base_wire.specs.laws.Form.{Passes, each_passes, is_text, is_list, items_out, text_passes}
 use Rattle.formula_wire.specs.Carried.{is_corner, is_item, is_parameter}
-use Rattle.formula_wire.specs.KeptLaws.{lines_kept}
+use Rattle.formula_wire.specs.laws.KeptLaws.{lines_kept}
 use Rattle.formula_wire.specs.KeptNumbers.{is_kept_item}
-use Rattle.formula_wire.specs.PartLaws.{signed_passes}
+use Rattle.formula_wire.specs.laws.PartLaws.{signed_passes}
 
 pub text_carried : (text : List ℕ) → FitsText text → is_text text ≡ true
 text_carried = text_passes

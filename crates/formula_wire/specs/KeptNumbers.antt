@@ -1,13 +1,8 @@
 -- Whether a workbook keeps the numbers in the lines of an array.
-use Rattle.std.specs.Prelude.{◌≡◌, Bool, true, ◌&&◌, List, [], ◌∷◌}
-use Rattle.std.proofs.Common.{refl, ap, ◌∙◌}
-use Rattle.std.specs.List.{list_all}
+use Rattle.std.specs.Prelude.{Bool, true}
 use Rattle.base_decimal.specs.Kept.{is_kept}
 use Rattle.formula_tree.specs.declared.ArrayItem.{ArrayItem}
 use Rattle.formula_tree.specs.declared.ArrayItem.TheVariants as item
-use Rattle.formula_tree.specs.declared.Node.TheVariants as node
-use Rattle.formula_tree.specs.Numbers.{has_kept_numbers}
-use Rattle.formula_tree.specs.NumbersEquations.{numbers_array}
 
 -- a constant is a number that a workbook keeps, or no number
 abbrev pub is_kept_item : ArrayItem → Bool
@@ -15,14 +10,3 @@ is_kept_item (item.Boolean value) = true
 is_kept_item (item.Number value) = is_kept value
 is_kept_item (item.Text text) = true
 is_kept_item (item.Error error) = true
-
-module _ {A : Type 0} (p q : A → Bool) (same : (x : A) → p x ≡ q x) where
-  all_same : (xs : List A) → list_all p xs ≡ list_all q xs
-  all_same [] = refl
-  all_same (x ∷ xs) = ap (λ (test : Bool). test && list_all p xs) (same x) ∙ ap (λ (test : Bool). q x && test) (all_same xs)
-
--- the numbers of an array are kept where those of each line are
-pub kept_array : (lines : List (List ArrayItem)) → has_kept_numbers (node.Array lines) ≡ list_all (list_all is_kept_item) lines
-kept_array lines =
-    numbers_array _ lines
-    ∙ all_same _ _ (all_same _ is_kept_item (λ x. elim x [ item.Boolean value ↦ refl | item.Number value ↦ refl | item.Text text ↦ refl | item.Error error ↦ refl ])) lines

@@ -1,12 +1,5 @@
 pub mod PartBytes
 pub mod NodeBytes
-pub mod SpellEquations
 pub mod Carried
-pub mod CarriedEquations
-pub mod PartLaws
-pub mod NodeFits
-pub mod NodeLaws
-pub mod Levels
 pub mod KeptNumbers
-pub mod KeptLaws
-pub mod NodeReading
+pub mod laws

@@ -54,6 +54,10 @@ spell_layer (layer.ImplicitIntersection a) = 22 ∷ a
 unfoldable pub spell_node : Node → List ℕ
 spell_node = fold-Node (List ℕ) spell_layer
 
+-- the nodes of a list, with their count before them
+abbrev pub spell_nodes : List Node → List ℕ
+spell_nodes = spell_list spell_node
+
 -- ---- reading
 
 abbrev pub reference_made : Option (List ℕ) × Corner → Node

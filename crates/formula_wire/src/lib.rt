@@ -15,6 +15,5 @@ mod read;
 mod reading;
 mod writing;
 
-pub use node_part::NodePart;
-pub use reading::node_at;
+pub use node_part::{NodePart, node_at};
 pub use writing::push_node;

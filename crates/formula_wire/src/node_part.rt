@@ -1,5 +1,10 @@
 //! Trees as parts of formats.
 
+ghost use Rattle.base_values.specs.Answers.{map_ok};
+ghost use Rattle.base_wire.specs.Reads.{Reads};
+ghost use Rattle.formula_wire.specs.Carried.{FitsNode};
+ghost use Rattle.formula_wire.specs.NodeBytes.{spell_node};
+
 use crate::reading::read_node;
 use crate::writing::push_node;
 use base_values::EditError;
@@ -7,13 +12,23 @@ use base_wire::Part;
 use formula_tree::Node;
 use std::alloc::{AllocError, Global};
 
+/// The tree at the front of bytes, and the bytes after it (docs/FORMATS.md, "Bytes").
+///
+/// Refuses with `ParseDiffs` bytes that are cut short, that spell no tree or one that is more than
+/// 64 deep, and with `NoMemory`.
+pub fn node_at(alloc: Global, bytes: &[u8]) -> Result<(Node, &[u8]), EditError>
+    ensures { Reads FitsNode spell_node bytes.now (map_ok (λ x. (x.0, x.1.now)) result) }
+{
+    NodePart::take(alloc, &(), bytes)
+}
+
 /// A tree of a formula.
 pub struct NodePart;
 
 impl Part for NodePart {
     ghost use Rattle.formula_wire.specs.Carried.{FitsNode, IsKnownNode};
     ghost use Rattle.formula_wire.specs.NodeBytes.{node_at, spell_node};
-    ghost use Rattle.formula_wire.specs.NodeLaws.{node_format, some_byte};
+    ghost use Rattle.formula_wire.specs.laws.NodeLaws.{node_format, some_byte};
 
     type Value = Node;
 

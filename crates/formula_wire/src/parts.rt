@@ -18,7 +18,7 @@ impl Part for ConstantPart {
     ghost use Rattle.formula_wire.specs.Carried.{is_item};
     ghost use Rattle.formula_wire.specs.KeptNumbers.{is_kept_item};
     ghost use Rattle.formula_wire.specs.PartBytes.{item_at, spell_item};
-    ghost use Rattle.formula_wire.specs.PartLaws.{item_form, item_some};
+    ghost use Rattle.formula_wire.specs.laws.PartLaws.{item_form, item_some};
 
     type Value = ArrayItem;
 
@@ -68,7 +68,7 @@ impl Part for ParameterPart {
     ghost use Rattle.base_wire.specs.laws.Form.{Passes};
     ghost use Rattle.formula_wire.specs.Carried.{is_parameter};
     ghost use Rattle.formula_wire.specs.PartBytes.{parameter_at, spell_parameter};
-    ghost use Rattle.formula_wire.specs.PartLaws.{parameter_form};
+    ghost use Rattle.formula_wire.specs.laws.PartLaws.{parameter_form};
 
     type Value = Parameter;
 

@@ -1,45 +1,24 @@
 //! Trees from the front of bytes. A reader of a tree is told how deep it may reach, so that bytes
 //! of a deeper one are refused before anything is built of what lies deeper.
 
-ghost use Rattle.std.specs.Prelude.{◌≡◌, ◌≢◌, ◌+◌, ◌++◌, ℕ, List, Ok, IfErr, IfOk, IsTrue};
-ghost use Rattle.base_values.specs.declared.EditError.TheVariants.{NoMemory, ParseDiffs};
-ghost use Rattle.formula_tree.specs.declared.Node.{Node as AnyNode};
-ghost use Rattle.formula_tree.specs.Numbers.{has_kept_numbers};
+ghost use Rattle.std.specs.Prelude.{◌+◌};
 ghost use Rattle.base_values.specs.Answers.{Answers, map_ok};
 ghost use Rattle.base_wire.specs.Reading.{list_at, many_at, map_at, ◌⊗◌};
 ghost use Rattle.formula_wire.specs.PartBytes.{corner_at, sheet_at};
-ghost use Rattle.formula_wire.specs.NodeBytes.{call_of, kinded_of, leaf_of, node_at, node_of, node_within, range_at, range_made, reference_made, spell_node, text_of};
-ghost use Rattle.formula_wire.specs.Carried.{FitsNode};
-ghost use Rattle.formula_wire.specs.NodeReading.{BeginsWithNoNode};
+ghost use Rattle.formula_wire.specs.NodeBytes.{call_of, kinded_of, leaf_of, node_at, node_of, node_within, range_at, range_made, reference_made, text_of};
 
 use crate::codes::{compare_at, function_at, product_at, sum_at, unary_at};
 use crate::parts::{ConstantPart, ParameterPart};
 use crate::parts_reading::{corner_at, count_at};
 use crate::read::read;
 use base_decimal::Decimal;
-use base_tables::Error;
 use base_shared::Shared;
+use base_tables::Error;
 use base_values::{EditError, Items, Text};
 use formula_tree::{MAX_DEPTH, Node};
 use std::alloc::Global;
 
-/// The tree at the front of bytes, and the bytes after it (docs/FORMATS.md, "Bytes").
-///
-/// Refuses with `ParseDiffs` bytes that are cut short, that spell no tree or one that is more than
-/// 64 deep, and with `NoMemory`.
-pub fn node_at(alloc: Global, bytes: &[u8]) -> Result<(Node, &[u8]), EditError>
-    // What is read was spelled so, and what follows it is left.
-    ensures spelled { IfOk result (λ x. bytes.now ≡ spell_node x.0 ++ x.1.now) }
-    ensures fits { IfOk result (λ x. FitsNode x.0) }
-    ensures kept { IfOk result (λ x. IsTrue (has_kept_numbers x.0)) }
-
-    // What is spelled is read, whatever follows, so bytes are refused only where they begin with no tree.
-    ensures again { (node : AnyNode) → (rest : List ℕ) → FitsNode node → bytes.now ≡ spell_node node ++ rest → Answers {T = AnyNode × List ℕ} (map_ok (λ x. (x.0, x.1.now)) result) (Ok (node, rest)) }
-    ensures refused { IfErr result (λ e. e ≢ NoMemory → (e ≡ ParseDiffs) × BeginsWithNoNode bytes.now) }
-{
-    read_node(alloc, bytes)
-}
-
+/// The tree at the front of bytes, and the bytes after it.
 #[tactic(auto, unfolding(crate::specs::NodeBytes::node_at))]
 pub(crate) fn read_node(alloc: Global, bytes: &[u8]) -> Result<(Node, &[u8]), EditError>
     ensures { Answers (map_ok (λ x. (x.0, x.1.now)) result) (node_at bytes.now) }
@@ -49,7 +28,7 @@ pub(crate) fn read_node(alloc: Global, bytes: &[u8]) -> Result<(Node, &[u8]), Ed
 
 /// A tree that is at most so deep.
 #[cycle(nodes)]
-#[tactic(auto, using(crate::specs::Levels::nothing_within))]
+#[tactic(auto, using(crate::specs::laws::Levels::nothing_within))]
 fn node_within(alloc: Global, bytes: &[u8], most: u64) -> Result<(Node, &[u8]), EditError>
     ensures { Answers (map_ok (λ x. (x.0, x.1.now)) result) (node_within most bytes.now) }
 {
@@ -61,7 +40,7 @@ fn node_within(alloc: Global, bytes: &[u8], most: u64) -> Result<(Node, &[u8]), 
 
 /// A tree that is at most one deeper than this.
 #[cycle(nodes)]
-#[tactic(auto, using(crate::specs::Levels::level_within))]
+#[tactic(auto, using(crate::specs::laws::Levels::level_within))]
 fn level_at(alloc: Global, bytes: &[u8], below: u64) -> Result<(Node, &[u8]), EditError>
     ensures { Answers (map_ok (λ x. (x.0, x.1.now)) result) (node_within (below + 1) bytes.now) }
 {

@@ -9,8 +9,7 @@ ghost use Rattle.base_wire.specs.laws.Form.{if_passes, is_list, is_text};
 ghost use Rattle.formula_wire.specs.Carried.{is_carried, is_corner, is_item, is_parameter, FitsNode, IsKnownNode};
 ghost use Rattle.formula_wire.specs.KeptNumbers.{is_kept_item};
 ghost use Rattle.formula_wire.specs.PartBytes.{spell_corner, spell_lines, spell_parameters, spell_sheet};
-ghost use Rattle.formula_wire.specs.NodeBytes.{spell_node};
-ghost use Rattle.formula_wire.specs.SpellEquations.{spell_nodes};
+ghost use Rattle.formula_wire.specs.NodeBytes.{spell_node, spell_nodes};
 
 use crate::codes::{compare_code, product_code, sum_code, unary_code};
 use crate::parts_writing::{
@@ -33,7 +32,7 @@ pub fn push_node(out: &mut Vec<u8>, node: &Node) -> Result<(), AllocError>
 
 /// Of a tree of Rust's own types only the numbers may not fit.
 #[cycle(nodes)]
-#[tactic(auto, using(crate::specs::SpellEquations::spellings, crate::specs::CarriedEquations::carryings, crate::proofs::Numbers::kept, crate::proofs::Joins::pieces))]
+#[tactic(auto, using(crate::specs::laws::SpellEquations::spellings, crate::specs::laws::CarriedEquations::carryings, crate::proofs::Numbers::kept, crate::proofs::Joins::pieces))]
 fn push_tree(out: &mut Vec<u8>, node: &Node) -> Result<(), AllocError>
     ensures spelled { OnOk result (out.new.items ≡ out.old.items ++ spell_node node.now) }
     ensures carried { OnOk result (is_carried node.now ≡ has_kept_numbers node.now) }

@@ -12,7 +12,7 @@ use Rattle.base_wire.specs.laws.Spelled.{ReadsSpelled, both_spelled, check_spell
 use Rattle.base_wire.specs.laws.Refusals.{IsPlain, both_plain, map_plain, check_plain, list_plain}
 use Rattle.formula_wire.specs.NodeBytes.{spell_node}
 use Rattle.formula_wire.specs.Carried.{FitsNode}
-use Rattle.formula_wire.specs.NodeLaws.{node_again, node_spelled, node_plain}
+use Rattle.formula_wire.specs.laws.NodeLaws.{node_again, node_spelled, node_plain}
 use Rattle.kept_wire.specs.MapLaws.{made_again, made_spelled}
 use Rattle.kept_wire.specs.KeyBytes.{spell_sheet_place, IsSheetPlace, sheet_place_bytes, sheet_place_again, sheet_place_spelled, sheet_place_plain}
 use Rattle.kept_wire.specs.Nested.{flat, grouped}

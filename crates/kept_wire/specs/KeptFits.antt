@@ -15,7 +15,7 @@ use Rattle.sheet_lines.specs.declared.kept.KeptLines.{KeptLines}
 use Rattle.sheet_lines.specs.KeptNumbers.{AreKeptTrees, AreKeptLines}
 use Rattle.base_wire.specs.Spelling.{Both}
 use Rattle.formula_wire.specs.Carried.{FitsNode}
-use Rattle.formula_wire.specs.KeptLaws.{kept_from_carried}
+use Rattle.formula_wire.specs.laws.KeptLaws.{kept_from_carried}
 use Rattle.cell_wire.specs.CellBytes.{FitsCell}
 use Rattle.cell_wire.specs.Fitting.{kept_cell_from_fits, shallow_content_from_fits}
 use Rattle.kept_wire.specs.KeyBytes.{IsSheetPlace}

@@ -1,6 +1,6 @@
 use Rattle.std.proofs.Common.{arith}
 use Rattle.base_wire.specs.laws.Format.{reads}
-use Rattle.formula_wire.specs.NodeLaws.{node_format}
+use Rattle.formula_wire.specs.laws.NodeLaws.{node_format}
 use Rattle.formula_wire.proofs.node_part.NodePartPart.take.Goals as goal
 
 pub returns : goal.returns

@@ -1,6 +1,6 @@
 use Rattle.std.proofs.Common.{arith}
 use Rattle.base_wire.specs.laws.Format.{reads}
-use Rattle.formula_wire.specs.PartLaws.{parameter_form}
+use Rattle.formula_wire.specs.laws.PartLaws.{parameter_form}
 use Rattle.formula_wire.proofs.parts.ParameterPartPart.take.Goals as goal
 
 pub returns : goal.returns

@@ -6,3 +6,4 @@ pub mod PositionEquals
 pub mod KeyMap
 pub mod Places
 pub mod CodedEq
+pub mod laws

@@ -1,11 +1,13 @@
-ghost use Rattle.std.specs.Prelude.{◌≡◌};
+ghost use Rattle.std.specs.Prelude.{◌≡◌, ◌↔◌, IsTrue};
 ghost use Rattle.base_values.specs.declared.error.EditError.TheVariants.{NoMemory};
+ghost use Rattle.base_values.specs.contracts.error.EditError.{the_row};
 
+use crate::exact::Exact;
 use std::alloc::{AllocError, AllocFailed};
 use thiserror::Error;
 
 /// Why an edit, or a question about a workbook, is refused. A refused call changes nothing.
-#[derive(Clone, Copy, Debug, PartialEq, Eq, Error)]
+#[derive(Clone, Copy, Debug, Error)]
 pub enum EditError {
     #[error("there is not enough memory")]
     NoMemory,
@@ -136,6 +138,64 @@ impl EditError {
             EditError::IllFormed { rule: _ } => "IllFormed",
         }
     }
+}
+
+impl EditError {
+    ghost use Rattle.base_values.specs.laws.ErrorEquals.{first_number, second_number};
+
+    /// The numbers of an error, or 0 where it has none.
+    fn numbers(&self) -> (u64, u64)
+        ensures first { result.0 ≡ first_number self.now }
+        ensures second { result.1 ≡ second_number self.now }
+    {
+        match self {
+            EditError::DiffRefused { entry, diff } => (*entry, *diff),
+            EditError::IllFormed { rule } => (u64::from(*rule), 0),
+            _ => (0, 0),
+        }
+    }
+}
+
+fn same_name(a: &str, b: &str) -> bool
+    ensures { IsTrue result ↔ (a.now ≡ b.now) }
+{
+    a == b
+}
+
+#[tactic(auto, using(crate::specs::laws::ErrorEquals::told_by_name))]
+fn same_error(a: &EditError, b: &EditError) -> bool
+    ensures { IsTrue result ↔ (a.now ≡ b.now) }
+{
+    let (a_first, a_second) = a.numbers();
+    let (b_first, b_second) = b.numbers();
+    a_first == b_first && a_second == b_second && same_name(a.name(), b.name())
+}
+
+impl PartialEq for EditError {
+    ghost use Rattle.base_values.specs.CodedEq.{same_value, same_value_laws};
+
+    ghost eq = { same_value the_row.coded };
+
+    ghost laws = { same_value_laws the_row.coded };
+
+    fn eq(&self, other: &EditError) -> bool {
+        same_error(self, other)
+    }
+}
+
+impl Eq for EditError {
+    ghost use Rattle.base_values.specs.CodedEq.{same_value_equiv};
+
+    ghost laws = { same_value_equiv the_row.coded };
+}
+
+impl Exact for EditError {
+    ghost use Rattle.std.proofs.Common.{rules};
+    ghost use Rattle.base_values.specs.CodedEq.{same_value_decides};
+
+    ghost copies = { λ a b h. Prim.search rules };
+
+    ghost equals = { same_value_decides the_row.coded };
 }
 
 impl From<AllocError> for EditError {

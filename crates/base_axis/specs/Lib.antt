@@ -1,3 +1,4 @@
 pub mod Along
 pub mod Lawful
 pub mod AreaEquals
+pub mod laws

@@ -1,7 +1,7 @@
 ghost use Rattle.std.specs.Prelude.{◌≡◌, ℤ};
 ghost use Rattle.base_axis.specs.Along.{Along, IsAxis};
 
-use base_values::{LAST_COLUMN, LAST_ROW, Position};
+use base_values::{Exact, LAST_COLUMN, LAST_ROW, Position};
 
 /// A direction of a sheet: along it each place has a line, and across it another one. Lines are
 /// counted from 1. docs/MODEL.md has the rules.
@@ -35,9 +35,25 @@ pub trait Axis {
 #[derive(Clone, Copy, Debug, PartialEq, Eq)]
 pub struct RowAxis;
 
+impl Exact for RowAxis {
+    ghost use Rattle.base_axis.specs.laws.AxisEquals.{row_axis_equals};
+
+    ghost copies = { λ a b h. h };
+
+    ghost equals = { row_axis_equals };
+}
+
 /// From column to column: a line is a column.
 #[derive(Clone, Copy, Debug, PartialEq, Eq)]
 pub struct ColumnAxis;
+
+impl Exact for ColumnAxis {
+    ghost use Rattle.base_axis.specs.laws.AxisEquals.{column_axis_equals};
+
+    ghost copies = { λ a b h. h };
+
+    ghost equals = { column_axis_equals };
+}
 
 impl Axis for RowAxis {
     ghost use Rattle.std.specs.Prelude.{pos, refl};

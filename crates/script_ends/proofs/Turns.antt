@@ -5,7 +5,7 @@ use Rattle.std.proofs.lemmas.List.{take-append-drop, take_all, length-take}
 use Rattle.std.specs.declared.option.Option.{Option}
 use Rattle.std.specs.Io.KnownBytes.{prepend_known, append_known}
 use Rattle.script_ends.specs.Took.{TookJust, AddedFront}
-use Rattle.script_ends.specs.KnownLaws.{prepend_known-prepend_known, append_known-append_known}
+use Rattle.script_ends.proofs.KnownLaws.{prepend_known-prepend_known, append_known-append_known}
 
 -- the bytes that were taken, and those of one more read
 pub took_more : (bytes more : List ℕ) (before mid now : Option (List ℕ)) → before ≡ prepend_known bytes mid → mid ≡ prepend_known more now → before ≡ prepend_known (bytes ++ more) now

@@ -7,6 +7,10 @@ use Rattle.script_ends.specs.declared.sure.SureSink.{SureSink}
 use Rattle.script_ends.specs.declared.memory.MemorySource.{MemorySource}
 use Rattle.script_ends.specs.declared.memory.MemorySink.{MemorySink}
 
+-- an end that never fails counts no fault
+abbrev pub no_fault : {A : Type 0} → A → ℕ
+no_fault end = 0
+
 abbrev pub sure_left : SureSource → Option (List ℕ)
 sure_left s = Some (drop s.at s.bytes.items)
 

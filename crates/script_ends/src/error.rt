@@ -2,6 +2,7 @@ ghost use Rattle.std.specs.Prelude.{◌≡◌};
 ghost use Rattle.script_ends.specs.declared.error.RunError.TheVariants.{NoMemory};
 ghost use Rattle.script_ends.specs.Status.{status_number};
 
+use base_values::Exact;
 use std::alloc::AllocError;
 use thiserror::Error;
 
@@ -9,6 +10,14 @@ use thiserror::Error;
 #[derive(Clone, Copy, Debug, PartialEq, Eq, Error)]
 #[error("the source or sink failed")]
 pub struct Failed;
+
+impl Exact for Failed {
+    ghost use Rattle.script_ends.specs.laws.ErrorEquals.{failed_equals};
+
+    ghost copies = { λ a b h. h };
+
+    ghost equals = { failed_equals };
+}
 
 /// Why a script's run did not end well.
 #[derive(Clone, Copy, Debug, PartialEq, Eq, Error)]
@@ -21,6 +30,15 @@ pub enum RunError {
     TooLong,
     #[error("there is not enough memory")]
     NoMemory,
+}
+
+impl Exact for RunError {
+    ghost use Rattle.std.proofs.Common.{rules};
+    ghost use Rattle.script_ends.specs.laws.ErrorEquals.{run_error_equals};
+
+    ghost copies = { λ a b h. Prim.search rules };
+
+    ghost equals = { run_error_equals };
 }
 
 impl From<AllocError> for RunError {

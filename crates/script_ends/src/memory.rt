@@ -1,4 +1,4 @@
-ghost use Rattle.std.specs.Prelude.{◌≡◌, ◌↔◌, ◌≤◌, length, Contains, IsErr, OnOk, OnErr};
+ghost use Rattle.std.specs.Prelude.{◌≡◌, ◌↔◌, ◌≤◌, length, Contains, IsErr, OnOk, OnErr, IsOkUnless};
 ghost use Rattle.std.specs.declared.option.Option.TheVariants.{Some};
 ghost use Rattle.script_ends.specs.Faults.{HasCause, next_count};
 ghost use Rattle.script_ends.specs.Known.{Takes, Adds, UsesRoom};
@@ -108,7 +108,16 @@ impl Sink for MemorySink {
 
     ghost spare = { sink_spare };
 
-    fn reserve(&mut self, more: usize) -> Result<(), EditError> {
+    fn reserve(&mut self, more: usize) -> Result<(), EditError>
+        ensures only { IsOkUnless result EditError.NoMemory }
+        ensures room { OnOk result (more ≤ sink_spare self.new) }
+        ensures refused { OnErr result (sink_spare self.new ≡ sink_spare self.old) }
+        ensures taken { sink_taken self.new ≡ sink_taken self.old }
+        ensures faults { sink_faults self.new ≡ sink_faults self.old }
+
+        ensures writes { writes self.new ≡ writes self.old }
+        ensures failing { failing_writes self.new ≡ failing_writes self.old }
+    {
         self.bytes.reserve(more)
     }
 

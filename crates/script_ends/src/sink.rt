@@ -26,7 +26,7 @@ pub trait Sink {
         ensures taken { taken self.new ≡ taken self.old }
         ensures faults { faults self.new ≡ faults self.old };
 
-    /// Takes first bytes of the piece, for all of which there must be room, and answers how many: at
+    /// Takes first bytes of the piece, for all of which there must be room, and returns how many: at
     /// least one where there is one. It takes no memory. `Failed` comes only with a fault counted,
     /// and takes none.
     fn write(&mut self, from: &[u8]) -> Result<usize, Failed>

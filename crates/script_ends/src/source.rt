@@ -13,7 +13,7 @@ pub trait Source {
     /// How often the source has failed. The count never falls, and stands still at the greatest `u64`.
     ghost faults: { Self → ℕ };
 
-    /// Moves bytes from the front of what is left to the front of the buffer, and answers how many:
+    /// Moves bytes from the front of what is left to the front of the buffer, and returns how many:
     /// none for a buffer with room exactly at the end. `Failed` comes only with a fault counted, and
     /// takes none.
     fn read(&mut self, into: &mut [u8]) -> Result<usize, Failed>

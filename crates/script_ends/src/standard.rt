@@ -1,5 +1,7 @@
-ghost use Rattle.std.specs.Prelude.{◌≡◌, ◌^◌};
+ghost use Rattle.std.specs.Prelude.{◌≡◌, ◌≤◌, ◌^◌, length, OnOk, OnErr};
 ghost use Rattle.std.specs.declared.option.Option.TheVariants.{None};
+ghost use Rattle.script_ends.specs.Faults.{HasCause, next_count};
+ghost use Rattle.script_ends.specs.Known.{Takes, Adds, UsesRoom};
 
 use crate::{Failed, Sink, Source};
 use base_values::EditError;
@@ -26,7 +28,13 @@ impl<R: Read> Source for StdSource<R> {
 
     ghost faults = { λ s. s.faults };
 
-    fn read(&mut self, into: &mut [u8]) -> Result<usize, Failed> {
+    fn read(&mut self, into: &mut [u8]) -> Result<usize, Failed>
+        ensures bytes { Takes None None result into.new }
+        ensures cause { HasCause self.old.faults self.new.faults result }
+
+        ensures counted { OnErr result (self.new.faults ≡ next_count self.old.faults) }
+        ensures not_counted { OnOk result (self.new.faults ≡ self.old.faults) }
+    {
         match self.reader.read(into) {
             Ok(count) => Ok(count),
             Err(_) => {
@@ -66,7 +74,15 @@ impl<W: Write> Sink for StdSink<W> {
         Ok(())
     }
 
-    fn write(&mut self, from: &[u8]) -> Result<usize, Failed> {
+    fn write(&mut self, from: &[u8]) -> Result<usize, Failed>
+        requires { length from.now ≤ 2 ^ 64 }
+        ensures bytes { Adds None None result from.now }
+        ensures room { UsesRoom (2 ^ 64) (2 ^ 64) result }
+        ensures cause { HasCause self.old.faults self.new.faults result }
+
+        ensures counted { OnErr result (self.new.faults ≡ next_count self.old.faults) }
+        ensures not_counted { OnOk result (self.new.faults ≡ self.old.faults) }
+    {
         if let Ok(count) = self.writer.write(from) {
             if (count > 0 || from.is_empty()) && self.writer.flush().is_ok() {
                 return Ok(count);

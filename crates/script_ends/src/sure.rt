@@ -1,4 +1,4 @@
-ghost use Rattle.std.specs.Prelude.{◌≡◌, ◌≤◌, length, take, min, IsOk, vec_len};
+ghost use Rattle.std.specs.Prelude.{◌≡◌, ◌≤◌, length, take, min, IsOk, OnOk, vec_len};
 ghost use Rattle.std.specs.declared.option.Option.TheVariants.{Some};
 ghost use Rattle.script_ends.specs.Faults.{HasCause};
 ghost use Rattle.script_ends.specs.Known.{Takes, Adds, UsesRoom};
@@ -35,16 +35,17 @@ impl SureSource {
 }
 
 impl Source for SureSource {
-    ghost use Rattle.script_ends.specs.Memory.{sure_left};
+    ghost use Rattle.script_ends.specs.Memory.{no_fault, sure_left};
 
     ghost left = { sure_left };
 
-    ghost faults = { λ _. 0 };
+    ghost faults = { no_fault };
 
     fn read(&mut self, into: &mut [u8]) -> Result<usize, Failed>
         ensures bytes { Takes (sure_left self.old) (sure_left self.new) result into.new }
-        ensures cause { HasCause 0 0 result }
+        ensures cause { HasCause (no_fault self.old) (no_fault self.new) result }
         ensures sure { IsOk result }
+        ensures not_counted { OnOk result (no_fault self.new ≡ no_fault self.old) }
     {
         let count = copy_front(&self.bytes[self.at..], into);
         self.at += count;
@@ -76,11 +77,11 @@ impl SureSink {
 }
 
 impl Sink for SureSink {
-    ghost use Rattle.script_ends.specs.Memory.{sure_taken, sure_spare};
+    ghost use Rattle.script_ends.specs.Memory.{no_fault, sure_taken, sure_spare};
 
     ghost taken = { sure_taken };
 
-    ghost faults = { λ _. 0 };
+    ghost faults = { no_fault };
 
     ghost spare = { sure_spare };
 
@@ -93,8 +94,9 @@ impl Sink for SureSink {
         requires { length from.now ≤ sure_spare self.old }
         ensures bytes { Adds (sure_taken self.old) (sure_taken self.new) result from.now }
         ensures room { UsesRoom (sure_spare self.old) (sure_spare self.new) result }
-        ensures cause { HasCause 0 0 result }
+        ensures cause { HasCause (no_fault self.old) (no_fault self.new) result }
         ensures sure { IsOk result }
+        ensures not_counted { OnOk result (no_fault self.new ≡ no_fault self.old) }
     {
         match self.bytes.extend_from_slice(from) {
             Ok(()) => Ok(from.len()),

@@ -4,7 +4,36 @@ use crate::{
     Failed, MemorySink, MemorySource, RunError, Sink, Source, StdSink, StdSource, SureSink,
     SureSource, read_all, write_all,
 };
+use std::io::{self, ErrorKind, Write};
 use std::test::Fail;
+
+/// A writer that takes everything, and of which the first flush fails.
+#[derive(Drop)]
+struct Unflushed {
+    flushes: u8,
+}
+
+impl Write for Unflushed {
+    fn write(&mut self, buf: &[u8]) -> io::Result<usize> {
+        Ok(buf.len())
+    }
+
+    fn flush(&mut self) -> io::Result<()> {
+        self.flushes = self.flushes.saturating_add(1);
+        if self.flushes == 1 {
+            return Err(ErrorKind::BrokenPipe.into());
+        }
+        Ok(())
+    }
+}
+
+#[test]
+fn each_write_is_flushed(rt: HostRuntime) -> Result<(), Fail> {
+    let mut sink = StdSink::new(Unflushed { flushes: 0 });
+    assert_eq!(rt; sink.write(b"ab"), Err(Failed));
+    assert_eq!(rt; sink.write(b"ab"), Ok(2));
+    Ok(())
+}
 
 #[test]
 fn a_source_goes_on_after_a_failing_read(rt: HostRuntime) -> Result<(), Fail> {

@@ -8,7 +8,7 @@ ghost use Rattle.sheet_progress.specs.Names.{begins_upper, case_of, case_style, 
 use crate::characters::characters;
 use crate::letters::{Letters, push_letters, raised};
 use crate::trim::trimmed;
-use base_values::EditError;
+use base_values::{EditError, Exact};
 use std::alloc::{AllocError, Global};
 
 /// The case in which names go on.
@@ -20,6 +20,15 @@ pub enum CaseStyle {
     Capital,
     /// All letters are small ones.
     Lower,
+}
+
+impl Exact for CaseStyle {
+    ghost use Rattle.std.proofs.Common.{rules};
+    ghost use Rattle.sheet_progress.specs.laws.ProgressionEquals.{case_style_equals};
+
+    ghost copies = { λ a b h. Prim.search rules };
+
+    ghost equals = { case_style_equals };
 }
 
 fn are_uppercase(text: &[char]) -> bool

@@ -15,7 +15,7 @@ use crate::reading::{FindNumber, steps_in};
 use crate::steps::Steps;
 use crate::suffix::split_suffix;
 use base_tables::Locale;
-use base_values::{EditError, Text};
+use base_values::{EditError, Exact, Text};
 use std::alloc::{AllocError, Global};
 
 /// What finds one kind of progression in a list of texts.
@@ -36,10 +36,28 @@ pub struct NumericProgressionDetector {
     pub locale: Locale,
 }
 
+impl Exact for NumericProgressionDetector {
+    ghost use Rattle.std.proofs.Common.{rules};
+    ghost use Rattle.sheet_progress.specs.laws.DetectorEquals.{numeric_detector_equals};
+
+    ghost copies = { λ a b h. Prim.search rules };
+
+    ghost equals = { numeric_detector_equals };
+}
+
 /// Finds texts that end in numbers with the same step, behind the same prefix.
 #[derive(Clone, Copy, Debug, PartialEq, Eq)]
 pub struct SuffixedNumberDetector {
     pub locale: Locale,
+}
+
+impl Exact for SuffixedNumberDetector {
+    ghost use Rattle.std.proofs.Common.{rules};
+    ghost use Rattle.sheet_progress.specs.laws.DetectorEquals.{suffixed_detector_equals};
+
+    ghost copies = { λ a b h. Prim.search rules };
+
+    ghost equals = { suffixed_detector_equals };
 }
 
 /// Finds names of days or months whose places in their list have the same step.

@@ -5,7 +5,7 @@ use crate::characters::characters;
 use crate::letters::{Letters, push_letters};
 use crate::trim::trimmed;
 use base_tables::Locale;
-use base_values::Text;
+use base_values::{Exact, Text};
 use std::alloc::{AllocError, Global};
 
 /// A list of names that a locale has.
@@ -19,6 +19,15 @@ pub enum NameList {
     Months,
     /// The short names of the months.
     ShortMonths,
+}
+
+impl Exact for NameList {
+    ghost use Rattle.std.proofs.Common.{rules};
+    ghost use Rattle.sheet_progress.specs.laws.ProgressionEquals.{name_list_equals};
+
+    ghost copies = { λ a b h. Prim.search rules };
+
+    ghost equals = { name_list_equals };
 }
 
 impl NameList {

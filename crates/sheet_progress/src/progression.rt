@@ -9,7 +9,7 @@ use crate::names::NameList;
 use crate::number::number_text;
 use crate::steps::Steps;
 use base_tables::Locale;
-use base_values::{EditError, Text};
+use base_values::{EditError, Exact, Text};
 use std::alloc::{AllocError, Global};
 
 /// Numbers that go on by the same step. They are counted in units of the fifteenth place.
@@ -19,11 +19,29 @@ pub struct NumericProgression {
     pub(crate) locale: Locale,
 }
 
+impl Exact for NumericProgression {
+    ghost use Rattle.std.proofs.Common.{rules};
+    ghost use Rattle.sheet_progress.specs.laws.ProgressionEquals.{numeric_equals};
+
+    ghost copies = { λ a b h. Prim.search rules };
+
+    ghost equals = { numeric_equals };
+}
+
 /// Texts that are a prefix and numbers that go on by the same step.
 #[derive(Clone, PartialEq, Eq, Drop)]
 pub struct SuffixedProgression {
     pub(crate) prefix: Text,
     pub(crate) numbers: NumericProgression,
+}
+
+impl Exact for SuffixedProgression {
+    ghost use Rattle.std.proofs.Common.{rules};
+    ghost use Rattle.sheet_progress.specs.laws.ProgressionEquals.{suffixed_equals};
+
+    ghost copies = { λ a b h. Prim.search rules };
+
+    ghost equals = { suffixed_equals };
 }
 
 /// Names of a list, whose places go on by the same step.
@@ -35,6 +53,15 @@ pub struct DateProgression {
     pub(crate) style: CaseStyle,
 }
 
+impl Exact for DateProgression {
+    ghost use Rattle.std.proofs.Common.{rules};
+    ghost use Rattle.sheet_progress.specs.laws.ProgressionEquals.{date_equals};
+
+    ghost copies = { λ a b h. Prim.search rules };
+
+    ghost equals = { date_equals };
+}
+
 /// How a list of texts goes on.
 #[derive(Clone, PartialEq, Eq, Drop)]
 pub enum Progression {
@@ -44,6 +71,15 @@ pub enum Progression {
     SuffixedNumber(SuffixedProgression),
     /// As names of days or months.
     Date(DateProgression),
+}
+
+impl Exact for Progression {
+    ghost use Rattle.std.proofs.Common.{rules};
+    ghost use Rattle.sheet_progress.specs.laws.ProgressionEquals.{progression_equals};
+
+    ghost copies = { λ a b h. Prim.search rules };
+
+    ghost equals = { progression_equals };
 }
 
 impl NumericProgression {

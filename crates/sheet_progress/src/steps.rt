@@ -1,6 +1,7 @@
 ghost use Rattle.std.specs.Prelude.{◌≡◌, ℤ, pos, ◌-ℤ◌, ◌*◌, ◌^◌, ◌≤ℤ◌, All};
 ghost use Rattle.sheet_progress.specs.Steps.{number_at, are_even, steps_of, IsWithin};
 
+use base_values::Exact;
 use std::marker::Model;
 
 /// Whole numbers that go on by the same step: the last one, and how far each lies from the one
@@ -25,6 +26,15 @@ impl Model for Steps {
     ghost inverse = { λ s. record { last = s.last; step = s.step } };
 
     ghost invariant = { λ s. IsWithin (10 ^ 30) s.last × IsWithin (2 * 10 ^ 30) s.step };
+}
+
+impl Exact for Steps {
+    ghost use Rattle.std.proofs.Common.{rules};
+    ghost use Rattle.sheet_progress.specs.laws.ProgressionEquals.{steps_equals};
+
+    ghost copies = { λ a b h. Prim.search rules };
+
+    ghost equals = { steps_equals };
 }
 
 impl Steps {

@@ -1,0 +1,2 @@
+pub mod ProgressionEquals
+pub mod DetectorEquals

@@ -152,7 +152,7 @@ fn push_cell(
     out.extend_from_slice(b"cell ")?;
     push_reference(alloc, out, place)?;
     out.push(b' ')?;
-    push_style(alloc, out, &cell.style)?;
+    push_style(alloc, out, cell.style.get())?;
     out.push(b' ')?;
     push_content(alloc, out, place, &cell.content)?;
     out.push(b'\n')?;
@@ -208,7 +208,7 @@ fn push_cells(alloc: Global, out: &mut Vec<u8>, sheet: &Worksheet) -> Result<(),
     ensures memory { IsOkUnless result NoMemory }
 {
     for (place, cell) in sheet.cells() {
-        push_cell(alloc, out, *place, cell)?;
+        push_cell(alloc, out, *place, cell.get())?;
     }
     Ok(())
 }
@@ -240,7 +240,7 @@ fn push_book_line(out: &mut Vec<u8>, workbook: &Workbook) -> Result<(), AllocErr
 /// contents are printed in English, and styles are their bytes in hexadecimal. docs/SCRIPT.md has
 /// the lines.
 ///
-/// Only want of memory is refused. A front of it may then have been written.
+/// `NoMemory` alone is an error. A front of the form may then have been written.
 pub fn push_dump(alloc: Global, out: &mut Vec<u8>, workbook: &Workbook) -> Result<(), EditError>
     ensures text { OnOk result (out.new.items ≡ out.old.items ++ dump workbook.now) }
     ensures memory { IsOkUnless result NoMemory }

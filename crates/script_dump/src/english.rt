@@ -29,7 +29,7 @@ fn cell_at(alloc: Global, place: Position) -> CellReferenceRC
 
 /// The text of the content of the cell at a place, in English.
 ///
-/// Only want of memory is refused.
+/// `NoMemory` alone is an error.
 pub fn english_text(alloc: Global, place: Position, content: &Content) -> Result<String, EditError>
     ensures text { IfOk result (λ text. string_bytes text ≡ input_text (english place) content.now) }
     ensures memory { IsOkUnless result NoMemory }
@@ -45,7 +45,7 @@ pub fn english_text(alloc: Global, place: Position, content: &Content) -> Result
 
 /// The content that an English text is read as in the cell at a place inside the sheet.
 ///
-/// Only want of memory is refused.
+/// `NoMemory` alone is an error.
 pub fn english_input(alloc: Global, place: Position, text: &str) -> Result<Content, EditError>
     requires place { IsPlace place }
     ensures value { IfOk result (λ content. content ≡ input_of (english place) text.now) }

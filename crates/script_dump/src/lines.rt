@@ -10,6 +10,7 @@ ghost use Rattle.script_dump.specs.Text.{line, words};
 
 use crate::dump::{flag_text, push_style_bytes};
 use crate::text::{push_signed, push_word};
+use base_shared::Shared;
 use base_styles::Style;
 use base_values::{EditError, Position};
 use script_lines::{push_escaped, push_reference};
@@ -27,12 +28,12 @@ fn push_size(alloc: Global, out: &mut Vec<u8>, size: Option<i32>) -> Result<(), 
 }
 
 /// Writes the style of a row or a column, and a dash where there is none.
-fn push_own_style(alloc: Global, out: &mut Vec<u8>, style: &Option<Style>) -> Result<(), EditError>
+fn push_own_style(alloc: Global, out: &mut Vec<u8>, style: &Option<Shared<Style>>) -> Result<(), EditError>
     ensures text { OnOk result (out.new.items ≡ out.old.items ++ own_style_text style.now) }
     ensures memory { IsOkUnless result NoMemory }
 {
     match style {
-        Some(style) => push_style_bytes(alloc, out, style),
+        Some(style) => push_style_bytes(alloc, out, style.get()),
         None => Ok(out.extend_from_slice(b"-")?),
     }
 }
@@ -43,7 +44,7 @@ fn push_attr(
     out: &mut Vec<u8>,
     size: Option<i32>,
     hidden: bool,
-    style: &Option<Style>,
+    style: &Option<Shared<Style>>,
 ) -> Result<(), EditError>
     ensures text { OnOk result (out.new.items ≡ out.old.items ++ 32 ∷ line (words (attr_words size hidden style.now))) }
     ensures memory { IsOkUnless result NoMemory }

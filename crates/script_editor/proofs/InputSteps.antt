@@ -13,7 +13,7 @@ use Rattle.sheet_grid.specs.laws.FittingLaws.{place_is, cells_fit-at}
 use Rattle.sheet_grid.specs.Sheet.{Sheet}
 use Rattle.sheet_grid.specs.Book.{Book, sheet_at, index_of}
 use Rattle.sheet_rules.specs.WellFormed.{IsWellFormed}
-use Rattle.sheet_rules.specs.WellFormedLaws.{sheets_fit_from_well_formed}
+use Rattle.sheet_rules.specs.laws.WellFormedLaws.{sheets_fit_from_well_formed}
 use Rattle.sheet_history.specs.declared.Diff.{Diff}
 use Rattle.sheet_history.specs.Diffs.{made, taken_back}
 use Rattle.sheet_history.specs.Records.{IsRecord}

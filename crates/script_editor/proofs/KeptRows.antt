@@ -22,9 +22,9 @@ use Rattle.sheet_grid.specs.declared.ColumnAttr.{ColumnAttr}
 use Rattle.sheet_grid.specs.Lines.{is_plain_row}
 use Rattle.sheet_grid.specs.Sheet.{Sheet}
 use Rattle.sheet_grid.specs.Book.{Book}
-use Rattle.sheet_rules.specs.EntryLaws.{both}
+use Rattle.sheet_rules.specs.laws.EntryLaws.{both}
 use Rattle.sheet_rules.specs.WellFormed.{have_attributes, is_row, is_column, is_size, is_row_style, has_font}
-use Rattle.sheet_rules.specs.WellFormedLaws.{well_formed_parts}
+use Rattle.sheet_rules.specs.laws.WellFormedLaws.{well_formed_parts}
 use Rattle.sheet_lines.specs.Way.{line_image}
 use Rattle.sheet_lines.specs.Followed.{sheet_of, name_of}
 use Rattle.sheet_lines.specs.Kept.{is_empty, if_any, sheet_kept, kept_formulas, lost_rows, lost_columns, kept_lines}

@@ -23,7 +23,7 @@ use Rattle.sheet_history.specs.LineDiffs.{is_pushed_past, stays_inside, is_there
 use Rattle.sheet_history.specs.Records.{IsRowEdit}
 use Rattle.sheet_actions.specs.GreatestLine.{greatest_line}
 use Rattle.sheet_actions.specs.Planned.{first_of, count_of, within_edge, edit_allowed, lines_planned}
-use Rattle.sheet_actions.specs.PlannedLaws.{valid_allowed}
+use Rattle.sheet_actions.specs.laws.PlannedLaws.{valid_allowed}
 use Rattle.script_editor.proofs.Entering.{found_some}
 use Rattle.script_editor.proofs.Own.{own_found}
 

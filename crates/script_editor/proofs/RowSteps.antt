@@ -19,7 +19,7 @@ use Rattle.sheet_history.specs.LineRecords.{record_made, record_taken_back}
 use Rattle.sheet_history.specs.Records.{IsRowEdit, line_record}
 use Rattle.sheet_wire.specs.QueueBytes.{FitsList}
 use Rattle.sheet_actions.specs.Planned.{lines_planned}
-use Rattle.sheet_actions.specs.FollowedWellFormed.{followed_well_formed}
+use Rattle.sheet_actions.specs.laws.FollowedWellFormed.{followed_well_formed}
 use Rattle.script_editor.specs.Document.{Document, document_edit, recorded, rows_recorded}
 use Rattle.script_editor.specs.Machine.{State, changed, record_of, edit_of}
 use Rattle.script_editor.specs.Machine.Edit.{Rows}

@@ -11,7 +11,7 @@ use Rattle.base_tables.specs.declared.Locale.TheVariants.{En}
 use Rattle.base_tables.specs.declared.Zone.TheVariants.{Utc}
 use Rattle.sheet_grid.specs.Book.{Book}
 use Rattle.sheet_rules.specs.WellFormed.{IsWellFormed}
-use Rattle.sheet_rules.specs.WellFormedLaws.{well_formed-new}
+use Rattle.sheet_rules.specs.laws.WellFormedLaws.{well_formed-new}
 use Rattle.sheet_history.specs.declared.DiffType.TheVariants.{Undo, Redo}
 use Rattle.sheet_history.specs.declared.QueueDiffs.{QueueDiffs}
 use Rattle.sheet_history.specs.Diffs.{made, taken_back, forwarded, backed, follow, in_entry, replayed}

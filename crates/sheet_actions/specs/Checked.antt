@@ -1,14 +1,9 @@
 -- A workbook that was asked whether it is well-formed.
-use Rattle.std.proofs.Props.{props}
 use Rattle.std.specs.Prelude.{ℕ, Option, Some, None, Result, Ok, Err}
 use Rattle.base_values.specs.declared.EditError.{EditError}
 use Rattle.base_values.specs.declared.EditError.TheVariants.{IllFormed}
 use Rattle.sheet_grid.specs.Book.{Book}
-use Rattle.sheet_rules.specs.WellFormed.{broken_rule, IsWellFormed}
-
--- that it is has one proof at most, so that a type may hold it
-pub well_formed_prop : (book : Book) → IsProp (IsWellFormed book)
-well_formed_prop book = hlevel props
+use Rattle.sheet_rules.specs.WellFormed.{broken_rule}
 
 -- the refusal of a broken rule
 abbrev unless_broken : Option ℕ → Book → Result Book EditError

@@ -1,11 +1,7 @@
 pub mod Checked
 pub mod Edited
 pub mod FollowedPlaced
-pub mod FollowedSheets
-pub mod FollowedTrees
-pub mod FollowedWellFormed
-pub mod GreatestLaws
 pub mod GreatestLine
 pub mod Planned
-pub mod PlannedLaws
 pub mod Shown
+pub mod laws

@@ -1,9 +1,10 @@
 ghost use Rattle.std.specs.Prelude.{◌≡◌, Ok};
-ghost use Rattle.base_values.specs.Answers.{Edits, map_ok};
+ghost use Rattle.base_values.specs.Answers.{Changes, map_ok};
 ghost use Rattle.line_map.specs.Edit.{IsValid};
 ghost use Rattle.sheet_rules.specs.WellFormed.{IsWellFormed};
 ghost use Rattle.sheet_lines.specs.Followed.{book_followed};
-ghost use Rattle.sheet_actions.specs.Checked.{well_formed_prop, checked};
+ghost use Rattle.sheet_actions.specs.Checked.{checked};
+ghost use Rattle.sheet_actions.specs.laws.WellFormedProp.{well_formed_prop};
 ghost use Rattle.sheet_actions.specs.Edited.{rows_inserted, rows_deleted};
 
 use crate::plan::{plan_delete, plan_insert};
@@ -48,7 +49,7 @@ impl Model {
     /// Edits lines of the sheet of an id.
     fn edit_lines<A: Axis>(&mut self, id: u32, edit: &LineEdit<A>) -> Result<(), EditError>
         requires { IsValid A.along.last edit.now.kind }
-        ensures { Edits result (book_of self.old) (book_of self.new) (Ok (book_followed A.along edit.now.kind id (book_of self.old))) }
+        ensures { Changes result (book_of self.old) (book_of self.new) (Ok (book_followed A.along edit.now.kind id (book_of self.old))) }
     {
         self.workbook = followed_book(self.alloc, &self.workbook, id, edit)?;
         Ok(())
@@ -57,10 +58,9 @@ impl Model {
     /// Inserts `count` empty rows at a row of the sheet at an index. Its cells, links and row
     /// attributes go where their rows go, and the formulas of all sheets follow.
     ///
-    /// The refusals are those of `plan_insert`; they change nothing, and want of memory does not
-    /// either.
+    /// The errors are those of `plan_insert`, and `NoMemory`. After one the model is as before.
     pub fn insert_rows(&mut self, sheet: u32, row: i32, count: i32) -> Result<(), EditError>
-        ensures { Edits result (book_of self.old) (book_of self.new) (rows_inserted sheet row count (book_of self.old)) }
+        ensures { Changes result (book_of self.old) (book_of self.new) (rows_inserted sheet row count (book_of self.old)) }
     {
         let (id, edit) = plan_insert(&self.workbook, sheet, row, count)?;
         self.edit_lines(id, &edit)
@@ -69,10 +69,9 @@ impl Model {
     /// Deletes `count` rows from a row on of the sheet at an index. The cells, links and row
     /// attributes of the rows behind go back, and the formulas of all sheets follow.
     ///
-    /// The refusals are those of `plan_delete`; they change nothing, and want of memory does not
-    /// either.
+    /// The errors are those of `plan_delete`, and `NoMemory`. After one the model is as before.
     pub fn delete_rows(&mut self, sheet: u32, row: i32, count: i32) -> Result<(), EditError>
-        ensures { Edits result (book_of self.old) (book_of self.new) (rows_deleted sheet row count (book_of self.old)) }
+        ensures { Changes result (book_of self.old) (book_of self.new) (rows_deleted sheet row count (book_of self.old)) }
     {
         let (id, edit) = plan_delete(&self.workbook, sheet, row, count)?;
         self.edit_lines(id, &edit)

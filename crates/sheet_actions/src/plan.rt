@@ -19,7 +19,6 @@ use sheet_grid::{Workbook, Worksheet};
 fn greatest_line<A: Axis>(sheet: &Worksheet) -> i32
     ensures { result ≡ greatest_line A.along sheet.now }
 {
-    let _inside = sheet.cells();
     let dimension = sheet.dimension();
     A::line(Position {
         row: dimension.max_row,

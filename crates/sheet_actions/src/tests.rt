@@ -12,7 +12,7 @@ use base_values::{EditError, Items, LAST_ROW, Text, same};
 use formula_content::Content;
 use formula_tree::{Corner, Node, has_kept_numbers};
 use line_map::LineEdit;
-use sheet_grid::{Link, RowAttr, Workbook, Worksheet};
+use sheet_grid::{Cell, DefaultStyle, Link, RowAttr, Workbook, Worksheet};
 use sheet_lines::has_sheet;
 use std::alloc::{AllocError, Global};
 use std::test::Fail;
@@ -75,8 +75,8 @@ fn three_sheets_come_back(rt: HostRuntime) -> Result<(), Fail> {
 /// Two sheets of one id.
 fn twice_one(alloc: Global) -> Result<Workbook, EditError> {
     let mut sheets = Items::empty(alloc);
-    sheets.push(Worksheet::new(alloc, 1, text(alloc, "one")?))?;
-    sheets.push(Worksheet::new(alloc, 1, text(alloc, "two")?))?;
+    sheets.push(Worksheet::new(alloc, 1, "one")?)?;
+    sheets.push(Worksheet::new(alloc, 1, "two")?)?;
     empty_book(alloc)?.with_worksheets(sheets)
 }
 
@@ -120,7 +120,7 @@ fn below(sheet: Option<Shared<Text>>, rows: i32, columns: i32) -> Node {
     Node::Reference(sheet, corner)
 }
 
-fn put_formula(sheet: &mut Worksheet, tree: Node, style: &Style) -> Result<(), EditError> {
+fn put_formula(sheet: &mut Worksheet, tree: Node, style: &Shared<Style>) -> Result<(), EditError> {
     if has_kept_numbers(&tree) {
         sheet.set_cell_with_formula(1, 2, tree, style)?;
     }
@@ -135,10 +135,10 @@ fn sheet_of_five(
     name: &str,
     of: Option<Shared<Text>>,
 ) -> Result<Worksheet, EditError> {
-    let style = Style::new(alloc)?;
-    let mut sheet = Worksheet::new(alloc, id, text(alloc, name)?);
-    sheet.set_cell_with_boolean(5, 1, true, &style)?;
-    put_formula(&mut sheet, below(of, 4, -1), &style)?;
+    let style = DefaultStyle::new(alloc)?;
+    let mut sheet = Worksheet::new(alloc, id, name)?;
+    sheet.set_cell_with_boolean(5, 1, true, style.shared())?;
+    put_formula(&mut sheet, below(of, 4, -1), style.shared())?;
     let target = text(alloc, "five")?;
     sheet.put_link(5, 1, Some(Link { target }))?;
     let (height, style, hidden) = (Some(50), None, false);
@@ -181,7 +181,10 @@ fn holds(sheet: &Worksheet, row: i32, column: i32, content: &Content) -> Result<
 }
 
 fn holds_formula(sheet: &Worksheet, tree: Node) -> Result<bool, EditError> {
-    holds(sheet, 1, 2, &Content::Formula(tree))
+    match sheet.cell(1, 2)? {
+        Some(Cell { content: Content::Formula(held), .. }) => Ok(same(held.get(), &tree)),
+        _ => Ok(false),
+    }
 }
 
 /// Whether the cell, the link and the height of fives stand in a row.

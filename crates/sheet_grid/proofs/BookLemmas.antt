@@ -1,9 +1,9 @@
 -- An edit of one sheet, as an edit of the workbook.
-use Rattle.std.proofs.Common.{◌≡◌, ℕ, zero, suc, List, [], ◌∷◌, Option, Some, None, Result, Ok, Err, refl, ap, sym, ◌∙◌}
-use Rattle.std.specs.Prelude.{slice_get, slice_set}
+use Rattle.std.proofs.Common.{◌≡◌, ℕ, zero, suc, List, [], ◌∷◌, Option, Some, None, Result, Ok, Err, refl, ap, sym, subst, ◌∙◌}
+use Rattle.std.specs.Prelude.{IsOk, slice_get, slice_set}
 use Rattle.std.proofs.lemmas.Option.{same_Some}
 use Rattle.base_values.specs.declared.EditError.{EditError}
-use Rattle.base_values.specs.Answers.{Edits, and_then, map_ok, ok_or}
+use Rattle.base_values.specs.Answers.{Changes, and_then, map_ok, ok_or}
 use Rattle.sheet_grid.specs.Sheet.{Sheet}
 use Rattle.sheet_grid.specs.Book.{Book, sheet_at, sheet_edit, with_sheet}
 
@@ -18,16 +18,23 @@ ok_or-some : {A E : Type 0} (e : E) (o : Option A) (x : A) → ok_or e o ≡ Ok 
 ok_or-some e None x h = cc
 ok_or-some e (Some y) x h = cc
 
-pub Edits-sheet_edit : (book : Book) (index : ℕ) (edit : Sheet → Result Sheet EditError) (old new : Sheet) (result : Result (Unit {0}) EditError)
-    → sheet_at book index ≡ Ok old → Edits result old new (edit old) → Edits result book (with_sheet book index new) (sheet_edit book index edit)
-Edits-sheet_edit book index edit old new (Ok u) found h = record {
+value_stays : {A B E : Type 0} (f : A → B) (r : Result A E) → IsOk r → IsOk (map_ok f r)
+value_stays f (Ok value) h = h
+value_stays f (Err error) h = h
+
+pub changes-sheet_edit : (book : Book) (index : ℕ) (edit : Sheet → Result Sheet EditError) (old new : Sheet) (result : Result (Unit {0}) EditError)
+    → sheet_at book index ≡ Ok old → Changes result old new (edit old) → Changes result book (with_sheet book index new) (sheet_edit book index edit)
+changes-sheet_edit book index edit old new (Ok u) found h = record {
   done = ap (λ r. and_then r (λ sheet. map_ok (with_sheet book index) (edit sheet))) found ∙ ap (map_ok (with_sheet book index)) h.done;
   refused = tt;
+  memory = tt;
 }
-Edits-sheet_edit book index edit old new (Err e) found h = record {
-  done = tt;
-  refused = (
-    ap (with_sheet book index) h.refused.0 ∙ (λ i. record book { worksheets = set_found book.worksheets index old (ok_or-some _ _ _ found) i }),
-    λ other. ap (λ r. and_then r (λ sheet. map_ok (with_sheet book index) (edit sheet))) found ∙ ap (map_ok (with_sheet book index)) (h.refused.1 other),
-  );
-}
+changes-sheet_edit book index edit old new (Err e) found h =
+    let here : sheet_edit book index edit ≡ map_ok (with_sheet book index) (edit old) = ap (λ r. and_then r (λ sheet. map_ok (with_sheet book index) (edit sheet))) found in record {
+      done = tt;
+      refused = (
+        ap (with_sheet book index) h.refused.0 ∙ (λ i. record book { worksheets = set_found book.worksheets index old (ok_or-some _ _ _ found) i }),
+        λ other. here ∙ ap (map_ok (with_sheet book index)) (h.refused.1 other),
+      );
+      memory = λ short. subst IsOk (sym here) (value_stays (with_sheet book index) (edit old) (h.memory short));
+    }

@@ -6,9 +6,11 @@ use Rattle.std.specs.Ordering.{MatchOrdering, int_cmp, is_lt, ord_min, ord_max}
 use Rattle.std.specs.declared.cmp.Ordering.{Ordering}
 use Rattle.std.specs.declared.cmp.Ordering.TheVariants.{Less, Equal, Greater}
 use Rattle.std.proofs.lemmas.List.{map-append}
-use Rattle.std.proofs.lemmas.List.Elements.{All-nil, All-cons, All-push, All-weaker, Contains-push, Contains-append_left}
+use Rattle.std.proofs.lemmas.List.Elements.{All-nil, All-cons, All-push, All-weaker, All-map, All-contains, Contains-push, Contains-append_left}
 use Rattle.base_values.specs.declared.Position.{Position}
-use Rattle.sheet_grid.specs.Dimension.{IsLeast, IsGreatest, IsLeastRectangle}
+use Rattle.std.specs.List.{All, Contains}
+use Rattle.base_values.specs.Places.{IsRow, IsColumn, IsPlace}
+use Rattle.sheet_grid.specs.Dimension.{IsLeast, IsGreatest, IsLeastRectangle, IsRectangle}
 use Rattle.sheet_grid.specs.declared.dimension.WorksheetDimension.{WorksheetDimension}
 
 -- the least number, after one more
@@ -83,3 +85,13 @@ rectangle_with places rectangle place h = record {
   min_column = least_with (λ (p : Position). p.column) places place rectangle.min_column h.min_column;
   max_column = greatest_with (λ (p : Position). p.column) places place rectangle.max_column h.max_column;
 }
+
+-- the rectangle of places of a sheet
+pub rectangle_inside : (places : List Position) (rectangle : WorksheetDimension) → All IsPlace places → IsLeastRectangle places rectangle → IsRectangle rectangle
+rectangle_inside places rectangle inside least = record {
+  first = (among IsRow (λ place. place.row) (λ place h. h.0) rectangle.min_row least.min_row.among, among IsColumn (λ place. place.column) (λ place h. h.1) rectangle.min_column least.min_column.among);
+  last = (among IsRow (λ place. place.row) (λ place h. h.0) rectangle.max_row least.max_row.among, among IsColumn (λ place. place.column) (λ place h. h.1) rectangle.max_column least.max_column.among);
+}
+  where
+    among : (P : ℤ → Type 0) (side : Position → ℤ) → ((place : Position) → IsPlace place → P (side place)) → (line : ℤ) → Contains (map side places) line → P line
+    among P side has line there = All-contains P (map side places) line (All-map P side places (All-weaker IsPlace (λ place. P (side place)) has places inside)) there

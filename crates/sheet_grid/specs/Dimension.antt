@@ -2,6 +2,7 @@
 use Rattle.std.specs.Prelude.{ℤ, pos, ◌≤ℤ◌, List, map}
 use Rattle.std.specs.List.{All, Contains}
 use Rattle.base_values.specs.declared.Position.{Position}
+use Rattle.base_values.specs.Places.{IsPlace}
 use Rattle.sheet_grid.specs.declared.dimension.WorksheetDimension.{WorksheetDimension}
 
 -- one of the numbers, and none of them is less
@@ -20,6 +21,11 @@ pub record IsLeastRectangle (places : List Position) (rectangle : WorksheetDimen
   pub max_row : IsGreatest (map (λ place. place.row) places) rectangle.max_row
   pub min_column : IsLeast (map (λ place. place.column) places) rectangle.min_column
   pub max_column : IsGreatest (map (λ place. place.column) places) rectangle.max_column
+
+-- its corners are places of a sheet
+pub record IsRectangle (rectangle : WorksheetDimension) : Type 0 where
+  pub first : IsPlace (record { row = rectangle.min_row; column = rectangle.min_column })
+  pub last : IsPlace (record { row = rectangle.max_row; column = rectangle.max_column })
 
 -- the first place of a sheet
 abbrev pub first_place : WorksheetDimension

@@ -1,5 +1,6 @@
 -- A sheet, as contracts see it.
 use Rattle.std.proofs.Common.{ℕ, ℤ, pos, List, Option, Some, None, Result, Bool, true}
+use Rattle.std.specs.Option.{option_or, unwrap_or}
 use Rattle.std.specs.FinMap as fin
 use Rattle.std.specs.FinMap.{FinMap}
 use Rattle.std.specs.Ordering.{int_cmp}
@@ -67,14 +68,34 @@ cell_put sheet row column entry = map_ok (λ place. with_cell sheet place entry)
 abbrev pub content_put : Sheet → ℤ → ℤ → Content → Style → Result Sheet EditError
 content_put sheet row column content style = cell_put sheet row column (Some (record { content = content; style = style }))
 
--- the style of a cell, or the default where there is none
-abbrev pub style_of : Option Cell → Style
-style_of None = default_style
-style_of (Some cell) = cell.style
+-- the style that a cell, a row or a column has of its own
+abbrev pub cell_style : Option Cell → Option Style
+cell_style None = None
+cell_style (Some cell) = Some cell.style
 
--- the style that a place shows
+abbrev pub row_style : Option RowAttr → Option Style
+row_style None = None
+row_style (Some attr) = attr.style
+
+abbrev pub column_style : Option ColumnAttr → Option Style
+column_style None = None
+column_style (Some attr) = attr.style
+
+-- the style of the row of a place, else of its column
+abbrev pub line_style : Sheet → Position → Option Style
+line_style sheet place = option_or (row_style (fin.get sheet.rows place.row)) (column_style (fin.get sheet.columns place.column))
+
+-- the style of the cell of a place, else of its row, else of its column
+abbrev pub own_style : Sheet → Position → Option Style
+own_style sheet place = option_or (cell_style (fin.get sheet.cells place)) (line_style sheet place)
+
+-- the style that a place shows: that one, else the default
 abbrev pub shown_style : Sheet → Position → Style
-shown_style sheet place = style_of (fin.get sheet.cells place)
+shown_style sheet place = unwrap_or (own_style sheet place) default_style
+
+-- the style that the place at a row and a column shows
+abbrev pub style_at : Sheet → ℤ → ℤ → Result Style EditError
+style_at sheet row column = map_ok (shown_style sheet) (place_of row column)
 
 -- the content of a place goes, and the style that it shows stays
 abbrev pub content_cleared : Sheet → ℤ → ℤ → Result Sheet EditError

@@ -7,8 +7,8 @@
 
 mod cell;
 mod column_attr;
+mod default_style;
 mod dimension;
-mod line_attr;
 mod link;
 mod row_attr;
 mod state;
@@ -17,9 +17,9 @@ mod worksheet;
 
 pub use cell::Cell;
 pub use column_attr::ColumnAttr;
+pub use default_style::DefaultStyle;
 pub use dimension::WorksheetDimension;
 pub use formula_content::Content;
-pub use line_attr::LineAttr;
 pub use link::Link;
 pub use row_attr::RowAttr;
 pub use state::SheetState;

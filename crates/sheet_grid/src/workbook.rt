@@ -1,7 +1,7 @@
-ghost use Rattle.std.specs.Prelude.{◌≡◌, IfOk, IfSome, IsOkUnless};
+ghost use Rattle.std.specs.Prelude.{◌≡◌, ◌≢◌, None, Err, IfOk, IfSome, IsOkUnless};
 ghost use Rattle.std.specs.Borrow.{sem, LendsIfOk};
-ghost use Rattle.base_values.specs.Answers.{Edits, map_ok};
-ghost use Rattle.base_values.specs.declared.EditError.TheVariants.{NoMemory};
+ghost use Rattle.base_values.specs.Answers.{Changes, map_ok};
+ghost use Rattle.base_values.specs.declared.EditError.TheVariants.{NoMemory, InvalidSheet};
 ghost use Rattle.sheet_grid.specs.Book.{Book, new_book, index_of, sheet_at, sheet_edit, edit_by_id, with_sheet};
 ghost use Rattle.sheet_grid.specs.KeptCell.{IsKeptCell};
 ghost use Rattle.sheet_grid.specs.Sheet.{cell_put};
@@ -10,6 +10,7 @@ ghost use Rattle.sheet_grid.specs.contracts.worksheet.Worksheet.{the_row as shee
 
 use crate::cell::Cell;
 use crate::worksheet::Worksheet;
+use base_shared::Shared;
 use base_tables::{Locale, Zone};
 use base_values::{EditError, Exact, Items, Text, copy_of};
 use std::alloc::{AllocError, Global};
@@ -49,7 +50,7 @@ impl Model for Workbook {
 }
 
 impl Workbook {
-    /// A workbook with one empty sheet, `Sheet1`, of id 1. Only want of memory is refused.
+    /// A workbook with one empty sheet, `Sheet1`, of id 1. `NoMemory` alone is an error.
     pub fn new_empty(
         alloc: Global,
         name: &str,
@@ -59,9 +60,8 @@ impl Workbook {
         ensures made { IfOk result (λ book. book ≡ new_book name.now locale zone) }
         ensures only { IsOkUnless result NoMemory }
     {
-        let first = Text::new(String::from_str(alloc, "Sheet1")?);
         let mut worksheets = Items::empty(alloc);
-        worksheets.push(Worksheet::new(alloc, 1, first))?;
+        worksheets.push(Worksheet::new(alloc, 1, "Sheet1")?)?;
         Ok(Workbook {
             name: Text::new(String::from_str(alloc, name)?),
             locale,
@@ -98,8 +98,8 @@ impl Workbook {
         self.worksheets.as_slice()
     }
 
-    /// A copy of the workbook that has these sheets in place of its own. Only want of memory is
-    /// refused.
+    /// A copy of the workbook that has these sheets in place of its own. `NoMemory` alone is an
+    /// error.
     pub fn with_worksheets(&self, worksheets: Items<Worksheet>) -> Result<Workbook, EditError>
         ensures book { IfOk result (λ book. book ≡ record self.now { worksheets = worksheets }) }
         ensures only { IsOkUnless result NoMemory }
@@ -135,6 +135,7 @@ impl Workbook {
     fn worksheet_at(&mut self, at: usize) -> Result<&mut Worksheet, EditError>
         ensures* writes_back { sem 𝓛 (LendsIfOk the_row sheet_row self.entry result (with_sheet self.old at) self.old) }
         ensures value { map_ok (λ lent. lent.now) result ≡ sheet_at self.old at }
+        ensures only { IsOkUnless result InvalidSheet }
     {
         match self.worksheets.get_mut(at) {
             Some(found) => Ok(found),
@@ -163,26 +164,47 @@ impl Workbook {
         entry: Option<Cell>,
     ) -> Result<(), EditError>
         requires { IfSome entry IsKeptCell }
-        ensures { Edits result self.old self.new (sheet_edit self.old sheet (λ old. cell_put old row column entry)) }
+        ensures put { Changes result self.old self.new (sheet_edit self.old sheet (λ old. cell_put old row column entry)) }
+        ensures away { entry ≡ None → result ≢ Err NoMemory }
     {
         self.put_cell_at(sheet as usize, row, column, entry)
     }
 
-    /// Sets the cell at a row and a column of the sheet with an id, or takes it away.
+    /// Sets the cell at a row and a column of the sheet at an index to one that others hold too, or
+    /// takes it away.
     ///
-    /// The refusals are those of `put_cell`.
-    pub fn put_cell_by_id(
+    /// The errors are those of `put_cell`. To take a cell away needs no memory.
+    pub fn put_shared_cell(
+        &mut self,
+        sheet: u32,
+        row: i32,
+        column: i32,
+        entry: Option<Shared<Cell>>,
+    ) -> Result<(), EditError>
+        requires { IfSome entry IsKeptCell }
+        ensures put { Changes result self.old self.new (sheet_edit self.old sheet (λ old. cell_put old row column entry)) }
+        ensures away { entry ≡ None → result ≢ Err NoMemory }
+    {
+        self.put_shared_cell_at(sheet as usize, row, column, entry)
+    }
+
+    /// Sets the cell at a row and a column of the sheet with an id to one that others hold too, or
+    /// takes it away.
+    ///
+    /// The errors are those of `put_cell`. To take a cell away needs no memory.
+    pub fn put_shared_cell_by_id(
         &mut self,
         sheet_id: u32,
         row: i32,
         column: i32,
-        entry: Option<Cell>,
+        entry: Option<Shared<Cell>>,
     ) -> Result<(), EditError>
         requires { IfSome entry IsKeptCell }
-        ensures { Edits result self.old self.new (edit_by_id self.old sheet_id (λ old. cell_put old row column entry)) }
+        ensures put { Changes result self.old self.new (edit_by_id self.old sheet_id (λ old. cell_put old row column entry)) }
+        ensures away { entry ≡ None → result ≢ Err NoMemory }
     {
         match self.index_of(sheet_id) {
-            Some(at) => self.put_cell_at(at, row, column, entry),
+            Some(at) => self.put_shared_cell_at(at, row, column, entry),
             None => Err(EditError::InvalidSheet),
         }
     }
@@ -195,10 +217,26 @@ impl Workbook {
         entry: Option<Cell>,
     ) -> Result<(), EditError>
         requires { IfSome entry IsKeptCell }
-        ensures { Edits result self.old self.new (sheet_edit self.old at (λ old. cell_put old row column entry)) }
+        ensures put { Changes result self.old self.new (sheet_edit self.old at (λ old. cell_put old row column entry)) }
+        ensures away { entry ≡ None → result ≢ Err NoMemory }
     {
         let found = self.worksheet_at(at)?;
         found.put_cell(row, column, entry)
+    }
+
+    fn put_shared_cell_at(
+        &mut self,
+        at: usize,
+        row: i32,
+        column: i32,
+        entry: Option<Shared<Cell>>,
+    ) -> Result<(), EditError>
+        requires { IfSome entry IsKeptCell }
+        ensures put { Changes result self.old self.new (sheet_edit self.old at (λ old. cell_put old row column entry)) }
+        ensures away { entry ≡ None → result ≢ Err NoMemory }
+    {
+        let found = self.worksheet_at(at)?;
+        found.put_shared_cell(row, column, entry)
     }
 }
 

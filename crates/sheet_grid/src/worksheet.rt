@@ -1,18 +1,19 @@
-ghost use Rattle.std.specs.Prelude.{◌≡◌, ◌≢◌, [], IfOk, IfSome, IsTrue, All};
+ghost use Rattle.std.specs.Prelude.{◌≡◌, ◌≢◌, [], None, Ok, Err, IfOk, IfSome, IsTrue, All};
 ghost use Rattle.std.specs.FinMap as fin;
-ghost use Rattle.base_values.specs.Answers.{Answers, Edits};
+ghost use Rattle.base_values.specs.Answers.{Returns, Changes};
+ghost use Rattle.base_values.specs.declared.EditError.TheVariants.{NoMemory};
 ghost use Rattle.base_values.specs.Places.{IsPlace};
 ghost use Rattle.base_decimal.specs.Kept.{IsKept};
-ghost use Rattle.base_styles.specs.DefaultStyle.{default_style};
 ghost use Rattle.formula_tree.specs.Numbers.{has_kept_numbers};
 ghost use Rattle.formula_content.specs.KeptContent.{IsKeptContent};
-ghost use Rattle.sheet_grid.specs.Dimension.{IsLeastRectangle, first_place};
+ghost use Rattle.sheet_grid.specs.Dimension.{IsLeastRectangle, IsRectangle, first_place};
 ghost use Rattle.sheet_grid.specs.KeptCell.{IsKeptCell};
-ghost use Rattle.sheet_grid.specs.Sheet.{Sheet, new_sheet, cell_at, cell_put, content_put, content_cleared, shown_style};
+ghost use Rattle.sheet_grid.specs.Sheet.{Sheet, new_sheet, cell_at, cell_put, content_put, content_cleared};
 ghost use Rattle.formula_content.specs.declared.Content.TheVariants.{Empty, Number, Boolean, Error as ErrorValue, Text as TextValue, Formula, Dynamic};
 
 mod entries;
 mod lines;
+mod styles;
 
 use crate::cell::Cell;
 use crate::column_attr::ColumnAttr;
@@ -93,8 +94,15 @@ impl Model for Worksheet {
 }
 
 impl Worksheet {
-    /// A visible sheet with grid lines and nothing else. It takes no memory.
-    pub fn new(alloc: Global, id: u32, name: Text) -> Worksheet
+    /// A visible sheet with grid lines and nothing else. `NoMemory` alone is an error.
+    pub fn new(alloc: Global, id: u32, name: &str) -> Result<Worksheet, EditError>
+        ensures { Returns result (Ok (new_sheet id name.now)) }
+    {
+        let name = Text::new(String::from_str(alloc, name)?);
+        Ok(Worksheet::named(alloc, id, name))
+    }
+
+    fn named(alloc: Global, id: u32, name: Text) -> Worksheet
         ensures { result ≡ new_sheet id name }
     {
         Worksheet {
@@ -173,7 +181,7 @@ impl Worksheet {
     ///
     /// `InvalidRow` where the row is outside the sheet, else `InvalidColumn` where the column is.
     pub fn cell(&self, row: i32, column: i32) -> Result<Option<Cell>, EditError>
-        ensures found { Answers result (cell_at self.now row column) }
+        ensures found { Returns result (cell_at self.now row column) }
         ensures kept { IfOk result (λ found. IfSome found IsKeptCell) }
     {
         let place = place_of(row, column)?;
@@ -188,7 +196,7 @@ impl Worksheet {
     ///
     /// `InvalidRow` where the row is outside the sheet, else `InvalidColumn` where the column is.
     pub fn shared_cell(&self, row: i32, column: i32) -> Result<Option<Shared<Cell>>, EditError>
-        ensures found { Answers result (cell_at self.now row column) }
+        ensures found { Returns result (cell_at self.now row column) }
         ensures kept { IfOk result (λ found. IfSome found IsKeptCell) }
     {
         let place = place_of(row, column)?;
@@ -203,6 +211,7 @@ impl Worksheet {
     pub fn dimension(&self) -> WorksheetDimension
         ensures none { fin.keys self.now.cells ≡ [] → result ≡ first_place }
         ensures least { fin.keys self.now.cells ≢ [] → IsLeastRectangle (fin.keys self.now.cells) result }
+        ensures inside { IsRectangle result }
     {
         let mut cells = self.cells();
         match cells.next() {
@@ -211,27 +220,10 @@ impl Worksheet {
         }
     }
 
-    fn default_style(&self) -> Result<Shared<Style>, EditError>
-        ensures { Answers result (Ok default_style) }
-    {
-        let alloc = self.name.allocator();
-        Ok(Shared::new(alloc, Style::new(alloc)?)?)
-    }
-
     fn shared_tree(&self, tree: Node) -> Result<Shared<Node>, EditError>
-        ensures { Answers result (Ok tree) }
+        ensures { Returns result (Ok tree) }
     {
         Ok(Shared::new(self.name.allocator(), tree)?)
-    }
-
-    /// A copy of the style that a place shows: its cell's, else the default.
-    fn style_at(&self, place: Position) -> Result<Shared<Style>, EditError>
-        ensures { Answers result (Ok (shown_style self.now place)) }
-    {
-        match self.cells.get(place) {
-            Some(cell) => copy_of(&cell.get().style),
-            None => self.default_style(),
-        }
     }
 
     /// Sets the cell at a row and a column, or takes it away.
@@ -240,7 +232,8 @@ impl Worksheet {
     /// To take a cell away needs no memory.
     pub fn put_cell(&mut self, row: i32, column: i32, entry: Option<Cell>) -> Result<(), EditError>
         requires { IfSome entry IsKeptCell }
-        ensures { Edits result self.old self.new (cell_put self.old row column entry) }
+        ensures put { Changes result self.old self.new (cell_put self.old row column entry) }
+        ensures away { entry ≡ None → result ≢ Err NoMemory }
     {
         let _place = place_of(row, column)?;
         let entry = self.shared_entry(entry)?;
@@ -248,7 +241,8 @@ impl Worksheet {
     }
 
     fn shared_entry(&self, entry: Option<Cell>) -> Result<Option<Shared<Cell>>, EditError>
-        ensures { Answers result (Ok entry) }
+        ensures entry { Returns result (Ok entry) }
+        ensures away { entry ≡ None → result ≡ Ok None }
     {
         match entry {
             Some(cell) => Ok(Some(Shared::new(self.name.allocator(), cell)?)),
@@ -267,7 +261,8 @@ impl Worksheet {
         entry: Option<Shared<Cell>>,
     ) -> Result<(), EditError>
         requires { IfSome entry IsKeptCell }
-        ensures { Edits result self.old self.new (cell_put self.old row column entry) }
+        ensures put { Changes result self.old self.new (cell_put self.old row column entry) }
+        ensures away { entry ≡ None → result ≢ Err NoMemory }
     {
         let place = place_of(row, column)?;
         self.cells.put(place, entry)
@@ -281,7 +276,7 @@ impl Worksheet {
         style: &Shared<Style>,
     ) -> Result<(), EditError>
         requires { IsKeptContent content }
-        ensures { Edits result self.old self.new (content_put self.old row column content style.now) }
+        ensures { Changes result self.old self.new (content_put self.old row column content style.now) }
     {
         let _place = place_of(row, column)?;
         let style = copy_of(style)?;
@@ -299,7 +294,7 @@ impl Worksheet {
         style: &Shared<Style>,
     ) -> Result<(), EditError>
         requires { IsKept value }
-        ensures { Edits result self.old self.new (content_put self.old row column (Number value) style.now) }
+        ensures { Changes result self.old self.new (content_put self.old row column (Number value) style.now) }
     {
         self.put_content(row, column, Content::Number(value), style)
     }
@@ -314,7 +309,7 @@ impl Worksheet {
         value: bool,
         style: &Shared<Style>,
     ) -> Result<(), EditError>
-        ensures { Edits result self.old self.new (content_put self.old row column (Boolean value) style.now) }
+        ensures { Changes result self.old self.new (content_put self.old row column (Boolean value) style.now) }
     {
         self.put_content(row, column, Content::Boolean(value), style)
     }
@@ -329,7 +324,7 @@ impl Worksheet {
         value: Error,
         style: &Shared<Style>,
     ) -> Result<(), EditError>
-        ensures { Edits result self.old self.new (content_put self.old row column (ErrorValue value) style.now) }
+        ensures { Changes result self.old self.new (content_put self.old row column (ErrorValue value) style.now) }
     {
         self.put_content(row, column, Content::Error(value), style)
     }
@@ -344,7 +339,7 @@ impl Worksheet {
         value: &str,
         style: &Shared<Style>,
     ) -> Result<(), EditError>
-        ensures { Edits result self.old self.new (content_put self.old row column (TextValue value.now) style.now) }
+        ensures { Changes result self.old self.new (content_put self.old row column (TextValue value.now) style.now) }
     {
         let _place = place_of(row, column)?;
         let text = Text::new(String::from_str(self.name.allocator(), value)?);
@@ -363,7 +358,7 @@ impl Worksheet {
         style: &Shared<Style>,
     ) -> Result<(), EditError>
         requires { IsTrue (has_kept_numbers value) }
-        ensures { Edits result self.old self.new (content_put self.old row column (Formula value) style.now) }
+        ensures { Changes result self.old self.new (content_put self.old row column (Formula value) style.now) }
     {
         let _place = place_of(row, column)?;
         let tree = self.shared_tree(value)?;
@@ -382,7 +377,7 @@ impl Worksheet {
         style: &Shared<Style>,
     ) -> Result<(), EditError>
         requires { IsTrue (has_kept_numbers value) }
-        ensures { Edits result self.old self.new (content_put self.old row column (Dynamic value) style.now) }
+        ensures { Changes result self.old self.new (content_put self.old row column (Dynamic value) style.now) }
     {
         let _place = place_of(row, column)?;
         let tree = self.shared_tree(value)?;
@@ -394,10 +389,10 @@ impl Worksheet {
     ///
     /// `InvalidRow` where the row is outside the sheet, else `InvalidColumn` where the column is.
     pub fn cell_clear_contents(&mut self, row: i32, column: i32) -> Result<(), EditError>
-        ensures { Edits result self.old self.new (content_cleared self.old row column) }
+        ensures { Changes result self.old self.new (content_cleared self.old row column) }
     {
         let place = place_of(row, column)?;
-        let style = self.style_at(place)?;
+        let style = self.style_to_share(place)?;
         let content = Content::Empty;
         self.put_cell(row, column, Some(Cell { content, style }))
     }
@@ -411,7 +406,7 @@ impl Worksheet {
         column: i32,
         style: &Shared<Style>,
     ) -> Result<(), EditError>
-        ensures { Edits result self.old self.new (content_put self.old row column Empty style.now) }
+        ensures { Changes result self.old self.new (content_put self.old row column Empty style.now) }
     {
         self.put_content(row, column, Content::Empty, style)
     }

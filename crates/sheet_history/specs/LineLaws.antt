@@ -28,9 +28,9 @@ use Rattle.sheet_grid.specs.Sheet.{Sheet}
 use Rattle.sheet_grid.specs.Book.{Book}
 use Rattle.sheet_grid.specs.FittingCells.{entry_fits_at, is_shallow_entry, CellsFit}
 use Rattle.sheet_grid.specs.laws.FittingLaws.{shallow_entry}
-use Rattle.sheet_rules.specs.EntryLaws.{both}
+use Rattle.sheet_rules.specs.laws.EntryLaws.{both}
 use Rattle.sheet_rules.specs.WellFormed.{have_trees, IsWellFormed}
-use Rattle.sheet_rules.specs.WellFormedLaws.{well_formed_parts, cells_fit_from_trees, distinct_ids_from_well_formed}
+use Rattle.sheet_rules.specs.laws.WellFormedLaws.{well_formed_parts, cells_fit_from_trees, distinct_ids_from_well_formed}
 use Rattle.sheet_lines.specs.declared.KeptLines.{KeptLines}
 use Rattle.sheet_lines.specs.Way.{Way, way, back, place_goes, line_image, line_goes, are_rows, are_columns}
 use Rattle.sheet_lines.specs.Followed.{cell_followed, cells_followed, sheet_of, name_of, way_of, sheet_followed, book_followed}

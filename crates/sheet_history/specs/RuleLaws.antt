@@ -16,10 +16,10 @@ use Rattle.sheet_grid.specs.FittingCells.{entry_fits_at}
 use Rattle.sheet_grid.specs.laws.FittingLaws.{cells_fit-put}
 use Rattle.sheet_grid.specs.Sheet.{Sheet, with_cell, cell_put}
 use Rattle.sheet_grid.specs.Book.{Book, index_of, sheet_edit, edit_by_id, with_sheet}
-use Rattle.sheet_rules.specs.EntryLaws.{both}
+use Rattle.sheet_rules.specs.laws.EntryLaws.{both}
 use Rattle.sheet_rules.specs.SheetNames.{is_sheet_name}
 use Rattle.sheet_rules.specs.WellFormed.{are_distinct, ids_of, names_of, are_sheets, have_trees, have_attributes, are_frozen, is_row, is_column, IsWellFormed, has_font}
-use Rattle.sheet_rules.specs.WellFormedLaws.{well_formed_parts, well_formed_from_parts, cells_fit_from_trees, have_trees_from_cells_fit}
+use Rattle.sheet_rules.specs.laws.WellFormedLaws.{well_formed_parts, well_formed_from_parts, cells_fit_from_trees, have_trees_from_cells_fit}
 use Rattle.sheet_history.specs.Entries.{all_with_entry}
 
 -- what is put, a cell or none, has a font of at least size 1

@@ -1,5 +1,4 @@
 pub mod DefaultParts
-pub mod EntryLaws
 pub mod SheetNames
 pub mod WellFormed
-pub mod WellFormedLaws
+pub mod laws

@@ -10,6 +10,7 @@ ghost use Rattle.sheet_grid.specs.declared.ColumnAttr.{ColumnAttr};
 ghost use Rattle.sheet_rules.specs.WellFormed.{is_size, has_font, is_row_style, is_row, is_width, is_column_style, is_column, have_attributes};
 
 use crate::default_style::is_default;
+use base_shared::Shared;
 use base_styles::Style;
 use sheet_grid::{ColumnAttr, RowAttr, Worksheet};
 
@@ -28,11 +29,11 @@ fn is_size(size: Option<i32>) -> bool
     }
 }
 
-fn is_row_style(style: &Option<Style>) -> bool
+fn is_row_style(style: &Option<Shared<Style>>) -> bool
     ensures { result ≡ is_row_style style.now }
 {
     match style {
-        Some(given) => has_font(given) && !is_default(given),
+        Some(given) => has_font(given.get()) && !is_default(given.get()),
         None => true,
     }
 }
@@ -53,11 +54,11 @@ fn is_width(width: Option<i32>) -> bool
     }
 }
 
-fn is_column_style(style: &Option<Style>) -> bool
+fn is_column_style(style: &Option<Shared<Style>>) -> bool
     ensures { result ≡ is_column_style style.now }
 {
     match style {
-        Some(given) => has_font(given),
+        Some(given) => has_font(given.get()),
         None => true,
     }
 }
@@ -83,7 +84,7 @@ fn are_columns(sheet: &Worksheet) -> bool
 fn have_fonts(sheet: &Worksheet) -> bool
     ensures { result ≡ list_all (λ (entry : Position × Cell). has_font entry.1.style) (entries sheet.now.cells) }
 {
-    sheet.cells().all(|(_place, cell)| has_font(&cell.style))
+    sheet.cells().all(|(_place, cell)| has_font(cell.get().style.get()))
 }
 
 /// Whether what rows and columns have of their own may be so, and each cell's font has a size.

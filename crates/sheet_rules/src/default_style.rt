@@ -46,7 +46,7 @@ fn is_default_format(format: &Text) -> bool
 }
 
 /// Whether a style is the default one.
-#[tactic(auto, using(crate::specs::DefaultParts::default_parts))]
+#[tactic(auto, using(crate::specs::laws::DefaultPartLaws::default_parts))]
 pub(crate) fn is_default(style: &Style) -> bool
     ensures { result ≡ is_default style.now }
 {

@@ -27,7 +27,7 @@ fn have_trees(sheet: &Worksheet) -> bool
 {
     sheet
         .cells()
-        .all(|(place, cell)| fits_at(*place, &cell.content))
+        .all(|(place, cell)| fits_at(*place, &cell.get().content))
 }
 
 fn all_have_trees(sheets: &[Worksheet]) -> bool

@@ -1,18 +1,14 @@
 // Which rule workbooks break. What is expected was taken from the rules of docs/MODEL.md.
 use crate::broken_rule;
+use base_shared::Shared;
 use base_styles::Style;
 use base_tables::{Locale, Zone};
-use base_values::{EditError, Items, Text};
+use base_values::{EditError, Items, copy_of};
 use formula_content::Content;
 use formula_tree::{Corner, Node, has_kept_numbers};
-use sheet_grid::{Cell, ColumnAttr, RowAttr, Workbook, Worksheet};
+use sheet_grid::{Cell, ColumnAttr, DefaultStyle, RowAttr, Workbook, Worksheet};
 use std::alloc::Global;
 use std::test::Fail;
-
-fn named(alloc: Global, id: u32, name: &str) -> Result<Worksheet, EditError> {
-    let name = Text::new(String::from_str(alloc, name)?);
-    Ok(Worksheet::new(alloc, id, name))
-}
 
 fn broken(alloc: Global, sheets: Items<Worksheet>) -> Result<Option<u8>, EditError> {
     let empty = Workbook::new_empty(alloc, "book", Locale::En, Zone::Utc)?;
@@ -29,8 +25,8 @@ fn broken_by_new(alloc: Global) -> Result<Option<u8>, EditError> {
 /// The rule that a workbook of two empty sheets breaks: `Sheet1` of id 1, and this one.
 fn broken_beside(alloc: Global, id: u32, name: &str) -> Result<Option<u8>, EditError> {
     let mut sheets = Items::empty(alloc);
-    sheets.push(named(alloc, 1, "Sheet1")?)?;
-    sheets.push(named(alloc, id, name)?)?;
+    sheets.push(Worksheet::new(alloc, 1, "Sheet1")?)?;
+    sheets.push(Worksheet::new(alloc, id, name)?)?;
     broken(alloc, sheets)
 }
 
@@ -76,7 +72,7 @@ enum Entry {
 fn put_row(
     sheet: &mut Worksheet,
     height: Option<i32>,
-    style: Option<Style>,
+    style: Option<Shared<Style>>,
 ) -> Result<(), EditError> {
     let hidden = false;
     let attr = RowAttr {
@@ -90,7 +86,7 @@ fn put_row(
 fn put_column(
     sheet: &mut Worksheet,
     width: Option<i32>,
-    style: Option<Style>,
+    style: Option<Shared<Style>>,
 ) -> Result<(), EditError> {
     let hidden = false;
     let attr = ColumnAttr {
@@ -101,15 +97,19 @@ fn put_column(
     sheet.put_column(1, Some(attr))
 }
 
+fn default_style(alloc: Global) -> Result<Shared<Style>, EditError> {
+    copy_of(DefaultStyle::new(alloc)?.shared())
+}
+
 fn put_font(alloc: Global, sheet: &mut Worksheet, size: i32) -> Result<(), EditError> {
     let mut style = Style::new(alloc)?;
     style.font.sz = size;
-    let content = Content::Empty;
+    let (content, style) = (Content::Empty, Shared::new(alloc, style)?);
     sheet.put_cell(1, 1, Some(Cell { content, style }))
 }
 
 fn put_formula(alloc: Global, sheet: &mut Worksheet, row: i32) -> Result<(), EditError> {
-    let style = Style::new(alloc)?;
+    let style = DefaultStyle::new(alloc)?;
     let corner = Corner {
         absolute_row: false,
         row,
@@ -118,7 +118,7 @@ fn put_formula(alloc: Global, sheet: &mut Worksheet, row: i32) -> Result<(), Edi
     };
     let tree = Node::Reference(None, corner);
     if has_kept_numbers(&tree) {
-        sheet.set_cell_with_formula(1, 1, tree, &style)?;
+        sheet.set_cell_with_formula(1, 1, tree, style.shared())?;
     }
     Ok(())
 }
@@ -127,8 +127,8 @@ fn put(alloc: Global, sheet: &mut Worksheet, entry: Entry) -> Result<(), EditErr
     match entry {
         Entry::Height(height) => put_row(sheet, Some(height), None),
         Entry::Width(width) => put_column(sheet, Some(width), None),
-        Entry::StyledRow => put_row(sheet, None, Some(Style::new(alloc)?)),
-        Entry::StyledColumn => put_column(sheet, None, Some(Style::new(alloc)?)),
+        Entry::StyledRow => put_row(sheet, None, Some(default_style(alloc)?)),
+        Entry::StyledColumn => put_column(sheet, None, Some(default_style(alloc)?)),
         Entry::Font(size) => put_font(alloc, sheet, size),
         Entry::Formula(row) => put_formula(alloc, sheet, row),
     }
@@ -136,7 +136,7 @@ fn put(alloc: Global, sheet: &mut Worksheet, entry: Entry) -> Result<(), EditErr
 
 /// The rule that a workbook of one sheet with this in it breaks.
 fn broken_by(alloc: Global, entry: Entry) -> Result<Option<u8>, EditError> {
-    let mut sheet = named(alloc, 1, "Sheet1")?;
+    let mut sheet = Worksheet::new(alloc, 1, "Sheet1")?;
     put(alloc, &mut sheet, entry)?;
     let mut sheets = Items::empty(alloc);
     sheets.push(sheet)?;

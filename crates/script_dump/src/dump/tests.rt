@@ -1,5 +1,6 @@
 use super::{push_color, push_dump};
 use crate::english_input;
+use base_shared::Shared;
 use base_styles::{Color, Style, ThemeColor};
 use base_tables::{Locale, Zone};
 use base_values::{EditError, Position, Text};
@@ -22,9 +23,9 @@ fn workbooks_are_printed(rt: HostRuntime) -> Result<(), Fail> {
     let mut workbook = Workbook::new_empty(alloc, "a\nb", Locale::De, Zone::EuropeBerlin)?;
     let sheet = workbook.worksheet_mut(0)?;
     sheet.cell_clear_contents(3, 1)?;
-    sheet.set_cell_with_string(2, 28, "x\\y", &bold)?;
+    sheet.set_cell_with_string(2, 28, "x\\y", &Shared::new(alloc, bold)?)?;
     let content = english_input(alloc, Position { row: 1, column: 1 }, "-1.50")?;
-    let style = Style::new(alloc)?;
+    let style = Shared::new(alloc, Style::new(alloc)?)?;
     sheet.put_cell(1, 1, Some(Cell { content, style }))?;
     let mut out = Vec::new(alloc);
     push_dump(alloc, &mut out, &workbook)?;
@@ -54,7 +55,7 @@ fn put_rows(sheet: &mut Worksheet, alloc: Global) -> Result<(), EditError> {
         hidden: true,
     };
     sheet.put_row(7, Some(high))?;
-    let style = Some(Style::new(alloc)?);
+    let style = Some(Shared::new(alloc, Style::new(alloc)?)?);
     sheet.put_row(
         2,
         Some(RowAttr {
@@ -124,7 +125,7 @@ fn formulas_are_printed(rt: HostRuntime) -> Result<(), Fail> {
     let mut workbook = Workbook::new_empty(alloc, "w", Locale::De, Zone::Utc)?;
     let sheet = workbook.worksheet_mut(0)?;
     let content = english_input(alloc, Position { row: 2, column: 3 }, "=b1+sum(1.50,$A$2)")?;
-    let style = Style::new(alloc)?;
+    let style = Shared::new(alloc, Style::new(alloc)?)?;
     sheet.put_cell(2, 3, Some(Cell { content, style }))?;
     let mut out = Vec::new(alloc);
     push_dump(alloc, &mut out, &workbook)?;

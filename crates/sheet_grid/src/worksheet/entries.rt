@@ -1,6 +1,8 @@
 //! All that a sheet holds at places, rows and columns, as whole maps.
 
-ghost use Rattle.std.specs.Prelude.{◌≡◌, IfOk, IsOkUnless};
+ghost use Rattle.std.specs.Prelude.{◌≡◌, Ok, IfOk, IsOkUnless};
+ghost use Rattle.std.specs.FinMap as fin;
+ghost use Rattle.base_values.specs.Answers.{Returns};
 ghost use Rattle.base_values.specs.declared.EditError.TheVariants.{NoMemory};
 ghost use Rattle.sheet_grid.specs.KeptCell.{KeptCells};
 
@@ -11,7 +13,7 @@ use crate::link::Link;
 use crate::row_attr::RowAttr;
 use base_axis::{ColumnAxis, LineMap, RowAxis};
 use base_shared::Shared;
-use base_values::{EditError, PlaceMap, copy_of};
+use base_values::{EditError, Items, PlaceMap, Position, copy_of};
 
 impl Worksheet {
     /// The cells by their places.
@@ -43,8 +45,37 @@ impl Worksheet {
         &self.columns
     }
 
+    /// The places of the cells, by row and then by column. `NoMemory` alone is an error.
+    pub fn cell_keys(&self) -> Result<Items<Position>, EditError>
+        ensures { Returns result (Ok (fin.keys self.now.cells)) }
+    {
+        self.cells.places(self.name.allocator())
+    }
+
+    /// The places of the links, by row and then by column. `NoMemory` alone is an error.
+    pub fn link_keys(&self) -> Result<Items<Position>, EditError>
+        ensures { Returns result (Ok (fin.keys self.now.links)) }
+    {
+        self.links.places(self.name.allocator())
+    }
+
+    /// The rows that have something of their own, in ascending order. `NoMemory` alone is an error.
+    pub fn row_keys(&self) -> Result<Items<i32>, EditError>
+        ensures { Returns result (Ok (fin.keys self.now.rows)) }
+    {
+        self.rows.lines(self.name.allocator())
+    }
+
+    /// The columns that have something of their own, in ascending order. `NoMemory` alone is an
+    /// error.
+    pub fn column_keys(&self) -> Result<Items<i32>, EditError>
+        ensures { Returns result (Ok (fin.keys self.now.columns)) }
+    {
+        self.columns.lines(self.name.allocator())
+    }
+
     /// A copy of the sheet that holds these in place of its own cells, links, rows and columns.
-    /// Only want of memory is refused.
+    /// `NoMemory` alone is an error.
     pub fn with_entries(
         &self,
         cells: PlaceMap<Shared<Cell>>,

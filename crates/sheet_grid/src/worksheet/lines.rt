@@ -1,9 +1,11 @@
 //! Links, and what rows and columns have of their own.
 
-ghost use Rattle.std.specs.Prelude.{◌≡◌, All};
+ghost use Rattle.std.specs.Prelude.{◌≡◌, ◌≢◌, None, Ok, Err, All};
 ghost use Rattle.std.specs.FinMap as fin;
-ghost use Rattle.base_values.specs.Answers.{Answers, Edits};
+ghost use Rattle.base_values.specs.Answers.{Returns, Changes};
+ghost use Rattle.base_values.specs.declared.EditError.TheVariants.{NoMemory};
 ghost use Rattle.base_values.specs.Places.{IsPlace, IsRow, IsColumn};
+ghost use Rattle.sheet_grid.specs.Lines.{kept_row};
 ghost use Rattle.sheet_grid.specs.Sheet.{link_at, link_put, row_at, row_put, column_at, column_put};
 
 use super::Worksheet;
@@ -42,7 +44,7 @@ impl Worksheet {
     ///
     /// `InvalidRow` where the row is outside the sheet, else `InvalidColumn` where the column is.
     pub fn link(&self, row: i32, column: i32) -> Result<Option<Link>, EditError>
-        ensures { Answers result (link_at self.now row column) }
+        ensures { Returns result (link_at self.now row column) }
     {
         let place = place_of(row, column)?;
         match self.links.get(place) {
@@ -55,7 +57,7 @@ impl Worksheet {
     ///
     /// `InvalidRow` where the row is outside the sheet.
     pub fn row_attr(&self, row: i32) -> Result<Option<RowAttr>, EditError>
-        ensures { Answers result (row_at self.now row) }
+        ensures { Returns result (row_at self.now row) }
     {
         let line = line_of(LAST_ROW, row, EditError::InvalidRow)?;
         match self.rows.get(line) {
@@ -68,7 +70,7 @@ impl Worksheet {
     ///
     /// `InvalidColumn` where the column is outside the sheet.
     pub fn column_attr(&self, column: i32) -> Result<Option<ColumnAttr>, EditError>
-        ensures { Answers result (column_at self.now column) }
+        ensures { Returns result (column_at self.now column) }
     {
         let line = line_of(LAST_COLUMN, column, EditError::InvalidColumn)?;
         match self.columns.get(line) {
@@ -82,7 +84,8 @@ impl Worksheet {
     /// `InvalidRow` where the row is outside the sheet, else `InvalidColumn` where the column is.
     /// To take a link away needs no memory.
     pub fn put_link(&mut self, row: i32, column: i32, entry: Option<Link>) -> Result<(), EditError>
-        ensures { Edits result self.old self.new (link_put self.old row column entry) }
+        ensures put { Changes result self.old self.new (link_put self.old row column entry) }
+        ensures away { entry ≡ None → result ≢ Err NoMemory }
     {
         let place = place_of(row, column)?;
         self.links.put(place, entry)
@@ -93,7 +96,8 @@ impl Worksheet {
     ///
     /// `InvalidRow` where the row is outside the sheet. To take something away needs no memory.
     pub fn put_row(&mut self, row: i32, entry: Option<RowAttr>) -> Result<(), EditError>
-        ensures { Edits result self.old self.new (row_put self.old row entry) }
+        ensures put { Changes result self.old self.new (row_put self.old row entry) }
+        ensures away { kept_row entry ≡ None → result ≢ Err NoMemory }
     {
         let line = line_of(LAST_ROW, row, EditError::InvalidRow)?;
         self.rows.put(line, RowAttr::kept(entry))
@@ -102,10 +106,9 @@ impl Worksheet {
     /// Sets what a column has of its own, or takes it away. A width, a style and hiding that are
     /// all missing count as nothing.
     ///
-    /// `InvalidColumn` where the column is outside the sheet. To take something away needs no
-    /// memory.
+    /// `InvalidColumn` where the column is outside the sheet. To take something away may need memory.
     pub fn put_column(&mut self, column: i32, entry: Option<ColumnAttr>) -> Result<(), EditError>
-        ensures { Edits result self.old self.new (column_put self.old column entry) }
+        ensures { Changes result self.old self.new (column_put self.old column entry) }
     {
         let line = line_of(LAST_COLUMN, column, EditError::InvalidColumn)?;
         self.columns.put(line, ColumnAttr::kept(entry))

@@ -1,15 +1,12 @@
-use Rattle.std.proofs.Common.{w32, SFits, rules, subst, ◌∙◌}
-use Rattle.std.specs.List.{All}
+use Rattle.std.proofs.Common.{w32, SFits, rules, ◌∙◌}
 use Rattle.std.proofs.lemmas.Int.{to_z-of_z}
-use Rattle.base_values.specs.Places.{IsPlace}
-use Rattle.sheet_actions.specs.GreatestLaws.{greatest_of_dimension}
+use Rattle.sheet_actions.specs.laws.GreatestLaws.{greatest_of_dimension}
 use Rattle.sheet_actions.proofs.plan.greatest_line.Goals as goal
 
 pub returns : goal.returns
 returns g c =
     let fits : SFits w32 c.line.result = search rules in
-    let inside = subst (λ entries. All (λ entry. IsPlace entry.0) entries) c.cells-inside.ensures.entries c.cells-inside.ensures.inside in
     let row_fits : SFits w32 c.dimension-dimension.result.max_row = search rules in
     let column_fits : SFits w32 c.dimension-dimension.result.max_column = search rules in
     to_z-of_z w32 c.line.result fits ∙ (simp to_z-of_z at c.line.ensures)
-    ∙ greatest_of_dimension g.A.Axis.along g.met.A.Axis.lawful c.args.sheet.now c.dimension-dimension.result inside c.dimension-dimension.ensures.none c.dimension-dimension.ensures.least
+    ∙ greatest_of_dimension g.A.Axis.along g.met.A.Axis.lawful c.args.sheet.now c.dimension-dimension.result c.dimension-dimension.ensures.inside c.dimension-dimension.ensures.none c.dimension-dimension.ensures.least

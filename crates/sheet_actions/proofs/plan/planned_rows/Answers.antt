@@ -1,6 +1,6 @@
 use Rattle.base_values.specs.declared.EditError.TheVariants.{InvalidRow}
 use Rattle.base_axis.specs.Along.{rows}
-use Rattle.sheet_actions.specs.PlannedLaws.{valid_planned, there_planned}
+use Rattle.sheet_actions.specs.laws.PlannedLaws.{valid_planned, there_planned}
 use Rattle.sheet_actions.proofs.plan.planned_rows.Goals as goal
 
 pub returns-clause-valid : goal.returns-clause-valid

@@ -1,6 +1,6 @@
 use Rattle.std.proofs.Common.{subst, sym}
 use Rattle.sheet_rules.specs.WellFormed.{IsWellFormed}
-use Rattle.sheet_actions.specs.FollowedWellFormed.{followed_well_formed}
+use Rattle.sheet_actions.specs.laws.FollowedWellFormed.{followed_well_formed}
 use Rattle.sheet_actions.proofs.model.Model.edit_lines.Goals as goal
 
 pub invariant_of-self : goal.invariant_of-self

@@ -9,12 +9,12 @@ use Rattle.sheet_grid.specs.Book.{Book}
 use Rattle.line_map.specs.declared.EditKind.{EditKind}
 use Rattle.line_map.specs.Edit.{IsValid}
 use Rattle.sheet_rules.specs.SheetNames.{is_sheet_name}
-use Rattle.sheet_rules.specs.EntryLaws.{both}
+use Rattle.sheet_rules.specs.laws.EntryLaws.{both}
 use Rattle.sheet_rules.specs.WellFormed.{are_distinct, ids_of, names_of, are_sheets, have_trees, have_attributes, are_frozen, IsWellFormed}
-use Rattle.sheet_rules.specs.WellFormedLaws.{well_formed_parts, well_formed_from_parts}
+use Rattle.sheet_rules.specs.laws.WellFormedLaws.{well_formed_parts, well_formed_from_parts}
 use Rattle.sheet_lines.specs.Followed.{sheet_of, name_of, sheet_followed, book_followed}
-use Rattle.sheet_actions.specs.FollowedTrees.{pass}
-use Rattle.sheet_actions.specs.FollowedSheets.{trees_stay, attributes_stay}
+use Rattle.sheet_actions.specs.laws.FollowedTrees.{pass}
+use Rattle.sheet_actions.specs.laws.FollowedSheets.{trees_stay, attributes_stay}
 
 -- a test that each sheet still passes
 all_follow : (P : Sheet → Bool) (f : Sheet → Sheet) → ((sheet : Sheet) → P sheet ≡ true → P (f sheet) ≡ true) → (sheets : List Sheet) → list_all P sheets ≡ true → list_all P (map f sheets) ≡ true

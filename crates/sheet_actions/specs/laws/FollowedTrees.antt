@@ -13,7 +13,7 @@ use Rattle.formula_content.specs.Fitting.{tree_fits_at, fits_at}
 use Rattle.formula_content.specs.declared.Content.{Content}
 use Rattle.formula_content.specs.declared.Content.TheVariants.{Empty, Number, Boolean, Error, Text, Formula, Dynamic}
 use Rattle.line_map.specs.Trees.{following}
-use Rattle.sheet_rules.specs.EntryLaws.{both}
+use Rattle.sheet_rules.specs.laws.EntryLaws.{both}
 use Rattle.sheet_lines.specs.Way.{Way}
 use Rattle.sheet_lines.specs.Followed.{tree_followed, content_followed}
 use Rattle.sheet_actions.specs.FollowedPlaced.{placed-following}

@@ -2,24 +2,22 @@
 use Rattle.std.proofs.Common.{◌≡◌, ◌≢◌, ℤ, pos, ◌≤ℤ◌, List, [], ◌∷◌, map, refl, sym, ap, subst, arith, ⊎_elim}
 use Rattle.std.proofs.lemmas.Int.{ints, fold-int_max_bounds, fold-int_max_reached}
 use Rattle.std.specs.Int.{int_max}
-use Rattle.std.specs.List.{All, fold}
-use Rattle.std.proofs.lemmas.List.Elements.{All-contains, All-map, All-weaker}
-use Rattle.std.specs.FinMap.{entries, keys}
+use Rattle.std.specs.List.{fold}
+use Rattle.std.proofs.lemmas.List.Elements.{All-contains}
+use Rattle.std.specs.FinMap.{keys}
 use Rattle.base_values.specs.declared.Position.{Position}
-use Rattle.base_values.specs.Places.{IsPlace}
 use Rattle.base_axis.specs.Along.{Along, IsAxis}
 use Rattle.sheet_grid.specs.declared.WorksheetDimension.{WorksheetDimension}
-use Rattle.sheet_grid.specs.Dimension.{IsGreatest, IsLeastRectangle, first_place}
+use Rattle.sheet_grid.specs.Dimension.{IsGreatest, IsLeastRectangle, IsRectangle, first_place}
 use Rattle.sheet_grid.specs.Sheet.{Sheet}
 use Rattle.sheet_actions.specs.GreatestLine.{greatest_line}
 
--- the greatest of numbers that are at least 1 is the greatest of them and 1
-greatest_is : (numbers : List ℤ) (g : ℤ) → All (λ k. pos 1 ≤ℤ k) numbers → IsGreatest numbers g → g ≡ fold int_max (pos 1) numbers
-greatest_is numbers g low h =
+-- the greatest of numbers is the greatest of them and 1, where it is at least 1
+greatest_is : (numbers : List ℤ) (g : ℤ) → pos 1 ≤ℤ g → IsGreatest numbers g → g ≡ fold int_max (pos 1) numbers
+greatest_is numbers g one h =
     let f : ℤ = fold int_max (pos 1) numbers in
     let bounds = fold-int_max_bounds (pos 1) numbers f refl in
     let up : g ≤ℤ f = All-contains (λ k. k ≤ℤ f) numbers g bounds.1 h.among in
-    let one : pos 1 ≤ℤ g = All-contains (λ k. pos 1 ≤ℤ k) numbers g low h.among in
     ⊎_elim (λ is. omega (arith, ints)) (λ among. let down : f ≤ℤ g = All-contains (λ k. k ≤ℤ g) numbers f h.above among in omega (arith, ints)) (fold-int_max_reached (pos 1) numbers f refl)
 
 -- a sheet's greatest line is at least 1
@@ -34,11 +32,11 @@ last_place rectangle = record { row = rectangle.max_row; column = rectangle.max_
 abbrev IsLast : List Position → WorksheetDimension → Along → Type 0
 IsLast places rectangle a = a.line (last_place rectangle) ≡ fold int_max (pos 1) (map a.line places)
 
--- of the least rectangle of places of a sheet
-last_of : (places : List Position) (rectangle : WorksheetDimension) → All IsPlace places → IsLeastRectangle places rectangle → (a : Along) → IsAxis a → IsLast places rectangle a
+-- of the least rectangle of places, which lies inside the sheet
+last_of : (places : List Position) (rectangle : WorksheetDimension) → IsRectangle rectangle → IsLeastRectangle places rectangle → (a : Along) → IsAxis a → IsLast places rectangle a
 last_of places rectangle inside least a l = ⊎_elim
-    (λ is. subst (IsLast places rectangle) (sym is) (greatest_is _ _ (All-map (λ k. pos 1 ≤ℤ k) (λ place. place.row) places (All-weaker IsPlace _ (λ place h. h.0.0) places inside)) least.max_row))
-    (λ is. subst (IsLast places rectangle) (sym is) (greatest_is _ _ (All-map (λ k. pos 1 ≤ℤ k) (λ place. place.column) places (All-weaker IsPlace _ (λ place h. h.1.0) places inside)) least.max_column))
+    (λ is. subst (IsLast places rectangle) (sym is) (greatest_is _ _ inside.last.0.0 least.max_row))
+    (λ is. subst (IsLast places rectangle) (sym is) (greatest_is _ _ inside.last.1.0 least.max_column))
     l.one_of
 
 -- of no places
@@ -48,12 +46,12 @@ last_of_none rectangle first a l = ⊎_elim
     (λ is. subst (IsLast [] rectangle) (sym is) (ap (λ r. r.max_column) first))
     l.one_of
 
-last_of_places : (places : List Position) (rectangle : WorksheetDimension) → All IsPlace places → (places ≡ [] → rectangle ≡ first_place) → (places ≢ [] → IsLeastRectangle places rectangle) → (a : Along) → IsAxis a → IsLast places rectangle a
+last_of_places : (places : List Position) (rectangle : WorksheetDimension) → IsRectangle rectangle → (places ≡ [] → rectangle ≡ first_place) → (places ≢ [] → IsLeastRectangle places rectangle) → (a : Along) → IsAxis a → IsLast places rectangle a
 last_of_places [] rectangle inside none some = last_of_none rectangle (none refl)
 last_of_places (place ∷ places) rectangle inside none some = last_of (place ∷ places) rectangle inside (some (λ e. absurd (cc)))
 
 -- where the last place of the dimension stands
-pub greatest_of_dimension : (a : Along) → IsAxis a → (sheet : Sheet) (rectangle : WorksheetDimension) → All (λ entry. IsPlace entry.0) (entries sheet.cells) → (keys sheet.cells ≡ [] → rectangle ≡ first_place) → (keys sheet.cells ≢ [] → IsLeastRectangle (keys sheet.cells) rectangle) →
+pub greatest_of_dimension : (a : Along) → IsAxis a → (sheet : Sheet) (rectangle : WorksheetDimension) → IsRectangle rectangle → (keys sheet.cells ≡ [] → rectangle ≡ first_place) → (keys sheet.cells ≢ [] → IsLeastRectangle (keys sheet.cells) rectangle) →
     a.line (last_place rectangle) ≡ greatest_line a sheet
 unfolding greatest_line
-greatest_of_dimension a l sheet rectangle inside none some = last_of_places (keys sheet.cells) rectangle (All-map IsPlace (λ entry. entry.0) (entries sheet.cells) inside) none some a l
+greatest_of_dimension a l sheet rectangle inside none some = last_of_places (keys sheet.cells) rectangle inside none some a l

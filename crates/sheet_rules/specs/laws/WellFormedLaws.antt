@@ -19,7 +19,7 @@ use Rattle.sheet_grid.specs.Sheet.{Sheet, new_sheet}
 use Rattle.sheet_grid.specs.Book.{Book, new_book}
 use Rattle.sheet_grid.specs.FittingCells.{entry_fits_at, CellsFit, SheetsFit}
 use Rattle.sheet_rules.specs.SheetNames.{is_sheet_name}
-use Rattle.sheet_rules.specs.EntryLaws.{both, passes_at_from_all, all_from_passes_at}
+use Rattle.sheet_rules.specs.laws.EntryLaws.{both, passes_at_from_all, all_from_passes_at}
 use Rattle.sheet_rules.specs.WellFormed.{are_distinct, are_sheets, have_trees, is_row, is_column, has_font, have_attributes, are_frozen, IsWellFormed, ids_of}
 
 -- the rules of a workbook, each for all of its sheets

@@ -17,7 +17,7 @@ use Rattle.line_map.specs.Areas.{last_line}
 use Rattle.line_map.specs.Edit.{IsValid, IsWithin}
 use Rattle.sheet_lines.specs.Followed.{sheet_of}
 use Rattle.sheet_actions.specs.GreatestLine.{greatest_line}
-use Rattle.sheet_actions.specs.GreatestLaws.{at_least_one}
+use Rattle.sheet_actions.specs.laws.GreatestLaws.{at_least_one}
 use Rattle.sheet_actions.specs.Planned.{edit_allowed, lines_planned}
 
 -- three guards, and what they let through

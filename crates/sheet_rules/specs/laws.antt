@@ -1,0 +1,3 @@
+pub mod DefaultPartLaws
+pub mod EntryLaws
+pub mod WellFormedLaws

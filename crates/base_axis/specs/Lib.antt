@@ -1,4 +1,2 @@
 pub mod Along
-pub mod Lawful
-pub mod AreaEquals
 pub mod laws

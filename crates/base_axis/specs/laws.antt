@@ -1,1 +1,3 @@
+pub mod AreaEquals
 pub mod AxisEquals
+pub mod Lawful

@@ -14,7 +14,7 @@ pub struct Area {
 
 impl Exact for Area {
     ghost use Rattle.std.proofs.Common.{rules};
-    ghost use Rattle.base_axis.specs.AreaEquals.{area_equals};
+    ghost use Rattle.base_axis.specs.laws.AreaEquals.{area_equals};
 
     ghost copies = { λ a b h. Prim.search rules };
 

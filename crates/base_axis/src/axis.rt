@@ -58,7 +58,7 @@ impl Exact for ColumnAxis {
 impl Axis for RowAxis {
     ghost use Rattle.std.specs.Prelude.{pos, refl};
     ghost use Rattle.base_axis.specs.Along.{rows};
-    ghost use Rattle.base_axis.specs.Lawful.{rows_lawful};
+    ghost use Rattle.base_axis.specs.laws.Lawful.{rows_lawful};
 
     const LAST: i32 = LAST_ROW;
 
@@ -89,7 +89,7 @@ impl Axis for RowAxis {
 impl Axis for ColumnAxis {
     ghost use Rattle.std.specs.Prelude.{pos, refl};
     ghost use Rattle.base_axis.specs.Along.{columns};
-    ghost use Rattle.base_axis.specs.Lawful.{columns_lawful};
+    ghost use Rattle.base_axis.specs.laws.Lawful.{columns_lawful};
 
     const LAST: i32 = LAST_COLUMN;
 

@@ -4,7 +4,8 @@ ghost use Rattle.std.specs.FinMap as fin;
 ghost use Rattle.std.specs.Ordering.{int_eq};
 ghost use Rattle.std.specs.Cmp.{partial_equiv_from_equiv, int_eq_equiv};
 ghost use Rattle.base_values.specs.Places.{IsLine};
-ghost use Rattle.base_values.specs.KeyMap.{with_entry, same_entries, same_entries_laws, same_entries_equiv};
+ghost use Rattle.base_values.specs.KeyMap.{with_entry, same_entries};
+ghost use Rattle.base_values.specs.laws.KeyMap.{same_entries_laws, same_entries_equiv};
 ghost use Rattle.base_values.specs.declared.EditError.TheVariants.{NoMemory};
 
 use crate::axis::Axis;
@@ -145,7 +146,7 @@ impl<A: Axis, V: Eq> Eq for LineMap<A, V> {
 
 impl<A: Axis, V: Exact> Exact for LineMap<A, V> {
     ghost use Rattle.std.specs.Cmp.{signed_Decides};
-    ghost use Rattle.base_values.specs.KeyMap.{same_entries_decides};
+    ghost use Rattle.base_values.specs.laws.KeyMap.{same_entries_decides};
 
     ghost copies = { λ a b h. h };
 

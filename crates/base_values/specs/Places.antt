@@ -1,12 +1,9 @@
 -- Places of a sheet, and their order.
-use Rattle.std.proofs.Common.{ℤ, pos, ◌≤ℤ◌, Bool, ◌&&◌, Result, Ok, Err, refl, ap}
-use Rattle.std.specs.Cmp.{IsTotalOrder, IsEquivalence, on_total, then_total, int_cmp_total, and_equiv, on_equiv, int_eq_equiv}
-use Rattle.std.proofs.lemmas.Map.Lookups.{CmpEqualImpliesEq, exact_pairs, exact_signed}
+use Rattle.std.proofs.Common.{ℤ, pos, ◌≤ℤ◌, Bool, ◌&&◌, Result, Ok, Err, refl}
 use Rattle.std.specs.declared.cmp.Ordering.{Ordering}
 use Rattle.std.specs.Ordering.{int_cmp, int_eq, ordering_then}
 use Rattle.std.specs.Coded.{Coded, code_by, coded×, coded_ℤ}
-use Rattle.std.specs.Prelude.{if◌then◌else◌}
-use Rattle.std.specs.Prelude.{int_le}
+use Rattle.std.specs.Prelude.{int_le, if◌then◌else◌}
 use Rattle.base_values.specs.declared.position.Position.{Position}
 use Rattle.base_values.specs.declared.error.EditError.{EditError}
 use Rattle.base_values.specs.declared.error.EditError.TheVariants.{InvalidRow, InvalidColumn}
@@ -35,19 +32,9 @@ IsColumn column = IsLine (pos 16384) column
 abbrev pub IsPlace : Position → Type 0
 IsPlace place = IsRow place.row × IsColumn place.column
 
-pub position_total : IsTotalOrder position_cmp
-position_total = then_total (on_total (λ p. p.row) int_cmp_total) (on_total (λ p. p.column) int_cmp_total)
-
--- positions that compare alike are one
-pub exact_positions : CmpEqualImpliesEq position_cmp
-exact_positions a b h = ap (λ (p : ℤ × ℤ). record { row = p.0; column = p.1 }) (exact_pairs int_cmp int_cmp exact_signed exact_signed (a.row, a.column) (b.row, b.column) h)
-
 -- whether two positions are one
 abbrev pub same_position : Position → Position → Bool
 same_position a b = int_eq a.row b.row && int_eq a.column b.column
-
-pub position_equiv : IsEquivalence same_position
-position_equiv = and_equiv (on_equiv (λ p. p.row) int_eq_equiv) (on_equiv (λ p. p.column) int_eq_equiv)
 
 -- whether a line is one of an axis
 abbrev pub is_line : ℤ → ℤ → Bool

@@ -172,7 +172,8 @@ fn same_error(a: &EditError, b: &EditError) -> bool
 }
 
 impl PartialEq for EditError {
-    ghost use Rattle.base_values.specs.CodedEq.{same_value, same_value_laws};
+    ghost use Rattle.base_values.specs.CodedEq.{same_value};
+    ghost use Rattle.base_values.specs.laws.CodedEq.{same_value_laws};
 
     ghost eq = { same_value the_row.coded };
 
@@ -184,14 +185,14 @@ impl PartialEq for EditError {
 }
 
 impl Eq for EditError {
-    ghost use Rattle.base_values.specs.CodedEq.{same_value_equiv};
+    ghost use Rattle.base_values.specs.laws.CodedEq.{same_value_equiv};
 
     ghost laws = { same_value_equiv the_row.coded };
 }
 
 impl Exact for EditError {
     ghost use Rattle.std.proofs.Common.{rules};
-    ghost use Rattle.base_values.specs.CodedEq.{same_value_decides};
+    ghost use Rattle.base_values.specs.laws.CodedEq.{same_value_decides};
 
     ghost copies = { λ a b h. Prim.search rules };
 

@@ -45,7 +45,7 @@ impl Exact for bool {
 
 impl<T: Exact> Exact for Option<T> {
     ghost use Rattle.std.proofs.Common.{rules};
-    ghost use Rattle.base_values.specs.Decided.{option_equals};
+    ghost use Rattle.base_values.specs.laws.Decided.{option_equals};
 
     ghost copies = { λ a b h. Prim.search (rules, T.copies) };
 

@@ -1,9 +1,11 @@
 ghost use Rattle.std.specs.Prelude.{◌≡◌, OnOk, OnErr, IfOk, IsOkUnless, All};
 ghost use Rattle.std.specs.Option.{option_copied};
 ghost use Rattle.std.specs.FinMap as fin;
-ghost use Rattle.base_values.specs.Places.{IsPlace, same_position, position_equiv};
+ghost use Rattle.base_values.specs.Places.{IsPlace, same_position};
+ghost use Rattle.base_values.specs.laws.Places.{position_equiv};
 ghost use Rattle.std.specs.Cmp.{partial_equiv_from_equiv};
-ghost use Rattle.base_values.specs.KeyMap.{with_entry, same_entries, same_entries_laws, same_entries_equiv};
+ghost use Rattle.base_values.specs.KeyMap.{with_entry, same_entries};
+ghost use Rattle.base_values.specs.laws.KeyMap.{same_entries_laws, same_entries_equiv};
 ghost use Rattle.base_values.specs.declared.error.EditError.TheVariants.{NoMemory};
 
 use crate::error::EditError;
@@ -135,8 +137,8 @@ impl<V: Eq> Eq for PlaceMap<V> {
 }
 
 impl<V: Exact> Exact for PlaceMap<V> {
-    ghost use Rattle.base_values.specs.KeyMap.{same_entries_decides};
-    ghost use Rattle.base_values.specs.PositionEquals.{position_equals};
+    ghost use Rattle.base_values.specs.laws.KeyMap.{same_entries_decides};
+    ghost use Rattle.base_values.specs.laws.PositionEquals.{position_equals};
 
     ghost copies = { λ a b h. h };
 

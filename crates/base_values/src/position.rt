@@ -20,7 +20,7 @@ pub struct Position {
 
 impl Exact for Position {
     ghost use Rattle.std.proofs.Common.{rules};
-    ghost use Rattle.base_values.specs.PositionEquals.{position_equals};
+    ghost use Rattle.base_values.specs.laws.PositionEquals.{position_equals};
 
     ghost copies = { λ a b h. Prim.search rules };
 

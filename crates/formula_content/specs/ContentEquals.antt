@@ -4,7 +4,7 @@ use Rattle.std.specs.Bool.{Decides}
 use Rattle.std.specs.Cmp.{booleans_Decides}
 use Rattle.std.specs.Cmp.Lexicographic.{bytes_decides}
 use Rattle.std.proofs.lemmas.Bool.Decides.{Decides-like}
-use Rattle.base_values.specs.CodedEq.{same_value_decides}
+use Rattle.base_values.specs.laws.CodedEq.{same_value_decides}
 use Rattle.base_decimal.specs.laws.DecimalEquals.{decimal_equals}
 use Rattle.base_tables.specs.laws.ErrorEquals.{error_equals}
 use Rattle.formula_tree.specs.contracts.node.Node.{the_row as node_row}

@@ -4,7 +4,7 @@ use Rattle.std.specs.Bool.{Decides}
 use Rattle.std.specs.Cmp.{signed_Decides, booleans_Decides}
 use Rattle.std.specs.Cmp.Lexicographic.{bytes_decides}
 use Rattle.std.proofs.lemmas.Bool.Decides.{Decides-like, Decides-and}
-use Rattle.base_values.specs.Decided.{option_equals}
+use Rattle.base_values.specs.laws.Decided.{option_equals}
 use Rattle.base_tables.specs.laws.ErrorEquals.{error_equals}
 use Rattle.base_decimal.specs.laws.DecimalEquals.{decimal_equals}
 use Rattle.formula_grammar.specs.declared.token.CellMark.{CellMark}

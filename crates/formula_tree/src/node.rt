@@ -64,7 +64,8 @@ impl Clone for Node {
 }
 
 impl PartialEq for Node {
-    ghost use Rattle.base_values.specs.CodedEq.{same_value, same_value_laws};
+    ghost use Rattle.base_values.specs.CodedEq.{same_value};
+    ghost use Rattle.base_values.specs.laws.CodedEq.{same_value_laws};
 
     ghost eq = { same_value the_row.coded };
 
@@ -76,13 +77,13 @@ impl PartialEq for Node {
 }
 
 impl Eq for Node {
-    ghost use Rattle.base_values.specs.CodedEq.{same_value_equiv};
+    ghost use Rattle.base_values.specs.laws.CodedEq.{same_value_equiv};
 
     ghost laws = { same_value_equiv the_row.coded };
 }
 
 impl Exact for Node {
-    ghost use Rattle.base_values.specs.CodedEq.{same_value_decides};
+    ghost use Rattle.base_values.specs.laws.CodedEq.{same_value_decides};
 
     ghost copies = { λ a b h. h };
 

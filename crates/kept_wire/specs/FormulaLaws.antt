@@ -4,7 +4,7 @@ use Rattle.std.proofs.lemmas.List.{length-append}
 use Rattle.std.proofs.lemmas.Map.Lookups.{exact_unsigned}
 use Rattle.std.specs.Cmp.{nat_cmp_total}
 use Rattle.std.specs.FinMap.{is_sorted}
-use Rattle.base_values.specs.Places.{position_total, exact_positions}
+use Rattle.base_values.specs.laws.Places.{position_total, exact_positions}
 use Rattle.base_wire.specs.Spelling.{FitsItems}
 use Rattle.base_wire.specs.laws.Again.{ReadsAgain, both_again, check_again, list_again}
 use Rattle.base_wire.specs.Spelling.{Both}

@@ -5,7 +5,8 @@ use Rattle.std.specs.Cmp.{nat_cmp_total}
 use Rattle.std.specs.List.{AllByRecursion}
 use Rattle.std.specs.FinMap.{FinMap, get}
 use Rattle.base_values.specs.declared.Position.{Position}
-use Rattle.base_values.specs.Places.{position_cmp, position_total, IsPlace}
+use Rattle.base_values.specs.Places.{position_cmp, IsPlace}
+use Rattle.base_values.specs.laws.Places.{position_total}
 use Rattle.formula_tree.specs.declared.Node.{Node}
 use Rattle.formula_tree.specs.Numbers.{has_kept_numbers}
 use Rattle.formula_tree.specs.DepthBounds.{is_within}

@@ -5,7 +5,8 @@ use Rattle.std.specs.Cmp.{int_cmp_total}
 use Rattle.std.specs.Ordering.{int_cmp}
 use Rattle.std.specs.FinMap.{FinMap, empty}
 use Rattle.std.proofs.lemmas.Map.Lookups.{exact_signed}
-use Rattle.base_values.specs.Places.{position_cmp, position_total, exact_positions, IsPlace, IsRow}
+use Rattle.base_values.specs.Places.{position_cmp, IsPlace, IsRow}
+use Rattle.base_values.specs.laws.Places.{position_total, exact_positions}
 use Rattle.base_wire.specs.Reading.{plain, after}
 use Rattle.base_wire.specs.Spelling.{spell_signed}
 use Rattle.base_wire.specs.laws.Again.{ReadsAgain, both_again, after_again}

@@ -58,7 +58,8 @@ pub(crate) struct LineKeys<A: Axis> {
 pub(crate) struct SheetPlaceKeys;
 
 impl Keys for PlaceKeys {
-    ghost use Rattle.base_values.specs.Places.{IsPlace, position_cmp, position_total};
+    ghost use Rattle.base_values.specs.Places.{IsPlace, position_cmp};
+    ghost use Rattle.base_values.specs.laws.Places.{position_total};
     ghost use Rattle.cell_wire.specs.CellBytes.{spell_position};
     ghost use Rattle.kept_wire.specs.KeyBytes.{place_at};
 
@@ -122,7 +123,7 @@ impl<A: Axis> Keys for LineKeys<A> {
 
 impl Keys for SheetPlaceKeys {
     ghost use Rattle.std.specs.Cmp.{nat_cmp_total};
-    ghost use Rattle.base_values.specs.Places.{position_total};
+    ghost use Rattle.base_values.specs.laws.Places.{position_total};
     ghost use Rattle.kept_wire.specs.KeyBytes.{spell_sheet_place, sheet_place_at, IsSheetPlace};
     ghost use Rattle.kept_wire.specs.FormulaBytes.{sheet_place_cmp};
     ghost use Rattle.kept_wire.specs.NestedLaws.{pair_total};

@@ -9,7 +9,8 @@ use Rattle.std.specs.Ordering.{is_eq, eq_by_cmp}
 use Rattle.std.specs.Cmp.{IsTotalOrder, eq_by_cmp_equiv}
 use Rattle.std.proofs.lemmas.Map.Lookups.{CmpEqualImpliesEq}
 use Rattle.std.specs.FinMap.{FinMap, empty, get, keys, get-empty, contains_key-keys, same_map}
-use Rattle.base_values.specs.KeyMap.{with_entry, get-with_entry}
+use Rattle.base_values.specs.KeyMap.{with_entry}
+use Rattle.base_values.specs.laws.KeyMap.{get-with_entry}
 
 -- two partial maps that undo each other
 pub record Inverse {K : Type 0} (to from : K → Option K) : Type 0 where

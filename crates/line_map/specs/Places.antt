@@ -5,8 +5,10 @@ use Rattle.std.specs.Bool.{Decides}
 use Rattle.std.specs.Ordering.{eq_by_cmp}
 use Rattle.std.specs.FinMap.{FinMap, empty, get, get-empty}
 use Rattle.base_values.specs.declared.Position.{Position}
-use Rattle.base_values.specs.Places.{IsLine, IsPlace, position_cmp, position_total, exact_positions}
-use Rattle.base_values.specs.KeyMap.{with_entry, get-with_entry}
+use Rattle.base_values.specs.Places.{IsLine, IsPlace, position_cmp}
+use Rattle.base_values.specs.laws.Places.{position_total, exact_positions}
+use Rattle.base_values.specs.KeyMap.{with_entry}
+use Rattle.base_values.specs.laws.KeyMap.{get-with_entry}
 use Rattle.base_axis.specs.Along.{Along, IsAxis}
 use Rattle.line_map.specs.declared.edit.EditKind.{EditKind}
 use Rattle.line_map.specs.Edit.{image_at, opposite_of, IsValid}

@@ -6,8 +6,9 @@ use Rattle.std.specs.Cmp.Lexicographic.{bytes_decides}
 use Rattle.std.proofs.lemmas.Bool.Decides.{Decides-like, Decides-and}
 use Rattle.base_values.specs.declared.Position.{Position}
 use Rattle.base_values.specs.Places.{IsPlace}
-use Rattle.base_values.specs.PositionEquals.{position_equals}
-use Rattle.base_values.specs.CodedEq.{same_value, same_value_decides}
+use Rattle.base_values.specs.laws.PositionEquals.{position_equals}
+use Rattle.base_values.specs.CodedEq.{same_value}
+use Rattle.base_values.specs.laws.CodedEq.{same_value_decides}
 use Rattle.base_axis.specs.Along.{Along, IsAxis}
 use Rattle.base_tables.specs.Folding.{same_folded}
 use Rattle.formula_tree.specs.declared.Node.{Node}

@@ -99,7 +99,7 @@ fn there_and_back<A: Axis>(edit: &LineEdit<A>, area: Area) -> Area
 
 impl<A: Axis> Follow<A> for Area {
     ghost use Rattle.base_axis.specs.contracts.area.AreaPartialEq.TheImpl as area;
-    ghost use Rattle.base_axis.specs.AreaEquals.{area_equals};
+    ghost use Rattle.base_axis.specs.laws.AreaEquals.{area_equals};
     ghost use Rattle.line_map.specs.Areas.{IsArea, followed, area_stays};
     ghost use Rattle.line_map.specs.Trial.{kept_by_trial, regained, trial_regains};
 

@@ -7,8 +7,9 @@ use Rattle.base_values.specs.declared.EditError.{EditError}
 use Rattle.base_values.specs.declared.EditError.TheVariants.{InvalidSheet}
 use Rattle.base_values.specs.declared.Position.{Position}
 use Rattle.base_values.specs.Answers.{and_then, map_ok, ok_or}
-use Rattle.base_values.specs.KeyMap.{get-with_entry}
-use Rattle.base_values.specs.Places.{place_of, position_total}
+use Rattle.base_values.specs.laws.KeyMap.{get-with_entry}
+use Rattle.base_values.specs.Places.{place_of}
+use Rattle.base_values.specs.laws.Places.{position_total}
 use Rattle.sheet_grid.specs.declared.Cell.{Cell}
 use Rattle.formula_content.specs.declared.Content.{Content}
 use Rattle.sheet_grid.specs.laws.FittingLaws.{place_is}

@@ -14,8 +14,10 @@ use Rattle.base_values.specs.declared.EditError.{EditError}
 use Rattle.base_values.specs.declared.EditError.TheVariants.{DiffRefused, InvalidSheet}
 use Rattle.base_values.specs.declared.Position.{Position}
 use Rattle.base_values.specs.Answers.{and_then, map_ok, ok_or, value_of}
-use Rattle.base_values.specs.KeyMap.{with_entry, get-with_entry, with_entry-back}
-use Rattle.base_values.specs.Places.{place_of, position_cmp, position_total, exact_positions}
+use Rattle.base_values.specs.KeyMap.{with_entry}
+use Rattle.base_values.specs.laws.KeyMap.{get-with_entry, with_entry-back}
+use Rattle.base_values.specs.Places.{place_of, position_cmp}
+use Rattle.base_values.specs.laws.Places.{position_total, exact_positions}
 use Rattle.sheet_grid.specs.declared.Cell.{Cell}
 use Rattle.sheet_grid.specs.SameEntry.{same_entry}
 use Rattle.sheet_grid.specs.laws.CellEquals.{same_entry_decides}

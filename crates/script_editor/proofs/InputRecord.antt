@@ -10,8 +10,9 @@ use Rattle.std.proofs.lemmas.Option.{get_or_from_slice_get}
 use Rattle.std.proofs.lemmas.Map.Views.{tells_apart}
 use Rattle.std.specs.FinMap as fin
 use Rattle.base_values.specs.declared.Position.{Position}
-use Rattle.base_values.specs.KeyMap.{get-with_entry}
-use Rattle.base_values.specs.Places.{position_cmp, position_total, exact_positions}
+use Rattle.base_values.specs.laws.KeyMap.{get-with_entry}
+use Rattle.base_values.specs.Places.{position_cmp}
+use Rattle.base_values.specs.laws.Places.{position_total, exact_positions}
 use Rattle.sheet_grid.specs.declared.Cell.{Cell}
 use Rattle.sheet_grid.specs.SameEntry.{same_entry}
 use Rattle.sheet_grid.specs.laws.CellEquals.{same_entry_decides}

@@ -4,7 +4,7 @@ use Rattle.base_values.specs.declared.EditError.{EditError}
 use Rattle.base_values.specs.declared.EditError.TheVariants.{InvalidRow}
 use Rattle.base_values.specs.Answers.{map_ok}
 use Rattle.base_axis.specs.Along.{rows}
-use Rattle.base_axis.specs.Lawful.{rows_lawful}
+use Rattle.base_axis.specs.laws.Lawful.{rows_lawful}
 use Rattle.line_map.specs.declared.EditKind.{EditKind}
 use Rattle.sheet_grid.specs.Sheet.{Sheet}
 use Rattle.sheet_grid.specs.Book.{Book, sheet_at}

@@ -11,7 +11,8 @@ use Rattle.std.proofs.lemmas.Int.{ints}
 use Rattle.std.proofs.lemmas.Map.Lookups.{CmpEqualImpliesEq, exact_signed}
 use Rattle.base_values.specs.declared.EditError.TheVariants.{DiffRefused}
 use Rattle.base_values.specs.declared.Position.{Position}
-use Rattle.base_values.specs.Places.{position_cmp, position_total, exact_positions}
+use Rattle.base_values.specs.Places.{position_cmp}
+use Rattle.base_values.specs.laws.Places.{position_total, exact_positions}
 use Rattle.base_axis.specs.Along.{Along, IsAxis}
 use Rattle.formula_tree.specs.declared.Node.{Node}
 use Rattle.formula_content.specs.declared.Content.TheVariants.{Formula}

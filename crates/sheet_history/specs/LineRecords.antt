@@ -3,7 +3,7 @@ use Rattle.std.proofs.Common.{◌≡◌, ℕ, true, Option, Some, None, Ok, refl
 use Rattle.std.proofs.lemmas.List.Elements.{All-from_recursion}
 use Rattle.base_values.specs.Answers.{and_then}
 use Rattle.base_axis.specs.Along.{Along, rows}
-use Rattle.base_axis.specs.Lawful.{rows_lawful}
+use Rattle.base_axis.specs.laws.Lawful.{rows_lawful}
 use Rattle.line_map.specs.declared.EditKind.{EditKind}
 use Rattle.sheet_grid.specs.Sheet.{Sheet}
 use Rattle.sheet_grid.specs.Book.{Book}

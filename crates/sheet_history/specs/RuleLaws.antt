@@ -7,7 +7,8 @@ use Rattle.base_values.specs.declared.EditError.{EditError}
 use Rattle.base_values.specs.declared.EditError.TheVariants.{InvalidSheet}
 use Rattle.base_values.specs.declared.Position.{Position}
 use Rattle.base_values.specs.Answers.{and_then, map_ok, ok_or}
-use Rattle.base_values.specs.Places.{place_of, position_cmp, position_total, exact_positions}
+use Rattle.base_values.specs.Places.{place_of, position_cmp}
+use Rattle.base_values.specs.laws.Places.{position_total, exact_positions}
 use Rattle.base_tables.specs.Folding.{same_folded}
 use Rattle.sheet_grid.specs.declared.Cell.{Cell}
 use Rattle.sheet_grid.specs.declared.RowAttr.{RowAttr}

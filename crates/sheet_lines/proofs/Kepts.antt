@@ -6,8 +6,10 @@ use Rattle.std.specs.Ordering.{eq_by_cmp, nat_cmp}
 use Rattle.std.specs.Cmp.{IsTotalOrder, nat_cmp_total}
 use Rattle.std.specs.FinMap.{FinMap, empty, get, keys, get-empty}
 use Rattle.base_values.specs.declared.Position.{Position}
-use Rattle.base_values.specs.KeyMap.{with_entry, get-with_entry}
-use Rattle.base_values.specs.Places.{position_cmp, position_total}
+use Rattle.base_values.specs.KeyMap.{with_entry}
+use Rattle.base_values.specs.laws.KeyMap.{get-with_entry}
+use Rattle.base_values.specs.Places.{position_cmp}
+use Rattle.base_values.specs.laws.Places.{position_total}
 use Rattle.formula_tree.specs.declared.Node.{Node}
 use Rattle.formula_tree.specs.contracts.node.Node.{the_row}
 use Rattle.formula_tree.specs.Numbers.{has_kept_numbers}

@@ -6,7 +6,8 @@ use Rattle.std.proofs.lemmas.List.Sums.{fold_more}
 use Rattle.std.specs.Ordering.{nat_cmp, int_cmp}
 use Rattle.std.specs.FinMap.{FinMap, empty, entries}
 use Rattle.base_values.specs.declared.Position.{Position}
-use Rattle.base_values.specs.CodedEq.{same_value, same_value_decides}
+use Rattle.base_values.specs.CodedEq.{same_value}
+use Rattle.base_values.specs.laws.CodedEq.{same_value_decides}
 use Rattle.base_values.specs.KeyMap.{with_entry}
 use Rattle.base_values.specs.Places.{position_cmp}
 use Rattle.base_axis.specs.Along.{Along}

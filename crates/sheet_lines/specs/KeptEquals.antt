@@ -3,9 +3,9 @@ use Rattle.std.proofs.Common.{◌≡◌, ap}
 use Rattle.std.specs.Bool.{Decides}
 use Rattle.std.specs.Cmp.{signed_Decides, unsigned_Decides}
 use Rattle.std.proofs.lemmas.Bool.Decides.{Decides-like, Decides-and}
-use Rattle.base_values.specs.PositionEquals.{position_equals}
-use Rattle.base_values.specs.KeyMap.{same_entries_decides}
-use Rattle.base_values.specs.CodedEq.{same_value_decides}
+use Rattle.base_values.specs.laws.PositionEquals.{position_equals}
+use Rattle.base_values.specs.laws.KeyMap.{same_entries_decides}
+use Rattle.base_values.specs.laws.CodedEq.{same_value_decides}
 use Rattle.formula_tree.specs.contracts.node.Node.{the_row}
 use Rattle.sheet_grid.specs.laws.CellEquals.{cell_equals}
 use Rattle.sheet_grid.specs.laws.LineEquals.{link_equals, row_attr_equals, column_attr_equals}

@@ -8,9 +8,12 @@ use Rattle.std.proofs.lemmas.Map.Lookups.{CmpEqualImpliesEq, exact_signed}
 use Rattle.std.specs.Cmp.{IsTotalOrder, nat_cmp_total, int_cmp_total, unsigned_Decides}
 use Rattle.std.specs.FinMap.{FinMap, empty, entries, get, get-empty, len-entries, empty_of_len, same_map, nat_cmp-IsAntisymmetric}
 use Rattle.base_values.specs.declared.Position.{Position}
-use Rattle.base_values.specs.CodedEq.{same_value, same_value_decides}
-use Rattle.base_values.specs.KeyMap.{with_entry, get-with_entry}
-use Rattle.base_values.specs.Places.{position_cmp, position_total, exact_positions}
+use Rattle.base_values.specs.CodedEq.{same_value}
+use Rattle.base_values.specs.laws.CodedEq.{same_value_decides}
+use Rattle.base_values.specs.KeyMap.{with_entry}
+use Rattle.base_values.specs.laws.KeyMap.{get-with_entry}
+use Rattle.base_values.specs.Places.{position_cmp}
+use Rattle.base_values.specs.laws.Places.{position_total, exact_positions}
 use Rattle.base_axis.specs.Along.{Along, IsAxis}
 use Rattle.formula_tree.specs.declared.Node.{Node}
 use Rattle.formula_tree.specs.contracts.node.Node.{the_row}

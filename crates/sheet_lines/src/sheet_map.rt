@@ -3,7 +3,8 @@ ghost use Rattle.sheet_lines.specs.SheetIds.{IsSheetId};
 ghost use Rattle.std.specs.Option.{option_copied};
 ghost use Rattle.std.specs.FinMap as fin;
 ghost use Rattle.std.specs.Cmp.{partial_equiv_from_equiv, nat_eq_equiv};
-ghost use Rattle.base_values.specs.KeyMap.{with_entry, same_entries, same_entries_laws, same_entries_equiv};
+ghost use Rattle.base_values.specs.KeyMap.{with_entry, same_entries};
+ghost use Rattle.base_values.specs.laws.KeyMap.{same_entries_laws, same_entries_equiv};
 ghost use Rattle.base_values.specs.declared.EditError.TheVariants.{NoMemory};
 
 use base_values::{EditError, Exact};
@@ -123,7 +124,7 @@ impl<V: Eq> Eq for SheetMap<V> {
 }
 
 impl<V: Exact> Exact for SheetMap<V> {
-    ghost use Rattle.base_values.specs.KeyMap.{same_entries_decides};
+    ghost use Rattle.base_values.specs.laws.KeyMap.{same_entries_decides};
     ghost use Rattle.std.specs.Cmp.{unsigned_Decides};
 
     ghost copies = { λ a b h. h };

@@ -2,7 +2,7 @@
 use Rattle.std.proofs.Common.{◌≡◌, refl, ap}
 use Rattle.std.specs.Bool.{Decides}
 use Rattle.std.proofs.lemmas.Bool.Decides.{Decides-like, Decides-and}
-use Rattle.base_values.specs.Decided.{option_equals}
+use Rattle.base_values.specs.laws.Decided.{option_equals}
 use Rattle.base_styles.specs.laws.ColorEquals.{color_equals}
 use Rattle.base_styles.specs.declared.border.BorderStyle.{BorderStyle}
 use Rattle.base_styles.specs.declared.border.BorderStyle.TheVariants.{Dotted, Thin, MediumDashDotDot, MediumDashDot, SlantDashDot, MediumDashed, Medium, Thick, Double}

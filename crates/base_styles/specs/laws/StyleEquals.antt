@@ -4,7 +4,7 @@ use Rattle.std.specs.Bool.{Decides}
 use Rattle.std.specs.Cmp.{booleans_Decides, signed_Decides}
 use Rattle.std.specs.Cmp.Lexicographic.{bytes_decides}
 use Rattle.std.proofs.lemmas.Bool.Decides.{Decides-like, Decides-and}
-use Rattle.base_values.specs.Decided.{option_equals}
+use Rattle.base_values.specs.laws.Decided.{option_equals}
 use Rattle.base_styles.specs.laws.ColorEquals.{color_equals}
 use Rattle.base_styles.specs.laws.BorderEquals.{border_equals}
 use Rattle.base_styles.specs.laws.AlignmentEquals.{alignment_equals}

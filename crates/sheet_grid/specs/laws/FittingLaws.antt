@@ -11,8 +11,9 @@ use Rattle.base_values.specs.declared.EditError.{EditError}
 use Rattle.base_values.specs.declared.EditError.TheVariants.{InvalidSheet, InvalidRow, InvalidColumn}
 use Rattle.base_values.specs.declared.Position.{Position}
 use Rattle.base_values.specs.Answers.{and_then, map_ok, ok_or}
-use Rattle.base_values.specs.KeyMap.{get-with_entry}
-use Rattle.base_values.specs.Places.{is_line, place_of, position_cmp, position_total, exact_positions}
+use Rattle.base_values.specs.laws.KeyMap.{get-with_entry}
+use Rattle.base_values.specs.Places.{is_line, place_of, position_cmp}
+use Rattle.base_values.specs.laws.Places.{position_total, exact_positions}
 use Rattle.base_tables.specs.declared.Locale.{Locale}
 use Rattle.base_tables.specs.declared.Zone.{Zone}
 use Rattle.formula_content.specs.FittingLaws.{shallow_where_fits}

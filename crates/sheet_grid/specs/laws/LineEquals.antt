@@ -4,7 +4,7 @@ use Rattle.std.specs.Bool.{Decides}
 use Rattle.std.specs.Cmp.{booleans_Decides, signed_Decides}
 use Rattle.std.specs.Cmp.Lexicographic.{bytes_decides}
 use Rattle.std.proofs.lemmas.Bool.Decides.{Decides-like, Decides-and}
-use Rattle.base_values.specs.Decided.{option_equals}
+use Rattle.base_values.specs.laws.Decided.{option_equals}
 use Rattle.base_styles.specs.laws.StyleEquals.{style_equals}
 use Rattle.sheet_grid.specs.declared.link.Link.{Link}
 use Rattle.sheet_grid.specs.contracts.link.LinkPartialEq.TheImpl as link

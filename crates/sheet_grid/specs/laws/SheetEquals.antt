@@ -4,8 +4,8 @@ use Rattle.std.specs.Bool.{Decides}
 use Rattle.std.specs.Cmp.{signed_Decides, unsigned_Decides, booleans_Decides}
 use Rattle.std.specs.Cmp.Lexicographic.{bytes_decides, pointwise_decides}
 use Rattle.std.proofs.lemmas.Bool.Decides.{Decides-like, Decides-and}
-use Rattle.base_values.specs.PositionEquals.{position_equals}
-use Rattle.base_values.specs.KeyMap.{same_entries_decides}
+use Rattle.base_values.specs.laws.PositionEquals.{position_equals}
+use Rattle.base_values.specs.laws.KeyMap.{same_entries_decides}
 use Rattle.base_styles.specs.laws.ColorEquals.{color_equals}
 use Rattle.base_tables.specs.laws.LocaleEquals.{locale_equals}
 use Rattle.base_tables.specs.laws.ZoneEquals.{zone_equals}

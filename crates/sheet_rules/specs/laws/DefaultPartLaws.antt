@@ -4,7 +4,7 @@ use Rattle.std.specs.Prelude.{is_none}
 use Rattle.std.specs.Bool.{Decides}
 use Rattle.std.specs.Cmp.Lexicographic.{bytes_decides}
 use Rattle.std.proofs.lemmas.Bool.Decides.{Decides-like, Decides-and}
-use Rattle.base_values.specs.CodedEq.{is_same_value}
+use Rattle.base_values.specs.laws.CodedEq.{is_same_value}
 use Rattle.base_styles.specs.laws.ColorEquals.{color_equals}
 use Rattle.base_styles.specs.laws.BorderEquals.{border_equals}
 use Rattle.base_styles.specs.laws.StyleEquals.{font_equals}

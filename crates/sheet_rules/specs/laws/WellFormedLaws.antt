@@ -8,7 +8,8 @@ use Rattle.std.specs.declared.cmp.Ordering.{Ordering}
 use Rattle.std.specs.FinMap.{entries, empty, len-entries, len-empty}
 use Rattle.std.proofs.lemmas.List.Elements.{All-from_recursion}
 use Rattle.base_values.specs.declared.Position.{Position}
-use Rattle.base_values.specs.Places.{position_cmp, position_total, exact_positions}
+use Rattle.base_values.specs.Places.{position_cmp}
+use Rattle.base_values.specs.laws.Places.{position_total, exact_positions}
 use Rattle.base_tables.specs.declared.Locale.{Locale}
 use Rattle.base_tables.specs.declared.Zone.{Zone}
 use Rattle.formula_content.specs.Fitting.{fits_at}

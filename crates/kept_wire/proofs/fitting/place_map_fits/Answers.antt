@@ -1,4 +1,5 @@
-use Rattle.base_values.specs.Places.{position_total, IsPlace}
+use Rattle.base_values.specs.Places.{IsPlace}
+use Rattle.base_values.specs.laws.Places.{position_total}
 use Rattle.kept_wire.proofs.Entries.{known_there, map_fits}
 use Rattle.kept_wire.proofs.fitting.place_map_fits.Goals as goal
 

@@ -3,7 +3,7 @@ use Rattle.std.specs.Cmp.{nat_cmp_total}
 use Rattle.std.specs.FinMap.{is_sorted}
 use Rattle.std.proofs.lemmas.Map.Lookups.{exact_unsigned}
 use Rattle.base_values.specs.declared.Position.{Position}
-use Rattle.base_values.specs.Places.{position_total, exact_positions}
+use Rattle.base_values.specs.laws.Places.{position_total, exact_positions}
 use Rattle.formula_tree.specs.declared.Node.{Node}
 use Rattle.kept_wire.specs.KeyBytes.{IsSheetPlace}
 use Rattle.kept_wire.specs.Nested.{with_pair}

@@ -1,6 +1,6 @@
 use Rattle.std.proofs.Common.{◌≡◌, ◌∷◌, ◌++◌}
 use Rattle.base_values.specs.declared.Position.{Position}
-use Rattle.base_values.specs.Places.{position_total, exact_positions}
+use Rattle.base_values.specs.laws.Places.{position_total, exact_positions}
 use Rattle.kept_wire.proofs.Turns.{taken, seen_now, made_now}
 use Rattle.kept_wire.proofs.reading.place_map_of.Goals as goal
 

@@ -1,4 +1,5 @@
-use Rattle.base_values.specs.Places.{position_cmp, position_total, exact_positions}
+use Rattle.base_values.specs.Places.{position_cmp}
+use Rattle.base_values.specs.laws.Places.{position_total, exact_positions}
 use Rattle.line_map.specs.Edit.{opposite_of}
 use Rattle.line_map.specs.Carried.{get-follow_map, get-lost_map, get-parts_map}
 use Rattle.line_map.specs.Places.{place_image, place_inverse, part_of}

@@ -3,7 +3,8 @@ use Rattle.sheet_lines.proofs.Held.{get-followed, get-lost, get-kept_trees}
 use Rattle.std.specs.Cmp.{int_cmp_total}
 use Rattle.std.specs.Ordering.{int_cmp}
 use Rattle.std.proofs.lemmas.Map.Lookups.{exact_signed}
-use Rattle.base_values.specs.Places.{position_cmp, position_total, exact_positions}
+use Rattle.base_values.specs.Places.{position_cmp}
+use Rattle.base_values.specs.laws.Places.{position_total, exact_positions}
 use Rattle.line_map.specs.Carried.{get-moved_map}
 use Rattle.sheet_lines.specs.Way.{back, place_goes, line_goes, are_rows, are_columns}
 use Rattle.sheet_lines.specs.Regained.{goes_inverse, lines_go_inverse}

@@ -4,7 +4,7 @@ use Rattle.std.specs.FinMap.{get}
 use Rattle.std.specs.Ordering.{int_cmp}
 use Rattle.std.proofs.lemmas.Int.{to_z-of_z}
 use Rattle.std.proofs.lemmas.Map.Lookups.{exact_signed}
-use Rattle.base_values.specs.KeyMap.{get-made}
+use Rattle.base_values.specs.laws.KeyMap.{get-made}
 use Rattle.base_axis.proofs.line_map.LineMap.get.Goals as goal
 
 pub returns : goal.returns

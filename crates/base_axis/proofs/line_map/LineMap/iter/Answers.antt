@@ -3,7 +3,7 @@ use Rattle.std.specs.Cmp.{int_cmp_total}
 use Rattle.std.specs.FinMap.{entries}
 use Rattle.std.specs.Ordering.{int_cmp}
 use Rattle.std.proofs.lemmas.Map.Lookups.{exact_signed}
-use Rattle.base_values.specs.KeyMap.{entries-made, All-unmap}
+use Rattle.base_values.specs.laws.KeyMap.{entries-made, All-unmap}
 use Rattle.base_values.specs.Places.{IsLine}
 use Rattle.base_axis.proofs.line_map.LineMap.iter.Goals as goal
 

@@ -3,7 +3,7 @@ use Rattle.std.specs.BTreeMap.{keys}
 use Rattle.std.specs.Cmp.{int_cmp_total}
 use Rattle.std.specs.FinMap as fin
 use Rattle.std.proofs.lemmas.Map.Lookups.{exact_signed}
-use Rattle.base_values.specs.KeyMap.{keys-made}
+use Rattle.base_values.specs.laws.KeyMap.{keys-made}
 use Rattle.base_axis.proofs.line_map.LineMap.lines.Goals as goal
 
 pub returns-clause-lines : goal.returns-clause-lines

@@ -5,7 +5,8 @@ use Rattle.std.specs.Ordering.{int_cmp}
 use Rattle.std.proofs.lemmas.Int.{to_z-of_z}
 use Rattle.std.proofs.lemmas.Map.Lookups.{exact_signed}
 use Rattle.std.proofs.lemmas.Map.Views.{All-map-remove_entry}
-use Rattle.base_values.specs.KeyMap.{with_entry, with_entry-made, get-made}
+use Rattle.base_values.specs.KeyMap.{with_entry}
+use Rattle.base_values.specs.laws.KeyMap.{with_entry-made, get-made}
 use Rattle.base_values.specs.Places.{IsLine}
 use Rattle.base_axis.proofs.line_map.LineMap.remove.Goals as goal
 

@@ -1,7 +1,7 @@
 use Rattle.std.proofs.Common.{ap, ◌∙◌}
 use Rattle.std.specs.FinMap.{from_entries}
 use Rattle.std.proofs.lemmas.Map.Entries.{entries_from_clone}
-use Rattle.base_values.specs.KeyMap.{IsInside-same}
+use Rattle.base_values.specs.laws.KeyMap.{IsInside-same}
 use Rattle.base_axis.proofs.line_map.LineMapClone.clone.Goals as goal
 
 pub invariant_of-result : goal.invariant_of-result

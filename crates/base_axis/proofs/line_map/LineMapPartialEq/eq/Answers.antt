@@ -2,7 +2,8 @@ use Rattle.std.proofs.Common.{sym, ◌∙◌}
 use Rattle.std.specs.Cmp.{int_cmp_total}
 use Rattle.std.specs.Ordering.{int_eq}
 use Rattle.std.proofs.lemmas.Map.Lookups.{exact_signed}
-use Rattle.base_values.specs.KeyMap.{same_entries, same_entries-made}
+use Rattle.base_values.specs.KeyMap.{same_entries}
+use Rattle.base_values.specs.laws.KeyMap.{same_entries-made}
 use Rattle.base_axis.proofs.line_map.LineMapPartialEq.eq.Goals as goal
 
 pub returns : goal.returns

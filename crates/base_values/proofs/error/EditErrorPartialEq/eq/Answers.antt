@@ -1,4 +1,4 @@
-use Rattle.base_values.specs.CodedEq.{is_same_value}
+use Rattle.base_values.specs.laws.CodedEq.{is_same_value}
 use Rattle.base_values.specs.contracts.error.EditError.{the_row}
 use Rattle.base_values.proofs.error.EditErrorPartialEq.eq.Goals as goal
 

@@ -1,7 +1,8 @@
 use Rattle.std.proofs.Common.{ap, sym, ◌∙◌}
 use Rattle.std.specs.FinMap.{get}
-use Rattle.base_values.specs.Places.{position_cmp, position_total, exact_positions}
-use Rattle.base_values.specs.KeyMap.{get-made}
+use Rattle.base_values.specs.Places.{position_cmp}
+use Rattle.base_values.specs.laws.Places.{position_total, exact_positions}
+use Rattle.base_values.specs.laws.KeyMap.{get-made}
 use Rattle.base_values.proofs.place_map.PlaceMap.get.Goals as goal
 
 pub returns : goal.returns

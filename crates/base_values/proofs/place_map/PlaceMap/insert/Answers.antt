@@ -1,8 +1,10 @@
 use Rattle.std.proofs.Common.{ap, sym, ◌∙◌, Some}
 use Rattle.std.specs.FinMap.{get}
 use Rattle.std.proofs.lemmas.Map.Views.{All-keys-insert_entry}
-use Rattle.base_values.specs.Places.{position_cmp, IsPlace, position_total, exact_positions}
-use Rattle.base_values.specs.KeyMap.{with_entry, with_entry-made, get-made}
+use Rattle.base_values.specs.Places.{position_cmp, IsPlace}
+use Rattle.base_values.specs.laws.Places.{position_total, exact_positions}
+use Rattle.base_values.specs.KeyMap.{with_entry}
+use Rattle.base_values.specs.laws.KeyMap.{with_entry-made, get-made}
 use Rattle.base_values.proofs.place_map.PlaceMap.insert.Goals as goal
 
 pub returns-clause-before : goal.returns-clause-before

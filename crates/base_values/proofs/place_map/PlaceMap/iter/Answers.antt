@@ -1,7 +1,8 @@
 use Rattle.std.proofs.Common.{ap, sym, ◌∙◌}
 use Rattle.std.specs.FinMap.{entries}
-use Rattle.base_values.specs.Places.{position_cmp, position_total, exact_positions, IsPlace}
-use Rattle.base_values.specs.KeyMap.{entries-made, All-unmap}
+use Rattle.base_values.specs.Places.{position_cmp, IsPlace}
+use Rattle.base_values.specs.laws.Places.{position_total, exact_positions}
+use Rattle.base_values.specs.laws.KeyMap.{entries-made, All-unmap}
 use Rattle.base_values.proofs.place_map.PlaceMap.iter.Goals as goal
 
 pub returns-clause-entries : goal.returns-clause-entries

@@ -1,6 +1,8 @@
 use Rattle.std.proofs.Common.{sym, ◌∙◌}
-use Rattle.base_values.specs.KeyMap.{same_entries, same_entries-made}
-use Rattle.base_values.specs.Places.{position_total, exact_positions, same_position}
+use Rattle.base_values.specs.KeyMap.{same_entries}
+use Rattle.base_values.specs.laws.KeyMap.{same_entries-made}
+use Rattle.base_values.specs.Places.{same_position}
+use Rattle.base_values.specs.laws.Places.{position_total, exact_positions}
 use Rattle.base_values.proofs.place_map.PlaceMapPartialEq.eq.Goals as goal
 
 pub returns : goal.returns

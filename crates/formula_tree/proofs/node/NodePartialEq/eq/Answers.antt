@@ -1,4 +1,4 @@
-use Rattle.base_values.specs.CodedEq.{is_same_value}
+use Rattle.base_values.specs.laws.CodedEq.{is_same_value}
 use Rattle.formula_tree.specs.contracts.node.Node.{the_row}
 use Rattle.formula_tree.proofs.node.NodePartialEq.eq.Goals as goal
 

@@ -3,7 +3,7 @@ use Rattle.std.specs.Ordering.{nat_cmp}
 use Rattle.std.specs.Cmp.{nat_cmp_total}
 use Rattle.std.proofs.lemmas.Map.Lookups.{exact_unsigned}
 use Rattle.std.specs.FinMap.{get}
-use Rattle.base_values.specs.KeyMap.{get-made}
+use Rattle.base_values.specs.laws.KeyMap.{get-made}
 use Rattle.sheet_lines.proofs.sheet_map.SheetMap.get.Goals as goal
 
 pub returns : goal.returns

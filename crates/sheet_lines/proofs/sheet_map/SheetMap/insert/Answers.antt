@@ -4,7 +4,8 @@ use Rattle.std.specs.Cmp.{nat_cmp_total}
 use Rattle.std.proofs.Math.Facts.{Fits-lt-pow}
 use Rattle.std.proofs.lemmas.Map.Lookups.{exact_unsigned}
 use Rattle.std.proofs.lemmas.Map.Views.{All-keys-insert_entry}
-use Rattle.base_values.specs.KeyMap.{with_entry, with_entry-made}
+use Rattle.base_values.specs.KeyMap.{with_entry}
+use Rattle.base_values.specs.laws.KeyMap.{with_entry-made}
 use Rattle.sheet_lines.specs.SheetIds.{IsSheetId}
 use Rattle.sheet_lines.proofs.sheet_map.SheetMap.insert.Goals as goal
 

@@ -3,7 +3,7 @@ use Rattle.std.specs.Cmp.{nat_cmp_total}
 use Rattle.std.specs.FinMap.{entries}
 use Rattle.std.specs.Ordering.{nat_cmp}
 use Rattle.std.proofs.lemmas.Map.Lookups.{exact_unsigned}
-use Rattle.base_values.specs.KeyMap.{entries-made, All-unmap}
+use Rattle.base_values.specs.laws.KeyMap.{entries-made, All-unmap}
 use Rattle.sheet_lines.specs.SheetIds.{IsSheetId}
 use Rattle.sheet_lines.proofs.sheet_map.SheetMap.iter.Goals as goal
 

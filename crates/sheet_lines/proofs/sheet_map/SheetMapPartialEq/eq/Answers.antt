@@ -2,7 +2,8 @@ use Rattle.std.proofs.Common.{sym, ◌∙◌}
 use Rattle.std.specs.Prelude.{nat_eq}
 use Rattle.std.specs.Cmp.{nat_cmp_total}
 use Rattle.std.proofs.lemmas.Map.Lookups.{exact_unsigned}
-use Rattle.base_values.specs.KeyMap.{same_entries, same_entries-made}
+use Rattle.base_values.specs.KeyMap.{same_entries}
+use Rattle.base_values.specs.laws.KeyMap.{same_entries-made}
 use Rattle.sheet_lines.proofs.sheet_map.SheetMapPartialEq.eq.Goals as goal
 
 pub returns : goal.returns

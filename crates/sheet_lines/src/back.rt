@@ -28,10 +28,10 @@ use std::alloc::Global;
 fn cells_back<A: Axis>(
     alloc: Global,
     by: &SheetEdit<'_, A>,
-    lost: &PlaceMap<Cell>,
+    lost: &PlaceMap<Shared<Cell>>,
     trees: &PlaceMap<Shared<Node>>,
-    cells: &PlaceMap<Cell>,
-) -> Result<PlaceMap<Cell>, EditError>
+    cells: &PlaceMap<Shared<Cell>>,
+) -> Result<PlaceMap<Shared<Cell>>, EditError>
     requires { IsValid A.along.last by.now.edit.kind }
     ensures cells { IfOk result (λ made. made ≡ cells_back (way A.along by.now.edit.kind by.now.own.now by.now.edited.now by.now.is_edited) lost.now trees.now cells.now) }
     ensures only { IsOkUnless result NoMemory }
@@ -50,7 +50,11 @@ fn cells_back<A: Axis>(
 }
 
 /// The trees kept of a sheet, or none.
-fn trees_of<'a>(kept: &'a KeptLines, none: &'a PlaceMap<Shared<Node>>, id: u32) -> &'a PlaceMap<Shared<Node>>
+fn trees_of<'a>(
+    kept: &'a KeptLines,
+    none: &'a PlaceMap<Shared<Node>>,
+    id: u32,
+) -> &'a PlaceMap<Shared<Node>>
     requires none { none.now ≡ empty }
     requires numbers { AreKeptLines kept.now }
     ensures trees { result.now ≡ or_empty (get kept.now.formulas id) }
@@ -63,7 +67,11 @@ fn trees_of<'a>(kept: &'a KeptLines, none: &'a PlaceMap<Shared<Node>>, id: u32) 
 }
 
 /// The lost cells, if the sheet is the edited one.
-fn lost_of<'a>(kept: &'a KeptLines, none: &'a PlaceMap<Cell>, is_edited: bool) -> &'a PlaceMap<Cell>
+fn lost_of<'a>(
+    kept: &'a KeptLines,
+    none: &'a PlaceMap<Shared<Cell>>,
+    is_edited: bool,
+) -> &'a PlaceMap<Shared<Cell>>
     requires none { none.now ≡ empty }
     requires numbers { AreKeptLines kept.now }
     ensures cells { result.now ≡ lost_of is_edited kept.now.cells }
@@ -78,7 +86,7 @@ fn sheet_cells_back<A: Axis>(
     by: &SheetEdit<'_, A>,
     kept: &KeptLines,
     sheet: &Worksheet,
-) -> Result<PlaceMap<Cell>, EditError>
+) -> Result<PlaceMap<Shared<Cell>>, EditError>
     requires valid { IsValid A.along.last by.now.edit.kind }
     requires numbers { AreKeptLines kept.now }
     ensures cells { IfOk result (λ made. made ≡ cells_back (way A.along by.now.edit.kind by.now.own.now by.now.edited.now by.now.is_edited) (lost_of by.now.is_edited kept.now.cells) (or_empty (get kept.now.formulas sheet.now.id)) sheet.now.cells) }

@@ -16,37 +16,43 @@ use formula_tree::Node;
 use sheet_grid::Cell;
 use std::alloc::Global;
 
-/// A content that goes from a place to a place.
-fn followed_content<A: Axis>(
+/// A cell with another content.
+fn with_content(
+    alloc: Global,
+    cell: &Shared<Cell>,
+    content: Content,
+) -> Result<Shared<Cell>, EditError>
+    ensures cell { IfOk result (λ changed. changed ≡ record cell.now { content = content }) }
+    ensures only { IsOkUnless result NoMemory }
+{
+    let style = copy_of(&cell.get().style)?;
+    Ok(Shared::new(alloc, Cell { content, style })?)
+}
+
+/// A cell that goes from a place to a place. One without a formula is shared.
+fn moved_cell<A: Axis>(
     alloc: Global,
     by: &SheetEdit<'_, A>,
     from: Position,
     to: Position,
-    content: &Content,
-) -> Result<Content, EditError>
+    cell: &Shared<Cell>,
+) -> Result<Shared<Cell>, EditError>
     requires { IsPlace to }
-    ensures content { IfOk result (λ followed. followed ≡ content_followed (way A.along by.now.edit.kind by.now.own.now by.now.edited.now by.now.is_edited) from to content.now) }
+    ensures cell { IfOk result (λ followed. followed ≡ record cell.now { content = content_followed (way A.along by.now.edit.kind by.now.own.now by.now.edited.now by.now.is_edited) from to cell.now.content }) }
     ensures only { IsOkUnless result NoMemory }
 {
-    match content {
-        Content::Empty | Content::Number(_) => copy_of(content),
-        Content::Boolean(_) | Content::Error(_) | Content::Text(_) => copy_of(content),
+    match &cell.get().content {
+        Content::Empty | Content::Number(_) => copy_of(cell),
+        Content::Boolean(_) | Content::Error(_) | Content::Text(_) => copy_of(cell),
         Content::Formula(tree) => {
-            Ok(Content::Formula(followed_tree(alloc, by, from, to, tree)?))
+            let tree = followed_tree(alloc, by, from, to, tree)?;
+            with_content(alloc, cell, Content::Formula(tree))
         }
         Content::Dynamic(tree) => {
-            Ok(Content::Dynamic(followed_tree(alloc, by, from, to, tree)?))
+            let tree = followed_tree(alloc, by, from, to, tree)?;
+            with_content(alloc, cell, Content::Dynamic(tree))
         }
     }
-}
-
-/// A cell with another content.
-fn with_content(cell: &Cell, content: Content) -> Result<Cell, EditError>
-    ensures cell { IfOk result (λ changed. changed ≡ record cell.now { content = content }) }
-    ensures only { IsOkUnless result NoMemory }
-{
-    let style = copy_of(&cell.style)?;
-    Ok(Cell { content, style })
 }
 
 /// The cell of a place.
@@ -55,18 +61,15 @@ pub fn followed_cell<A: Axis>(
     alloc: Global,
     by: &SheetEdit<'_, A>,
     from: Position,
-    cell: &Cell,
-) -> Result<Cell, EditError>
+    cell: &Shared<Cell>,
+) -> Result<Shared<Cell>, EditError>
     requires { IsPlace from }
     ensures cell { IfOk result (λ followed. followed ≡ cell_followed (way A.along by.now.edit.kind by.now.own.now by.now.edited.now by.now.is_edited) from cell.now) }
     ensures only { IsOkUnless result NoMemory }
 {
     match place_goes(by, from) {
         None => copy_of(cell),
-        Some(to) => {
-            let content = followed_content(alloc, by, from, to, &cell.content)?;
-            with_content(cell, content)
-        }
+        Some(to) => moved_cell(alloc, by, from, to, cell),
     }
 }
 
@@ -95,10 +98,14 @@ fn content_with_tree(content: &Content, tree: &Shared<Node>) -> Result<Content, 
 }
 
 /// A cell with that tree in place of its formula's.
-pub fn with_tree(cell: &Cell, tree: &Shared<Node>) -> Result<Cell, EditError>
+pub fn with_tree(
+    alloc: Global,
+    cell: &Shared<Cell>,
+    tree: &Shared<Node>,
+) -> Result<Shared<Cell>, EditError>
     ensures cell { IfOk result (λ changed. changed ≡ with_tree cell.now tree.now) }
     ensures only { IsOkUnless result NoMemory }
 {
-    let content = content_with_tree(&cell.content, tree)?;
-    with_content(cell, content)
+    let content = content_with_tree(&cell.get().content, tree)?;
+    with_content(alloc, cell, content)
 }

@@ -10,6 +10,7 @@ use crate::overlays::FollowedCells;
 use crate::sheet_edit::SheetEdit;
 use crate::sheets::{meeting, name_of};
 use base_axis::{Axis, ColumnAxis, LineMap, RowAxis};
+use base_shared::Shared;
 use base_values::{EditError, Items, PlaceMap};
 use line_map::{LineEdit, lay};
 use sheet_grid::{Cell, ColumnAttr, RowAttr, Workbook, Worksheet};
@@ -20,8 +21,8 @@ use std::alloc::Global;
 pub fn followed_cells<A: Axis>(
     alloc: Global,
     by: &SheetEdit<'_, A>,
-    cells: &PlaceMap<Cell>,
-) -> Result<PlaceMap<Cell>, EditError>
+    cells: &PlaceMap<Shared<Cell>>,
+) -> Result<PlaceMap<Shared<Cell>>, EditError>
     ensures cells { IfOk result (λ followed. followed ≡ cells_followed (way A.along by.now.edit.kind by.now.own.now by.now.edited.now by.now.is_edited) cells.now) }
     ensures only { IsOkUnless result NoMemory }
 {

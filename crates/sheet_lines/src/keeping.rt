@@ -74,14 +74,14 @@ pub fn kept_tree<A: Axis>(
     alloc: Global,
     by: &SheetEdit<'_, A>,
     from: Position,
-    cell: &Cell,
+    cell: &Shared<Cell>,
 ) -> Result<Option<Shared<Node>>, EditError>
     requires valid { IsValid A.along.last by.now.edit.kind }
     requires from { IsPlace from }
     ensures kept { IfOk result (λ kept. kept ≡ kept_tree (way A.along by.now.edit.kind by.now.own.now by.now.edited.now by.now.is_edited) from cell.now) }
     ensures only { IsOkUnless result NoMemory }
 {
-    match (place_goes(by, from), tree_of(&cell.content)) {
+    match (place_goes(by, from), tree_of(&cell.get().content)) {
         (Some(to), Some(tree)) => kept_of(alloc, by, from, to, tree),
         _ => Ok(None),
     }

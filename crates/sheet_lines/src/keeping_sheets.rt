@@ -30,7 +30,7 @@ use std::alloc::Global;
 fn kept_trees<A: Axis>(
     alloc: Global,
     by: &SheetEdit<'_, A>,
-    cells: &PlaceMap<Cell>,
+    cells: &PlaceMap<Shared<Cell>>,
 ) -> Result<PlaceMap<Shared<Node>>, EditError>
     requires { IsValid A.along.last by.now.edit.kind }
     ensures trees { IfOk result (λ kept. kept ≡ kept_trees (way A.along by.now.edit.kind by.now.own.now by.now.edited.now by.now.is_edited) cells.now) }
@@ -104,7 +104,7 @@ fn lost_cells<A: Axis>(
     alloc: Global,
     edit: &LineEdit<A>,
     sheet: Option<&Worksheet>,
-) -> Result<PlaceMap<Cell>, EditError>
+) -> Result<PlaceMap<Shared<Cell>>, EditError>
     ensures cells { IfOk result (λ lost. lost ≡ lost_cells A.along edit.now.kind (option_copied sheet.entry)) }
     ensures numbers { IfOk result KeptCells }
     ensures only { IsOkUnless result NoMemory }

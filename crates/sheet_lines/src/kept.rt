@@ -12,7 +12,7 @@ use std::alloc::AllocError;
 #[derive(PartialEq, Eq, Drop)]
 pub struct KeptLines {
     /// The cells of the edited sheet whose lines are lost.
-    pub cells: PlaceMap<Cell>,
+    pub cells: PlaceMap<Shared<Cell>>,
     /// Its links whose lines are lost, and what its lost rows or columns had.
     pub links: PlaceMap<Link>,
     pub rows: LineMap<RowAxis, RowAttr>,

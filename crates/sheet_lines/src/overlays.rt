@@ -25,11 +25,11 @@ use std::alloc::Global;
 #[derive_where(Clone, Copy)]
 pub struct FollowedCells<'a, A: Axis> {
     pub by: SheetEdit<'a, A>,
-    pub cells: &'a PlaceMap<Cell>,
+    pub cells: &'a PlaceMap<Shared<Cell>>,
 }
 
 impl<'a, A: Axis> Overlay for FollowedCells<'a, A> {
-    type Item = Cell;
+    type Item = Shared<Cell>;
 
     ghost Fits = { λ _. ⊤ };
 
@@ -41,7 +41,7 @@ impl<'a, A: Axis> Overlay for FollowedCells<'a, A> {
         place_goes(&self.by, from)
     }
 
-    fn item(&self, alloc: Global, from: Position) -> Result<Option<Cell>, EditError> {
+    fn item(&self, alloc: Global, from: Position) -> Result<Option<Shared<Cell>>, EditError> {
         match self.cells.get(from) {
             None => Ok(None),
             Some(cell) => Ok(Some(followed_cell(alloc, &self.by, from, cell)?)),
@@ -81,7 +81,7 @@ impl<'a, A: Axis, F: Exact + Drop> Overlay for Moved<'a, A, F> {
 #[derive_where(Clone, Copy)]
 pub struct KeptTrees<'a, A: Axis> {
     pub by: SheetEdit<'a, A>,
-    pub cells: &'a PlaceMap<Cell>,
+    pub cells: &'a PlaceMap<Shared<Cell>>,
 }
 
 impl<'a, A: Axis> Overlay for KeptTrees<'a, A> {
@@ -112,16 +112,16 @@ impl<'a, A: Axis> Overlay for KeptTrees<'a, A> {
 #[derive_where(Clone, Copy)]
 pub struct RegainedCells<'a, A: Axis> {
     pub by: SheetEdit<'a, A>,
-    pub followed: &'a PlaceMap<Cell>,
+    pub followed: &'a PlaceMap<Shared<Cell>>,
     pub trees: &'a PlaceMap<Shared<Node>>,
 }
 
 /// The cell that stands where a place goes.
 fn cell_there<'a, A: Axis>(
     by: &SheetEdit<'_, A>,
-    cells: &'a PlaceMap<Cell>,
+    cells: &'a PlaceMap<Shared<Cell>>,
     from: Position,
-) -> Option<&'a Cell>
+) -> Option<&'a Shared<Cell>>
     requires { IsPlace from }
     ensures { option_copied result ≡ if_there (place_goes (way A.along by.now.edit.kind by.now.own.now by.now.edited.now by.now.is_edited) from) (get cells.now) }
 {
@@ -132,7 +132,7 @@ fn cell_there<'a, A: Axis>(
 }
 
 impl<'a, A: Axis> Overlay for RegainedCells<'a, A> {
-    type Item = Cell;
+    type Item = Shared<Cell>;
 
     ghost Fits = { λ _. ⊤ };
 
@@ -144,12 +144,12 @@ impl<'a, A: Axis> Overlay for RegainedCells<'a, A> {
         Some(from)
     }
 
-    fn item(&self, _alloc: Global, from: Position) -> Result<Option<Cell>, EditError> {
+    fn item(&self, alloc: Global, from: Position) -> Result<Option<Shared<Cell>>, EditError> {
         match (
             self.trees.get(from),
             cell_there(&self.by, self.followed, from),
         ) {
-            (Some(tree), Some(cell)) => Ok(Some(with_tree(cell, tree)?)),
+            (Some(tree), Some(cell)) => Ok(Some(with_tree(alloc, cell, tree)?)),
             _ => Ok(None),
         }
     }

@@ -81,6 +81,8 @@ pub fn followed_tree<A: Axis>(
     if is_carried_still(&by.edit, by.own, by.edited, by.is_own, from, to, node) {
         return copy_of(tree);
     }
-    let carried = carried_node(alloc, &by.edit, by.own, by.edited, by.is_own, from, to, node)?;
+    let carried = carried_node(
+        alloc, &by.edit, by.own, by.edited, by.is_own, from, to, node,
+    )?;
     Ok(Shared::new(alloc, carried)?)
 }

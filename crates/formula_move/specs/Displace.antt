@@ -7,7 +7,7 @@ use Rattle.base_tables.specs.declared.Locale.{Locale}
 use Rattle.formula_tree.specs.declared.CellReferenceRC.{CellReferenceRC}
 use Rattle.formula_tree.specs.declared.Corner.{Corner}
 use Rattle.formula_tree.specs.declared.Node.{Node}
-use Rattle.formula_tree.specs.Corners.{corner_at, corner_to, is_whole_rows, is_whole_columns}
+use Rattle.formula_tree.specs.Corners.{number_at, corner_row, corner_column, is_whole_rows, is_whole_columns}
 use Rattle.formula_tree.specs.OnSheet.{is_on_sheet}
 use Rattle.formula_tree.specs.Moved.{Mapping, moved}
 use Rattle.formula_print.specs.Forms.{localized_text}
@@ -16,32 +16,58 @@ use Rattle.formula_move.specs.declared.displace_data.DisplaceData.{DisplaceData}
 use Rattle.formula_move.specs.declared.displace_data.DisplaceData.TheVariants as kind
 use Rattle.formula_move.specs.Lines.{shifted, stepped}
 
--- the place in that row, if there is one
-abbrev pub with_row : Position → Option ℤ → Option Position
-with_row place None = None
-with_row place (Some row) = Some (record { row = row; column = place.column })
+-- the corner that stands on that row, with its marks and on its column
+abbrev pub on_row : Position → Corner → ℤ → Corner
+on_row place corner row = record {
+  absolute_row = corner.absolute_row;
+  row = number_at corner.absolute_row place.row row;
+  absolute_column = corner.absolute_column;
+  column = corner.column;
+}
 
--- the place in that column, if there is one
-abbrev pub with_column : Position → Option ℤ → Option Position
-with_column place None = None
-with_column place (Some column) = Some (record { row = place.row; column = column })
+-- the corner that stands on that column, with its marks and on its row
+abbrev pub on_column : Position → Corner → ℤ → Corner
+on_column place corner column = record {
+  absolute_row = corner.absolute_row;
+  row = corner.row;
+  absolute_column = corner.absolute_column;
+  column = number_at corner.absolute_column place.column column;
+}
 
--- the row above which, or the column to the left of which, nothing goes elsewhere
-abbrev pub row_shifted : ℤ → ℤ → Position → Option Position
-row_shifted row delta place = with_row place (shifted (pos 1048576) row delta place.row)
+-- a corner goes to the image of its row, along the rows, or to that of its column. It is lost where there is none
+abbrev pub to_row : Position → Corner → Option ℤ → Option Corner
+to_row place corner None = None
+to_row place corner (Some row) = Some (on_row place corner row)
 
-abbrev pub column_shifted : ℤ → ℤ → Position → Option Position
-column_shifted column delta place = with_column place (shifted (pos 16384) column delta place.column)
+abbrev pub to_column : Position → Corner → Option ℤ → Option Corner
+to_column place corner None = None
+to_column place corner (Some column) = Some (on_column place corner column)
 
--- where a cell of the displaced sheet goes
-unfoldable pub image_of : DisplaceData → Position → Option Position
-image_of (kind.Column sheet column delta) place = column_shifted column delta place
-image_of (kind.Row sheet row delta) place = row_shifted row delta place
-image_of (kind.CellHorizontal sheet row column delta) place = if int_eq place.row row then column_shifted column delta place else Some place
-image_of (kind.CellVertical sheet row column delta) place = if int_eq place.column column then row_shifted row delta place else Some place
-image_of (kind.RowMove sheet row delta) place = with_row place (stepped (pos 1048576) row delta place.row)
-image_of (kind.ColumnMove sheet column delta) place = with_column place (stepped (pos 16384) column delta place.column)
-image_of kind.None place = Some place
+-- the rows of the sheet from `row` on go on by `delta`
+abbrev pub row_shifted : ℤ → ℤ → Position → Corner → Option Corner
+row_shifted row delta place corner = to_row place corner (shifted (pos 1048576) row delta (corner_row place corner))
+
+abbrev pub column_shifted : ℤ → ℤ → Position → Corner → Option Corner
+column_shifted column delta place corner = to_column place corner (shifted (pos 16384) column delta (corner_column place corner))
+
+-- one row moves by `delta`
+abbrev pub row_stepped : ℤ → ℤ → Position → Corner → Option Corner
+row_stepped row delta place corner = to_row place corner (stepped (pos 1048576) row delta (corner_row place corner))
+
+abbrev pub column_stepped : ℤ → ℤ → Position → Corner → Option Corner
+column_stepped column delta place corner = to_column place corner (stepped (pos 16384) column delta (corner_column place corner))
+
+-- where an exposed corner goes, wherever it stands: along the displaced axis to the image of its line
+unfoldable pub image_of : DisplaceData → Position → Corner → Option Corner
+image_of (kind.Column sheet column delta) place corner = column_shifted column delta place corner
+image_of (kind.Row sheet row delta) place corner = row_shifted row delta place corner
+image_of (kind.CellHorizontal sheet row column delta) place corner =
+    if int_eq (corner_row place corner) row then column_shifted column delta place corner else Some corner
+image_of (kind.CellVertical sheet row column delta) place corner =
+    if int_eq (corner_column place corner) column then row_shifted row delta place corner else Some corner
+image_of (kind.RowMove sheet row delta) place corner = row_stepped row delta place corner
+image_of (kind.ColumnMove sheet column delta) place corner = column_stepped column delta place corner
+image_of kind.None place corner = Some corner
 
 -- a node with this sheet name, in a formula of the sheet `own`, stands on the displaced sheet
 unfoldable pub is_reached : List ℕ → DisplaceData → Option (List ℕ) → Bool
@@ -63,20 +89,9 @@ is_spared (kind.RowMove sheet row delta) rows columns = rows
 is_spared (kind.ColumnMove sheet column delta) rows columns = columns
 is_spared kind.None rows columns = true
 
--- the corner with the same marks at a place, if there is one
-abbrev pub corner_of : Position → Corner → Option Position → Option Corner
-corner_of place corner None = None
-corner_of place corner (Some target) = Some (corner_to place corner.absolute_row corner.absolute_column target)
-
--- where a cell goes that there may be
-abbrev pub image_at : DisplaceData → Option Position → Option Position
-image_at displacement None = None
-image_at displacement (Some target) = image_of displacement target
-
--- an exposed corner goes where its cell goes. One that lies outside the sheet is lost, and any other corner stays
-unfoldable pub displaced_corner : Position → DisplaceData → Bool → Corner → Option Corner
-displaced_corner place displacement exposed corner =
-    if exposed then corner_of place corner (image_at displacement (corner_at place corner)) else Some corner
+-- an exposed corner goes to its image, and any other stays
+abbrev pub displaced_corner : Position → DisplaceData → Bool → Corner → Option Corner
+displaced_corner place displacement exposed corner = if exposed then image_of displacement place corner else Some corner
 
 -- a range is exposed where it stands on the displaced sheet and isn't spared
 unfoldable pub is_exposed : List ℕ → DisplaceData → Option (List ℕ) → Corner → Corner → Bool

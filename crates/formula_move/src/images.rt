@@ -1,80 +1,113 @@
 ghost use Rattle.std.specs.Prelude.{◌≡◌, IfSome, pos};
 ghost use Rattle.base_values.specs.Places.{IsRow, IsColumn, IsPlace};
-ghost use Rattle.formula_move.specs.Displace.{with_row, with_column, row_shifted, column_shifted, image_of, is_reached, is_spared, corner_of, displaced_corner, is_exposed, image_at};
-ghost use Rattle.formula_tree.specs.Corners as corners;
+ghost use Rattle.formula_move.specs.Displace.{on_row, on_column, to_row, to_column, row_shifted, column_shifted, row_stepped, column_stepped, image_of, is_reached, is_spared, displaced_corner, is_exposed};
 
 use crate::displace_data::DisplaceData;
 use crate::lines::{shifted, stepped};
 use base_shared::Shared;
 use base_values::{LAST_COLUMN, LAST_ROW, Position, Text};
-use formula_tree::{Corner, corner_at, corner_to, is_on_sheet, is_whole_columns, is_whole_rows};
+use formula_tree::{
+    Corner, corner_column, corner_row, is_on_sheet, is_whole_columns, is_whole_rows,
+};
 
-fn with_row(place: Position, row: Option<i32>) -> Option<Position>
+/// The corner that stands on this row, with its marks and on its column.
+fn on_row(place: Position, corner: Corner, row: i32) -> Corner
+    requires place { IsPlace place }
+    requires row { IsRow row }
+    ensures { result ≡ on_row place corner row }
+{
+    let row = if corner.absolute_row { row } else { row - place.row };
+    Corner { row, ..corner }
+}
+
+/// The corner that stands on this column, with its marks and on its row.
+fn on_column(place: Position, corner: Corner, column: i32) -> Corner
+    requires place { IsPlace place }
+    requires column { IsColumn column }
+    ensures { result ≡ on_column place corner column }
+{
+    let column = if corner.absolute_column {
+        column
+    } else {
+        column - place.column
+    };
+    Corner { column, ..corner }
+}
+
+fn to_row(place: Position, corner: Corner, row: Option<i32>) -> Option<Corner>
     requires place { IsPlace place }
     requires row { IfSome row IsRow }
-    ensures at { result ≡ with_row place row }
-    ensures inside { IfSome result IsPlace }
+    ensures { result ≡ to_row place corner row }
 {
     match row {
-        Some(row) => Some(Position {
-            row,
-            column: place.column,
-        }),
+        Some(row) => Some(on_row(place, corner, row)),
         None => None,
     }
 }
 
-fn with_column(place: Position, column: Option<i32>) -> Option<Position>
+fn to_column(place: Position, corner: Corner, column: Option<i32>) -> Option<Corner>
     requires place { IsPlace place }
     requires column { IfSome column IsColumn }
-    ensures at { result ≡ with_column place column }
-    ensures inside { IfSome result IsPlace }
+    ensures { result ≡ to_column place corner column }
 {
     match column {
-        Some(column) => Some(Position {
-            row: place.row,
-            column,
-        }),
+        Some(column) => Some(on_column(place, corner, column)),
         None => None,
     }
 }
 
-fn row_shifted(row: i32, delta: i32, place: Position) -> Option<Position>
+fn row_shifted(row: i32, delta: i32, place: Position, corner: Corner) -> Option<Corner>
     requires { IsPlace place }
-    ensures at { result ≡ row_shifted row delta place }
-    ensures inside { IfSome result IsPlace }
+    ensures { result ≡ row_shifted row delta place corner }
 {
-    with_row(place, shifted(LAST_ROW, row, delta, place.row))
+    let image = shifted(LAST_ROW, row, delta, corner_row(place, corner));
+    to_row(place, corner, image)
 }
 
-fn column_shifted(column: i32, delta: i32, place: Position) -> Option<Position>
+fn column_shifted(column: i32, delta: i32, place: Position, corner: Corner) -> Option<Corner>
     requires { IsPlace place }
-    ensures at { result ≡ column_shifted column delta place }
-    ensures inside { IfSome result IsPlace }
+    ensures { result ≡ column_shifted column delta place corner }
 {
-    with_column(place, shifted(LAST_COLUMN, column, delta, place.column))
+    let image = shifted(LAST_COLUMN, column, delta, corner_column(place, corner));
+    to_column(place, corner, image)
 }
 
-/// Where a cell of the displaced sheet goes. `None` where it is lost or leaves the sheet.
+fn row_stepped(row: i32, delta: i32, place: Position, corner: Corner) -> Option<Corner>
+    requires { IsPlace place }
+    ensures { result ≡ row_stepped row delta place corner }
+{
+    let image = stepped(LAST_ROW, row, delta, corner_row(place, corner));
+    to_row(place, corner, image)
+}
+
+fn column_stepped(column: i32, delta: i32, place: Position, corner: Corner) -> Option<Corner>
+    requires { IsPlace place }
+    ensures { result ≡ column_stepped column delta place corner }
+{
+    let image = stepped(LAST_COLUMN, column, delta, corner_column(place, corner));
+    to_column(place, corner, image)
+}
+
+/// Where an exposed corner of a formula at `place` goes: along the displaced axis to the image of its
+/// line, wherever it stands. `None` where its line is lost, leaves the sheet or is none of it.
 #[tactic(auto, unfolding(crate::specs::Displace::image_of))]
-fn image_of(displacement: &DisplaceData<'_>, place: Position) -> Option<Position>
+fn image_of(displacement: &DisplaceData<'_>, place: Position, corner: Corner) -> Option<Corner>
     requires { IsPlace place }
-    ensures at { result ≡ image_of displacement.now place }
-    ensures inside { IfSome result IsPlace }
+    ensures { result ≡ image_of displacement.now place corner }
 {
     match *displacement {
-        DisplaceData::Column { column, delta, .. } => column_shifted(column, delta, place),
-        DisplaceData::Row { row, delta, .. } => row_shifted(row, delta, place),
+        DisplaceData::Column { column, delta, .. } => column_shifted(column, delta, place, corner),
+        DisplaceData::Row { row, delta, .. } => row_shifted(row, delta, place, corner),
         DisplaceData::CellHorizontal {
             row,
             column,
             delta,
             ..
         } => {
-            if place.row == row {
-                column_shifted(column, delta, place)
+            if corner_row(place, corner) == i64::from(row) {
+                column_shifted(column, delta, place, corner)
             } else {
-                Some(place)
+                Some(corner)
             }
         }
         DisplaceData::CellVertical {
@@ -83,19 +116,17 @@ fn image_of(displacement: &DisplaceData<'_>, place: Position) -> Option<Position
             delta,
             ..
         } => {
-            if place.column == column {
-                row_shifted(row, delta, place)
+            if corner_column(place, corner) == i64::from(column) {
+                row_shifted(row, delta, place, corner)
             } else {
-                Some(place)
+                Some(corner)
             }
         }
-        DisplaceData::RowMove { row, delta, .. } => {
-            with_row(place, stepped(LAST_ROW, row, delta, place.row))
-        }
+        DisplaceData::RowMove { row, delta, .. } => row_stepped(row, delta, place, corner),
         DisplaceData::ColumnMove { column, delta, .. } => {
-            with_column(place, stepped(LAST_COLUMN, column, delta, place.column))
+            column_stepped(column, delta, place, corner)
         }
-        DisplaceData::None => Some(place),
+        DisplaceData::None => Some(corner),
     }
 }
 
@@ -129,7 +160,7 @@ fn is_spared(displacement: &DisplaceData<'_>, rows: bool, columns: bool) -> bool
     }
 }
 
-/// Whether the corners of a range go where their cells go.
+/// Whether the corners of a range go where their lines go.
 #[tactic(auto, unfolding(crate::specs::Displace::is_exposed))]
 pub fn is_exposed(
     own: &str,
@@ -147,31 +178,7 @@ pub fn is_exposed(
     is_reached(own, displacement, name) && !is_spared(displacement, rows, columns)
 }
 
-/// The corner with the same marks at a place.
-fn corner_of(place: Position, corner: Corner, target: Option<Position>) -> Option<Corner>
-    requires place { IsPlace place }
-    requires target { IfSome target IsPlace }
-    ensures { result ≡ corner_of place corner target }
-{
-    match target {
-        Some(target) => Some(corner_to(place, corner.absolute_row, corner.absolute_column, target)),
-        None => None,
-    }
-}
-
-/// Where the cell goes on which a corner stands.
-fn target_of(place: Position, displacement: &DisplaceData<'_>, corner: Corner) -> Option<Position>
-    ensures at { result ≡ image_at displacement.now (corners.corner_at place corner) }
-    ensures inside { IfSome result IsPlace }
-{
-    match corner_at(place, corner) {
-        Some(target) => image_of(displacement, target),
-        None => None,
-    }
-}
-
-/// Where a corner of a formula at a place goes: an exposed one where its cell goes.
-#[tactic(auto, unfolding(crate::specs::Displace::displaced_corner))]
+/// Where a corner of a formula at a place goes. One that is not exposed stays.
 pub fn displaced_corner(
     place: Position,
     displacement: &DisplaceData<'_>,
@@ -181,8 +188,9 @@ pub fn displaced_corner(
     requires { IsPlace place }
     ensures { result ≡ displaced_corner place displacement.now exposed corner }
 {
-    if !exposed {
-        return Some(corner);
+    if exposed {
+        image_of(displacement, place, corner)
+    } else {
+        Some(corner)
     }
-    corner_of(place, corner, target_of(place, displacement, corner))
 }

@@ -1,6 +1,6 @@
-ghost use Rattle.std.specs.Prelude.{◌≡◌, IfSome, IsTrue};
+ghost use Rattle.std.specs.Prelude.{◌≡◌, IfSome};
 ghost use Rattle.base_values.specs.Places.{IsLine};
-ghost use Rattle.formula_move.specs.Lines.{within, shifted, stepped};
+ghost use Rattle.formula_move.specs.Lines.{within, goes_on, steps, shifted, stepped};
 
 /// A line where it is one of an axis that ends at `last`.
 #[tactic(auto, unfolding(crate::specs::Lines::within))]
@@ -14,42 +14,61 @@ fn within(last: i32, line: i64) -> Option<i32>
     Some(line as i32)
 }
 
-/// Where a line goes when the lines from `first` on go on by `delta`. Where that is less than 0,
-/// the lines from `first` to `first - delta - 1` are lost.
-#[tactic(auto, unfolding(crate::specs::Lines::shifted))]
-pub fn shifted(last: i32, first: i32, delta: i32, line: i32) -> Option<i32>
-    ensures line { result ≡ shifted last first delta line }
+/// Where a line of the axis goes when the lines from `first` on go on by `delta`.
+#[tactic(auto, unfolding(crate::specs::Lines::goes_on))]
+fn goes_on(last: i32, first: i32, delta: i32, line: i32) -> Option<i32>
+    requires { IsLine last line }
+    ensures line { result ≡ goes_on last first delta line }
     ensures inside { IfSome result (IsLine last) }
 {
-    let (line, first, delta) = (i64::from(line), i64::from(first), i64::from(delta));
-    if line < first {
-        within(last, line)
-    } else if line < first - delta {
+    let (from, first, delta) = (i64::from(line), i64::from(first), i64::from(delta));
+    if from < first {
+        Some(line)
+    } else if from < first - delta {
         None
     } else {
-        within(last, line + delta)
+        within(last, from + delta)
     }
 }
 
-/// Where a line goes when the line `moved` goes on by `delta`: each line that it passes goes one
-/// line the other way.
-pub fn stepped(last: i32, moved: i32, delta: i32, line: i32) -> Option<i32>
+/// Where a line of the axis goes when the line `moved` goes on by `delta`.
+fn steps(last: i32, moved: i32, delta: i32, line: i32) -> Option<i32>
+    requires { IsLine last line }
+    ensures line { result ≡ steps last moved delta line }
+    ensures inside { IfSome result (IsLine last) }
+{
+    let (from, moved, delta) = (i64::from(line), i64::from(moved), i64::from(delta));
+    let target = moved + delta;
+    if from == moved {
+        return within(last, target);
+    }
+    if moved < from {
+        if from <= target {
+            return within(last, from - 1);
+        }
+        return Some(line);
+    }
+    if target <= from {
+        return within(last, from + 1);
+    }
+    Some(line)
+}
+
+/// Where a line goes when the lines of the axis from `first` on go on by `delta`. Where that is less
+/// than 0, the lines from `first` to `first - delta - 1` are lost. `None` for a line that is lost or
+/// leaves the axis, and for a number that is no line of it.
+pub fn shifted(last: i32, first: i32, delta: i32, line: i64) -> Option<i32>
+    ensures line { result ≡ shifted last first delta line }
+    ensures inside { IfSome result (IsLine last) }
+{
+    goes_on(last, first, delta, within(last, line)?)
+}
+
+/// Where a line goes when the line `moved` goes on by `delta`: each line that it passes goes one line
+/// the other way. `None` for a line that leaves the axis, and for a number that is no line of it.
+pub fn stepped(last: i32, moved: i32, delta: i32, line: i64) -> Option<i32>
     ensures line { result ≡ stepped last moved delta line }
     ensures inside { IfSome result (IsLine last) }
 {
-    let (line, moved, delta) = (i64::from(line), i64::from(moved), i64::from(delta));
-    let target = moved + delta;
-    if line == moved {
-        return within(last, target);
-    }
-    if moved < line {
-        if line <= target {
-            return within(last, line - 1);
-        }
-        return within(last, line);
-    }
-    if target <= line {
-        return within(last, line + 1);
-    }
-    within(last, line)
+    steps(last, moved, delta, within(last, line)?)
 }

@@ -12,13 +12,14 @@ use formula_print::to_localized_string;
 use formula_tree::{CellReferenceRC, Node, move_node};
 use std::alloc::Global;
 
-/// The tree of a formula in the cell `context` once the cells that it refers to are displaced, while
-/// it stays in its cell. A corner goes where its cell goes if it stands on the displaced sheet, which
-/// is found by folding its name; without a sheet's name it stands on the formula's own. A range that
-/// takes whole rows or columns along the displaced axis stays, and where single cells are displaced,
-/// one that does so along either. A corner whose cell is lost or leaves the sheet is lost: a reference
-/// becomes `#REF!`, and a range becomes `:` of `#REF!` and its other corner. The corners of ranges are
-/// put in order again, with their `$` marks.
+/// The tree of a formula in the cell `context` once lines or cells are displaced, while the formula
+/// stays in its cell. A corner on the displaced sheet goes along the displaced axis to where its line
+/// goes, and any other corner stays, also one outside the sheet. Sheets are compared by folding their
+/// names; a corner without a name is on the formula's own sheet. A range that is whole along the
+/// displaced axis stays; where single cells are displaced, one that is whole along either axis stays.
+/// A corner whose line is lost, leaves the sheet or is none of it is lost: a reference becomes
+/// `#REF!`, and a range becomes `:` of `#REF!` and its other corner. The corners of ranges are put in
+/// order again, with their `$` marks.
 ///
 /// `NoMemory` is the only error.
 #[tactic(auto, unfolding(crate::specs::Displace::displaced))]

@@ -1,3 +1,5 @@
+ghost use Rattle.formula_move.specs.Same.{TellsSame};
+
 /// How the cells of a sheet are displaced. The sheet is given by its name; rows and columns are
 /// counted from 1.
 #[derive(Clone, Copy, Debug, PartialEq, Eq)]
@@ -46,3 +48,10 @@ pub enum DisplaceData<'a> {
     /// Nothing is displaced.
     None,
 }
+
+/// The law of equality: two displacements are equal where they are of the same kind, of sheets with
+/// the same name, with the same lines and the same delta.
+#[tactic(auto, using(crate::proofs::Sameness::tells_same))]
+pub fn equality_is_of_values()
+    ensures { TellsSame }
+{}

@@ -189,8 +189,7 @@ pub fn displaced_corner(
     ensures { result ≡ displaced_corner place displacement.now exposed corner }
 {
     if exposed {
-        image_of(displacement, place, corner)
-    } else {
-        Some(corner)
+        return image_of(displacement, place, corner);
     }
+    Some(corner)
 }

@@ -11,4 +11,4 @@ mod lines;
 mod tests;
 
 pub use displace::{displace_node, to_string_displaced};
-pub use displace_data::DisplaceData;
+pub use displace_data::{DisplaceData, equality_is_of_values};

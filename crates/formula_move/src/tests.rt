@@ -126,6 +126,8 @@ fn displaces_references(rt: HostRuntime) -> Result<(), Fail> {
         let tree = Node::Reference(None, corner);
         assert_eq!(rt; shown(alloc, tree, by)?.as_str(), text);
     }
+    let moved = displace_node(alloc, &Node::Reference(None, a5), &cell_c5(alloc)?, &rows(3, 2))?;
+    assert!(rt; same(&moved, &Node::Reference(None, relative(2, -2))));
     Ok(())
 }
 
@@ -181,14 +183,5 @@ fn displaces_the_named_sheet(rt: HostRuntime) -> Result<(), Fail> {
     ] {
         assert_eq!(rt; shown_of_data(alloc, sheet, row)?.as_str(), text);
     }
-    Ok(())
-}
-
-#[test]
-fn displaces_trees_with_ample_memory(rt: HostRuntime) -> Result<(), Fail> {
-    let alloc = rt.alloc();
-    let tree = Node::Reference(None, relative(0, -2));
-    let moved = displace_node(alloc, &tree, &cell_c5(alloc)?, &rows(3, 2))?;
-    assert!(rt; same(&moved, &Node::Reference(None, relative(2, -2))));
     Ok(())
 }

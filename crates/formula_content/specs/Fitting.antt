@@ -2,7 +2,7 @@
 use Rattle.std.specs.Prelude.{Bool, true, ◌&&◌}
 use Rattle.base_values.specs.declared.Position.{Position}
 use Rattle.formula_tree.specs.declared.Node.{Node}
-use Rattle.formula_tree.specs.DepthBounds.{is_within}
+use Rattle.formula_tree.specs.Depth.{is_within}
 use Rattle.formula_tree.specs.Numbers.{has_no_negative_number}
 use Rattle.formula_tree.specs.Placed.{is_placed}
 use Rattle.formula_content.specs.declared.content.Content.{Content}

@@ -1,4 +1,3 @@
-pub mod ContentEquals
 pub mod Fitting
-pub mod FittingLaws
 pub mod KeptContent
+pub mod laws

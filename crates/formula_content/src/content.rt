@@ -20,7 +20,7 @@ pub enum Content {
 
 impl Exact for Content {
     ghost use Rattle.std.proofs.Common.{rules};
-    ghost use Rattle.formula_content.specs.ContentEquals.{content_equals};
+    ghost use Rattle.formula_content.specs.laws.ContentEquals.{content_equals};
 
     ghost copies = { λ a b h. Prim.search rules };
 

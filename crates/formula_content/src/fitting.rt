@@ -1,12 +1,12 @@
 ghost use Rattle.std.specs.Prelude.{◌≡◌};
-ghost use Rattle.formula_tree.specs.DepthBounds.{is_within};
+ghost use Rattle.formula_tree.specs.Depth.{is_within};
 ghost use Rattle.formula_content.specs.Fitting.{fits_at, tree_fits_at};
 
 use crate::content::Content;
 use base_values::Position;
 use formula_tree::{MAX_DEPTH, Node, has_no_negative_number, is_at_most_deep, is_placed};
 
-#[tactic(auto, using(std::proofs::lemmas::Bool::Decides::nat_tests), unfolding(formula_tree::specs::DepthBounds::is_within))]
+#[tactic(auto, using(std::proofs::lemmas::Bool::Decides::nat_tests), unfolding(formula_tree::specs::Depth::is_within))]
 fn is_shallow(tree: &Node) -> bool
     ensures { result ≡ is_within 64 tree.now }
 {

@@ -9,8 +9,8 @@ use Rattle.formula_tree.specs.declared.node.Node.TheVariants as n
 use Rattle.formula_tree.specs.declared.operator.UnaryKind.TheVariants as unary
 use Rattle.formula_tree.specs.declared.parameter.Parameter.{Parameter}
 use Rattle.formula_tree.specs.Depth.{depth_of, greatest}
-use Rattle.formula_tree.specs.DepthEquations.{depth_colon, depth_concatenate, depth_compare, depth_sum, depth_product, depth_power, depth_unary, depth_spill, depth_lambda, depth_lambda_call, depth_implicit_intersection}
-use Rattle.formula_tree.specs.DepthLaws.{depth_positive}
+use Rattle.formula_tree.specs.laws.DepthEquations.{depth_colon, depth_concatenate, depth_compare, depth_sum, depth_product, depth_power, depth_unary, depth_spill, depth_lambda, depth_lambda_call, depth_implicit_intersection}
+use Rattle.formula_tree.specs.laws.DepthLaws.{depth_positive}
 use Rattle.formula_grammar.specs.declared.profile.Profile.{Profile}
 use Rattle.formula_grammar.specs.declared.token.Token.{Token}
 use Rattle.formula_grammar.specs.declared.token.Token.TheVariants as t

@@ -11,7 +11,7 @@ use Rattle.formula_tree.specs.declared.node.Node.{Node}
 use Rattle.base_values.specs.declared.Position.{Position}
 use Rattle.formula_tree.specs.Depth.{depth_of, greatest}
 use Rattle.formula_tree.specs.Corners.{lower_corner, higher_corner}
-use Rattle.formula_tree.specs.DepthEquations.{depth_boolean, depth_number, depth_text, depth_reference, depth_range, depth_colon, depth_concatenate, depth_compare, depth_sum, depth_product, depth_power, depth_unary, depth_call, depth_named_call, depth_array, depth_name, depth_error, depth_empty_argument, depth_spill, depth_lambda, depth_lambda_call, depth_implicit_intersection}
+use Rattle.formula_tree.specs.laws.DepthEquations.{depth_boolean, depth_number, depth_text, depth_reference, depth_range, depth_colon, depth_concatenate, depth_compare, depth_sum, depth_product, depth_power, depth_unary, depth_call, depth_named_call, depth_array, depth_name, depth_error, depth_empty_argument, depth_spill, depth_lambda, depth_lambda_call, depth_implicit_intersection}
 use Rattle.formula_grammar.specs.Words.{call_node, called, word_node, worded, range_node}
 use Rattle.formula_grammar.specs.Reading.{made}
 

@@ -16,7 +16,7 @@ use Rattle.formula_tree.specs.declared.numbers.NumberRule.TheVariants as rule
 use Rattle.formula_tree.specs.declared.operator.UnaryKind.TheVariants as unary
 use Rattle.formula_tree.specs.Corners.{lower_corner, higher_corner}
 use Rattle.formula_tree.specs.Numbers.{constant_follows, lines_follow, numbers_follow}
-use Rattle.formula_tree.specs.NumbersEquations.{numbers_boolean, numbers_number, numbers_text, numbers_reference, numbers_range, numbers_colon, numbers_concatenate, numbers_compare, numbers_sum, numbers_product, numbers_power, numbers_unary, numbers_call, numbers_named_call, numbers_array, numbers_name, numbers_error, numbers_empty_argument, numbers_spill, numbers_lambda, numbers_lambda_call, numbers_implicit_intersection}
+use Rattle.formula_tree.specs.laws.NumbersEquations.{numbers_boolean, numbers_number, numbers_text, numbers_reference, numbers_range, numbers_colon, numbers_concatenate, numbers_compare, numbers_sum, numbers_product, numbers_power, numbers_unary, numbers_call, numbers_named_call, numbers_array, numbers_name, numbers_error, numbers_empty_argument, numbers_spill, numbers_lambda, numbers_lambda_call, numbers_implicit_intersection}
 use Rattle.formula_grammar.specs.declared.profile.Profile.{Profile}
 use Rattle.formula_grammar.specs.declared.token.Token.{Token}
 use Rattle.formula_grammar.specs.declared.token.Token.TheVariants as t

@@ -12,10 +12,10 @@ use Rattle.formula_tree.specs.declared.corner.Corner.{Corner}
 use Rattle.formula_tree.specs.declared.node.Node.{Node}
 use Rattle.formula_tree.specs.declared.operator.UnaryKind.TheVariants as unary
 use Rattle.formula_tree.specs.Corners.{corner_column, is_inside, lower_corner, higher_corner}
-use Rattle.formula_tree.specs.CornerLaws.{corner_row-corner_to, corner_column-corner_to}
+use Rattle.formula_tree.specs.laws.CornerLaws.{corner_row-corner_to, corner_column-corner_to}
 use Rattle.formula_tree.specs.Placed.{is_placed}
-use Rattle.formula_tree.specs.PlacedEquations.{placed_boolean, placed_number, placed_text, placed_reference, placed_range, placed_colon, placed_concatenate, placed_compare, placed_sum, placed_product, placed_power, placed_unary, placed_call, placed_named_call, placed_array, placed_name, placed_error, placed_empty_argument, placed_spill, placed_lambda, placed_lambda_call, placed_implicit_intersection}
-use Rattle.formula_tree.specs.PlacedLaws.{ordered_placed}
+use Rattle.formula_tree.specs.laws.PlacedEquations.{placed_boolean, placed_number, placed_text, placed_reference, placed_range, placed_colon, placed_concatenate, placed_compare, placed_sum, placed_product, placed_power, placed_unary, placed_call, placed_named_call, placed_array, placed_name, placed_error, placed_empty_argument, placed_spill, placed_lambda, placed_lambda_call, placed_implicit_intersection}
+use Rattle.formula_tree.specs.laws.PlacedLaws.{ordered_placed}
 use Rattle.formula_grammar.specs.declared.profile.Profile.{Profile}
 use Rattle.formula_grammar.specs.declared.token.CellMark.{CellMark}
 use Rattle.formula_grammar.specs.Words.{call_node, word_node, mark_place, corner_of, range_node}

@@ -11,7 +11,7 @@ use Rattle.formula_tree.specs.declared.operator.ProductKind.{ProductKind}
 use Rattle.formula_tree.specs.declared.operator.SumKind.{SumKind}
 use Rattle.formula_tree.specs.declared.operator.UnaryKind.TheVariants as unary
 use Rattle.formula_tree.specs.Depth.{depth_of}
-use Rattle.formula_tree.specs.DepthEquations.{depth_number, depth_text, depth_reference, depth_error, depth_array, depth_empty_argument}
+use Rattle.formula_tree.specs.laws.DepthEquations.{depth_number, depth_text, depth_reference, depth_error, depth_array, depth_empty_argument}
 use Rattle.formula_grammar.specs.declared.profile.Profile.{Profile}
 use Rattle.formula_grammar.specs.declared.token.CellMark.{CellMark}
 use Rattle.formula_grammar.specs.declared.token.Token.{Token}

@@ -1,8 +1,8 @@
 -- How often a chain goes on is bounded by the depth of its tree.
 use Rattle.std.proofs.Common.{ℕ, suc, ◌<◌, arith}
 use Rattle.formula_tree.specs.Depth.{depth_of}
-use Rattle.formula_tree.specs.DepthEquations.{depth_colon, depth_concatenate, depth_compare, depth_sum, depth_product, depth_power, depth_unary, depth_spill, depth_lambda_call}
-use Rattle.formula_tree.specs.DepthLaws.{depth_positive}
+use Rattle.formula_tree.specs.laws.DepthEquations.{depth_colon, depth_concatenate, depth_compare, depth_sum, depth_product, depth_power, depth_unary, depth_spill, depth_lambda_call}
+use Rattle.formula_tree.specs.laws.DepthLaws.{depth_positive}
 use Rattle.formula_tree.specs.declared.operator.UnaryKind.TheVariants as unary
 use Rattle.formula_grammar.specs.declared.profile.Profile.{Profile}
 use Rattle.formula_grammar.specs.Grammar as G

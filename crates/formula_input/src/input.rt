@@ -42,7 +42,7 @@ fn text_content(alloc: Global, text: &str) -> Result<Content, EditError>
 }
 
 /// The formula whose text, without its equals sign, is given.
-#[tactic(auto, unfolding(formula_content::specs::Fitting::tree_fits_at, formula_tree::specs::DepthBounds::is_within))]
+#[tactic(auto, unfolding(formula_content::specs::Fitting::tree_fits_at, formula_tree::specs::Depth::is_within))]
 fn formula_content(
     alloc: Global,
     text: &str,

@@ -16,7 +16,11 @@ fn on_row(place: Position, corner: Corner, row: i32) -> Corner
     requires row { IsRow row }
     ensures { result ≡ on_row place corner row }
 {
-    let row = if corner.absolute_row { row } else { row - place.row };
+    let row = if corner.absolute_row {
+        row
+    } else {
+        row - place.row
+    };
     Corner { row, ..corner }
 }
 

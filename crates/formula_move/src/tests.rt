@@ -126,7 +126,12 @@ fn displaces_references(rt: HostRuntime) -> Result<(), Fail> {
         let tree = Node::Reference(None, corner);
         assert_eq!(rt; shown(alloc, tree, by)?.as_str(), text);
     }
-    let moved = displace_node(alloc, &Node::Reference(None, a5), &cell_c5(alloc)?, &rows(3, 2))?;
+    let moved = displace_node(
+        alloc,
+        &Node::Reference(None, a5),
+        &cell_c5(alloc)?,
+        &rows(3, 2),
+    )?;
     assert!(rt; same(&moved, &Node::Reference(None, relative(2, -2))));
     Ok(())
 }

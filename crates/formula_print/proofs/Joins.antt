@@ -9,7 +9,7 @@ use Rattle.base_tables.specs.declared.Locale.{Locale}
 use Rattle.base_tables.specs.Locale.{argument_separator}
 use Rattle.formula_tree.specs.declared.Node.{Node}
 use Rattle.formula_tree.specs.declared.Node.TheVariants as node
-use Rattle.formula_print.specs.PrintEquations.{printed_empty_argument}
+use Rattle.formula_print.specs.laws.PrintEquations.{printed_empty_argument}
 use Rattle.formula_print.specs.declared.style.Style.{Style}
 use Rattle.formula_print.specs.Print.{Printed, printed, text_of, later_argument, arguments_text, separator_before}
 

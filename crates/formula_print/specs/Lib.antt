@@ -2,8 +2,7 @@ pub mod Kinds
 pub mod References
 pub mod Pieces
 pub mod Print
-pub mod PrintEquations
 pub mod Forms
 pub mod FirstPlaces
 pub mod Scope
-pub mod ScopeEquations
+pub mod laws

@@ -26,7 +26,7 @@ fn unary_kind(kind: UnaryKind) -> Kind
 }
 
 /// What the rules of parentheses see of the tree.
-#[tactic(auto, using(crate::specs::PrintEquations::prints))]
+#[tactic(auto, using(crate::specs::laws::PrintEquations::prints))]
 fn kind_of(node: &Node) -> Kind
     ensures { (style : AnyStyle) → result ≡ (spec.printed style node.now).kind }
 {
@@ -59,7 +59,7 @@ fn kind_of(node: &Node) -> Kind
 
 /// Whether the text begins with a cell without a sheet, where the tree stands on the right of `:`.
 #[cycle(first)]
-#[tactic(auto, using(crate::specs::PrintEquations::prints))]
+#[tactic(auto, using(crate::specs::laws::PrintEquations::prints))]
 fn begins_with_cell(style: Style, node: &Node) -> bool
     ensures { result ≡ (spec.printed style node.now).cell_first }
 {
@@ -111,7 +111,7 @@ macro_rules! print_infix {
 
 /// Writes the text of a tree at the end.
 #[cycle(print)]
-#[tactic(auto, using(crate::specs::PrintEquations::prints, crate::proofs::Joins::nothing_added, crate::proofs::Joins::pieces))]
+#[tactic(auto, using(crate::specs::laws::PrintEquations::prints, crate::proofs::Joins::nothing_added, crate::proofs::Joins::pieces))]
 pub(crate) fn print_node(style: Style, node: &Node, out: &mut String) -> Result<(), AllocError>
     ensures { OnOk result (string_bytes out.new ≡ string_bytes out.old ++ spec.text_of style node.now) }
 {

@@ -25,7 +25,7 @@ fn is_name_place(is_turn: bool, at: usize, count: usize) -> bool
 
 /// A tree as Excel stores it, with the marks of bound names.
 #[cycle(store)]
-#[tactic(auto, using(crate::specs::ScopeEquations::stores))]
+#[tactic(auto, using(crate::specs::laws::ScopeEquations::stores))]
 pub(crate) fn stored(node: &Node, scope: &mut Scope) -> Result<Node, AllocError>
     ensures tree { IfOk result (λ tree. tree ≡ spec.stored scope.old node.now) }
     ensures scope { OnOk result (scope.new ≡ scope.old) }
@@ -164,7 +164,7 @@ fn stored_all(nodes: &Items<Node>, scope: &mut Scope) -> Result<Items<Node>, All
 
 /// What stands in the place of a name of `LET`; a name is bound from there on.
 #[cycle(store)]
-#[tactic(auto, using(crate::specs::ScopeEquations::declarations))]
+#[tactic(auto, using(crate::specs::laws::ScopeEquations::declarations))]
 fn place(node: &Node, scope: &mut Scope) -> Result<Node, AllocError>
     ensures tree { IfOk result (λ tree. tree ≡ spec.place_of scope.old (spec.declares node.now) (λ inner. spec.stored inner node.now)) }
     ensures scope { OnOk result (scope.new ≡ spec.bind_place scope.old (spec.declares node.now)) }

@@ -6,8 +6,9 @@ use Rattle.std.specs.Str.{chars}
 use Rattle.formula_tree.specs.declared.Node.{Node}
 use Rattle.formula_tree.specs.declared.Node.TheVariants.{ParseError}
 use Rattle.formula_tree.specs.Depth.{depth_of}
-use Rattle.formula_tree.specs.DepthEquations.{depth_parse_error}
-use Rattle.formula_tree.specs.ParseError.{is_parse_error, parse_error_parse_error}
+use Rattle.formula_tree.specs.laws.DepthEquations.{depth_parse_error}
+use Rattle.formula_tree.specs.laws.ParseErrorEquations.{parse_error_parse_error}
+use Rattle.formula_tree.specs.ParseError.{is_parse_error}
 use Rattle.formula_grammar.specs.declared.Profile.{Profile}
 use Rattle.formula_grammar.specs.declared.Token.{Token}
 use Rattle.formula_grammar.specs.Grammar.{Derives}

@@ -1,5 +1,5 @@
 -- How deep a tree is.
-use Rattle.std.specs.Prelude.{ℕ, ◌+◌, max, List, [], ◌∷◌}
+use Rattle.std.specs.Prelude.{ℕ, ◌+◌, max, Bool, nat_le, List, [], ◌∷◌}
 use Rattle.formula_tree.specs.declared.node.Node.{Node, fold-Node}
 use Rattle.formula_tree.specs.declared.node.Node.TheOpen.{Node-F}
 use Rattle.formula_tree.specs.declared.node.Node.TheOpen as layer
@@ -38,3 +38,7 @@ layer_depth (layer.ImplicitIntersection a) = a + 1
 -- how deep a tree is
 unfoldable pub depth_of : Node → ℕ
 depth_of = fold-Node ℕ layer_depth
+
+-- a tree is at most this deep
+unfoldable pub is_within : ℕ → Node → Bool
+is_within most n = nat_le (depth_of n) most

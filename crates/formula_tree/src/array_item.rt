@@ -13,7 +13,7 @@ pub enum ArrayItem {
 
 impl Exact for ArrayItem {
     ghost use Rattle.std.proofs.Common.{rules};
-    ghost use Rattle.formula_tree.specs.Equals.{array_item_equals};
+    ghost use Rattle.formula_tree.specs.laws.Equals.{array_item_equals};
 
     ghost copies = { λ a b h. Prim.search rules };
 

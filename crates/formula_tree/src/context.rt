@@ -14,7 +14,7 @@ pub struct CellReferenceRC {
 
 impl Exact for CellReferenceRC {
     ghost use Rattle.std.proofs.Common.{rules};
-    ghost use Rattle.formula_tree.specs.Equals.{context_equals};
+    ghost use Rattle.formula_tree.specs.laws.Equals.{context_equals};
 
     ghost copies = { λ a b h. Prim.search rules };
 

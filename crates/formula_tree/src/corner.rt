@@ -16,7 +16,7 @@ pub struct Corner {
 
 impl Exact for Corner {
     ghost use Rattle.std.proofs.Common.{rules};
-    ghost use Rattle.formula_tree.specs.Equals.{corner_equals};
+    ghost use Rattle.formula_tree.specs.laws.Equals.{corner_equals};
 
     ghost copies = { λ a b h. Prim.search rules };
 

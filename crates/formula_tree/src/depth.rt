@@ -1,7 +1,6 @@
 ghost use Rattle.std.specs.Prelude.{◌≡◌, ◌+◌, ◌≤◌, IsTrue, ◌↔◌};
 ghost use Rattle.std.specs.List.{list_all};
-ghost use Rattle.formula_tree.specs.Depth.{depth_of};
-ghost use Rattle.formula_tree.specs.DepthBounds.{is_within};
+ghost use Rattle.formula_tree.specs.Depth.{depth_of, is_within};
 
 use crate::node::Node;
 use base_values::Items;
@@ -18,7 +17,7 @@ pub fn is_at_most_deep(node: &Node, most: u64) -> bool
 }
 
 #[cycle(depth)]
-#[tactic(auto, using(crate::specs::DepthBounds::within_nothing))]
+#[tactic(auto, using(crate::specs::laws::DepthBounds::within_nothing))]
 fn is_within(node: &Node, most: u64) -> bool
     ensures { result ≡ is_within most node.now }
 {
@@ -30,7 +29,7 @@ fn is_within(node: &Node, most: u64) -> bool
 
 /// Whether a tree is at most one deeper than this.
 #[cycle(depth)]
-#[tactic(auto, using(crate::specs::DepthBounds::bounds))]
+#[tactic(auto, using(crate::specs::laws::DepthBounds::bounds))]
 fn has_room(node: &Node, rest: u64) -> bool
     ensures { result ≡ is_within (rest + 1) node.now }
 {

@@ -84,7 +84,7 @@ fn range_to(
 /// becomes `:` of `#REF!` and the other corner as a reference with its sheet, in their order, and of
 /// `#REF!` and `#REF!` where both are lost.
 #[cycle(moving)]
-#[tactic(auto, using(crate::specs::MovedEquations::moves))]
+#[tactic(auto, using(crate::specs::laws::MovedEquations::moves))]
 pub fn move_node<M: CornerMap>(
     alloc: Global,
     node: &Node,

@@ -75,7 +75,7 @@ fn lines_follow(lines: &Items<Items<ArrayItem>>, rule: NumberRule) -> bool
 
 /// Whether the numbers of a tree follow a rule.
 #[cycle(numbers)]
-#[tactic(auto, using(crate::specs::NumbersEquations::numberings))]
+#[tactic(auto, using(crate::specs::laws::NumbersEquations::numberings))]
 fn numbers_follow(node: &Node, rule: NumberRule) -> bool
     ensures { result ≡ numbers_follow rule node.now }
 {

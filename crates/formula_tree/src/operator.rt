@@ -19,7 +19,7 @@ pub enum CompareKind {
 
 impl Exact for CompareKind {
     ghost use Rattle.std.proofs.Common.{rules};
-    ghost use Rattle.formula_tree.specs.Equals.{compare_kind_equals};
+    ghost use Rattle.formula_tree.specs.laws.Equals.{compare_kind_equals};
 
     ghost copies = { λ a b h. Prim.search rules };
 
@@ -37,7 +37,7 @@ pub enum SumKind {
 
 impl Exact for SumKind {
     ghost use Rattle.std.proofs.Common.{rules};
-    ghost use Rattle.formula_tree.specs.Equals.{sum_kind_equals};
+    ghost use Rattle.formula_tree.specs.laws.Equals.{sum_kind_equals};
 
     ghost copies = { λ a b h. Prim.search rules };
 
@@ -55,7 +55,7 @@ pub enum ProductKind {
 
 impl Exact for ProductKind {
     ghost use Rattle.std.proofs.Common.{rules};
-    ghost use Rattle.formula_tree.specs.Equals.{product_kind_equals};
+    ghost use Rattle.formula_tree.specs.laws.Equals.{product_kind_equals};
 
     ghost copies = { λ a b h. Prim.search rules };
 
@@ -73,7 +73,7 @@ pub enum UnaryKind {
 
 impl Exact for UnaryKind {
     ghost use Rattle.std.proofs.Common.{rules};
-    ghost use Rattle.formula_tree.specs.Equals.{unary_kind_equals};
+    ghost use Rattle.formula_tree.specs.laws.Equals.{unary_kind_equals};
 
     ghost copies = { λ a b h. Prim.search rules };
 

@@ -10,7 +10,7 @@ pub struct Parameter {
 
 impl Exact for Parameter {
     ghost use Rattle.std.proofs.Common.{rules};
-    ghost use Rattle.formula_tree.specs.Equals.{parameter_equals};
+    ghost use Rattle.formula_tree.specs.laws.Equals.{parameter_equals};
 
     ghost copies = { λ a b h. Prim.search rules };
 

@@ -4,7 +4,7 @@ ghost use Rattle.formula_tree.specs.ParseError.{is_parse_error};
 use crate::node::Node;
 
 /// Whether a tree is a text that is no formula.
-#[tactic(auto, using(crate::specs::ParseError::parse_errors))]
+#[tactic(auto, using(crate::specs::laws::ParseErrorEquations::parse_errors))]
 pub fn is_parse_error(node: &Node) -> bool
     ensures { result ≡ is_parse_error node.now }
 {

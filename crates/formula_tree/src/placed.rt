@@ -17,7 +17,7 @@ fn is_placed_range(place: Position, first: Corner, second: Corner) -> bool
 /// Whether in a formula at a place each corner lies inside the sheet and the corners of each range
 /// are in order.
 #[cycle(placed)]
-#[tactic(auto, using(crate::specs::PlacedEquations::placings))]
+#[tactic(auto, using(crate::specs::laws::PlacedEquations::placings))]
 pub fn is_placed(node: &Node, place: Position) -> bool
     ensures { result ≡ is_placed place node.now }
 {

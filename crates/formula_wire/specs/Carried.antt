@@ -8,7 +8,7 @@ use Rattle.formula_tree.specs.declared.Parameter.{Parameter}
 use Rattle.formula_tree.specs.declared.Node.{Node, fold-Node}
 use Rattle.formula_tree.specs.declared.Node.TheOpen.{Node-F}
 use Rattle.formula_tree.specs.declared.Node.TheOpen as layer
-use Rattle.formula_tree.specs.DepthBounds.{is_within}
+use Rattle.formula_tree.specs.Depth.{is_within}
 use Rattle.formula_tree.specs.Numbers.{has_kept_numbers}
 use Rattle.base_wire.specs.laws.Form.{if_passes, is_text, is_list}
 

@@ -1,7 +1,7 @@
 -- The bytes of trees by sheet and place: those of one map from both.
 use Rattle.std.specs.Prelude.{ℕ, ◌^◌, List, length, Option, Some, None, nat_lt, if◌then◌else◌, IfSome, IsTrue}
 use Rattle.formula_tree.specs.Numbers.{has_kept_numbers}
-use Rattle.formula_tree.specs.DepthBounds.{is_within}
+use Rattle.formula_tree.specs.Depth.{is_within}
 use Rattle.std.specs.Ordering.{nat_cmp}
 use Rattle.std.specs.declared.cmp.Ordering.{Ordering}
 use Rattle.std.specs.FinMap.{FinMap, get}

@@ -9,7 +9,7 @@ use Rattle.base_values.specs.Places.{position_cmp, IsPlace}
 use Rattle.base_values.specs.laws.Places.{position_total}
 use Rattle.formula_tree.specs.declared.Node.{Node}
 use Rattle.formula_tree.specs.Numbers.{has_kept_numbers}
-use Rattle.formula_tree.specs.DepthBounds.{is_within}
+use Rattle.formula_tree.specs.Depth.{is_within}
 use Rattle.sheet_grid.specs.declared.Cell.{Cell}
 use Rattle.sheet_grid.specs.KeptCell.{IsKeptCell}
 use Rattle.sheet_lines.specs.declared.kept.KeptLines.{KeptLines}

@@ -249,7 +249,7 @@ impl Part for ColumnAttr {
 
 impl Part for Node {
     ghost use Rattle.std.specs.Prelude.{IsTrue};
-    ghost use Rattle.formula_tree.specs.DepthBounds.{is_within};
+    ghost use Rattle.formula_tree.specs.Depth.{is_within};
     ghost use Rattle.formula_tree.specs.Numbers.{has_kept_numbers};
     ghost use Rattle.formula_wire.specs.NodeBytes.{spell_node, node_at};
     ghost use Rattle.formula_wire.specs.Carried.{FitsNode};

@@ -7,9 +7,9 @@ use Rattle.base_values.specs.Places.{IsRow, IsColumn, IsPlace, is_line}
 use Rattle.base_axis.specs.Along.{Along, IsAxis}
 use Rattle.formula_tree.specs.declared.Corner.{Corner}
 use Rattle.formula_tree.specs.Corners.{corner_row, corner_column, is_inside, corner_at}
-use Rattle.formula_tree.specs.CornerLaws.{corner_row-corner_to, corner_column-corner_to}
+use Rattle.formula_tree.specs.laws.CornerLaws.{corner_row-corner_to, corner_column-corner_to}
 use Rattle.formula_tree.specs.Placed.{is_placed}
-use Rattle.formula_tree.specs.PlacedLaws.{placed-moved}
+use Rattle.formula_tree.specs.laws.PlacedLaws.{placed-moved}
 use Rattle.line_map.specs.declared.edit.EditKind.{EditKind}
 use Rattle.line_map.specs.declared.tree_at.TreeAt.{TreeAt}
 use Rattle.line_map.specs.Places.{place_inside}

@@ -8,10 +8,10 @@ use Rattle.base_axis.specs.Along.{Along, IsAxis}
 use Rattle.formula_tree.specs.declared.Corner.{Corner}
 use Rattle.formula_tree.specs.declared.Node.{Node}
 use Rattle.formula_tree.specs.Corners.{corner_row, corner_column, is_inside, corner_at}
-use Rattle.formula_tree.specs.CornerLaws.{corner_row-corner_to, corner_column-corner_to}
+use Rattle.formula_tree.specs.laws.CornerLaws.{corner_row-corner_to, corner_column-corner_to}
 use Rattle.formula_tree.specs.Moved.{moved}
 use Rattle.formula_tree.specs.Placed.{is_placed}
-use Rattle.formula_tree.specs.PlacedLaws.{placed-moved}
+use Rattle.formula_tree.specs.laws.PlacedLaws.{placed-moved}
 use Rattle.line_map.specs.declared.EditKind.{EditKind}
 use Rattle.line_map.specs.Places.{place_inside}
 use Rattle.line_map.specs.Trees.{image_from, corner_of, target, following}

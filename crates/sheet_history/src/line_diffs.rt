@@ -8,7 +8,7 @@ ghost use Rattle.base_values.specs.Answers.{Edits};
 ghost use Rattle.base_values.specs.Places.{is_line};
 ghost use Rattle.base_values.specs.declared.Position.{Position};
 ghost use Rattle.formula_content.specs.Fitting.{tree_fits_at};
-ghost use Rattle.formula_tree.specs.DepthBounds.{is_within};
+ghost use Rattle.formula_tree.specs.Depth.{is_within};
 ghost use Rattle.line_map.specs.Edit.{IsValid, IsWithin, opposite_of};
 ghost use Rattle.line_map.specs.Places.{place_image};
 ghost use Rattle.sheet_grid.specs.declared.Cell.{Cell};
@@ -148,7 +148,7 @@ fn cells_fit(cells: &PlaceMap<Cell>) -> bool
         .all(|(place, cell)| fits_at(*place, &cell.content))
 }
 
-#[tactic(auto, using(std::proofs::lemmas::Bool::Decides::nat_tests), unfolding(formula_tree::specs::DepthBounds::is_within))]
+#[tactic(auto, using(std::proofs::lemmas::Bool::Decides::nat_tests), unfolding(formula_tree::specs::Depth::is_within))]
 fn is_shallow(tree: &Node) -> bool
     ensures { result ≡ is_within 64 tree.now }
 {

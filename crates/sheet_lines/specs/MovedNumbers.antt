@@ -7,13 +7,13 @@ use Rattle.base_tables.specs.declared.Error.TheVariants.{Ref}
 use Rattle.formula_tree.specs.declared.Corner.{Corner}
 use Rattle.formula_tree.specs.declared.Node.{Node}
 use Rattle.formula_tree.specs.declared.Node.TheVariants as node
-use Rattle.formula_tree.specs.Induction.{induct}
+use Rattle.formula_tree.specs.laws.Induction.{induct}
 use Rattle.formula_tree.specs.Corners.{lower_corner, higher_corner}
 use Rattle.formula_tree.specs.declared.numbers.NumberRule.{NumberRule}
 use Rattle.formula_tree.specs.Numbers.{numbers_follow}
-use Rattle.formula_tree.specs.NumbersEquations.{numbers_reference, numbers_range, numbers_colon, numbers_concatenate, numbers_compare, numbers_sum, numbers_product, numbers_power, numbers_unary, numbers_call, numbers_named_call, numbers_error, numbers_spill, numbers_lambda, numbers_lambda_call, numbers_implicit_intersection}
+use Rattle.formula_tree.specs.laws.NumbersEquations.{numbers_reference, numbers_range, numbers_colon, numbers_concatenate, numbers_compare, numbers_sum, numbers_product, numbers_power, numbers_unary, numbers_call, numbers_named_call, numbers_error, numbers_spill, numbers_lambda, numbers_lambda_call, numbers_implicit_intersection}
 use Rattle.formula_tree.specs.Moved.{Mapping, moved, reference_to, range_to}
-use Rattle.formula_tree.specs.MovedEquations.{moved_boolean, moved_number, moved_text, moved_reference, moved_range, moved_colon, moved_concatenate, moved_compare, moved_sum, moved_product, moved_power, moved_unary, moved_call, moved_named_call, moved_array, moved_name, moved_error, moved_parse_error, moved_empty_argument, moved_spill, moved_lambda, moved_lambda_call, moved_implicit_intersection}
+use Rattle.formula_tree.specs.laws.MovedEquations.{moved_boolean, moved_number, moved_text, moved_reference, moved_range, moved_colon, moved_concatenate, moved_compare, moved_sum, moved_product, moved_power, moved_unary, moved_call, moved_named_call, moved_array, moved_name, moved_error, moved_parse_error, moved_empty_argument, moved_spill, moved_lambda, moved_lambda_call, moved_implicit_intersection}
 
 module _ (rule : NumberRule) where
   numbers-reference_to : (sheet : Option (List ℕ)) (corner : Option Corner) → numbers_follow rule (reference_to sheet corner) ≡ true

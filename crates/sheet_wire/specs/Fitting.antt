@@ -6,7 +6,7 @@ use Rattle.std.specs.List.{AllByRecursion}
 use Rattle.std.proofs.lemmas.List.Elements.{All-from_recursion}
 use Rattle.base_values.specs.declared.Position.{Position}
 use Rattle.base_values.specs.Places.{position_cmp}
-use Rattle.formula_tree.specs.DepthBounds.{is_within}
+use Rattle.formula_tree.specs.Depth.{is_within}
 use Rattle.formula_tree.specs.Numbers.{has_kept_numbers}
 use Rattle.sheet_grid.specs.declared.Cell.{Cell}
 use Rattle.sheet_grid.specs.FittingCells.{is_shallow_entry}

@@ -7,7 +7,7 @@ use Rattle.formula_tree.specs.declared.ArrayItem.{ArrayItem}
 use Rattle.formula_tree.specs.declared.ArrayItem.TheVariants as item
 use Rattle.formula_tree.specs.declared.Node.TheVariants as node
 use Rattle.formula_tree.specs.Numbers.{has_kept_numbers}
-use Rattle.formula_tree.specs.NumbersEquations.{numbers_array}
+use Rattle.formula_tree.specs.laws.NumbersEquations.{numbers_array}
 use Rattle.formula_wire.specs.KeptNumbers.{is_kept_item}
 
 module _ {A : Type 0} (p q : A → Bool) (same : (x : A) → p x ≡ q x) where

@@ -5,8 +5,8 @@ use Rattle.std.proofs.lemmas.Bool.{and_parts, and_from}
 use Rattle.std.proofs.lemmas.Bool.Decides.{nat_tests}
 use Rattle.formula_tree.specs.declared.Node.{Node}
 use Rattle.formula_tree.specs.declared.Node.TheVariants as node
-use Rattle.formula_tree.specs.Induction.{induct}
-use Rattle.formula_tree.specs.DepthBounds.{is_within}
+use Rattle.formula_tree.specs.laws.Induction.{induct}
+use Rattle.formula_tree.specs.Depth.{is_within}
 use Rattle.base_wire.specs.Reading.{Reader, refused, map_at, ◌⊗◌}
 use Rattle.base_wire.specs.laws.Again.{ReadsAgain}
 use Rattle.base_wire.specs.laws.Spelled.{ReadsSpelled, TagSpelled, tag_map, tag_plain, tag_refused, tag_if, tagged_spelled, fits_otherwise}

@@ -4,9 +4,9 @@ use Rattle.std.specs.Prelude.{ℕ, ◌&&◌, nat_le}
 use Rattle.base_values.specs.declared.Position.{Position}
 use Rattle.base_axis.specs.Along.{IsAxis}
 use Rattle.formula_tree.specs.declared.Node.{Node}
-use Rattle.formula_tree.specs.DepthBounds.{is_within}
+use Rattle.formula_tree.specs.Depth.{is_within}
 use Rattle.formula_tree.specs.Moved.{Mapping, moved}
-use Rattle.formula_tree.specs.MovedLaws.{depth-moved}
+use Rattle.formula_tree.specs.laws.MovedLaws.{depth-moved}
 use Rattle.formula_tree.specs.Numbers.{has_no_negative_number}
 use Rattle.formula_tree.specs.Placed.{is_placed}
 use Rattle.formula_content.specs.Fitting.{tree_fits_at, fits_at}

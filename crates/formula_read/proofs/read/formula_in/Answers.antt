@@ -2,10 +2,10 @@ use Rattle.std.proofs.Common.{◌≡◌, ◌≤◌, true, false}
 use Rattle.formula_tree.specs.declared.Node.{Node}
 use Rattle.formula_tree.specs.Depth.{depth_of}
 use Rattle.formula_tree.specs.Numbers.{has_kept_numbers, has_no_negative_number}
-use Rattle.formula_tree.specs.NumbersEquations.{numbers_parse_error}
+use Rattle.formula_tree.specs.laws.NumbersEquations.{numbers_parse_error}
 use Rattle.formula_tree.specs.ParseError.{is_parse_error}
 use Rattle.formula_tree.specs.Placed.{is_placed}
-use Rattle.formula_tree.specs.PlacedEquations.{placed_parse_error}
+use Rattle.formula_tree.specs.laws.PlacedEquations.{placed_parse_error}
 use Rattle.formula_tree.specs.declared.numbers.NumberRule.TheVariants.{Kept, NotNegative}
 use Rattle.formula_read.specs.Formula.{IsFormula}
 use Rattle.formula_read.proofs.Reading.{error_has, error_shallow, error_told, no_tree, same_tree}

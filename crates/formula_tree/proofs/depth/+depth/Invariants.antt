@@ -1,6 +1,6 @@
 use Rattle.std.proofs.Common.{◌≡◌, take, true}
 use Rattle.std.specs.List.{list_all}
-use Rattle.formula_tree.specs.DepthBounds.{is_within}
+use Rattle.formula_tree.specs.Depth.{is_within}
 use Rattle.formula_tree.proofs.depth.+depth.Given as goal
 
 -- the first trees are at most so deep

@@ -7,13 +7,13 @@ use Rattle.base_tables.specs.declared.Error.TheVariants.{Ref}
 use Rattle.formula_tree.specs.declared.corner.Corner.{Corner}
 use Rattle.formula_tree.specs.declared.node.Node.{Node}
 use Rattle.formula_tree.specs.declared.node.Node.TheVariants as node
-use Rattle.formula_tree.specs.Induction.{induct}
+use Rattle.formula_tree.specs.laws.Induction.{induct}
 use Rattle.formula_tree.specs.Corners.{corner_row, corner_column, is_inside, are_in_order, are_rows_reversed, are_columns_reversed, crossing, lower_corner, higher_corner}
-use Rattle.formula_tree.specs.CornerLaws.{in_order-ordered, lower-in_order, higher-in_order}
+use Rattle.formula_tree.specs.laws.CornerLaws.{in_order-ordered, lower-in_order, higher-in_order}
 use Rattle.formula_tree.specs.Placed.{is_placed, is_placed_range}
-use Rattle.formula_tree.specs.PlacedEquations.{placed_boolean, placed_number, placed_text, placed_reference, placed_range, placed_colon, placed_concatenate, placed_compare, placed_sum, placed_product, placed_power, placed_unary, placed_call, placed_named_call, placed_array, placed_name, placed_error, placed_parse_error, placed_empty_argument, placed_spill, placed_lambda, placed_lambda_call, placed_implicit_intersection}
+use Rattle.formula_tree.specs.laws.PlacedEquations.{placed_boolean, placed_number, placed_text, placed_reference, placed_range, placed_colon, placed_concatenate, placed_compare, placed_sum, placed_product, placed_power, placed_unary, placed_call, placed_named_call, placed_array, placed_name, placed_error, placed_parse_error, placed_empty_argument, placed_spill, placed_lambda, placed_lambda_call, placed_implicit_intersection}
 use Rattle.formula_tree.specs.Moved.{Mapping, moved, reference_to, range_to}
-use Rattle.formula_tree.specs.MovedEquations.{moved_boolean, moved_number, moved_text, moved_reference, moved_range, moved_colon, moved_concatenate, moved_compare, moved_sum, moved_product, moved_power, moved_unary, moved_call, moved_named_call, moved_array, moved_name, moved_error, moved_parse_error, moved_empty_argument, moved_spill, moved_lambda, moved_lambda_call, moved_implicit_intersection}
+use Rattle.formula_tree.specs.laws.MovedEquations.{moved_boolean, moved_number, moved_text, moved_reference, moved_range, moved_colon, moved_concatenate, moved_compare, moved_sum, moved_product, moved_power, moved_unary, moved_call, moved_named_call, moved_array, moved_name, moved_error, moved_parse_error, moved_empty_argument, moved_spill, moved_lambda, moved_lambda_call, moved_implicit_intersection}
 
 left : (a b : Bool) → a && b ≡ true → a ≡ true
 left a b both = grind arith

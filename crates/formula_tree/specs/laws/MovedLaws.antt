@@ -7,12 +7,12 @@ use Rattle.base_tables.specs.declared.Error.TheVariants.{Ref}
 use Rattle.formula_tree.specs.declared.corner.Corner.{Corner}
 use Rattle.formula_tree.specs.declared.node.Node.{Node}
 use Rattle.formula_tree.specs.declared.node.Node.TheVariants as node
-use Rattle.formula_tree.specs.Induction.{induct}
+use Rattle.formula_tree.specs.laws.Induction.{induct}
 use Rattle.formula_tree.specs.Corners.{lower_corner, higher_corner}
 use Rattle.formula_tree.specs.Depth.{depth_of, greatest}
-use Rattle.formula_tree.specs.DepthEquations.{depth_reference, depth_range, depth_colon, depth_concatenate, depth_compare, depth_sum, depth_product, depth_power, depth_unary, depth_call, depth_named_call, depth_error, depth_spill, depth_lambda, depth_lambda_call, depth_implicit_intersection}
+use Rattle.formula_tree.specs.laws.DepthEquations.{depth_reference, depth_range, depth_colon, depth_concatenate, depth_compare, depth_sum, depth_product, depth_power, depth_unary, depth_call, depth_named_call, depth_error, depth_spill, depth_lambda, depth_lambda_call, depth_implicit_intersection}
 use Rattle.formula_tree.specs.Moved.{Mapping, moved, reference_to, range_to}
-use Rattle.formula_tree.specs.MovedEquations.{moved_boolean, moved_number, moved_text, moved_reference, moved_range, moved_colon, moved_concatenate, moved_compare, moved_sum, moved_product, moved_power, moved_unary, moved_call, moved_named_call, moved_array, moved_name, moved_error, moved_parse_error, moved_empty_argument, moved_spill, moved_lambda, moved_lambda_call, moved_implicit_intersection}
+use Rattle.formula_tree.specs.laws.MovedEquations.{moved_boolean, moved_number, moved_text, moved_reference, moved_range, moved_colon, moved_concatenate, moved_compare, moved_sum, moved_product, moved_power, moved_unary, moved_call, moved_named_call, moved_array, moved_name, moved_error, moved_parse_error, moved_empty_argument, moved_spill, moved_lambda, moved_lambda_call, moved_implicit_intersection}
 
 depth-reference_to : (sheet : Option (List ℕ)) (corner : Option Corner) → depth_of (reference_to sheet corner) ≡ 1
 unfolding reference_to

@@ -6,9 +6,9 @@ use Rattle.formula_tree.specs.declared.corner.Corner.{Corner}
 use Rattle.formula_tree.specs.declared.node.Node.{Node}
 use Rattle.formula_tree.specs.Corners.{is_inside}
 use Rattle.formula_tree.specs.Depth.{depth_of}
-use Rattle.formula_tree.specs.MovedLaws.{depth-moved}
+use Rattle.formula_tree.specs.laws.MovedLaws.{depth-moved}
 use Rattle.formula_tree.specs.Placed.{is_placed}
-use Rattle.formula_tree.specs.PlacedLaws.{moved-placed, placed-moved}
+use Rattle.formula_tree.specs.laws.PlacedLaws.{moved-placed, placed-moved}
 use Rattle.formula_tree.specs.Rebase.{kept, filling, rebased}
 
 -- a rebased tree is as deep as it was

@@ -2,9 +2,9 @@
 use Rattle.std.specs.Prelude.{◌≡◌, ℕ, ◌+◌, ◌≤◌}
 use Rattle.std.proofs.Common.{arith}
 use Rattle.formula_tree.specs.declared.node.Node.{Node}
-use Rattle.formula_tree.specs.Induction.{induct}
+use Rattle.formula_tree.specs.laws.Induction.{induct}
 use Rattle.formula_tree.specs.Depth.{depth_of}
-use Rattle.formula_tree.specs.DepthEquations.{depth_boolean, depth_number, depth_text, depth_reference, depth_range, depth_colon, depth_concatenate, depth_compare, depth_sum, depth_product, depth_power, depth_unary, depth_call, depth_named_call, depth_array, depth_name, depth_error, depth_parse_error, depth_empty_argument, depth_spill, depth_lambda, depth_lambda_call, depth_implicit_intersection}
+use Rattle.formula_tree.specs.laws.DepthEquations.{depth_boolean, depth_number, depth_text, depth_reference, depth_range, depth_colon, depth_concatenate, depth_compare, depth_sum, depth_product, depth_power, depth_unary, depth_call, depth_named_call, depth_array, depth_name, depth_error, depth_parse_error, depth_empty_argument, depth_spill, depth_lambda, depth_lambda_call, depth_implicit_intersection}
 
 one : {n : ℕ} → n ≡ 1 → 1 ≤ n
 one e = omega arith

@@ -3,7 +3,7 @@ use Rattle.std.specs.Prelude.{◌≡◌, Bool, ◌&&◌, true}
 use Rattle.std.proofs.Common.{refl, arith}
 use Rattle.base_values.specs.declared.Position.{Position}
 use Rattle.formula_tree.specs.declared.Node.{Node}
-use Rattle.formula_tree.specs.DepthBounds.{is_within}
+use Rattle.formula_tree.specs.Depth.{is_within}
 use Rattle.formula_content.specs.declared.content.Content.{Content}
 use Rattle.formula_content.specs.declared.content.Content.TheVariants.{Empty, Number, Boolean, Error, Text, Formula, Dynamic}
 use Rattle.formula_content.specs.Fitting.{tree_fits_at, fits_at, is_shallow}

@@ -15,13 +15,9 @@ use Rattle.formula_tree.specs.declared.operator.UnaryKind.{UnaryKind}
 use Rattle.formula_tree.specs.declared.parameter.Parameter.{Parameter}
 use Rattle.formula_tree.specs.declared.node.Node.{Node}
 use Rattle.formula_tree.specs.declared.node.Node.TheVariants as node
-use Rattle.formula_tree.specs.Depth.{depth_of, greatest}
-use Rattle.formula_tree.specs.DepthEquations.{depth_boolean, depth_number, depth_text, depth_reference, depth_range, depth_colon, depth_concatenate, depth_compare, depth_sum, depth_product, depth_power, depth_unary, depth_call, depth_named_call, depth_array, depth_name, depth_error, depth_parse_error, depth_empty_argument, depth_spill, depth_lambda, depth_lambda_call, depth_implicit_intersection}
-use Rattle.formula_tree.specs.DepthLaws.{depth_positive}
-
--- a tree is at most this deep
-unfoldable pub is_within : ℕ → Node → Bool
-is_within most n = nat_le (depth_of n) most
+use Rattle.formula_tree.specs.Depth.{depth_of, greatest, is_within}
+use Rattle.formula_tree.specs.laws.DepthEquations.{depth_boolean, depth_number, depth_text, depth_reference, depth_range, depth_colon, depth_concatenate, depth_compare, depth_sum, depth_product, depth_power, depth_unary, depth_call, depth_named_call, depth_array, depth_name, depth_error, depth_parse_error, depth_empty_argument, depth_spill, depth_lambda, depth_lambda_call, depth_implicit_intersection}
+use Rattle.formula_tree.specs.laws.DepthLaws.{depth_positive}
 
 leaf : (depth rest : ℕ) → depth ≡ 1 → nat_le depth (rest + 1) ≡ true
 leaf depth rest same = grind (arith, nat_tests)

@@ -1,0 +1,2 @@
+pub mod ContentEquals
+pub mod FittingLaws

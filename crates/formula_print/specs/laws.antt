@@ -1,0 +1,2 @@
+pub mod PrintEquations
+pub mod ScopeEquations

@@ -1,0 +1,13 @@
+pub mod PlacedEquations
+pub mod MovedEquations
+pub mod PlacedLaws
+pub mod DepthEquations
+pub mod NumbersEquations
+pub mod Equals
+pub mod DepthLaws
+pub mod MovedLaws
+pub mod CornerLaws
+pub mod DepthBounds
+pub mod RebaseLaws
+pub mod Induction
+pub mod ParseErrorEquations

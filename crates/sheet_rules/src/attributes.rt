@@ -84,7 +84,9 @@ fn are_columns(sheet: &Worksheet) -> bool
 fn have_fonts(sheet: &Worksheet) -> bool
     ensures { result ≡ list_all (λ (entry : Position × Cell). has_font entry.1.style) (entries sheet.now.cells) }
 {
-    sheet.cells().all(|(_place, cell)| has_font(cell.get().style.get()))
+    sheet
+        .cells()
+        .all(|(_place, cell)| has_font(cell.get().style.get()))
 }
 
 /// Whether what rows and columns have of their own may be so, and each cell's font has a size.

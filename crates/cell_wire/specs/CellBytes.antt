@@ -1,5 +1,5 @@
 -- The bytes of positions, contents and cells.
-use Rattle.std.specs.Prelude.{ℕ, ℤ, List, [], ◌∷◌, ◌++◌, ◌==◌, if◌then◌else◌, FitsSigned}
+use Rattle.std.specs.Prelude.{ℕ, ℤ, List, [], ◌∷◌, ◌++◌, ◌==◌, if◌then◌else◌, FitsSigned, IsTrue}
 use Rattle.std.specs.Int.{w32}
 use Rattle.base_values.specs.declared.Position.{Position}
 use Rattle.base_tables.specs.Error.{error_code}
@@ -8,6 +8,8 @@ use Rattle.base_styles.specs.declared.Style.{Style}
 use Rattle.formula_content.specs.declared.Content.{Content}
 use Rattle.formula_content.specs.declared.Content.TheVariants.{Empty, Number, Boolean, Error as ErrorValue, Text, Formula, Dynamic}
 use Rattle.sheet_grid.specs.declared.Cell.{Cell}
+use Rattle.sheet_grid.specs.KeptCell.{IsKeptCell}
+use Rattle.formula_content.specs.Fitting.{is_shallow}
 use Rattle.base_wire.specs.Reading.{Reader, plain, refused, map_at, ◌⊗◌, tagged_at, signed_at, text_at}
 use Rattle.base_wire.specs.Spelling.{spell_signed, spell_code, boolean_code, spell_text, FitsText}
 use Rattle.base_wire.specs.Parts.{boolean_at, error_at, spell_decimal, decimal_at}
@@ -85,3 +87,8 @@ cell_at = map_at cell_made (content_at ⊗ style_at)
 pub record FitsCell (cell : Cell) : Type 0 where
   pub content : FitsContent cell.content
   pub style : FitsStyle cell.style
+
+-- what writing asks of a cell: its numbers are kept, and its formula is at most 64 deep
+pub record IsKnownCell (cell : Cell) : Type 0 where
+  pub kept : IsKeptCell cell
+  pub shallow : IsTrue (is_shallow cell.content)

@@ -1,6 +1,3 @@
 pub mod StyleBytes
 pub mod CellBytes
-pub mod PartsAgain
-pub mod PartsSpelled
-pub mod Refusals
-pub mod Fitting
+pub mod laws

@@ -9,7 +9,8 @@ ghost use Rattle.cell_wire.specs.StyleBytes.{border_code, border_styles, horizon
 use base_styles::{BorderStyle, HorizontalAlignment, ThemeColor, VerticalAlignment};
 use base_values::EditError;
 
-pub(crate) fn theme_code(theme: ThemeColor) -> u8
+/// The number of a theme's colour, from 0 in the order of the theme (docs/FORMATS.md, "Bytes").
+pub fn theme_code(theme: ThemeColor) -> u8
     ensures { result ≡ theme_code theme }
 {
     match theme {

@@ -9,7 +9,7 @@ use base_styles::Style;
 use base_values::EditError;
 use std::alloc::Global;
 
-/// The bytes of a style. Only want of memory is refused.
+/// The bytes of a style. Refuses with `NoMemory` alone.
 pub fn encode_style(alloc: Global, style: &Style) -> Result<Vec<u8>, EditError>
     ensures spelled { IfOk result (λ bytes. bytes.items ≡ spell_style style.now) }
     ensures only { IsOkUnless result NoMemory }

@@ -1,23 +1,25 @@
-//! Positions and cells from the front of bytes. Each reader answers the value and the bytes after it. It refuses
-//! with `ParseDiffs` bytes that are cut short or spell no such value.
+//! Positions and cells from the front of bytes.
 
 ghost use Rattle.base_values.specs.Answers.{Answers, map_ok};
 ghost use Rattle.cell_wire.specs.CellBytes.{cell_at, content_at, position_at};
 
+use crate::read::read;
 use crate::reading_styles::style_at;
-use base_values::{EditError, Position};
-use base_wire::{boolean_at, byte_at, decimal_at, error_at, i32_at, text_at};
-use formula_wire::node_at;
+use base_decimal::Decimal;
+use base_shared::Shared;
+use base_styles::Style;
+use base_tables::Error;
+use base_values::{EditError, Position, Text};
+use formula_wire::NodePart;
 use sheet_grid::{Cell, Content};
 use std::alloc::Global;
 
-/// A row and a column, in the sheet or not (docs/FORMATS.md, "Bytes").
 #[tactic(auto, unfolding(crate::specs::CellBytes::position_at))]
-pub fn position_at(bytes: &[u8]) -> Result<(Position, &[u8]), EditError>
+pub(crate) fn position_at(alloc: Global, bytes: &[u8]) -> Result<(Position, &[u8]), EditError>
     ensures { Answers (map_ok (λ x. (x.0, x.1.now)) result) (position_at bytes.now) }
 {
-    let (row, rest) = i32_at(bytes)?;
-    let (column, rest) = i32_at(rest)?;
+    let (row, rest) = read::<i32>(alloc, bytes)?;
+    let (column, rest) = read::<i32>(alloc, rest)?;
     Ok((Position { row, column }, rest))
 }
 
@@ -25,43 +27,47 @@ pub fn position_at(bytes: &[u8]) -> Result<(Position, &[u8]), EditError>
 fn content_at(alloc: Global, bytes: &[u8]) -> Result<(Content, &[u8]), EditError>
     ensures { Answers (map_ok (λ x. (x.0, x.1.now)) result) (content_at bytes.now) }
 {
-    let (kind, rest) = byte_at(bytes)?;
+    let (kind, rest) = read::<u8>(alloc, bytes)?;
     match kind {
         0 => Ok((Content::Empty, rest)),
         1 => {
-            let (number, rest) = decimal_at(rest)?;
+            let (number, rest) = read::<Decimal>(alloc, rest)?;
             Ok((Content::Number(number), rest))
         }
         2 => {
-            let (value, rest) = boolean_at(rest)?;
+            let (value, rest) = read::<bool>(alloc, rest)?;
             Ok((Content::Boolean(value), rest))
         }
         3 => {
-            let (error, rest) = error_at(rest)?;
+            let (error, rest) = read::<Error>(alloc, rest)?;
             Ok((Content::Error(error), rest))
         }
         4 => {
-            let (text, rest) = text_at(alloc, rest)?;
+            let (text, rest) = read::<Text>(alloc, rest)?;
             Ok((Content::Text(text), rest))
         }
         5 => {
-            let (tree, rest) = node_at(alloc, rest)?;
+            let (tree, rest) = read::<Shared<NodePart>>(alloc, rest)?;
             Ok((Content::Formula(tree), rest))
         }
         6 => {
-            let (tree, rest) = node_at(alloc, rest)?;
+            let (tree, rest) = read::<Shared<NodePart>>(alloc, rest)?;
             Ok((Content::Dynamic(tree), rest))
         }
         _ => Err(EditError::ParseDiffs),
     }
 }
 
-/// A content and a style (docs/FORMATS.md, "Bytes"). Also refuses with `NoMemory`.
 #[tactic(auto, unfolding(crate::specs::CellBytes::cell_at))]
-pub fn cell_at(alloc: Global, bytes: &[u8]) -> Result<(Cell, &[u8]), EditError>
+pub(crate) fn cell_at<'a>(
+    alloc: Global,
+    plain: &Shared<Style>,
+    bytes: &'a [u8],
+) -> Result<(Shared<Cell>, &'a [u8]), EditError>
     ensures { Answers (map_ok (λ x. (x.0, x.1.now)) result) (cell_at bytes.now) }
 {
     let (content, rest) = content_at(alloc, bytes)?;
-    let (style, rest) = style_at(alloc, rest)?;
-    Ok((Cell { content, style }, rest))
+    let (style, rest) = style_at(alloc, plain, rest)?;
+    let cell = Shared::new(alloc, Cell { content, style })?;
+    Ok((cell, rest))
 }

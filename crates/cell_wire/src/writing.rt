@@ -1,20 +1,25 @@
-//! Writing styles, positions and cells at the end of bytes. Want of memory may leave some of theirs there.
+//! Styles, positions and cells at the end of bytes. Those of Rust's own types fit, where their numbers are
+//! canonical and their trees are at most 64 deep. Out of memory may leave some of their bytes there.
 
-ghost use Rattle.std.specs.Prelude.{◌≡◌, ◌++◌, OnOk};
-ghost use Rattle.base_wire.specs.Spelling.{spell_option};
-ghost use Rattle.cell_wire.specs.StyleBytes.{spell_alignment, spell_border, spell_border_item, spell_color, spell_font, spell_style};
-ghost use Rattle.cell_wire.specs.CellBytes.{spell_cell, spell_content, spell_position};
+ghost use Rattle.std.specs.Prelude.{◌≡◌, ◌++◌, IsTrue, OnOk};
+ghost use Rattle.formula_content.specs.Fitting.{is_shallow};
+ghost use Rattle.formula_content.specs.KeptContent.{IsKeptContent};
+ghost use Rattle.cell_wire.specs.StyleBytes.{spell_alignment, spell_border, spell_border_item, spell_color, spell_font, spell_style, FitsBorder, FitsBorderItem, FitsColor, FitsFont, FitsStyle};
+ghost use Rattle.cell_wire.specs.CellBytes.{spell_cell, spell_content, spell_position, FitsCell, FitsContent, FitsPosition, IsKnownCell};
 
 use crate::codes::{border_code, horizontal_code, theme_code, vertical_code};
+use crate::parts::{AlignmentPart, BorderItemPart};
+use base_decimal::Decimal;
 use base_styles::{Alignment, Border, BorderItem, Color, Font, Style};
-use base_values::Position;
-use base_wire::{boolean_code, push_decimal, push_text};
+use base_values::{Position, Text};
+use base_wire::{Part, boolean_code};
 use formula_wire::push_node;
 use sheet_grid::{Cell, Content};
 use std::alloc::AllocError;
 
 fn put_color(out: &mut Vec<u8>, color: Color) -> Result<(), AllocError>
-    ensures { OnOk result (out.new.items ≡ out.old.items ++ spell_color color) }
+    ensures spelled { OnOk result (out.new.items ≡ out.old.items ++ spell_color color) }
+    ensures fits { OnOk result (FitsColor color) }
 {
     match color {
         Color::None => out.push(0)?,
@@ -25,7 +30,8 @@ fn put_color(out: &mut Vec<u8>, color: Color) -> Result<(), AllocError>
 }
 
 fn put_font(out: &mut Vec<u8>, font: Font) -> Result<(), AllocError>
-    ensures { OnOk result (out.new.items ≡ out.old.items ++ spell_font font) }
+    ensures spelled { OnOk result (out.new.items ≡ out.old.items ++ spell_font font) }
+    ensures fits { OnOk result (FitsFont font) }
 {
     out.push(boolean_code(font.b))?;
     out.push(boolean_code(font.i))?;
@@ -35,72 +41,63 @@ fn put_font(out: &mut Vec<u8>, font: Font) -> Result<(), AllocError>
     put_color(out, font.color)
 }
 
-fn put_side(out: &mut Vec<u8>, side: Option<BorderItem>) -> Result<(), AllocError>
-    ensures { OnOk result (out.new.items ≡ out.old.items ++ spell_option spell_border_item side) }
+pub(crate) fn put_border_item(out: &mut Vec<u8>, item: BorderItem) -> Result<(), AllocError>
+    ensures spelled { OnOk result (out.new.items ≡ out.old.items ++ spell_border_item item) }
+    ensures fits { OnOk result (FitsBorderItem item) }
 {
-    match side {
-        None => out.push(0)?,
-        Some(item) => {
-            out.push(1)?;
-            out.push(border_code(item.style))?;
-            put_color(out, item.color)?;
-        }
-    }
-    Ok(())
+    out.push(border_code(item.style))?;
+    put_color(out, item.color)
 }
 
+#[tactic(auto, using(crate::proofs::Known::any_option))]
 fn put_border(out: &mut Vec<u8>, border: Border) -> Result<(), AllocError>
-    ensures { OnOk result (out.new.items ≡ out.old.items ++ spell_border border) }
+    ensures spelled { OnOk result (out.new.items ≡ out.old.items ++ spell_border border) }
+    ensures fits { OnOk result (FitsBorder border) }
 {
-    put_side(out, border.left)?;
-    put_side(out, border.right)?;
-    put_side(out, border.top)?;
-    put_side(out, border.bottom)
+    Option::<BorderItemPart>::put(out, &border.left)?;
+    Option::<BorderItemPart>::put(out, &border.right)?;
+    Option::<BorderItemPart>::put(out, &border.top)?;
+    Option::<BorderItemPart>::put(out, &border.bottom)
 }
 
-fn put_alignment(out: &mut Vec<u8>, alignment: Option<Alignment>) -> Result<(), AllocError>
-    ensures { OnOk result (out.new.items ≡ out.old.items ++ spell_option spell_alignment alignment) }
+pub(crate) fn put_alignment(out: &mut Vec<u8>, alignment: Alignment) -> Result<(), AllocError>
+    ensures { OnOk result (out.new.items ≡ out.old.items ++ spell_alignment alignment) }
 {
-    match alignment {
-        None => out.push(0)?,
-        Some(alignment) => {
-            out.push(1)?;
-            out.push(horizontal_code(alignment.horizontal))?;
-            out.push(vertical_code(alignment.vertical))?;
-            out.push(boolean_code(alignment.wrap_text))?;
-        }
-    }
+    out.push(horizontal_code(alignment.horizontal))?;
+    out.push(vertical_code(alignment.vertical))?;
+    out.push(boolean_code(alignment.wrap_text))?;
     Ok(())
 }
 
-/// Adds the bytes of a style (docs/FORMATS.md, "Bytes").
-pub fn put_style(out: &mut Vec<u8>, style: &Style) -> Result<(), AllocError>
-    ensures { OnOk result (out.new.items ≡ out.old.items ++ spell_style style.now) }
+pub(crate) fn put_style(out: &mut Vec<u8>, style: &Style) -> Result<(), AllocError>
+    ensures spelled { OnOk result (out.new.items ≡ out.old.items ++ spell_style style.now) }
+    ensures fits { OnOk result (FitsStyle style.now) }
 {
     put_font(out, style.font)?;
     put_color(out, style.fill)?;
     put_border(out, style.border)?;
-    push_text(out, &style.num_fmt)?;
-    put_alignment(out, style.alignment)
+    Text::put(out, &style.num_fmt)?;
+    Option::<AlignmentPart>::put(out, &style.alignment)
 }
 
-/// Adds the row and the column of a position, in four bytes each (docs/FORMATS.md, "Bytes").
 #[tactic(auto, unfolding(crate::specs::CellBytes::spell_position))]
-pub fn put_position(out: &mut Vec<u8>, place: Position) -> Result<(), AllocError>
-    ensures { OnOk result (out.new.items ≡ out.old.items ++ spell_position place) }
+pub(crate) fn put_position(out: &mut Vec<u8>, place: Position) -> Result<(), AllocError>
+    ensures spelled { OnOk result (out.new.items ≡ out.old.items ++ spell_position place) }
+    ensures fits { OnOk result (FitsPosition place) }
 {
     out.extend_from_slice(&place.row.to_be_bytes())?;
     out.extend_from_slice(&place.column.to_be_bytes())
 }
 
 fn put_content(out: &mut Vec<u8>, content: &Content) -> Result<(), AllocError>
-    ensures { OnOk result (out.new.items ≡ out.old.items ++ spell_content content.now) }
+    ensures spelled { OnOk result (out.new.items ≡ out.old.items ++ spell_content content.now) }
+    ensures fits { OnOk result (IsKeptContent content.now → IsTrue (is_shallow content.now) → FitsContent content.now) }
 {
     match content {
         Content::Empty => out.push(0)?,
         Content::Number(number) => {
             out.push(1)?;
-            push_decimal(out, *number)?;
+            Decimal::put(out, number)?;
         }
         Content::Boolean(value) => {
             out.push(2)?;
@@ -112,24 +109,25 @@ fn put_content(out: &mut Vec<u8>, content: &Content) -> Result<(), AllocError>
         }
         Content::Text(text) => {
             out.push(4)?;
-            push_text(out, text)?;
+            Text::put(out, text)?;
         }
         Content::Formula(tree) => {
             out.push(5)?;
-            push_node(out, tree)?;
+            push_node(out, tree.get())?;
         }
         Content::Dynamic(tree) => {
             out.push(6)?;
-            push_node(out, tree)?;
+            push_node(out, tree.get())?;
         }
     }
     Ok(())
 }
 
-/// Adds the bytes of a cell: its content, and its style (docs/FORMATS.md, "Bytes").
-pub fn put_cell(out: &mut Vec<u8>, cell: &Cell) -> Result<(), AllocError>
-    ensures { OnOk result (out.new.items ≡ out.old.items ++ spell_cell cell.now) }
+pub(crate) fn put_cell(out: &mut Vec<u8>, cell: &Cell) -> Result<(), AllocError>
+    ensures spelled { OnOk result (out.new.items ≡ out.old.items ++ spell_cell cell.now) }
+    ensures fits { OnOk result (IsKnownCell cell.now → FitsCell cell.now) }
 {
     put_content(out, &cell.content)?;
-    put_style(out, &cell.style)
+    put_style(out, cell.style.get())?;
+    Ok(())
 }

@@ -70,7 +70,7 @@ border_known Medium = refl
 border_known Thick = refl
 border_known Double = refl
 
-border_item_again : ReadsAgain FitsBorderItem spell_border_item border_item_at
+pub border_item_again : ReadsAgain FitsBorderItem spell_border_item border_item_at
 unfolding border_item_at
 border_item_again = record {
   again = λ x rest fits.
@@ -109,7 +109,7 @@ vertical_known vertical.Distributed = refl
 vertical_known vertical.Justify = refl
 vertical_known vertical.Top = refl
 
-alignment_again : ReadsAgain Any spell_alignment alignment_at
+pub alignment_again : ReadsAgain Any spell_alignment alignment_at
 unfolding alignment_at
 alignment_again = record {
   again = λ x rest fits.

@@ -35,7 +35,7 @@ font_spelled =
 
 -- ---- borders
 
-border_item_spelled : ReadsSpelled FitsBorderItem spell_border_item border_item_at
+pub border_item_spelled : ReadsSpelled FitsBorderItem spell_border_item border_item_at
 unfolding border_item_at
 border_item_spelled =
     fits_otherwise (λ x fits. fits.1)
@@ -54,7 +54,7 @@ border_spelled =
 
 -- ---- alignments
 
-alignment_spelled : ReadsSpelled Any spell_alignment alignment_at
+pub alignment_spelled : ReadsSpelled Any spell_alignment alignment_at
 unfolding alignment_at
 alignment_spelled =
     fits_otherwise (λ x fits. tt)

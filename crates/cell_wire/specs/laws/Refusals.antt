@@ -21,7 +21,7 @@ font_plain : IsPlain font_at
 unfolding font_at
 font_plain = map_plain font_made (both_plain boolean_plain (both_plain boolean_plain (both_plain boolean_plain (both_plain boolean_plain (both_plain (signed_plain w32) color_plain)))))
 
-border_item_plain : IsPlain border_item_at
+pub border_item_plain : IsPlain border_item_at
 unfolding border_item_at
 border_item_plain = map_plain border_item_made (both_plain (code_plain border_code border_styles) color_plain)
 
@@ -33,7 +33,7 @@ border_plain : IsPlain border_at
 unfolding border_at
 border_plain = map_plain border_made (both_plain side_plain (both_plain side_plain (both_plain side_plain side_plain)))
 
-alignment_plain : IsPlain alignment_at
+pub alignment_plain : IsPlain alignment_at
 unfolding alignment_at
 alignment_plain = map_plain alignment_made (both_plain (code_plain horizontal_code horizontals) (both_plain (code_plain vertical_code verticals) boolean_plain))
 

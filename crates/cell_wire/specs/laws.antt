@@ -1,0 +1,5 @@
+pub mod PartsAgain
+pub mod PartsSpelled
+pub mod Refusals
+pub mod Formats
+pub mod Fitting

@@ -1,0 +1,198 @@
+//! Border sides, alignments, styles, positions and cells as parts of formats.
+
+use crate::reading_cells::{cell_at, position_at};
+use crate::reading_styles::{alignment_at, border_item_at, style_at};
+use crate::writing::{put_alignment, put_border_item, put_cell, put_position, put_style};
+use base_shared::Shared;
+use base_styles::{Alignment, BorderItem, Style};
+use base_values::{EditError, Position};
+use base_wire::Part;
+use sheet_grid::Cell;
+use std::alloc::{AllocError, Global};
+
+/// A side of a border.
+pub(crate) struct BorderItemPart;
+
+impl Part for BorderItemPart {
+    ghost use Rattle.std.proofs.Common.{arith};
+    ghost use Rattle.base_wire.specs.Spelling.{Any};
+    ghost use Rattle.cell_wire.specs.StyleBytes.{border_item_at, spell_border_item, FitsBorderItem};
+    ghost use Rattle.cell_wire.specs.laws.Formats.{border_item_format};
+
+    type Value = BorderItem;
+
+    type Context = ();
+
+    ghost Known = { Any };
+
+    ghost Fits = { FitsBorderItem };
+
+    ghost spelling = { spell_border_item };
+
+    ghost reading = { border_item_at };
+
+    fn put(out: &mut Vec<u8>, value: &BorderItem) -> Result<(), AllocError> {
+        put_border_item(out, *value)
+    }
+
+    fn take<'a>(
+        alloc: Global,
+        _context: &(),
+        bytes: &'a [u8],
+    ) -> Result<(BorderItem, &'a [u8]), EditError> {
+        border_item_at(alloc, bytes)
+    }
+
+    ghost format = { border_item_format };
+
+    ghost some = { λ x. Prim.omega arith };
+}
+
+/// How a cell is aligned.
+pub(crate) struct AlignmentPart;
+
+impl Part for AlignmentPart {
+    ghost use Rattle.std.proofs.Common.{arith};
+    ghost use Rattle.base_wire.specs.Spelling.{Any};
+    ghost use Rattle.cell_wire.specs.StyleBytes.{alignment_at, spell_alignment};
+    ghost use Rattle.cell_wire.specs.laws.Formats.{alignment_format};
+
+    type Value = Alignment;
+
+    type Context = ();
+
+    ghost Known = { Any };
+
+    ghost Fits = { Any };
+
+    ghost spelling = { spell_alignment };
+
+    ghost reading = { alignment_at };
+
+    fn put(out: &mut Vec<u8>, value: &Alignment) -> Result<(), AllocError> {
+        put_alignment(out, *value)
+    }
+
+    fn take<'a>(
+        alloc: Global,
+        _context: &(),
+        bytes: &'a [u8],
+    ) -> Result<(Alignment, &'a [u8]), EditError> {
+        alignment_at(alloc, bytes)
+    }
+
+    ghost format = { alignment_format };
+
+    ghost some = { λ x. Prim.omega arith };
+}
+
+/// A row and a column, inside the sheet or not (docs/FORMATS.md, "Bytes").
+pub struct PositionPart;
+
+impl Part for PositionPart {
+    ghost use Rattle.base_wire.specs.Spelling.{Any};
+    ghost use Rattle.cell_wire.specs.CellBytes.{position_at, spell_position, FitsPosition};
+    ghost use Rattle.cell_wire.specs.laws.Formats.{position_format, position_some};
+
+    type Value = Position;
+
+    type Context = ();
+
+    ghost Known = { Any };
+
+    ghost Fits = { FitsPosition };
+
+    ghost spelling = { spell_position };
+
+    ghost reading = { position_at };
+
+    fn put(out: &mut Vec<u8>, value: &Position) -> Result<(), AllocError> {
+        put_position(out, *value)
+    }
+
+    fn take<'a>(
+        alloc: Global,
+        _context: &(),
+        bytes: &'a [u8],
+    ) -> Result<(Position, &'a [u8]), EditError> {
+        position_at(alloc, bytes)
+    }
+
+    ghost format = { position_format };
+
+    ghost some = { position_some };
+}
+
+/// A style (docs/FORMATS.md, "Bytes"). Each one that is read and equal to the style of the context shares it.
+pub struct StylePart;
+
+impl Part for StylePart {
+    ghost use Rattle.std.proofs.Common.{arith};
+    ghost use Rattle.base_wire.specs.Spelling.{Any};
+    ghost use Rattle.cell_wire.specs.StyleBytes.{spell_style, style_at, FitsStyle};
+    ghost use Rattle.cell_wire.specs.laws.Formats.{style_format};
+
+    type Value = Shared<Style>;
+
+    type Context = Shared<Style>;
+
+    ghost Known = { Any };
+
+    ghost Fits = { FitsStyle };
+
+    ghost spelling = { spell_style };
+
+    ghost reading = { style_at };
+
+    fn put(out: &mut Vec<u8>, value: &Shared<Style>) -> Result<(), AllocError> {
+        put_style(out, value.get())
+    }
+
+    fn take<'a>(
+        alloc: Global,
+        plain: &Shared<Style>,
+        bytes: &'a [u8],
+    ) -> Result<(Shared<Style>, &'a [u8]), EditError> {
+        style_at(alloc, plain, bytes)
+    }
+
+    ghost format = { style_format };
+
+    ghost some = { λ x. Prim.omega arith };
+}
+
+/// A cell: its content, and its style (docs/FORMATS.md, "Bytes"), which shares that of the context where it is equal to it.
+pub struct CellPart;
+
+impl Part for CellPart {
+    ghost use Rattle.cell_wire.specs.CellBytes.{cell_at, spell_cell, FitsCell, IsKnownCell};
+    ghost use Rattle.cell_wire.specs.laws.Formats.{cell_format, cell_some};
+
+    type Value = Shared<Cell>;
+
+    type Context = Shared<Style>;
+
+    ghost Known = { IsKnownCell };
+
+    ghost Fits = { FitsCell };
+
+    ghost spelling = { spell_cell };
+
+    ghost reading = { cell_at };
+
+    fn put(out: &mut Vec<u8>, value: &Shared<Cell>) -> Result<(), AllocError> {
+        put_cell(out, value.get())
+    }
+
+    fn take<'a>(
+        alloc: Global,
+        plain: &Shared<Style>,
+        bytes: &'a [u8],
+    ) -> Result<(Shared<Cell>, &'a [u8]), EditError> {
+        cell_at(alloc, plain, bytes)
+    }
+
+    ghost format = { cell_format };
+
+    ghost some = { cell_some };
+}

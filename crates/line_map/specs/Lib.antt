@@ -1,10 +1,8 @@
 pub mod Edit
-pub mod Images
 pub mod Trial
 pub mod Lists
 pub mod Carried
 pub mod Places
 pub mod Areas
 pub mod Trees
-pub mod TreeLaws
-pub mod TreePlaces
+pub mod laws

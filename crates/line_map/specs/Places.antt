@@ -12,7 +12,7 @@ use Rattle.base_values.specs.laws.KeyMap.{get-with_entry}
 use Rattle.base_axis.specs.Along.{Along, IsAxis}
 use Rattle.line_map.specs.declared.edit.EditKind.{EditKind}
 use Rattle.line_map.specs.Edit.{image_at, opposite_of, IsValid}
-use Rattle.line_map.specs.Images.{image_back, image_inside, opposite_twice, valid_opposite}
+use Rattle.line_map.specs.laws.Images.{image_back, image_inside, opposite_twice, valid_opposite}
 use Rattle.line_map.specs.Trial.{comes_back, is_back}
 use Rattle.line_map.specs.Carried.{one_key, Inverse, if_there, follow_map, lost_map, parts_map, regain_map, get-follow_map, map_regains}
 

@@ -3,6 +3,7 @@ ghost use Rattle.base_values.specs.Places.{IsLine, is_line};
 ghost use Rattle.line_map.specs.Edit.{image_at, goes_to, within, opposite_of, IsValid};
 
 use base_axis::Axis;
+use base_values::Exact;
 use std::marker::PhantomData;
 
 /// What an edit does to the lines of an axis.
@@ -14,11 +15,29 @@ pub enum EditKind {
     Delete { first: i32, count: i32 },
 }
 
+impl Exact for EditKind {
+    ghost use Rattle.line_map.specs.laws.Equals.{kind_equals};
+
+    ghost copies = { λ a b h. h };
+
+    ghost equals = { kind_equals };
+}
+
 /// An edit of whole lines along an axis. docs/MODEL.md says where each line goes.
-#[derive_where(Clone, Copy)]
+#[derive_where(Clone, Copy, PartialEq, Eq)]
 pub struct LineEdit<A: Axis> {
     pub kind: EditKind,
     pub axis: PhantomData<A>,
+}
+
+impl<A: Axis> Exact for LineEdit<A> {
+    ghost use Rattle.std.proofs.Common.{rules, refl, ap};
+    ghost use Rattle.std.proofs.lemmas.Bool.Decides.{Decides-like, Decides-and};
+    ghost use Rattle.line_map.specs.laws.Equals.{kind_equals, own_value};
+
+    ghost copies = { λ a b h. Prim.search rules };
+
+    ghost equals = { λ a b. Decides-like _ (λ p i. record { kind = p.0 i; axis = a.axis }) (λ e. (ap (λ x. x.kind) e, refl)) (Decides-and _ _ (kind_equals a.kind b.kind) (own_value a.axis)) };
 }
 
 fn is_line(last: i32, line: i64) -> bool

@@ -1,19 +1,42 @@
+ghost use Rattle.std.specs.Prelude.{◌≡◌};
+
 use crate::edit::LineEdit;
 use crate::follow::Follow;
 use crate::laying::lay;
 use crate::overlays::{Carried, Copied, Lost, Parts, Regained};
 use base_axis::Axis;
-use base_values::{EditError, PlaceMap};
-use std::alloc::Global;
+use base_values::{EditError, Exact, PlaceMap};
+use std::alloc::{AllocError, Global};
 
 /// What an edit's opposite does not give back of a map.
-#[derive(Drop)]
+#[derive(PartialEq, Eq, Drop)]
 pub struct KeptMap<F, K> {
     /// The entries whose lines are lost.
     pub lost: PlaceMap<F>,
     /// The kept parts of the other entries that do not come back, by their places before the
     /// edit.
     pub parts: PlaceMap<K>,
+}
+
+impl<F: Exact, K: Exact> Clone for KeptMap<F, K> {
+    ghost is_clone = { λ s r. r ≡ s };
+
+    fn clone(&self) -> Result<KeptMap<F, K>, AllocError> {
+        Ok(KeptMap {
+            lost: self.lost.clone()?,
+            parts: self.parts.clone()?,
+        })
+    }
+}
+
+impl<F: Exact, K: Exact> Exact for KeptMap<F, K> {
+    ghost use Rattle.base_values.specs.laws.PositionEquals.{position_equals};
+    ghost use Rattle.base_values.specs.laws.KeyMap.{same_entries_decides};
+    ghost use Rattle.line_map.specs.laws.Equals.{kept_map_equals};
+
+    ghost copies = { λ a b h. h };
+
+    ghost equals = { kept_map_equals (same_entries_decides position_equals F.equals) (same_entries_decides position_equals K.equals) };
 }
 
 impl<A: Axis, F: Follow<A>> Follow<A> for PlaceMap<F> {

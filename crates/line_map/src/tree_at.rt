@@ -29,7 +29,7 @@ pub struct TreeAt {
 
 impl Exact for TreeAt {
     ghost use Rattle.std.proofs.Common.{rules};
-    ghost use Rattle.line_map.specs.TreeLaws.{tree_at_equals};
+    ghost use Rattle.line_map.specs.laws.TreeLaws.{tree_at_equals};
 
     ghost copies = { λ a b h. Prim.search rules };
 
@@ -241,7 +241,7 @@ fn kept<A: Axis>(alloc: Global, edit: &LineEdit<A>, tree: &TreeAt) -> Result<Kep
 
 impl<A: Axis> Follow<A> for TreeAt {
     ghost use Rattle.line_map.specs.Trees.{Lies, followed, kept, regained};
-    ghost use Rattle.line_map.specs.TreeLaws.{tree_stays, tree_regains};
+    ghost use Rattle.line_map.specs.laws.TreeLaws.{tree_stays, tree_regains};
 
     type Kept = KeptTree;
 

@@ -1,6 +1,6 @@
 use Rattle.std.proofs.Common.{arith}
 use Rattle.std.proofs.lemmas.Int.{ints}
-use Rattle.line_map.specs.Images.{delete_after, same_within}
+use Rattle.line_map.specs.laws.Images.{delete_after, same_within}
 use Rattle.line_map.proofs.edit.deleted.Goals as goal
 
 pub returns-clause-value : goal.returns-clause-value

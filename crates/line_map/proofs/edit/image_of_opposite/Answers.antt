@@ -1,4 +1,4 @@
-use Rattle.line_map.specs.Images.{image_back}
+use Rattle.line_map.specs.laws.Images.{image_back}
 use Rattle.line_map.proofs.edit.image_of_opposite.Goals as goal
 
 pub returns : goal.returns

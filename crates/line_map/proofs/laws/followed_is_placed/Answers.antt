@@ -1,4 +1,4 @@
-use Rattle.line_map.specs.TreePlaces.{followed_placed}
+use Rattle.line_map.specs.laws.TreePlaces.{followed_placed}
 use Rattle.line_map.proofs.laws.followed_is_placed.Goals as goal
 
 pub returns : goal.returns

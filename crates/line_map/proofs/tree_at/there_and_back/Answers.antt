@@ -1,7 +1,7 @@
 use Rattle.std.proofs.Common.{subst, sym}
 use Rattle.line_map.specs.declared.tree_at.TreeAt.{TreeAt}
 use Rattle.line_map.specs.Trees.{Lies}
-use Rattle.line_map.specs.TreeLaws.{tree_stays}
+use Rattle.line_map.specs.laws.TreeLaws.{tree_stays}
 use Rattle.line_map.proofs.tree_at.there_and_back.Goals as goal
 
 pub followed-requires-2 : goal.followed-requires-2

@@ -1,0 +1,4 @@
+pub mod Images
+pub mod TreeLaws
+pub mod TreePlaces
+pub mod Equals

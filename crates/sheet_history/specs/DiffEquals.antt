@@ -10,7 +10,7 @@ use Rattle.sheet_grid.specs.laws.CellEquals.{cell_equals}
 use Rattle.line_map.specs.declared.EditKind.{EditKind}
 use Rattle.line_map.specs.declared.EditKind.TheVariants.{Insert, Delete}
 use Rattle.line_map.specs.contracts.edit.EditKindPartialEq.TheImpl as edit_kind
-use Rattle.sheet_lines.specs.KeptEquals.{kept_equals}
+use Rattle.sheet_lines.specs.laws.KeptEquals.{kept_equals}
 use Rattle.sheet_history.specs.declared.diff.Diff.{Diff}
 use Rattle.sheet_history.specs.declared.diff.Diff.TheVariants.{Cell as CellDiff, Rows as RowsDiff}
 use Rattle.sheet_history.specs.declared.diff.DiffType.{DiffType}

@@ -17,7 +17,7 @@ use Rattle.sheet_grid.specs.FittingCells.{entry_fits_at}
 use Rattle.sheet_lines.specs.Way.{Way, back, place_goes}
 use Rattle.sheet_lines.specs.Followed.{with_tree_by, content_followed, cell_moved, cell_followed, cells_followed}
 use Rattle.sheet_lines.specs.Kept.{tree_of, there_and_back, unless_back, kept_tree, kept_trees}
-use Rattle.sheet_lines.specs.Regained.{goes_inverse}
+use Rattle.sheet_lines.specs.laws.Regained.{goes_inverse}
 use Rattle.sheet_history.specs.LineDiffs.{is_formula, is_formula_at, tree_stands}
 
 -- of a content that fits, the tree does

@@ -26,7 +26,7 @@ use Rattle.sheet_lines.specs.Followed.{content_followed, with_tree_by, cell_move
 use Rattle.sheet_lines.specs.Kept.{tree_of, there_and_back, unless_back, kept_tree, kept_trees, is_empty, if_any}
 use Rattle.sheet_lines.specs.KeptNumbers.{AreKeptTrees, AreKeptFormulas}
 use Rattle.sheet_lines.specs.Back.{with_tree, cells_back}
-use Rattle.sheet_lines.specs.MovedNumbers.{numbers-moved}
+use Rattle.sheet_lines.specs.laws.MovedNumbers.{numbers-moved}
 
 -- what holds of the value holds of an answer that is the value
 pub if_ok_is : {X E : Type 0} (P : X → Type 0) (result : Result X E) (x : X) → IfOk result (λ y. y ≡ x) → P x → IfOk result P

@@ -46,11 +46,6 @@ there_and_back w from to tree = tree_followed (back w) to from (tree_followed w 
 unfoldable pub unless_back : Node → Node → Option Node
 unless_back back tree = if same_value the_row.coded back tree then None else Some tree
 
--- of a tree that comes back nothing is kept
-pub nothing_kept : (back tree : Node) → back ≡ tree → None ≡ unless_back back tree
-unfolding unless_back
-nothing_kept back tree e = sym (ap (λ b. if b then None else Some tree) ((same_value_decides the_row.coded back tree).1 e))
-
 -- the tree of a formula that goes somewhere, where going back does not give it
 unfoldable pub kept_tree : Way → Position → Cell → Option Node
 kept_tree w from cell = if_there (place_goes w from) (λ to. if_there (tree_of cell.content) (λ tree. unless_back (there_and_back w from to tree) tree))
@@ -74,19 +69,6 @@ sheet_kept a e id edited sheet = if_any (kept_trees (way_of a e id edited sheet)
 -- those of each sheet, under its id
 unfoldable pub kept_formulas : Along → EditKind → ℕ → List ℕ → List Sheet → FinMap nat_cmp (FinMap position_cmp Node)
 kept_formulas a e id edited sheets = fold (λ kept sheet. with_entry kept sheet.id (sheet_kept a e id edited sheet)) empty sheets
-
--- of no sheet nothing is kept
-pub kept_none : (a : Along) (e : EditKind) (id : ℕ) (edited : List ℕ) → empty ≡ kept_formulas a e id edited []
-unfolding kept_formulas
-kept_none a e id edited = refl
-
--- what is kept of one more sheet
-pub kept_more : (a : Along) (e : EditKind) (id : ℕ) (edited : List ℕ) (sheets : List Sheet) (i : ℕ) (sheet : Sheet) → i < length sheets → sheet ≡ get_or sheets i sheet →
-    kept_formulas a e id edited (take (i + 1) sheets) ≡ with_entry (kept_formulas a e id edited (take i sheets)) sheet.id (sheet_kept a e id edited sheet)
-unfolding kept_formulas
-kept_more a e id edited sheets i sheet h is =
-    fold_more (λ kept sheet. with_entry kept sheet.id (sheet_kept a e id edited sheet)) empty sheets i sheet h
-    ∙ ap (λ s. with_entry (kept_formulas a e id edited (take i sheets)) s.id (sheet_kept a e id edited s)) (sym is)
 
 -- the cells of a sheet whose lines are lost
 abbrev pub lost_cells : Along → EditKind → Option Sheet → FinMap position_cmp Cell

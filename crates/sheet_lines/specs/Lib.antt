@@ -3,7 +3,5 @@ pub mod Way
 pub mod Followed
 pub mod Kept
 pub mod KeptNumbers
-pub mod KeptEquals
 pub mod Back
-pub mod Regained
-pub mod MovedNumbers
+pub mod laws

@@ -40,11 +40,3 @@ are_rows a = a.of true false
 
 abbrev pub are_columns : Along → Bool
 are_columns a = a.of false true
-
--- an axis of rows ends at the last row
-pub rows_last : (a : Along) → IsAxis a → are_rows a ≡ true → a.last ≡ pos 1048576
-rows_last a l h = ⊎_elim (λ is. ap (λ x. x.last) is) (λ is. let no : false ≡ true = sym (ap are_rows is) ∙ h in absurd (cc)) l.one_of
-
--- an axis of columns ends at the last column
-pub columns_last : (a : Along) → IsAxis a → are_columns a ≡ true → a.last ≡ pos 16384
-columns_last a l h = ⊎_elim (λ is. let no : false ≡ true = sym (ap are_columns is) ∙ h in absurd (cc)) (λ is. ap (λ x. x.last) is) l.one_of

@@ -47,7 +47,7 @@ fn unless_back(back: &Shared<Node>, tree: &Shared<Node>) -> Result<Option<Shared
 
 /// What is kept of a tree that goes from a place to a place. Its corners tell of most trees that
 /// nothing is; any other is tried.
-#[tactic(auto, using(crate::specs::Kept::nothing_kept))]
+#[tactic(auto, using(crate::specs::laws::Kept::nothing_kept))]
 fn kept_of<A: Axis>(
     alloc: Global,
     by: &SheetEdit<'_, A>,

@@ -78,7 +78,7 @@ fn sheet_kept<A: Axis>(
 }
 
 /// Those of each sheet, under its id.
-#[tactic(auto, using(crate::specs::Kept::kept_more))]
+#[tactic(auto, using(crate::specs::laws::Kept::kept_more))]
 fn kept_formulas<A: Axis>(
     alloc: Global,
     edit: &LineEdit<A>,

@@ -37,7 +37,7 @@ impl Clone for KeptLines {
 }
 
 impl Exact for KeptLines {
-    ghost use Rattle.sheet_lines.specs.KeptEquals.{kept_equals};
+    ghost use Rattle.sheet_lines.specs.laws.KeptEquals.{kept_equals};
 
     ghost copies = { λ a b h. h };
 

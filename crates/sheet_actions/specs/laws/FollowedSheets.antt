@@ -19,7 +19,7 @@ use Rattle.sheet_rules.specs.laws.EntryLaws.{both, passes_at_from_all, all_from_
 use Rattle.sheet_rules.specs.WellFormed.{have_trees, have_attributes, is_row, is_column, has_font}
 use Rattle.sheet_lines.specs.Way.{Way, back, place_goes, line_goes, are_rows, are_columns}
 use Rattle.sheet_lines.specs.Followed.{content_followed, cell_moved, cell_followed, cells_followed, way_of, sheet_followed}
-use Rattle.sheet_lines.specs.Regained.{goes_inverse, lines_go_inverse}
+use Rattle.sheet_lines.specs.laws.Regained.{goes_inverse, lines_go_inverse}
 use Rattle.sheet_actions.specs.laws.FollowedTrees.{pass, fits-followed}
 
 -- a test of the value at a key, passed where there is none

@@ -17,7 +17,7 @@ use Rattle.sheet_rules.specs.laws.EntryLaws.{both}
 use Rattle.sheet_lines.specs.Way.{Way}
 use Rattle.sheet_lines.specs.Followed.{tree_followed, content_followed}
 use Rattle.sheet_actions.specs.FollowedPlaced.{placed-following}
-use Rattle.sheet_lines.specs.MovedNumbers.{numbers-moved}
+use Rattle.sheet_lines.specs.laws.MovedNumbers.{numbers-moved}
 
 -- two tests pass together
 pub pass : (a b : Bool) → a ≡ true → b ≡ true → a && b ≡ true

@@ -1,5 +1,5 @@
 use Rattle.sheet_rules.specs.laws.WellFormedLaws.{distinct_ids_from_well_formed}
-use Rattle.sheet_lines.specs.Regained.{book_regained}
+use Rattle.sheet_lines.specs.laws.Regained.{book_regained}
 use Rattle.sheet_actions.specs.laws.FollowedWellFormed.{followed_well_formed}
 use Rattle.sheet_actions.proofs.laws.edit_keeps_rules.Goals as goal
 

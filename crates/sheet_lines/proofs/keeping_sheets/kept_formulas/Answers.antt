@@ -1,6 +1,6 @@
 use Rattle.std.proofs.Common.{◌≡◌, ◌<◌, length, ap, sym, subst, ◌∙◌, arith}
 use Rattle.base_values.specs.KeyMap.{with_entry}
-use Rattle.sheet_lines.specs.Kept.{kept_none, kept_more}
+use Rattle.sheet_lines.specs.laws.Kept.{kept_none, kept_more}
 use Rattle.sheet_lines.specs.KeptNumbers.{AreKeptFormulas}
 use Rattle.sheet_lines.proofs.Kepts.{no_formulas, formulas_put}
 use Rattle.sheet_lines.proofs.keeping_sheets.kept_formulas.Goals as goal

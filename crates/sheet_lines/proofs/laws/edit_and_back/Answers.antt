@@ -1,4 +1,4 @@
-use Rattle.sheet_lines.specs.Regained.{book_regained}
+use Rattle.sheet_lines.specs.laws.Regained.{book_regained}
 use Rattle.sheet_lines.proofs.laws.edit_and_back.Goals as goal
 
 pub returns : goal.returns

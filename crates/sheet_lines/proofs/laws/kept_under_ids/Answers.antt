@@ -1,6 +1,6 @@
 use Rattle.std.proofs.lemmas.List.Elements.{All-from_recursion}
 use Rattle.sheet_lines.specs.Followed.{sheet_of, name_of}
-use Rattle.sheet_lines.specs.Regained.{formulas_under, kept_elsewhere}
+use Rattle.sheet_lines.specs.laws.Regained.{formulas_under, kept_elsewhere}
 use Rattle.sheet_lines.proofs.laws.kept_under_ids.Goals as goal
 
 pub returns-clause-sheets : goal.returns-clause-sheets

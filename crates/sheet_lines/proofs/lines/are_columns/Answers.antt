@@ -1,5 +1,5 @@
 use Rattle.std.proofs.Common.{sym, ◌∙◌}
-use Rattle.sheet_lines.specs.Way.{columns_last}
+use Rattle.sheet_lines.specs.laws.Way.{columns_last}
 use Rattle.sheet_lines.proofs.lines.are_columns.Goals as goal
 
 pub returns-clause-last : goal.returns-clause-last

@@ -27,14 +27,11 @@ use Rattle.line_map.specs.Edit.{opposite_of, IsValid}
 use Rattle.line_map.specs.Carried.{Inverse, own_inverse, own_key, apart_keys, if_there, lost_map, overlaid, moved_map, get-lost_map, get-moved_map, map_regains, moved_regains}
 use Rattle.line_map.specs.Places.{place_image, place_inverse, line_inverse}
 use Rattle.sheet_lines.specs.declared.kept.KeptLines.{KeptLines}
+use Rattle.sheet_lines.specs.SheetIds.{HasDistinctIds}
 use Rattle.sheet_lines.specs.Way.{Way, back, place_goes, line_image, line_goes, are_rows, are_columns}
 use Rattle.sheet_lines.specs.Followed.{content_followed, with_tree_by, cell_moved, cell_followed, cells_followed, sheet_of, name_of, way_of, sheet_followed, book_followed}
 use Rattle.sheet_lines.specs.Kept.{tree_of, there_and_back, unless_back, kept_tree, kept_trees, is_empty, if_any, sheet_kept, kept_formulas, lost_cells, lost_links, lost_rows, lost_columns, kept_lines}
 use Rattle.sheet_lines.specs.Back.{with_tree, cells_back, moved_back, lost_of, or_empty, sheet_back, book_back}
-
--- no two sheets have one id
-abbrev pub HasDistinctIds : Book → Type 0
-HasDistinctIds book = IsDistinct ◌==◌ (map (λ sheet. sheet.id) book.worksheets)
 
 -- places go to and fro
 pub goes_inverse : (w : Way) → IsAxis w.along → IsValid w.along.last w.kind → Inverse (place_goes w) (place_goes (back w))
@@ -133,7 +130,7 @@ module _ {K X : Type 0} {R : K → K → Ordering} (total : IsTotalOrder R) (exa
   parts_regained to from i false given m h = ap (moved_map Some) (stays_map m) ∙ stays_map m
 
 -- lines of an axis go to and fro
-lines_inverse : (a : Along) (e : EditKind) → IsValid a.last e → (is_along : Bool) → Inverse (line_image a e is_along) (line_image a (opposite_of e) is_along)
+pub lines_inverse : (a : Along) (e : EditKind) → IsValid a.last e → (is_along : Bool) → Inverse (line_image a e is_along) (line_image a (opposite_of e) is_along)
 unfolding line_image
 lines_inverse a e valid true = line_inverse a.last e valid
 lines_inverse a e valid false = own_inverse

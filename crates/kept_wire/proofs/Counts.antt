@@ -1,10 +1,10 @@
 -- How many trees there are.
 use Rattle.std.proofs.Common.{◌≡◌, ℕ, suc, ◌+◌, ◌^◌, ◌<◌, ◌≤◌, ltb, Bool, true, false, List, [], ◌∷◌, ◌++◌, length, map, Option, Some, None, refl, ap, sym, ◌∙◌, append_assoc, arith}
-use Rattle.std.specs.Prelude.{is_some, nat_lt, if◌then◌else◌}
+use Rattle.std.specs.Prelude.{nat_lt, if◌then◌else◌}
 use Rattle.std.specs.Int.{w64, to_be_bytes}
 use Rattle.std.specs.List.{flat_map}
 use Rattle.std.specs.FinMap.{FinMap, entries}
-use Rattle.std.proofs.lemmas.Bool.{lt-ltb, le-ltb}
+use Rattle.std.proofs.lemmas.Bool.{lt-ltb, le-ltb, ltb-true}
 use Rattle.std.proofs.lemmas.List.{length-append}
 use Rattle.base_values.specs.Places.{position_cmp}
 use Rattle.formula_tree.specs.declared.Node.{Node}
@@ -41,13 +41,14 @@ some_is : (b : Bool) (n count : ℕ) → (if b then Some n else None) ≡ Some c
 some_is true n count h = cc
 some_is false n count h = absurd cc
 
-some_where : (b : Bool) (n : ℕ) → is_some (if b then Some n else None) ≡ b
-some_where true n = refl
-some_where false n = refl
+some_few : (b : Bool) (n count : ℕ) → (if b then Some n else None) ≡ Some count → b ≡ true
+some_few true n count h = refl
+some_few false n count h = absurd cc
 
-pub count_there : (f : Formulas) → is_some (tree_count f) ≡ nat_lt (length (flat f)) (2 ^ 64)
+-- where they are counted they are few
+pub few_there : (f : Formulas) (count : ℕ) → tree_count f ≡ Some count → length (flat f) < 2 ^ 64
 unfolding tree_count
-count_there f = some_where (nat_lt (length (flat f)) (2 ^ 64)) (length (flat f))
+few_there f count h = ltb-true (length (flat f)) (2 ^ 64) (some_few (nat_lt (length (flat f)) (2 ^ 64)) (length (flat f)) count h)
 
 -- the count is written, and the trees of all sheets are left
 pub counted : (f : Formulas) (count : ℕ) → tree_count f ≡ Some count → (out after : List ℕ) (es : List (ℕ × FinMap position_cmp Node)) → es ≡ entries f → after ≡ out ++ to_be_bytes w64 count

@@ -3,3 +3,4 @@ pub mod Entries
 pub mod Written
 pub mod Reinserted
 pub mod Counts
+mod Known

@@ -1,7 +1,5 @@
 -- The bytes of trees by sheet and place: those of one map from both.
-use Rattle.std.specs.Prelude.{ℕ, ◌^◌, List, length, Option, Some, None, nat_lt, if◌then◌else◌, IfSome, IsTrue}
-use Rattle.formula_tree.specs.Numbers.{has_kept_numbers}
-use Rattle.formula_tree.specs.Depth.{is_within}
+use Rattle.std.specs.Prelude.{ℕ, ◌^◌, List, length, Option, Some, None, nat_lt, if◌then◌else◌, IfSome}
 use Rattle.std.specs.Ordering.{nat_cmp}
 use Rattle.std.specs.declared.cmp.Ordering.{Ordering}
 use Rattle.std.specs.FinMap.{FinMap, get}
@@ -12,7 +10,7 @@ use Rattle.base_wire.specs.Reading.{Reader, map_at}
 use Rattle.base_wire.specs.Spelling.{FitsItems}
 use Rattle.base_wire.specs.Spelling.{Both}
 use Rattle.formula_wire.specs.NodeBytes.{spell_node, node_at}
-use Rattle.formula_wire.specs.Carried.{FitsNode}
+use Rattle.formula_wire.specs.Carried.{FitsNode, IsKnownNode}
 use Rattle.kept_wire.specs.MapBytes.{spell_entries, entries_at}
 use Rattle.kept_wire.specs.KeyBytes.{spell_sheet_place, sheet_place_at, IsSheetPlace}
 use Rattle.kept_wire.specs.Nested.{pair_cmp, flat, grouped, EachHasSome}
@@ -42,4 +40,4 @@ tree_count formulas = if nat_lt (length (flat formulas)) (2 ^ 64) then Some (len
 
 -- trees of Rust's own types whose numbers are kept, and that are at most 64 deep
 abbrev pub AreKnownTrees : FinMap position_cmp Node → Type 0
-AreKnownTrees trees = (place : Position) → IfSome (get trees place) (λ tree. IsTrue (has_kept_numbers tree) × IsTrue (is_within 64 tree))
+AreKnownTrees trees = (place : Position) → IfSome (get trees place) IsKnownNode

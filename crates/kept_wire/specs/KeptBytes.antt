@@ -1,28 +1,25 @@
 -- The bytes of what line edits keep of a workbook.
-use Rattle.std.specs.Prelude.{◌≡◌, ℕ, pos, List, ◌∷◌, ◌++◌, IsTrue}
-use Rattle.formula_content.specs.Fitting.{is_shallow}
-use Rattle.sheet_grid.specs.KeptCell.{IsKeptCell}
+use Rattle.std.specs.Prelude.{◌≡◌, ℕ, ℤ, pos, false, List, ◌∷◌, ◌++◌, IfSome}
 use Rattle.std.specs.Int.{w32, w64, to_be_bytes}
 use Rattle.std.specs.Ordering.{int_cmp}
-use Rattle.std.specs.FinMap.{FinMap, empty}
+use Rattle.std.specs.FinMap.{FinMap, empty, get}
 use Rattle.base_values.specs.Places.{position_cmp, IsPlace, IsRow}
+use Rattle.base_values.specs.declared.Position.{Position}
+use Rattle.sheet_grid.specs.Lines.{is_plain_row}
 use Rattle.sheet_grid.specs.declared.Cell.{Cell}
 use Rattle.sheet_grid.specs.declared.Link.{Link}
 use Rattle.sheet_grid.specs.declared.RowAttr.{RowAttr}
 use Rattle.sheet_lines.specs.declared.kept.KeptLines.{KeptLines}
 use Rattle.base_wire.specs.Reading.{Reader, plain, map_at, ◌⊗◌, after}
 use Rattle.base_wire.specs.Spelling.{spell_signed}
-use Rattle.cell_wire.specs.CellBytes.{spell_position, spell_cell, cell_at, FitsCell}
+use Rattle.cell_wire.specs.CellBytes.{spell_position, spell_cell, cell_at, FitsCell, IsKnownCell}
 use Rattle.kept_wire.specs.MapBytes.{spell_map, map_of_at, FitsMap}
 use Rattle.kept_wire.specs.KeyBytes.{place_at, line_at}
 use Rattle.kept_wire.specs.LineBytes.{spell_link, link_at, FitsLink, spell_row, row_at, FitsRow}
-use Rattle.kept_wire.specs.FormulaBytes.{Formulas, spell_formulas, formulas_at, FitsFormulas}
+use Rattle.kept_wire.specs.FormulaBytes.{Formulas, spell_formulas, formulas_at, FitsFormulas, AreKnownTrees}
+use Rattle.kept_wire.specs.Nested.{EachHasSome}
 
 -- ---- maps
-
--- a cell of Rust's own types whose numbers are kept, and that holds no formula deeper than 64
-abbrev pub IsKnownCell : Cell → Type 0
-IsKnownCell cell = IsKeptCell cell × IsTrue (is_shallow cell.content)
 
 unfoldable pub cells_at : Reader (FinMap position_cmp Cell)
 cells_at = map_of_at position_cmp place_at cell_at
@@ -58,3 +55,12 @@ pub record FitsKeptRows (kept : KeptLines) : Type 0 where
   pub rows : FitsMap IsRow FitsRow kept.rows
   pub columns : kept.columns ≡ empty
   pub formulas : FitsFormulas kept.formulas
+
+-- what writing asks: numbers are kept, trees are at most 64 deep, each row has something of its own, no column is kept, and of each sheet
+-- a tree or nothing
+pub record IsKnownKept (kept : KeptLines) : Type 0 where
+  pub cells : (place : Position) → IfSome (get kept.cells place) IsKnownCell
+  pub rows : (row : ℤ) → IfSome (get kept.rows row) (λ attr. is_plain_row attr ≡ false)
+  pub columns : kept.columns ≡ empty
+  pub trees : (id : ℕ) → IfSome (get kept.formulas id) AreKnownTrees
+  pub some : EachHasSome kept.formulas

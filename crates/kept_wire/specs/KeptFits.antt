@@ -15,16 +15,16 @@ use Rattle.sheet_grid.specs.KeptCell.{IsKeptCell}
 use Rattle.sheet_lines.specs.declared.kept.KeptLines.{KeptLines}
 use Rattle.sheet_lines.specs.KeptNumbers.{AreKeptTrees, AreKeptLines}
 use Rattle.base_wire.specs.Spelling.{Both}
-use Rattle.formula_wire.specs.Carried.{FitsNode}
+use Rattle.formula_wire.specs.Carried.{FitsNode, IsKnownNode}
 use Rattle.formula_wire.specs.laws.KeptLaws.{kept_from_carried}
-use Rattle.cell_wire.specs.CellBytes.{FitsCell}
-use Rattle.cell_wire.specs.Fitting.{kept_cell_from_fits, shallow_content_from_fits}
+use Rattle.cell_wire.specs.CellBytes.{FitsCell, IsKnownCell}
+use Rattle.cell_wire.specs.laws.Fitting.{kept_cell_from_fits, shallow_content_from_fits}
 use Rattle.kept_wire.specs.KeyBytes.{IsSheetPlace}
 use Rattle.kept_wire.specs.FitsLaws.{values_known}
 use Rattle.kept_wire.specs.NestedLaws.{inner_known}
 use Rattle.kept_wire.specs.Nested.{flat}
 use Rattle.kept_wire.specs.FormulaBytes.{AreKnownTrees}
-use Rattle.kept_wire.specs.KeptBytes.{IsKnownCell, FitsKeptRows}
+use Rattle.kept_wire.specs.KeptBytes.{FitsKeptRows}
 
 second_holds : {K X : Type 0} (P : K → Type 0) (Q : X → Type 0) (es : List (K × X)) → AllByRecursion (Both P Q) es → AllByRecursion (λ e. Q e.1) es
 second_holds P Q [] all = tt
@@ -35,10 +35,10 @@ if_some None change h = tt
 if_some (Some x) change h = change x h
 
 known_cell : (cell : Cell) → FitsCell cell → IsKnownCell cell
-known_cell cell fits = (kept_cell_from_fits cell fits, shallow_content_from_fits cell.content fits.content)
+known_cell cell fits = record { kept = kept_cell_from_fits cell fits; shallow = shallow_content_from_fits cell.content fits.content }
 
-known_tree : (tree : Node) → FitsNode tree → IsTrue (has_kept_numbers tree) × IsTrue (is_within 64 tree)
-known_tree tree fits = (kept_from_carried tree fits.carried, fits.depth)
+known_tree : (tree : Node) → FitsNode tree → IsKnownNode tree
+known_tree tree fits = record { kept = kept_from_carried tree fits.carried; depth = fits.depth }
 
 -- the numbers of its cells are kept, and their formulas at most 64 deep
 pub known_cells : (kept : KeptLines) → FitsKeptRows kept → (place : Position) → IfSome (get kept.cells place) IsKnownCell
@@ -53,6 +53,6 @@ known_trees kept fits id =
 -- so all of its numbers are kept
 pub kept_lines_from_fits : (kept : KeptLines) → FitsKeptRows kept → AreKeptLines kept
 kept_lines_from_fits kept fits = record {
-  cells = λ place. if_some (get kept.cells place) (λ cell known. known.0) (known_cells kept fits place);
-  formulas = λ id. if_some (get kept.formulas id) (λ trees all place. if_some (get trees place) (λ tree known. known.0) (all place)) (known_trees kept fits id);
+  cells = λ place. if_some (get kept.cells place) (λ cell known. known.kept) (known_cells kept fits place);
+  formulas = λ id. if_some (get kept.formulas id) (λ trees all place. if_some (get trees place) (λ tree known. known.kept) (all place)) (known_trees kept fits id);
 }

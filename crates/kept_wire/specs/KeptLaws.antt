@@ -9,6 +9,7 @@ use Rattle.base_values.specs.Places.{position_cmp, IsPlace, IsRow}
 use Rattle.base_values.specs.laws.Places.{position_total, exact_positions}
 use Rattle.base_wire.specs.Reading.{plain, after}
 use Rattle.base_wire.specs.Spelling.{spell_signed}
+use Rattle.base_wire.specs.laws.Format.{Format}
 use Rattle.base_wire.specs.laws.Again.{ReadsAgain, both_again, after_again}
 use Rattle.base_wire.specs.Spelling.{Any}
 use Rattle.base_values.specs.declared.EditError.{EditError}
@@ -22,9 +23,9 @@ use Rattle.sheet_lines.specs.declared.kept.KeptLines.{KeptLines}
 use Rattle.kept_wire.specs.FormulaBytes.{Formulas}
 use Rattle.base_wire.specs.laws.Refusals.{Refuses, IsPlain, both_plain, map_plain, plain_plain, after_plain}
 use Rattle.cell_wire.specs.CellBytes.{spell_position, spell_cell, FitsCell}
-use Rattle.cell_wire.specs.PartsAgain.{cell_again}
-use Rattle.cell_wire.specs.PartsSpelled.{cell_spelled}
-use Rattle.cell_wire.specs.Refusals.{cell_plain}
+use Rattle.cell_wire.specs.laws.PartsAgain.{cell_again}
+use Rattle.cell_wire.specs.laws.PartsSpelled.{cell_spelled}
+use Rattle.cell_wire.specs.laws.Refusals.{cell_plain}
 use Rattle.kept_wire.specs.MapBytes.{spell_map, FitsMap}
 use Rattle.kept_wire.specs.MapLaws.{made_again, made_spelled, map_of_again, map_of_spelled, map_of_plain}
 use Rattle.kept_wire.specs.KeyBytes.{place_bytes, place_again, place_spelled, place_plain, line_again, line_spelled, line_plain}
@@ -109,20 +110,10 @@ pub kept_rows_plain : IsPlain kept_rows_at
 unfolding kept_rows_at
 kept_rows_plain = map_plain kept_rows_made (both_plain cells_plain (both_plain links_plain (both_plain rows_plain (both_plain formulas_plain (after_plain nothing_more (plain_plain tt))))))
 
--- these bytes begin with the spelling of none that bytes can carry
-abbrev pub BeginsWithNoKeptRows : List ℕ → Type 0
-BeginsWithNoKeptRows bytes = (kept : KeptLines) → (rest : List ℕ) → FitsKeptRows kept → bytes ≢ spell_kept_rows kept ++ rest
+-- the three laws together
+pub kept_rows_format : Format FitsKeptRows spell_kept_rows kept_rows_at
+kept_rows_format = record { again = kept_rows_again; spelled = kept_rows_spelled; plain = kept_rows_plain }
 
--- what is read of bytes is their beginning
-pub read_is : (bytes : List ℕ) (kept : KeptLines) (rest : List ℕ) → IsBytes bytes → kept_rows_at bytes ≡ Ok (kept, rest) → (bytes ≡ spell_kept_rows kept ++ rest) × FitsKeptRows kept
-read_is bytes kept rest small e = let one = kept_rows_spelled.spelled bytes (kept, rest) small e in (one.parts, one.fits)
-
--- bytes that are refused begin with none
-pub refused_is : (bytes : List ℕ) (e : EditError) → kept_rows_at bytes ≡ Err e → (e ≡ ParseDiffs) × BeginsWithNoKeptRows bytes
-refused_is bytes e h = (
-  subst Refuses h (kept_rows_plain.only bytes),
-  λ kept rest fits same. read_twice (sym h ∙ ap kept_rows_at same ∙ kept_rows_again.again kept rest fits),
-)
-  where
-    read_twice : {A : Type 0} {x : A} → Err e ≡ Ok x → ⊥
-    read_twice both = cc
+pub kept_rows_some : (kept : KeptLines) → 1 ≤ length (spell_kept_rows kept)
+unfolding spell_kept_rows
+kept_rows_some kept = omega arith

@@ -1,10 +1,9 @@
--- The bytes of links, and of what rows and columns have of their own.
+-- The bytes of links, and of what rows have of their own.
 use Rattle.std.specs.Prelude.{ℤ, Bool, true, false, ◌≡◌, ◌&&◌, not, List, ◌++◌, ℕ, Option, is_none, IfSome, FitsSigned}
 use Rattle.std.specs.Int.{w32}
 use Rattle.base_styles.specs.declared.Style.{Style}
 use Rattle.sheet_grid.specs.declared.Link.{Link}
 use Rattle.sheet_grid.specs.declared.RowAttr.{RowAttr}
-use Rattle.sheet_grid.specs.declared.ColumnAttr.{ColumnAttr}
 use Rattle.base_wire.specs.Reading.{Reader, map_at, ◌⊗◌, check_at, signed_at, text_at, option_at}
 use Rattle.base_wire.specs.Spelling.{spell_signed, spell_code, boolean_code, spell_text, spell_option, FitsText}
 use Rattle.base_wire.specs.Parts.{boolean_at}
@@ -51,7 +50,7 @@ pub record FitsOwn (x : Option ℤ × (Option Style × Bool)) : Type 0 where
   pub style : IfSome x.1.0 FitsStyle
   pub own : is_plain_own x ≡ false
 
--- ---- rows and columns
+-- ---- rows
 
 abbrev pub own_of_row : RowAttr → Option ℤ × (Option Style × Bool)
 own_of_row attr = (attr.height, (attr.style, attr.hidden))
@@ -68,19 +67,3 @@ row_at = map_at row_made own_at
 
 abbrev pub FitsRow : RowAttr → Type 0
 FitsRow attr = FitsOwn (own_of_row attr)
-
-abbrev pub own_of_column : ColumnAttr → Option ℤ × (Option Style × Bool)
-own_of_column attr = (attr.width, (attr.style, attr.hidden))
-
-abbrev pub column_made : Option ℤ × (Option Style × Bool) → ColumnAttr
-column_made x = record { width = x.0; style = x.1.0; hidden = x.1.1 }
-
--- the width, the style, and whether it is hidden
-abbrev pub spell_column : ColumnAttr → List ℕ
-spell_column attr = spell_own (own_of_column attr)
-
-unfoldable pub column_at : Reader ColumnAttr
-column_at = map_at column_made own_at
-
-abbrev pub FitsColumn : ColumnAttr → Type 0
-FitsColumn attr = FitsOwn (own_of_column attr)

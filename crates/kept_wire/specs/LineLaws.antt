@@ -1,16 +1,21 @@
--- The laws of the bytes of links, rows and columns.
-use Rattle.std.proofs.Common.{◌≡◌, ℤ, Bool, true, false, Option, refl}
+-- The laws of the bytes of links and rows.
+use Rattle.std.proofs.Common.{◌≡◌, ◌≤◌, ◌++◌, length, ℤ, Bool, true, false, Option, refl, arith}
+use Rattle.std.proofs.lemmas.List.{length-append}
+use Rattle.sheet_grid.specs.declared.RowAttr.{RowAttr}
+use Rattle.base_wire.specs.Spelling.{spell_signed, spell_option, spell_code, boolean_code}
+use Rattle.base_wire.specs.laws.Format.{Format}
+use Rattle.cell_wire.specs.StyleBytes.{spell_style}
 use Rattle.std.specs.Prelude.{not}
 use Rattle.std.specs.Int.{w32}
 use Rattle.base_styles.specs.declared.Style.{Style}
 use Rattle.base_wire.specs.laws.Again.{ReadsAgain, both_again, map_again, check_again, wide32, signed_again, text_again, option_again}
 use Rattle.base_wire.specs.laws.Spelled.{ReadsSpelled, both_spelled, map_spelled, fits_otherwise, check_spelled, back32, signed_spelled, text_spelled, option_spelled}
 use Rattle.base_wire.specs.laws.Refusals.{IsPlain, both_plain, map_plain, check_plain, signed_plain, text_plain, option_plain}
-use Rattle.base_wire.specs.laws.Parts.{boolean_again, boolean_spelled, boolean_plain}
-use Rattle.cell_wire.specs.PartsAgain.{style_again}
-use Rattle.cell_wire.specs.PartsSpelled.{style_spelled}
-use Rattle.cell_wire.specs.Refusals.{style_plain}
-use Rattle.kept_wire.specs.LineBytes.{spell_link, link_made, link_at, FitsLink, spell_own, is_plain_own, size_at, own_style_at, own_at, FitsOwn, own_of_row, row_made, spell_row, row_at, FitsRow, own_of_column, column_made, spell_column, column_at, FitsColumn}
+use Rattle.base_wire.specs.laws.Parts.{option_some, boolean_again, boolean_spelled, boolean_plain}
+use Rattle.cell_wire.specs.laws.PartsAgain.{style_again}
+use Rattle.cell_wire.specs.laws.PartsSpelled.{style_spelled}
+use Rattle.cell_wire.specs.laws.Refusals.{style_plain}
+use Rattle.kept_wire.specs.LineBytes.{spell_link, link_made, link_at, FitsLink, spell_own, is_plain_own, size_at, own_style_at, own_at, FitsOwn, own_of_row, row_made, spell_row, row_at, FitsRow}
 
 pub link_again : ReadsAgain FitsLink spell_link link_at
 unfolding link_at
@@ -62,14 +67,13 @@ pub row_plain : IsPlain row_at
 unfolding row_at
 row_plain = map_plain row_made own_plain
 
-pub column_again : ReadsAgain FitsColumn spell_column column_at
-unfolding column_at
-column_again = map_again own_again column_made own_of_column (λ y. refl)
+-- ---- the three laws of each
 
-pub column_spelled : ReadsSpelled FitsColumn spell_column column_at
-unfolding column_at
-column_spelled = map_spelled own_spelled column_made own_of_column (λ x. refl)
+pub link_format : Format FitsLink spell_link link_at
+link_format = record { again = link_again; spelled = link_spelled; plain = link_plain }
 
-pub column_plain : IsPlain column_at
-unfolding column_at
-column_plain = map_plain column_made own_plain
+pub row_format : Format FitsRow spell_row row_at
+row_format = record { again = row_again; spelled = row_spelled; plain = row_plain }
+
+pub row_some : (attr : RowAttr) → 1 ≤ length (spell_row attr)
+row_some attr = omega (arith, option_some (spell_signed w32) attr.height, length-append (spell_option (spell_signed w32) attr.height) (spell_option spell_style attr.style ++ spell_code boolean_code attr.hidden))

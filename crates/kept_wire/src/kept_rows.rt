@@ -1,31 +1,33 @@
 //! What row edits keep of a workbook, as bytes and from them.
 
-ghost use Rattle.std.specs.Prelude.{◌≡◌, ◌≢◌, ◌++◌, ℕ, List, OnOk, IfErr, IfOk};
+ghost use Rattle.std.specs.Prelude.{◌≡◌, ◌++◌, OnOk};
 ghost use Rattle.base_values.specs.Answers.{Answers, map_ok};
-ghost use Rattle.base_values.specs.declared.EditError.TheVariants.{NoMemory, ParseDiffs};
 ghost use Rattle.base_wire.specs.Reading.{rest_after};
-ghost use Rattle.sheet_lines.specs.declared.kept.KeptLines.{KeptLines as AnyKept};
-ghost use Rattle.kept_wire.specs.KeptBytes.{cells_at, kept_rows_at, links_at, nothing_more, rows_at, spell_kept_rows, FitsKeptRows};
-ghost use Rattle.kept_wire.specs.KeptLaws.{BeginsWithNoKeptRows};
+ghost use Rattle.kept_wire.specs.KeptBytes.{cells_at, kept_rows_at, links_at, nothing_more, rows_at, spell_kept_rows, FitsKeptRows, IsKnownKept};
 
 use crate::formulas::{formulas_at, put_formulas};
 use crate::maps::{line_map_at, place_map_at, put_line_map, put_place_map};
-use base_axis::LineMap;
+use crate::values::{LinkPart, RowPart};
+use base_axis::{LineMap, RowAxis};
+use base_shared::Shared;
+use base_styles::Style;
 use base_values::EditError;
+use base_wire::Part;
+use cell_wire::CellPart;
 use sheet_lines::KeptLines;
 use std::alloc::{AllocError, Global};
 
-/// Adds the bytes of what a row edit keeps (docs/FORMATS.md, "Bytes"): its cells, links, rows and trees.
-/// Want of memory may leave some of them there.
 #[tactic(auto, unfolding(crate::specs::KeptBytes::spell_kept_rows))]
-pub fn put_kept_rows(out: &mut Vec<u8>, kept: &KeptLines) -> Result<(), AllocError>
-    ensures { OnOk result (out.new.items ≡ out.old.items ++ spell_kept_rows kept.now) }
+fn put_kept_rows(out: &mut Vec<u8>, kept: &KeptLines) -> Result<(), AllocError>
+    ensures spelled { OnOk result (out.new.items ≡ out.old.items ++ spell_kept_rows kept.now) }
+    ensures fits { OnOk result (IsKnownKept kept.now → FitsKeptRows kept.now) }
 {
-    put_place_map(out, &kept.cells)?;
-    put_place_map(out, &kept.links)?;
-    put_line_map(out, &kept.rows)?;
+    put_place_map::<CellPart>(out, &kept.cells)?;
+    put_place_map::<LinkPart>(out, &kept.links)?;
+    put_line_map::<RowAxis, RowPart>(out, &kept.rows)?;
     put_formulas(out, &kept.formulas)?;
-    out.extend_from_slice(&[0; 9])
+    out.extend_from_slice(&[0; 9])?;
+    Ok(())
 }
 
 /// What stands after the bytes of no merged cells and no rules.
@@ -39,12 +41,16 @@ fn after_nothing_more(bytes: &[u8]) -> Result<&[u8], EditError>
 }
 
 #[tactic(auto, unfolding(crate::specs::KeptBytes::kept_rows_at, crate::specs::KeptBytes::cells_at, crate::specs::KeptBytes::links_at, crate::specs::KeptBytes::rows_at))]
-fn read_kept_rows(alloc: Global, bytes: &[u8]) -> Result<(KeptLines, &[u8]), EditError>
+fn kept_rows_at<'a>(
+    alloc: Global,
+    plain: &Shared<Style>,
+    bytes: &'a [u8],
+) -> Result<(KeptLines, &'a [u8]), EditError>
     ensures { Answers (map_ok (λ x. (x.0, x.1.now)) result) (kept_rows_at bytes.now) }
 {
-    let (cells, rest) = place_map_at(alloc, bytes)?;
-    let (links, rest) = place_map_at(alloc, rest)?;
-    let (rows, rest) = line_map_at(alloc, rest)?;
+    let (cells, rest) = place_map_at::<CellPart>(alloc, plain, bytes)?;
+    let (links, rest) = place_map_at::<LinkPart>(alloc, &(), rest)?;
+    let (rows, rest) = line_map_at::<RowAxis, RowPart>(alloc, plain, rest)?;
     let (formulas, rest) = formulas_at(alloc, rest)?;
     let rest = after_nothing_more(rest)?;
     let kept = KeptLines {
@@ -57,21 +63,42 @@ fn read_kept_rows(alloc: Global, bytes: &[u8]) -> Result<(KeptLines, &[u8]), Edi
     Ok((kept, rest))
 }
 
-/// What a row edit keeps, at the front of bytes, and the bytes after it (docs/FORMATS.md, "Bytes").
+/// What a row edit keeps: its cells, links, rows and trees (docs/FORMATS.md, "What line edits keep").
 ///
-/// Refuses with `ParseDiffs` bytes that are cut short or spell none: where a map's keys don't rise
-/// strictly or lie outside the sheet, where a row has nothing of its own, or where a part is none; and
-/// with `NoMemory`.
-pub fn kept_rows_at(alloc: Global, bytes: &[u8]) -> Result<(KeptLines, &[u8]), EditError>
-    ensures read { Answers (map_ok (λ x. (x.0, x.1.now)) result) (kept_rows_at bytes.now) }
+/// Bytes spell none where a map's keys don't rise strictly or lie outside the sheet, where a row has
+/// nothing of its own, or where a part is none. Each style that is read and equal to that of the
+/// context shares it.
+pub struct KeptRowsPart;
 
-    // What is read was spelled so, and what follows it is left.
-    ensures spelled { IfOk result (λ x. bytes.now ≡ spell_kept_rows x.0 ++ x.1.now) }
-    ensures fits { IfOk result (λ x. FitsKeptRows x.0) }
+impl Part for KeptRowsPart {
+    ghost use Rattle.kept_wire.specs.KeptBytes.{kept_rows_at, spell_kept_rows, FitsKeptRows, IsKnownKept};
+    ghost use Rattle.kept_wire.specs.KeptLaws.{kept_rows_format, kept_rows_some};
 
-    // What is spelled is read, whatever follows, so bytes are refused only where they begin with none.
-    ensures again { (kept : AnyKept) → (rest : List ℕ) → FitsKeptRows kept → bytes.now ≡ spell_kept_rows kept ++ rest → Answers {T = AnyKept × List ℕ} (map_ok (λ x. (x.0, x.1.now)) result) (Ok (kept, rest)) }
-    ensures refused { IfErr result (λ e. e ≢ NoMemory → (e ≡ ParseDiffs) × BeginsWithNoKeptRows bytes.now) }
-{
-    read_kept_rows(alloc, bytes)
+    type Value = KeptLines;
+
+    type Context = Shared<Style>;
+
+    ghost Known = { IsKnownKept };
+
+    ghost Fits = { FitsKeptRows };
+
+    ghost spelling = { spell_kept_rows };
+
+    ghost reading = { kept_rows_at };
+
+    fn put(out: &mut Vec<u8>, value: &KeptLines) -> Result<(), AllocError> {
+        put_kept_rows(out, value)
+    }
+
+    fn take<'a>(
+        alloc: Global,
+        plain: &Shared<Style>,
+        bytes: &'a [u8],
+    ) -> Result<(KeptLines, &'a [u8]), EditError> {
+        kept_rows_at(alloc, plain, bytes)
+    }
+
+    ghost format = { kept_rows_format };
+
+    ghost some = { kept_rows_some };
 }

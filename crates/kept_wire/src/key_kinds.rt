@@ -6,43 +6,44 @@ ghost use Rattle.base_values.specs.Places.{IsLine, IsPlace};
 ghost use Rattle.kept_wire.specs.KeyBytes.{line_at, place_at, sheet_place_at, IsSheetPlace};
 
 use crate::keys::Keys;
+use crate::reading::read;
 use base_axis::Axis;
 use base_values::{EditError, LAST_COLUMN, LAST_ROW, Position, line_of};
-use base_wire::{i32_at, u32_at};
-use cell_wire::put_position;
-use std::alloc::AllocError;
+use base_wire::Part;
+use cell_wire::PositionPart;
+use std::alloc::{AllocError, Global};
 use std::marker::PhantomData;
 
 /// A line of an axis that ends at `last`.
 #[tactic(auto, unfolding(crate::specs::KeyBytes::line_at, base_values::specs::Places::line_of))]
-fn line_at(last: i32, bytes: &[u8]) -> Result<(i32, &[u8]), EditError>
+fn line_at(alloc: Global, last: i32, bytes: &[u8]) -> Result<(i32, &[u8]), EditError>
     ensures read { Answers (map_ok (λ x. (x.0, x.1.now)) result) (line_at last bytes.now) }
     ensures inside { IfOk result (λ x. IsLine last x.0) }
 {
-    let (line, rest) = i32_at(bytes)?;
+    let (line, rest) = read::<i32>(alloc, &(), bytes)?;
     let line = line_of(last, line, EditError::ParseDiffs)?;
     Ok((line, rest))
 }
 
 /// A row and a column of the sheet.
 #[tactic(auto, unfolding(crate::specs::KeyBytes::place_at))]
-fn place_at(bytes: &[u8]) -> Result<(Position, &[u8]), EditError>
+fn place_at(alloc: Global, bytes: &[u8]) -> Result<(Position, &[u8]), EditError>
     ensures read { Answers (map_ok (λ x. (x.0, x.1.now)) result) (place_at bytes.now) }
     ensures inside { IfOk result (λ x. IsPlace x.0) }
 {
-    let (row, rest) = line_at(LAST_ROW, bytes)?;
-    let (column, rest) = line_at(LAST_COLUMN, rest)?;
+    let (row, rest) = line_at(alloc, LAST_ROW, bytes)?;
+    let (column, rest) = line_at(alloc, LAST_COLUMN, rest)?;
     Ok((Position { row, column }, rest))
 }
 
 /// The id of a sheet, and a place of it.
 #[tactic(auto, unfolding(crate::specs::KeyBytes::sheet_place_at))]
-fn sheet_place_at(bytes: &[u8]) -> Result<((u32, Position), &[u8]), EditError>
+fn sheet_place_at(alloc: Global, bytes: &[u8]) -> Result<((u32, Position), &[u8]), EditError>
     ensures read { Answers (map_ok (λ x. (x.0, x.1.now)) result) (sheet_place_at bytes.now) }
     ensures inside { IfOk result (λ x. IsSheetPlace x.0) }
 {
-    let (sheet, rest) = u32_at(bytes)?;
-    let (place, rest) = place_at(rest)?;
+    let (sheet, rest) = read::<u32>(alloc, &(), bytes)?;
+    let (place, rest) = place_at(alloc, rest)?;
     Ok(((sheet, place), rest))
 }
 
@@ -74,11 +75,11 @@ impl Keys for PlaceKeys {
     ghost order = { position_cmp };
 
     fn put(out: &mut Vec<u8>, key: Position) -> Result<(), AllocError> {
-        put_position(out, key)
+        PositionPart::put(out, &key)
     }
 
-    fn take(bytes: &[u8]) -> Result<(Position, &[u8]), EditError> {
-        place_at(bytes)
+    fn take(alloc: Global, bytes: &[u8]) -> Result<(Position, &[u8]), EditError> {
+        place_at(alloc, bytes)
     }
 
     fn is_below(key: Position, other: Position) -> bool {
@@ -110,8 +111,8 @@ impl<A: Axis> Keys for LineKeys<A> {
         out.extend_from_slice(&key.to_be_bytes())
     }
 
-    fn take(bytes: &[u8]) -> Result<(i32, &[u8]), EditError> {
-        line_at(A::LAST, bytes)
+    fn take(alloc: Global, bytes: &[u8]) -> Result<(i32, &[u8]), EditError> {
+        line_at(alloc, A::LAST, bytes)
     }
 
     fn is_below(key: i32, other: i32) -> bool {
@@ -140,11 +141,11 @@ impl Keys for SheetPlaceKeys {
 
     fn put(out: &mut Vec<u8>, key: (u32, Position)) -> Result<(), AllocError> {
         out.extend_from_slice(&key.0.to_be_bytes())?;
-        put_position(out, key.1)
+        PositionPart::put(out, &key.1)
     }
 
-    fn take(bytes: &[u8]) -> Result<((u32, Position), &[u8]), EditError> {
-        sheet_place_at(bytes)
+    fn take(alloc: Global, bytes: &[u8]) -> Result<((u32, Position), &[u8]), EditError> {
+        sheet_place_at(alloc, bytes)
     }
 
     fn is_below(key: (u32, Position), other: (u32, Position)) -> bool {

@@ -6,7 +6,7 @@ ghost use Rattle.base_values.specs.Answers.{Answers, map_ok};
 ghost use Rattle.base_wire.specs.Reading.{Reader};
 
 use base_values::EditError;
-use std::alloc::AllocError;
+use std::alloc::{AllocError, Global};
 
 /// The keys of a map, as bytes and in their order.
 pub(crate) trait Keys {
@@ -26,7 +26,7 @@ pub(crate) trait Keys {
         ensures { OnOk result (out.new.items ≡ out.old.items ++ spelling key) };
 
     /// The key at the front of bytes, and the bytes after it. Refuses with `ParseDiffs` what is none.
-    fn take(bytes: &[u8]) -> Result<(Self::Key, &[u8]), EditError>
+    fn take(alloc: Global, bytes: &[u8]) -> Result<(Self::Key, &[u8]), EditError>
         ensures read { Answers (map_ok (λ x. (x.0, x.1.now)) result) (reading bytes.now) }
         ensures lies { IfOk result (λ x. Lies x.0) };
 

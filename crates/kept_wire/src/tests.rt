@@ -1,5 +1,8 @@
 use super::*;
+use base_shared::Shared;
+use base_styles::Style;
 use base_values::EditError;
+use base_wire::Part;
 use std::test::*;
 
 /// Each map with one entry: the number 1 in the default style at row 2 and column 3, a link to `a`
@@ -34,38 +37,49 @@ const DAMAGES: [(usize, u8); 6] = [
     (54, 1),
 ];
 
-fn is_refused(rt: HostRuntime, bytes: &[u8]) -> bool {
-    matches!(kept_rows_at(rt.alloc(), bytes), Err(EditError::ParseDiffs))
+fn is_refused(rt: HostRuntime, plain: &Shared<Style>, bytes: &[u8]) -> bool {
+    matches!(
+        KeptRowsPart::take(rt.alloc(), plain, bytes),
+        Err(EditError::ParseDiffs)
+    )
+}
+
+fn plain_style(rt: HostRuntime) -> Result<Shared<Style>, Fail> {
+    let style = Style::new(rt.alloc()).ok().ok_or("there is memory")?;
+    Ok(Shared::new(rt.alloc(), style)?)
 }
 
 #[test]
-fn damaged_rows_are_refused(rt: HostRuntime) {
+fn damaged_rows_are_refused(rt: HostRuntime) -> Result<(), Fail> {
+    let plain = plain_style(rt)?;
     for (at, byte) in DAMAGES {
         let mut bytes = TWO_ROWS;
         if let Some(place) = bytes.get_mut(at) {
             *place = byte;
         }
-        assert!(rt; is_refused(rt, &bytes));
+        assert!(rt; is_refused(rt, &plain, &bytes));
     }
     for length in 0..TWO_ROWS.len() {
-        assert!(rt; is_refused(rt, &TWO_ROWS[..length]));
+        assert!(rt; is_refused(rt, &plain, &TWO_ROWS[..length]));
     }
+    Ok(())
 }
 
 #[test]
 fn kept_rows_are_read_and_written(rt: HostRuntime) -> Result<(), Fail> {
+    let plain = plain_style(rt)?;
     let nothing = [0; 41];
     for bytes in [
         ONE_OF_EACH.as_slice(),
         TWO_ROWS.as_slice(),
         nothing.as_slice(),
     ] {
-        let (kept, rest) = kept_rows_at(rt.alloc(), bytes)
+        let (kept, rest) = KeptRowsPart::take(rt.alloc(), &plain, bytes)
             .ok()
             .ok_or("the bytes are a kept part")?;
         assert!(rt; rest.is_empty());
         let mut out = Vec::new(rt.alloc());
-        put_kept_rows(&mut out, &kept)?;
+        KeptRowsPart::put(&mut out, &kept)?;
         assert_eq!(rt; out.as_slice(), bytes);
     }
     Ok(())

@@ -20,7 +20,7 @@ use Rattle.sheet_history.specs.declared.QueueDiffs.{QueueDiffs}
 use Rattle.sheet_history.specs.Diffs.{AreShallowTrees, AreShallowLines, IsKeptDiff, IsKeptList, IsKeptQueue}
 use Rattle.cell_wire.specs.CellBytes.{FitsCell, FitsPosition}
 use Rattle.sheet_wire.specs.QueueBytes.{FitsDiff, FitsList, FitsEntry, FitsQueue}
-use Rattle.cell_wire.specs.Fitting.{shallow_content_from_fits, kept_cell_from_fits}
+use Rattle.cell_wire.specs.laws.Fitting.{shallow_content_from_fits, kept_cell_from_fits}
 use Rattle.kept_wire.specs.FormulaBytes.{AreKnownTrees}
 use Rattle.kept_wire.specs.Nested.{flat}
 use Rattle.kept_wire.specs.KeptBytes.{IsKnownCell, FitsKeptRows}

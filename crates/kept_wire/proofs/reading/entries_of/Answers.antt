@@ -10,17 +10,17 @@ returns-in_err-entry-clause-read g c =
     let p = err_from_is_err_and c.from_residual.result c.from_residual.ensures.1 in
     rw (p.1, p.2) (record {
       done = tt;
-      refused = λ other. ends (g.K.Keys.reading ⊗ g.V.Part.reading) c.reads.entries.items c.args.count c.reads.counter c.reads.rest.now _ c.reads.invariant.0 c.in_err-entry.field-0.0 c.reads-test.true (c.in_err-entry.ensures.read.refused other);
+      refused = λ other. ends (g.K.Keys.reading ⊗ g.P.Part.reading) c.reads.entries.items c.args.count c.reads.counter c.reads.rest.now _ c.reads.invariant.0 c.in_err-entry.field-0.0 c.reads-test.true (c.in_err-entry.ensures.read.refused other);
     })
 
 pub reads-preserved : goal.reads-preserved
 reads-preserved g c = (
-  rw c.in_ok-push.ensures.items (goes_on (g.K.Keys.reading ⊗ g.V.Part.reading) c.reads.entries.items c.args.count c.reads.counter c.reads.rest.now _ c.reads.invariant.0 c.in_ok-entry.entry c.in_ok-entry.after.now c.reads-test.true c.in_ok-entry.ensures.read.done),
+  rw c.in_ok-push.ensures.items (goes_on (g.K.Keys.reading ⊗ g.P.Part.reading) c.reads.entries.items c.args.count c.reads.counter c.reads.rest.now _ c.reads.invariant.0 c.in_ok-entry.entry c.in_ok-entry.after.now c.reads-test.true c.in_ok-entry.ensures.read.done),
   subst (All (λ entry. g.K.Keys.Lies entry.0)) (sym c.in_ok-push.ensures.items) (All-push (λ entry. g.K.Keys.Lies entry.0) c.reads.entries.items c.in_ok-entry.entry c.reads.invariant.1 c.in_ok-entry.ensures.lies),
 )
 
 pub returns-clause-read : goal.returns-clause-read
 returns-clause-read g c = record {
-  done = is_done (g.K.Keys.reading ⊗ g.V.Part.reading) c.reads.entries.items c.args.count c.reads.counter c.reads.rest.now _ c.reads.invariant.0 c.reads-test.false;
+  done = is_done (g.K.Keys.reading ⊗ g.P.Part.reading) c.reads.entries.items c.args.count c.reads.counter c.reads.rest.now _ c.reads.invariant.0 c.reads-test.false;
   refused = tt;
 }

@@ -1,6 +1,7 @@
 -- The bytes of a queue of diffs.
-use Rattle.std.specs.Prelude.{ℕ, ◌<◌, ◌^◌, List, [], ◌∷◌, ◌++◌, Option, Result, ◌==◌, if◌then◌else◌, IfSome, codes}
+use Rattle.std.specs.Prelude.{◌≢◌, ℕ, ◌<◌, ◌^◌, List, [], ◌∷◌, ◌++◌, Option, Result, ◌==◌, if◌then◌else◌, IfSome, codes}
 use Rattle.std.specs.Int.{w32, to_be_bytes}
+use Rattle.std.specs.List.{AllByRecursion}
 use Rattle.base_values.specs.declared.EditError.{EditError}
 use Rattle.base_values.specs.declared.Position.{Position}
 use Rattle.line_map.specs.declared.EditKind.{EditKind}
@@ -13,8 +14,9 @@ use Rattle.sheet_history.specs.declared.DiffType.TheVariants.{Undo, Redo}
 use Rattle.sheet_history.specs.declared.QueueDiffs.{QueueDiffs}
 use Rattle.base_wire.specs.Reading.{Reader, refused, map_at, ◌⊗◌, tagged_at, code_at, number_at, option_at, list_at, after, whole}
 use Rattle.base_wire.specs.Spelling.{spell_code, spell_option, spell_list, FitsItems}
-use Rattle.cell_wire.specs.CellBytes.{spell_position, position_at, FitsPosition, spell_cell, cell_at, FitsCell}
-use Rattle.sheet_wire.specs.RowsBytes.{spell_rows, rows_parts_at, FitsRows}
+use Rattle.cell_wire.specs.CellBytes.{spell_position, position_at, FitsPosition, spell_cell, cell_at, FitsCell, IsKnownCell}
+use Rattle.kept_wire.specs.KeptBytes.{IsKnownKept}
+use Rattle.sheet_wire.specs.RowsBytes.{spell_rows, rows_parts_at, FitsRows, IsKeptOfRows}
 
 -- ---- diffs
 
@@ -60,6 +62,16 @@ abbrev pub FitsDiff : Diff → Type 0
 FitsDiff (CellDiff sheet place old new) = FitsCellDiff sheet place old new
 FitsDiff (RowsDiff sheet edit kept) = FitsRows sheet edit kept
 
+-- what encoding asks of a diff: its numbers are kept, and its formulas are at most 64 deep
+abbrev pub IsKnownDiff : Diff → Type 0
+IsKnownDiff (CellDiff sheet place old new) = IfSome old IsKnownCell × IfSome new IsKnownCell
+IsKnownDiff (RowsDiff sheet edit kept) = IsKnownKept kept
+
+-- what a diff keeps, if it is one of rows, is what such an edit keeps
+abbrev pub IsKeptOfDiff : Diff → Type 0
+IsKeptOfDiff (CellDiff sheet place old new) = Unit {0}
+IsKeptOfDiff (RowsDiff sheet edit kept) = IsKeptOfRows kept
+
 -- a list of diffs that bytes can carry
 abbrev pub FitsList : List Diff → Type 0
 FitsList = FitsItems FitsDiff
@@ -90,6 +102,9 @@ entry_at = map_at entry_made (code_at direction_code directions ⊗ list_of_diff
 abbrev pub FitsEntry : QueueDiffs → Type 0
 FitsEntry entry = FitsList entry.list
 
+abbrev pub IsKnownEntry : QueueDiffs → Type 0
+IsKnownEntry entry = AllByRecursion IsKnownDiff entry.list
+
 -- ---- queues
 
 -- the bytes that every queue begins with
@@ -107,3 +122,11 @@ queue_of = whole (after magic (list_at entry_at))
 -- a queue that bytes can carry
 abbrev pub FitsQueue : List QueueDiffs → Type 0
 FitsQueue = FitsItems FitsEntry
+
+-- what encoding asks of a queue
+abbrev pub IsKnownQueue : List QueueDiffs → Type 0
+IsKnownQueue = AllByRecursion IsKnownEntry
+
+-- these bytes are the spelling of no queue that fits
+abbrev pub IsNoQueue : List ℕ → Type 0
+IsNoQueue bytes = (queue : List QueueDiffs) → FitsQueue queue → bytes ≢ spell_queue queue

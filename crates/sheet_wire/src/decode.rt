@@ -3,45 +3,46 @@
 ghost use Rattle.std.specs.Prelude.{◌≡◌, ◌≢◌, [], ◌∷◌, IfErr, IfOk, List};
 ghost use Rattle.base_values.specs.Answers.{Answers, map_ok};
 ghost use Rattle.base_values.specs.declared.EditError.TheVariants.{NoMemory, ParseDiffs};
-ghost use Rattle.base_wire.specs.Reading.{code_at, many_at, rest_after};
+ghost use Rattle.base_wire.specs.Reading.{code_at, rest_after};
 ghost use Rattle.sheet_wire.specs.RowsBytes.{edit_at, lines_at};
-ghost use Rattle.sheet_wire.specs.QueueBytes.{cell_diff_at, diff_at, direction_code, directions, entry_at, entry_of_cell_at, rows_diff_at, list_of_diffs_at, magic, queue_of, spell_queue, FitsQueue};
-ghost use Rattle.sheet_wire.specs.QueueLaws.{IsNoQueue};
+ghost use Rattle.sheet_wire.specs.QueueBytes.{cell_diff_at, diff_at, direction_code, directions, entry_at, rows_diff_at, magic, queue_of, spell_queue, FitsQueue, IsNoQueue};
 ghost use Rattle.sheet_history.specs.declared.QueueDiffs.{QueueDiffs};
 
 use crate::codes::direction_of;
+use crate::parts::{DiffPart, EntryPart};
+use base_shared::Shared;
+use base_styles::Style;
 use base_values::{EditError, Items};
-use base_wire::{byte_at, count_at, i32_at, u32_at};
-use cell_wire::{cell_at, position_at};
-use kept_wire::kept_rows_at;
+use base_wire::Part;
+use cell_wire::{CellPart, PositionPart};
+use kept_wire::KeptRowsPart;
 use line_map::EditKind;
-use sheet_grid::Cell;
-use sheet_history::{Diff, DiffList, DiffType, QueueDiffs};
+use sheet_history::{Diff, DiffType, QueueDiffs};
 use std::alloc::Global;
 
-#[tactic(auto, unfolding(crate::specs::QueueBytes::entry_of_cell_at))]
-fn entry_of_cell_at(alloc: Global, bytes: &[u8]) -> Result<(Option<Cell>, &[u8]), EditError>
-    ensures { Answers (map_ok (λ x. (x.0, x.1.now)) result) (entry_of_cell_at bytes.now) }
+/// A part at the front of bytes, by the steps of its reader, which proofs of this crate follow.
+fn read<'a, P: Part>(
+    alloc: Global,
+    context: &P::Context,
+    bytes: &'a [u8],
+) -> Result<(P::Value, &'a [u8]), EditError>
+    ensures { Answers (map_ok (λ x. (x.0, x.1.now)) result) (P.reading bytes.now) }
 {
-    let (flag, rest) = byte_at(bytes)?;
-    match flag {
-        0 => Ok((None, rest)),
-        1 => {
-            let (cell, rest) = cell_at(alloc, rest)?;
-            Ok((Some(cell), rest))
-        }
-        _ => Err(EditError::ParseDiffs),
-    }
+    P::take(alloc, context, bytes)
 }
 
-#[tactic(auto, unfolding(crate::specs::QueueBytes::cell_diff_at))]
-fn cell_diff_at(alloc: Global, bytes: &[u8]) -> Result<(Diff, &[u8]), EditError>
+#[tactic(auto, unfolding(crate::specs::QueueBytes::cell_diff_at, crate::specs::QueueBytes::entry_of_cell_at))]
+fn cell_diff_at<'a>(
+    alloc: Global,
+    plain: &Shared<Style>,
+    bytes: &'a [u8],
+) -> Result<(Diff, &'a [u8]), EditError>
     ensures { Answers (map_ok (λ x. (x.0, x.1.now)) result) (cell_diff_at bytes.now) }
 {
-    let (sheet, rest) = u32_at(bytes)?;
-    let (position, rest) = position_at(rest)?;
-    let (old, rest) = entry_of_cell_at(alloc, rest)?;
-    let (new, rest) = entry_of_cell_at(alloc, rest)?;
+    let (sheet, rest) = read::<u32>(alloc, &(), bytes)?;
+    let (position, rest) = read::<PositionPart>(alloc, &(), rest)?;
+    let (old, rest) = read::<Option<CellPart>>(alloc, plain, rest)?;
+    let (new, rest) = read::<Option<CellPart>>(alloc, plain, rest)?;
     let diff = Diff::Cell {
         sheet,
         position,
@@ -52,26 +53,26 @@ fn cell_diff_at(alloc: Global, bytes: &[u8]) -> Result<(Diff, &[u8]), EditError>
 }
 
 /// The first line of an edit, and how many.
-fn lines_at(bytes: &[u8]) -> Result<((i32, i32), &[u8]), EditError>
+fn lines_at(alloc: Global, bytes: &[u8]) -> Result<((i32, i32), &[u8]), EditError>
     ensures { Answers (map_ok (λ x. (x.0, x.1.now)) result) (lines_at bytes.now) }
 {
-    let (first, rest) = i32_at(bytes)?;
-    let (count, rest) = i32_at(rest)?;
+    let (first, rest) = read::<i32>(alloc, &(), bytes)?;
+    let (count, rest) = read::<i32>(alloc, &(), rest)?;
     Ok(((first, count), rest))
 }
 
 #[tactic(auto, unfolding(crate::specs::RowsBytes::edit_at))]
-fn edit_at(bytes: &[u8]) -> Result<(EditKind, &[u8]), EditError>
+fn edit_at(alloc: Global, bytes: &[u8]) -> Result<(EditKind, &[u8]), EditError>
     ensures { Answers (map_ok (λ x. (x.0, x.1.now)) result) (edit_at bytes.now) }
 {
-    let (kind, rest) = byte_at(bytes)?;
+    let (kind, rest) = read::<u8>(alloc, &(), bytes)?;
     match kind {
         0 => {
-            let ((first, count), rest) = lines_at(rest)?;
+            let ((first, count), rest) = lines_at(alloc, rest)?;
             Ok((EditKind::Insert { first, count }, rest))
         }
         1 => {
-            let ((first, count), rest) = lines_at(rest)?;
+            let ((first, count), rest) = lines_at(alloc, rest)?;
             Ok((EditKind::Delete { first, count }, rest))
         }
         _ => Err(EditError::ParseDiffs),
@@ -89,84 +90,55 @@ fn after_rows(bytes: &[u8]) -> Result<&[u8], EditError>
 }
 
 #[tactic(auto, unfolding(crate::specs::QueueBytes::rows_diff_at))]
-fn rows_diff_at(alloc: Global, bytes: &[u8]) -> Result<(Diff, &[u8]), EditError>
+fn rows_diff_at<'a>(
+    alloc: Global,
+    plain: &Shared<Style>,
+    bytes: &'a [u8],
+) -> Result<(Diff, &'a [u8]), EditError>
     ensures { Answers (map_ok (λ x. (x.0, x.1.now)) result) (rows_diff_at bytes.now) }
 {
-    let (sheet, rest) = u32_at(bytes)?;
+    let (sheet, rest) = read::<u32>(alloc, &(), bytes)?;
     let rest = after_rows(rest)?;
-    let (edit, rest) = edit_at(rest)?;
-    let (kept, rest) = kept_rows_at(alloc, rest)?;
+    let (edit, rest) = edit_at(alloc, rest)?;
+    let (kept, rest) = read::<Shared<KeptRowsPart>>(alloc, plain, rest)?;
     Ok((Diff::Rows { sheet, edit, kept }, rest))
 }
 
 #[tactic(auto, unfolding(crate::specs::QueueBytes::diff_at))]
-fn diff_at(alloc: Global, bytes: &[u8]) -> Result<(Diff, &[u8]), EditError>
+pub(crate) fn diff_at<'a>(
+    alloc: Global,
+    plain: &Shared<Style>,
+    bytes: &'a [u8],
+) -> Result<(Diff, &'a [u8]), EditError>
     ensures { Answers (map_ok (λ x. (x.0, x.1.now)) result) (diff_at bytes.now) }
 {
-    let (tag, rest) = byte_at(bytes)?;
+    let (tag, rest) = read::<u8>(alloc, &(), bytes)?;
     match tag {
-        1 => cell_diff_at(alloc, rest),
-        7 => rows_diff_at(alloc, rest),
+        1 => cell_diff_at(alloc, plain, rest),
+        7 => rows_diff_at(alloc, plain, rest),
         _ => Err(EditError::ParseDiffs),
     }
 }
 
-fn direction_at(bytes: &[u8]) -> Result<(DiffType, &[u8]), EditError>
+fn direction_at(alloc: Global, bytes: &[u8]) -> Result<(DiffType, &[u8]), EditError>
     ensures { Answers (map_ok (λ x. (x.0, x.1.now)) result) (code_at direction_code directions bytes.now) }
 {
-    let (code, rest) = byte_at(bytes)?;
+    let (code, rest) = read::<u8>(alloc, &(), bytes)?;
     let kind = direction_of(code)?;
     Ok((kind, rest))
 }
 
-/// The diffs of a list, so many.
-fn diffs_of(alloc: Global, count: u64, bytes: &[u8]) -> Result<(Vec<Diff>, &[u8]), EditError>
-    ensures { Answers (map_ok (λ x. (x.0.items, x.1.now)) result) (many_at diff_at count bytes.now) }
-{
-    let mut diffs = Vec::new(alloc);
-    let mut rest = bytes;
-    'reads: for _ in 0..count {
-        let (diff, after) = diff_at(alloc, rest)?;
-        diffs.push(diff)?;
-        rest = after;
-    }
-    Ok((diffs, rest))
-}
-
-#[tactic(auto, unfolding(crate::specs::QueueBytes::list_of_diffs_at))]
-fn list_of_diffs_at(alloc: Global, bytes: &[u8]) -> Result<(DiffList, &[u8]), EditError>
-    ensures { Answers (map_ok (λ x. (x.0, x.1.now)) result) (list_of_diffs_at bytes.now) }
-{
-    let (count, rest) = count_at(bytes)?;
-    let (diffs, rest) = diffs_of(alloc, count, rest)?;
-    Ok((Items::new(diffs), rest))
-}
-
-#[tactic(auto, unfolding(crate::specs::QueueBytes::entry_at))]
-fn entry_at(alloc: Global, bytes: &[u8]) -> Result<(QueueDiffs, &[u8]), EditError>
+#[tactic(auto, unfolding(crate::specs::QueueBytes::entry_at, crate::specs::QueueBytes::list_of_diffs_at))]
+pub(crate) fn entry_at<'a>(
+    alloc: Global,
+    plain: &Shared<Style>,
+    bytes: &'a [u8],
+) -> Result<(QueueDiffs, &'a [u8]), EditError>
     ensures { Answers (map_ok (λ x. (x.0, x.1.now)) result) (entry_at bytes.now) }
 {
-    let (kind, rest) = direction_at(bytes)?;
-    let (list, rest) = list_of_diffs_at(alloc, rest)?;
+    let (kind, rest) = direction_at(alloc, bytes)?;
+    let (list, rest) = read::<Shared<Items<DiffPart>>>(alloc, plain, rest)?;
     Ok((QueueDiffs { kind, list }, rest))
-}
-
-/// The entries of a queue, so many.
-fn entries_of(
-    alloc: Global,
-    count: u64,
-    bytes: &[u8],
-) -> Result<(Vec<QueueDiffs>, &[u8]), EditError>
-    ensures { Answers (map_ok (λ x. (x.0.items, x.1.now)) result) (many_at entry_at count bytes.now) }
-{
-    let mut entries = Vec::new(alloc);
-    let mut rest = bytes;
-    'reads: for _ in 0..count {
-        let (entry, after) = entry_at(alloc, rest)?;
-        entries.push(entry)?;
-        rest = after;
-    }
-    Ok((entries, rest))
 }
 
 /// What stands after the bytes that every queue begins with.
@@ -180,26 +152,32 @@ fn after_magic(bytes: &[u8]) -> Result<&[u8], EditError>
 }
 
 #[tactic(auto, unfolding(crate::specs::QueueBytes::queue_of))]
-fn read_queue(alloc: Global, bytes: &[u8]) -> Result<Items<QueueDiffs>, EditError>
+fn read_queue(
+    alloc: Global,
+    plain: &Shared<Style>,
+    bytes: &[u8],
+) -> Result<Items<QueueDiffs>, EditError>
     ensures { Answers result (queue_of bytes.now) }
 {
     let rest = after_magic(bytes)?;
-    let (count, rest) = count_at(rest)?;
-    let (entries, rest) = entries_of(alloc, count, rest)?;
+    let (entries, rest) = read::<Items<EntryPart>>(alloc, plain, rest)?;
     if !rest.is_empty() {
         return Err(EditError::ParseDiffs);
     }
-    Ok(Items::new(entries))
+    Ok(entries)
 }
 
-/// The queue of diffs that all of these bytes spell.
+/// The queue of diffs that all of these bytes spell (docs/FORMATS.md, "Bytes"). Each style in it that is equal
+/// to the plain one shares it.
 ///
 /// `ParseDiffs` where they are the spelling of no queue: where they are cut short or go on, begin
-/// otherwise, or where a tag, a code, a count, a decimal or a text in them is not one. Else only
-/// want of memory is refused.
-pub fn decode_queue(alloc: Global, bytes: &[u8]) -> Result<Items<QueueDiffs>, EditError>
-    ensures read { Answers result (queue_of bytes.now) }
-
+/// otherwise, or where a tag, a code, a count, a decimal or a text in them is not one. Else
+/// refuses with `NoMemory` alone.
+pub fn decode_queue(
+    alloc: Global,
+    plain: &Shared<Style>,
+    bytes: &[u8],
+) -> Result<Items<QueueDiffs>, EditError>
     // What is read was spelled so.
     ensures spelled { IfOk result (λ queue. bytes.now ≡ spell_queue queue) }
     ensures fits { IfOk result FitsQueue }
@@ -208,5 +186,5 @@ pub fn decode_queue(alloc: Global, bytes: &[u8]) -> Result<Items<QueueDiffs>, Ed
     ensures again { (queue : List QueueDiffs) → FitsQueue queue → bytes.now ≡ spell_queue queue → Answers result (Ok queue) }
     ensures refused { IfErr result (λ e. e ≢ NoMemory → (e ≡ ParseDiffs) × IsNoQueue bytes.now) }
 {
-    read_queue(alloc, bytes)
+    read_queue(alloc, plain, bytes)
 }

@@ -3,33 +3,22 @@
 ghost use Rattle.std.specs.Prelude.{◌≡◌, ◌++◌, ◌∷◌, OnOk, IfOk, IsOkUnless};
 ghost use Rattle.std.specs.Int.{w32};
 ghost use Rattle.base_values.specs.declared.EditError.TheVariants.{NoMemory};
-ghost use Rattle.base_wire.specs.Spelling.{spell_option, spell_signed};
-ghost use Rattle.cell_wire.specs.CellBytes.{spell_cell};
-ghost use Rattle.sheet_wire.specs.RowsBytes.{spell_edit, spell_rows};
-ghost use Rattle.sheet_wire.specs.QueueBytes.{spell_diff, spell_entry, spell_queue};
+ghost use Rattle.base_wire.specs.Spelling.{spell_signed};
+ghost use Rattle.kept_wire.specs.KeptBytes.{IsKnownKept};
+ghost use Rattle.sheet_wire.specs.RowsBytes.{spell_edit, spell_rows, FitsEdit, FitsRows};
+ghost use Rattle.sheet_wire.specs.QueueBytes.{spell_diff, spell_entry, spell_queue, FitsDiff, FitsEntry, FitsQueue, IsKnownDiff, IsKnownEntry, IsKnownQueue};
 
 use crate::codes::direction_code;
-use base_values::EditError;
-use cell_wire::{put_cell, put_position};
-use kept_wire::put_kept_rows;
+use crate::parts::{DiffPart, EntryPart};
+use base_shared::Shared;
+use base_values::{EditError, Items};
+use base_wire::{Part, put_items};
+use cell_wire::{CellPart, PositionPart};
+use kept_wire::KeptRowsPart;
 use line_map::EditKind;
-use sheet_grid::Cell;
 use sheet_history::{Diff, QueueDiffs};
 use sheet_lines::KeptLines;
 use std::alloc::{AllocError, Global};
-
-fn put_entry_of_cell(out: &mut Vec<u8>, entry: &Option<Cell>) -> Result<(), AllocError>
-    ensures { OnOk result (out.new.items ≡ out.old.items ++ spell_option spell_cell entry.now) }
-{
-    match entry {
-        None => out.push(0)?,
-        Some(cell) => {
-            out.push(1)?;
-            put_cell(out, cell)?;
-        }
-    }
-    Ok(())
-}
 
 /// Adds the byte of a kind of edit, the first line and how many.
 fn put_lines(out: &mut Vec<u8>, kind: u8, first: i32, count: i32) -> Result<(), AllocError>
@@ -41,7 +30,8 @@ fn put_lines(out: &mut Vec<u8>, kind: u8, first: i32, count: i32) -> Result<(), 
 }
 
 fn put_edit(out: &mut Vec<u8>, edit: EditKind) -> Result<(), AllocError>
-    ensures { OnOk result (out.new.items ≡ out.old.items ++ spell_edit edit) }
+    ensures spelled { OnOk result (out.new.items ≡ out.old.items ++ spell_edit edit) }
+    ensures fits { OnOk result (FitsEdit edit) }
 {
     match edit {
         EditKind::Insert { first, count } => put_lines(out, 0, first, count),
@@ -54,18 +44,21 @@ fn put_rows(
     out: &mut Vec<u8>,
     sheet: u32,
     edit: EditKind,
-    kept: &KeptLines,
+    kept: &Shared<KeptLines>,
 ) -> Result<(), AllocError>
-    ensures { OnOk result (out.new.items ≡ out.old.items ++ spell_rows sheet edit kept.now) }
+    ensures spelled { OnOk result (out.new.items ≡ out.old.items ++ spell_rows sheet edit kept.now) }
+    ensures fits { OnOk result (IsKnownKept kept.now → FitsRows sheet edit kept.now) }
 {
     out.extend_from_slice(&sheet.to_be_bytes())?;
     out.push(0)?;
     put_edit(out, edit)?;
-    put_kept_rows(out, kept)
+    Shared::<KeptRowsPart>::put(out, kept)?;
+    Ok(())
 }
 
-fn put_diff(out: &mut Vec<u8>, diff: &Diff) -> Result<(), AllocError>
-    ensures { OnOk result (out.new.items ≡ out.old.items ++ spell_diff diff.now) }
+pub(crate) fn put_diff(out: &mut Vec<u8>, diff: &Diff) -> Result<(), AllocError>
+    ensures spelled { OnOk result (out.new.items ≡ out.old.items ++ spell_diff diff.now) }
+    ensures fits { OnOk result (IsKnownDiff diff.now → FitsDiff diff.now) }
 {
     match diff {
         Diff::Cell {
@@ -76,39 +69,36 @@ fn put_diff(out: &mut Vec<u8>, diff: &Diff) -> Result<(), AllocError>
         } => {
             out.push(1)?;
             out.extend_from_slice(&sheet.to_be_bytes())?;
-            put_position(out, *position)?;
-            put_entry_of_cell(out, old)?;
-            put_entry_of_cell(out, new)
+            PositionPart::put(out, position)?;
+            Option::<CellPart>::put(out, old)?;
+            Option::<CellPart>::put(out, new)?;
         }
         Diff::Rows { sheet, edit, kept } => {
             out.push(7)?;
-            put_rows(out, *sheet, *edit, kept)
+            put_rows(out, *sheet, *edit, kept)?;
         }
-    }
-}
-
-fn put_entry(out: &mut Vec<u8>, entry: &QueueDiffs) -> Result<(), AllocError>
-    ensures { OnOk result (out.new.items ≡ out.old.items ++ spell_entry entry.now) }
-{
-    out.push(direction_code(entry.kind))?;
-    let diffs = entry.list.as_slice();
-    out.extend_from_slice(&(diffs.len() as u64).to_be_bytes())?;
-    for diff in diffs {
-        put_diff(out, diff)?;
     }
     Ok(())
 }
 
-/// The bytes of a queue of diffs. Only want of memory is refused.
+pub(crate) fn put_entry(out: &mut Vec<u8>, entry: &QueueDiffs) -> Result<(), AllocError>
+    ensures spelled { OnOk result (out.new.items ≡ out.old.items ++ spell_entry entry.now) }
+    ensures fits { OnOk result (IsKnownEntry entry.now → FitsEntry entry.now) }
+{
+    out.push(direction_code(entry.kind))?;
+    Shared::<Items<DiffPart>>::put(out, &entry.list)
+}
+
+/// The bytes of a queue of diffs, whose numbers are canonical and whose trees are at most 64 deep. They can
+/// be read again as the queue (docs/FORMATS.md, "Bytes"). Refuses with `NoMemory` alone.
 #[tactic(auto, unfolding(crate::specs::QueueBytes::spell_queue))]
 pub fn encode_queue(alloc: Global, queue: &[QueueDiffs]) -> Result<Vec<u8>, EditError>
+    requires known { IsKnownQueue queue.now }
     ensures spelled { IfOk result (λ bytes. bytes.items ≡ spell_queue queue.now) }
+    ensures fits { IfOk result (λ _. FitsQueue queue.now) }
     ensures only { IsOkUnless result NoMemory }
 {
     let mut out = Vec::from_slice(alloc, b"ICQ1")?;
-    out.extend_from_slice(&(queue.len() as u64).to_be_bytes())?;
-    for entry in queue {
-        put_entry(&mut out, entry)?;
-    }
+    put_items::<EntryPart>(&mut out, queue)?;
     Ok(out)
 }

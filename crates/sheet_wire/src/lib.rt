@@ -1,19 +1,18 @@
 //! Queues of diffs as bytes, in both directions.
 //!
-//! The layers above see a spelling, which is a function of the value, and a reading function on
-//! lists of bytes. Each value that bytes can carry has one spelling, which is read again as that
-//! value; and what is read was spelled so. What bytes can carry is every value of Rust's own types
-//! whose numbers are as a sheet keeps them.
+//! The layers above see a spelling, which is a function of the value. Each value that bytes can carry has
+//! one spelling, which is read again as that value, and what is read was spelled so. What bytes can
+//! carry is every value of Rust's own types whose numbers are canonical and whose trees are at most
+//! 64 deep.
 #![tactic(auto)]
 
 mod codes;
 mod decode;
 mod encode;
-mod fitting;
+mod parts;
 
 pub use decode::decode_queue;
 pub use encode::encode_queue;
-pub use fitting::diff_fits;
 
 #[cfg(test)]
 mod tests;

@@ -1,4 +1,5 @@
 use super::*;
+use base_shared::Shared;
 use base_styles::Style;
 use base_values::EditError;
 use cell_wire::encode_style;
@@ -56,12 +57,21 @@ const DAMAGES: [[(usize, u8); 2]; 10] = [
     [(34, 2), (34, 2)],
 ];
 
-fn is_refused(rt: HostRuntime, bytes: &[u8]) -> bool {
-    matches!(decode_queue(rt.alloc(), bytes), Err(EditError::ParseDiffs))
+fn is_refused(rt: HostRuntime, plain: &Shared<Style>, bytes: &[u8]) -> bool {
+    matches!(
+        decode_queue(rt.alloc(), plain, bytes),
+        Err(EditError::ParseDiffs)
+    )
+}
+
+fn plain_style(rt: HostRuntime) -> Result<Shared<Style>, Fail> {
+    let style = Style::new(rt.alloc()).ok().ok_or("there is memory")?;
+    Ok(Shared::new(rt.alloc(), style)?)
 }
 
 #[test]
-fn damaged_queues_are_refused(rt: HostRuntime) {
+fn damaged_queues_are_refused(rt: HostRuntime) -> Result<(), Fail> {
+    let plain = plain_style(rt)?;
     for damage in DAMAGES {
         let mut bytes = ONE_CELL;
         for (at, byte) in damage {
@@ -69,24 +79,28 @@ fn damaged_queues_are_refused(rt: HostRuntime) {
                 *place = byte;
             }
         }
-        assert!(rt; is_refused(rt, &bytes));
+        assert!(rt; is_refused(rt, &plain, &bytes));
     }
+    Ok(())
 }
 
 #[test]
-fn damaged_edits_of_rows_are_refused(rt: HostRuntime) {
+fn damaged_edits_of_rows_are_refused(rt: HostRuntime) -> Result<(), Fail> {
+    let plain = plain_style(rt)?;
     for (at, byte) in DAMAGED_ROWS {
         let mut bytes = ROWS;
         if let Some(place) = bytes.get_mut(at) {
             *place = byte;
         }
-        assert!(rt; is_refused(rt, &bytes));
+        assert!(rt; is_refused(rt, &plain, &bytes));
     }
+    Ok(())
 }
 
 #[test]
 fn edits_of_rows_are_read_and_written(rt: HostRuntime) -> Result<(), Fail> {
-    let queue = decode_queue(rt.alloc(), &ROWS)
+    let plain = plain_style(rt)?;
+    let queue = decode_queue(rt.alloc(), &plain, &ROWS)
         .ok()
         .ok_or("the bytes are a queue")?;
     let bytes = encode_queue(rt.alloc(), queue.as_slice())
@@ -97,29 +111,33 @@ fn edits_of_rows_are_read_and_written(rt: HostRuntime) -> Result<(), Fail> {
 }
 
 #[test]
-fn cut_queues_are_refused(rt: HostRuntime) {
+fn cut_queues_are_refused(rt: HostRuntime) -> Result<(), Fail> {
+    let plain = plain_style(rt)?;
     for length in 0..ONE_CELL.len() {
-        assert!(rt; is_refused(rt, &ONE_CELL[..length]));
+        assert!(rt; is_refused(rt, &plain, &ONE_CELL[..length]));
     }
+    Ok(())
 }
 
 #[test]
 fn counts_and_ends_are_exact(rt: HostRuntime) -> Result<(), Fail> {
+    let plain = plain_style(rt)?;
     let mut many_entries = ONE_CELL;
     many_entries[4..12].fill(255);
-    assert!(rt; is_refused(rt, &many_entries));
+    assert!(rt; is_refused(rt, &plain, &many_entries));
     let mut many_diffs = ONE_CELL;
     many_diffs[13..21].fill(255);
-    assert!(rt; is_refused(rt, &many_diffs));
+    assert!(rt; is_refused(rt, &plain, &many_diffs));
     let mut longer = Vec::from_slice(rt.alloc(), &ONE_CELL)?;
     longer.push(0)?;
-    assert!(rt; is_refused(rt, &longer));
+    assert!(rt; is_refused(rt, &plain, &longer));
     Ok(())
 }
 
 #[test]
 fn whole_queues_are_read_and_written(rt: HostRuntime) -> Result<(), Fail> {
-    let queue = decode_queue(rt.alloc(), &ONE_CELL)
+    let plain = plain_style(rt)?;
+    let queue = decode_queue(rt.alloc(), &plain, &ONE_CELL)
         .ok()
         .ok_or("the bytes are a queue")?;
     let bytes = encode_queue(rt.alloc(), queue.as_slice())
@@ -131,8 +149,7 @@ fn whole_queues_are_read_and_written(rt: HostRuntime) -> Result<(), Fail> {
         none.as_slice(),
         [73, 67, 81, 49, 0, 0, 0, 0, 0, 0, 0, 0].as_slice()
     );
-    let style = Style::new(rt.alloc()).ok().ok_or("there is memory")?;
-    let style = encode_style(rt.alloc(), &style)
+    let style = encode_style(rt.alloc(), plain.get())
         .ok()
         .ok_or("there is memory")?;
     assert_eq!(rt; style.as_slice(), &ONE_CELL[54..]);

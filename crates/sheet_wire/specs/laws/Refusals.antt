@@ -23,7 +23,7 @@ rows_diff_plain : IsPlain rows_diff_at
 unfolding rows_diff_at
 rows_diff_plain = map_plain rows_diff_made (both_plain (number_plain w32) (after_plain (0 ∷ []) (both_plain edit_plain kept_rows_plain)))
 
-diff_plain : IsPlain diff_at
+pub diff_plain : IsPlain diff_at
 unfolding diff_at
 diff_plain = tagged_plain diff_of (λ tag. if_plain (eqb tag 1) cell_diff_plain (if_plain (eqb tag 7) rows_diff_plain refused_plain))
 
@@ -31,7 +31,7 @@ list_of_diffs_plain : IsPlain list_of_diffs_at
 unfolding list_of_diffs_at
 list_of_diffs_plain = list_plain diff_plain
 
-entry_plain : IsPlain entry_at
+pub entry_plain : IsPlain entry_at
 unfolding entry_at
 entry_plain = map_plain entry_made (both_plain (code_plain direction_code directions) list_of_diffs_plain)
 

@@ -1,9 +1,0 @@
-use Rattle.std.proofs.Common.{◌≡◌, ◌-◌}
-use Rattle.base_wire.specs.Reading.{many_at}
-use Rattle.sheet_wire.specs.QueueBytes.{entry_at}
-use Rattle.base_wire.specs.laws.Many.{with_front}
-use Rattle.sheet_wire.proofs.decode.entries_of.Given as goal
-
--- what was read so far and what is still to be read are the whole
-abbrev pub invariant-reads : goal.invariant-reads
-invariant-reads l = with_front l.entries.items (many_at entry_at (l.count - l.counter) l.rest) ≡ many_at entry_at l.count l.bytes

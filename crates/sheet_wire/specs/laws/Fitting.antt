@@ -1,0 +1,77 @@
+-- What fits is kept, and what encoding asks of diffs.
+use Rattle.std.proofs.Common.{List, [], ◌∷◌, Option, Some, None}
+use Rattle.std.specs.Prelude.{IfSome, IsTrue}
+use Rattle.std.specs.FinMap.{FinMap, get}
+use Rattle.std.specs.List.{AllByRecursion}
+use Rattle.std.proofs.lemmas.List.Elements.{All-from_recursion}
+use Rattle.base_values.specs.Places.{position_cmp}
+use Rattle.formula_tree.specs.Depth.{is_within}
+use Rattle.formula_tree.specs.Numbers.{has_kept_numbers}
+use Rattle.formula_tree.specs.declared.Node.{Node}
+use Rattle.sheet_grid.specs.declared.Cell.{Cell}
+use Rattle.sheet_grid.specs.FittingCells.{is_shallow_entry}
+use Rattle.sheet_grid.specs.KeptCell.{IsKeptCell}
+use Rattle.sheet_lines.specs.KeptNumbers.{AreKeptTrees}
+use Rattle.sheet_history.specs.declared.Diff.{Diff}
+use Rattle.sheet_history.specs.declared.Diff.TheVariants.{Cell as CellDiff, Rows as RowsDiff}
+use Rattle.sheet_history.specs.declared.QueueDiffs.{QueueDiffs}
+use Rattle.sheet_history.specs.Depth.{AreShallowTrees, IsShallowDiff}
+use Rattle.sheet_history.specs.Diffs.{IsKeptDiff, IsKeptList, IsKeptQueue}
+use Rattle.formula_wire.specs.Carried.{IsKnownNode}
+use Rattle.cell_wire.specs.CellBytes.{FitsCell, IsKnownCell}
+use Rattle.cell_wire.specs.laws.Fitting.{kept_cell_from_fits}
+use Rattle.kept_wire.specs.FormulaBytes.{AreKnownTrees}
+use Rattle.kept_wire.specs.KeptFits.{kept_lines_from_fits}
+use Rattle.sheet_wire.specs.QueueBytes.{FitsDiff, FitsList, FitsEntry, FitsQueue, IsKeptOfDiff, IsKnownDiff}
+
+-- ---- what fits is kept
+
+kept_option : (entry : Option Cell) → IfSome entry FitsCell → IfSome entry IsKeptCell
+kept_option None fits = tt
+kept_option (Some cell) fits = kept_cell_from_fits cell fits
+
+pub kept_diff_from_fits : (diff : Diff) → FitsDiff diff → IsKeptDiff diff
+kept_diff_from_fits (CellDiff sheet place old new) fits =
+    (kept_option old fits.old, kept_option new fits.new)
+kept_diff_from_fits (RowsDiff sheet edit kept) fits = kept_lines_from_fits kept fits.kept
+
+kept_diffs : (diffs : List Diff) → AllByRecursion FitsDiff diffs → AllByRecursion IsKeptDiff diffs
+kept_diffs [] fits = tt
+kept_diffs (diff ∷ diffs) fits = (kept_diff_from_fits diff fits.0, kept_diffs diffs fits.1)
+
+-- so a list that was read can be followed
+pub kept_list_from_fits : (diffs : List Diff) → FitsList diffs → IsKeptList diffs
+kept_list_from_fits diffs fits = All-from_recursion IsKeptDiff diffs (kept_diffs diffs fits.each)
+
+kept_entries : (queue : List QueueDiffs) → AllByRecursion FitsEntry queue → AllByRecursion (λ entry. IsKeptList entry.list) queue
+kept_entries [] fits = tt
+kept_entries (entry ∷ queue) fits = (kept_list_from_fits entry.list fits.0, kept_entries queue fits.1)
+
+-- so a queue that was read can be followed
+pub kept_queue_from_fits : (queue : List QueueDiffs) → FitsQueue queue → IsKeptQueue queue
+kept_queue_from_fits queue fits = All-from_recursion (λ entry. IsKeptList entry.list) queue (kept_entries queue fits.each)
+
+-- ---- what encoding asks
+
+known_entry : (entry : Option Cell) → IfSome entry IsKeptCell → IsTrue (is_shallow_entry entry) → IfSome entry IsKnownCell
+known_entry None kept shallow = tt
+known_entry (Some cell) kept shallow = record { kept = kept; shallow = shallow }
+
+known_tree : (tree : Option Node) → IfSome tree (λ t. IsTrue (has_kept_numbers t)) → IfSome tree (λ t. IsTrue (is_within 64 t)) → IfSome tree IsKnownNode
+known_tree None kept shallow = tt
+known_tree (Some tree) kept shallow = record { kept = kept; depth = shallow }
+
+known_sheet : (trees : Option (FinMap position_cmp Node)) → IfSome trees AreKeptTrees → IfSome trees AreShallowTrees → IfSome trees AreKnownTrees
+known_sheet None kept shallow = tt
+known_sheet (Some trees) kept shallow = λ place. known_tree (get trees place) (kept place) (shallow place)
+
+-- a diff whose numbers are kept, and whose formulas are at most 64 deep, can be encoded
+pub known_diff : (diff : Diff) → IsKeptDiff diff → IsShallowDiff diff → IsKeptOfDiff diff → IsKnownDiff diff
+known_diff (CellDiff sheet place old new) kept shallow of_rows = (known_entry old kept.0 shallow.0, known_entry new kept.1 shallow.1)
+known_diff (RowsDiff sheet edit lines) kept shallow of_rows = record {
+  cells = λ place. known_entry (get lines.cells place) (kept.cells place) (shallow.cells place);
+  rows = of_rows.rows;
+  columns = of_rows.columns;
+  trees = λ id. known_sheet (get lines.formulas id) (kept.formulas id) (shallow.formulas id);
+  some = of_rows.some;
+}

@@ -8,7 +8,7 @@ use Rattle.std.specs.FinMap.{FinMap, entries, get}
 use Rattle.base_wire.specs.Spelling.{Both}
 use Rattle.kept_wire.specs.MapBytes.{FitsMap}
 use Rattle.kept_wire.specs.Nested.{under}
-use Rattle.kept_wire.specs.FitsLaws.{entries_known}
+use Rattle.kept_wire.specs.laws.FitsLaws.{entries_known}
 
 pub both_fit : {K X : Type 0} (P : K → Type 0) (Q : X → Type 0) (es : List (K × X)) → All (λ e. P e.0) es → AllByRecursion (λ e. Q e.1) es → AllByRecursion (Both P Q) es
 both_fit P Q [] keys values = tt

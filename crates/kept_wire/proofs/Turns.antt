@@ -5,7 +5,7 @@ use Rattle.std.specs.Cmp.{IsTotalOrder}
 use Rattle.std.specs.List.{All}
 use Rattle.std.specs.declared.cmp.Ordering.{Ordering}
 use Rattle.std.specs.FinMap.{FinMap, from_entries, insert, is_sorted}
-use Rattle.kept_wire.specs.Ascending.{made_more}
+use Rattle.kept_wire.specs.laws.Ascending.{made_more}
 
 -- the entry that is taken, and the whole
 pub taken : {X : Type 0} (seen rest left whole : List X) (e : X) → left ≡ e ∷ rest → seen ++ left ≡ whole → seen ++ e ∷ rest ≡ whole

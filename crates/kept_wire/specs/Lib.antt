@@ -1,14 +1,7 @@
 pub mod MapBytes
-pub mod Ascending
-pub mod MapLaws
-pub mod FitsLaws
 pub mod KeyBytes
 pub mod Nested
-pub mod NestedLaws
 pub mod LineBytes
-pub mod LineLaws
 pub mod FormulaBytes
-pub mod FormulaLaws
 pub mod KeptBytes
-pub mod KeptLaws
-pub mod KeptFits
+pub mod laws

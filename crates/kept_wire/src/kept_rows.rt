@@ -72,7 +72,7 @@ pub struct KeptRowsPart;
 
 impl Part for KeptRowsPart {
     ghost use Rattle.kept_wire.specs.KeptBytes.{kept_rows_at, spell_kept_rows, FitsKeptRows, IsKnownKept};
-    ghost use Rattle.kept_wire.specs.KeptLaws.{kept_rows_format, kept_rows_some};
+    ghost use Rattle.kept_wire.specs.laws.KeptLaws.{kept_rows_format, kept_rows_some};
 
     type Value = KeptLines;
 

@@ -127,7 +127,7 @@ impl Keys for SheetPlaceKeys {
     ghost use Rattle.base_values.specs.laws.Places.{position_total};
     ghost use Rattle.kept_wire.specs.KeyBytes.{spell_sheet_place, sheet_place_at, IsSheetPlace};
     ghost use Rattle.kept_wire.specs.FormulaBytes.{sheet_place_cmp};
-    ghost use Rattle.kept_wire.specs.NestedLaws.{pair_total};
+    ghost use Rattle.kept_wire.specs.laws.NestedLaws.{pair_total};
 
     type Key = (u32, Position);
 

@@ -53,7 +53,7 @@ impl Part for LinkPart {
     ghost use Rattle.std.proofs.Common.{arith};
     ghost use Rattle.base_wire.specs.Spelling.{Any};
     ghost use Rattle.kept_wire.specs.LineBytes.{spell_link, link_at, FitsLink};
-    ghost use Rattle.kept_wire.specs.LineLaws.{link_format};
+    ghost use Rattle.kept_wire.specs.laws.LineLaws.{link_format};
 
     type Value = Link;
 
@@ -88,7 +88,7 @@ impl Part for RowPart {
     ghost use Rattle.std.specs.Prelude.{◌≡◌, false};
     ghost use Rattle.sheet_grid.specs.Lines.{is_plain_row};
     ghost use Rattle.kept_wire.specs.LineBytes.{spell_row, row_at, FitsRow};
-    ghost use Rattle.kept_wire.specs.LineLaws.{row_format, row_some};
+    ghost use Rattle.kept_wire.specs.laws.LineLaws.{row_format, row_some};
 
     type Value = RowAttr;
 

@@ -14,7 +14,7 @@ use Rattle.cell_wire.specs.CellBytes.{spell_position, position_at, spell_cell, F
 use Rattle.sheet_wire.specs.QueueBytes.{spell_diff, cell_diff_made, entry_of_cell_at, cell_diff_at, rows_diff_made, rows_diff_at, diff_at, FitsDiff, FitsList, direction_code, directions, spell_entry, entry_made, list_of_diffs_at, entry_at, FitsEntry}
 use Rattle.base_wire.specs.laws.Again.{ReadsAgain, both_again, map_again, code_again, wide32, number_again, signed_again, option_again, list_again, after_again}
 use Rattle.cell_wire.specs.laws.PartsAgain.{position_again, cell_again}
-use Rattle.kept_wire.specs.KeptLaws.{kept_rows_again}
+use Rattle.kept_wire.specs.laws.KeptLaws.{kept_rows_again}
 use Rattle.sheet_wire.specs.RowsBytes.{spell_edit, insertion, deletion, lines_at, edit_at, FitsEdit, spell_rows, rows_parts_at}
 
 -- ---- diffs and queues

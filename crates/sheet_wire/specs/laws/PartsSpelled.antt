@@ -7,7 +7,7 @@ use Rattle.sheet_wire.specs.QueueBytes.{spell_diff, cell_diff_made, entry_of_cel
 use Rattle.sheet_wire.specs.QueueBytes.{diff_of}
 use Rattle.base_wire.specs.laws.Spelled.{ReadsSpelled, both_spelled, map_spelled, fits_otherwise, code_spelled, TagSpelled, tag_map, tag_refused, tag_if, tagged_spelled, option_spelled, back32, number_spelled, signed_spelled, list_spelled, after_spelled}
 use Rattle.cell_wire.specs.laws.PartsSpelled.{position_spelled, cell_spelled}
-use Rattle.kept_wire.specs.KeptLaws.{kept_rows_spelled}
+use Rattle.kept_wire.specs.laws.KeptLaws.{kept_rows_spelled}
 use Rattle.sheet_wire.specs.RowsBytes.{spell_edit, insertion, deletion, edit_of, edit_at, FitsEdit}
 
 -- ---- diffs and queues

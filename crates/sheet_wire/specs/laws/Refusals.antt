@@ -4,7 +4,7 @@ use Rattle.std.specs.Int.{w32}
 use Rattle.base_wire.specs.laws.Refusals.{Refuses, IsPlain, both_plain, map_plain, code_plain, number_plain, signed_plain, refused_plain, if_plain, tagged_plain, option_plain, list_plain, after_plain, whole_refuses}
 use Rattle.sheet_wire.specs.QueueBytes.{cell_diff_made, entry_of_cell_at, cell_diff_at, rows_diff_made, rows_diff_at, diff_of, diff_at, direction_code, directions, entry_made, list_of_diffs_at, entry_at, magic, queue_of}
 use Rattle.cell_wire.specs.laws.Refusals.{position_plain, cell_plain}
-use Rattle.kept_wire.specs.KeptLaws.{kept_rows_plain}
+use Rattle.kept_wire.specs.laws.KeptLaws.{kept_rows_plain}
 use Rattle.sheet_wire.specs.RowsBytes.{insertion, deletion, edit_of, edit_at}
 
 cell_option_plain : IsPlain entry_of_cell_at

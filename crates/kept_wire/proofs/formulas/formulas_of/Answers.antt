@@ -7,7 +7,7 @@ use Rattle.base_values.specs.laws.Places.{position_total, exact_positions}
 use Rattle.formula_tree.specs.declared.Node.{Node}
 use Rattle.kept_wire.specs.KeyBytes.{IsSheetPlace}
 use Rattle.kept_wire.specs.Nested.{with_pair}
-use Rattle.kept_wire.specs.NestedLaws.{grouped_more}
+use Rattle.kept_wire.specs.laws.NestedLaws.{grouped_more}
 use Rattle.kept_wire.specs.FormulaBytes.{Formulas, sheet_place_cmp}
 use Rattle.kept_wire.proofs.Turns.{taken, seen_now, holds_now}
 use Rattle.kept_wire.proofs.formulas.formulas_of.Goals as goal

@@ -1,5 +1,5 @@
 use Rattle.std.proofs.Common.{◌-◌, sym, ◌∙◌, arith}
-use Rattle.kept_wire.specs.Ascending.{rises_more, rise_by_steps, no_rise}
+use Rattle.kept_wire.specs.laws.Ascending.{rises_more, rise_by_steps, no_rise}
 use Rattle.kept_wire.proofs.reading.ascends.Goals as goal
 
 pub loop-i-preserved : goal.loop-i-preserved

@@ -1,4 +1,4 @@
-use Rattle.kept_wire.specs.Ascending.{RisesTo}
+use Rattle.kept_wire.specs.laws.Ascending.{RisesTo}
 use Rattle.kept_wire.proofs.reading.ascends.Given as goal
 
 -- each key so far is below the next

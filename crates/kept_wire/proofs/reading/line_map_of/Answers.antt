@@ -5,7 +5,7 @@ use Rattle.std.proofs.lemmas.Int.{to_z-of_z, ints}
 use Rattle.std.proofs.lemmas.Map.Lookups.{exact_signed}
 use Rattle.base_values.specs.Places.{IsLine}
 use Rattle.kept_wire.proofs.Turns.{taken, seen_now, holds_now, made_now}
-use Rattle.kept_wire.specs.KeyBytes.{line_fits}
+use Rattle.kept_wire.specs.laws.KeyBytes.{line_fits}
 use Rattle.kept_wire.proofs.reading.line_map_of.Goals as goal
 
 pub put-requires : goal.put-requires

@@ -1,6 +1,6 @@
 use Rattle.std.proofs.Common.{arith}
 use Rattle.base_wire.specs.laws.Format.{reads}
-use Rattle.kept_wire.specs.KeptLaws.{kept_rows_format}
+use Rattle.kept_wire.specs.laws.KeptLaws.{kept_rows_format}
 use Rattle.kept_wire.proofs.kept_rows.KeptRowsPartPart.take.Goals as goal
 
 pub returns : goal.returns

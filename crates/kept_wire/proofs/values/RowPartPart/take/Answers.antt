@@ -1,6 +1,6 @@
 use Rattle.std.proofs.Common.{arith}
 use Rattle.base_wire.specs.laws.Format.{reads}
-use Rattle.kept_wire.specs.LineLaws.{row_format}
+use Rattle.kept_wire.specs.laws.LineLaws.{row_format}
 use Rattle.kept_wire.proofs.values.RowPartPart.take.Goals as goal
 
 pub returns : goal.returns

@@ -11,9 +11,9 @@ use Rattle.std.specs.declared.cmp.Ordering.TheVariants.{Less, Equal, Greater}
 use Rattle.std.specs.FinMap.{FinMap, empty, entries, entries_sorted, get, insert, find, is_sorted, get-empty, get-entries, get-insert, get_tied, entries-insert, same_map}
 use Rattle.std.specs.FinMap.Entries as order
 use Rattle.std.specs.FinMap.Entries.{below_all, find-append, by_order, put}
-use Rattle.kept_wire.specs.Ascending.{not_before, missed}
-use Rattle.kept_wire.specs.FitsLaws.{found_known}
-use Rattle.kept_wire.specs.MapLaws.{holds}
+use Rattle.kept_wire.specs.laws.Ascending.{not_before, missed}
+use Rattle.kept_wire.specs.laws.FitsLaws.{found_known}
+use Rattle.kept_wire.specs.laws.MapLaws.{holds}
 use Rattle.kept_wire.specs.Nested.{pair_cmp, under, flat, or_empty, with_pair, grouped, HasSome, EachHasSome}
 
 -- ---- lists in order

@@ -27,11 +27,11 @@ use Rattle.cell_wire.specs.laws.PartsAgain.{cell_again}
 use Rattle.cell_wire.specs.laws.PartsSpelled.{cell_spelled}
 use Rattle.cell_wire.specs.laws.Refusals.{cell_plain}
 use Rattle.kept_wire.specs.MapBytes.{spell_map, FitsMap}
-use Rattle.kept_wire.specs.MapLaws.{made_again, made_spelled, map_of_again, map_of_spelled, map_of_plain}
-use Rattle.kept_wire.specs.KeyBytes.{place_bytes, place_again, place_spelled, place_plain, line_again, line_spelled, line_plain}
+use Rattle.kept_wire.specs.laws.MapLaws.{made_again, made_spelled, map_of_again, map_of_spelled, map_of_plain}
+use Rattle.kept_wire.specs.laws.KeyBytes.{place_bytes, place_again, place_spelled, place_plain, line_again, line_spelled, line_plain}
 use Rattle.kept_wire.specs.LineBytes.{spell_link, FitsLink, spell_row, FitsRow}
-use Rattle.kept_wire.specs.LineLaws.{link_again, link_spelled, link_plain, row_again, row_spelled, row_plain}
-use Rattle.kept_wire.specs.FormulaLaws.{formulas_again, formulas_spelled, formulas_plain}
+use Rattle.kept_wire.specs.laws.LineLaws.{link_again, link_spelled, link_plain, row_again, row_spelled, row_plain}
+use Rattle.kept_wire.specs.laws.FormulaLaws.{formulas_again, formulas_spelled, formulas_plain}
 use Rattle.kept_wire.specs.KeptBytes.{cells_at, links_at, rows_at, nothing_more, spell_kept_rows, kept_rows_made, kept_rows_at, FitsKeptRows}
 
 -- ---- parts

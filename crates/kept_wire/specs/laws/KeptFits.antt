@@ -20,8 +20,8 @@ use Rattle.formula_wire.specs.laws.KeptLaws.{kept_from_carried}
 use Rattle.cell_wire.specs.CellBytes.{FitsCell, IsKnownCell}
 use Rattle.cell_wire.specs.laws.Fitting.{kept_cell_from_fits, shallow_content_from_fits}
 use Rattle.kept_wire.specs.KeyBytes.{IsSheetPlace}
-use Rattle.kept_wire.specs.FitsLaws.{values_known}
-use Rattle.kept_wire.specs.NestedLaws.{inner_known}
+use Rattle.kept_wire.specs.laws.FitsLaws.{values_known}
+use Rattle.kept_wire.specs.laws.NestedLaws.{inner_known}
 use Rattle.kept_wire.specs.Nested.{flat}
 use Rattle.kept_wire.specs.FormulaBytes.{AreKnownTrees}
 use Rattle.kept_wire.specs.KeptBytes.{FitsKeptRows}

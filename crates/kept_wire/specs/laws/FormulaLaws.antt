@@ -13,10 +13,11 @@ use Rattle.base_wire.specs.laws.Refusals.{IsPlain, both_plain, map_plain, check_
 use Rattle.formula_wire.specs.NodeBytes.{spell_node}
 use Rattle.formula_wire.specs.Carried.{FitsNode}
 use Rattle.formula_wire.specs.laws.NodeLaws.{node_again, node_spelled, node_plain}
-use Rattle.kept_wire.specs.MapLaws.{made_again, made_spelled}
-use Rattle.kept_wire.specs.KeyBytes.{spell_sheet_place, IsSheetPlace, sheet_place_bytes, sheet_place_again, sheet_place_spelled, sheet_place_plain}
+use Rattle.kept_wire.specs.laws.MapLaws.{made_again, made_spelled}
+use Rattle.kept_wire.specs.KeyBytes.{spell_sheet_place, IsSheetPlace}
+use Rattle.kept_wire.specs.laws.KeyBytes.{sheet_place_bytes, sheet_place_again, sheet_place_spelled, sheet_place_plain}
 use Rattle.kept_wire.specs.Nested.{flat, grouped}
-use Rattle.kept_wire.specs.NestedLaws.{flat_rises, grouped_some, grouped_flat, flat_grouped}
+use Rattle.kept_wire.specs.laws.NestedLaws.{flat_rises, grouped_some, grouped_flat, flat_grouped}
 use Rattle.kept_wire.specs.FormulaBytes.{Formulas, sheet_place_cmp, spell_formulas, formulas_at, FitsFormulas}
 
 pub formulas_again : ReadsAgain FitsFormulas spell_formulas formulas_at

@@ -9,8 +9,8 @@ use Rattle.std.specs.declared.cmp.Ordering.{Ordering}
 use Rattle.std.specs.declared.cmp.Ordering.TheVariants.{Less, Equal, Greater}
 use Rattle.std.specs.FinMap.{FinMap, entries, entries_sorted, get, get-entries, find, is_sorted}
 use Rattle.std.specs.FinMap.Entries.{below_all}
-use Rattle.kept_wire.specs.Ascending.{missed}
-use Rattle.kept_wire.specs.MapLaws.{holds}
+use Rattle.kept_wire.specs.laws.Ascending.{missed}
+use Rattle.kept_wire.specs.laws.MapLaws.{holds}
 
 tied : (o : Ordering) → is_eq o ≡ true → o ≡ Equal
 tied Less h = cc

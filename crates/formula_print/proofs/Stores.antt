@@ -7,7 +7,7 @@ use Rattle.std.proofs.Math.Seq.{take-append_seam}
 use Rattle.formula_tree.specs.declared.Node.{Node}
 use Rattle.formula_tree.specs.declared.Parameter.{Parameter}
 use Rattle.formula_print.specs.declared.scope.Scope.{Scope}
-use Rattle.formula_print.specs.Scope.{Scoped, bind_parameters, scoped, stored, declares, all_within, let_arguments, is_some_more, argument, bind_argument, bind_place}
+use Rattle.formula_print.specs.Scope.{Scoped, bind_parameters, scoped, stored, declares, all_within, let_arguments, argument, bind_argument, place_of, bind_place}
 
 -- the names of a lambda are forgotten behind it
 pub forgets : (scope : Scope) (parameters : List Parameter) → take (length scope.names) (bind_parameters scope parameters).names ≡ scope.names
@@ -55,6 +55,23 @@ restored old new e =
 is_positive : (n : ℕ) → 0 < n → nat_lt 0 n ≡ true
 is_positive n h = grind (arith, nat_tests)
 
+abbrev is_some_more : List Scoped → Bool
+is_some_more [] = false
+is_some_more (a ∷ later) = true
+
+-- the arguments of `LET` one by one, as the loop takes them: in a name's place and not, in turns
+abbrev pub turns_from : Bool → Scope → List Scoped → List Node
+turns_from is_place scope [] = []
+turns_from is_place scope (a ∷ later) =
+    argument (is_place && is_some_more later) scope a.declares a.within ∷ turns_from (not is_place) (bind_argument (is_place && is_some_more later) scope a.declares) later
+
+-- two turns take a pair
+pub by_pairs : (scope : Scope) (all : List Scoped) → turns_from true scope all ≡ let_arguments scope all
+by_pairs scope [] = refl
+by_pairs scope (body ∷ []) = refl
+by_pairs scope (name ∷ value ∷ later) =
+    ap (λ (z : List Node). place_of scope name.declares name.within ∷ value.within (bind_place scope name.declares) ∷ z) (by_pairs (bind_place scope name.declares) later)
+
 -- a test of whether arguments follow
 more_left : (all : List Scoped) (count : ℕ) → length all ≡ count → is_some_more all ≡ nat_lt 0 count
 more_left [] count h = ap (nat_lt 0) h
@@ -69,44 +86,44 @@ more_after nodes at h =
 
 -- one argument is stored, and the others are left
 pub turn : (is_place : Bool) (scope : Scope) (nodes : List Node) (at : ℕ) (d : Node) → at < length nodes
-    → let_arguments is_place scope (map scoped (drop at nodes))
+    → turns_from is_place scope (map scoped (drop at nodes))
     ≡ argument (is_place && nat_lt (at + 1) (length nodes)) scope (declares (get_or nodes at d)) (λ inner. stored inner (get_or nodes at d))
-    ∷ let_arguments (not is_place) (bind_argument (is_place && nat_lt (at + 1) (length nodes)) scope (declares (get_or nodes at d))) (map scoped (drop (at + 1) nodes))
+    ∷ turns_from (not is_place) (bind_argument (is_place && nat_lt (at + 1) (length nodes)) scope (declares (get_or nodes at d))) (map scoped (drop (at + 1) nodes))
 unfolding stored declares
 turn is_place scope nodes at d h =
-    ap (λ xs. let_arguments is_place scope (map scoped xs)) (drop_more nodes at d h)
+    ap (λ xs. turns_from is_place scope (map scoped xs)) (drop_more nodes at d h)
     ∙ ap (λ (b : Bool). argument (is_place && b) scope (declares (get_or nodes at d)) (λ inner. stored inner (get_or nodes at d))
-    ∷ let_arguments (not is_place) (bind_argument (is_place && b) scope (declares (get_or nodes at d))) (map scoped (drop (at + 1) nodes))) (more_after nodes at h)
+    ∷ turns_from (not is_place) (bind_argument (is_place && b) scope (declares (get_or nodes at d))) (map scoped (drop (at + 1) nodes))) (more_after nodes at h)
 
 -- what is stored and what is left
 pub turned : (before : List Node) (is_place : Bool) (scope : Scope) (nodes : List Node) (at : ℕ) (d : Node) (all : List Node) → at < length nodes
-    → before ++ let_arguments is_place scope (map scoped (drop at nodes)) ≡ all
+    → before ++ turns_from is_place scope (map scoped (drop at nodes)) ≡ all
     → (before ++ argument (is_place && nat_lt (at + 1) (length nodes)) scope (declares (get_or nodes at d)) (λ inner. stored inner (get_or nodes at d)) ∷ [])
-    ++ let_arguments (not is_place) (bind_argument (is_place && nat_lt (at + 1) (length nodes)) scope (declares (get_or nodes at d))) (map scoped (drop (at + 1) nodes)) ≡ all
+    ++ turns_from (not is_place) (bind_argument (is_place && nat_lt (at + 1) (length nodes)) scope (declares (get_or nodes at d))) (map scoped (drop (at + 1) nodes)) ≡ all
 turned before is_place scope nodes at d all h e =
     append_assoc before (argument (is_place && nat_lt (at + 1) (length nodes)) scope (declares (get_or nodes at d)) (λ inner. stored inner (get_or nodes at d)) ∷ [])
-    (let_arguments (not is_place) (bind_argument (is_place && nat_lt (at + 1) (length nodes)) scope (declares (get_or nodes at d))) (map scoped (drop (at + 1) nodes)))
+    (turns_from (not is_place) (bind_argument (is_place && nat_lt (at + 1) (length nodes)) scope (declares (get_or nodes at d))) (map scoped (drop (at + 1) nodes)))
     ∙ ap (λ (z : List Node). before ++ z) (sym (turn is_place scope nodes at d h)) ∙ e
 
 after_turn : List Node → Bool → Bool → Scope → List Node → ℕ → List Node → Node → Type 0
 after_turn before is_place binds scope nodes at all node =
     (before ++ argument binds scope (declares node) (λ inner. stored inner node) ∷ [])
-    ++ let_arguments (not is_place) (bind_argument binds scope (declares node)) (map scoped (drop (at + 1) nodes)) ≡ all
+    ++ turns_from (not is_place) (bind_argument binds scope (declares node)) (map scoped (drop (at + 1) nodes)) ≡ all
 
 -- the same by what a turn of the loop knows
 pub loop_turn : (before after : List Node) (is_place binds : Bool) (scope next : Scope) (nodes : List Node) (at : ℕ) (node tree : Node) (all : List Node) → at < length nodes
     → node ≡ get_or nodes at node → binds ≡ (is_place && nat_lt (at + 1) (length nodes)) → tree ≡ argument binds scope (declares node) (λ inner. stored inner node)
-    → next ≡ bind_argument binds scope (declares node) → after ≡ before ++ tree ∷ [] → before ++ let_arguments is_place scope (map scoped (drop at nodes)) ≡ all
-    → after ++ let_arguments (not is_place) next (map scoped (drop (at + 1) nodes)) ≡ all
+    → next ≡ bind_argument binds scope (declares node) → after ≡ before ++ tree ∷ [] → before ++ turns_from is_place scope (map scoped (drop at nodes)) ≡ all
+    → after ++ turns_from (not is_place) next (map scoped (drop (at + 1) nodes)) ≡ all
 unfolding after_turn
 loop_turn before after is_place binds scope next nodes at node tree all h is b t s a e =
     let first : after_turn before is_place (is_place && nat_lt (at + 1) (length nodes)) scope nodes at all (get_or nodes at node) = turned before is_place scope nodes at node all h e in
     let second : after_turn before is_place binds scope nodes at all (get_or nodes at node) = subst (λ (x : Bool). after_turn before is_place x scope nodes at all (get_or nodes at node)) (sym b) first in
     let third : after_turn before is_place binds scope nodes at all node = subst (λ (n : Node). after_turn before is_place binds scope nodes at all n) (sym is) second in
     let pushed : after ≡ before ++ argument binds scope (declares node) (λ inner. stored inner node) ∷ [] = a ∙ ap (λ (n : Node). before ++ n ∷ []) t in
-    (λ i. pushed i ++ let_arguments (not is_place) (s i) (map scoped (drop (at + 1) nodes))) ∙ third
+    (λ i. pushed i ++ turns_from (not is_place) (s i) (map scoped (drop (at + 1) nodes))) ∙ third
 
 pub extends_turn : (binds : Bool) (old new next : Scope) (declared : Option (List ℕ)) → next ≡ bind_argument binds new declared → Extends old new → Extends old next
 extends_turn binds old new next declared is e = subst (λ (s : Scope). Extends old s) (sym is) (extends_argument binds old new declared e)
 
-pub ruleset turns = (extends_itself, restored, append-nil)
+pub ruleset turns = (extends_itself, restored, append-nil, by_pairs)

@@ -1,5 +1,5 @@
 -- A tree as Excel stores it: each use and each declaration of a bound name is marked by a prefix.
-use Rattle.std.specs.Prelude.{ℕ, ◌%◌, ◌==◌, Bool, true, false, not, ◌&&◌, if◌then◌else◌, nat_le, Option, Some, None, List, [], ◌∷◌, ◌++◌, map, length, codes}
+use Rattle.std.specs.Prelude.{ℕ, ◌%◌, ◌==◌, Bool, true, false, ◌&&◌, if◌then◌else◌, nat_le, Option, Some, None, List, [], ◌∷◌, ◌++◌, map, length, codes}
 use Rattle.std.specs.List.{list_any}
 use Rattle.base_tables.specs.Tables.{same_text}
 use Rattle.base_tables.specs.declared.Function.{Function}
@@ -68,15 +68,12 @@ argument is_place scope declared within = if is_place then place_of scope declar
 abbrev pub bind_argument : Bool → Scope → Option (List ℕ) → Scope
 bind_argument is_place scope declared = if is_place then bind_place scope declared else scope
 
-abbrev pub is_some_more : List Scoped → Bool
-is_some_more [] = false
-is_some_more (a ∷ later) = true
-
--- the arguments of `LET` in turns: a name's place and a value, and last what is computed. A name is bound from its own value on
-abbrev pub let_arguments : Bool → Scope → List Scoped → List Node
-let_arguments is_place scope [] = []
-let_arguments is_place scope (a ∷ later) =
-    argument (is_place && is_some_more later) scope a.declares a.within ∷ let_arguments (not is_place) (bind_argument (is_place && is_some_more later) scope a.declares) later
+-- the arguments of `LET`: pairs of a name's place and a value, and last what is computed. A name is bound from its own value on
+abbrev pub let_arguments : Scope → List Scoped → List Node
+let_arguments scope [] = []
+let_arguments scope (body ∷ []) = body.within scope ∷ []
+let_arguments scope (name ∷ value ∷ later) =
+    place_of scope name.declares name.within ∷ value.within (bind_place scope name.declares) ∷ let_arguments (bind_place scope name.declares) later
 
 -- an odd count of at least 3
 abbrev pub binds_names : ℕ → Bool
@@ -86,7 +83,7 @@ abbrev pub all_within : Scope → List Scoped → List Node
 all_within scope all = map (λ a. a.within scope) all
 
 abbrev pub call_arguments : Function → Scope → List Scoped → List Node
-call_arguments f.Let scope all = if binds_names (length all) then let_arguments true scope all else all_within scope all
+call_arguments f.Let scope all = if binds_names (length all) then let_arguments scope all else all_within scope all
 call_arguments _ scope all = all_within scope all
 
 abbrev pub plain : (Scope → Node) → Scoped

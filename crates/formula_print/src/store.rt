@@ -133,7 +133,7 @@ fn argument(is_place: bool, node: &Node, scope: &mut Scope) -> Result<Node, Allo
 #[cycle(store)]
 #[tactic(auto, using(crate::proofs::Stores::turns))]
 fn bound_arguments(nodes: &Items<Node>, scope: &mut Scope) -> Result<Items<Node>, AllocError>
-    ensures tree { IfOk result (λ trees. trees ≡ spec.let_arguments true scope.old (map spec.scoped nodes.now)) }
+    ensures tree { IfOk result (λ trees. trees ≡ spec.let_arguments scope.old (map spec.scoped nodes.now)) }
     ensures scope { OnOk result (scope.new ≡ scope.old) }
 {
     let items = nodes.as_slice();

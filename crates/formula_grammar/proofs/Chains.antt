@@ -3,7 +3,7 @@ use Rattle.std.proofs.Common.{◌≡◌, ℕ, zero, suc, ◌+◌, ◌-◌, ◌<�
 use Rattle.formula_tree.specs.declared.node.Node.{Node}
 use Rattle.formula_tree.specs.Depth.{depth_of}
 use Rattle.formula_grammar.specs.declared.token.Token.{Token}
-use Rattle.formula_grammar.specs.Reading.{Outcome, Parser, and_then, ◌>>=◌, with_rest, make, chain_step, chain_from, chain}
+use Rattle.formula_grammar.specs.laws.Reading.{Outcome, Parser, and_then, ◌>>=◌, with_rest, make, chain_step, chain_from, chain}
 use Rattle.formula_grammar.proofs.Depths.{made-shallow}
 
 module _ {Op B : Type 0} (operator : Parser Op) (join : Op → Node → B → Node) (operand : Parser B) where

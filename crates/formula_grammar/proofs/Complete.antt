@@ -17,7 +17,7 @@ use Rattle.formula_grammar.specs.declared.token.Token.TheVariants as t
 use Rattle.formula_grammar.specs.Words.{are_even, separator_token, is_lambda, called, mark_place}
 use Rattle.formula_grammar.specs.Grammar as G
 use Rattle.formula_grammar.specs.Grammar.{Compare, Concatenation, Sum, Product, Power, Signed, Percent, Single, Colon, Spill, Primary, Lambda, Arguments, Argument, More, compare_token, sum_token, product_token, parameters_tokens, rows_tokens, rows_lines, compare_tokens, concatenation_tokens, sum_tokens, product_tokens, power_tokens, signed_tokens, percent_tokens, single_tokens, colon_tokens, spill_tokens, primary_tokens, lambda_tokens, arguments_tokens, argument_tokens, more_tokens, compare_tree, concatenation_tree, sum_tree, product_tree, power_tree, signed_tree, percent_tree, single_tree, colon_tree, spill_tree, primary_tree, lambda_tree, arguments_trees, argument_tree, more_trees, compare_open, concatenation_open, sum_open, product_open, power_open, signed_open, percent_open, single_open, colon_open, spill_open, primary_open, lambda_open, arguments_open, argument_open, more_open}
-use Rattle.formula_grammar.specs.Reading.{Outcome, Parser, and_then, ◌>>=◌, ◌>>◌, pure, with_rest, make, compare_sign, ampersand, sum_sign, product_sign, power_sign, percent_sign, colon_sign, hash, opening, closing, separator, is_empty_here, chain_from, nothing, parameters, reference_at, range_at, enclosed, argument, arguments_from, arguments_by, arguments, function, lambda, call, primary, spill, colon, single, percent, signed, power, product, sum, concatenation, compare, whole}
+use Rattle.formula_grammar.specs.laws.Reading.{Outcome, Parser, and_then, ◌>>=◌, ◌>>◌, pure, with_rest, make, compare_sign, ampersand, sum_sign, product_sign, power_sign, percent_sign, colon_sign, hash, opening, closing, separator, is_empty_here, chain_from, nothing, parameters, reference_at, range_at, enclosed, argument, arguments_from, arguments_by, arguments, function, lambda, call, primary, spill, colon, single, percent, signed, power, product, sum, concatenation, compare, whole}
 use Rattle.formula_grammar.proofs.Depths.{depth_called, made-shallow}
 use Rattle.formula_grammar.proofs.Chains.{chain_starts, chain_turns, chain_closes}
 use Rattle.formula_grammar.proofs.Follow.{EndsAt, ends_later, ends_compare, ends_concatenation, ends_sum, ends_product, ends_power, ends_percent, ends_colon, ends_spill, ends_lambda, ends_word, ends_at_separator, reads_compare, reads_sum, reads_product, binds_compare, binds_sum, binds_product, separator_reads, separator_empty}

@@ -14,7 +14,7 @@ use Rattle.formula_grammar.specs.declared.token.Token.TheVariants as t
 use Rattle.formula_grammar.specs.Words.{separator_token, row_token, parameter_tokens, are_even}
 use Rattle.formula_grammar.specs.Grammar as G
 use Rattle.formula_grammar.specs.Grammar.{Item, Rows, item_tokens, item_value, rows_tokens, before_line, rows_lines, parameters_tokens}
-use Rattle.formula_grammar.specs.Reading.{Outcome, Parser, and_then, pure, with_rest, item, after_item, rows_next, rows_from, array, parameter, parameters_step, parameters_from, parameters}
+use Rattle.formula_grammar.specs.laws.Reading.{Outcome, Parser, and_then, pure, with_rest, item, after_item, rows_next, rows_from, array, parameter, parameters_step, parameters_from, parameters}
 use Rattle.formula_grammar.proofs.Follow.{separator_parts, column_reads, row_reads}
 
 item_reads : {p : Profile} (x : Item p) (ts : List Token) → item p.language (item_tokens x ++ ts) ≡ Some (item_value x, ts)

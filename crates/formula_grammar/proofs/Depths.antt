@@ -13,7 +13,7 @@ use Rattle.formula_tree.specs.Depth.{depth_of, greatest}
 use Rattle.formula_tree.specs.Corners.{lower_corner, higher_corner}
 use Rattle.formula_tree.specs.laws.DepthEquations.{depth_boolean, depth_number, depth_text, depth_reference, depth_range, depth_colon, depth_concatenate, depth_compare, depth_sum, depth_product, depth_power, depth_unary, depth_call, depth_named_call, depth_array, depth_name, depth_error, depth_empty_argument, depth_spill, depth_lambda, depth_lambda_call, depth_implicit_intersection}
 use Rattle.formula_grammar.specs.Words.{call_node, called, word_node, worded, range_node}
-use Rattle.formula_grammar.specs.Reading.{made}
+use Rattle.formula_grammar.specs.laws.Reading.{made}
 
 depth_call_node : (function : Option Function) (word : List ℕ) (all : List Node) → depth_of (call_node function word all) ≡ greatest (map depth_of all) + 1
 depth_call_node (Some function) word all = depth_call function all

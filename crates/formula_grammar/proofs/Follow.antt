@@ -15,7 +15,7 @@ use Rattle.formula_grammar.specs.declared.token.Token.{Token}
 use Rattle.formula_grammar.specs.declared.token.Token.TheVariants as t
 use Rattle.formula_grammar.specs.Words.{separator_token, row_token, worded}
 use Rattle.formula_grammar.specs.Grammar.{compare_token, sum_token, product_token}
-use Rattle.formula_grammar.specs.Reading.{Parser, compare_sign, ampersand, sum_sign, product_sign, power_sign, percent_sign, colon_sign, hash, opening, is_separator, separator, is_empty_here, after_item, named}
+use Rattle.formula_grammar.specs.laws.Reading.{Parser, compare_sign, ampersand, sum_sign, product_sign, power_sign, percent_sign, colon_sign, hash, opening, is_separator, separator, is_empty_here, after_item, named}
 
 -- how tightly a token binds to what stands before it, and 0 where it does not
 abbrev pub binds : Token → ℕ

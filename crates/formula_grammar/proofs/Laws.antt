@@ -7,7 +7,7 @@ use Rattle.formula_tree.specs.Depth.{depth_of}
 use Rattle.formula_grammar.specs.declared.profile.Profile.{Profile}
 use Rattle.formula_grammar.specs.declared.token.Token.{Token}
 use Rattle.formula_grammar.specs.Grammar.{compare_tokens, compare_tree, Derives}
-use Rattle.formula_grammar.specs.Reading.{Outcome, compare_sign, concatenation, compare, whole, if_last, tree_of}
+use Rattle.formula_grammar.specs.laws.Reading.{Outcome, compare_sign, concatenation, compare, whole, if_last, tree_of}
 use Rattle.formula_grammar.proofs.Turns.{compare_turns, compare_turns-lt}
 use Rattle.formula_grammar.proofs.Chains.{chain_closes}
 use Rattle.formula_grammar.proofs.Complete.{compare_before}

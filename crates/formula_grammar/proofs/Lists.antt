@@ -15,7 +15,7 @@ use Rattle.formula_grammar.specs.declared.token.Token.TheVariants as t
 use Rattle.formula_grammar.specs.Words.{separator_token, row_token, parameter_tokens, negated, are_even}
 use Rattle.formula_grammar.specs.Grammar as G
 use Rattle.formula_grammar.specs.Grammar.{Item, Rows, item_tokens, item_value, rows_tokens, before_line, rows_lines, parameters_tokens}
-use Rattle.formula_grammar.specs.Reading.{Outcome, and_then, pure, item, after_item, rows_next, rows_from, array, is_separator, parameter, parameters_step, parameters_from, parameters}
+use Rattle.formula_grammar.specs.laws.Reading.{Outcome, and_then, pure, item, after_item, rows_next, rows_from, array, is_separator, parameter, parameters_step, parameters_from, parameters}
 use Rattle.formula_grammar.proofs.Steps.{found, some_pair, none_some, bind_some, rest_some}
 use Rattle.formula_grammar.proofs.Parting.{token_parts, after_token, after_item_is}
 use Rattle.formula_grammar.proofs.Constants.{continued, continued_before, continued_none}

@@ -7,7 +7,7 @@ use Rattle.formula_grammar.specs.declared.after_item.AfterItem.TheVariants as af
 use Rattle.formula_grammar.specs.declared.token.Token.{Token}
 use Rattle.formula_grammar.specs.declared.token.Token.TheVariants as t
 use Rattle.formula_grammar.specs.Words.{separator_token, row_token}
-use Rattle.formula_grammar.specs.Reading.{is_separator, separator, after_item}
+use Rattle.formula_grammar.specs.laws.Reading.{is_separator, separator, after_item}
 use Rattle.formula_grammar.proofs.Steps.{found, some_pair, none_some}
 
 abbrev pub separator_of : Locale → Bool → Token

@@ -6,8 +6,8 @@ use Rattle.formula_tree.specs.declared.operator.UnaryKind.TheVariants as unary
 use Rattle.formula_grammar.specs.declared.profile.Profile.{Profile}
 use Rattle.formula_grammar.specs.declared.token.Token.{Token}
 use Rattle.formula_grammar.specs.declared.token.Token.TheVariants as t
-use Rattle.formula_grammar.specs.Reading.{Outcome, Parser, and_then, with_rest, made, make, colon, single, percent, signed}
-use Rattle.formula_grammar.specs.Signs.{signs, at_signs, wrapped}
+use Rattle.formula_grammar.specs.laws.Reading.{Outcome, Parser, and_then, with_rest, made, make, colon, single, percent, signed}
+use Rattle.formula_grammar.specs.laws.Signs.{signs, at_signs, wrapped}
 
 module _ (operator : Node → Node) where
   abbrev pub around : Outcome Node → ℕ → Outcome Node

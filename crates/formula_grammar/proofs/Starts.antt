@@ -7,7 +7,7 @@ use Rattle.formula_grammar.specs.declared.token.Token.{Token}
 use Rattle.formula_grammar.specs.declared.token.Token.TheVariants as t
 use Rattle.formula_grammar.specs.Grammar as G
 use Rattle.formula_grammar.specs.Grammar.{Compare, Concatenation, Sum, Product, Power, Signed, Percent, Single, Colon, Spill, Primary, Lambda, compare_token, sum_token, product_token, compare_tokens, concatenation_tokens, sum_tokens, product_tokens, power_tokens, signed_tokens, percent_tokens, single_tokens, colon_tokens, spill_tokens, primary_tokens, lambda_tokens, arguments_tokens}
-use Rattle.formula_grammar.specs.Reading.{Parser, closing, is_separator, is_empty_here, parameter, colon, single, percent, signed}
+use Rattle.formula_grammar.specs.laws.Reading.{Parser, closing, is_separator, is_empty_here, parameter, colon, single, percent, signed}
 use Rattle.formula_grammar.proofs.Follow.{parts_compare, parts_sum, parts_product}
 
 -- where a token may stand first: 0 in a primary, 1 in what an at sign may begin, 2 in what a sign may begin, 3 nowhere

@@ -3,7 +3,7 @@ use Rattle.std.proofs.Common.{◌≡◌, ℕ, zero, suc, ◌≤◌, List, ◌∷
 use Rattle.formula_tree.specs.declared.node.Node.{Node}
 use Rattle.formula_tree.specs.Depth.{depth_of}
 use Rattle.formula_grammar.specs.declared.token.Token.{Token}
-use Rattle.formula_grammar.specs.Reading.{Outcome, Parser, and_then, ◌>>=◌, with_rest, made, make, chain_step, chain_from, chain}
+use Rattle.formula_grammar.specs.laws.Reading.{Outcome, Parser, and_then, ◌>>=◌, with_rest, made, make, chain_step, chain_from, chain}
 use Rattle.formula_grammar.proofs.Depths.{made-is}
 
 -- some front of the tokens is such a thing

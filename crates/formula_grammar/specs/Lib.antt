@@ -1,9 +1,5 @@
-pub mod Equals
 pub mod Words
 pub mod Grammar
-pub mod Reading
-pub mod Outcome
-pub mod Signs
-pub mod Nests
 pub mod Numbers
 pub mod Normal
+pub mod laws

@@ -1,8 +1,8 @@
 ghost use Rattle.std.specs.Prelude.{◌≡◌, [], length};
 ghost use Rattle.std.specs.List.{list_all};
 ghost use Rattle.formula_grammar.specs.Words.{are_even, has_length, negated};
-ghost use Rattle.formula_grammar.specs.Reading as spec;
-ghost use Rattle.formula_grammar.specs.Outcome.{Reads};
+ghost use Rattle.formula_grammar.specs.laws.Reading as spec;
+ghost use Rattle.formula_grammar.specs.laws.Outcome.{Reads};
 
 use crate::after_item::AfterItem;
 use crate::cursor::Cursor;
@@ -112,7 +112,7 @@ fn rows(
 }
 
 /// An array, after its opening brace. Outside where its lines differ in length.
-#[tactic(auto, using(crate::proofs::Depths::depths), unfolding(crate::specs::Reading::array))]
+#[tactic(auto, using(crate::proofs::Depths::depths), unfolding(crate::specs::laws::Reading::array))]
 pub fn array(alloc: Global, profile: Profile, tokens: &mut Cursor<'_>) -> Result<Found, Fault>
     ensures { Reads (spec.array profile tokens.old.rest.now) result tokens.new.rest.now }
 {

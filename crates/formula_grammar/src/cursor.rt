@@ -1,7 +1,7 @@
 ghost use Rattle.std.specs.Prelude.{◌≡◌};
-ghost use Rattle.formula_grammar.specs.Reading as spec;
-ghost use Rattle.formula_grammar.specs.Signs.{signs, at_signs};
-ghost use Rattle.formula_grammar.specs.Outcome.{Reads, Picks, Eats};
+ghost use Rattle.formula_grammar.specs.laws.Reading as spec;
+ghost use Rattle.formula_grammar.specs.laws.Signs.{signs, at_signs};
+ghost use Rattle.formula_grammar.specs.laws.Outcome.{Reads, Picks, Eats};
 
 use crate::after_item::AfterItem;
 use crate::fault::Fault;

@@ -1,6 +1,6 @@
 ghost use Rattle.std.specs.Prelude.{◌≡◌, ◌++◌, ◌∷◌, [], IfOk, ◌≤◌, map};
 ghost use Rattle.formula_tree.specs.Depth.{depth_of, greatest};
-ghost use Rattle.formula_grammar.specs.Outcome.{Makes};
+ghost use Rattle.formula_grammar.specs.laws.Outcome.{Makes};
 
 use crate::fault::Fault;
 use base_shared::Shared;

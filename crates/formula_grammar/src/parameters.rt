@@ -1,6 +1,6 @@
 ghost use Rattle.std.specs.Prelude.{◌≡◌, IfOk};
-ghost use Rattle.formula_grammar.specs.Reading as spec;
-ghost use Rattle.formula_grammar.specs.Outcome.{Reads, Picks};
+ghost use Rattle.formula_grammar.specs.laws.Reading as spec;
+ghost use Rattle.formula_grammar.specs.laws.Outcome.{Reads, Picks};
 
 use crate::cursor::Cursor;
 use crate::fault::Fault;

@@ -11,7 +11,7 @@ ghost use Rattle.formula_grammar.specs.declared.profile.Profile.{Profile as AnyP
 ghost use Rattle.formula_grammar.specs.declared.token.Token.{Token as AnyToken};
 ghost use Rattle.formula_grammar.specs.Grammar.{Derives};
 ghost use Rattle.formula_grammar.specs.Numbers.{tokens_follow};
-ghost use Rattle.formula_grammar.specs.Reading as spec;
+ghost use Rattle.formula_grammar.specs.laws.Reading as spec;
 
 use crate::cursor::Cursor;
 use crate::fault::Fault;
@@ -28,7 +28,7 @@ const MAX_OPEN: u64 = 64;
 /// How deep calls and parentheses may nest together: each call makes the tree deeper.
 const MAX_NESTING: u64 = 128;
 
-#[tactic(auto, unfolding(crate::specs::Reading::tree_of))]
+#[tactic(auto, unfolding(crate::specs::laws::Reading::tree_of))]
 fn tree_of(alloc: Global, profile: Profile, tokens: &[Token]) -> Result<Option<Node>, EditError>
     requires { IsPlace profile.place }
     ensures tree { IfOk result (λ tree. tree ≡ spec.tree_of profile tokens.now) }
@@ -58,7 +58,6 @@ pub fn read_tokens(
     profile: Profile,
 ) -> Result<Option<Node>, EditError>
     requires place { IsPlace profile.place }
-    ensures value { IfOk result (λ o. o ≡ spec.tree_of profile tokens.now) }
     ensures found { IfOk result (λ o. IfSome o (λ tree. Derives profile tokens.now tree)) }
     ensures only { IfOk result (λ o. (tree : Tree) → Derives profile tokens.now tree → o ≡ Some tree) }
 
@@ -76,8 +75,8 @@ pub fn read_tokens(
     tree_of(alloc, profile, tokens)
 }
 
-/// Tokens derive at most one tree, which is no text outside of the grammar; and that tree is what the
-/// reader's definition answers.
+/// Tokens derive at most one tree, which is no text outside of the grammar. The definition `tree_of`,
+/// which computes, answers that tree.
 pub fn tokens_derive_one_tree()
     ensures one { (profile : AnyProfile) (tokens : List AnyToken) (a b : Tree) → Derives profile tokens a → Derives profile tokens b → a ≡ b }
     ensures formula { (profile : AnyProfile) (tokens : List AnyToken) (tree : Tree) → Derives profile tokens tree → is_parse_error tree ≡ false }

@@ -3,9 +3,9 @@
 
 ghost use Rattle.std.specs.Prelude.{◌≡◌};
 ghost use Rattle.base_values.specs.Places.{IsPlace};
-ghost use Rattle.formula_grammar.specs.Reading as spec;
-ghost use Rattle.formula_grammar.specs.Outcome.{Reads};
-ghost use Rattle.formula_grammar.specs.Nests.{Nests};
+ghost use Rattle.formula_grammar.specs.laws.Reading as spec;
+ghost use Rattle.formula_grammar.specs.laws.Outcome.{Reads};
+ghost use Rattle.formula_grammar.specs.laws.Nests.{Nests};
 
 use crate::arrays::array;
 use crate::cursor::Cursor;
@@ -180,7 +180,7 @@ impl<F: Fn(Global, Profile, &mut Cursor<'_>, u64, u64) -> Result<Found, Fault>> 
         Err(Fault::Outside)
     }
 
-    #[tactic(auto, using(crate::proofs::Depths::depths), unfolding(crate::specs::Reading::primary))]
+    #[tactic(auto, using(crate::proofs::Depths::depths), unfolding(crate::specs::laws::Reading::primary))]
     fn primary(&self, tokens: &mut Cursor<'_>) -> Result<Found, Fault>
         requires { Nests self.now.profile self.now.nesting (F.pre self.now.whole) (F.post self.now.whole) }
         ensures { Reads (spec.primary self.now.profile (spec.whole self.now.profile self.now.nesting) self.now.room tokens.old.rest.now) result tokens.new.rest.now }
@@ -223,7 +223,7 @@ impl<F: Fn(Global, Profile, &mut Cursor<'_>, u64, u64) -> Result<Found, Fault>> 
     }
 
     /// What stands in parentheses, after the first of them.
-    #[tactic(auto, unfolding(crate::specs::Reading::enclosed))]
+    #[tactic(auto, unfolding(crate::specs::laws::Reading::enclosed))]
     fn enclosed(&self, tokens: &mut Cursor<'_>) -> Result<Found, Fault>
         requires { Nests self.now.profile self.now.nesting (F.pre self.now.whole) (F.post self.now.whole) }
         ensures { Reads (spec.enclosed self.now.profile (spec.whole self.now.profile self.now.nesting) self.now.room tokens.old.rest.now) result tokens.new.rest.now }
@@ -253,7 +253,7 @@ impl<F: Fn(Global, Profile, &mut Cursor<'_>, u64, u64) -> Result<Found, Fault>> 
     }
 
     /// A call, after the word and the opening parenthesis.
-    #[tactic(auto, unfolding(crate::specs::Reading::call))]
+    #[tactic(auto, unfolding(crate::specs::laws::Reading::call))]
     fn call(&self, tokens: &mut Cursor<'_>, word: &Text) -> Result<Found, Fault>
         requires { Nests self.now.profile self.now.nesting (F.pre self.now.whole) (F.post self.now.whole) }
         ensures { Reads (spec.call self.now.profile (spec.whole self.now.profile self.now.nesting) self.now.room word.now tokens.old.rest.now) result tokens.new.rest.now }
@@ -282,7 +282,7 @@ impl<F: Fn(Global, Profile, &mut Cursor<'_>, u64, u64) -> Result<Found, Fault>> 
     }
 
     /// Parameters and body of a lambda, up to the closing parenthesis.
-    #[tactic(auto, unfolding(crate::specs::Reading::function))]
+    #[tactic(auto, unfolding(crate::specs::laws::Reading::function))]
     fn function(&self, tokens: &mut Cursor<'_>) -> Result<Found, Fault>
         requires { Nests self.now.profile self.now.nesting (F.pre self.now.whole) (F.post self.now.whole) }
         ensures { Reads (spec.function self.now.profile (spec.whole self.now.profile self.now.nesting) self.now.room tokens.old.rest.now) result tokens.new.rest.now }
@@ -295,7 +295,7 @@ impl<F: Fn(Global, Profile, &mut Cursor<'_>, u64, u64) -> Result<Found, Fault>> 
         Found::lambda(self.alloc, parameters, body)
     }
 
-    #[tactic(auto, using(crate::proofs::Depths::depths), unfolding(crate::specs::Reading::argument))]
+    #[tactic(auto, using(crate::proofs::Depths::depths), unfolding(crate::specs::laws::Reading::argument))]
     fn argument(&self, tokens: &mut Cursor<'_>) -> Result<Found, Fault>
         requires { Nests self.now.profile self.now.nesting (F.pre self.now.whole) (F.post self.now.whole) }
         ensures { Reads (spec.argument self.now.profile (spec.whole self.now.profile self.now.nesting) self.now.room tokens.old.rest.now) result tokens.new.rest.now }

@@ -1,6 +1,6 @@
 ghost use Rattle.std.specs.Prelude.{◌≡◌};
 ghost use Rattle.formula_grammar.specs.Words.{has_point};
-ghost use Rattle.formula_grammar.specs.Reading as spec;
+ghost use Rattle.formula_grammar.specs.laws.Reading as spec;
 
 use crate::token::Token;
 use base_tables::Locale;

@@ -15,7 +15,7 @@ pub struct CellMark {
 
 impl Exact for CellMark {
     ghost use Rattle.std.proofs.Common.{rules};
-    ghost use Rattle.formula_grammar.specs.Equals.{cell_mark_equals};
+    ghost use Rattle.formula_grammar.specs.laws.Equals.{cell_mark_equals};
 
     ghost copies = { λ a b h. Prim.search rules };
 
@@ -94,7 +94,7 @@ pub enum Token {
 
 impl Exact for Token {
     ghost use Rattle.std.proofs.Common.{rules};
-    ghost use Rattle.formula_grammar.specs.Equals.{token_equals};
+    ghost use Rattle.formula_grammar.specs.laws.Equals.{token_equals};
 
     ghost copies = { λ a b h. Prim.search rules };
 

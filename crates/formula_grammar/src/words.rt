@@ -1,8 +1,8 @@
 ghost use Rattle.std.specs.Prelude.{◌≡◌, IfOk};
 ghost use Rattle.base_values.specs.Places.{IsPlace};
 ghost use Rattle.formula_grammar.specs.Words.{is_lambda, called, worded, mark_place};
-ghost use Rattle.formula_grammar.specs.Reading as spec;
-ghost use Rattle.formula_grammar.specs.Outcome.{Gives, Makes};
+ghost use Rattle.formula_grammar.specs.laws.Reading as spec;
+ghost use Rattle.formula_grammar.specs.laws.Outcome.{Gives, Makes};
 
 use crate::fault::Fault;
 use crate::found::{Found, FoundAll};

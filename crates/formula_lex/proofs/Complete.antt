@@ -18,7 +18,7 @@ use Rattle.formula_grammar.specs.declared.Token.{Token}
 use Rattle.formula_grammar.specs.declared.Token.TheVariants as t
 use Rattle.formula_lex.specs.Characters.{Text, is_blank, goes_on_place, goes_on_name, doubled}
 use Rattle.formula_lex.specs.Lexicon.{IsPair, IsCell, IsRange, cells, columns, rows, IsSheetName, plain, quoted, IsMark, IsSheet, OnSheet, IsNumber, Spells, NoError, Ends, row_of_name}
-use Rattle.formula_lex.specs.Lex.{on_sheet, behind_word, word_at, behind_quotes, quoted_text, quoted_sheet_at, text_at, error_or_hash, error_at, behind_less, behind_greater, sign_at, place_at, range_at, token_at}
+use Rattle.formula_lex.specs.laws.Lex.{on_sheet, behind_word, word_at, behind_quotes, quoted_text, quoted_sheet_at, text_at, error_or_hash, error_at, behind_less, behind_greater, sign_at, place_at, range_at, token_at}
 use Rattle.formula_lex.proofs.Letters.{sign_goes_on_no_word, digit_no_letter, digit_no_dollar}
 use Rattle.formula_lex.proofs.Readers.{pair_parts, behind_read}
 use Rattle.formula_lex.proofs.Lines.{columns_named, rows_named, line_stops}

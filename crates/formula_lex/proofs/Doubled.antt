@@ -5,7 +5,7 @@ use Rattle.std.proofs.lemmas.Bool.Decides.{nat_tests}
 use Rattle.base_decimal.specs.Digits.{stops}
 use Rattle.base_decimal.proofs.Spans.{not_true}
 use Rattle.formula_lex.specs.Characters.{Text, doubled}
-use Rattle.formula_lex.specs.Lex.{quoted, in_front}
+use Rattle.formula_lex.specs.laws.Lex.{quoted, in_front}
 use Rattle.formula_lex.proofs.Readers.{some_is, map_some}
 
 abbrev end_at : Text → Option (Text × Text)

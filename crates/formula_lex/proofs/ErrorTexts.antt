@@ -14,7 +14,7 @@ use Rattle.base_tables.specs.laws.Error.{error_of_text-error_text}
 use Rattle.base_tables.specs.Tables.{entry_named}
 use Rattle.base_tables.specs.laws.Tables.{found_name}
 use Rattle.formula_lex.specs.Characters.{Text}
-use Rattle.formula_lex.specs.Lex.{past, strip, english_error, own_error, error_at}
+use Rattle.formula_lex.specs.laws.Lex.{past, strip, english_error, own_error, error_at}
 use Rattle.formula_lex.proofs.ErrorCharacters.{error_encoded, error_scalars, error_characters, german_characters, spanish_characters}
 use Rattle.formula_lex.proofs.Readers.{some_is, and_then_some, past_itself, past_parts}
 

@@ -6,8 +6,9 @@ use Rattle.formula_grammar.specs.declared.Token.{Token}
 use Rattle.formula_grammar.specs.declared.Token.TheVariants as t
 use Rattle.formula_lex.specs.Characters.{Text}
 use Rattle.formula_lex.specs.Lexicon.{OnSheet, IsCell, IsRange, NoCell, NoRange}
-use Rattle.formula_lex.specs.Lex.{range_at, cell_at, place_at}
+use Rattle.formula_lex.specs.laws.Lex.{range_at, cell_at, place_at}
 use Rattle.formula_lex.proofs.Readers.{some_is, map_some}
+use Rattle.formula_lex.proofs.Spots.{place_is}
 use Rattle.formula_lex.proofs.Places.{cell_read, cell_parts, range_read, range_parts}
 
 abbrev Marks : Type 0
@@ -58,16 +59,13 @@ abbrev marked : Option Text → Option (CellMark × Text) → Option (Token × T
 marked sheet = option_map (λ p. (t.Reference sheet p.0, p.1))
 
 pub place_of_range : (sheet : Option Text) (text : Text) (a b : CellMark) (rest : Text) → range_at text ≡ Some ((a, b), rest) → place_at sheet text ≡ Some (t.Range sheet a b, rest)
-unfolding place_at
-place_of_range sheet text a b rest e = ap (λ (o : Option (Marks × Text)). option_or (ranged sheet o) (marked sheet (cell_at text))) e
+place_of_range sheet text a b rest e = place_is sheet text ∙ ap (λ (o : Option (Marks × Text)). option_or (ranged sheet o) (marked sheet (cell_at text))) e
 
 pub place_of_cell : (sheet : Option Text) (text : Text) (mark : CellMark) (rest : Text) → range_at text ≡ None → cell_at text ≡ Some (mark, rest) → place_at sheet text ≡ Some (t.Reference sheet mark, rest)
-unfolding place_at
-place_of_cell sheet text mark rest none e = ap (λ (o : Option (Marks × Text)). option_or (ranged sheet o) (marked sheet (cell_at text))) none ∙ ap (marked sheet) e
+place_of_cell sheet text mark rest none e = place_is sheet text ∙ ap (λ (o : Option (Marks × Text)). option_or (ranged sheet o) (marked sheet (cell_at text))) none ∙ ap (marked sheet) e
 
 pub place_of_none : (sheet : Option Text) (text : Text) → range_at text ≡ None → cell_at text ≡ None → place_at sheet text ≡ None
-unfolding place_at
-place_of_none sheet text none e = ap (λ (o : Option (Marks × Text)). option_or (ranged sheet o) (marked sheet (cell_at text))) none ∙ ap (marked sheet) e
+place_of_none sheet text none e = place_is sheet text ∙ ap (λ (o : Option (Marks × Text)). option_or (ranged sheet o) (marked sheet (cell_at text))) none ∙ ap (marked sheet) e
 
 -- which of the two it is
 pub data Placed (sheet : Option Text) (text : Text) (x : Token) (rest : Text) : Type 0 where
@@ -75,8 +73,7 @@ pub data Placed (sheet : Option Text) (text : Text) (x : Token) (rest : Text) : 
   is_cell : (mark : CellMark) → range_at text ≡ None → cell_at text ≡ Some (mark, rest) → t.Reference sheet mark ≡ x → Placed sheet text x rest
 
 pub placed : (sheet : Option Text) (text : Text) (x : Token) (rest : Text) → place_at sheet text ≡ Some (x, rest) → Placed sheet text x rest
-unfolding place_at
-placed sheet text x rest e = go (range_at text) refl e
+placed sheet text x rest e = go (range_at text) refl (sym (place_is sheet text) ∙ e)
   where
     go : (o : Option (Marks × Text)) → range_at text ≡ o → option_or (ranged sheet o) (marked sheet (cell_at text)) ≡ Some (x, rest) → Placed sheet text x rest
     go None h f =
@@ -88,8 +85,7 @@ placed sheet text x rest e = go (range_at text) refl e
 
 -- no place of no sheet: neither a range nor a cell
 pub none_placed : (text : Text) → place_at None text ≡ None → (range_at text ≡ None) × (cell_at text ≡ None)
-unfolding place_at
-none_placed text e = go (range_at text) refl (cell_at text) refl e
+none_placed text e = go (range_at text) refl (cell_at text) refl (sym (place_is None text) ∙ e)
   where
     go : (o : Option (Marks × Text)) → range_at text ≡ o → (p : Option (CellMark × Text)) → cell_at text ≡ p → option_or (ranged None o) (marked None p) ≡ None → (range_at text ≡ None) × (cell_at text ≡ None)
     go None h None k f = (h, k)

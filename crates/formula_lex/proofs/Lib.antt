@@ -6,6 +6,7 @@ pub mod Turns
 pub mod Letters
 pub mod Readers
 pub mod Lines
+pub mod Spots
 pub mod Places
 pub mod Found
 pub mod Nowhere

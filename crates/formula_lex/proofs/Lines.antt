@@ -11,7 +11,7 @@ use Rattle.base_decimal.proofs.Spans.{and_both, span_at, span_parts}
 use Rattle.formula_lex.specs.declared.place.Line.{Line}
 use Rattle.formula_lex.specs.Characters.{Text, is_blank}
 use Rattle.formula_lex.specs.Lexicon.{dollar, row_of_name, IsLine}
-use Rattle.formula_lex.specs.Lex.{dollar_at, with_name, with_dollar, column_at, row_at}
+use Rattle.formula_lex.specs.laws.Lex.{dollar_at, with_name, with_dollar, column_at, row_at}
 use Rattle.formula_lex.proofs.Letters.{digit_no_letter, digit_no_dollar, letter_no_dollar, letter_no_blank, digit_no_blank}
 use Rattle.formula_lex.proofs.Readers.{Front, map_some}
 

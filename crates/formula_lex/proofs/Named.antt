@@ -12,7 +12,7 @@ use Rattle.formula_grammar.specs.declared.CellMark.{CellMark}
 use Rattle.formula_lex.specs.declared.place.Line.{Line}
 use Rattle.formula_lex.specs.Characters.{Text, goes_on_place}
 use Rattle.formula_lex.specs.Lexicon.{row_of_name}
-use Rattle.formula_lex.specs.Lex.{Reader, behind, both, dollar_at, with_dollar, mark_of, row_corners, column_corners, column_at, row_at, corner_at, two_at, cells_at, columns_at, rows_at, range_at, cell_at, place_at}
+use Rattle.formula_lex.specs.laws.Lex.{Reader, behind, both, dollar_at, with_dollar, mark_of, row_corners, column_corners, column_at, row_at, corner_at, two_at, cells_at, columns_at, rows_at, range_at, cell_at, place_at}
 use Rattle.formula_lex.proofs.Letters.{sign_goes_on_no_word}
 use Rattle.formula_lex.proofs.Readers.{map_some, both_parted, behind_parts, ended_parts}
 use Rattle.formula_lex.proofs.Found.{place_of_none}

@@ -8,7 +8,7 @@ use Rattle.base_decimal.specs.Digits.{span}
 use Rattle.base_decimal.proofs.Spans.{span_at}
 use Rattle.formula_lex.specs.Characters.{Text}
 use Rattle.formula_lex.specs.Lexicon.{row_of_name}
-use Rattle.formula_lex.specs.Lex.{dollar_at, with_name, with_dollar, mark_of, behind, both, row_corners, column_corners, column_at, row_at, corner_at, cells_at, columns_at, rows_at, range_at, cell_at, place_at}
+use Rattle.formula_lex.specs.laws.Lex.{dollar_at, with_name, with_dollar, mark_of, behind, both, row_corners, column_corners, column_at, row_at, corner_at, cells_at, columns_at, rows_at, range_at, cell_at, place_at}
 use Rattle.formula_lex.proofs.Readers.{both_first_fails, ended_fails}
 use Rattle.formula_lex.proofs.Found.{place_of_none}
 

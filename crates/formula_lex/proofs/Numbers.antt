@@ -26,7 +26,7 @@ use Rattle.formula_grammar.specs.declared.Token.{Token}
 use Rattle.formula_grammar.specs.declared.Token.TheVariants as t
 use Rattle.formula_lex.specs.Characters.{Text, goes_on_number}
 use Rattle.formula_lex.specs.Lexicon.{starts_digit, IsNumber}
-use Rattle.formula_lex.specs.Lex.{in_number, number_len, number_in, number_at}
+use Rattle.formula_lex.specs.laws.Lex.{in_number, number_len, number_in, number_at}
 use Rattle.formula_lex.proofs.Letters.{ascii_letters}
 use Rattle.formula_lex.proofs.Readers.{map_some}
 

@@ -10,7 +10,7 @@ use Rattle.formula_grammar.specs.declared.CellMark.{CellMark}
 use Rattle.formula_lex.specs.declared.place.Line.{Line}
 use Rattle.formula_lex.specs.Characters.{Text, goes_on_place}
 use Rattle.formula_lex.specs.Lexicon.{IsSpan, IsLine, IsCell, IsRange, cells, columns, rows, row_of_name}
-use Rattle.formula_lex.specs.Lex.{Reader, both, behind, mark_of, column_corners, row_corners, column_at, row_at, corner_at, two_at, cells_at, columns_at, rows_at, range_at, cell_at}
+use Rattle.formula_lex.specs.laws.Lex.{Reader, both, behind, mark_of, column_corners, row_corners, column_at, row_at, corner_at, two_at, cells_at, columns_at, rows_at, range_at, cell_at}
 use Rattle.formula_lex.proofs.Letters.{no_word_no_letter, no_word_no_digit, no_place_no_word}
 use Rattle.formula_lex.proofs.Readers.{Front, both_parted, both_joined, both_first_fails, both_second_fails, pair_parts, behind_read, behind_parts, ended_parts, ended_read, ended_fails}
 use Rattle.formula_lex.proofs.Lines.{column_read, column_parts, row_read, row_parts, row_no_letter, row_no_column, colon_no_row}

@@ -2,7 +2,7 @@
 use Rattle.std.proofs.Common.{◌≡◌, ℕ, Bool, true, false, cond, [], ◌∷◌, ◌++◌, Option, Some, None, option_map, refl, sym, ap, ◌∙◌, append_assoc, append-nil}
 use Rattle.std.specs.Prelude.{◌==◌, encode_utf8, encode_utf8_all}
 use Rattle.formula_lex.specs.Characters.{Text}
-use Rattle.formula_lex.specs.Lex.{quoted, quoted_text, next_quoted, in_front}
+use Rattle.formula_lex.specs.laws.Lex.{quoted, quoted_text, next_quoted, in_front}
 
 -- the same in bytes
 abbrev bytes_of : Option (Text × Text) → Option (Text × Text)

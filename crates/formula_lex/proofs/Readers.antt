@@ -5,7 +5,7 @@ use Rattle.std.specs.Option.{option_map, option_and_then}
 use Rattle.std.proofs.lemmas.Bool.Decides.{nat_tests}
 use Rattle.base_decimal.specs.Digits.{stops}
 use Rattle.formula_lex.specs.Characters.{Text, goes_on_place}
-use Rattle.formula_lex.specs.Lex.{Reader, both, past, behind, if_ends, ended}
+use Rattle.formula_lex.specs.laws.Lex.{Reader, both, past, behind, if_ends, ended}
 
 -- what stands at the front of the text, before the rest
 pub record Front (Is : Text → Type 0) (text rest : Text) : Type 0 where

@@ -16,8 +16,8 @@ use Rattle.formula_grammar.specs.declared.Token.{Token}
 use Rattle.formula_grammar.specs.declared.Token.TheVariants as t
 use Rattle.formula_lex.specs.Characters.{Text, is_blank, goes_on_name, doubled}
 use Rattle.formula_lex.specs.Lexicon.{IsCell, IsRange, IsSheetName, plain, quoted, OnSheet, Spells, NoCell, NoRange, Ends}
-use Rattle.formula_lex.specs.Lex.{on_sheet, behind_word, word_at, behind_quotes, quoted_text, quoted_sheet_at, text_at, number_at, error_or_hash, error_at, behind_less, behind_greater, single, sign_at, place_at, range_at, cell_at, token_at, other_at}
-use Rattle.formula_lex.specs.Lex as lex
+use Rattle.formula_lex.specs.laws.Lex.{on_sheet, behind_word, word_at, behind_quotes, quoted_text, quoted_sheet_at, text_at, number_at, error_or_hash, error_at, behind_less, behind_greater, single, sign_at, place_at, range_at, cell_at, token_at, other_at}
+use Rattle.formula_lex.specs.laws.Lex as lex
 use Rattle.formula_lex.proofs.Readers.{some_is, map_some, and_then_some, behind_parts}
 use Rattle.formula_lex.proofs.Places.{cell_parts, range_parts}
 use Rattle.formula_lex.proofs.Found.{Placed, is_range, is_cell, placed, none_placed, on_none, no_range_spelled, no_cell_spelled}

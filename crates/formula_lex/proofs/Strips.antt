@@ -5,7 +5,7 @@ use Rattle.std.specs.Option.{option_and_then}
 use Rattle.std.specs.Str.{IsUtf8, chars}
 use Rattle.std.proofs.lemmas.Str.{chars_past_char, chars-nil}
 use Rattle.formula_lex.specs.Characters.{Text}
-use Rattle.formula_lex.specs.Lex.{past, strip}
+use Rattle.formula_lex.specs.laws.Lex.{past, strip}
 
 pub strip_turn : (bytes more : List ℕ) (c : ℕ) (text : Text) (o : Option Text) → IsUtf8 bytes → bytes ≡ encode_utf8 c ++ more → past c text ≡ o → strip (chars bytes) text ≡ option_and_then (strip (chars more)) o
 strip_turn bytes more c text o whole e f = ap (λ (name : Text). strip name text) (chars_past_char bytes more c whole e) ∙ ap (option_and_then (strip (chars more))) f

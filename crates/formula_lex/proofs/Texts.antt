@@ -14,7 +14,7 @@ use Rattle.formula_grammar.specs.declared.Token.{Token}
 use Rattle.formula_grammar.specs.declared.Token.TheVariants as t
 use Rattle.formula_lex.specs.Characters.{Text, is_blank, doubled}
 use Rattle.formula_lex.specs.Lexicon.{OnSheet, IsCell, IsRange, IsNumber, Spells, Begins, IsTokens}
-use Rattle.formula_lex.specs.Lex.{sign_at, token_at, with_token, tokens_from, tokens_of}
+use Rattle.formula_lex.specs.laws.Lex.{sign_at, token_at, with_token, tokens_from, tokens_of}
 use Rattle.formula_lex.proofs.Readers.{some_is, and_then_some, map_some}
 use Rattle.formula_lex.proofs.ErrorTexts.{error_starts}
 use Rattle.formula_lex.proofs.Tokens.{is_sign, token_sign}

@@ -9,7 +9,7 @@ use Rattle.base_tables.specs.Column.{is_letter, is_column_name, column_of_name}
 use Rattle.base_tables.specs.Word.{is_digit, is_count, starts_word}
 use Rattle.formula_grammar.specs.declared.Token.{Token}
 use Rattle.formula_lex.specs.Characters.{Text}
-use Rattle.formula_lex.specs.Lex.{place_at, word_at, number_at, text_at, quoted_sheet_at, error_or_hash, error_at, sign_at, other_at, token_at, range_at, cell_at, cells_at, columns_at, rows_at, corner_at, column_at, row_at}
+use Rattle.formula_lex.specs.laws.Lex.{place_at, spot_at, word_at, number_at, text_at, quoted_sheet_at, error_or_hash, error_at, sign_at, other_at, token_at, column_at, row_at}
 use Rattle.formula_lex.proofs.Letters.{sign_starts_no_word, digit_starts_no_word}
 use Rattle.formula_lex.proofs.Nowhere.{no_place_here}
 
@@ -62,7 +62,7 @@ module _ (locale : Locale) (language : Language) where
 
   -- where a place stands
   pub token_place : (text : Text) (x : Token) (rest : Text) → place_at None text ≡ Some (x, rest) → token_at locale language text ≡ Some (x, rest)
-  unfolding token_at place_at range_at cell_at cells_at columns_at rows_at corner_at column_at row_at column_of_name is_column_name is_count
+  unfolding token_at place_at spot_at column_at row_at column_of_name is_column_name is_count
   token_place [] x rest e = absurd cc
   token_place (c ∷ text) x rest e = ap (λ (o : Found). option_or o (other_at locale language c text)) e
 

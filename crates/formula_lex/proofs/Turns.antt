@@ -5,7 +5,7 @@ use Rattle.base_tables.specs.declared.Language.{Language}
 use Rattle.base_tables.specs.declared.Locale.{Locale}
 use Rattle.formula_grammar.specs.declared.Token.{Token}
 use Rattle.formula_lex.specs.Characters.{Text, is_blank}
-use Rattle.formula_lex.specs.Lex.{token_at, with_token, tokens_from, tokens_of}
+use Rattle.formula_lex.specs.laws.Lex.{token_at, with_token, tokens_from, tokens_of}
 
 -- tokens that were read before stand in front
 abbrev pub ahead : List Token → Option (List Token) → Option (List Token)

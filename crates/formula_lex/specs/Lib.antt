@@ -1,5 +1,3 @@
 pub mod Characters
-pub mod Classes
 pub mod Lexicon
-pub mod Lex
-pub mod Outcome
+pub mod laws

@@ -6,9 +6,9 @@ ghost use Rattle.base_tables.specs.Column.{is_letter};
 ghost use Rattle.base_tables.specs.Word.{is_digit, starts_word, goes_on_word};
 ghost use Rattle.base_decimal.specs.Digits.{span, stops};
 ghost use Rattle.formula_lex.specs.Characters.{is_blank, goes_on_place};
-ghost use Rattle.formula_lex.specs.Lex as spec;
-ghost use Rattle.formula_lex.specs.Lex.{dollar_at};
-ghost use Rattle.formula_lex.specs.Classes.{passes};
+ghost use Rattle.formula_lex.specs.laws.Lex as spec;
+ghost use Rattle.formula_lex.specs.laws.Lex.{dollar_at};
+ghost use Rattle.formula_lex.specs.laws.Classes.{passes};
 
 /// The kinds of characters of which a run is taken.
 #[derive(Clone, Copy)]

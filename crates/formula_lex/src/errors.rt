@@ -1,9 +1,9 @@
 ghost use Rattle.std.specs.Prelude.{◌≡◌};
 ghost use Rattle.std.specs.Option.{option_map};
 ghost use Rattle.base_tables.specs.Error.{all_errors, error_text};
-ghost use Rattle.formula_lex.specs.Lex.{own_error, english_error, error_at};
-ghost use Rattle.formula_lex.specs.Lex as spec;
-ghost use Rattle.formula_lex.specs.Outcome.{seen};
+ghost use Rattle.formula_lex.specs.laws.Lex.{own_error, english_error, error_at};
+ghost use Rattle.formula_lex.specs.laws.Lex as spec;
+ghost use Rattle.formula_lex.specs.laws.Outcome.{seen};
 
 use crate::characters::strip;
 use base_tables::{Error, Language};
@@ -41,7 +41,7 @@ fn english_error<'a>(errors: &[Error], text: &'a [char]) -> Option<(Error, &'a [
 }
 
 /// The error whose text stands at the front, and what follows it.
-#[tactic(auto, unfolding(crate::specs::Lex::error_at))]
+#[tactic(auto, unfolding(crate::specs::laws::Lex::error_at))]
 pub fn error(language: Language, text: &[char]) -> Option<(Error, &[char])>
     ensures { seen result ≡ error_at language text.now }
 {

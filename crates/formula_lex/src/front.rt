@@ -2,13 +2,13 @@ ghost use Rattle.std.specs.Prelude.{◌≡◌, ◌≤◌, ◌<◌, ◌∷◌, fa
 ghost use Rattle.std.specs.Option.{option_map};
 ghost use Rattle.base_tables.specs.Word.{reads_as_cell};
 ghost use Rattle.base_decimal.specs.Numeral.{is_exponent_letter};
-ghost use Rattle.formula_lex.specs.Lex as spec;
+ghost use Rattle.formula_lex.specs.laws.Lex as spec;
 ghost use Rattle.formula_lex.specs.Characters.{goes_on_number};
-ghost use Rattle.formula_lex.specs.Outcome.{seen};
+ghost use Rattle.formula_lex.specs.laws.Outcome.{seen};
 
 use crate::characters::{Class, ends_before, goes_on_word, is_digit, past, run, starts_word};
 use crate::errors::error;
-use crate::place::{cell, range};
+use crate::place::{Spot, place};
 use base_decimal::Decimal;
 use base_shared::Shared;
 use base_tables::{Language, Locale, reads_as_cell};
@@ -28,16 +28,22 @@ fn text_of(alloc: Global, characters: &[char]) -> Result<Text, AllocError>
     Ok(Text::new(text))
 }
 
+fn place_token(sheet: Option<Shared<Text>>, place: Spot) -> Token
+    ensures { result ≡ spec.place_token sheet place }
+{
+    match place {
+        Spot::Cell(mark) => Token::Reference(sheet, mark),
+        Spot::Range(first, second) => Token::Range(sheet, first, second),
+    }
+}
+
 /// A range, or else a cell, at the front of the text, which stands on this sheet.
-#[tactic(auto, unfolding(crate::specs::Lex::place_at))]
-fn place(sheet: Option<Shared<Text>>, text: &[char]) -> Option<(Token, &[char])>
+#[tactic(auto, unfolding(crate::specs::laws::Lex::place_at))]
+fn place_on(sheet: Option<Shared<Text>>, text: &[char]) -> Option<(Token, &[char])>
     ensures { seen result ≡ spec.place_at sheet text.now }
 {
-    if let Some(((first, second), rest)) = range(text) {
-        return Some((Token::Range(sheet, first, second), rest));
-    }
-    let (mark, rest) = cell(text)?;
-    Some((Token::Reference(sheet, mark), rest))
+    let (found, rest) = place(text)?;
+    Some((place_token(sheet, found), rest))
 }
 
 /// What stands on the sheet, behind its name.
@@ -45,7 +51,7 @@ fn on_sheet(sheet: Shared<Text>, text: &[char]) -> Option<(Token, &[char])>
     ensures { seen result ≡ spec.on_sheet sheet text.now }
 {
     let (_, rest) = run(Class::Blank, past('!', text)?);
-    place(Some(sheet), rest)
+    place_on(Some(sheet), rest)
 }
 
 /// Whether a word, whose text is `name`, reads as a cell.
@@ -58,7 +64,7 @@ fn is_cell(word: &[char], name: &str) -> bool
 }
 
 /// A word, or what stands on the sheet that a word names.
-#[tactic(auto, unfolding(crate::specs::Lex::word_at))]
+#[tactic(auto, unfolding(crate::specs::laws::Lex::word_at))]
 fn word(alloc: Global, text: &[char]) -> Result<Option<(Token, &[char])>, AllocError>
     ensures { IfOk result (λ found. seen found ≡ spec.word_at text.now) }
 {
@@ -94,7 +100,7 @@ fn number_len(locale: Locale, text: &[char]) -> usize
     text.len()
 }
 
-#[tactic(auto, unfolding(crate::specs::Lex::number_at))]
+#[tactic(auto, unfolding(crate::specs::laws::Lex::number_at))]
 fn number(
     alloc: Global,
     locale: Locale,
@@ -141,7 +147,7 @@ fn quoted(alloc: Global, quote: char, text: &[char]) -> Result<Option<(Text, &[c
     Ok(None)
 }
 
-#[tactic(auto, unfolding(crate::specs::Lex::text_at))]
+#[tactic(auto, unfolding(crate::specs::laws::Lex::text_at))]
 fn text_token(alloc: Global, text: &[char]) -> Result<Option<(Token, &[char])>, AllocError>
     ensures { IfOk result (λ found. seen found ≡ spec.text_at text.now) }
 {
@@ -152,7 +158,7 @@ fn text_token(alloc: Global, text: &[char]) -> Result<Option<(Token, &[char])>, 
     }
 }
 
-#[tactic(auto, unfolding(crate::specs::Lex::quoted_sheet_at))]
+#[tactic(auto, unfolding(crate::specs::laws::Lex::quoted_sheet_at))]
 fn quoted_sheet(alloc: Global, text: &[char]) -> Result<Option<(Token, &[char])>, AllocError>
     ensures { IfOk result (λ found. seen found ≡ spec.quoted_sheet_at text.now) }
 {
@@ -224,7 +230,7 @@ fn single(c: char) -> Option<Token>
 }
 
 /// A sign that begins with this character, behind which the text stands.
-#[tactic(auto, unfolding(crate::specs::Lex::sign_at))]
+#[tactic(auto, unfolding(crate::specs::laws::Lex::sign_at))]
 fn sign(c: char, text: &[char]) -> Option<(Token, &[char])>
     ensures { seen result ≡ spec.sign_at c text.now }
 {
@@ -239,7 +245,7 @@ fn sign(c: char, text: &[char]) -> Option<(Token, &[char])>
 }
 
 /// A token that is neither a cell nor a range. It begins with this character, behind which `rest` stands.
-#[tactic(auto, unfolding(crate::specs::Lex::other_at))]
+#[tactic(auto, unfolding(crate::specs::laws::Lex::other_at))]
 fn other<'a>(
     alloc: Global,
     profile: Profile,
@@ -265,7 +271,7 @@ fn other<'a>(
 }
 
 /// The token at the front of the text, and what follows it.
-#[tactic(auto, unfolding(crate::specs::Lex::token_at))]
+#[tactic(auto, unfolding(crate::specs::laws::Lex::token_at))]
 pub fn token(
     alloc: Global,
     profile: Profile,
@@ -276,7 +282,7 @@ pub fn token(
     let [c, rest @ ..] = text else {
         return Ok(None);
     };
-    match place(None, text) {
+    match place_on(None, text) {
         Some(found) => Ok(Some(found)),
         None => other(alloc, profile, *c, text, rest),
     }

@@ -6,7 +6,7 @@ ghost use Rattle.base_tables.specs.declared.Language.{Language as AnyLanguage};
 ghost use Rattle.base_tables.specs.declared.Locale.{Locale as AnyLocale};
 ghost use Rattle.formula_grammar.specs.declared.Token.{Token as AnyToken};
 ghost use Rattle.formula_lex.specs.Lexicon.{IsTokens};
-ghost use Rattle.formula_lex.specs.Lex.{tokens_of};
+ghost use Rattle.formula_lex.specs.laws.Lex.{tokens_of};
 
 use crate::characters::{Class, run};
 use crate::front::token;
@@ -53,7 +53,6 @@ pub fn lex_text(
     text: &str,
     profile: Profile,
 ) -> Result<Option<Vec<Token>>, EditError>
-    ensures value { IfOk result (λ o. option_map (λ tokens. tokens.items) o ≡ tokens_of profile.locale profile.language (chars text.now)) }
     ensures found { IfOk result (λ o. IfSome o (λ tokens. IsTokens profile.locale profile.language (chars text.now) tokens.items)) }
     ensures only { IfOk result (λ o. (tokens : List AnyToken) → IsTokens profile.locale profile.language (chars text.now) tokens → option_map (λ found. found.items) o ≡ Some tokens) }
     ensures memory { IsOkUnless result NoMemory }
@@ -62,7 +61,7 @@ pub fn lex_text(
     Ok(tokens(alloc, profile, &characters)?)
 }
 
-/// A text is at most one list of tokens, and that list is what the lexer's definition answers.
+/// A text is at most one list of tokens. The definition `tokens_of`, which computes, answers that list.
 pub fn text_spells_one_list()
     ensures one { (locale : AnyLocale) (language : AnyLanguage) (text : List ℕ) (a b : List AnyToken) → IsTokens locale language text a → IsTokens locale language text b → a ≡ b }
     ensures read { (locale : AnyLocale) (language : AnyLanguage) (text : List ℕ) (tokens : List AnyToken) → tokens_of locale language text ≡ Some tokens → IsTokens locale language text tokens }

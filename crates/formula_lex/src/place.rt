@@ -3,8 +3,8 @@ ghost use Rattle.std.specs.List.{list_all};
 ghost use Rattle.base_tables.specs.Column.{is_between, is_letter, letter_value, letters_number, column_of_name};
 ghost use Rattle.base_tables.specs.Word.{is_digit, digits_number};
 ghost use Rattle.formula_lex.specs.Lexicon.{row_of_name};
-ghost use Rattle.formula_lex.specs.Lex.{column_at, row_at, corner_at, cells_at, columns_at, rows_at, range_at, cell_at, mark_of, absolute_line};
-ghost use Rattle.formula_lex.specs.Outcome.{seen};
+ghost use Rattle.formula_lex.specs.laws.Lex.{column_at, row_at, corner_at, second_corner_at, second_column_at, second_row_at, corner_begins, column_begins, columns_begin, rows_begin, spot_at, mark_of, absolute_line};
+ghost use Rattle.formula_lex.specs.laws.Outcome.{seen};
 
 use crate::characters::{Class, dollar, ends_place, past, run};
 use base_values::{LAST_COLUMN, LAST_ROW};
@@ -15,6 +15,14 @@ use formula_grammar::CellMark;
 pub struct Line {
     pub absolute: bool,
     pub number: i32,
+}
+
+/// What stands at the front of a text, with its corners as written. Of whole columns the rows are the
+/// absolute first and last one, of whole rows the columns.
+#[derive(Clone, Copy)]
+pub enum Spot {
+    Cell(CellMark),
+    Range(CellMark, CellMark),
 }
 
 fn letter_value(c: char) -> u32
@@ -87,7 +95,7 @@ fn row_of(digits: &[char]) -> Option<i32>
 }
 
 /// A column at the front of the text, and what follows it.
-#[tactic(auto, unfolding(crate::specs::Lex::column_at))]
+#[tactic(auto, unfolding(crate::specs::laws::Lex::column_at))]
 fn column(text: &[char]) -> Option<(Line, &[char])>
     ensures { seen result ≡ column_at text.now }
 {
@@ -98,7 +106,7 @@ fn column(text: &[char]) -> Option<(Line, &[char])>
 }
 
 /// A row at the front of the text, and what follows it.
-#[tactic(auto, unfolding(crate::specs::Lex::row_at))]
+#[tactic(auto, unfolding(crate::specs::laws::Lex::row_at))]
 fn row(text: &[char]) -> Option<(Line, &[char])>
     ensures { seen result ≡ row_at text.now }
 {
@@ -128,7 +136,7 @@ fn absolute_line(number: i32) -> Line
     }
 }
 
-#[tactic(auto, unfolding(crate::specs::Lex::corner_at))]
+#[tactic(auto, unfolding(crate::specs::laws::Lex::corner_at))]
 fn corner(text: &[char]) -> Option<(CellMark, &[char])>
     ensures { seen result ≡ corner_at text.now }
 {
@@ -137,67 +145,103 @@ fn corner(text: &[char]) -> Option<(CellMark, &[char])>
     Some((mark(column, row), rest))
 }
 
-/// A cell at the front of the text, and what follows it.
-#[tactic(auto, unfolding(crate::specs::Lex::cell_at))]
-pub fn cell(text: &[char]) -> Option<(CellMark, &[char])>
-    ensures { seen result ≡ cell_at text.now }
+/// What a first corner begins: a range, where a colon and a second corner follow, or else a cell.
+#[tactic(auto, unfolding(crate::specs::laws::Lex::corner_begins))]
+fn corner_begins(first: CellMark, text: &[char]) -> Option<(Spot, &[char])>
+    ensures { seen result ≡ corner_begins first text.now }
 {
-    let (corner, rest) = corner(text)?;
-    if ends_place(rest) {
-        Some((corner, rest))
+    if let Some((second, rest)) = second_corner(text) {
+        return Some((Spot::Range(first, second), rest));
+    }
+    if ends_place(text) {
+        Some((Spot::Cell(first), text))
     } else {
         None
     }
 }
 
-/// Two cells with a colon between them.
-#[tactic(auto, unfolding(crate::specs::Lex::cells_at))]
-fn cells(text: &[char]) -> Option<((CellMark, CellMark), &[char])>
-    ensures { seen result ≡ cells_at text.now }
+/// The second corner of a range, behind its colon.
+#[tactic(auto, unfolding(crate::specs::laws::Lex::second_corner_at))]
+fn second_corner(text: &[char]) -> Option<(CellMark, &[char])>
+    ensures { seen result ≡ second_corner_at text.now }
 {
-    let (first, rest) = corner(text)?;
-    let (second, rest) = corner(past(':', rest)?)?;
+    let (second, rest) = corner(past(':', text)?)?;
     if ends_place(rest) {
-        Some(((first, second), rest))
+        Some((second, rest))
     } else {
         None
     }
 }
 
-/// Two columns with a colon between them.
-#[tactic(auto, unfolding(crate::specs::Lex::columns_at))]
-fn columns(text: &[char]) -> Option<((CellMark, CellMark), &[char])>
-    ensures { seen result ≡ columns_at text.now }
+/// The second of two columns, behind the colon.
+#[tactic(auto, unfolding(crate::specs::laws::Lex::second_column_at))]
+fn second_column(text: &[char]) -> Option<(Line, &[char])>
+    ensures { seen result ≡ second_column_at text.now }
 {
-    let (first, rest) = column(text)?;
-    let (second, rest) = column(past(':', rest)?)?;
-    if !ends_place(rest) {
-        return None;
+    let (second, rest) = column(past(':', text)?)?;
+    if ends_place(rest) {
+        Some((second, rest))
+    } else {
+        None
     }
+}
+
+/// The second of two rows, behind the colon.
+#[tactic(auto, unfolding(crate::specs::laws::Lex::second_row_at))]
+fn second_row(text: &[char]) -> Option<(Line, &[char])>
+    ensures { seen result ≡ second_row_at text.now }
+{
+    let (second, rest) = row(past(':', text)?)?;
+    if ends_place(rest) {
+        Some((second, rest))
+    } else {
+        None
+    }
+}
+
+/// Whole columns, of which the first was read.
+#[tactic(auto, unfolding(crate::specs::laws::Lex::columns_begin))]
+fn columns_begin(first: Line, text: &[char]) -> Option<(Spot, &[char])>
+    ensures { seen result ≡ columns_begin first text.now }
+{
+    let (second, rest) = second_column(text)?;
     let first = mark(first, absolute_line(1));
     let second = mark(second, absolute_line(LAST_ROW));
-    Some(((first, second), rest))
+    Some((Spot::Range(first, second), rest))
 }
 
-/// Two rows with a colon between them.
-#[tactic(auto, unfolding(crate::specs::Lex::rows_at))]
-fn rows(text: &[char]) -> Option<((CellMark, CellMark), &[char])>
-    ensures { seen result ≡ rows_at text.now }
+/// Whole rows, of which the first was read.
+#[tactic(auto, unfolding(crate::specs::laws::Lex::rows_begin))]
+fn rows_begin(first: Line, text: &[char]) -> Option<(Spot, &[char])>
+    ensures { seen result ≡ rows_begin first text.now }
 {
-    let (first, rest) = row(text)?;
-    let (second, rest) = row(past(':', rest)?)?;
-    if !ends_place(rest) {
-        return None;
-    }
+    let (second, rest) = second_row(text)?;
     let first = mark(absolute_line(1), first);
     let second = mark(absolute_line(LAST_COLUMN), second);
-    Some(((first, second), rest))
+    Some((Spot::Range(first, second), rest))
 }
 
-/// A range at the front of the text, and what follows it.
-#[tactic(auto, unfolding(crate::specs::Lex::range_at))]
-pub fn range(text: &[char]) -> Option<((CellMark, CellMark), &[char])>
-    ensures { seen result ≡ range_at text.now }
+/// What a column begins: a corner's place, or whole columns.
+#[tactic(auto, unfolding(crate::specs::laws::Lex::column_begins))]
+fn column_begins(column: Line, text: &[char]) -> Option<(Spot, &[char])>
+    ensures { seen result ≡ column_begins column text.now }
 {
-    cells(text).or(columns(text)).or(rows(text))
+    match row(text) {
+        Some((row, rest)) => corner_begins(mark(column, row), rest),
+        None => columns_begin(column, text),
+    }
+}
+
+/// A range, or else a cell, at the front of the text, and what follows it. Each line is read once.
+#[tactic(auto, unfolding(crate::specs::laws::Lex::spot_at))]
+pub fn place(text: &[char]) -> Option<(Spot, &[char])>
+    ensures { seen result ≡ spot_at text.now }
+{
+    match column(text) {
+        Some((column, rest)) => column_begins(column, rest),
+        None => {
+            let (row, rest) = row(text)?;
+            rows_begin(row, rest)
+        }
+    }
 }

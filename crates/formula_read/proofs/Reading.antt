@@ -13,9 +13,9 @@ use Rattle.formula_grammar.specs.declared.Profile.{Profile}
 use Rattle.formula_grammar.specs.declared.Token.{Token}
 use Rattle.formula_grammar.specs.Grammar.{Derives}
 use Rattle.formula_lex.specs.Lexicon.{IsTokens}
-use Rattle.formula_grammar.specs.Reading.{tree_of}
-use Rattle.formula_lex.specs.Lex.{tokens_of}
-use Rattle.formula_read.specs.Formula.{IsFormula, IsRead, formula_of}
+use Rattle.formula_grammar.specs.laws.Reading.{tree_of}
+use Rattle.formula_lex.specs.laws.Lex.{tokens_of}
+use Rattle.formula_read.specs.Formula.{IsFormula, IsRead, found_tree, formula_of}
 
 -- what its tokens derive is its tree
 pub found_formula : {E : Type 0} (p : Profile) (text : List ℕ) (tokens : List Token) (r : Result (Option Node) E) → IsTokens p.locale p.language (chars text) tokens
@@ -107,3 +107,32 @@ formula_is_read p text lexed spelled read derived formula = by (tokens_of p.loca
         nowhere : (ts : List Token) → ◌≡◌ {A = Option (List Token)} None (Some ts) → ⊥
         nowhere ts e = cc
     by (Some ts) e = parsed ts e (tree_of p ts) refl
+
+-- ---- what the definitions compute
+
+-- the definition answers the tree of the tokens, as the reader does
+pub same_answer : {E : Type 0} (p : Profile) (ts : List Token) (r : Result (Option Node) E)
+    → ((tree : Node) → tree_of p ts ≡ Some tree → Derives p ts tree) → ((tree : Node) → Derives p ts tree → tree_of p ts ≡ Some tree)
+    → IfOk r (λ o. IfSome o (Derives p ts)) → IfOk r (λ o. (tree : Node) → Derives p ts tree → o ≡ Some tree) → IfOk r (λ o. o ≡ tree_of p ts)
+same_answer p ts (Ok (Some tree)) read derived found only = sym (derived tree found)
+same_answer p ts (Ok None) read derived found only = nowhere (tree_of p ts) refl
+  where
+    nowhere : (o : Option Node) → tree_of p ts ≡ o → ◌≡◌ {A = Option Node} None o
+    nowhere None e = refl
+    nowhere (Some tree) e = only tree (read tree e)
+same_answer p ts (Err e) read derived found only = tt
+
+-- a text with these tokens has the tree of these tokens
+pub same_found : {E : Type 0} (p : Profile) (text : List ℕ) (ts : List Token) (r : Result (Option Node) E) → tokens_of p.locale p.language (chars text) ≡ Some ts
+    → IfOk r (λ o. o ≡ tree_of p ts) → IfOk r (λ o. o ≡ found_tree p text)
+same_found p text ts (Ok o) spelled e = e ∙ ap (option_and_then (tree_of p)) (sym spelled)
+same_found p text ts (Err e) spelled is = tt
+
+-- a text that is no tokens has no tree
+pub nothing_found : (p : Profile) (text : List ℕ) → ((ts : List Token) → tokens_of p.locale p.language (chars text) ≡ Some ts → IsTokens p.locale p.language (chars text) ts)
+    → ((ts : List Token) → IsTokens p.locale p.language (chars text) ts → ◌≡◌ {A = Option (List Token)} None (Some ts)) → ◌≡◌ {A = Option Node} None (found_tree p text)
+nothing_found p text read only = by (tokens_of p.locale p.language (chars text)) refl
+  where
+    by : (o : Option (List Token)) → tokens_of p.locale p.language (chars text) ≡ o → ◌≡◌ {A = Option Node} None (option_and_then (tree_of p) o)
+    by None e = refl
+    by (Some ts) e = let none = only ts (read ts e) in absurd cc

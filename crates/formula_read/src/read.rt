@@ -31,6 +31,8 @@ fn tree_of(alloc: Global, text: &str, profile: Profile) -> Result<Option<Node>, 
     ensures positive { IfOk result (λ o. IfSome o (λ tree. has_no_negative_number tree ≡ true)) }
     ensures memory { IsOkUnless result NoMemory }
 {
+    text_spells_one_list();
+    tokens_derive_one_tree();
     match lex_text(alloc, text, profile)? {
         Some(tokens) => read_tokens(alloc, tokens.as_slice(), profile),
         None => Ok(None),

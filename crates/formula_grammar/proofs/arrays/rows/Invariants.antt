@@ -1,5 +1,5 @@
 use Rattle.std.proofs.Common.{◌≡◌, ◌-◌, [], length}
-use Rattle.formula_grammar.specs.Reading.{rows_from}
+use Rattle.formula_grammar.specs.laws.Reading.{rows_from}
 use Rattle.formula_grammar.proofs.arrays.rows.Given as goal
 
 abbrev pub invariant-loop-turn : goal.invariant-loop-turn

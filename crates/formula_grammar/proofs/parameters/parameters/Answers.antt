@@ -1,6 +1,6 @@
 use Rattle.std.proofs.Common.{rules, arith, length}
 use Rattle.std.proofs.lemmas.Grind.{common_steps}
-use Rattle.formula_grammar.specs.Reading.{parameters, parameters_from}
+use Rattle.formula_grammar.specs.laws.Reading.{parameters, parameters_from}
 use Rattle.formula_grammar.proofs.Counting.{one_more, no_more}
 use Rattle.formula_grammar.proofs.parameters.parameters.Goals as goal
 

@@ -1,5 +1,5 @@
 use Rattle.std.proofs.Common.{◌≡◌, ◌-◌}
-use Rattle.formula_grammar.specs.Reading.{parameters, parameters_from}
+use Rattle.formula_grammar.specs.laws.Reading.{parameters, parameters_from}
 use Rattle.formula_grammar.proofs.parameters.parameters.Given as goal
 
 abbrev pub invariant-loop-turn : goal.invariant-loop-turn

@@ -1,5 +1,5 @@
 use Rattle.std.proofs.Common.{◌≡◌, ap, arith}
-use Rattle.formula_grammar.specs.Reading.{whole}
+use Rattle.formula_grammar.specs.laws.Reading.{whole}
 use Rattle.formula_grammar.proofs.Counting.{deeper}
 use Rattle.formula_grammar.proofs.rules.+whole.Goals as goal
 

@@ -1,6 +1,6 @@
 use Rattle.std.proofs.Common.{◌≡◌, ◌+◌, drop}
 use Rattle.std.specs.List.{prefix_len}
-use Rattle.formula_lex.specs.Classes.{passes}
+use Rattle.formula_lex.specs.laws.Classes.{passes}
 use Rattle.formula_lex.proofs.characters.run_len.Given as goal
 
 abbrev pub invariant-loop-at : goal.invariant-loop-at

@@ -1,7 +1,7 @@
 use Rattle.std.proofs.Common.{◌≡◌, length}
 use Rattle.std.specs.Str.{IsUtf8, chars}
 use Rattle.std.specs.Str.Iter.{chars_rest}
-use Rattle.formula_lex.specs.Lex.{strip}
+use Rattle.formula_lex.specs.laws.Lex.{strip}
 use Rattle.formula_lex.proofs.characters.strip.Given as goal
 
 abbrev pub invariant-loop-c : goal.invariant-loop-c

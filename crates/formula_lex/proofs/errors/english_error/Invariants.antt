@@ -1,5 +1,5 @@
 use Rattle.std.proofs.Common.{◌≡◌, drop}
-use Rattle.formula_lex.specs.Lex.{english_error}
+use Rattle.formula_lex.specs.laws.Lex.{english_error}
 use Rattle.formula_lex.proofs.errors.english_error.Given as goal
 
 abbrev pub invariant-loop-error : goal.invariant-loop-error

@@ -1,5 +1,5 @@
 use Rattle.std.proofs.Common.{◌≡◌, ◌+◌, drop, false}
-use Rattle.formula_lex.specs.Lex.{number_len}
+use Rattle.formula_lex.specs.laws.Lex.{number_len}
 use Rattle.formula_lex.proofs.front.number_len.Given as goal
 
 abbrev pub invariant-loop-at : goal.invariant-loop-at

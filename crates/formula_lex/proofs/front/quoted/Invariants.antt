@@ -1,6 +1,6 @@
 use Rattle.std.proofs.Common.{◌≡◌, length}
 use Rattle.std.specs.Prelude.{string_bytes}
-use Rattle.formula_lex.specs.Lex.{quoted_text}
+use Rattle.formula_lex.specs.laws.Lex.{quoted_text}
 use Rattle.formula_lex.proofs.Quotes.{after}
 use Rattle.formula_lex.proofs.front.quoted.Given as goal
 

@@ -1,6 +1,6 @@
 use Rattle.std.proofs.Common.{◌≡◌, rules, ap, ◌∙◌}
 use Rattle.std.specs.Str.{chars}
-use Rattle.formula_lex.specs.Lex.{tokens_of}
+use Rattle.formula_lex.specs.laws.Lex.{tokens_of}
 use Rattle.formula_lex.proofs.Texts.{found_tokens, only_tokens}
 use Rattle.formula_lex.proofs.lex.lex_text.Goals as goal
 

@@ -1,6 +1,6 @@
 use Rattle.std.proofs.Common.{rules, arith, ◌+◌, length}
 use Rattle.std.proofs.lemmas.Grind.{common_steps}
-use Rattle.formula_lex.specs.Lex.{tokens_from}
+use Rattle.formula_lex.specs.laws.Lex.{tokens_from}
 use Rattle.formula_lex.proofs.Turns.{ahead, one_more, no_more, tokens_start, tokens_end, tokens_turn, tokens_fail, tokens_out}
 use Rattle.formula_lex.proofs.lex.tokens.Goals as goal
 

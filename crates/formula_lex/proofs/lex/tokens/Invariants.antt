@@ -1,5 +1,5 @@
 use Rattle.std.proofs.Common.{◌≡◌, ◌+◌, ◌-◌, length}
-use Rattle.formula_lex.specs.Lex.{tokens_of, tokens_from}
+use Rattle.formula_lex.specs.laws.Lex.{tokens_of, tokens_from}
 use Rattle.formula_lex.proofs.Turns.{ahead}
 use Rattle.formula_lex.proofs.lex.tokens.Given as goal
 

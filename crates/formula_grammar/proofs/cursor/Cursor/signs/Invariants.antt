@@ -1,5 +1,5 @@
 use Rattle.std.proofs.Common.{◌≡◌, ◌+◌, ◌≤◌, length}
-use Rattle.formula_grammar.specs.Signs.{signs}
+use Rattle.formula_grammar.specs.laws.Signs.{signs}
 use Rattle.formula_grammar.proofs.cursor.Cursor.signs.Given as goal
 
 abbrev pub invariant-loop-rest : goal.invariant-loop-rest

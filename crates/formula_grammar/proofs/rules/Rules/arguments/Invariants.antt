@@ -1,5 +1,5 @@
 use Rattle.std.proofs.Common.{◌≡◌, ◌-◌}
-use Rattle.formula_grammar.specs.Reading.{arguments, arguments_from, whole}
+use Rattle.formula_grammar.specs.laws.Reading.{arguments, arguments_from, whole}
 use Rattle.formula_grammar.proofs.rules.Rules.arguments.Given as goal
 
 abbrev pub invariant-loop-turn : goal.invariant-loop-turn

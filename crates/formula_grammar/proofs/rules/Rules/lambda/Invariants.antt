@@ -1,6 +1,6 @@
 use Rattle.std.proofs.Common.{◌≡◌, ◌-◌}
 use Rattle.formula_tree.specs.declared.node.Node.TheVariants as n
-use Rattle.formula_grammar.specs.Reading.{opening, chain_from, arguments, lambda, whole}
+use Rattle.formula_grammar.specs.laws.Reading.{opening, chain_from, arguments, lambda, whole}
 use Rattle.formula_grammar.proofs.rules.Rules.lambda.Given as goal
 
 abbrev pub invariant-loop-turn : goal.invariant-loop-turn

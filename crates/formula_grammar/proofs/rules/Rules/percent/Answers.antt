@@ -2,7 +2,7 @@ use Rattle.std.proofs.Common.{rules, arith}
 use Rattle.std.proofs.lemmas.Grind.{common_steps}
 use Rattle.formula_tree.specs.declared.node.Node.TheVariants as n
 use Rattle.formula_tree.specs.declared.operator.UnaryKind.TheVariants as unary
-use Rattle.formula_grammar.specs.Reading.{percent_sign, chain_from, nothing, percent}
+use Rattle.formula_grammar.specs.laws.Reading.{percent_sign, chain_from, nothing, percent}
 use Rattle.formula_grammar.proofs.Counting.{one_more, no_more}
 use Rattle.formula_grammar.proofs.rules.Rules.percent.Goals as goal
 

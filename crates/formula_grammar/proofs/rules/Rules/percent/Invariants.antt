@@ -1,7 +1,7 @@
 use Rattle.std.proofs.Common.{◌≡◌, ◌-◌}
 use Rattle.formula_tree.specs.declared.node.Node.TheVariants as n
 use Rattle.formula_tree.specs.declared.operator.UnaryKind.TheVariants as unary
-use Rattle.formula_grammar.specs.Reading.{percent_sign, chain_from, nothing, percent, whole}
+use Rattle.formula_grammar.specs.laws.Reading.{percent_sign, chain_from, nothing, percent, whole}
 use Rattle.formula_grammar.proofs.rules.Rules.percent.Given as goal
 
 abbrev pub invariant-loop-turn : goal.invariant-loop-turn

@@ -1,7 +1,7 @@
 use Rattle.std.proofs.Common.{rules, arith}
 use Rattle.std.proofs.lemmas.Grind.{common_steps}
 use Rattle.formula_tree.specs.declared.node.Node.TheVariants as n
-use Rattle.formula_grammar.specs.Reading.{power_sign, chain_from, signed, power, whole}
+use Rattle.formula_grammar.specs.laws.Reading.{power_sign, chain_from, signed, power, whole}
 use Rattle.formula_grammar.proofs.Counting.{one_more, no_more}
 use Rattle.formula_grammar.proofs.rules.Rules.power.Goals as goal
 

@@ -1,6 +1,6 @@
 use Rattle.std.proofs.Common.{◌≡◌, ◌-◌}
 use Rattle.formula_tree.specs.declared.node.Node.TheVariants as n
-use Rattle.formula_grammar.specs.Reading.{power_sign, chain_from, signed, power, whole}
+use Rattle.formula_grammar.specs.laws.Reading.{power_sign, chain_from, signed, power, whole}
 use Rattle.formula_grammar.proofs.rules.Rules.power.Given as goal
 
 abbrev pub invariant-loop-turn : goal.invariant-loop-turn

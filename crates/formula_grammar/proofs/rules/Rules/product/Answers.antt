@@ -1,7 +1,7 @@
 use Rattle.std.proofs.Common.{rules, arith}
 use Rattle.std.proofs.lemmas.Grind.{common_steps}
 use Rattle.formula_tree.specs.declared.node.Node.TheVariants as n
-use Rattle.formula_grammar.specs.Reading.{product_sign, chain_from, power, product, whole}
+use Rattle.formula_grammar.specs.laws.Reading.{product_sign, chain_from, power, product, whole}
 use Rattle.formula_grammar.proofs.Counting.{one_more, no_more}
 use Rattle.formula_grammar.proofs.rules.Rules.product.Goals as goal
 

@@ -1,6 +1,6 @@
 use Rattle.std.proofs.Common.{◌≡◌, ◌-◌}
 use Rattle.formula_tree.specs.declared.node.Node.TheVariants as n
-use Rattle.formula_grammar.specs.Reading.{product_sign, chain_from, power, product, whole}
+use Rattle.formula_grammar.specs.laws.Reading.{product_sign, chain_from, power, product, whole}
 use Rattle.formula_grammar.proofs.rules.Rules.product.Given as goal
 
 abbrev pub invariant-loop-turn : goal.invariant-loop-turn

@@ -2,8 +2,8 @@ use Rattle.std.proofs.Common.{rules, arith}
 use Rattle.std.proofs.lemmas.Grind.{common_steps}
 use Rattle.formula_tree.specs.declared.node.Node.TheVariants as n
 use Rattle.formula_tree.specs.declared.operator.UnaryKind.TheVariants as unary
-use Rattle.formula_grammar.specs.Reading.{with_rest, whole}
-use Rattle.formula_grammar.specs.Signs.{wrapped}
+use Rattle.formula_grammar.specs.laws.Reading.{with_rest, whole}
+use Rattle.formula_grammar.specs.laws.Signs.{wrapped}
 use Rattle.formula_grammar.proofs.Counting.{one_more, no_more}
 use Rattle.formula_grammar.proofs.Signed.{signed-counted}
 use Rattle.formula_grammar.proofs.rules.Rules.signed.Goals as goal

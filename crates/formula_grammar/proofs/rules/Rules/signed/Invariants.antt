@@ -1,8 +1,8 @@
 use Rattle.std.proofs.Common.{◌≡◌, ◌-◌}
 use Rattle.formula_tree.specs.declared.node.Node.TheVariants as n
 use Rattle.formula_tree.specs.declared.operator.UnaryKind.TheVariants as unary
-use Rattle.formula_grammar.specs.Reading.{with_rest, signed, whole}
-use Rattle.formula_grammar.specs.Signs.{wrapped}
+use Rattle.formula_grammar.specs.laws.Reading.{with_rest, signed, whole}
+use Rattle.formula_grammar.specs.laws.Signs.{wrapped}
 use Rattle.formula_grammar.proofs.rules.Rules.signed.Given as goal
 
 abbrev pub invariant-loop-turn : goal.invariant-loop-turn

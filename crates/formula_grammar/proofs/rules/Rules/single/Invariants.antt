@@ -1,7 +1,7 @@
 use Rattle.std.proofs.Common.{◌≡◌, ◌-◌}
 use Rattle.formula_tree.specs.declared.node.Node.TheVariants as n
-use Rattle.formula_grammar.specs.Reading.{with_rest, single, whole}
-use Rattle.formula_grammar.specs.Signs.{wrapped}
+use Rattle.formula_grammar.specs.laws.Reading.{with_rest, single, whole}
+use Rattle.formula_grammar.specs.laws.Signs.{wrapped}
 use Rattle.formula_grammar.proofs.rules.Rules.single.Given as goal
 
 abbrev pub invariant-loop-turn : goal.invariant-loop-turn

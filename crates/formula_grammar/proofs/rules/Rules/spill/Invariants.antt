@@ -1,6 +1,6 @@
 use Rattle.std.proofs.Common.{◌≡◌, ◌-◌}
 use Rattle.formula_tree.specs.declared.node.Node.TheVariants as n
-use Rattle.formula_grammar.specs.Reading.{hash, chain_from, nothing, spill, whole}
+use Rattle.formula_grammar.specs.laws.Reading.{hash, chain_from, nothing, spill, whole}
 use Rattle.formula_grammar.proofs.rules.Rules.spill.Given as goal
 
 abbrev pub invariant-loop-turn : goal.invariant-loop-turn

@@ -1,6 +1,6 @@
 use Rattle.std.proofs.Common.{◌≡◌, ◌-◌}
 use Rattle.formula_tree.specs.declared.node.Node.TheVariants as n
-use Rattle.formula_grammar.specs.Reading.{sum_sign, chain_from, product, sum, whole}
+use Rattle.formula_grammar.specs.laws.Reading.{sum_sign, chain_from, product, sum, whole}
 use Rattle.formula_grammar.proofs.rules.Rules.sum.Given as goal
 
 abbrev pub invariant-loop-turn : goal.invariant-loop-turn

@@ -3,7 +3,7 @@ use Rattle.std.specs.Prelude.{ℕ, zero, suc, List, ◌∷◌, Option, Some, opt
 use Rattle.formula_tree.specs.declared.node.Node.{Node}
 use Rattle.formula_grammar.specs.declared.token.Token.{Token}
 use Rattle.formula_grammar.specs.declared.token.Token.TheVariants as t
-use Rattle.formula_grammar.specs.Reading.{made}
+use Rattle.formula_grammar.specs.laws.Reading.{made}
 
 -- how many minus signs stand here, and what follows all signs
 abbrev pub signs : List Token → ℕ × List Token

@@ -17,6 +17,8 @@ use Rattle.formula_grammar.specs.declared.CellMark.{CellMark}
 use Rattle.formula_grammar.specs.declared.Token.{Token}
 use Rattle.formula_grammar.specs.declared.Token.TheVariants as t
 use Rattle.formula_lex.specs.declared.place.Line.{Line}
+use Rattle.formula_lex.specs.declared.place.Spot.{Spot}
+use Rattle.formula_lex.specs.declared.place.Spot.TheVariants as spot
 use Rattle.formula_lex.specs.Characters.{Text, is_blank, goes_on_place, goes_on_number}
 use Rattle.formula_lex.specs.Lexicon.{row_of_name}
 
@@ -98,9 +100,57 @@ unfoldable pub cell_at : Reader CellMark
 cell_at = ended corner_at
 
 -- a range, or else a cell
-unfoldable pub place_at : Option Text → Reader Token
-place_at sheet text =
+abbrev pub placed_at : Option Text → Reader Token
+placed_at sheet text =
     option_or (option_map (λ p. (t.Range sheet p.0.0 p.0.1, p.1)) (range_at text)) (option_map (λ p. (t.Reference sheet p.0, p.1)) (cell_at text))
+
+-- ---- the same, where each line is read once
+
+-- what stands second, behind a colon, where a range may end
+abbrev pub second_at : {A : Type 0} → Reader A → Reader A
+second_at reader = ended (behind 58 reader)
+
+unfoldable pub second_corner_at : Reader CellMark
+second_corner_at = second_at corner_at
+
+unfoldable pub second_column_at : Reader Line
+second_column_at = second_at column_at
+
+unfoldable pub second_row_at : Reader Line
+second_row_at = second_at row_at
+
+unfoldable pub corner_begins : CellMark → Reader Spot
+corner_begins first text = option_or (option_map (λ p. (spot.Range first p.0, p.1)) (second_corner_at text)) (if stops goes_on_place text then Some (spot.Cell first, text) else None)
+
+abbrev pub range_of : CellMark × CellMark → Spot
+range_of p = spot.Range p.0 p.1
+
+unfoldable pub columns_begin : Line → Reader Spot
+columns_begin first text = option_map (λ p. (range_of (column_corners first p.0), p.1)) (second_column_at text)
+
+unfoldable pub rows_begin : Line → Reader Spot
+rows_begin first text = option_map (λ p. (range_of (row_corners first p.0), p.1)) (second_row_at text)
+
+abbrev pub behind_column : Line → Text → Option (Line × Text) → Option (Spot × Text)
+behind_column column text (Some p) = corner_begins (mark_of column p.0) p.1
+behind_column column text None = columns_begin column text
+
+unfoldable pub column_begins : Line → Reader Spot
+column_begins column text = behind_column column text (row_at text)
+
+abbrev pub by_column : Text → Option (Line × Text) → Option (Spot × Text)
+by_column text (Some p) = column_begins p.0 p.1
+by_column text None = option_and_then (λ p. rows_begin p.0 p.1) (row_at text)
+
+unfoldable pub spot_at : Reader Spot
+spot_at text = by_column text (column_at text)
+
+abbrev pub place_token : Option Text → Spot → Token
+place_token sheet (spot.Cell mark) = t.Reference sheet mark
+place_token sheet (spot.Range first second) = t.Range sheet first second
+
+unfoldable pub place_at : Option Text → Reader Token
+place_at sheet text = option_map (λ p. (place_token sheet p.0, p.1)) (spot_at text)
 
 -- ---- texts and sheets
 

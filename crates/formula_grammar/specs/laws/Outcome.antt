@@ -4,7 +4,7 @@ use Rattle.formula_tree.specs.declared.node.Node.{Node}
 use Rattle.formula_grammar.specs.declared.fault.Fault.{Fault}
 use Rattle.formula_grammar.specs.declared.fault.Fault.TheVariants.{Memory}
 use Rattle.formula_grammar.specs.declared.token.Token.{Token}
-use Rattle.formula_grammar.specs.Reading.{Outcome, made}
+use Rattle.formula_grammar.specs.laws.Reading.{Outcome, made}
 
 -- what is read, and the tokens after it
 abbrev pub Reads : {A X : Type 0} → Option (A × X) → Result A Fault → X → Type 0

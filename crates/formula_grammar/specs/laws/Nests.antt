@@ -7,8 +7,8 @@ use Rattle.formula_tree.specs.declared.node.Node.{Node}
 use Rattle.formula_grammar.specs.declared.cursor.Cursor.{Cursor}
 use Rattle.formula_grammar.specs.declared.fault.Fault.{Fault}
 use Rattle.formula_grammar.specs.declared.profile.Profile.{Profile}
-use Rattle.formula_grammar.specs.Reading.{whole}
-use Rattle.formula_grammar.specs.Outcome.{Reads}
+use Rattle.formula_grammar.specs.laws.Reading.{whole}
+use Rattle.formula_grammar.specs.laws.Outcome.{Reads}
 
 -- at a place inside the sheet, with calls and parentheses nested no deeper than this
 pub record Nests (p : Profile) (nesting : ℕ) (pre : Global → Profile → MutBor Cursor → ℕ → ℕ → Type 0)

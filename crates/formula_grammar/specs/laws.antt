@@ -1,0 +1,5 @@
+pub mod Reading
+pub mod Outcome
+pub mod Signs
+pub mod Nests
+pub mod Equals

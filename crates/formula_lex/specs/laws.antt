@@ -1,0 +1,3 @@
+pub mod Lex
+pub mod Outcome
+pub mod Classes

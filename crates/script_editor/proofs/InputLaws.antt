@@ -27,7 +27,7 @@ use Rattle.sheet_grid.specs.FittingCells.{entry_fits_at}
 use Rattle.sheet_history.specs.declared.Diff.{Diff}
 use Rattle.sheet_history.specs.declared.Diff.TheVariants.{Cell as CellDiff}
 use Rattle.sheet_history.specs.Diffs.{put_in, made, taken_back}
-use Rattle.sheet_history.specs.TestedLaws.{put_in-fitting}
+use Rattle.sheet_history.specs.laws.TestedLaws.{put_in-fitting}
 use Rattle.script_editor.specs.Inputs.{cell_change}
 
 -- an item put where it stands changes nothing

@@ -20,7 +20,7 @@ use Rattle.sheet_grid.specs.Sheet.{Sheet, with_cell}
 use Rattle.sheet_grid.specs.Book.{Book, index_of, with_sheet}
 use Rattle.sheet_history.specs.declared.Diff.TheVariants.{Cell as CellDiff}
 use Rattle.sheet_history.specs.Records.{EntryKey, key_cmp, entry_at, frame_of, changed_entry, Change, cell_diff, IsRecord}
-use Rattle.sheet_history.specs.RecordLaws.{key_total, exact_keys}
+use Rattle.sheet_history.specs.laws.RecordLaws.{key_total, exact_keys}
 use Rattle.script_editor.specs.Inputs.{cell_change}
 use Rattle.script_editor.proofs.InputLaws.{get_set, get_set_other, index_of-with_sheet, unchanged}
 

@@ -17,7 +17,7 @@ use Rattle.sheet_rules.specs.laws.WellFormedLaws.{sheets_fit_from_well_formed}
 use Rattle.sheet_history.specs.declared.Diff.{Diff}
 use Rattle.sheet_history.specs.Diffs.{made, taken_back}
 use Rattle.sheet_history.specs.Records.{IsRecord}
-use Rattle.sheet_history.specs.RuleLaws.{well_formed-set}
+use Rattle.sheet_history.specs.laws.RuleLaws.{well_formed-set}
 use Rattle.sheet_wire.specs.QueueBytes.{FitsList}
 use Rattle.script_editor.specs.Inputs.{cell_change, place_change}
 use Rattle.script_editor.specs.Machine.{State, changed, record_of, edit_of}

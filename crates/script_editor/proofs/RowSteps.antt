@@ -15,7 +15,7 @@ use Rattle.sheet_lines.specs.Kept.{kept_lines}
 use Rattle.sheet_history.specs.declared.Diff.{Diff}
 use Rattle.sheet_history.specs.declared.Diff.TheVariants.{Rows as RowsDiff}
 use Rattle.sheet_history.specs.Diffs.{made, taken_back}
-use Rattle.sheet_history.specs.LineRecords.{record_made, record_taken_back}
+use Rattle.sheet_history.specs.laws.LineRecords.{record_made, record_taken_back}
 use Rattle.sheet_history.specs.Records.{IsRowEdit, line_record}
 use Rattle.sheet_wire.specs.QueueBytes.{FitsList}
 use Rattle.sheet_actions.specs.Planned.{lines_planned}

@@ -15,7 +15,7 @@ use Rattle.sheet_rules.specs.laws.WellFormedLaws.{well_formed-new}
 use Rattle.sheet_history.specs.declared.DiffType.TheVariants.{Undo, Redo}
 use Rattle.sheet_history.specs.declared.QueueDiffs.{QueueDiffs}
 use Rattle.sheet_history.specs.Diffs.{made, taken_back, forwarded, backed, follow, in_entry, replayed}
-use Rattle.sheet_history.specs.ReplayLaws.{replayed_from-push}
+use Rattle.sheet_history.specs.laws.ReplayLaws.{replayed_from-push}
 use Rattle.sheet_wire.specs.QueueBytes.{FitsList, FitsEntry, spell_queue}
 use Rattle.sheet_wire.specs.QueueLaws.{queue_again}
 use Rattle.script_editor.specs.declared.editor.Editor.{Editor}

@@ -5,7 +5,7 @@ use Rattle.base_values.specs.declared.EditError.TheVariants.{DiffRefused}
 use Rattle.sheet_grid.specs.Book.{Book}
 use Rattle.sheet_rules.specs.WellFormed.{broken_rule, IsWellFormed}
 use Rattle.sheet_history.specs.Diffs.{by_rule, tested}
-use Rattle.sheet_history.specs.TestedLaws.{by_rule-kept}
+use Rattle.sheet_history.specs.laws.TestedLaws.{by_rule-kept}
 
 passed_by : (at : ℕ) (book next : Book) (o : Option ℕ) → by_rule at book o ≡ Ok next → ◌≡◌ {A = Result Book EditError} (Ok book) (Ok next)
 unfolding by_rule

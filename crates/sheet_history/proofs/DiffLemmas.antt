@@ -4,7 +4,7 @@ use Rattle.std.proofs.lemmas.List.{take_more}
 use Rattle.sheet_history.specs.declared.diff.Diff.{Diff}
 use Rattle.base_values.specs.Answers.{and_then}
 use Rattle.sheet_grid.specs.Book.{Book}
-use Rattle.sheet_history.specs.ReplayLaws.{and_then-Ok, and_then-and_then}
+use Rattle.sheet_history.specs.laws.ReplayLaws.{and_then-Ok, and_then-and_then}
 use Rattle.sheet_history.specs.Diffs.{back_from, step_back}
 
 back_from-push : (n : ℕ) (book : Book) (ds : List Diff) (d : Diff) → back_from n book (ds ++ d ∷ []) ≡ and_then (step_back (n + length ds) book d) (λ next. back_from n next ds)

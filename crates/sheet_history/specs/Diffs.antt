@@ -1,18 +1,14 @@
 -- What diffs do to a workbook, forward and back.
 use Rattle.std.proofs.Common.{◌≡◌, ◌≢◌, ℕ, ◌+◌, List, [], ◌∷◌, length, take, Option, Some, None, Result, Ok, Err}
-use Rattle.std.specs.Prelude.{IfSome, IfErr, IsTrue, OnOk, OnErr, All, if◌then◌else◌}
-use Rattle.std.specs.FinMap.{FinMap, get}
+use Rattle.std.specs.Prelude.{IfSome, IfErr, OnOk, All, if◌then◌else◌}
 use Rattle.base_values.specs.declared.EditError.{EditError}
 use Rattle.base_values.specs.declared.EditError.TheVariants.{DiffRefused, NoMemory}
 use Rattle.base_values.specs.declared.Position.{Position}
 use Rattle.base_values.specs.Answers.{and_then, ok_or, value_of}
-use Rattle.base_values.specs.Places.{position_cmp}
 use Rattle.base_axis.specs.Along.{rows}
-use Rattle.formula_tree.specs.declared.Node.{Node}
-use Rattle.formula_tree.specs.Depth.{is_within}
 use Rattle.sheet_grid.specs.declared.Cell.{Cell}
 use Rattle.sheet_grid.specs.Book.{Book, edit_by_id}
-use Rattle.sheet_grid.specs.FittingCells.{entry_fits_at, is_shallow_entry}
+use Rattle.sheet_grid.specs.FittingCells.{entry_fits_at}
 use Rattle.sheet_grid.specs.KeptCell.{IsKeptCell}
 use Rattle.sheet_grid.specs.Sheet.{cell_put}
 use Rattle.sheet_rules.specs.WellFormed.{broken_rule}
@@ -105,26 +101,22 @@ pub record IsFrontOf (entries : List QueueDiffs) (old new : Book) : Type 0 where
   pub count : ℕ
   pub led : replayed old (take count entries) ≡ Ok new
 
--- a queue is followed to its end, or to the first entry that is refused; the entries before it stand
+-- what stands after an error: before a refused diff of an entry exactly the entries before that one, and after another error some
+-- first entries
+abbrev pub StandsAfter : EditError → (entries : List QueueDiffs) (old new : Book) → Type 0
+StandsAfter (DiffRefused entry diff) entries old new = replayed old (take entry entries) ≡ Ok new
+StandsAfter _ entries old new = IsFrontOf entries old new
+
+-- a queue is followed to its end, or to the first entry that is refused. Where there is no memory some first entries stand
 pub record Replays (result : Result (Unit {0}) EditError) (old new : Book) (entries : List QueueDiffs) : Type 0 where
   pub done : OnOk result (replayed old entries ≡ Ok new)
   pub refused : IfErr result (λ error. error ≢ NoMemory → replayed old entries ≡ Err error)
-  pub stands : OnErr result (IsFrontOf entries old new)
+  pub stands : IfErr result (λ error. StandsAfter error entries old new)
 
--- every tree of a map is at most 64 deep
-abbrev pub AreShallowTrees : FinMap position_cmp Node → Type 0
-AreShallowTrees trees = (place : Position) → IfSome (get trees place) (λ tree. IsTrue (is_within 64 tree))
-
--- so is each kept formula
-pub record AreShallowLines (kept : KeptLines) : Type 0 where
-  pub cells : (place : Position) → IsTrue (is_shallow_entry (get kept.cells place))
-  pub formulas : (id : ℕ) → IfSome (get kept.formulas id) AreShallowTrees
-
--- the numbers of what a diff holds are as a sheet keeps them, and its formulas at most 64 deep
+-- every number of what a diff holds is as a sheet keeps it
 abbrev pub IsKeptDiff : Diff → Type 0
-IsKeptDiff (CellDiff sheet place old new) =
-    IfSome old IsKeptCell × IfSome new IsKeptCell × IsTrue (is_shallow_entry old) × IsTrue (is_shallow_entry new)
-IsKeptDiff (RowsDiff sheet edit kept) = AreKeptLines kept × AreShallowLines kept
+IsKeptDiff (CellDiff sheet place old new) = IfSome old IsKeptCell × IfSome new IsKeptCell
+IsKeptDiff (RowsDiff sheet edit kept) = AreKeptLines kept
 
 abbrev pub IsKeptList : List Diff → Type 0
 IsKeptList diffs = All IsKeptDiff diffs

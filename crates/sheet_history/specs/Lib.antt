@@ -1,14 +1,7 @@
-pub mod Entries
 pub mod LineDiffs
 pub mod Diffs
-pub mod DiffEquals
+pub mod Depth
+pub mod Untested
 pub mod Stacks
 pub mod Records
-pub mod RecordLaws
-pub mod ReplayLaws
-pub mod KeptProps
-pub mod RuleLaws
-pub mod TestedLaws
-pub mod KeptTrees
-pub mod LineLaws
-pub mod LineRecords
+pub mod laws

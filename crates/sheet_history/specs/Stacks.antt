@@ -1,23 +1,32 @@
--- What a history holds.
-use Rattle.std.specs.declared.option.Option.{Option}
-use Rattle.std.specs.declared.option.Option.TheVariants.{Some, None}
-use Rattle.std.specs.Prelude.{◌≡◌, ℕ, ◌-◌, List, [], ◌∷◌, reverse, min, vec_len, vec_capacity}
+-- What a history holds, and what its calls make of it.
+use Rattle.std.proofs.Common.{Bool, true, false, List, [], ◌∷◌}
 use Rattle.sheet_history.specs.declared.diff.Diff.{Diff}
-use Rattle.sheet_history.specs.declared.history.History.{History}
 
--- the lists to undo, the newest first
-abbrev pub undo_lists : History → List (List Diff)
-undo_lists h = reverse h.undo.items
+-- the lists to undo and those to redo, the newest first, and whether there is room for one list more on either stack
+pub record Stacks : Type 0 where
+  pub undo : List (List Diff)
+  pub redo : List (List Diff)
+  pub has_room : Bool
 
--- the lists to redo, the newest first
-abbrev pub redo_lists : History → List (List Diff)
-redo_lists h = reverse h.redo.items
+abbrev pub empty_stacks : Stacks
+empty_stacks = record { undo = []; redo = []; has_room = false }
 
--- how many lists either stack can still take without memory
-abbrev pub spare : History → ℕ
-spare h = min (vec_capacity h.undo - vec_len h.undo) (vec_capacity h.redo - vec_len h.redo)
+-- a new list can be undone, and nothing can be redone
+abbrev pub pushed : List Diff → Stacks → Stacks
+pushed list stacks = record { undo = list ∷ stacks.undo; redo = []; has_room = false }
 
--- the newest list of one stack went to the other, where there was one
-abbrev pub IsMoved : Option (Unit {0}) → (from to from_new to_new : List (List Diff)) → Type 0
-IsMoved None from to from_new to_new = (from ≡ []) × (from_new ≡ []) × (to_new ≡ to)
-IsMoved (Some moved) from to from_new to_new = (list : List Diff) × (from ≡ list ∷ from_new) × (to_new ≡ list ∷ to)
+-- the newest list to undo, if there is one, becomes the newest to redo
+abbrev pub undone_from : List (List Diff) → Stacks → Stacks
+undone_from [] stacks = stacks
+undone_from (list ∷ older) stacks = record { undo = older; redo = list ∷ stacks.redo; has_room = false }
+
+abbrev pub undone : Stacks → Stacks
+undone stacks = undone_from stacks.undo stacks
+
+-- the newest list to redo, if there is one, becomes the newest to undo
+abbrev pub redone_from : List (List Diff) → Stacks → Stacks
+redone_from [] stacks = stacks
+redone_from (list ∷ older) stacks = record { undo = list ∷ stacks.undo; redo = older; has_room = false }
+
+abbrev pub redone : Stacks → Stacks
+redone stacks = redone_from stacks.redo stacks

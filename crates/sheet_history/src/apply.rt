@@ -8,6 +8,7 @@ ghost use Rattle.sheet_history.specs.Diffs.{IsKeptDiff, IsKeptList, backed, by_r
 use crate::diff::{Diff, DiffList};
 use crate::line_diffs::{lines_back, lines_forward};
 use base_axis::RowAxis;
+use base_shared::Shared;
 use base_values::{EditError, Position, copy_of};
 use formula_content::fits_at;
 use line_map::{EditKind, LineEdit};
@@ -16,11 +17,11 @@ use sheet_rules::is_well_formed;
 use std::alloc::Global;
 
 /// Whether what is put at a place, a cell or none, may stand there.
-fn entry_fits_at(place: Position, entry: &Option<Cell>) -> bool
+fn entry_fits_at(place: Position, entry: &Option<Shared<Cell>>) -> bool
     ensures { result ≡ entry_fits_at place entry.now }
 {
     match entry {
-        Some(cell) => fits_at(place, &cell.content),
+        Some(cell) => fits_at(place, &cell.get().content),
         None => true,
     }
 }
@@ -31,7 +32,7 @@ fn put_in(
     workbook: &mut Workbook,
     id: u32,
     place: Position,
-    entry: &Option<Cell>,
+    entry: &Option<Shared<Cell>>,
     at: u64,
 ) -> Result<(), EditError>
     requires { IfSome entry.now IsKeptCell }
@@ -42,7 +43,7 @@ fn put_in(
         return Err(refused);
     }
     let entry = copy_of(entry)?;
-    match workbook.put_cell_by_id(id, place.row, place.column, entry) {
+    match workbook.put_shared_cell_by_id(id, place.row, place.column, entry) {
         Ok(()) => Ok(()),
         Err(EditError::NoMemory) => Err(EditError::NoMemory),
         Err(_) => Err(refused),
@@ -73,7 +74,7 @@ fn apply_forward(
             new,
         } => put_in(workbook, *sheet, *position, new, at),
         Diff::Rows { sheet, edit, kept } => {
-            lines_forward(alloc, workbook, *sheet, &rows_edit(*edit), kept, at)
+            lines_forward(alloc, workbook, *sheet, &rows_edit(*edit), kept.get(), at)
         }
     }
 }
@@ -91,7 +92,7 @@ fn apply_back(alloc: Global, workbook: &mut Workbook, diff: &Diff, at: u64) -> R
             new: _,
         } => put_in(workbook, *sheet, *position, old, at),
         Diff::Rows { sheet, edit, kept } => {
-            lines_back(alloc, workbook, *sheet, &rows_edit(*edit), kept, at)
+            lines_back(alloc, workbook, *sheet, &rows_edit(*edit), kept.get(), at)
         }
     }
 }
@@ -102,7 +103,7 @@ fn made(alloc: Global, workbook: &Workbook, list: &DiffList) -> Result<Workbook,
     ensures { Answers result (made workbook.now list.now) }
 {
     let mut next = copy_of(workbook)?;
-    for (index, diff) in list.as_slice().iter().enumerate() {
+    for (index, diff) in list.get().as_slice().iter().enumerate() {
         apply_forward(alloc, &mut next, diff, index as u64)?;
     }
     Ok(next)
@@ -113,7 +114,7 @@ fn taken_back(alloc: Global, workbook: &Workbook, list: &DiffList) -> Result<Wor
     requires { IsKeptList list.now }
     ensures { Answers result (taken_back workbook.now list.now) }
 {
-    let diffs = list.as_slice();
+    let diffs = list.get().as_slice();
     let mut next = copy_of(workbook)?;
     for index in (0..diffs.len()).rev() {
         apply_back(alloc, &mut next, &diffs[index], index as u64)?;
@@ -121,7 +122,7 @@ fn taken_back(alloc: Global, workbook: &Workbook, list: &DiffList) -> Result<Wor
     Ok(next)
 }
 
-/// A workbook that breaks no rule. Of one that does the diff of that number is refused.
+/// A workbook that breaks no rule. Where it breaks one, the diff of that number is refused.
 #[tactic(auto, unfolding(crate::specs::Diffs::by_rule))]
 fn by_rule(workbook: Workbook, at: u64) -> Result<Workbook, EditError>
     ensures { result ≡ by_rule at workbook (broken_rule workbook) }
@@ -144,7 +145,7 @@ pub fn forward(alloc: Global, workbook: &Workbook, list: &DiffList) -> Result<Wo
     ensures { Answers result (forwarded workbook.now list.now) }
 {
     let next = made(alloc, workbook, list)?;
-    by_rule(next, list.as_slice().len() as u64)
+    by_rule(next, list.get().as_slice().len() as u64)
 }
 
 /// The well-formed workbook with the changes of a list taken back, the last one first.
@@ -156,7 +157,7 @@ pub fn back(alloc: Global, workbook: &Workbook, list: &DiffList) -> Result<Workb
     ensures { Answers result (backed workbook.now list.now) }
 {
     let before = taken_back(alloc, workbook, list)?;
-    by_rule(before, list.as_slice().len() as u64)
+    by_rule(before, list.get().as_slice().len() as u64)
 }
 
 /// Makes the changes of a list as `forward` does, in the workbook itself, and does not test the
@@ -169,7 +170,7 @@ pub fn forward_in_place(
     requires { IsKeptList list.now }
     ensures { Edits result workbook.old workbook.new (made workbook.old list.now) }
 {
-    match list.as_slice() {
+    match list.get().as_slice() {
         [] => Ok(()),
         [diff] => apply_forward(alloc, workbook, diff, 0),
         _ => {
@@ -189,7 +190,7 @@ pub fn back_in_place(
     requires { IsKeptList list.now }
     ensures { Edits result workbook.old workbook.new (taken_back workbook.old list.now) }
 {
-    match list.as_slice() {
+    match list.get().as_slice() {
         [] => Ok(()),
         [diff] => apply_back(alloc, workbook, diff, 0),
         _ => {

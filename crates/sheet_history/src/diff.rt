@@ -1,29 +1,30 @@
+use base_shared::Shared;
 use base_values::{Exact, Items, Position};
 use line_map::EditKind;
 use sheet_grid::Cell;
 use sheet_lines::KeptLines;
 
-/// One change of a workbook, so that it can be made again and taken back.
+/// One change of a workbook, which can be made again and taken back.
 #[derive(Clone, PartialEq, Eq, Drop)]
 pub enum Diff {
     /// The cell at a position of the sheet with that id. None stands for no cell.
     Cell {
         sheet: u32,
         position: Position,
-        old: Option<Cell>,
-        new: Option<Cell>,
+        old: Option<Shared<Cell>>,
+        new: Option<Shared<Cell>>,
     },
-    /// Rows that were inserted in the sheet with that id or deleted from it, and what taking them
-    /// back does not give.
+    /// Rows that were inserted in the sheet with that id or deleted from it, and what the opposite
+    /// edit does not give back.
     Rows {
         sheet: u32,
         edit: EditKind,
-        kept: KeptLines,
+        kept: Shared<KeptLines>,
     },
 }
 
-/// The record of one edit: the changes that it made.
-pub type DiffList = Items<Diff>;
+/// The record of one edit: the changes that it made. A copy takes no memory.
+pub type DiffList = Shared<Items<Diff>>;
 
 /// In which direction a sent list of diffs is to be followed.
 #[derive(Clone, Copy, Debug, PartialEq, Eq)]
@@ -43,7 +44,7 @@ pub struct QueueDiffs {
 
 impl Exact for Diff {
     ghost use Rattle.std.proofs.Common.{rules};
-    ghost use Rattle.sheet_history.specs.DiffEquals.{diff_equals};
+    ghost use Rattle.sheet_history.specs.laws.DiffEquals.{diff_equals};
 
     ghost copies = { λ a b h. Prim.search rules };
 
@@ -52,7 +53,7 @@ impl Exact for Diff {
 
 impl Exact for DiffType {
     ghost use Rattle.std.proofs.Common.{rules};
-    ghost use Rattle.sheet_history.specs.DiffEquals.{diff_type_equals};
+    ghost use Rattle.sheet_history.specs.laws.DiffEquals.{diff_type_equals};
 
     ghost copies = { λ a b h. Prim.search rules };
 
@@ -61,7 +62,7 @@ impl Exact for DiffType {
 
 impl Exact for QueueDiffs {
     ghost use Rattle.std.proofs.Common.{rules};
-    ghost use Rattle.sheet_history.specs.DiffEquals.{queue_diffs_equals};
+    ghost use Rattle.sheet_history.specs.laws.DiffEquals.{queue_diffs_equals};
 
     ghost copies = { λ a b h. Prim.search rules };
 

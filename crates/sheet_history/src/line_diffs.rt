@@ -18,6 +18,7 @@ ghost use Rattle.sheet_lines.specs.Way.{line_image, are_rows, are_columns};
 ghost use Rattle.sheet_history.specs.LineDiffs.{is_valid, is_pushed_past, stays_inside, is_there_inside, are_lost, stand_on_lost, cells_fit, is_formula, is_formula_at, goes_on, tree_stands, trees_stand, formulas_stand, goes_forward, goes_back, lines_forward, lines_back};
 
 use base_axis::{Axis, LineMap};
+use base_shared::Shared;
 use base_values::{EditError, PlaceMap, Position};
 use formula_content::fits_at;
 use formula_tree::{MAX_DEPTH, Node, has_no_negative_number, is_at_most_deep, is_placed};
@@ -140,12 +141,12 @@ fn stand_on_lost<A: Axis>(edit: &LineEdit<A>, kept: &KeptLines) -> bool
 
 /// Whether each cell may stand at its place.
 #[tactic(auto, unfolding(crate::specs::LineDiffs::cells_fit))]
-fn cells_fit(cells: &PlaceMap<Cell>) -> bool
+fn cells_fit(cells: &PlaceMap<Shared<Cell>>) -> bool
     ensures { result ≡ cells_fit cells.now }
 {
     cells
         .iter()
-        .all(|(place, cell)| fits_at(*place, &cell.content))
+        .all(|(place, cell)| fits_at(*place, &cell.get().content))
 }
 
 #[tactic(auto, using(std::proofs::lemmas::Bool::Decides::nat_tests), unfolding(formula_tree::specs::Depth::is_within))]
@@ -162,16 +163,16 @@ fn tree_fits_at(place: Position, tree: &Node) -> bool
     is_placed(tree, place) && is_shallow(tree) && has_no_negative_number(tree)
 }
 
-fn is_formula(cell: Option<&Cell>) -> bool
+fn is_formula(cell: Option<&Shared<Cell>>) -> bool
     ensures { result ≡ is_formula (option_copied cell.entry) }
 {
     match cell {
-        Some(cell) => tree_of(&cell.content).is_some(),
+        Some(cell) => tree_of(&cell.get().content).is_some(),
         None => false,
     }
 }
 
-fn is_formula_at(cells: &PlaceMap<Cell>, place: Option<Position>) -> bool
+fn is_formula_at(cells: &PlaceMap<Shared<Cell>>, place: Option<Position>) -> bool
     ensures { result ≡ is_formula_at cells.now place }
 {
     match place {
@@ -205,7 +206,7 @@ fn goes_on<A: Axis>(edit: &LineEdit<A>, is_edited: bool, place: Position) -> Opt
 fn tree_stands<A: Axis>(
     edit: &LineEdit<A>,
     is_edited: bool,
-    cells: &PlaceMap<Cell>,
+    cells: &PlaceMap<Shared<Cell>>,
     place: Position,
     tree: &Node,
 ) -> bool
@@ -220,13 +221,13 @@ fn sheet_trees_stand<A: Axis>(
     edit: &LineEdit<A>,
     id: u32,
     sheet: &Worksheet,
-    trees: &PlaceMap<Node>,
+    trees: &PlaceMap<Shared<Node>>,
 ) -> bool
     ensures { result ≡ trees_stand A.along edit.now.kind id (Some sheet.now) trees.now }
 {
     let is_edited = sheet.get_sheet_id() == id;
     let cells = sheet.cell_map();
-    trees.iter().all(|(place, tree)| tree_stands(edit, is_edited, cells, *place, tree))
+    trees.iter().all(|(place, tree)| tree_stands(edit, is_edited, cells, *place, tree.get()))
 }
 
 #[tactic(auto, unfolding(crate::specs::LineDiffs::trees_stand))]
@@ -234,7 +235,7 @@ fn trees_stand<A: Axis>(
     edit: &LineEdit<A>,
     id: u32,
     sheet: Option<&Worksheet>,
-    trees: &PlaceMap<Node>,
+    trees: &PlaceMap<Shared<Node>>,
 ) -> bool
     ensures { result ≡ trees_stand A.along edit.now.kind id (option_copied sheet.entry) trees.now }
 {
@@ -249,7 +250,7 @@ fn trees_stand<A: Axis>(
 fn formulas_stand<A: Axis>(
     edit: &LineEdit<A>,
     id: u32,
-    formulas: &SheetMap<PlaceMap<Node>>,
+    formulas: &SheetMap<PlaceMap<Shared<Node>>>,
     workbook: &Workbook,
 ) -> bool
     ensures { result ≡ formulas_stand A.along edit.now.kind id formulas.now workbook.now }

@@ -2,21 +2,21 @@ ghost use Rattle.std.specs.Prelude.{◌≡◌};
 ghost use Rattle.base_values.specs.Answers.{Edits};
 ghost use Rattle.sheet_rules.specs.WellFormed.{IsWellFormed};
 ghost use Rattle.sheet_history.specs.Diffs.{IsKeptList, IsKeptQueue, Replays, backed, follow, forwarded, in_entry};
-ghost use Rattle.sheet_history.specs.RuleLaws.{entry_has_font};
-ghost use Rattle.sheet_history.specs.TestedLaws.{keeps_rules, keeps_rules_back};
+ghost use Rattle.sheet_history.specs.Untested.{entry_has_font, keeps_rules, keeps_rules_back};
 
 use crate::apply::{back, back_in_place, forward, forward_in_place};
 use crate::diff::{Diff, DiffList, DiffType, QueueDiffs};
+use base_shared::Shared;
 use base_values::EditError;
 use sheet_grid::{Cell, Workbook};
 use std::alloc::Global;
 
 /// Whether what is put, a cell or none, has a font of at least size 1.
-fn has_font(entry: &Option<Cell>) -> bool
+fn has_font(entry: &Option<Shared<Cell>>) -> bool
     ensures { result ≡ entry_has_font entry.now }
 {
     match entry {
-        Some(cell) => cell.style.font.sz >= 1,
+        Some(cell) => cell.get().style.get().font.sz >= 1,
         None => true,
     }
 }
@@ -25,7 +25,7 @@ fn has_font(entry: &Option<Cell>) -> bool
 fn keeps_rules(list: &DiffList) -> bool
     ensures { result ≡ keeps_rules list.now }
 {
-    match list.as_slice() {
+    match list.get().as_slice() {
         [
             Diff::Cell {
                 sheet: _,
@@ -42,7 +42,7 @@ fn keeps_rules(list: &DiffList) -> bool
 fn keeps_rules_back(list: &DiffList) -> bool
     ensures { result ≡ keeps_rules_back list.now }
 {
-    match list.as_slice() {
+    match list.get().as_slice() {
         [
             Diff::Cell {
                 sheet: _,
@@ -123,9 +123,9 @@ fn follow_by_rule(
 /// Follows the entries of a queue one after another, in the workbook itself: an entry of undo takes
 /// its list back, an entry of redo makes its changes.
 ///
-/// `DiffRefused` with the numbers of the first entry and diff that do not fit. The entries before
-/// it stand, that entry changes nothing; the same holds of want of memory. An entry of one cell
-/// costs no copy of the workbook.
+/// `DiffRefused` with the numbers of the first entry and diff that do not fit: exactly the entries
+/// before that one stand. After `NoMemory` some first entries stand. An entry of one cell costs no
+/// copy of the workbook.
 pub fn replay_in_place(
     alloc: Global,
     workbook: &mut Workbook,

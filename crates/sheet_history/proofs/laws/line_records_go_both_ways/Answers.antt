@@ -1,4 +1,4 @@
-use Rattle.sheet_history.specs.LineRecords.{record_made, record_forwarded, record_taken_back, record_backed}
+use Rattle.sheet_history.specs.laws.LineRecords.{record_made, record_forwarded, record_taken_back, record_backed}
 use Rattle.sheet_history.proofs.laws.line_records_go_both_ways.Goals as goal
 
 pub returns-clause-made : goal.returns-clause-made

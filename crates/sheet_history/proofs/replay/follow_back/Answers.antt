@@ -1,5 +1,6 @@
 use Rattle.std.proofs.Common.{◌≡◌, true, rules}
-use Rattle.sheet_history.specs.TestedLaws.{keeps_rules_back, backed-taken_back}
+use Rattle.sheet_history.specs.Untested.{keeps_rules_back}
+use Rattle.sheet_history.specs.laws.TestedLaws.{backed-taken_back}
 use Rattle.sheet_history.proofs.replay.follow_back.Goals as goal
 
 pub returns-then-keeps_rules_back : goal.returns-then-keeps_rules_back

@@ -1,6 +1,6 @@
 use Rattle.sheet_rules.specs.WellFormed.{IsWellFormed}
 use Rattle.sheet_history.specs.Diffs.{follow, in_entry}
-use Rattle.sheet_history.specs.TestedLaws.{edit_keeps, entry_rules}
+use Rattle.sheet_history.specs.laws.TestedLaws.{edit_keeps, entry_rules}
 use Rattle.sheet_history.proofs.replay.follow_by_rule.Goals as goal
 
 pub returns-clause-rules : goal.returns-clause-rules

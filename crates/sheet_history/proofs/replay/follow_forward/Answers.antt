@@ -1,5 +1,6 @@
 use Rattle.std.proofs.Common.{◌≡◌, true, rules}
-use Rattle.sheet_history.specs.TestedLaws.{keeps_rules, forwarded-made}
+use Rattle.sheet_history.specs.Untested.{keeps_rules}
+use Rattle.sheet_history.specs.laws.TestedLaws.{forwarded-made}
 use Rattle.sheet_history.proofs.replay.follow_forward.Goals as goal
 
 pub returns-then-keeps_rules : goal.returns-then-keeps_rules

@@ -6,7 +6,7 @@ use Rattle.sheet_lines.specs.Kept.{kept_lines}
 use Rattle.sheet_lines.specs.KeptNumbers.{AreKeptLines}
 use Rattle.sheet_history.specs.declared.Diff.TheVariants.{Rows as RowsDiff}
 use Rattle.sheet_history.specs.Diffs.{IsKeptDiff}
-use Rattle.sheet_history.specs.LineRecords.{record_kept}
+use Rattle.sheet_history.specs.laws.LineRecords.{record_kept}
 use Rattle.sheet_wire.specs.QueueBytes.{FitsList}
 use Rattle.sheet_wire.specs.RowsBytes.{IsKeptOfRows}
 use Rattle.script_editor.specs.Reached.{document_in}

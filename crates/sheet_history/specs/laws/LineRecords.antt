@@ -14,8 +14,8 @@ use Rattle.sheet_lines.specs.KeptNumbers.{AreKeptLines}
 use Rattle.sheet_history.specs.LineDiffs.{stays_inside, is_there_inside}
 use Rattle.sheet_history.specs.Diffs.{IsKeptDiff, IsKeptList, by_rule, made, taken_back, forwarded, backed}
 use Rattle.sheet_history.specs.Records.{line_record, IsRowEdit}
-use Rattle.sheet_history.specs.TestedLaws.{by_rule-kept}
-use Rattle.sheet_history.specs.LineLaws.{lines_made, lines_taken_back, kept_shallow}
+use Rattle.sheet_history.specs.laws.TestedLaws.{by_rule-kept}
+use Rattle.sheet_history.specs.laws.LineLaws.{lines_made, lines_taken_back}
 
 -- the sheet that is there
 inside_there : (a : Along) (e : EditKind) (o : Option Sheet) → is_there_inside a e o ≡ true → (sheet : Sheet) × (o ≡ Some sheet) × (stays_inside a e sheet ≡ true)
@@ -42,6 +42,6 @@ module _ (e : EditKind) (id : ℕ) (book : Book) (edit : IsRowEdit e id book) wh
   pub record_backed : backed (book_followed rows e id book) (line_record e id book) ≡ Ok book
   record_backed = ap (λ r. and_then r (λ next. by_rule 1 next (broken_rule next))) record_taken_back ∙ by_rule-kept 1 book edit.rules
 
-  -- its numbers are as a sheet keeps them, where those of what is kept are, and its formulas at most 64 deep
+  -- its numbers are as a sheet keeps them, where those of what is kept are
   pub record_kept : AreKeptLines (kept_lines rows e id book) → IsKeptList (line_record e id book)
-  record_kept numbers = All-from_recursion IsKeptDiff (line_record e id book) ((numbers, kept_shallow rows rows_lawful e edit.valid id book edit.rules), tt)
+  record_kept numbers = All-from_recursion IsKeptDiff (line_record e id book) (numbers, tt)

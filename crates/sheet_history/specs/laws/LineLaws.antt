@@ -37,11 +37,11 @@ use Rattle.sheet_lines.specs.Way.{Way, way, back, place_goes, line_image, line_g
 use Rattle.sheet_lines.specs.Followed.{cell_followed, cells_followed, sheet_of, name_of, way_of, sheet_followed, book_followed}
 use Rattle.sheet_lines.specs.Kept.{kept_trees, is_empty, sheet_kept, kept_formulas, lost_cells, lost_links, lost_rows, lost_columns, kept_lines}
 use Rattle.sheet_lines.specs.Back.{book_back}
-use Rattle.sheet_lines.specs.laws.Regained.{goes_inverse, lines_go_inverse, formulas_under, kept_elsewhere, book_regained}
-use Rattle.sheet_history.specs.Entries.{all_entries}
+use Rattle.sheet_lines.specs.Regained.{goes_inverse, lines_go_inverse, formulas_under, kept_elsewhere, book_regained}
+use Rattle.sheet_history.specs.laws.Entries.{all_entries}
 use Rattle.sheet_history.specs.LineDiffs.{is_valid, is_pushed_past, stays_inside, is_there_inside, are_lost, stand_on_lost, cells_fit, tree_stands, trees_stand, formulas_stand, goes_on, goes_forward, goes_back, lines_forward, lines_back}
-use Rattle.sheet_history.specs.Diffs.{AreShallowTrees, AreShallowLines}
-use Rattle.sheet_history.specs.KeptTrees.{kept_fits, kept_stands}
+use Rattle.sheet_history.specs.Depth.{AreShallowTrees, AreShallowLines}
+use Rattle.sheet_history.specs.laws.KeptTrees.{kept_fits, kept_stands}
 
 within_at : (last first count : ℤ) → IsWithin last first count → (int_le (pos 1) first && int_le first last) && (int_le (pos 1) count && int_le count last) ≡ true
 within_at last first count h = grind (arith, ints)

@@ -20,13 +20,9 @@ use Rattle.sheet_grid.specs.Book.{Book, index_of, sheet_edit, edit_by_id, with_s
 use Rattle.sheet_rules.specs.laws.EntryLaws.{both}
 use Rattle.sheet_rules.specs.SheetNames.{is_sheet_name}
 use Rattle.sheet_rules.specs.WellFormed.{are_distinct, ids_of, names_of, are_sheets, have_trees, have_attributes, are_frozen, is_row, is_column, IsWellFormed, has_font}
-use Rattle.sheet_rules.specs.laws.WellFormedLaws.{well_formed_parts, well_formed_from_parts, cells_fit_from_trees, have_trees_from_cells_fit}
-use Rattle.sheet_history.specs.Entries.{all_with_entry}
-
--- what is put, a cell or none, has a font of at least size 1
-abbrev pub entry_has_font : Option Cell → Bool
-entry_has_font None = true
-entry_has_font (Some cell) = has_font cell.style
+use Rattle.sheet_rules.specs.WellFormedLaws.{well_formed_parts, well_formed_from_parts, cells_fit_from_trees, have_trees_from_cells_fit}
+use Rattle.sheet_history.specs.Untested.{entry_has_font}
+use Rattle.sheet_history.specs.laws.Entries.{all_with_entry}
 
 -- a list in which one element is another one
 length-set : {X : Type 0} (xs : List X) (i : ℕ) (y : X) → length (slice_set xs i y) ≡ length xs

@@ -11,13 +11,14 @@ use Rattle.sheet_grid.specs.FittingCells.{entry_fits_at}
 use Rattle.sheet_grid.specs.laws.FittingLaws.{place_is}
 use Rattle.sheet_grid.specs.Sheet.{cell_put}
 use Rattle.sheet_rules.specs.WellFormed.{broken_rule, IsWellFormed}
-use Rattle.sheet_history.specs.RuleLaws.{entry_has_font, well_formed-by_id}
+use Rattle.sheet_history.specs.Untested.{entry_has_font, keeps_rules, keeps_rules_back}
+use Rattle.sheet_history.specs.laws.RuleLaws.{well_formed-by_id}
 use Rattle.sheet_history.specs.declared.diff.Diff.{Diff}
 use Rattle.sheet_history.specs.declared.diff.Diff.TheVariants.{Cell as CellDiff, Rows as RowsDiff}
 use Rattle.sheet_history.specs.declared.diff.DiffType.{DiffType}
 use Rattle.sheet_history.specs.declared.diff.DiffType.TheVariants.{Undo, Redo}
 use Rattle.sheet_history.specs.Diffs.{put_in, by_rule, tested, made, taken_back, forwarded, backed, follow, of_entry, in_entry}
-use Rattle.sheet_history.specs.ReplayLaws.{and_then-Ok}
+use Rattle.sheet_history.specs.laws.ReplayLaws.{and_then-Ok}
 
 -- what may stand at a place is not refused for what it is
 pub put_in-fitting : (at : ℕ) (book : Book) (id : ℕ) (place : Position) (entry : Option Cell) → entry_fits_at place entry ≡ true
@@ -62,20 +63,6 @@ tested_rules at (Err error) next done = absurd (let never : ◌≡◌ {A = Resul
 pub tested_same : (at : ℕ) (answer : Result Book EditError) → ((next : Book) → answer ≡ Ok next → IsWellFormed next) → tested at answer ≡ answer
 tested_same at (Ok book) rules = by_rule-kept at book (rules book refl)
 tested_same at (Err error) rules = refl
-
--- one cell, put with a font
-abbrev pub keeps_rules : List Diff → Bool
-keeps_rules [] = false
-keeps_rules (CellDiff sheet place old new ∷ []) = entry_has_font new
-keeps_rules (CellDiff sheet place old new ∷ second ∷ rest) = false
-keeps_rules (RowsDiff sheet edit kept ∷ rest) = false
-
--- one cell, taken back to one with a font
-abbrev pub keeps_rules_back : List Diff → Bool
-keeps_rules_back [] = false
-keeps_rules_back (CellDiff sheet place old new ∷ []) = entry_has_font old
-keeps_rules_back (CellDiff sheet place old new ∷ second ∷ rest) = false
-keeps_rules_back (RowsDiff sheet edit kept ∷ rest) = false
 
 made_rules : (book : Book) (diffs : List Diff) → keeps_rules diffs ≡ true → IsWellFormed book → (next : Book) → made book diffs ≡ Ok next → IsWellFormed next
 made_rules book [] keeps rules next is = absurd (cc)

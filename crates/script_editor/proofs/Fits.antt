@@ -18,7 +18,7 @@ use Rattle.sheet_grid.specs.Sheet.{Sheet, style_of}
 use Rattle.sheet_grid.specs.Book.{Book}
 use Rattle.sheet_rules.specs.laws.EntryLaws.{both}
 use Rattle.sheet_rules.specs.WellFormed.{have_attributes, is_row, is_column, has_font, IsWellFormed}
-use Rattle.sheet_rules.specs.WellFormedLaws.{well_formed_parts}
+use Rattle.sheet_rules.specs.laws.WellFormedLaws.{well_formed_parts}
 use Rattle.sheet_history.specs.laws.Entries.{entry_holds}
 use Rattle.sheet_history.specs.Untested.{entry_has_font}
 use Rattle.script_editor.specs.Inputs.{new_cell, entered}

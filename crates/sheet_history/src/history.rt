@@ -1,5 +1,5 @@
 ghost use Rattle.std.specs.Prelude.{◌≡◌, ◌∷◌, [], IsOk, IsTrue, true, OnOk, OnErr, IfSome, IsOkUnless, MatchOption, Ok};
-ghost use Rattle.base_values.specs.Answers.{Edits};
+ghost use Rattle.base_values.specs.Answers.{Changes};
 ghost use Rattle.base_values.specs.declared.EditError.TheVariants.{NoMemory};
 ghost use Rattle.sheet_history.specs.Diffs.{IsKeptList};
 ghost use Rattle.sheet_history.specs.Stacks.{empty_stacks, pushed, undone, redone};
@@ -47,7 +47,7 @@ impl History {
     /// Makes room for one list more on either stack, so that the next `push`, `undo` or `redo`
     /// takes no memory. `NoMemory` leaves the history as it was.
     pub fn reserve(&mut self) -> Result<(), EditError>
-        ensures { Edits result self.old self.new (Ok (record self.old { has_room = true })) }
+        ensures { Changes result self.old self.new (Ok (record self.old { has_room = true })) }
     {
         self.undo.reserve(1)?;
         self.redo.reserve(1)?;
@@ -59,7 +59,7 @@ impl History {
     /// it was.
     pub fn push(&mut self, list: DiffList) -> Result<(), EditError>
         requires { IsKeptList list }
-        ensures next { Edits result self.old self.new (Ok (pushed list self.old)) }
+        ensures next { Changes result self.old self.new (Ok (pushed list self.old)) }
         ensures sure { IsTrue self.old.has_room → IsOk result }
     {
         self.undo.push(list)?;
@@ -87,7 +87,7 @@ impl History {
     /// Moves the newest list to undo, if there is one, to the redo stack. `NoMemory` leaves the
     /// history as it was.
     pub fn undo(&mut self) -> Result<(), EditError>
-        ensures next { Edits result self.old self.new (Ok (undone self.old)) }
+        ensures next { Changes result self.old self.new (Ok (undone self.old)) }
         ensures sure { IsTrue self.old.has_room → IsOk result }
     {
         self.redo.reserve(1)?;
@@ -104,7 +104,7 @@ impl History {
     /// Moves the newest list to redo, if there is one, to the undo stack. `NoMemory` leaves the
     /// history as it was.
     pub fn redo(&mut self) -> Result<(), EditError>
-        ensures next { Edits result self.old self.new (Ok (redone self.old)) }
+        ensures next { Changes result self.old self.new (Ok (redone self.old)) }
         ensures sure { IsTrue self.old.has_room → IsOk result }
     {
         self.undo.reserve(1)?;
@@ -139,7 +139,8 @@ impl Clone for History {
 
 /// Two histories are equal where their lists are, and both or neither have room.
 impl PartialEq for History {
-    ghost use Rattle.base_values.specs.CodedEq.{same_value, same_value_laws};
+    ghost use Rattle.base_values.specs.CodedEq.{same_value};
+    ghost use Rattle.base_values.specs.laws.CodedEq.{same_value_laws};
     ghost use Rattle.sheet_history.specs.contracts.history.History.{the_row};
 
     ghost eq = { same_value the_row.coded };
@@ -152,14 +153,14 @@ impl PartialEq for History {
 }
 
 impl Eq for History {
-    ghost use Rattle.base_values.specs.CodedEq.{same_value_equiv};
+    ghost use Rattle.base_values.specs.laws.CodedEq.{same_value_equiv};
     ghost use Rattle.sheet_history.specs.contracts.history.History.{the_row};
 
     ghost laws = { same_value_equiv the_row.coded };
 }
 
 impl Exact for History {
-    ghost use Rattle.base_values.specs.CodedEq.{same_value_decides};
+    ghost use Rattle.base_values.specs.laws.CodedEq.{same_value_decides};
     ghost use Rattle.sheet_history.specs.contracts.history.History.{the_row};
 
     ghost copies = { λ a b h. h };

@@ -6,7 +6,8 @@ use Rattle.std.specs.Cmp.{booleans_Decides}
 use Rattle.std.specs.Cmp.Lexicographic.{pointwise, pointwise_decides}
 use Rattle.std.proofs.lemmas.List.{reverse-reverse}
 use Rattle.std.proofs.lemmas.Bool.Decides.{Decides-like, Decides-and}
-use Rattle.base_values.specs.CodedEq.{same_value, is_same_value}
+use Rattle.base_values.specs.CodedEq.{same_value}
+use Rattle.base_values.specs.laws.CodedEq.{is_same_value}
 use Rattle.sheet_history.specs.declared.diff.Diff.{Diff}
 use Rattle.sheet_history.specs.contracts.diff.DiffPartialEq.TheImpl as diff
 use Rattle.sheet_history.specs.laws.DiffEquals.{diff_equals}

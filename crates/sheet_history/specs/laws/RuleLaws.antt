@@ -20,7 +20,7 @@ use Rattle.sheet_grid.specs.Book.{Book, index_of, sheet_edit, edit_by_id, with_s
 use Rattle.sheet_rules.specs.laws.EntryLaws.{both}
 use Rattle.sheet_rules.specs.SheetNames.{is_sheet_name}
 use Rattle.sheet_rules.specs.WellFormed.{are_distinct, ids_of, names_of, are_sheets, have_trees, have_attributes, are_frozen, is_row, is_column, IsWellFormed, has_font}
-use Rattle.sheet_rules.specs.WellFormedLaws.{well_formed_parts, well_formed_from_parts, cells_fit_from_trees, have_trees_from_cells_fit}
+use Rattle.sheet_rules.specs.laws.WellFormedLaws.{well_formed_parts, well_formed_from_parts, cells_fit_from_trees, have_trees_from_cells_fit}
 use Rattle.sheet_history.specs.Untested.{entry_has_font}
 use Rattle.sheet_history.specs.laws.Entries.{all_with_entry}
 

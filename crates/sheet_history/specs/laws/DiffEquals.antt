@@ -1,15 +1,13 @@
 -- `==` of diffs is equality of their values.
 use Rattle.std.proofs.Common.{◌≡◌, refl, ap}
 use Rattle.std.specs.Bool.{Decides}
-use Rattle.std.specs.Cmp.{signed_Decides, unsigned_Decides}
+use Rattle.std.specs.Cmp.{unsigned_Decides}
 use Rattle.std.specs.Cmp.Lexicographic.{pointwise_decides}
 use Rattle.std.proofs.lemmas.Bool.Decides.{Decides-like, Decides-and}
 use Rattle.base_values.specs.laws.Decided.{option_equals}
 use Rattle.base_values.specs.laws.PositionEquals.{position_equals}
 use Rattle.sheet_grid.specs.laws.CellEquals.{cell_equals}
-use Rattle.line_map.specs.declared.EditKind.{EditKind}
-use Rattle.line_map.specs.declared.EditKind.TheVariants.{Insert, Delete}
-use Rattle.line_map.specs.contracts.edit.EditKindPartialEq.TheImpl as edit_kind
+use Rattle.line_map.specs.laws.Equals.{kind_equals}
 use Rattle.sheet_lines.specs.laws.KeptEquals.{kept_equals}
 use Rattle.sheet_history.specs.declared.diff.Diff.{Diff}
 use Rattle.sheet_history.specs.declared.diff.Diff.TheVariants.{Cell as CellDiff, Rows as RowsDiff}
@@ -19,27 +17,6 @@ use Rattle.sheet_history.specs.declared.diff.QueueDiffs.{QueueDiffs}
 use Rattle.sheet_history.specs.contracts.diff.DiffPartialEq.TheImpl as diff
 use Rattle.sheet_history.specs.contracts.diff.DiffTypePartialEq.TheImpl as diff_type
 use Rattle.sheet_history.specs.contracts.diff.QueueDiffsPartialEq.TheImpl as queue_diffs
-
--- `==` of kinds of line edits
-kind_equals : (a b : EditKind) → Decides (edit_kind.ghosts.eq a b) (a ≡ b)
-kind_equals (Insert m n) (Insert p q) =
-    Decides-like _ (λ h i. Insert (h.0 i) (h.1 i)) (λ e. (first_of e, count_of e)) (Decides-and _ _ (signed_Decides _ _) (signed_Decides _ _))
-  where
-    first_of : Insert m n ≡ Insert p q → m ≡ p
-    first_of e = cc
-
-    count_of : Insert m n ≡ Insert p q → n ≡ q
-    count_of e = cc
-kind_equals (Delete m n) (Delete p q) =
-    Decides-like _ (λ h i. Delete (h.0 i) (h.1 i)) (λ e. (first_of e, count_of e)) (Decides-and _ _ (signed_Decides _ _) (signed_Decides _ _))
-  where
-    first_of : Delete m n ≡ Delete p q → m ≡ p
-    first_of e = cc
-
-    count_of : Delete m n ≡ Delete p q → n ≡ q
-    count_of e = cc
-kind_equals (Insert _ _) (Delete _ _) = (λ e. cc, λ e. cc)
-kind_equals (Delete _ _) (Insert _ _) = (λ e. cc, λ e. cc)
 
 pub diff_equals : (a b : Diff) → Decides (diff.ghosts.eq a b) (a ≡ b)
 diff_equals (CellDiff s p o n) (CellDiff t q u v) =

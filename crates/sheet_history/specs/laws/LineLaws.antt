@@ -37,7 +37,7 @@ use Rattle.sheet_lines.specs.Way.{Way, way, back, place_goes, line_image, line_g
 use Rattle.sheet_lines.specs.Followed.{cell_followed, cells_followed, sheet_of, name_of, way_of, sheet_followed, book_followed}
 use Rattle.sheet_lines.specs.Kept.{kept_trees, is_empty, sheet_kept, kept_formulas, lost_cells, lost_links, lost_rows, lost_columns, kept_lines}
 use Rattle.sheet_lines.specs.Back.{book_back}
-use Rattle.sheet_lines.specs.Regained.{goes_inverse, lines_go_inverse, formulas_under, kept_elsewhere, book_regained}
+use Rattle.sheet_lines.specs.laws.Regained.{goes_inverse, lines_go_inverse, formulas_under, kept_elsewhere, book_regained}
 use Rattle.sheet_history.specs.laws.Entries.{all_entries}
 use Rattle.sheet_history.specs.LineDiffs.{is_valid, is_pushed_past, stays_inside, is_there_inside, are_lost, stand_on_lost, cells_fit, tree_stands, trees_stand, formulas_stand, goes_on, goes_forward, goes_back, lines_forward, lines_back}
 use Rattle.sheet_history.specs.Depth.{AreShallowTrees, AreShallowLines}

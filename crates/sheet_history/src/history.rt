@@ -21,15 +21,19 @@ impl Model for History {
     ghost use Rattle.std.specs.Prelude.{◌≡◌, ◌-◌, ◌≤◌, IsTrue, All, reverse, vec_capacity, vec_len};
     ghost use Rattle.sheet_history.specs.Diffs.{IsKeptList};
     ghost use Rattle.sheet_history.specs.Stacks.{Stacks};
+    ghost use Rattle.sheet_history.specs.contracts.diff.Diff as diff;
+    ghost use Rattle.std.specs.Coded.{codes};
 
     ghost Value = { Stacks };
+
+    ghost coded = { Prim.hlevel (codes, diff.the_row.coded) };
 
     ghost view = { λ h. record { undo = reverse h.undo.items; redo = reverse h.redo.items; has_room = h.has_room } };
 
     ghost invariant = { λ h.
-      All IsKeptList h.undo.items × All IsKeptList h.redo.items
-      × (IsTrue h.has_room → 1 ≤ vec_capacity h.undo - vec_len h.undo)
-      × (IsTrue h.has_room → 1 ≤ vec_capacity h.redo - vec_len h.redo) };
+        All IsKeptList h.undo.items × All IsKeptList h.redo.items
+        × (IsTrue h.has_room → 1 ≤ vec_capacity h.undo - vec_len h.undo)
+        × (IsTrue h.has_room → 1 ≤ vec_capacity h.redo - vec_len h.redo) };
 }
 
 impl History {

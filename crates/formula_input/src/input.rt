@@ -65,7 +65,7 @@ fn formula_content(
 /// a parse-error node where the text is none; a boolean word of the language, with A to Z of either
 /// case; an error text; a number, maybe after a minus; and anything else as a text.
 ///
-/// Only want of memory is refused. docs/SCRIPT.md has the rules.
+/// `NoMemory` is the only error. docs/SCRIPT.md has the rules.
 pub fn read_input(
     alloc: Global,
     text: &str,

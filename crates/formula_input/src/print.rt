@@ -81,7 +81,7 @@ fn print_formula(
 /// boolean's word in the language, the English text of an error, a text as it is, and a formula
 /// behind an equals sign. An apostrophe leads a text that would be read as anything else.
 ///
-/// Only want of memory is refused. docs/SCRIPT.md has the rules.
+/// `NoMemory` is the only error. docs/SCRIPT.md has the rules.
 pub fn print_content(
     alloc: Global,
     content: &Content,

@@ -7,7 +7,7 @@ use Rattle.std.proofs.lemmas.Map.Lookups.{CmpEqualImpliesEq, exact_pairs, exact_
 use Rattle.sheet_grid.specs.Book.{Book}
 use Rattle.sheet_history.specs.declared.diff.Diff.{Diff}
 use Rattle.sheet_history.specs.declared.diff.Diff.TheVariants.{Cell as CellDiff, Rows as RowsDiff}
-use Rattle.sheet_history.specs.Records.{EntryKey, Rank, rank_of, rank_cmp, key_cmp, Change, change_of, IsRecord}
+use Rattle.sheet_history.specs.Records.{EntryKey, EntryValue, Rank, rank_of, rank_cmp, key_cmp, Change, change_of, IsRecord}
 use Rattle.sheet_history.specs.Records.EntryKey.{CellKey}
 use Rattle.sheet_history.specs.Records.EntryValue.{CellValue}
 
@@ -39,12 +39,19 @@ exact_keys a b h = sym (key_of-rank_of a) ∙ ap key_of (exact_ranks (rank_of a)
 holds : (b : Bool) → b ≡ true → T b
 holds b e = subst T (sym e) tt
 
+-- the diff of a change
+abbrev diff_of : EntryKey → EntryValue → EntryValue → Diff
+diff_of (CellKey sheet place) (CellValue old) (CellValue new) = CellDiff sheet place old new
+
+diff_of-change_of : (diff : Diff) (change : Change) → change_of diff ≡ Some change → diff_of change.0 change.1.0 change.1.1 ≡ diff
+diff_of-change_of (CellDiff sheet place old new) change h =
+    let same : ◌≡◌ {A = Change} (CellKey sheet place, (CellValue old, CellValue new)) change = cc in
+    ap (λ (c : Change). diff_of c.0 c.1.0 c.1.1) (sym same)
+diff_of-change_of (RowsDiff _ _ _) change h = absurd (cc)
+
 -- diffs of one change are equal
 same_diff : (a b : Diff) (change : Change) → change_of a ≡ Some change → change_of b ≡ Some change → a ≡ b
-same_diff (CellDiff s p o n) (CellDiff t q u v) change one two =
-    let same : ◌≡◌ {A = Option Change} (Some (CellKey s p, (CellValue o, CellValue n))) (Some (CellKey t q, (CellValue u, CellValue v))) = one ∙ sym two in cc
-same_diff (RowsDiff _ _ _) _ change one two = absurd (cc)
-same_diff (CellDiff _ _ _ _) (RowsDiff _ _ _) change one two = absurd (cc)
+same_diff a b change one two = sym (diff_of-change_of a change one) ∙ diff_of-change_of b change two
 
 -- so are lists of the same changes
 same_diffs : (a b : List Diff) (changes : List Change) → map change_of a ≡ map Some changes → map change_of b ≡ map Some changes → a ≡ b

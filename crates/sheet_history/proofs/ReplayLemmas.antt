@@ -6,7 +6,7 @@ use Rattle.base_values.specs.declared.EditError.{EditError}
 use Rattle.base_values.specs.declared.EditError.TheVariants.{DiffRefused, NoMemory}
 use Rattle.sheet_grid.specs.Book.{Book}
 use Rattle.sheet_history.specs.declared.diff.QueueDiffs.{QueueDiffs}
-use Rattle.sheet_history.specs.Diffs.{follow, of_entry, in_entry, replayed, replayed_from, IsFrontOf, StandsAfter}
+use Rattle.sheet_history.specs.Diffs.{follow, of_entry, in_entry, replayed, replayed_from, StandsAfter}
 use Rattle.sheet_history.specs.laws.ReplayLaws.{replayed_from-push}
 
 -- one entry more of the front of a queue

@@ -1,5 +1,5 @@
 -- What a history holds, and what its calls make of it.
-use Rattle.std.proofs.Common.{Bool, true, false, List, [], ◌∷◌}
+use Rattle.std.proofs.Common.{Bool, false, List, [], ◌∷◌}
 use Rattle.sheet_history.specs.declared.diff.Diff.{Diff}
 
 -- the lists to undo and those to redo, the newest first, and whether there is room for one list more on either stack

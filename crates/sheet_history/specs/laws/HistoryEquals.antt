@@ -1,5 +1,5 @@
 -- Two histories are equal where their lists are, and both or neither have room.
-use Rattle.std.proofs.Common.{◌≡◌, Bool, ◌&&◌, List, reverse, refl, ap, sym, ◌∙◌}
+use Rattle.std.proofs.Common.{◌≡◌, Bool, ◌&&◌, List, reverse, ap, sym, ◌∙◌}
 use Rattle.std.specs.Bool.{Decides}
 use Rattle.std.specs.Coded.{Coded}
 use Rattle.std.specs.Cmp.{booleans_Decides}

@@ -1,6 +1,6 @@
-ghost use Rattle.std.specs.Prelude.{◌≡◌, ◌+ℤ◌, int_lt, IfOk, IsTrue, is_some};
+ghost use Rattle.std.specs.Prelude.{◌≡◌, ◌≢◌, Err, ◌+ℤ◌, int_lt, IfOk, IsTrue, is_some};
 ghost use Rattle.base_values.specs.Answers.{map_ok};
-ghost use Rattle.base_values.specs.declared.EditError.TheVariants.{InvalidRow};
+ghost use Rattle.base_values.specs.declared.EditError.TheVariants.{InvalidRow, NoMemory};
 ghost use Rattle.base_values.specs.Places.{line_of};
 ghost use Rattle.base_axis.specs.Along.{rows};
 ghost use Rattle.line_map.specs.Areas.{last_line};
@@ -129,6 +129,7 @@ fn planned_rows(
     ensures planned { map_ok (λ plan. (plan.0, plan.1.kind)) result ≡ lines_planned rows InvalidRow kind sheet workbook.now }
     ensures valid { IfOk result (λ plan. IsValid rows.last plan.1.kind) }
     ensures there { IfOk result (λ plan. IsTrue (is_some (sheet_of workbook.now plan.0))) }
+    ensures sure { result ≢ Err NoMemory }
 {
     planned(workbook, sheet, kind, EditError::InvalidRow)
 }
@@ -149,6 +150,7 @@ pub fn plan_insert(
     ensures planned { map_ok (λ plan. (plan.0, plan.1.kind)) result ≡ lines_planned rows InvalidRow (Insert row count) sheet workbook.now }
     ensures valid { IfOk result (λ plan. IsValid rows.last plan.1.kind) }
     ensures there { IfOk result (λ plan. IsTrue (is_some (sheet_of workbook.now plan.0))) }
+    ensures sure { result ≢ Err NoMemory }
 {
     let first = row;
     planned_rows(workbook, sheet, EditKind::Insert { first, count })
@@ -169,6 +171,7 @@ pub fn plan_delete(
     ensures planned { map_ok (λ plan. (plan.0, plan.1.kind)) result ≡ lines_planned rows InvalidRow (Delete row count) sheet workbook.now }
     ensures valid { IfOk result (λ plan. IsValid rows.last plan.1.kind) }
     ensures there { IfOk result (λ plan. IsTrue (is_some (sheet_of workbook.now plan.0))) }
+    ensures sure { result ≢ Err NoMemory }
 {
     let first = row;
     planned_rows(workbook, sheet, EditKind::Delete { first, count })

@@ -182,7 +182,12 @@ fn holds(sheet: &Worksheet, row: i32, column: i32, content: &Content) -> Result<
 
 fn holds_formula(sheet: &Worksheet, tree: Node) -> Result<bool, EditError> {
     match sheet.cell(1, 2)? {
-        Some(Cell { content: Content::Formula(held), .. }) => Ok(same(held.get(), &tree)),
+        Some(
+            Cell {
+                content: Content::Formula(held),
+                ..
+            },
+        ) => Ok(same(held.get(), &tree)),
         _ => Ok(false),
     }
 }

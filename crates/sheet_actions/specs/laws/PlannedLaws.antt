@@ -1,11 +1,11 @@
 -- A planned edit is a valid one, of a sheet that the workbook has.
-use Rattle.std.proofs.Common.{◌≡◌, ℕ, zero, suc, ℤ, pos, ◌+ℤ◌, ◌≤ℤ◌, Bool, true, false, cond, List, [], ◌∷◌, Option, Some, None, Result, Ok, Err, refl, subst, ap, sym, arith}
+use Rattle.std.proofs.Common.{◌≡◌, ◌≢◌, ◌∙◌, ℕ, zero, suc, ℤ, pos, ◌+ℤ◌, ◌≤ℤ◌, Bool, true, false, cond, List, [], ◌∷◌, Option, Some, None, Result, Ok, Err, refl, subst, ap, sym, arith}
 use Rattle.std.specs.Prelude.{IfOk, IsTrue, is_some, int_lt, slice_get, ◌==◌}
 use Rattle.std.specs.Cmp.{unsigned_Decides}
 use Rattle.std.specs.List.{find}
 use Rattle.std.proofs.lemmas.Int.{ints}
 use Rattle.base_values.specs.declared.EditError.{EditError}
-use Rattle.base_values.specs.declared.EditError.TheVariants.{InvalidSheet, BadCount, OverEdge, TargetOutOfBounds}
+use Rattle.base_values.specs.declared.EditError.TheVariants.{InvalidSheet, BadCount, OverEdge, TargetOutOfBounds, NoMemory}
 use Rattle.base_values.specs.Answers.{and_then, map_ok, ok_or}
 use Rattle.base_values.specs.Places.{is_line, line_of}
 use Rattle.base_axis.specs.Along.{Along}
@@ -93,3 +93,37 @@ module _ {X : Type 0} (f : X → ℕ × EditKind) (a : Along) (outside : EditErr
   pub there_planned : (r : Result X EditError) → map_ok f r ≡ lines_planned a outside kind index book → IfOk r (λ x. IsTrue (is_some (sheet_of book (f x).0)))
   there_planned (Ok x) h = (planned_may a outside kind index book (f x) (sym h)).there
   there_planned (Err error) h = tt
+
+-- guards whose refusals are no lack of memory never tell of one
+guarded_sure : (line : ℤ) (few on past : Bool) (outside over : EditError) (kind : EditKind) → outside ≢ NoMemory → over ≢ NoMemory → guarded line few on past outside over kind ≢ Err NoMemory
+guarded_sure line true on past outside over kind other others h = let never : ◌≡◌ {A = Result EditKind EditError} (Err BadCount) (Err NoMemory) = h in cc
+guarded_sure line false false past outside over kind other others h =
+    let it : ◌≡◌ {A = Result EditKind EditError} (Err outside) (Err NoMemory) = h in
+    other (let same : outside ≡ NoMemory = cc in same)
+guarded_sure line false true true outside over kind other others h =
+    let it : ◌≡◌ {A = Result EditKind EditError} (Err over) (Err NoMemory) = h in
+    others (let same : over ≡ NoMemory = cc in same)
+guarded_sure line false true false outside over kind other others h = let never : ◌≡◌ {A = Result EditKind EditError} (Ok kind) (Err NoMemory) = h in cc
+
+allowed_sure : (a : Along) (outside : EditError) (kind : EditKind) (sheet : Sheet) → outside ≢ NoMemory → edit_allowed a outside kind sheet ≢ Err NoMemory
+unfolding edit_allowed line_of
+allowed_sure a outside (Insert first count) sheet other h =
+    guarded_sure first (int_lt count (pos 1)) (is_line a.last first) (int_lt a.last (greatest_line a sheet +ℤ count)) outside OverEdge (Insert first count) other (λ e. cc) h
+allowed_sure a outside (Delete first count) sheet other h =
+    guarded_sure first (int_lt count (pos 1)) (is_line a.last first) (int_lt a.last (last_line first count)) outside TargetOutOfBounds (Delete first count) other (λ e. cc) h
+
+module _ (a : Along) (outside : EditError) (other : outside ≢ NoMemory) (kind : EditKind) (index : ℕ) (book : Book) where
+  sheet_sure : (sheet : Sheet) (r : Result EditKind EditError) → r ≢ Err NoMemory → ◌≢◌ {A = Result (ℕ × EditKind) EditError} (map_ok (λ edit. (sheet.id, edit)) r) (Err NoMemory)
+  sheet_sure sheet (Ok edit) sure h = let never : ◌≡◌ {A = Result (ℕ × EditKind) EditError} (Ok (sheet.id, edit)) (Err NoMemory) = h in cc
+  sheet_sure sheet (Err error) sure h =
+      let it : ◌≡◌ {A = Result (ℕ × EditKind) EditError} (Err error) (Err NoMemory) = h in
+      let same : error ≡ NoMemory = cc in
+      sure (ap Err same)
+
+  index_sure : (o : Option Sheet) → ◌≢◌ {A = Result (ℕ × EditKind) EditError} (and_then (ok_or InvalidSheet o) (λ sheet. map_ok (λ edit. (sheet.id, edit)) (edit_allowed a outside kind sheet))) (Err NoMemory)
+  index_sure (Some sheet) h = sheet_sure sheet (edit_allowed a outside kind sheet) (allowed_sure a outside kind sheet other) h
+  index_sure None h = let never : ◌≡◌ {A = Result (ℕ × EditKind) EditError} (Err InvalidSheet) (Err NoMemory) = h in cc
+
+  -- planning takes no memory
+  pub plan_sure : {X : Type 0} (f : X → ℕ × EditKind) (r : Result X EditError) → map_ok f r ≡ lines_planned a outside kind index book → r ≢ Err NoMemory
+  plan_sure f r h is = index_sure (slice_get book.worksheets index) (sym h ∙ ap (map_ok f) is)

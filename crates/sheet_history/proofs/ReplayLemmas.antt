@@ -1,12 +1,10 @@
 -- Following a queue, entry by entry.
-use Rattle.std.proofs.Common.{◌≡◌, ◌≢◌, ℕ, ◌+◌, ◌<◌, List, length, take, get_or, drop, Result, Ok, Err, ap, sym, ◌∙◌, arith, length-take}
+use Rattle.std.proofs.Common.{◌≡◌, ℕ, ◌+◌, ◌<◌, List, length, take, get_or, drop, ap, sym, ◌∙◌, arith, length-take}
 use Rattle.std.proofs.lemmas.List.{take_more, drop_more}
 use Rattle.base_values.specs.Answers.{and_then}
-use Rattle.base_values.specs.declared.EditError.{EditError}
-use Rattle.base_values.specs.declared.EditError.TheVariants.{DiffRefused, NoMemory}
 use Rattle.sheet_grid.specs.Book.{Book}
 use Rattle.sheet_history.specs.declared.diff.QueueDiffs.{QueueDiffs}
-use Rattle.sheet_history.specs.Diffs.{follow, of_entry, in_entry, replayed, replayed_from, StandsAfter}
+use Rattle.sheet_history.specs.Diffs.{follow, in_entry, replayed, replayed_from}
 use Rattle.sheet_history.specs.laws.ReplayLaws.{replayed_from-push}
 
 -- one entry more of the front of a queue
@@ -24,19 +22,3 @@ pub replayed_from-drop : (at : ℕ) (book : Book) (entries : List QueueDiffs) (i
 replayed_from-drop at book entries i entry h e =
     ap (replayed_from at book) (drop_more entries i entry h)
     ∙ (λ j. and_then (in_entry at (follow (sym e j).kind book (sym e j).list)) (λ next. replayed_from (at + 1) next (drop (i + 1) entries)))
-
--- a refusal of an entry names that entry
-named : (at entry diff : ℕ) (error : EditError) → of_entry at error ≡ DiffRefused entry diff → at ≡ entry
-named at entry diff (DiffRefused _ _) h = cc
-named at entry diff _ h = absurd (cc)
-
-named_in : (at entry diff : ℕ) (r : Result Book EditError) → in_entry at r ≡ Err (DiffRefused entry diff) → at ≡ entry
-named_in at entry diff (Ok book) h = absurd (let never : ◌≡◌ {A = Result Book EditError} (Ok book) (Err (DiffRefused entry diff)) = h in cc)
-named_in at entry diff (Err error) h = named at entry diff error (let same : of_entry at error ≡ DiffRefused entry diff = cc in same)
-
--- where the first entries led to the present workbook, they stand after an error of the next one
-pub stands_after : (old new : Book) (entries : List QueueDiffs) (i : ℕ) (r : Result Book EditError) (error : EditError) → replayed old (take i entries) ≡ Ok new
-    → (error ≢ NoMemory → in_entry i r ≡ Err error) → StandsAfter error entries old new
-stands_after old new entries i r (DiffRefused entry diff) led refused =
-    ap (λ n. replayed old (take n entries)) (sym (named_in i entry diff r (refused (λ e. cc)))) ∙ led
-stands_after old new entries i r _ led refused = record { count = i; led = led }

@@ -32,4 +32,8 @@ returns-in-Some-clause-value c =
     (same_answer p ts c.read_tokens.result (c.tokens_derive_one_tree.ensures.read p ts) (c.tokens_derive_one_tree.ensures.derived p ts) c.read_tokens.ensures.found c.read_tokens.ensures.only)
 
 pub returns-in-None-clause-value : goal.returns-in-None-clause-value
-returns-in-None-clause-value c = ?
+returns-in-None-clause-value c =
+    let p = c.args.profile in
+    let text = c.args.text.now in
+    nothing_found p text (c.text_spells_one_list.ensures.read p.locale p.language (chars text))
+    (λ ts spelled. ap (option_map (λ found. found.items)) (sym c.in-None.is) ∙ c.in_ok-tokens.ensures.only ts spelled)

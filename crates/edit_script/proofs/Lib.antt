@@ -2,3 +2,4 @@ mod Ends
 mod Lines
 mod Onlys
 mod Runs
+mod Syncs

@@ -1,21 +1,23 @@
--- A step that cannot be refused stops for want of memory alone.
-use Rattle.std.proofs.Common.{◌≡◌, ◌≢◌, Result, Ok, Err, refl}
-use Rattle.std.specs.Prelude.{IsOkUnless, IfErr}
+-- A step that cannot be refused is stopped by memory alone.
+use Rattle.std.proofs.Common.{◌≡◌, ◌≢◌, List, Result, Ok, Err, refl, sym, ◌∙◌}
+use Rattle.std.specs.Prelude.{IsOkUnless, OnOk}
 use Rattle.base_values.specs.declared.EditError.{EditError}
 use Rattle.base_values.specs.declared.EditError.TheVariants.{NoMemory}
-use Rattle.script_editor.specs.declared.Editor.{Editor}
-use Rattle.script_editor.specs.Machine.{State}
-use Rattle.script_editor.specs.Stands.{Moves}
+use Rattle.sheet_grid.specs.Book.{Book}
+use Rattle.sheet_history.specs.declared.QueueDiffs.{QueueDiffs}
+use Rattle.sheet_history.specs.Diffs.{Replays, replayed}
 
-pub only_memory : (error : EditError) → ((error ≢ NoMemory) → ⊥) → error ≡ NoMemory
+only_memory : (error : EditError) → ((error ≢ NoMemory) → ⊥) → error ≡ NoMemory
 only_memory NoMemory h = refl
 only_memory _ h = absurd (h (λ e. cc))
 
--- a result that is refused only as expected, where no refusal is expected
-pub never_refused : {A B : Type 0} (result : Result A EditError) (value : B) → IfErr result (λ error. error ≢ NoMemory → ◌≡◌ {A = Result B EditError} (Ok value) (Err error)) → IsOkUnless result NoMemory
-never_refused (Ok x) value h = tt
-never_refused (Err error) value h = only_memory error (λ other. let never : Ok value ≡ Err error = h other in cc)
+-- a queue that leads from one workbook to another takes it there
+pub led_there : (result : Result (Unit {0}) EditError) (old new later : Book) (entries : List QueueDiffs) → Replays result old new entries → replayed old entries ≡ Ok later → OnOk result (new ≡ later)
+led_there (Ok u) old new later entries replays led =
+    let both : ◌≡◌ {A = Result Book EditError} (Ok new) (Ok later) = sym replays.done ∙ led in cc
+led_there (Err error) old new later entries replays led = tt
 
-pub moves_only : (result : Result (Unit {0}) EditError) (new : Editor) (s next : State) → Moves result new s (Ok next) → IsOkUnless result NoMemory
-moves_only (Ok done) new s next moves = tt
-moves_only (Err error) new s next moves = only_memory error (λ other. let never : Ok next ≡ Err error = moves.refused.1 other in cc)
+pub led_only : (result : Result (Unit {0}) EditError) (old new later : Book) (entries : List QueueDiffs) → Replays result old new entries → replayed old entries ≡ Ok later → IsOkUnless result NoMemory
+led_only (Ok u) old new later entries replays led = tt
+led_only (Err error) old new later entries replays led =
+    only_memory error (λ other. let never : ◌≡◌ {A = Result Book EditError} (Ok later) (Err error) = sym led ∙ replays.refused other in cc)

@@ -21,9 +21,8 @@ use Rattle.formula_input.specs.Inputs.{input_of, input_text}
 use Rattle.script_dump.specs.English.{english}
 use Rattle.script_dump.specs.Text.{line, hex}
 use Rattle.script_dump.specs.Dump.{dump}
-use Rattle.script_editor.specs.Machine.{State, start, edit_of, undo_of, redo_of, synced_of}
+use Rattle.script_editor.specs.Machine.{State, start, edit_of, undo_of, redo_of, synced_of, sync_bytes}
 use Rattle.script_editor.specs.Machine.Edit.{Input, Rows}
-use Rattle.script_editor.specs.Stands.{sync_bytes}
 
 -- ---- answers
 

@@ -9,7 +9,7 @@ use base_values::EditError;
 use script_dump::{push_dump, push_line};
 use std::alloc::Global;
 
-/// All that a script writes. Only want of memory is refused.
+/// All that a script writes. The only error is `NoMemory`.
 pub(crate) fn output_text(alloc: Global, script: &[u8]) -> Result<Vec<u8>, EditError>
     ensures text { IfOk result (λ text. text.items ≡ output_of script.now) }
     ensures only { IsOkUnless result NoMemory }

@@ -64,17 +64,32 @@ pub fn run_script<S: Source, K: Sink>(
     Ok(())
 }
 
-/// Runs a script as `run_script` does, over ends that never fail: neither fault is answered.
+/// Runs a script as `run_script` does, over ends that never fail: neither fault is answered, so the
+/// script runs unless it is too long or memory is short.
 pub fn run_script_surely(
     alloc: Global,
     input: &mut SureSource,
     output: &mut SureSink,
 ) -> Result<(), RunError>
-    ensures ok { OnOk result (IfSome (⟦<SureSource as Source>⟧.left input.old) (λ script.
-        ⟦<SureSink as Sink>⟧.taken output.new ≡ append_known (⟦<SureSink as Sink>⟧.taken output.old) (output_of script))) }
+    // All was read, and the sink holds the output after what it held.
+    ensures ok { OnOk result (IfSome (⟦<SureSource as Source>⟧.left input.old) (λ script. (⟦<SureSource as Source>⟧.left input.new ≡ Some [])
+        × (⟦<SureSink as Sink>⟧.taken output.new ≡ append_known (⟦<SureSink as Sink>⟧.taken output.old) (output_of script)))) }
+    ensures ran { OnOk result (Ran MOST_BYTES (⟦<SureSource as Source>⟧.left input.old) (⟦<SureSource as Source>⟧.left input.new)
+        (⟦<SureSink as Sink>⟧.taken output.old) (⟦<SureSink as Sink>⟧.taken output.new)) }
+    ensures sound { OnOk result (IfSome (⟦<SureSource as Source>⟧.left input.old) (λ script. SoundThrough (lines_of script) start)) }
+
     ensures no_read_fault { result ≢ Err RunError.ReadFault }
     ensures no_write_fault { result ≢ Err RunError.WriteFault }
     ensures unwritten { OnErr result (⟦<SureSink as Sink>⟧.taken output.new ≡ ⟦<SureSink as Sink>⟧.taken output.old) }
+
+    // TooLong exactly where one byte more than a script may have was taken.
+    ensures front { TookAtMost (MOST_BYTES + 1) (⟦<SureSource as Source>⟧.left input.old) (⟦<SureSource as Source>⟧.left input.new) }
+    ensures too_long { IfSome (⟦<SureSource as Source>⟧.left input.old) (λ script. IfSome (⟦<SureSource as Source>⟧.left input.new) (λ rest.
+        (result ≡ Err RunError.TooLong) ↔ (length script ≡ length rest + MOST_BYTES + 1))) }
+
+    // A script that is not too long is run, or memory is short.
+    ensures complete { IfSome (⟦<SureSource as Source>⟧.left input.old) (λ script. length script ≤ MOST_BYTES
+        → OnErr result (result ≡ Err RunError.NoMemory)) }
 {
     run_script(alloc, input, output)
 }

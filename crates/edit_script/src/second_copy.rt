@@ -1,30 +1,35 @@
-ghost use Rattle.std.specs.Prelude.{◌≡◌, ◌≢◌, Ok, Err, IfOk, IfErr, OnOk, IsOkUnless};
+ghost use Rattle.std.specs.Prelude.{◌≡◌, List, IfOk, OnOk, IsOkUnless};
 ghost use Rattle.base_values.specs.declared.EditError.TheVariants.{NoMemory};
 ghost use Rattle.std.proofs.Props.{props};
+ghost use Rattle.sheet_grid.specs.Book.{Book};
 ghost use Rattle.sheet_rules.specs.WellFormed.{IsWellFormed};
-ghost use Rattle.script_editor.specs.Stands.{replayed_bytes};
+ghost use Rattle.sheet_history.specs.declared.QueueDiffs.{QueueDiffs as Entry};
+ghost use Rattle.sheet_wire.specs.QueueBytes.{FitsQueue};
+ghost use Rattle.script_editor.specs.Sound.{Carries};
 
 use base_values::{EditError, copy_of};
 use script_editor::replay_bytes;
-use sheet_grid::Workbook;
+use sheet_grid::{DefaultStyle, Workbook};
 use std::alloc::Global;
 
 /// A workbook that has the bytes of `sync` alone. It is well-formed, as replaying asks.
 #[derive(Drop)]
 pub(crate) struct SecondCopy {
     pub(crate) workbook: Workbook,
+    plain: DefaultStyle,
     ghost rules: { IsWellFormed workbook } by { Prim.hlevel props },
 }
 
 impl SecondCopy {
     /// A copy of a well-formed workbook.
-    pub(crate) fn of(workbook: &Workbook) -> Result<SecondCopy, EditError>
+    pub(crate) fn of(alloc: Global, workbook: &Workbook) -> Result<SecondCopy, EditError>
         requires { IsWellFormed workbook.now }
         ensures made { IfOk result (λ copy. copy.workbook ≡ workbook.now) }
         ensures only { IsOkUnless result NoMemory }
     {
         let workbook = copy_of(workbook)?;
-        Ok(SecondCopy { workbook })
+        let plain = DefaultStyle::new(alloc)?;
+        Ok(SecondCopy { workbook, plain })
     }
 
     /// The workbook as it is now.
@@ -34,11 +39,11 @@ impl SecondCopy {
         &self.workbook
     }
 
-    /// Takes the copy along the bytes of a sync. The refusals are those of `replay_bytes`.
+    /// Takes the copy along bytes that carry it to a later workbook. The only error is `NoMemory`.
     pub(crate) fn follow(&mut self, alloc: Global, bytes: &[u8]) -> Result<(), EditError>
-        ensures done { OnOk result (replayed_bytes self.old.workbook bytes.now ≡ Ok self.new.workbook) }
-        ensures refused { IfErr result (λ error. error ≢ NoMemory → replayed_bytes self.old.workbook bytes.now ≡ Err error) }
+        ensures done { (entries : List Entry) (later : Book) → FitsQueue entries → Carries entries bytes.now self.old.workbook later → OnOk result (self.new.workbook ≡ later) }
+        ensures only { (entries : List Entry) (later : Book) → FitsQueue entries → Carries entries bytes.now self.old.workbook later → IsOkUnless result NoMemory }
     {
-        replay_bytes(alloc, &mut self.workbook, bytes)
+        replay_bytes(alloc, &self.plain, &mut self.workbook, bytes)
     }
 }

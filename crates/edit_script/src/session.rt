@@ -1,8 +1,9 @@
-ghost use Rattle.std.specs.Prelude.{◌≡◌, ◌≢◌, ◌++◌, [], Ok, OnOk, IfOk, IfErr, IsTrue, IsOkUnless};
-ghost use Rattle.base_values.specs.Answers.{Answers};
+ghost use Rattle.std.specs.Prelude.{◌≡◌, ◌≢◌, ◌++◌, [], codes, Ok, OnOk, IfOk, IfErr, IsTrue, IsOkUnless};
+ghost use Rattle.base_values.specs.Answers.{Returns};
 ghost use Rattle.base_values.specs.declared.EditError.TheVariants.{NoMemory};
 ghost use Rattle.formula_content.specs.Fitting.{fits_at};
 ghost use Rattle.formula_content.specs.KeptContent.{IsKeptContent};
+ghost use Rattle.script_dump.specs.Text.{line, hex};
 ghost use Rattle.edit_script.specs.Script.{content_at, refusal, outcome, got, typed};
 
 use crate::second_copy::SecondCopy;
@@ -35,7 +36,7 @@ fn push_refusal(out: &mut Vec<u8>, error: EditError) -> Result<(), EditError>
     Ok(())
 }
 
-/// Writes the answer to an edit. Want of memory has none.
+/// Writes the answer to an edit. Being out of memory has none.
 fn push_outcome(out: &mut Vec<u8>, done: Result<(), EditError>) -> Result<(), EditError>
     ensures text { OnOk result (out.new.items ≡ out.old.items ++ outcome done) }
     ensures memory { OnOk result (IfErr done (λ error. error ≢ NoMemory)) }
@@ -52,10 +53,10 @@ fn push_outcome(out: &mut Vec<u8>, done: Result<(), EditError>) -> Result<(), Ed
 
 /// The content at a row and a column of the sheet at an index.
 fn content_at(workbook: &Workbook, sheet: u32, row: i32, column: i32) -> Result<Content, EditError>
-    ensures { Answers result (content_at sheet row column workbook.now) }
+    ensures { Returns result (content_at sheet row column workbook.now) }
 {
-    match workbook.worksheet(sheet)?.cell(row, column)? {
-        Some(cell) => copy_of(&cell.content),
+    match workbook.worksheet(sheet)?.shared_cell(row, column)? {
+        Some(cell) => copy_of(&cell.get().content),
         None => Ok(Content::Empty),
     }
 }
@@ -84,7 +85,7 @@ fn push_value(
     Ok(())
 }
 
-/// Writes the answer to a question for the content at a place. Want of memory has none.
+/// Writes the answer to a question for the content at a place. Being out of memory has none.
 fn push_content(
     alloc: Global,
     out: &mut Vec<u8>,
@@ -99,6 +100,17 @@ fn push_content(
         Ok(content) => push_value(alloc, out, place, &content),
         Err(error) => push_refusal(out, error),
     }
+}
+
+/// Writes the answer to a sync.
+fn push_sync(out: &mut Vec<u8>, bytes: &[u8]) -> Result<(), EditError>
+    ensures text { OnOk result (out.new.items ≡ out.old.items ++ line (codes "sync " ++ hex bytes.now)) }
+    ensures only { IsOkUnless result NoMemory }
+{
+    out.extend_from_slice(b"sync ")?;
+    push_hex(out, bytes)?;
+    out.push(b'\n')?;
+    Ok(())
 }
 
 /// What a text is read as at a row and a column. Where they are outside the sheet nothing is read:
@@ -129,7 +141,7 @@ impl Session {
         ensures only { IsOkUnless result NoMemory }
     {
         let editor = Editor::new(alloc)?;
-        let copy = SecondCopy::of(editor.workbook())?;
+        let copy = SecondCopy::of(alloc, editor.workbook())?;
         Ok(Session {
             alloc,
             editor,
@@ -195,9 +207,7 @@ impl Session {
             Runs result self.old self.new (reply_to Sync state) (next_of Sync state) }
     {
         let bytes = self.editor.flush_send_queue()?;
-        self.out.extend_from_slice(b"sync ")?;
-        push_hex(&mut self.out, &bytes)?;
-        self.out.push(b'\n')?;
+        push_sync(&mut self.out, &bytes)?;
         self.copy.follow(self.alloc, &bytes)
     }
 

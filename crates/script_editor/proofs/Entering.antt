@@ -1,6 +1,6 @@
 -- What an input that is accepted found and made.
 use Rattle.std.proofs.Common.{◌≡◌, ℕ, ℤ, cond, List, Option, Some, None, Result, Ok, Err, refl, ap, sym, subst, ◌∙◌}
-use Rattle.std.specs.Prelude.{slice_get}
+use Rattle.std.specs.Prelude.{IsOk, slice_get}
 use Rattle.std.specs.Cmp.{eq_by_cmp_equiv}
 use Rattle.std.specs.FinMap as fin
 use Rattle.base_values.specs.declared.EditError.{EditError}
@@ -16,7 +16,7 @@ use Rattle.sheet_grid.specs.laws.FittingLaws.{place_is}
 use Rattle.sheet_grid.specs.Sheet.{Sheet, with_cell, shown_style, cell_put}
 use Rattle.sheet_grid.specs.Book.{Book, sheet_at, sheet_edit, with_sheet}
 use Rattle.sheet_history.specs.declared.Diff.{Diff}
-use Rattle.sheet_wire.specs.QueueBytes.{FitsList}
+use Rattle.script_editor.specs.Spellable.{AreSpellable}
 use Rattle.script_editor.specs.Sound.{IsSendable}
 use Rattle.script_editor.specs.Inputs.{entered, with_input, input_put, cell_change, place_change, plan_at, input_plan}
 use Rattle.script_editor.specs.Machine.{record_of}
@@ -113,12 +113,12 @@ module _ (w : Book) (index : ℕ) (row column : ℤ) (content : Content) (new : 
   plan_put : sheet_edit w index (λ s. cell_put s row column new) ≡ Ok put_book
   plan_put = λ i. and_then (it.at i) (λ s. map_ok (with_sheet w index) (map_ok (λ p. with_cell s p new) (it.named i)))
 
-  -- bytes can carry the record, if they can carry the list
-  pub plan_sendable : FitsList list → IsSendable (Input index row column content) w
-  plan_sendable fits later how =
+  -- the record can be spelled, if the list can
+  pub plan_sendable : AreSpellable list → IsSendable (Input index row column content) w
+  plan_sendable spellable later how =
       let both : ◌≡◌ {A = Result Book EditError} (Ok put_book) (Ok later) = sym plan_made ∙ how in
       let same : put_book ≡ later = cc in
-      subst FitsList (sym plan_record ∙ ap (record_of (Input index row column content) w) same) fits
+      subst AreSpellable (sym plan_record ∙ ap (record_of (Input index row column content) w) same) spellable
 
 -- to put a planned entry and its list is the edit
 pub recorded_document : (doc : Document) (index : ℕ) (row column : ℤ) (content : Content) (new : Option Cell) (list : List Diff)
@@ -140,3 +140,14 @@ refused_input doc index row column content error plan = go (sheet_at doc.book in
     go (Ok sheet) (Ok place) e = absurd (let never : ◌≡◌ {A = Result (Option Cell × List Diff) EditError} (Ok (plan_at sheet content place)) (Err error) = e in cc)
     go (Ok sheet) (Err other) e = cc
     go (Err other) q e = cc
+
+-- and one whose plan is not refused is accepted
+pub accepted_input : (doc : Document) (index : ℕ) (row column : ℤ) (content : Content) → IsOk (input_plan index row column content doc.book) → IsOk (document_edit (Input index row column content) doc)
+accepted_input doc index row column content = go (sheet_at doc.book index) (place_of row column)
+  where
+    go : (r : Result Sheet EditError) (q : Result Position EditError) → IsOk (and_then r (λ sheet. map_ok (plan_at sheet content) q))
+        → IsOk (map_ok (λ later. recorded (record_of (Input index row column content) doc.book later) doc later)
+        (and_then r (λ sheet. map_ok (with_sheet doc.book index) (map_ok (with_input sheet content) q))))
+    go (Ok sheet) (Ok place) h = refl
+    go (Ok sheet) (Err error) h = h
+    go (Err error) q h = h

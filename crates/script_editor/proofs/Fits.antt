@@ -1,9 +1,15 @@
 -- The entry that an input makes may stand at its place, and has a font.
 use Rattle.std.proofs.Common.{◌≡◌, ℕ, ℤ, Bool, true, List, zero, suc, ◌∷◌, [], Option, Some, None, refl, ap, sym, ◌∙◌}
-use Rattle.std.specs.Prelude.{IsTrue, slice_get, ◌&&◌}
+use Rattle.std.specs.Prelude.{IsTrue, IfSome, slice_get, ◌&&◌, not}
+use Rattle.std.specs.Option.{option_or, unwrap_or}
 use Rattle.std.specs.List.{list_all}
 use Rattle.std.specs.FinMap as fin
 use Rattle.std.specs.FinMap.{entries}
+use Rattle.std.specs.Ordering.{int_cmp}
+use Rattle.std.specs.Cmp.{int_cmp_total}
+use Rattle.std.proofs.lemmas.Map.Lookups.{exact_signed}
+use Rattle.base_styles.specs.declared.Style.{Style}
+use Rattle.base_styles.specs.DefaultStyle.{default_style}
 use Rattle.base_values.specs.declared.Position.{Position}
 use Rattle.base_values.specs.Places.{position_cmp}
 use Rattle.base_values.specs.laws.Places.{position_total, exact_positions}
@@ -14,10 +20,11 @@ use Rattle.sheet_grid.specs.declared.Cell.{Cell}
 use Rattle.sheet_grid.specs.declared.RowAttr.{RowAttr}
 use Rattle.sheet_grid.specs.declared.ColumnAttr.{ColumnAttr}
 use Rattle.sheet_grid.specs.FittingCells.{entry_fits_at}
-use Rattle.sheet_grid.specs.Sheet.{Sheet, style_of}
+use Rattle.sheet_grid.specs.Lines.{is_plain_row, is_plain_column}
+use Rattle.sheet_grid.specs.Sheet.{Sheet, cell_style, row_style, column_style, line_style, own_style, shown_style}
 use Rattle.sheet_grid.specs.Book.{Book}
 use Rattle.sheet_rules.specs.laws.EntryLaws.{both}
-use Rattle.sheet_rules.specs.WellFormed.{have_attributes, is_row, is_column, has_font, IsWellFormed}
+use Rattle.sheet_rules.specs.WellFormed.{have_attributes, is_size, is_width, is_default, is_row, is_row_style, is_column, is_column_style, has_font, IsWellFormed}
 use Rattle.sheet_rules.specs.laws.WellFormedLaws.{well_formed_parts}
 use Rattle.sheet_history.specs.laws.Entries.{entry_holds}
 use Rattle.sheet_history.specs.Untested.{entry_has_font}
@@ -25,56 +32,100 @@ use Rattle.script_editor.specs.Inputs.{new_cell, entered}
 
 -- ---- places
 
-new_placed : (place : Position) (content : Content) → IsTrue (fits_at place content) → IsTrue (entry_fits_at place (new_cell content (style_of None)))
-new_placed place Empty fits = refl
-new_placed place (Number number) fits = fits
-new_placed place (Boolean value) fits = fits
-new_placed place (Error error) fits = fits
-new_placed place (Text text) fits = fits
-new_placed place (Formula tree) fits = fits
-new_placed place (Dynamic tree) fits = fits
+new_placed : (place : Position) (content : Content) (style : Style) → IsTrue (fits_at place content) → IsTrue (entry_fits_at place (new_cell content style))
+new_placed place Empty style fits = refl
+new_placed place (Number number) style fits = fits
+new_placed place (Boolean value) style fits = fits
+new_placed place (Error error) style fits = fits
+new_placed place (Text text) style fits = fits
+new_placed place (Formula tree) style fits = fits
+new_placed place (Dynamic tree) style fits = fits
 
 -- an entry may stand where its content may
-pub entered_placed : (place : Position) (old : Option Cell) (content : Content) → IsTrue (fits_at place content) → IsTrue (entry_fits_at place (entered old content (style_of old)))
-entered_placed place None content fits = new_placed place content fits
-entered_placed place (Some cell) content fits = fits
+pub entered_placed : (place : Position) (old : Option Cell) (content : Content) (style : Style) → IsTrue (fits_at place content) → IsTrue (entry_fits_at place (entered old content style))
+entered_placed place None content style fits = new_placed place content style fits
+entered_placed place (Some cell) content style fits = fits
 
 -- ---- fonts
 
-new_font : (content : Content) → IsTrue (entry_has_font (new_cell content (style_of None)))
-new_font Empty = refl
-new_font (Number number) = refl
-new_font (Boolean value) = refl
-new_font (Error error) = refl
-new_font (Text text) = refl
-new_font (Formula tree) = refl
-new_font (Dynamic tree) = refl
+new_font : (content : Content) (style : Style) → IsTrue (has_font style) → IsTrue (entry_has_font (new_cell content style))
+new_font Empty style font = refl
+new_font (Number number) style font = font
+new_font (Boolean value) style font = font
+new_font (Error error) style font = font
+new_font (Text text) style font = font
+new_font (Formula tree) style font = font
+new_font (Dynamic tree) style font = font
 
--- it has the font of the cell before, or the default one
-pub entered_font : (old : Option Cell) (content : Content) → IsTrue (entry_has_font old) → IsTrue (entry_has_font (entered old content (style_of old)))
-entered_font None content font = new_font content
-entered_font (Some cell) content font = font
+-- it has the font that its place shows
+pub entered_font : (old : Option Cell) (content : Content) (style : Style) → IsTrue (has_font style) → IsTrue (entry_has_font (entered old content style))
+entered_font None content style font = new_font content style font
+entered_font (Some cell) content style font = font
 
 list_at : (sheets : List Sheet) (index : ℕ) (sheet : Sheet) → slice_get sheets index ≡ Some sheet → list_all have_attributes sheets ≡ true → have_attributes sheet ≡ true
 list_at [] index sheet found all = absurd (cc)
 list_at (s ∷ sheets) zero sheet found all = let same : s ≡ sheet = cc in ap have_attributes (sym same) ∙ (both _ _ all).0
 list_at (s ∷ sheets) (suc index) sheet found all = list_at sheets index sheet found (both _ _ all).1
 
-fonts_of : (sheet : Sheet) → have_attributes sheet ≡ true → list_all (λ (entry : Position × Cell). has_font entry.1.style) (entries sheet.cells) ≡ true
+-- what rows, columns and cells have of their own
+record Fonts (sheet : Sheet) : Type 0 where
+  rows : list_all (λ (entry : ℤ × RowAttr). is_row entry.1) (entries sheet.rows) ≡ true
+  columns : list_all (λ (entry : ℤ × ColumnAttr). is_column entry.1) (entries sheet.columns) ≡ true
+  cells : list_all (λ (entry : Position × Cell). has_font entry.1.style) (entries sheet.cells) ≡ true
+
+fonts_of : (sheet : Sheet) → have_attributes sheet ≡ true → Fonts sheet
 unfolding have_attributes
 fonts_of sheet all =
     let row_test : Bool = list_all (λ (entry : ℤ × RowAttr). is_row entry.1) (entries sheet.rows) in
     let column_test : Bool = list_all (λ (entry : ℤ × ColumnAttr). is_column entry.1) (entries sheet.columns) in
     let font_test : Bool = list_all (λ (entry : Position × Cell). has_font entry.1.style) (entries sheet.cells) in
-    (both (row_test && column_test) font_test all).1
+    let one = both (row_test && column_test) font_test all in
+    let two = both row_test column_test one.0 in
+    record { rows = two.0; columns = two.1; cells = one.1 }
 
--- the entries of a well-formed workbook have a font
-pub found_font : (book : Book) → IsWellFormed book → (index : ℕ) (sheet : Sheet) → slice_get book.worksheets index ≡ Some sheet → (place : Position) → IsTrue (entry_has_font (fin.get sheet.cells place))
-found_font book rules index sheet found place = go (fin.get sheet.cells place) refl
+abbrev HasFont : Option Style → Type 0
+HasFont given = IfSome given (λ style. IsTrue (has_font style))
+
+either_font : (a b : Option Style) → HasFont a → HasFont b → HasFont (option_or a b)
+either_font None b one two = two
+either_font (Some style) b one two = one
+
+shown : (given : Option Style) → HasFont given → IsTrue (has_font (unwrap_or given default_style))
+shown None font = refl
+shown (Some style) font = font
+
+row_font : (attr : RowAttr) → is_row attr ≡ true → HasFont attr.style
+row_font attr all = go attr.style (both (not (is_plain_row attr) && is_size attr.height) (is_row_style attr.style) all).1
   where
-    fonts : list_all (λ (entry : Position × Cell). has_font entry.1.style) (entries sheet.cells) ≡ true
+    go : (given : Option Style) → is_row_style given ≡ true → HasFont given
+    go None is = tt
+    go (Some style) is = (both (has_font style) (not (is_default style)) is).0
+
+column_font : (attr : ColumnAttr) → is_column attr ≡ true → HasFont attr.style
+column_font attr all = go attr.style (both (not (is_plain_column attr) && is_width attr.width) (is_column_style attr.style) all).1
+  where
+    go : (given : Option Style) → is_column_style given ≡ true → HasFont given
+    go None is = tt
+    go (Some style) is = is
+
+-- the style that a place of a well-formed workbook shows has a font
+pub shown_font : (book : Book) → IsWellFormed book → (index : ℕ) (sheet : Sheet) → slice_get book.worksheets index ≡ Some sheet → (place : Position) → IsTrue (has_font (shown_style sheet place))
+shown_font book rules index sheet found place =
+    shown (own_style sheet place)
+    (either_font (cell_style (fin.get sheet.cells place)) (line_style sheet place) (of_cell (fin.get sheet.cells place) refl)
+    (either_font (row_style (fin.get sheet.rows place.row)) (column_style (fin.get sheet.columns place.column)) (of_row (fin.get sheet.rows place.row) refl) (of_column (fin.get sheet.columns place.column) refl)))
+  where
+    fonts : Fonts sheet
     fonts = fonts_of sheet (list_at book.worksheets index sheet found (well_formed_parts book rules).2)
 
-    go : (o : Option Cell) → fin.get sheet.cells place ≡ o → IsTrue (entry_has_font o)
-    go None is = refl
-    go (Some cell) is = entry_holds position_cmp position_total exact_positions (λ (entry : Position × Cell). has_font entry.1.style) sheet.cells fonts place cell is
+    of_cell : (o : Option Cell) → fin.get sheet.cells place ≡ o → HasFont (cell_style o)
+    of_cell None is = tt
+    of_cell (Some cell) is = entry_holds position_cmp position_total exact_positions (λ (entry : Position × Cell). has_font entry.1.style) sheet.cells fonts.cells place cell is
+
+    of_row : (o : Option RowAttr) → fin.get sheet.rows place.row ≡ o → HasFont (row_style o)
+    of_row None is = tt
+    of_row (Some attr) is = row_font attr (entry_holds int_cmp int_cmp_total exact_signed (λ (entry : ℤ × RowAttr). is_row entry.1) sheet.rows fonts.rows place.row attr is)
+
+    of_column : (o : Option ColumnAttr) → fin.get sheet.columns place.column ≡ o → HasFont (column_style o)
+    of_column None is = tt
+    of_column (Some attr) is = column_font attr (entry_holds int_cmp int_cmp_total exact_signed (λ (entry : ℤ × ColumnAttr). is_column entry.1) sheet.columns fonts.columns place.column attr is)

@@ -19,7 +19,9 @@ use Rattle.sheet_grid.specs.laws.CellEquals.{same_entry_decides}
 use Rattle.sheet_grid.specs.Sheet.{Sheet, with_cell}
 use Rattle.sheet_grid.specs.Book.{Book, index_of, with_sheet}
 use Rattle.sheet_history.specs.declared.Diff.TheVariants.{Cell as CellDiff}
-use Rattle.sheet_history.specs.Records.{EntryKey, key_cmp, entry_at, frame_of, changed_entry, Change, cell_diff, IsRecord}
+use Rattle.sheet_history.specs.Records.{EntryKey, EntryValue, key_cmp, entry_at, frame_of, changed_entry, Change, change_of, IsRecord}
+use Rattle.sheet_history.specs.Records.EntryKey.{CellKey}
+use Rattle.sheet_history.specs.Records.EntryValue.{CellValue}
 use Rattle.sheet_history.specs.laws.RecordLaws.{key_total, exact_keys}
 use Rattle.script_editor.specs.Inputs.{cell_change}
 use Rattle.script_editor.proofs.InputLaws.{get_set, get_set_other, index_of-with_sheet, unchanged}
@@ -31,9 +33,9 @@ map-set f (z ∷ zs) zero x y found same = let here : z ≡ x = cc in λ i. (sam
 map-set f (z ∷ zs) (suc i) x y found same = ap (λ ws. f z ∷ ws) (map-set f zs i x y found same)
 
 -- an entry did not change from itself
-changed_entry-same : (entry : Option (Option Cell)) → changed_entry entry entry ≡ None
+changed_entry-same : (entry : Option EntryValue) → changed_entry entry entry ≡ None
 changed_entry-same None = refl
-changed_entry-same (Some old) = ap (λ b. cond b None (Some (old, old))) ((same_entry_decides old old).1 refl)
+changed_entry-same (Some (CellValue old)) = ap (λ b. cond b None (Some (CellValue old, CellValue old))) ((same_entry_decides old old).1 refl)
 
 not_true : (b : Bool) → (b ≡ true → ⊥) → b ≡ false
 not_true true h = absurd (h refl)
@@ -48,7 +50,7 @@ module _ (w : Book) (index : ℕ) (sheet : Sheet) (place : Position) (entry : Op
   later = with_sheet w index changed
 
   abbrev here : EntryKey
-  here = record { sheet = sheet.id; place = place }
+  here = CellKey sheet.id place
 
   frame : frame_of later ≡ frame_of w
   frame =
@@ -58,9 +60,9 @@ module _ (w : Book) (index : ℕ) (sheet : Sheet) (place : Position) (entry : Op
 
   -- the change, if the entry is another one
   abbrev change : Bool → List Change
-  change same = cond same [] ((here, (fin.get sheet.cells place, entry)) ∷ [])
+  change same = cond same [] ((here, (CellValue (fin.get sheet.cells place), CellValue entry)) ∷ [])
 
-  made_of : (same : Bool) → cond same [] (CellDiff sheet.id place (fin.get sheet.cells place) entry ∷ []) ≡ map cell_diff (change same)
+  made_of : (same : Bool) → map change_of (cond same [] (CellDiff sheet.id place (fin.get sheet.cells place) entry ∷ [])) ≡ map Some (change same)
   made_of true = refl
   made_of false = refl
 
@@ -75,10 +77,10 @@ module _ (w : Book) (index : ℕ) (sheet : Sheet) (place : Position) (entry : Op
       let at : (sheet.id == id) ≡ true = ap (λ (s : Sheet). s.id == id) (sym (get_or_from_slice_get w.worksheets index sheet sheet found)) ∙ passes in
       (unsigned_Decides sheet.id id).0 at
 
-  before_here : entry_at w here ≡ Some (fin.get sheet.cells place)
+  before_here : entry_at w here ≡ Some (CellValue (fin.get sheet.cells place))
   before_here =
-      ap (λ o. option_map (λ (s : Sheet). fin.get s.cells place) (option_and_then (λ i. slice_get w.worksheets i) o)) own
-      ∙ ap (option_map (λ (s : Sheet). fin.get s.cells place)) found
+      ap (λ o. option_map (λ (s : Sheet). CellValue (fin.get s.cells place)) (option_and_then (λ i. slice_get w.worksheets i) o)) own
+      ∙ ap (option_map (λ (s : Sheet). CellValue (fin.get s.cells place))) found
 
   index_later : (id : ℕ) → index_of later id ≡ index_of w id
   index_later id = index_of-with_sheet w index id sheet changed found refl
@@ -86,42 +88,44 @@ module _ (w : Book) (index : ℕ) (sheet : Sheet) (place : Position) (entry : Op
   put_here : fin.get changed.cells place ≡ entry
   put_here = get-with_entry position_total sheet.cells place entry place ∙ ap (λ b. cond b entry (fin.get sheet.cells place)) ((eq_by_cmp_equiv position_total).refl place)
 
-  later_here : entry_at later here ≡ Some entry
+  later_here : entry_at later here ≡ Some (CellValue entry)
   later_here =
-      ap (λ o. option_map (λ (s : Sheet). fin.get s.cells place) (option_and_then (λ i. slice_get later.worksheets i) o)) (index_later sheet.id ∙ own)
-      ∙ ap (option_map (λ (s : Sheet). fin.get s.cells place)) (get_set w.worksheets index sheet changed found) ∙ ap Some put_here
+      ap (λ o. option_map (λ (s : Sheet). CellValue (fin.get s.cells place)) (option_and_then (λ i. slice_get later.worksheets i) o)) (index_later sheet.id ∙ own)
+      ∙ ap (option_map (λ (s : Sheet). CellValue (fin.get s.cells place))) (get_set w.worksheets index sheet changed found) ∙ ap (λ e. Some (CellValue e)) put_here
 
   -- every other entry stays
-  apart_at : (key : EntryKey) → (key ≢ here) → (o : Option ℕ) → index_of w key.sheet ≡ o
-      → option_map (λ (s : Sheet). fin.get s.cells key.place) (option_and_then (λ i. slice_get later.worksheets i) o)
-      ≡ option_map (λ (s : Sheet). fin.get s.cells key.place) (option_and_then (λ i. slice_get w.worksheets i) o)
-  apart_at key apart None is = refl
-  apart_at key apart (Some j) is = ⊎_elim
+  abbrev seen : Position → Sheet → EntryValue
+  seen q s = CellValue (fin.get s.cells q)
+
+  apart_at : (id : ℕ) (q : Position) → (CellKey id q ≢ here) → (o : Option ℕ) → index_of w id ≡ o
+      → option_map (seen q) (option_and_then (λ i. slice_get later.worksheets i) o) ≡ option_map (seen q) (option_and_then (λ i. slice_get w.worksheets i) o)
+  apart_at id q apart None is = refl
+  apart_at id q apart (Some j) is = ⊎_elim
       (λ same.
-      let id : sheet.id ≡ key.sheet = id_there key.sheet (is ∙ ap Some same) in
-      let off : eq_by_cmp position_cmp key.place place ≡ false =
-      not_true _ (λ tie. let one : key.place ≡ place = tells_apart exact_positions key.place place tie in apart (λ i. record { sheet = sym id i; place = one i })) in
-      ap (λ k. option_map (λ (s : Sheet). fin.get s.cells key.place) (slice_get later.worksheets k)) same
-      ∙ ap (option_map (λ (s : Sheet). fin.get s.cells key.place)) (get_set w.worksheets index sheet changed found)
-      ∙ ap Some (get-with_entry position_total sheet.cells place entry key.place ∙ ap (λ b. cond b entry (fin.get sheet.cells key.place)) off)
-      ∙ sym (ap (option_map (λ (s : Sheet). fin.get s.cells key.place)) found)
-      ∙ sym (ap (λ k. option_map (λ (s : Sheet). fin.get s.cells key.place) (slice_get w.worksheets k)) same))
-      (λ other. ap (option_map (λ (s : Sheet). fin.get s.cells key.place)) (get_set_other w.worksheets index j changed other))
+      let own_id : sheet.id ≡ id = id_there id (is ∙ ap Some same) in
+      let off : eq_by_cmp position_cmp q place ≡ false =
+      not_true _ (λ tie. let one : q ≡ place = tells_apart exact_positions q place tie in apart (λ i. CellKey (sym own_id i) (one i))) in
+      ap (λ k. option_map (seen q) (slice_get later.worksheets k)) same
+      ∙ ap (option_map (seen q)) (get_set w.worksheets index sheet changed found)
+      ∙ ap (λ e. Some (CellValue e)) (get-with_entry position_total sheet.cells place entry q ∙ ap (λ b. cond b entry (fin.get sheet.cells q)) off)
+      ∙ sym (ap (option_map (seen q)) found)
+      ∙ sym (ap (λ k. option_map (seen q) (slice_get w.worksheets k)) same))
+      (λ other. ap (option_map (seen q)) (get_set_other w.worksheets index j changed other))
       (cases_eq j index)
 
   others : (key : EntryKey) → (key ≢ here) → entry_at later key ≡ entry_at w key
-  others key apart =
-      ap (λ o. option_map (λ (s : Sheet). fin.get s.cells key.place) (option_and_then (λ i. slice_get later.worksheets i) o)) (index_later key.sheet)
-      ∙ apart_at key apart (index_of w key.sheet) refl
+  others (CellKey id q) apart =
+      ap (λ o. option_map (seen q) (option_and_then (λ i. slice_get later.worksheets i) o)) (index_later id)
+      ∙ apart_at id q apart (index_of w id) refl
 
   abbrev old : Option Cell
   old = fin.get sheet.cells place
 
   at_key : same_entry old entry ≡ false → (key : EntryKey) (tie : Bool) → eq_by_cmp key_cmp key here ≡ tie
-      → cond tie (Some (old, entry)) None ≡ changed_entry (entry_at w key) (entry_at later key)
+      → cond tie (Some (CellValue old, CellValue entry)) None ≡ changed_entry (entry_at w key) (entry_at later key)
   at_key differ key true e =
       let one : key ≡ here = tells_apart exact_keys key here e in
-      sym (ap (λ k. changed_entry (entry_at w k) (entry_at later k)) one ∙ (λ i. changed_entry (before_here i) (later_here i)) ∙ ap (λ b. cond b None (Some (old, entry))) differ)
+      sym (ap (λ k. changed_entry (entry_at w k) (entry_at later k)) one ∙ (λ i. changed_entry (before_here i) (later_here i)) ∙ ap (λ b. cond b None (Some (CellValue old, CellValue entry))) differ)
   at_key differ key false e =
       let apart : key ≢ here = λ one. tie_false (ap (λ k. eq_by_cmp key_cmp k here) one ∙ (eq_by_cmp_equiv key_total).refl here) e in
       sym (ap (λ o. changed_entry (entry_at w key) o) (others key apart) ∙ changed_entry-same (entry_at w key))

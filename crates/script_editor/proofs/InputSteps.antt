@@ -1,7 +1,9 @@
 -- An input that is accepted is a sound step.
-use Rattle.std.proofs.Common.{◌≡◌, ℕ, ℤ, List, Option, Some, Ok, ap, sym, subst, ◌∙◌}
-use Rattle.std.specs.Prelude.{IsTrue, slice_get, length}
+use Rattle.std.proofs.Common.{◌≡◌, ℕ, ℤ, List, Option, Some, Result, Ok, ap, sym, subst, ◌∙◌}
+use Rattle.std.specs.Prelude.{IsTrue, OnOk, slice_get, length}
 use Rattle.std.specs.FinMap as fin
+use Rattle.base_values.specs.Answers.{Changes}
+use Rattle.base_values.specs.declared.EditError.{EditError}
 use Rattle.base_values.specs.declared.EditError.TheVariants.{InvalidSheet}
 use Rattle.base_values.specs.declared.Position.{Position}
 use Rattle.base_values.specs.Places.{place_of}
@@ -10,7 +12,7 @@ use Rattle.formula_content.specs.declared.Content.{Content}
 use Rattle.formula_content.specs.Fitting.{fits_at}
 use Rattle.sheet_grid.specs.FittingCells.{entry_fits_at}
 use Rattle.sheet_grid.specs.laws.FittingLaws.{place_is, cells_fit-at}
-use Rattle.sheet_grid.specs.Sheet.{Sheet}
+use Rattle.sheet_grid.specs.Sheet.{Sheet, shown_style}
 use Rattle.sheet_grid.specs.Book.{Book, sheet_at, index_of}
 use Rattle.sheet_rules.specs.WellFormed.{IsWellFormed}
 use Rattle.sheet_rules.specs.laws.WellFormedLaws.{sheets_fit_from_well_formed}
@@ -18,18 +20,19 @@ use Rattle.sheet_history.specs.declared.Diff.{Diff}
 use Rattle.sheet_history.specs.Diffs.{made, taken_back}
 use Rattle.sheet_history.specs.Records.{IsRecord}
 use Rattle.sheet_history.specs.laws.RuleLaws.{well_formed-set}
-use Rattle.sheet_wire.specs.QueueBytes.{FitsList}
+use Rattle.script_editor.specs.Document.{Document, document_edit}
 use Rattle.script_editor.specs.Inputs.{cell_change, place_change}
 use Rattle.script_editor.specs.Machine.{State, changed, record_of, edit_of}
 use Rattle.script_editor.specs.Machine.Edit.{Input}
 use Rattle.script_editor.specs.Sound.{IsSendable, IsSoundStep, IsSound}
 use Rattle.script_editor.specs.BothWays.{GoesBothWays}
+use Rattle.script_editor.specs.Stands.{StandsFor, Moves}
 use Rattle.script_editor.proofs.Entering.{accepted, place_again, found_some, input_entry, input_book, input_record}
-use Rattle.script_editor.proofs.Fits.{entered_placed, entered_font, found_font}
+use Rattle.script_editor.proofs.Fits.{entered_placed, entered_font, shown_font}
 use Rattle.script_editor.proofs.InputLaws.{changes_forward, changes_back}
 use Rattle.script_editor.proofs.InputRecord.{changes_IsRecord}
 use Rattle.script_editor.proofs.Own.{own_index}
-use Rattle.script_editor.proofs.Sounds.{sound_edit, step_of}
+use Rattle.script_editor.proofs.Sounds.{sound_edit, step_of, edit_moves, on_ok_map, sendable_in}
 use Rattle.script_editor.proofs.Tested.{passes}
 
 module _ (w : Book) (index : ℕ) (row column : ℤ) (content : Content) (rules : IsWellFormed w) (may_stand : IsTrue (fits_at (record { row = row; column = column }) content))
@@ -59,10 +62,10 @@ module _ (w : Book) (index : ℕ) (row column : ℤ) (content : Content) (rules 
   before_placed = cells_fit-at w index sheet found (sheets_fit_from_well_formed w rules) place
 
   new_placed : IsTrue (entry_fits_at place new)
-  new_placed = entered_placed place (fin.get sheet.cells place) content (subst (λ p. IsTrue (fits_at p content)) (place_is row column place named) may_stand)
+  new_placed = entered_placed place (fin.get sheet.cells place) content (shown_style sheet place) (subst (λ p. IsTrue (fits_at p content)) (place_is row column place named) may_stand)
 
   later_rules : IsWellFormed after
-  later_rules = well_formed-set w index sheet place new new_placed (entered_font (fin.get sheet.cells place) content (found_font w rules index sheet found place)) found rules
+  later_rules = well_formed-set w index sheet place new new_placed (entered_font (fin.get sheet.cells place) content (shown_style sheet place) (shown_font w rules index sheet found place)) found rules
 
   input_both : GoesBothWays (Input index row column content) w after
   input_both = record {
@@ -88,4 +91,13 @@ sound_input index row column content s next sound may_stand sendable is = sound_
     step : (later : Book) → changed (Input index row column content) s.present ≡ Ok later → IsSoundStep (step_of (Input index row column content) s later)
     step later how =
         let both = inputs_go_both_ways index row column content s.present later sound.present may_stand how in
-        record { before = sound.present; after = both.rules; forth = both.forth; back = both.back; exact = both.exact; fits = sendable later how }
+        record { before = sound.present; after = both.rules; forth = both.forth; back = both.back; exact = both.exact; spellable = sendable later how }
+
+-- a call that puts a content in the document moves as the machine does
+pub input_moves : (index : ℕ) (row column : ℤ) (content : Content) (old new : Document) (result : Result (Unit {0}) EditError) → IsTrue (fits_at (record { row = row; column = column }) content)
+    → Changes result old new (document_edit (Input index row column content) old) → OnOk result (IsSendable (Input index row column content) old.book)
+    → (s : State) → StandsFor old s → Moves result old new s (edit_of (Input index row column content) s)
+input_moves index row column content old new result may_stand changes sendable s stands =
+    let edit = Input index row column content in
+    edit_moves edit old new s result stands changes
+    (on_ok_map result (λ carried next is. sound_input index row column content s next stands.sound may_stand (sendable_in old s edit stands carried) is) sendable)

@@ -4,8 +4,10 @@ mod InputLaws
 mod InputRecord
 mod InputSteps
 mod KeptRows
-mod Lists
 mod Own
+mod Recording
+mod Refusals
+mod Replaying
 mod RowPlans
 mod RowSteps
 mod Sounds

@@ -1,12 +1,11 @@
 -- Every step of the machine keeps it sound, and an editor's documents go along.
 use Rattle.std.proofs.Common.{◌≡◌, ℕ, ◌+◌, ◌<◌, ◌^◌, List, [], ◌∷◌, ◌++◌, map, length, Result, Ok, Err, refl, ap, sym, subst, ◌∙◌, arith}
-use Rattle.std.specs.Prelude.{OnOk, codes}
+use Rattle.std.specs.Prelude.{OnOk, IfErr, IsOk, codes}
 use Rattle.std.specs.List.{AllByRecursion}
-use Rattle.std.proofs.Math.Logic.{∥∥₁_elim, ∥∥₁_map}
 use Rattle.std.proofs.lemmas.List.{map_push}
-use Rattle.std.proofs.Props.{props}
 use Rattle.base_values.specs.declared.EditError.{EditError}
-use Rattle.base_values.specs.Answers.{Edits, and_then, map_ok}
+use Rattle.base_values.specs.declared.EditError.TheVariants.{NoMemory}
+use Rattle.base_values.specs.Answers.{Edits, Changes, and_then, map_ok}
 use Rattle.base_tables.specs.declared.Locale.TheVariants.{En}
 use Rattle.base_tables.specs.declared.Zone.TheVariants.{Utc}
 use Rattle.sheet_grid.specs.Book.{Book}
@@ -16,36 +15,40 @@ use Rattle.sheet_history.specs.declared.DiffType.TheVariants.{Undo, Redo}
 use Rattle.sheet_history.specs.declared.QueueDiffs.{QueueDiffs}
 use Rattle.sheet_history.specs.Diffs.{made, taken_back, forwarded, backed, follow, in_entry, replayed}
 use Rattle.sheet_history.specs.laws.ReplayLaws.{replayed_from-push}
-use Rattle.sheet_wire.specs.QueueBytes.{FitsList, FitsEntry, spell_queue}
-use Rattle.sheet_wire.specs.QueueLaws.{queue_again}
-use Rattle.script_editor.specs.declared.editor.Editor.{Editor}
+use Rattle.sheet_wire.specs.QueueBytes.{IsKnownEntry, IsKnownQueue, FitsQueue, spell_queue}
 use Rattle.script_editor.specs.Document.{Document, document, document_edit, document_undo, undo_at, document_redo, redo_at, recorded, undone, redone}
-use Rattle.script_editor.specs.Machine.{Edit, Step, Sent, State, start, changed, record_of, step_record, edited, edit_of, undo_from, undo_of, redo_from, redo_of, synced_of, entry_of}
-use Rattle.script_editor.specs.Sound.{IsSendable, IsSoundStep, Leads, Follows, IsSound}
-use Rattle.script_editor.specs.Reached.{IsOf, IsReached}
-use Rattle.script_editor.specs.Stands.{StandsFor, Moves, document_of, replayed_bytes}
+use Rattle.script_editor.specs.Machine.{Edit, Step, Sent, State, start, changed, record_of, step_record, edited, edit_of, undo_from, undo_of, redo_from, redo_of, synced_of, entry_of, entries_of}
+use Rattle.script_editor.specs.Sound.{IsSendable, IsSoundStep, Leads, Follows, Carries, IsSound}
+use Rattle.script_editor.specs.Spellable.{AreSpellable}
+use Rattle.script_editor.specs.Stands.{StandsFor, IsReached, Moves}
 use Rattle.script_editor.proofs.Tested.{passed}
 
 pub sound_start : IsSound start
-sound_start = record { present = well_formed-new (codes "workbook") En Utc; past = tt; undone = tt; replays = refl; fits = tt }
+sound_start = record { present = well_formed-new (codes "workbook") En Utc; past = tt; undone = tt; sync = record { spelled = refl; led = refl }; spellable = tt }
+
+-- ---- what is sent
 
 all_push : {A : Type 0} (P : A → Type 0) (xs : List A) (x : A) → AllByRecursion P xs → P x → AllByRecursion P (xs ++ x ∷ [])
 all_push P [] x all p = (p, tt)
 all_push P (y ∷ ys) x all p = (all.0, all_push P ys x all.1 p)
 
--- ---- what is sent
-
 module _ (s : State) (sound : IsSound s) (sent : Sent) where
-  -- one entry more leads on from the present workbook
-  replays_more : (later : Book) → follow sent.kind s.present (step_record sent.step) ≡ Ok later → replayed s.synced (map entry_of (s.sent ++ sent ∷ [])) ≡ Ok later
+  abbrev more : List QueueDiffs
+  more = map entry_of (s.sent ++ sent ∷ [])
+
+  replays_more : (later : Book) → follow sent.kind s.present (step_record sent.step) ≡ Ok later → replayed s.synced more ≡ Ok later
   replays_more later is =
       ap (replayed s.synced) (map_push entry_of s.sent sent)
       ∙ replayed_from-push 0 s.synced (map entry_of s.sent) (entry_of sent)
-      ∙ ap (λ r. and_then r (λ next. in_entry (0 + length (map entry_of s.sent)) (follow sent.kind next (step_record sent.step)))) sound.replays
+      ∙ ap (λ r. and_then r (λ next. in_entry (0 + length (map entry_of s.sent)) (follow sent.kind next (step_record sent.step)))) sound.sync.led
       ∙ ap (in_entry (0 + length (map entry_of s.sent))) is
 
-  fits_more : FitsList (step_record sent.step) → AllByRecursion FitsEntry (map entry_of (s.sent ++ sent ∷ []))
-  fits_more fits = subst (AllByRecursion FitsEntry) (sym (map_push entry_of s.sent sent)) (all_push FitsEntry (map entry_of s.sent) (entry_of sent) sound.fits fits)
+  -- one entry more leads on from the present workbook
+  carries_more : (later : Book) → follow sent.kind s.present (step_record sent.step) ≡ Ok later → Carries more (spell_queue more) s.synced later
+  carries_more later is = record { spelled = refl; led = replays_more later is }
+
+  spellable_more : AreSpellable (step_record sent.step) → IsKnownQueue more
+  spellable_more fits = subst IsKnownQueue (sym (map_push entry_of s.sent sent)) (all_push IsKnownEntry (map entry_of s.sent) (entry_of sent) sound.spellable fits)
 
 -- ---- edits
 
@@ -57,8 +60,8 @@ sound_edited edit s later sound step = record {
   present = step.after;
   past = (refl, step, sound.past);
   undone = tt;
-  replays = replays_more s sound (record { kind = Redo; step = step_of edit s later }) later step.forth;
-  fits = fits_more s sound (record { kind = Redo; step = step_of edit s later }) step.fits;
+  sync = carries_more s sound (record { kind = Redo; step = step_of edit s later }) later step.forth;
+  spellable = spellable_more s sound (record { kind = Redo; step = step_of edit s later }) step.spellable;
 }
 
 -- the state after an edit that is accepted is sound, if its step is
@@ -87,8 +90,8 @@ undo_sound s (step ∷ past) sound leads = record {
   present = leads.1.before;
   past = leads.2;
   undone = (refl, leads.1, subst (Follows s.undone) (sym leads.0) sound.undone);
-  replays = replays_more s sound (record { kind = Undo; step = step }) step.before (ap (λ book. backed book (step_record step)) (sym leads.0) ∙ leads.1.back);
-  fits = fits_more s sound (record { kind = Undo; step = step }) leads.1.fits;
+  sync = carries_more s sound (record { kind = Undo; step = step }) step.before (ap (λ book. backed book (step_record step)) (sym leads.0) ∙ leads.1.back);
+  spellable = spellable_more s sound (record { kind = Undo; step = step }) leads.1.spellable;
 }
 
 pub sound_undo : (s : State) → IsSound s → IsSound (undo_of s)
@@ -113,8 +116,8 @@ redo_sound s (step ∷ undone) sound follows = record {
   present = follows.1.after;
   past = (refl, follows.1, subst (Leads s.past) (sym follows.0) sound.past);
   undone = follows.2;
-  replays = replays_more s sound (record { kind = Redo; step = step }) step.after (ap (λ book. forwarded book (step_record step)) (sym follows.0) ∙ follows.1.forth);
-  fits = fits_more s sound (record { kind = Redo; step = step }) follows.1.fits;
+  sync = carries_more s sound (record { kind = Redo; step = step }) step.after (ap (λ book. forwarded book (step_record step)) (sym follows.0) ∙ follows.1.forth);
+  spellable = spellable_more s sound (record { kind = Redo; step = step }) follows.1.spellable;
 }
 
 pub sound_redo : (s : State) → IsSound s → IsSound (redo_of s)
@@ -134,31 +137,29 @@ document_redone s sound = redo_along s s.undone sound.undone
 -- ---- sync
 
 pub sound_sync : (s : State) → IsSound s → IsSound (synced_of s)
-sound_sync s sound = record { present = sound.present; past = sound.past; undone = sound.undone; replays = refl; fits = tt }
+sound_sync s sound = record { present = sound.present; past = sound.past; undone = sound.undone; sync = record { spelled = refl; led = refl }; spellable = tt }
 
 -- ---- from documents to states
 
 -- a call that edits the document as the machine's step does takes the editor to what stands for the next state
-pub moves : (old new : Editor) (s : State) (result : Result (Unit {0}) EditError) (f : Document → Result Document EditError) (expected : Result State EditError)
-    → StandsFor old s → Edits result (document_of old) (document_of new) (f (document_of old)) → f (document s) ≡ map_ok document expected
-    → OnOk result ((next : State) → expected ≡ Ok next → IsSound next) → Moves result new s expected
-moves old new s (Ok u) f expected stands edits along sound = go expected along sound
+pub moves : (old new : Document) (s : State) (result : Result (Unit {0}) EditError) (f : Document → Result Document EditError) (expected : Result State EditError)
+    → StandsFor old s → Edits result old new (f old) → IfErr result (λ error. error ≡ NoMemory → IsOk expected) → f (document s) ≡ map_ok document expected
+    → OnOk result ((next : State) → expected ≡ Ok next → IsSound next) → Moves result old new s expected
+moves old new s (Ok u) f expected stands edits memory along sound = go expected along sound
   where
-    led : f (document s) ≡ Ok (document_of new)
+    led : f (document s) ≡ Ok new
     led = ap f (sym stands.document) ∙ edits.done
 
-    go : (e : Result State EditError) → f (document s) ≡ map_ok document e → ((next : State) → e ≡ Ok next → IsSound next) → Moves (Ok u) new s e
+    go : (e : Result State EditError) → f (document s) ≡ map_ok document e → ((next : State) → e ≡ Ok next → IsSound next) → Moves (Ok u) old new s e
     go (Ok next) is keeps =
-        let same : Ok (document_of new) ≡ Ok (document next) = sym led ∙ is in
-        let documents : document_of new ≡ document next = cc in
-        record { done = record { document = documents; sound = keeps next refl }; refused = tt }
-    go (Err error) is keeps = let never : Ok (document_of new) ≡ Err error = sym led ∙ is in absurd cc
-moves old new s (Err error) f expected stands edits along sound = record {
+        let same : ◌≡◌ {A = Result Document EditError} (Ok new) (Ok (document next)) = sym led ∙ is in
+        let documents : new ≡ document next = cc in
+        record { done = record { document = documents; sound = keeps next refl }; refused = tt; memory = tt }
+    go (Err error) is keeps = let never : ◌≡◌ {A = Result Document EditError} (Ok new) (Err error) = sym led ∙ is in absurd cc
+moves old new s (Err error) f expected stands edits memory along sound = record {
   done = tt;
-  refused = (
-    record { document = edits.refused.0 ∙ stands.document; sound = stands.sound },
-    λ other. go expected (sym along ∙ ap f (sym stands.document) ∙ edits.refused.1 other),
-  );
+  refused = (edits.refused.0, λ other. go expected (sym along ∙ ap f (sym stands.document) ∙ edits.refused.1 other));
+  memory = memory;
 }
   where
     go : (e : Result State EditError) → map_ok document e ≡ Err error → e ≡ Err error
@@ -166,8 +167,8 @@ moves old new s (Err error) f expected stands edits along sound = record {
     go (Err other) is = cc
 
 -- what bytes can carry of the editor's workbook they can of the state's
-pub sendable_in : (editor : Editor) (s : State) (edit : Edit) → StandsFor editor s → IsSendable edit (document_of editor).book → IsSendable edit s.present
-sendable_in editor s edit stands sendable = subst (IsSendable edit) (ap (λ (d : Document). d.book) stands.document) sendable
+pub sendable_in : (doc : Document) (s : State) (edit : Edit) → StandsFor doc s → IsSendable edit doc.book → IsSendable edit s.present
+sendable_in doc s edit stands sendable = subst (IsSendable edit) (ap (λ (d : Document). d.book) stands.document) sendable
 
 -- what holds anyway holds of an accepted call too, and what an accepted call gives may be used for more
 pub on_ok : {A : Type 0} {T E : Type 0} (result : Result T E) → A → OnOk result A
@@ -181,39 +182,69 @@ on_ok_map (Err error) f holds = tt
 pub ok_next : (s next : State) → ◌≡◌ {A = Result State EditError} (Ok s) (Ok next) → IsSound s → IsSound next
 ok_next s next is sound = let same : s ≡ next = cc in subst IsSound same sound
 
+-- where a value is expected anyway, it may be out of memory
+of_value : {T A : Type 0} (result : Result T EditError) (value : A) → IfErr result (λ error. error ≡ NoMemory → IsOk {T = A} {E = EditError} (Ok value))
+of_value (Ok x) value = tt
+of_value (Err error) value = λ short. refl
+
+-- where the document is edited for sure, it may be out of memory
+pub changes_from : (result : Result (Unit {0}) EditError) (old new : Document) (expected : Result Document EditError) → IsOk expected → Edits result old new expected → Changes result old new expected
+changes_from (Ok u) old new expected is edits = record { done = edits.done; refused = tt; memory = tt }
+changes_from (Err error) old new expected is edits = record { done = tt; refused = edits.refused; memory = λ short. is }
+
+mapped_ok : {A B E : Type 0} (f : A → B) (r : Result A E) → IsOk (map_ok f r) → IsOk r
+mapped_ok f (Ok x) h = refl
+mapped_ok f (Err error) h = h
+
+-- a call that edits the document moves as the machine does
+pub edit_moves : (edit : Edit) (old new : Document) (s : State) (result : Result (Unit {0}) EditError) → StandsFor old s → Changes result old new (document_edit edit old)
+    → OnOk result ((next : State) → edit_of edit s ≡ Ok next → IsSound next) → Moves result old new s (edit_of edit s)
+edit_moves edit old new s result stands changes sound =
+    moves old new s result (document_edit edit) (edit_of edit s) stands (record { done = changes.done; refused = changes.refused }) (memory result changes.memory) (document_edited edit s) sound
+  where
+    memory : (r : Result (Unit {0}) EditError) → IfErr r (λ error. error ≡ NoMemory → IsOk (document_edit edit old)) → IfErr r (λ error. error ≡ NoMemory → IsOk (edit_of edit s))
+    memory (Ok u) h = tt
+    memory (Err error) h = λ short. mapped_ok document (edit_of edit s) (subst IsOk (ap (document_edit edit) stands.document ∙ document_edited edit s) (h short))
+
+-- a call that takes the newest list back in the document moves as the machine does
+pub undo_moves : (old new : Document) (result : Result (Unit {0}) EditError) → Edits result old new (document_undo old)
+    → (s : State) → StandsFor old s → Moves result old new s (Ok (undo_of s))
+undo_moves old new result edits s stands =
+    moves old new s result document_undo (Ok (undo_of s)) stands edits (of_value result (undo_of s)) (document_undone s stands.sound)
+    (on_ok result (λ next is. ok_next (undo_of s) next is (sound_undo s stands.sound)))
+
+-- and so does one that makes it again
+pub redo_moves : (old new : Document) (result : Result (Unit {0}) EditError) → Edits result old new (document_redo old)
+    → (s : State) → StandsFor old s → Moves result old new s (Ok (redo_of s))
+redo_moves old new result edits s stands =
+    moves old new s result document_redo (Ok (redo_of s)) stands edits (of_value result (redo_of s)) (document_redone s stands.sound)
+    (on_ok result (λ next is. ok_next (redo_of s) next is (sound_redo s stands.sound)))
+
+-- what is said of the document inside holds of the one that callers see
+pub moves_from : {T : Type 0} (result : Result T EditError) (inside seen new : Document) (step : State → Result State EditError) → inside ≡ seen
+    → ((s : State) → StandsFor inside s → Moves result inside new s (step s)) → (s : State) → StandsFor seen s → Moves result seen new s (step s)
+moves_from result inside seen new step is goes = subst (λ (d : Document). (s : State) → StandsFor d s → Moves result d new s (step s)) is goes
+
 -- ---- the states of a document
 
--- a document that a call left is of the next state, or of the same one
-moved : (old new : Document) (s : State) (result : Result (Unit {0}) EditError) (f : Document → Result Document EditError) (expected : Result State EditError)
-    → IsOf old s → Edits result old new (f old) → f (document s) ≡ map_ok document expected
-    → OnOk result ((next : State) → expected ≡ Ok next → IsSound next) → (next : State) × IsOf new next
-moved old new s (Ok u) f expected is edits along sound = go expected along sound
-  where
-    led : f (document s) ≡ Ok new
-    led = ap f (sym is.document) ∙ edits.done
+-- a document that a call left stands for the next state, or for the same one
+moved : {T : Type 0} (result : Result T EditError) (old new : Document) (s : State) (expected : Result State EditError)
+    → StandsFor old s → Moves result old new s expected → (next : State) × StandsFor new next
+moved (Ok u) old new s (Ok next) stands to = (next, to.done)
+moved (Ok u) old new s (Err error) stands to = absurd to.done
+moved (Err error) old new s expected stands to = (s, record { document = to.refused.0 ∙ stands.document; sound = stands.sound })
 
-    go : (e : Result State EditError) → f (document s) ≡ map_ok document e → ((next : State) → e ≡ Ok next → IsSound next) → (next : State) × IsOf new next
-    go (Ok next) same keeps =
-        let both : ◌≡◌ {A = Result Document EditError} (Ok new) (Ok (document next)) = sym led ∙ same in
-        let documents : new ≡ document next = cc in
-        (next, record { document = documents; sound = keeps next refl })
-    go (Err error) same keeps = absurd (let never : ◌≡◌ {A = Result Document EditError} (Ok new) (Err error) = sym led ∙ same in cc)
-moved old new s (Err error) f expected is edits along sound = (s, record { document = edits.refused.0 ∙ is.document; sound = is.sound })
+-- where it moves from each state that it stood for, it stands for some state again
+pub reached_on : {T : Type 0} (result : Result T EditError) (old new : Document) (step : State → Result State EditError)
+    → ((s : State) → StandsFor old s → Moves result old new s (step s)) → IsReached old → IsReached new
+reached_on result old new step goes is = moved result old new is.0 (step is.0) is.1 (goes is.0 is.1)
 
--- where each state leads on to a sound one, as the document does, the document is of some state again
-pub reached_on : (old new : Document) (result : Result (Unit {0}) EditError) (f : Document → Result Document EditError) (step : State → Result State EditError)
-    → Edits result old new (f old)
-    → ((s : State) → IsOf old s → (f (document s) ≡ map_ok document (step s)) × OnOk result ((next : State) → step s ≡ Ok next → IsSound next))
-    → IsReached old → IsReached new
-reached_on old new result f step edits goes reached =
-    ∥∥₁_map reached (λ is. moved old new is.0 result f (step is.0) is.1 edits (goes is.0 is.1).0 (goes is.0 is.1).1)
-
--- a document that is of some state has a well-formed workbook
+-- a document that stands for some state has a well-formed workbook
 pub reached_rules : (doc : Document) → IsReached doc → IsWellFormed doc.book
-reached_rules doc reached = ∥∥₁_elim reached (hlevel props) (λ is. subst IsWellFormed (sym (ap (λ (d : Document). d.book) is.1.document)) is.1.sound.present)
+reached_rules doc is = subst IsWellFormed (sym (ap (λ (d : Document). d.book) is.1.document)) is.1.sound.present
 
--- the document with an empty queue is of the state after a sync
-pub synced_document : (doc new : Document) (s : State) → IsOf doc s → new.book ≡ doc.book → new.undo ≡ doc.undo → new.redo ≡ doc.redo → new.queue ≡ [] → IsOf new (synced_of s)
+-- the document with an empty queue stands for the state after a sync
+pub synced_document : (doc new : Document) (s : State) → StandsFor doc s → new.book ≡ doc.book → new.undo ≡ doc.undo → new.redo ≡ doc.redo → new.queue ≡ [] → StandsFor new (synced_of s)
 synced_document doc new s is book undo redo queue = record {
   document = λ i. record {
     book = (book ∙ ap (λ (d : Document). d.book) is.document) i;
@@ -226,10 +257,12 @@ synced_document doc new s is book undo redo queue = record {
 
 -- ---- the bytes of a sync
 
-pub flushed_replays : (editor : Editor) (s : State) (bytes : List ℕ) → StandsFor editor s → length editor.book.queue < 2 ^ 63 → bytes ≡ spell_queue editor.book.queue → replayed_bytes s.synced bytes ≡ Ok s.present
-flushed_replays editor s bytes stands short is =
-    let queue : editor.book.queue ≡ map entry_of s.sent = ap (λ (d : Document). d.queue) stands.document in
-    let few : length (map entry_of s.sent) < 2 ^ 63 = subst (λ (q : List QueueDiffs). length q < 2 ^ 63) queue short in
-    ap (replayed_bytes s.synced) (is ∙ ap spell_queue queue)
-    ∙ ap (λ r. and_then r (replayed s.synced)) (queue_again (map entry_of s.sent) (record { short = omega arith; each = stands.sound.fits }))
-    ∙ stands.sound.replays
+pub flushed_carries : (doc : Document) (s : State) (bytes : List ℕ) → StandsFor doc s → bytes ≡ spell_queue doc.queue → Carries (entries_of s) bytes s.synced s.present
+flushed_carries doc s bytes stands is = record { spelled = is ∙ ap (λ (d : Document). spell_queue d.queue) stands.document; led = stands.sound.sync.led }
+
+-- what is queued can be spelled
+pub queued_known : (doc : Document) → IsReached doc → IsKnownQueue doc.queue
+queued_known doc is = subst IsKnownQueue (sym (ap (λ (d : Document). d.queue) is.1.document)) is.1.sound.spellable
+
+pub flushed_fits : (doc : Document) (s : State) → StandsFor doc s → FitsQueue doc.queue → FitsQueue (entries_of s)
+flushed_fits doc s stands fits = subst (λ (d : Document). FitsQueue d.queue) stands.document fits

@@ -16,15 +16,15 @@ use Rattle.sheet_grid.specs.Book.{Book, sheet_at, sheet_edit}
 use Rattle.sheet_history.specs.declared.Diff.{Diff}
 use Rattle.sheet_history.specs.declared.Diff.TheVariants.{Cell as CellDiff}
 
--- a new cell takes the style that its place shows; an empty input makes none
+-- a new cell, with the style that its place shows; an empty input makes none
 abbrev pub new_cell : Content → Style → Option Cell
 new_cell Empty style = None
 new_cell content style = Some (record { content = content; style = style })
 
--- a present cell keeps its style
+-- a present cell gets the content, and shows its own style as before
 abbrev pub entered : Option Cell → Content → Style → Option Cell
 entered None content style = new_cell content style
-entered (Some cell) content style = Some (record { content = content; style = cell.style })
+entered (Some cell) content style = Some (record { content = content; style = style })
 
 -- the sheet after the input of a content at a place
 abbrev pub with_input : Sheet → Content → Position → Sheet

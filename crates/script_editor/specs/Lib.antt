@@ -1,8 +1,9 @@
 pub mod Inputs
 pub mod RowEdits
+pub mod Spellable
 pub mod Machine
 pub mod Document
 pub mod Sound
 pub mod BothWays
-pub mod Reached
+pub mod Opened
 pub mod Stands

@@ -1,5 +1,5 @@
 -- The machine that keeps whole earlier and later workbooks.
-use Rattle.std.proofs.Common.{ℕ, ℤ, List, [], ◌∷◌, ◌++◌, Result}
+use Rattle.std.proofs.Common.{ℕ, ℤ, List, [], ◌∷◌, ◌++◌, map, Result}
 use Rattle.std.specs.Prelude.{codes}
 use Rattle.base_values.specs.declared.EditError.{EditError}
 use Rattle.base_values.specs.Answers.{map_ok}
@@ -13,6 +13,7 @@ use Rattle.sheet_history.specs.declared.Diff.{Diff}
 use Rattle.sheet_history.specs.declared.DiffType.{DiffType}
 use Rattle.sheet_history.specs.declared.DiffType.TheVariants.{Undo, Redo}
 use Rattle.sheet_history.specs.declared.QueueDiffs.{QueueDiffs}
+use Rattle.sheet_wire.specs.QueueBytes.{spell_queue}
 use Rattle.script_editor.specs.Inputs.{input_put, place_change}
 use Rattle.script_editor.specs.RowEdits.{rows_edited, rows_record}
 
@@ -95,6 +96,14 @@ redo_of s = redo_from s.undone s
 
 abbrev pub entry_of : Sent → QueueDiffs
 entry_of sent = record { kind = sent.kind; list = step_record sent.step }
+
+-- what was done since the last sync, as it is sent
+abbrev pub entries_of : State → List QueueDiffs
+entries_of s = map entry_of s.sent
+
+-- the bytes of a sync
+abbrev pub sync_bytes : State → List ℕ
+sync_bytes s = spell_queue (entries_of s)
 
 -- after a sync
 abbrev pub synced_of : State → State

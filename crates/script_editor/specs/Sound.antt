@@ -1,6 +1,5 @@
 -- What holds of every state that the machine reaches.
-use Rattle.std.proofs.Common.{◌≡◌, ℕ, List, [], ◌∷◌, map, Ok}
-use Rattle.std.specs.List.{AllByRecursion}
+use Rattle.std.proofs.Common.{◌≡◌, ℕ, List, [], ◌∷◌, Ok}
 use Rattle.base_axis.specs.Along.{rows}
 use Rattle.line_map.specs.declared.EditKind.{EditKind}
 use Rattle.sheet_grid.specs.Sheet.{Sheet}
@@ -8,10 +7,12 @@ use Rattle.sheet_grid.specs.Book.{Book, sheet_at}
 use Rattle.sheet_rules.specs.WellFormed.{IsWellFormed}
 use Rattle.sheet_lines.specs.Followed.{book_followed}
 use Rattle.sheet_history.specs.declared.Diff.{Diff}
+use Rattle.sheet_history.specs.declared.QueueDiffs.{QueueDiffs}
 use Rattle.sheet_history.specs.Diffs.{forwarded, backed, replayed}
 use Rattle.sheet_history.specs.Records.{IsRecord, line_record}
-use Rattle.sheet_wire.specs.QueueBytes.{FitsList, FitsEntry}
-use Rattle.script_editor.specs.Machine.{Edit, Step, State, changed, record_of, step_record, entry_of}
+use Rattle.sheet_wire.specs.QueueBytes.{IsKnownQueue, spell_queue}
+use Rattle.script_editor.specs.Spellable.{AreSpellable}
+use Rattle.script_editor.specs.Machine.{Edit, Step, State, changed, record_of, step_record, entries_of, sync_bytes}
 use Rattle.script_editor.specs.Machine.Edit.{Input, Rows}
 
 -- every sheet follows an edit of rows of the sheet at an index, and a list has that edit, with what taking it back does not give
@@ -26,9 +27,9 @@ abbrev pub IsExact : Edit → Book → Book → List Diff → Type 0
 IsExact (Input index row column content) earlier later list = IsRecord earlier later list
 IsExact (Rows index kind) earlier later list = IsRowsRecord index kind earlier later list
 
--- bytes can carry the record of an edit of a workbook, if it is accepted
+-- the record of an edit of a workbook can be spelled, if it is accepted
 abbrev pub IsSendable : Edit → Book → Type 0
-IsSendable edit book = (later : Book) → changed edit book ≡ Ok later → FitsList (record_of edit book later)
+IsSendable edit book = (later : Book) → changed edit book ≡ Ok later → AreSpellable (record_of edit book later)
 
 -- the record of a step takes its earlier workbook to its later one and back, and both are well-formed
 pub record IsSoundStep (step : Step) : Type 0 where
@@ -37,7 +38,7 @@ pub record IsSoundStep (step : Step) : Type 0 where
   pub forth : forwarded step.before (step_record step) ≡ Ok step.after
   pub back : backed step.after (step_record step) ≡ Ok step.before
   pub exact : IsExact step.edit step.before step.after (step_record step)
-  pub fits : FitsList (step_record step)
+  pub spellable : AreSpellable (step_record step)
 
 -- each step, the newest first, ends where the one after it begins, and the newest one at the present workbook
 abbrev pub Leads : List Step → Book → Type 0
@@ -49,13 +50,16 @@ abbrev pub Follows : List Step → Book → Type 0
 Follows [] book = Unit {0}
 Follows (step ∷ undone) book = (step.before ≡ book) × IsSoundStep step × Follows undone step.after
 
--- what was sent since the last sync leads from the workbook at that sync to the present one
-abbrev pub Replays : State → Type 0
-Replays s = replayed s.synced (map entry_of s.sent) ≡ Ok s.present
+-- bytes carry a workbook to a later one: they spell entries, and following these leads there
+pub record Carries (entries : List QueueDiffs) (bytes : List ℕ) (earlier later : Book) : Type 0 where
+  pub spelled : bytes ≡ spell_queue entries
+  pub led : replayed earlier entries ≡ Ok later
 
+-- the present workbook is well-formed, the steps that can be undone lead to it and those that were undone lead on from it, and
+-- the bytes of a sync carry the workbook of the last sync to it; each list that they hold can be spelled
 pub record IsSound (s : State) : Type 0 where
   pub present : IsWellFormed s.present
   pub past : Leads s.past s.present
   pub undone : Follows s.undone s.present
-  pub replays : Replays s
-  pub fits : AllByRecursion FitsEntry (map entry_of s.sent)
+  pub sync : Carries (entries_of s) (sync_bytes s) s.synced s.present
+  pub spellable : IsKnownQueue (entries_of s)

@@ -1,5 +1,5 @@
-ghost use Rattle.std.specs.Prelude.{◌≡◌, ◌≤◌, Ok, Some, [], ◌∷◌, take, IfOk, IfSome, IsTrue, OnOk, OnErr, IsOkUnless};
-ghost use Rattle.base_values.specs.Answers.{Answers, Edits, map_ok};
+ghost use Rattle.std.specs.Prelude.{◌≡◌, Ok, Some, [], ◌∷◌, take, IfOk, IfSome, IsTrue, OnOk, OnErr, IsOkUnless};
+ghost use Rattle.base_values.specs.Answers.{Returns, Changes, Edits, map_ok};
 ghost use Rattle.base_values.specs.declared.EditError.TheVariants.{InvalidRow, NoMemory};
 ghost use Rattle.base_values.specs.declared.Position.{Position as Place};
 ghost use Rattle.base_axis.specs.Along.{rows};
@@ -8,75 +8,75 @@ ghost use Rattle.formula_content.specs.KeptContent.{IsKeptContent};
 ghost use Rattle.sheet_grid.specs.Book.{sheet_edit};
 ghost use Rattle.sheet_grid.specs.FittingCells.{entry_fits_at, is_shallow_entry};
 ghost use Rattle.sheet_grid.specs.KeptCell.{IsKeptCell};
-ghost use Rattle.sheet_grid.specs.Sheet.{cell_put, style_of};
+ghost use Rattle.sheet_grid.specs.Sheet.{cell_put};
 ghost use Rattle.sheet_rules.specs.WellFormed.{IsWellFormed};
 ghost use Rattle.sheet_actions.specs.Planned.{lines_planned};
 ghost use Rattle.sheet_history.specs.Diffs.{IsKeptDiff, IsKeptList};
 ghost use Rattle.sheet_history.specs.declared.Diff.TheVariants.{Rows as RowsDiff};
 ghost use Rattle.sheet_history.specs.declared.DiffType.TheVariants.{Redo};
-ghost use Rattle.sheet_history.specs.Stacks.{undo_lists, redo_lists, spare};
-ghost use Rattle.sheet_wire.specs.Fitting.{IsKeptOfDiff};
-ghost use Rattle.sheet_wire.specs.QueueBytes.{FitsList};
-ghost use Rattle.sheet_wire.specs.RowsBytes.{IsKeptOfRows};
+ghost use Rattle.sheet_wire.specs.QueueBytes.{IsKnownDiff};
 ghost use Rattle.script_editor.specs.Document.{recorded, sending};
 ghost use Rattle.script_editor.specs.Inputs.{cell_change, entered, input_plan};
 ghost use Rattle.script_editor.specs.Machine.Edit.{Input, Rows};
+ghost use Rattle.script_editor.specs.Spellable.{AreSpellable};
 
 use base_axis::RowAxis;
+use base_shared::Shared;
 use base_styles::Style;
 use base_values::{EditError, Items, Position, copy_of, place_of};
 use line_map::{EditKind, LineEdit};
 use sheet_actions::{plan_delete, plan_insert};
-use sheet_grid::{Cell, Content, Workbook};
+use sheet_grid::{Cell, Content, DefaultStyle, Workbook};
 use sheet_history::{
     Diff, DiffList, DiffType, History, QueueDiffs, back_in_place, forward_in_place,
 };
 use sheet_lines::{KeptLines, line_edit};
-use sheet_wire::diff_fits;
 use std::alloc::Global;
 
 /// A workbook with the records of its steps, and with what other copies have not had yet.
 #[derive(Drop)]
 pub(crate) struct OpenBook {
     pub(crate) alloc: Global,
+    /// The default style, shared by all cells that have it.
+    pub(crate) plain: DefaultStyle,
     pub(crate) workbook: Workbook,
     pub(crate) history: History,
     pub(crate) queue: Items<QueueDiffs>,
 }
 
-/// The cell after the input of a content: a present cell keeps its style, a new one takes the
-/// default, and an empty input makes none.
-fn entered(alloc: Global, old: &Option<Cell>, content: Content) -> Result<Option<Cell>, EditError>
+/// The cell after the input of a content: it has the style that its place shows. An empty input
+/// where there is no cell makes none.
+fn entered(
+    alloc: Global,
+    old: &Option<Shared<Cell>>,
+    content: Content,
+    style: &Shared<Style>,
+) -> Result<Option<Shared<Cell>>, EditError>
     requires { IsKeptContent content }
-    ensures made { Answers result (Ok (entered old.now content (style_of old.now))) }
+    ensures made { Returns result (Ok (entered old.now content style.now)) }
     ensures kept { IfOk result (λ new. IfSome new IsKeptCell) }
     ensures fits { (place : Place) → IsTrue (fits_at place content) → IfOk result (λ new. IsTrue (entry_fits_at place new)) }
 {
-    if let Some(cell) = old {
-        let style = copy_of(&cell.style)?;
-        return Ok(Some(Cell { content, style }));
+    if old.is_none() {
+        if let Content::Empty = content {
+            return Ok(None);
+        }
     }
-    if let Content::Empty = content {
-        return Ok(None);
-    }
-    let style = Style::new(alloc)?;
-    Ok(Some(Cell { content, style }))
+    let style = copy_of(style)?;
+    Ok(Some(Shared::new(alloc, Cell { content, style })?))
 }
 
-/// A record of one diff. Bytes can carry it, or it is too large for them: that is want of memory.
+/// A record of one diff.
 fn list_of(alloc: Global, diff: Diff) -> Result<DiffList, EditError>
     requires kept { IsKeptDiff diff }
-    requires of_rows { IsKeptOfDiff diff }
-    ensures made { Answers result (Ok (diff ∷ [])) }
+    requires known { IsKnownDiff diff }
+    ensures made { Returns result (Ok (diff ∷ [])) }
     ensures kept { IfOk result IsKeptList }
-    ensures fits { IfOk result FitsList }
+    ensures spellable { IfOk result AreSpellable }
 {
-    if !diff_fits(&diff) {
-        return Err(EditError::NoMemory);
-    }
-    let mut list = Items::empty(alloc);
+    let mut list = Items::with_room(alloc, 1)?;
     list.push(diff)?;
-    Ok(list)
+    Ok(Shared::new(alloc, list)?)
 }
 
 /// The record of one cell: its change, or nothing where it stays.
@@ -84,19 +84,19 @@ fn cell_change(
     alloc: Global,
     sheet: u32,
     position: Position,
-    old: Option<Cell>,
-    new: Option<Cell>,
+    old: Option<Shared<Cell>>,
+    new: Option<Shared<Cell>>,
 ) -> Result<DiffList, EditError>
     requires old { IfSome old IsKeptCell }
     requires new { IfSome new IsKeptCell }
     requires old_shallow { IsTrue (is_shallow_entry old) }
     requires new_shallow { IsTrue (is_shallow_entry new) }
-    ensures made { Answers result (Ok (cell_change sheet position old new)) }
+    ensures made { Returns result (Ok (cell_change sheet position old new)) }
     ensures kept { IfOk result IsKeptList }
-    ensures fits { IfOk result FitsList }
+    ensures spellable { IfOk result AreSpellable }
 {
     if old == new {
-        return Ok(Items::empty(alloc));
+        return Ok(Shared::new(alloc, Items::empty(alloc))?);
     }
     list_of(
         alloc,
@@ -117,11 +117,12 @@ fn rows_change(
     kept: KeptLines,
 ) -> Result<DiffList, EditError>
     requires kept { IsKeptDiff (RowsDiff sheet edit kept) }
-    requires of_rows { IsKeptOfRows kept }
-    ensures made { Answers result (Ok (RowsDiff sheet edit kept ∷ [])) }
+    requires known { IsKnownDiff (RowsDiff sheet edit kept) }
+    ensures made { Returns result (Ok (RowsDiff sheet edit kept ∷ [])) }
     ensures kept { IfOk result IsKeptList }
-    ensures fits { IfOk result FitsList }
+    ensures spellable { IfOk result AreSpellable }
 {
+    let kept = Shared::new(alloc, kept)?;
     list_of(alloc, Diff::Rows { sheet, edit, kept })
 }
 
@@ -145,25 +146,26 @@ fn put_cell(
     sheet: u32,
     row: i32,
     column: i32,
-    entry: Option<Cell>,
+    entry: Option<Shared<Cell>>,
 ) -> Result<(), EditError>
     requires { IfSome entry IsKeptCell }
     ensures { Edits result workbook.old workbook.new (sheet_edit workbook.old sheet (λ old. cell_put old row column entry)) }
 {
-    workbook.put_cell(sheet, row, column, entry)
+    workbook.put_shared_cell(sheet, row, column, entry)
 }
 
-/// Makes room for a list on the stacks, and puts it in the queue as one that was made.
+/// Makes room for a list on the stacks, and puts it in the queue as one that was made. It holds the
+/// record together with the stacks.
 fn send(
     history: &mut History,
     queue: &mut Items<QueueDiffs>,
     list: &DiffList,
 ) -> Result<(), EditError>
     ensures sent { OnOk result (queue.new ≡ sending Redo list.now queue.old) }
-    ensures room { OnOk result (1 ≤ spare history.new) }
+    ensures room { OnOk result (IsTrue history.new.has_room) }
     ensures queue { OnErr result (queue.new ≡ queue.old) }
-    ensures undo { undo_lists history.new ≡ undo_lists history.old }
-    ensures redo { redo_lists history.new ≡ redo_lists history.old }
+    ensures undo { history.new.undo ≡ history.old.undo }
+    ensures redo { history.new.redo ≡ history.old.redo }
     ensures only { IsOkUnless result NoMemory }
 {
     history.reserve()?;
@@ -177,7 +179,7 @@ fn send(
 impl OpenBook {
     ghost use Rattle.sheet_history.specs.Records.{IsRowEdit, line_record};
     ghost use Rattle.script_editor.specs.Document.{cell_recorded, rows_recorded, document_edit, document_undo, document_redo};
-    ghost use Rattle.script_editor.specs.Reached.{document_in};
+    ghost use Rattle.script_editor.specs.Opened.{document_in};
     ghost use Rattle.script_editor.specs.Sound.{IsSendable};
 
     /// The entry that an input makes at a place, and its record.
@@ -187,19 +189,20 @@ impl OpenBook {
         row: i32,
         column: i32,
         content: Content,
-    ) -> Result<(Option<Cell>, DiffList), EditError>
+    ) -> Result<(Option<Shared<Cell>>, DiffList), EditError>
         requires kept { IsKeptContent content }
         requires fits { IsTrue (fits_at (record { row = row; column = column }) content) }
         requires rules { IsWellFormed self.now.workbook }
-        ensures made { Answers result (input_plan sheet row column content self.now.workbook) }
+        ensures made { Returns result (input_plan sheet row column content self.now.workbook) }
         ensures entry { IfOk result (λ plan. IfSome plan.0 IsKeptCell) }
         ensures record { IfOk result (λ plan. IsKeptList plan.1) }
-        ensures fits { IfOk result (λ plan. FitsList plan.1) }
+        ensures spellable { IfOk result (λ plan. AreSpellable plan.1) }
     {
         let found = self.workbook.worksheet(sheet)?;
         let place = place_of(row, column)?;
-        let old = found.cell(row, column)?;
-        let new = entered(self.alloc, &old, content)?;
+        let old = found.shared_cell(row, column)?;
+        let style = found.shown_style(row, column, &self.plain)?;
+        let new = entered(self.alloc, &old, content, style)?;
         let list = cell_change(self.alloc, found.get_sheet_id(), place, old, copy_of(&new)?)?;
         Ok((new, list))
     }
@@ -210,12 +213,12 @@ impl OpenBook {
         sheet: u32,
         row: i32,
         column: i32,
-        new: Option<Cell>,
+        new: Option<Shared<Cell>>,
         list: DiffList,
     ) -> Result<(), EditError>
         requires kept { IfSome new IsKeptCell }
         requires record { IsKeptList list }
-        ensures { Edits result (document_in self.old) (document_in self.new) (cell_recorded sheet row column new list (document_in self.old)) }
+        ensures document { Edits result (document_in self.old) (document_in self.new) (cell_recorded sheet row column new list (document_in self.old)) }
     {
         let length = self.queue.len();
         send(&mut self.history, &mut self.queue, &list)?;
@@ -241,7 +244,7 @@ impl OpenBook {
         requires kept { IsKeptContent content }
         requires fits { IsTrue (fits_at (record { row = row; column = column }) content) }
         requires rules { IsWellFormed self.now.workbook }
-        ensures document { Edits result (document_in self.old) (document_in self.new) (document_edit (Input sheet row column content) (document_in self.old)) }
+        ensures document { Changes result (document_in self.old) (document_in self.new) (document_edit (Input sheet row column content) (document_in self.old)) }
         ensures sendable { OnOk result (IsSendable (Input sheet row column content) self.old.workbook) }
     {
         let (new, list) = self.plan(sheet, row, column, content)?;
@@ -252,7 +255,7 @@ impl OpenBook {
     /// and in the queue.
     fn install(&mut self, later: Workbook, list: DiffList) -> Result<(), EditError>
         requires { IsKeptList list }
-        ensures { Edits result (document_in self.old) (document_in self.new) (Ok (recorded list (document_in self.old) later)) }
+        ensures document { Edits result (document_in self.old) (document_in self.new) (Ok (recorded list (document_in self.old) later)) }
     {
         send(&mut self.history, &mut self.queue, &list)?;
         self.workbook = later;
@@ -263,11 +266,11 @@ impl OpenBook {
     }
 
     /// Inserts rows in the sheet of an id, or deletes them, and puts the record on the undo stack
-    /// and in the queue. Only want of memory is refused.
+    /// and in the queue. Only `NoMemory` is refused.
     fn make_rows(&mut self, id: u32, edit: &LineEdit<RowAxis>) -> Result<(), EditError>
         requires { IsRowEdit edit.now.kind id self.now.workbook }
         ensures document { Edits result (document_in self.old) (document_in self.new) (Ok (rows_recorded edit.now.kind id (document_in self.old))) }
-        ensures fits { OnOk result (FitsList (line_record edit.now.kind id self.old.workbook)) }
+        ensures spellable { OnOk result (AreSpellable (line_record edit.now.kind id self.old.workbook)) }
     {
         let (later, kept) = line_edit(self.alloc, &self.workbook, id, edit)?;
         let list = rows_change(self.alloc, id, edit.kind, kept)?;
@@ -278,7 +281,7 @@ impl OpenBook {
     /// and in the queue. The refusals are those of `Editor::insert_rows` and `Editor::delete_rows`.
     pub(crate) fn edit_rows(&mut self, sheet: u32, kind: EditKind) -> Result<(), EditError>
         requires { IsWellFormed self.now.workbook }
-        ensures document { Edits result (document_in self.old) (document_in self.new) (document_edit (Rows sheet kind) (document_in self.old)) }
+        ensures document { Changes result (document_in self.old) (document_in self.new) (document_edit (Rows sheet kind) (document_in self.old)) }
         ensures sendable { OnOk result (IsSendable (Rows sheet kind) self.old.workbook) }
     {
         let (id, edit) = plan_rows(&self.workbook, sheet, kind)?;
@@ -287,7 +290,7 @@ impl OpenBook {
 
     /// Takes the newest list of the undo stack back in the workbook, and sends it.
     pub(crate) fn take_back(&mut self) -> Result<(), EditError>
-        ensures { Edits result (document_in self.old) (document_in self.new) (document_undo (document_in self.old)) }
+        ensures document { Edits result (document_in self.old) (document_in self.new) (document_undo (document_in self.old)) }
     {
         self.history.reserve()?;
         let Some(list) = self.history.last_undo() else {
@@ -303,14 +306,14 @@ impl OpenBook {
             return Err(error);
         }
         match self.history.undo() {
-            Ok(_) => Ok(()),
+            Ok(()) => Ok(()),
             Err(_) => unreachable!(),
         }
     }
 
     /// Makes the changes of the newest list of the redo stack again, and sends it.
     pub(crate) fn make_again(&mut self) -> Result<(), EditError>
-        ensures { Edits result (document_in self.old) (document_in self.new) (document_redo (document_in self.old)) }
+        ensures document { Edits result (document_in self.old) (document_in self.new) (document_redo (document_in self.old)) }
     {
         self.history.reserve()?;
         let Some(list) = self.history.last_redo() else {
@@ -326,7 +329,7 @@ impl OpenBook {
             return Err(error);
         }
         match self.history.redo() {
-            Ok(_) => Ok(()),
+            Ok(()) => Ok(()),
             Err(_) => unreachable!(),
         }
     }

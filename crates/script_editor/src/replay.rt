@@ -1,30 +1,36 @@
-ghost use Rattle.std.specs.Prelude.{◌≡◌, ◌≢◌, Ok, Err, IfErr, OnOk, OnErr, List};
-ghost use Rattle.base_values.specs.declared.EditError.TheVariants.{NoMemory, ParseDiffs};
+ghost use Rattle.std.specs.Prelude.{◌≡◌, Err, List};
+ghost use Rattle.base_values.specs.Answers.{Edits};
+ghost use Rattle.base_values.specs.declared.EditError.TheVariants.{ParseDiffs};
 ghost use Rattle.sheet_rules.specs.WellFormed.{IsWellFormed};
 ghost use Rattle.sheet_history.specs.declared.QueueDiffs.{QueueDiffs as Entry};
-ghost use Rattle.sheet_history.specs.Diffs.{IsFrontOf};
-ghost use Rattle.sheet_wire.specs.QueueBytes.{queue_of};
-ghost use Rattle.script_editor.specs.Stands.{replayed_bytes};
+ghost use Rattle.sheet_history.specs.Diffs.{Replays};
+ghost use Rattle.sheet_wire.specs.QueueBytes.{FitsQueue, spell_queue};
+ghost use Rattle.sheet_wire.specs.QueueBytes.{IsNoQueue};
 
 use base_values::EditError;
-use sheet_grid::Workbook;
+use sheet_grid::{DefaultStyle, Workbook};
 use sheet_history::replay_in_place;
 use sheet_wire::decode_queue;
 use std::alloc::Global;
 
-/// Takes a workbook along the bytes of a queue, entry by entry.
+/// Takes a workbook along the bytes of a queue, entry by entry. The cells that come share the
+/// default style.
 ///
-/// `ParseDiffs` where the bytes are no queue's; the workbook is then as it was. `DiffRefused` with
-/// the numbers of the first entry and diff that do not fit; the entries before it stand. After want
-/// of memory some first entries stand. The workbook stays well-formed.
-pub fn replay_bytes(alloc: Global, workbook: &mut Workbook, bytes: &[u8]) -> Result<(), EditError>
+/// `ParseDiffs` exactly where the bytes spell no queue; the workbook is then as it was. `DiffRefused`
+/// with the numbers of the first entry and diff that do not fit; exactly the entries before it stand.
+/// After `NoMemory` some first entries stand. The workbook stays well-formed.
+pub fn replay_bytes(
+    alloc: Global,
+    plain: &DefaultStyle,
+    workbook: &mut Workbook,
+    bytes: &[u8],
+) -> Result<(), EditError>
     requires { IsWellFormed workbook.old }
-    ensures done { OnOk result (replayed_bytes workbook.old bytes.now ≡ Ok workbook.new) }
-    ensures refused { IfErr result (λ error. error ≢ NoMemory → replayed_bytes workbook.old bytes.now ≡ Err error) }
-    ensures unread { OnErr result (queue_of bytes.now ≡ Err ParseDiffs → workbook.new ≡ workbook.old) }
-    ensures stands { OnErr result ((entries : List Entry) → queue_of bytes.now ≡ Ok entries → IsFrontOf entries workbook.old workbook.new) }
+    ensures replays { (entries : List Entry) → FitsQueue entries → bytes.now ≡ spell_queue entries → Replays result workbook.old workbook.new entries }
+    ensures unspelled { IsNoQueue bytes.now → Edits result workbook.old workbook.new (Err ParseDiffs) }
+    ensures parsed { result ≡ Err ParseDiffs → IsNoQueue bytes.now }
     ensures rules { IsWellFormed workbook.new }
 {
-    let queue = decode_queue(alloc, bytes)?;
+    let queue = decode_queue(alloc, plain.shared(), bytes)?;
     replay_in_place(alloc, workbook, queue.as_slice())
 }

@@ -1,15 +1,23 @@
-use Rattle.std.proofs.Common.{rules, refl, ap, ◌∙◌}
-use Rattle.std.proofs.Math.Logic.{∥∥₁_map}
-use Rattle.sheet_wire.specs.QueueBytes.{spell_queue}
+use Rattle.std.proofs.Common.{rules, refl, ap, sym, subst, ◌∙◌}
+use Rattle.sheet_wire.specs.QueueBytes.{spell_queue, FitsQueue, IsKnownQueue}
+use Rattle.script_editor.specs.Document.{Document}
 use Rattle.script_editor.specs.Machine.{synced_of}
-use Rattle.script_editor.specs.Stands.{document_of}
-use Rattle.script_editor.proofs.Sounds.{flushed_replays, synced_document}
+use Rattle.script_editor.specs.Opened.{document_in}
+use Rattle.script_editor.proofs.Sounds.{flushed_carries, flushed_fits, queued_known, synced_document}
 use Rattle.script_editor.proofs.editor.Editor.flush_send_queue.Goals as goal
 
-pub returns-clause-replays : goal.returns-clause-replays
-returns-clause-replays c = λ state stands.
-    flushed_replays c.args.self.now state c.in_ok-bytes.bytes.items stands c.as_slice.ensures.small
-    ((c.in_ok-bytes.ensures {u = _}).spelled ∙ ap spell_queue c.as_slice.ensures.items)
+pub encode_queue-requires : goal.encode_queue-requires
+encode_queue-requires c = record { known = subst IsKnownQueue (sym c.as_slice.ensures.items) (queued_known (document_in c.self.inside.book) c.self.invariant) }
+
+pub returns-clause-carries : goal.returns-clause-carries
+returns-clause-carries c = λ state stands.
+    flushed_carries c.args.self.now state c.in_ok-bytes.bytes.items stands
+    ((c.in_ok-bytes.ensures {u = _}).spelled ∙ ap spell_queue c.as_slice.ensures.items ∙ ap (λ (d : Document). spell_queue d.queue) c.self.view_is)
+
+pub returns-clause-fits : goal.returns-clause-fits
+returns-clause-fits c = λ state stands.
+    flushed_fits c.args.self.now state stands
+    (subst (λ (d : Document). FitsQueue d.queue) c.self.view_is (subst FitsQueue c.as_slice.ensures.items (c.in_ok-bytes.ensures {u = _}).fits))
 
 pub invariant_of-self : goal.invariant_of-self
-invariant_of-self c = record { reached = ∥∥₁_map c.args.self.now.reached (λ is. (synced_of is.0, synced_document (document_of c.args.self.now) _ is.0 is.1 refl refl refl (search rules))) }
+invariant_of-self c = let is = c.self.invariant in (synced_of is.0, synced_document (document_in c.self.inside.book) _ is.0 is.1 refl refl refl (search rules))

@@ -7,4 +7,4 @@ pub returns-clause-stands : goal.returns-clause-stands
 returns-clause-stands c = record { document = search rules; sound = sound_start }
 
 pub invariant_of-result : goal.invariant_of-result
-invariant_of-result c = record { reached = ∣ (start, record { document = search rules; sound = sound_start }) ∣₁ }
+invariant_of-result c = (start, record { document = search rules; sound = sound_start })

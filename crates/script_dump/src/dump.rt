@@ -13,6 +13,7 @@ ghost use Rattle.script_dump.specs.Dump.{flag_text, state_text, color_text, same
 use crate::english::english_text;
 use crate::lines::{push_columns, push_links, push_rows};
 use crate::text::{push_capital_hex, push_hex, push_line, push_signed, push_unsigned, push_word};
+use base_shared::Shared;
 use base_styles::{Color, Style, ThemeColor};
 use base_values::{EditError, Position};
 use cell_wire::encode_style;
@@ -94,10 +95,11 @@ pub(crate) fn push_style_bytes(
     Ok(())
 }
 
-fn push_style(alloc: Global, out: &mut Vec<u8>, style: &Style) -> Result<(), EditError>
+fn push_style(alloc: Global, out: &mut Vec<u8>, style: &Shared<Style>) -> Result<(), EditError>
     ensures text { OnOk result (out.new.items ≡ out.old.items ++ style_text style.now) }
     ensures memory { IsOkUnless result NoMemory }
 {
+    let style = style.get();
     if is_default(alloc, style)? {
         out.extend_from_slice(b"-")?;
         return Ok(());
@@ -139,7 +141,7 @@ fn push_content(
     Ok(())
 }
 
-fn push_cell(
+fn push_cell_line(
     alloc: Global,
     out: &mut Vec<u8>,
     place: Position,
@@ -152,11 +154,24 @@ fn push_cell(
     out.extend_from_slice(b"cell ")?;
     push_reference(alloc, out, place)?;
     out.push(b' ')?;
-    push_style(alloc, out, cell.style.get())?;
+    push_style(alloc, out, &cell.style)?;
     out.push(b' ')?;
     push_content(alloc, out, place, &cell.content)?;
     out.push(b'\n')?;
     Ok(())
+}
+
+fn push_cell(
+    alloc: Global,
+    out: &mut Vec<u8>,
+    place: Position,
+    cell: &Shared<Cell>,
+) -> Result<(), EditError>
+    requires { IsPlace place }
+    ensures text { OnOk result (out.new.items ≡ out.old.items ++ cell_line (place, cell.now)) }
+    ensures memory { IsOkUnless result NoMemory }
+{
+    push_cell_line(alloc, out, place, cell.get())
 }
 
 /// Writes the front of a sheet's line, up to its grid lines and a space.
@@ -208,7 +223,7 @@ fn push_cells(alloc: Global, out: &mut Vec<u8>, sheet: &Worksheet) -> Result<(),
     ensures memory { IsOkUnless result NoMemory }
 {
     for (place, cell) in sheet.cells() {
-        push_cell(alloc, out, *place, cell.get())?;
+        push_cell(alloc, out, *place, cell)?;
     }
     Ok(())
 }

@@ -28,7 +28,11 @@ fn push_size(alloc: Global, out: &mut Vec<u8>, size: Option<i32>) -> Result<(), 
 }
 
 /// Writes the style of a row or a column, and a dash where there is none.
-fn push_own_style(alloc: Global, out: &mut Vec<u8>, style: &Option<Shared<Style>>) -> Result<(), EditError>
+fn push_own_style(
+    alloc: Global,
+    out: &mut Vec<u8>,
+    style: &Option<Shared<Style>>,
+) -> Result<(), EditError>
     ensures text { OnOk result (out.new.items ≡ out.old.items ++ own_style_text style.now) }
     ensures memory { IsOkUnless result NoMemory }
 {

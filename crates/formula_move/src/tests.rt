@@ -92,11 +92,24 @@ fn shown(alloc: Global, tree: Node, by: DisplaceData<'_>) -> Result<String, Edit
     to_string_displaced(alloc, &tree, &context, &by, Locale::En, Language::En)
 }
 
+/// Whether a reference in C5 is printed so after a displacement.
+fn shows(
+    alloc: Global,
+    corner: Corner,
+    by: DisplaceData<'_>,
+    text: &str,
+) -> Result<bool, EditError> {
+    Ok(shown(alloc, Node::Reference(None, corner), by)?.as_str() == text)
+}
+
 #[test]
-fn displaces_references(rt: HostRuntime) -> Result<(), Fail> {
-    let alloc = rt.alloc();
-    let (a2, a3, a4) = (relative(-3, -2), relative(-2, -2), relative(-1, -2));
-    let (a5, b5, a6) = (relative(0, -2), relative(0, -1), relative(1, -2));
+fn displaces_references_by_lines(rt: HostRuntime) -> Result<(), Fail> {
+    let (a4, a5, b5, a6) = (
+        relative(-1, -2),
+        relative(0, -2),
+        relative(0, -1),
+        relative(1, -2),
+    );
     for (corner, by, text) in [
         (a5, rows(3, 2), "A7"),
         (absolute(2, 2), rows(3, 2), "$B$2"),
@@ -109,6 +122,18 @@ fn displaces_references(rt: HostRuntime) -> Result<(), Fail> {
         (b5, columns(2, -1), "#REF!"),
         (b5, columns(1, -1), "A5"),
         (b5, columns(3, 1), "B5"),
+        (a5, DisplaceData::None, "A5"),
+    ] {
+        assert!(rt; shows(rt.alloc(), corner, by, text)?);
+    }
+    Ok(())
+}
+
+#[test]
+fn displaces_references_by_cells_and_moves(rt: HostRuntime) -> Result<(), Fail> {
+    let (a2, a3, a4) = (relative(-3, -2), relative(-2, -2), relative(-1, -2));
+    let (a5, b5, a6) = (relative(0, -2), relative(0, -1), relative(1, -2));
+    for (corner, by, text) in [
         (a5, across(5, 1, 2), "C5"),
         (a6, across(5, 1, 2), "A6"),
         (a5, down(5, 1, -1), "#REF!"),
@@ -121,18 +146,9 @@ fn displaces_references(rt: HostRuntime) -> Result<(), Fail> {
         (a2, row_move(4, -2), "A3"),
         (b5, column_move(2, -1), "A5"),
         (a5, column_move(2, -1), "B5"),
-        (a5, DisplaceData::None, "A5"),
     ] {
-        let tree = Node::Reference(None, corner);
-        assert_eq!(rt; shown(alloc, tree, by)?.as_str(), text);
+        assert!(rt; shows(rt.alloc(), corner, by, text)?);
     }
-    let moved = displace_node(
-        alloc,
-        &Node::Reference(None, a5),
-        &cell_c5(alloc)?,
-        &rows(3, 2),
-    )?;
-    assert!(rt; same(&moved, &Node::Reference(None, relative(2, -2))));
     Ok(())
 }
 
@@ -188,5 +204,14 @@ fn displaces_the_named_sheet(rt: HostRuntime) -> Result<(), Fail> {
     ] {
         assert_eq!(rt; shown_of_data(alloc, sheet, row)?.as_str(), text);
     }
+    Ok(())
+}
+
+#[test]
+fn a_tree_is_displaced(rt: HostRuntime) -> Result<(), Fail> {
+    let alloc = rt.alloc();
+    let tree = Node::Reference(None, relative(0, -2));
+    let moved = displace_node(alloc, &tree, &cell_c5(alloc)?, &rows(3, 2))?;
+    assert!(rt; same(&moved, &Node::Reference(None, relative(2, -2))));
     Ok(())
 }

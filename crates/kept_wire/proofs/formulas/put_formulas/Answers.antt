@@ -33,7 +33,7 @@ loop-sheet-preserved c =
       tt,
       tt,
       written_many (spell_both spell_sheet_place spell_node) c.loop-sheet.out.items c.put_trees.new.out.items _ (under entry) (flat_map under c.next.new.self) c.in_ok-put_trees.ensures.spelled
-      (ap (λ (es : List (ℕ × FinMap position_cmp Node)). c.loop-sheet.out.items ++ flat_map (spell_both spell_sheet_place spell_node) (flat_map under es)) (sym step) ∙ c.loop-sheet.invariant.2),
+          (ap (λ (es : List (ℕ × FinMap position_cmp Node)). c.loop-sheet.out.items ++ flat_map (spell_both spell_sheet_place spell_node) (flat_map under es)) (sym step) ∙ c.loop-sheet.invariant.2),
       λ rest. c.loop-sheet.invariant.3 (subst (AllByRecursion (λ e. AreKnownTrees e.1 → AllByRecursion (Both IsSheetPlace FitsNode) (under e))) (sym step) (c.in_ok-put_trees.ensures.fits, rest)),
     )
 

@@ -29,7 +29,7 @@ loop-place-preserved c =
       tt,
       tt,
       written_on (spell_both spell_sheet_place spell_node) c.loop-place.out.items c.put_entry.new.out.items _ ((c.args.sheet, entry.0), entry.1) (map (λ e. ((c.args.sheet, e.0), e.1)) c.next.new.self) (map (λ e. ((c.args.sheet, e.0), e.1)) c.loop-place.place-iterator)
-      (ap (map (λ e. ((c.args.sheet, e.0), e.1))) step) c.in_ok-put_entry.ensures.spelled c.loop-place.invariant.2,
+          (ap (map (λ e. ((c.args.sheet, e.0), e.1))) step) c.in_ok-put_entry.ensures.spelled c.loop-place.invariant.2,
       λ rest. c.loop-place.invariant.3 (subst (AllByRecursion (λ e. IsKnownNode e.1 → FitsNode e.1)) (sym step) (c.in_ok-put_entry.ensures.fits, rest)),
     )
 

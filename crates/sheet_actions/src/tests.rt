@@ -180,15 +180,17 @@ fn holds(sheet: &Worksheet, row: i32, column: i32, content: &Content) -> Result<
     }
 }
 
+fn is_formula(content: &Content, tree: &Node) -> bool {
+    match content {
+        Content::Formula(held) => same(held.get(), tree),
+        _ => false,
+    }
+}
+
 fn holds_formula(sheet: &Worksheet, tree: Node) -> Result<bool, EditError> {
     match sheet.cell(1, 2)? {
-        Some(
-            Cell {
-                content: Content::Formula(held),
-                ..
-            },
-        ) => Ok(same(held.get(), &tree)),
-        _ => Ok(false),
+        Some(cell) => Ok(is_formula(&cell.content, &tree)),
+        None => Ok(false),
     }
 }
 

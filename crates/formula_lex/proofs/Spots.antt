@@ -39,26 +39,28 @@ row_no_colon text r e = go (past 58 text) refl
 
 -- ---- the second of two
 
-ends_map : {A B : Type 0} (f : A → B) (o : Option (A × Text))
-    → option_map (λ p. (f p.0, p.1)) (option_and_then if_ends o) ≡ option_and_then if_ends (option_map (λ p. (f p.0, p.1)) o)
+-- what is made of a value that is read
+abbrev mapped : {A B : Type 0} → (A → B) → Option (A × Text) → Option (B × Text)
+mapped f = option_map (λ p. (f p.0, p.1))
+
+ends_map : {A B : Type 0} (f : A → B) (o : Option (A × Text)) → mapped f (option_and_then if_ends o) ≡ option_and_then if_ends (mapped f o)
 ends_map f None = refl
 ends_map {A} {B} f (Some p) = go (stops goes_on_place p.1)
   where
-    go : (b : Bool) → option_map (λ (q : A × Text). (f q.0, q.1)) (cond b (Some p) None) ≡ cond b (Some (f p.0, p.1)) None
+    go : (b : Bool) → mapped f (cond b (Some p) None) ≡ cond b (Some (f p.0, p.1)) None
     go true = refl
     go false = refl
 
-map_map : {A B C : Type 0} (f : A → B) (g : B → C) (o : Option (A × Text))
-    → option_map (λ p. (g p.0, p.1)) (option_map (λ p. (f p.0, p.1)) o) ≡ option_map (λ p. (g (f p.0), p.1)) o
+map_map : {A B C : Type 0} (f : A → B) (g : B → C) (o : Option (A × Text)) → mapped g (mapped f o) ≡ mapped (λ a. g (f a)) o
 map_map f g None = refl
 map_map f g (Some p) = refl
 
 -- behind the first of two, what is read is the second
 two_second : {A C D : Type 0} (pair : A → A → C) (f : C → D) (reader : Reader A) (text : Text) (a : A) (rest : Text) → reader text ≡ Some (a, rest)
-    → option_map (λ p. (f p.0, p.1)) (two_at pair reader text) ≡ option_map (λ p. (f (pair a p.0), p.1)) (second_at reader rest)
+    → mapped f (two_at pair reader text) ≡ mapped (λ b. f (pair a b)) (second_at reader rest)
 two_second {A} {C} {D} pair f reader text a rest e =
-    ap (λ (o : Option (A × Text)). option_map (λ (p : C × Text). (f p.0, p.1)) (option_and_then if_ends (option_and_then (λ x. option_map (λ b. (pair x.0 b.0, b.1)) (behind 58 reader x.1)) o))) e
-    ∙ ends_map f (option_map (λ b. (pair a b.0, b.1)) (behind 58 reader rest))
+    ap (λ (o : Option (A × Text)). mapped f (option_and_then if_ends (option_and_then (λ (x : A × Text). mapped (pair x.0) (behind 58 reader x.1)) o))) e
+    ∙ ends_map f (mapped (pair a) (behind 58 reader rest))
     ∙ ap (option_and_then if_ends) (map_map (pair a) f (behind 58 reader rest))
     ∙ sym (ends_map (λ b. f (pair a b)) (behind 58 reader rest))
 
@@ -125,7 +127,7 @@ module _ (sheet : Option Text) where
 
   -- ---- each of them
 
-  cells_second : (text : Text) (m : CellMark) (rest : Text) → corner_at text ≡ Some (m, rest) → ranged (cells_at text) ≡ option_map (λ p. (t.Range sheet m p.0, p.1)) (second_corner_at rest)
+  cells_second : (text : Text) (m : CellMark) (rest : Text) → corner_at text ≡ Some (m, rest) → ranged (cells_at text) ≡ mapped (t.Range sheet m) (second_corner_at rest)
   unfolding cells_at second_corner_at
   cells_second text m rest e = two_second (λ a b. (a, b)) (λ (p : Marks). t.Range sheet p.0 p.1) corner_at text m rest e
 
@@ -143,13 +145,12 @@ module _ (sheet : Option Text) where
 
   -- a cell alone, or the first corner of a range
   corner_spot : (m : CellMark) (rest : Text)
-      → option_or (option_map (λ p. (t.Range sheet m p.0, p.1)) (second_corner_at rest)) (marked (if_ends (m, rest))) ≡ token_of (corner_begins m rest)
+      → option_or (mapped (t.Range sheet m) (second_corner_at rest)) (marked (if_ends (m, rest))) ≡ token_of (corner_begins m rest)
   unfolding corner_begins
   corner_spot m rest = go (second_corner_at rest) (stops goes_on_place rest)
     where
       go : (o : Option (CellMark × Text)) (b : Bool)
-          → option_or (option_map (λ p. (t.Range sheet m p.0, p.1)) o) (marked (cond b (Some (m, rest)) None))
-          ≡ token_of (option_or (option_map (λ p. (spot.Range m p.0, p.1)) o) (cond b (Some (spot.Cell m, rest)) None))
+          → option_or (mapped (t.Range sheet m) o) (marked (cond b (Some (m, rest)) None)) ≡ token_of (option_or (mapped (spot.Range m) o) (cond b (Some (spot.Cell m, rest)) None))
       go None true = refl
       go None false = refl
       go (Some p) b = refl
@@ -159,7 +160,7 @@ module _ (sheet : Option Text) where
   with_corner text m rest e columns rows =
       ap (λ (r : Option (Marks × Text)). option_or (ranged r) (marked (cell_at text))) (only_cells text columns rows)
       ∙ ap (λ (r : Option (Token × Text)). option_or r (marked (cell_at text))) (cells_second text m rest e)
-      ∙ ap (λ (c : Option (CellMark × Text)). option_or (option_map (λ p. (t.Range sheet m p.0, p.1)) (second_corner_at rest)) (marked (option_and_then if_ends c))) e
+      ∙ ap (λ (c : Option (CellMark × Text)). option_or (mapped (t.Range sheet m) (second_corner_at rest)) (marked (option_and_then if_ends c))) e
       ∙ corner_spot m rest
 
   corner_is : (text : Text) (c r : Line × Text) → column_at text ≡ Some c → row_at c.1 ≡ Some r → corner_at text ≡ Some (mark_of c.0 r.0, r.1)

@@ -8,6 +8,8 @@ mod arrays;
 mod cursor;
 mod fault;
 mod found;
+mod levels;
+mod operator;
 mod parameters;
 mod profile;
 mod read;

@@ -6,7 +6,8 @@ use Rattle.base_tables.specs.Language.{boolean_of_text}
 use Rattle.formula_tree.specs.declared.node.Node.{Node}
 use Rattle.formula_tree.specs.declared.operator.UnaryKind.TheVariants as unary
 use Rattle.formula_tree.specs.Corners.{lower_corner, higher_corner}
-use Rattle.formula_tree.specs.ParseError.{is_parse_error, parse_error_boolean, parse_error_number, parse_error_text, parse_error_reference, parse_error_range, parse_error_colon, parse_error_concatenate, parse_error_compare, parse_error_sum, parse_error_product, parse_error_power, parse_error_unary, parse_error_call, parse_error_named_call, parse_error_array, parse_error_name, parse_error_error, parse_error_spill, parse_error_lambda, parse_error_lambda_call, parse_error_implicit_intersection}
+use Rattle.formula_tree.specs.ParseError.{is_parse_error}
+use Rattle.formula_tree.specs.laws.ParseErrorEquations.{parse_error_boolean, parse_error_number, parse_error_text, parse_error_reference, parse_error_range, parse_error_colon, parse_error_concatenate, parse_error_compare, parse_error_sum, parse_error_product, parse_error_power, parse_error_unary, parse_error_call, parse_error_named_call, parse_error_array, parse_error_name, parse_error_error, parse_error_spill, parse_error_lambda, parse_error_lambda_call, parse_error_implicit_intersection}
 use Rattle.formula_grammar.specs.declared.operator.Infix.{Infix}
 use Rattle.formula_grammar.specs.declared.operator.Infix.TheVariants as between
 use Rattle.formula_grammar.specs.declared.operator.Postfix.{Postfix}

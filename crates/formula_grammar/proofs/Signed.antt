@@ -54,9 +54,9 @@ plain None = refl
 plain (Some p) = refl
 
 if_own : (under : ℕ) (op other : Prefix) → prefix_if under op ≡ Some other → (prefix_under op ≡ under) × (op ≡ other)
-if_own under op other e = go (prefix_under op == under) refl e
+if_own under op other e = go (under == prefix_under op) refl e
   where
-    go : (b : Bool) → (prefix_under op == under) ≡ b → cond b (Some op) None ≡ Some other → (prefix_under op ≡ under) × (op ≡ other)
+    go : (b : Bool) → (under == prefix_under op) ≡ b → cond b (Some op) None ≡ Some other → (prefix_under op ≡ under) × (op ≡ other)
     go true h f = (grind (arith, nat_tests), cc)
     go false h f = absurd cc
 

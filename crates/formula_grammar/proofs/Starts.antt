@@ -45,7 +45,7 @@ regrouped level a b c h = subst (StartsAt level) (sym (append_assoc a b c)) h
 -- a sign has a level above
 other_sign : (under : ℕ) (op : Prefix) → suc (prefix_under op) ≤ under → prefix_if under op ≡ None
 other_sign under op h =
-    let apart : (prefix_under op == under) ≡ false = ne_eqb (prefix_under op) under (λ same. omega arith) in
+    let apart : (under == prefix_under op) ≡ false = ne_eqb under (prefix_under op) (λ same. omega arith) in
     ap (λ (b : Bool). cond b (Some op) None) apart
 
 no_sign : (under : ℕ) (x : Token) → opens x ≤ under → prefix_of under x ≡ None

@@ -1,14 +1,8 @@
 -- How often a chain goes on is bounded by the depth of its tree.
 use Rattle.std.proofs.Common.{ℕ, suc, ◌<◌, arith}
 use Rattle.formula_tree.specs.Depth.{depth_of}
-<<<<<<< HEAD
-use Rattle.formula_tree.specs.laws.DepthEquations.{depth_colon, depth_concatenate, depth_compare, depth_sum, depth_product, depth_power, depth_unary, depth_spill, depth_lambda_call}
-use Rattle.formula_tree.specs.laws.DepthLaws.{depth_positive}
-use Rattle.formula_tree.specs.declared.operator.UnaryKind.TheVariants as unary
-=======
 use Rattle.formula_tree.specs.laws.DepthEquations.{depth_lambda_call}
 use Rattle.formula_tree.specs.laws.DepthLaws.{depth_positive}
->>>>>>> 5fc17b5 (Levels of expressions by one family (not yet proved))
 use Rattle.formula_grammar.specs.declared.profile.Profile.{Profile}
 use Rattle.formula_grammar.specs.Grammar as G
 use Rattle.formula_grammar.specs.Grammar.{Expression, Lambda, expression_tree, lambda_tree, arguments_trees}

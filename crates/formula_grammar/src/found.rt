@@ -171,10 +171,15 @@ impl FoundAll {
         }
     }
 
+    /// The trees, in exact room.
     pub fn into_nodes(self) -> Items<Node>
         ensures { result ≡ self }
     {
-        let FoundAll { nodes, depth: _ } = self;
+        let FoundAll {
+            mut nodes,
+            depth: _,
+        } = self;
+        nodes.fit();
         nodes
     }
 

@@ -1,7 +1,7 @@
 use formula_tree::{CompareKind, ProductKind, SumKind};
 
 /// An operator between two operands.
-#[derive(Clone, Copy, Debug, PartialEq, Eq)]
+#[derive(Clone, Copy)]
 pub enum Infix {
     Compare(CompareKind),
     /// `&`
@@ -15,7 +15,7 @@ pub enum Infix {
 }
 
 /// An operator behind its operand.
-#[derive(Clone, Copy, Debug, PartialEq, Eq)]
+#[derive(Clone, Copy)]
 pub enum Postfix {
     /// `%`
     Percent,
@@ -24,7 +24,7 @@ pub enum Postfix {
 }
 
 /// A sign before its operand.
-#[derive(Clone, Copy, Debug, PartialEq, Eq)]
+#[derive(Clone, Copy)]
 pub enum Prefix {
     /// `-`
     Minus,
@@ -35,7 +35,7 @@ pub enum Prefix {
 }
 
 /// An operator behind a first operand.
-#[derive(Clone, Copy, Debug, PartialEq, Eq)]
+#[derive(Clone, Copy)]
 pub enum Operator {
     Infix(Infix),
     Postfix(Postfix),

@@ -94,7 +94,7 @@ operator_at under (x ∷ ts) = with_rest ts (option_and_then (own_operator under
 
 -- the sign with this level under it that the token is
 abbrev pub prefix_if : ℕ → Prefix → Option Prefix
-prefix_if under op = if prefix_under op == under then Some op else None
+prefix_if under op = if under == prefix_under op then Some op else None
 
 abbrev pub prefix_of : ℕ → Token → Option Prefix
 prefix_of under t.Minus = prefix_if under prefix.Minus
@@ -221,7 +221,14 @@ range_at place sheet first second (Ok start) (Ok stop) = Some (range_node place 
 range_at place sheet first second (Ok start) (Err e) = None
 range_at place sheet first second (Err e) stop = None
 
--- ---- the rules. inner reads a whole one nest further in, with so many parentheses left to open.
+-- ---- the rules
+
+-- behind an operator, with an operand of the level under it
+abbrev pub turn : Parser Node → Operator → Node → Parser Node
+turn operand (operator.Infix op) left = do right ← operand; make (infix_node op left right)
+turn operand (operator.Postfix op) left = make (postfix_node op left)
+
+-- inner reads a whole one nest further in, with so many parentheses left to open.
 
 module _ (p : Profile) (inner : ℕ → Parser Node) (room : ℕ) where
   unfoldable pub enclosed : Parser Node
@@ -275,11 +282,6 @@ module _ (p : Profile) (inner : ℕ → Parser Node) (room : ℕ) where
   primary (t.OpenParenthesis ∷ ts) = enclosed ts
   primary (t.OpenBrace ∷ ts) = array p ts
   primary _ = None
-
-  -- behind an operator, with an operand of the level under it
-  abbrev pub turn : Parser Node → Operator → Node → Parser Node
-  turn operand (operator.Infix op) left = do right ← operand; make (infix_node op left right)
-  turn operand (operator.Postfix op) left = make (postfix_node op left)
 
   unfoldable pub expression : ℕ → Parser Node
   expression zero = primary

@@ -1,5 +1,5 @@
 -- The corners of a tree that is carried along an edit lie inside the sheet, and in order.
-use Rattle.std.proofs.Common.{◌≡◌, ℤ, pos, Bool, true, false, Option, Some, None, refl, arith, ◌∙◌}
+use Rattle.std.proofs.Common.{◌≡◌, ℕ, ℤ, pos, Bool, true, false, List, Option, Some, None, refl, arith, ◌∙◌}
 use Rattle.std.specs.Prelude.{IfSome, ◌&&◌, if◌then◌else◌}
 use Rattle.std.proofs.lemmas.Int.{ints}
 use Rattle.base_values.specs.declared.Position.{Position}
@@ -8,6 +8,8 @@ use Rattle.base_axis.specs.Along.{Along, IsAxis}
 use Rattle.formula_tree.specs.declared.Corner.{Corner}
 use Rattle.formula_tree.specs.Corners.{corner_row, corner_column, is_inside, corner_at}
 use Rattle.formula_tree.specs.laws.CornerLaws.{corner_row-corner_to, corner_column-corner_to}
+use Rattle.formula_tree.specs.declared.Node.{Node}
+use Rattle.formula_tree.specs.Moved.{moved}
 use Rattle.formula_tree.specs.Placed.{is_placed}
 use Rattle.formula_tree.specs.laws.PlacedLaws.{placed-moved}
 use Rattle.line_map.specs.declared.edit.EditKind.{EditKind}
@@ -42,13 +44,17 @@ landed to corner (Some place) h =
     (λ i. is_line (pos 1048576) (corner_row-corner_to to corner.absolute_row corner.absolute_column place i) && is_line (pos 16384) (corner_column-corner_to to corner.absolute_row corner.absolute_column place i))
     ∙ are_lines place.row place.column h.0 h.1
 
+-- the tree of a formula that goes from a place to a place
+pub placed-following : (a : Along) → IsAxis a → (e : EditKind) (from to : Position) (own edited : List ℕ) (tree : Node) → is_placed to (moved to (following a e from to own edited) tree) ≡ true
+placed-following a l e from to own edited tree = placed-moved true from to (following a e from to own edited) (record {
+  reference = λ sheet corner _. landed to corner _ (target_inside a l e from _ corner);
+  first = λ sheet first second _. landed to first _ (target_inside a l e from _ first);
+  second = λ sheet first second _. landed to second _ (target_inside a l e from _ second);
+}) tree refl
+
 placed_at : (a : Along) → IsAxis a → (e : EditKind) (t : TreeAt) (to : Position) → is_placed to (node_at a e t to) ≡ true
 unfolding node_at
-placed_at a l e t to = placed-moved true t.place to (following a e t.place to t.sheet t.edited) (record {
-  reference = λ sheet corner _. landed to corner _ (target_inside a l e t.place _ corner);
-  first = λ sheet first second _. landed to first _ (target_inside a l e t.place _ first);
-  second = λ sheet first second _. landed to second _ (target_inside a l e t.place _ second);
-}) t.node refl
+placed_at a l e t to = placed-following a l e t.place to t.sheet t.edited t.node
 
 placed_after : (a : Along) → IsAxis a → (e : EditKind) (t : TreeAt) (to : Position) (o : Option Position) → o ≡ Some to → is_placed to (carried a e t o).node ≡ true
 placed_after a l e t to None h = absurd (cc)

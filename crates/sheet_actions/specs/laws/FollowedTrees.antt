@@ -16,7 +16,7 @@ use Rattle.line_map.specs.Trees.{following}
 use Rattle.sheet_rules.specs.laws.EntryLaws.{both}
 use Rattle.sheet_lines.specs.Way.{Way}
 use Rattle.sheet_lines.specs.Followed.{tree_followed, content_followed}
-use Rattle.sheet_actions.specs.FollowedPlaced.{placed-following}
+use Rattle.line_map.specs.laws.TreePlaces.{placed-following}
 use Rattle.sheet_lines.specs.laws.MovedNumbers.{numbers-moved}
 
 -- two tests pass together

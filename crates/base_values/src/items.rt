@@ -27,6 +27,7 @@ impl<T> Model for Items<T> {
 }
 
 impl<T> Items<T> {
+    /// The list of a vector's items. It takes no memory.
     pub fn new(items: Vec<T>) -> Items<T>
         ensures { result ≡ items.items }
     {
@@ -72,12 +73,14 @@ impl<T> Items<T> {
         *self.items.allocator()
     }
 
+    /// How many items there are.
     pub fn len(&self) -> usize
         ensures { result ≡ length self.now }
     {
         self.items.len()
     }
 
+    /// Lends the item at an index from 0, if there is one.
     pub fn get(&self, at: usize) -> Option<&T>
         ensures { option_copied result ≡ slice_get self.now at }
     {

@@ -38,6 +38,7 @@ impl<V> Model for PlaceMap<V> {
 }
 
 impl<V> PlaceMap<V> {
+    /// A map without an entry. It takes no memory.
     pub fn new(alloc: Global) -> PlaceMap<V>
         ensures { result ≡ fin.empty }
     {
@@ -48,6 +49,7 @@ impl<V> PlaceMap<V> {
 }
 
 impl<V: Drop> PlaceMap<V> {
+    /// Sets the entry of a place, and returns the one before. `NoMemory` leaves the map as it was.
     pub fn insert(&mut self, place: Position, value: V) -> Result<Option<V>, EditError>
         requires { IsPlace place }
         ensures before { IfOk result (λ before. before ≡ fin.get self.old place) }
@@ -58,6 +60,7 @@ impl<V: Drop> PlaceMap<V> {
         Ok(self.map.insert(place, value)?)
     }
 
+    /// Takes the entry of a place away, and returns it. It takes no memory.
     pub fn remove(&mut self, place: Position) -> Option<V>
         ensures before { result ≡ fin.get self.old place }
         ensures removed { self.new ≡ fin.remove self.old place }
@@ -85,6 +88,7 @@ impl<V: Drop> PlaceMap<V> {
         Ok(())
     }
 
+    /// Lends the entry of a place, if it has one.
     pub fn get(&self, place: Position) -> Option<&V>
         ensures { option_copied result ≡ fin.get self.now place }
     {
@@ -101,7 +105,8 @@ impl<V> PlaceMap<V> {
         self.map.iter()
     }
 
-    /// The places that have an entry, in ascending order.
+    /// The places that have an entry, in ascending order: by row, then by column. Returns `NoMemory`
+    /// where there is no room for the list.
     pub fn places(&self, alloc: Global) -> Result<Items<Position>, EditError>
         ensures places { IfOk result (λ places. places ≡ fin.keys self.now) }
         ensures inside { IfOk result (All IsPlace) }

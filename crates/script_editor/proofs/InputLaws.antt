@@ -17,7 +17,8 @@ use Rattle.base_values.specs.Answers.{and_then, map_ok, ok_or, value_of}
 use Rattle.base_values.specs.KeyMap.{with_entry, get-with_entry, with_entry-back}
 use Rattle.base_values.specs.Places.{place_of, position_cmp, position_total, exact_positions}
 use Rattle.sheet_grid.specs.declared.Cell.{Cell}
-use Rattle.sheet_grid.specs.CellEquals.{same_entry, same_entry_decides}
+use Rattle.sheet_grid.specs.SameEntry.{same_entry}
+use Rattle.sheet_grid.specs.laws.CellEquals.{same_entry_decides}
 use Rattle.sheet_grid.specs.Sheet.{Sheet, with_cell, cell_put}
 use Rattle.sheet_grid.specs.Book.{Book, index_of, sheet_edit, with_sheet}
 use Rattle.sheet_grid.specs.FittingCells.{entry_fits_at}

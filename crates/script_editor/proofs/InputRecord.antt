@@ -13,7 +13,8 @@ use Rattle.base_values.specs.declared.Position.{Position}
 use Rattle.base_values.specs.KeyMap.{get-with_entry}
 use Rattle.base_values.specs.Places.{position_cmp, position_total, exact_positions}
 use Rattle.sheet_grid.specs.declared.Cell.{Cell}
-use Rattle.sheet_grid.specs.CellEquals.{same_entry, same_entry_decides}
+use Rattle.sheet_grid.specs.SameEntry.{same_entry}
+use Rattle.sheet_grid.specs.laws.CellEquals.{same_entry_decides}
 use Rattle.sheet_grid.specs.Sheet.{Sheet, with_cell}
 use Rattle.sheet_grid.specs.Book.{Book, index_of, with_sheet}
 use Rattle.sheet_history.specs.declared.Diff.TheVariants.{Cell as CellDiff}

@@ -9,7 +9,7 @@ use Rattle.sheet_grid.specs.declared.Cell.{Cell}
 use Rattle.formula_content.specs.declared.Content.{Content}
 use Rattle.formula_content.specs.Fitting.{fits_at}
 use Rattle.sheet_grid.specs.FittingCells.{entry_fits_at}
-use Rattle.sheet_grid.specs.FittingLaws.{place_is, cells_fit-at}
+use Rattle.sheet_grid.specs.laws.FittingLaws.{place_is, cells_fit-at}
 use Rattle.sheet_grid.specs.Sheet.{Sheet}
 use Rattle.sheet_grid.specs.Book.{Book, sheet_at, index_of}
 use Rattle.sheet_rules.specs.WellFormed.{IsWellFormed}

@@ -10,7 +10,7 @@ use Rattle.base_styles.specs.declared.Style.{Style}
 use Rattle.sheet_grid.specs.declared.Cell.{Cell}
 use Rattle.formula_content.specs.declared.Content.{Content}
 use Rattle.formula_content.specs.declared.Content.TheVariants.{Empty}
-use Rattle.sheet_grid.specs.CellEquals.{same_entry}
+use Rattle.sheet_grid.specs.SameEntry.{same_entry}
 use Rattle.sheet_grid.specs.Sheet.{Sheet, with_cell, shown_style}
 use Rattle.sheet_grid.specs.Book.{Book, sheet_at, sheet_edit}
 use Rattle.sheet_history.specs.declared.Diff.{Diff}

@@ -1,12 +1,8 @@
 pub mod Book
-pub mod CellEquals
 pub mod Dimension
 pub mod FittingCells
-pub mod FittingLaws
-pub mod FittingProps
 pub mod KeptCell
-pub mod LineEquals
 pub mod Lines
+pub mod SameEntry
 pub mod Sheet
-pub mod SheetEquals
-pub mod StateEquals
+pub mod laws

@@ -25,7 +25,7 @@ impl Clone for Cell {
 }
 
 impl Exact for Cell {
-    ghost use Rattle.sheet_grid.specs.CellEquals.{cell_equals};
+    ghost use Rattle.sheet_grid.specs.laws.CellEquals.{cell_equals};
 
     ghost copies = { λ a b h. h };
 

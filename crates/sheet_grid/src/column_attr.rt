@@ -37,7 +37,7 @@ impl ColumnAttr {
 
 impl Exact for ColumnAttr {
     ghost use Rattle.std.proofs.Common.{rules};
-    ghost use Rattle.sheet_grid.specs.LineEquals.{column_attr_equals};
+    ghost use Rattle.sheet_grid.specs.laws.LineEquals.{column_attr_equals};
 
     ghost copies = { λ a b h. Prim.search rules };
 

@@ -4,7 +4,7 @@ ghost use Rattle.sheet_grid.specs.Dimension.{IsLeastRectangle};
 
 use crate::cell::Cell;
 use base_shared::Shared;
-use base_values::Position;
+use base_values::{Exact, Position};
 use std::collections::btree_map::Iter;
 
 /// A rectangle of places of a sheet, by its first and last row and column, each counted from 1.
@@ -54,4 +54,13 @@ impl WorksheetDimension {
         }
         found
     }
+}
+
+impl Exact for WorksheetDimension {
+    ghost use Rattle.std.proofs.Common.{rules};
+    ghost use Rattle.sheet_grid.specs.laws.DimensionEquals.{dimension_equals};
+
+    ghost copies = { λ a b h. Prim.search rules };
+
+    ghost equals = { dimension_equals };
 }

@@ -8,6 +8,7 @@
 mod cell;
 mod column_attr;
 mod dimension;
+mod line_attr;
 mod link;
 mod row_attr;
 mod state;
@@ -18,6 +19,7 @@ pub use cell::Cell;
 pub use column_attr::ColumnAttr;
 pub use dimension::WorksheetDimension;
 pub use formula_content::Content;
+pub use line_attr::LineAttr;
 pub use link::Link;
 pub use row_attr::RowAttr;
 pub use state::SheetState;

@@ -9,7 +9,7 @@ pub struct Link {
 
 impl Exact for Link {
     ghost use Rattle.std.proofs.Common.{rules};
-    ghost use Rattle.sheet_grid.specs.LineEquals.{link_equals};
+    ghost use Rattle.sheet_grid.specs.laws.LineEquals.{link_equals};
 
     ghost copies = { λ a b h. Prim.search rules };
 

@@ -37,7 +37,7 @@ impl RowAttr {
 
 impl Exact for RowAttr {
     ghost use Rattle.std.proofs.Common.{rules};
-    ghost use Rattle.sheet_grid.specs.LineEquals.{row_attr_equals};
+    ghost use Rattle.sheet_grid.specs.laws.LineEquals.{row_attr_equals};
 
     ghost copies = { λ a b h. Prim.search rules };
 

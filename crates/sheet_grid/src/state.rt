@@ -10,7 +10,7 @@ pub enum SheetState {
 
 impl Exact for SheetState {
     ghost use Rattle.std.proofs.Common.{rules};
-    ghost use Rattle.sheet_grid.specs.StateEquals.{state_equals};
+    ghost use Rattle.sheet_grid.specs.laws.StateEquals.{state_equals};
 
     ghost copies = { λ a b h. Prim.search rules };
 

@@ -216,7 +216,7 @@ impl Clone for Workbook {
 }
 
 impl Exact for Workbook {
-    ghost use Rattle.sheet_grid.specs.SheetEquals.{workbook_equals};
+    ghost use Rattle.sheet_grid.specs.laws.SheetEquals.{workbook_equals};
 
     ghost copies = { λ a b h. h };
 

@@ -438,7 +438,7 @@ impl Clone for Worksheet {
 }
 
 impl Exact for Worksheet {
-    ghost use Rattle.sheet_grid.specs.SheetEquals.{worksheet_equals};
+    ghost use Rattle.sheet_grid.specs.laws.SheetEquals.{worksheet_equals};
 
     ghost copies = { λ a b h. h };
 

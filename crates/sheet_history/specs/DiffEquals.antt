@@ -6,7 +6,7 @@ use Rattle.std.specs.Cmp.Lexicographic.{pointwise_decides}
 use Rattle.std.proofs.lemmas.Bool.Decides.{Decides-like, Decides-and}
 use Rattle.base_values.specs.Decided.{option_equals}
 use Rattle.base_values.specs.PositionEquals.{position_equals}
-use Rattle.sheet_grid.specs.CellEquals.{cell_equals}
+use Rattle.sheet_grid.specs.laws.CellEquals.{cell_equals}
 use Rattle.line_map.specs.declared.EditKind.{EditKind}
 use Rattle.line_map.specs.declared.EditKind.TheVariants.{Insert, Delete}
 use Rattle.line_map.specs.contracts.edit.EditKindPartialEq.TheImpl as edit_kind

@@ -11,7 +11,7 @@ use Rattle.base_axis.specs.Along.{rows}
 use Rattle.line_map.specs.declared.EditKind.{EditKind}
 use Rattle.line_map.specs.Edit.{IsValid}
 use Rattle.sheet_grid.specs.declared.Cell.{Cell}
-use Rattle.sheet_grid.specs.CellEquals.{same_entry}
+use Rattle.sheet_grid.specs.SameEntry.{same_entry}
 use Rattle.sheet_grid.specs.Sheet.{Sheet}
 use Rattle.sheet_grid.specs.Book.{Book, index_of}
 use Rattle.sheet_rules.specs.WellFormed.{IsWellFormed}

@@ -13,7 +13,7 @@ use Rattle.sheet_grid.specs.declared.Cell.{Cell}
 use Rattle.sheet_grid.specs.declared.RowAttr.{RowAttr}
 use Rattle.sheet_grid.specs.declared.ColumnAttr.{ColumnAttr}
 use Rattle.sheet_grid.specs.FittingCells.{entry_fits_at}
-use Rattle.sheet_grid.specs.FittingLaws.{cells_fit-put}
+use Rattle.sheet_grid.specs.laws.FittingLaws.{cells_fit-put}
 use Rattle.sheet_grid.specs.Sheet.{Sheet, with_cell, cell_put}
 use Rattle.sheet_grid.specs.Book.{Book, index_of, sheet_edit, edit_by_id, with_sheet}
 use Rattle.sheet_rules.specs.EntryLaws.{both}

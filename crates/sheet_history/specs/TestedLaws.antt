@@ -8,7 +8,7 @@ use Rattle.base_values.specs.Answers.{Edits, ok_or, value_of}
 use Rattle.sheet_grid.specs.declared.Cell.{Cell}
 use Rattle.sheet_grid.specs.Book.{Book, edit_by_id}
 use Rattle.sheet_grid.specs.FittingCells.{entry_fits_at}
-use Rattle.sheet_grid.specs.FittingLaws.{place_is}
+use Rattle.sheet_grid.specs.laws.FittingLaws.{place_is}
 use Rattle.sheet_grid.specs.Sheet.{cell_put}
 use Rattle.sheet_rules.specs.WellFormed.{broken_rule, IsWellFormed}
 use Rattle.sheet_history.specs.RuleLaws.{entry_has_font, well_formed-by_id}

@@ -7,8 +7,8 @@ use Rattle.base_values.specs.PositionEquals.{position_equals}
 use Rattle.base_values.specs.KeyMap.{same_entries_decides}
 use Rattle.base_values.specs.CodedEq.{same_value_decides}
 use Rattle.formula_tree.specs.contracts.node.Node.{the_row}
-use Rattle.sheet_grid.specs.CellEquals.{cell_equals}
-use Rattle.sheet_grid.specs.LineEquals.{link_equals, row_attr_equals, column_attr_equals}
+use Rattle.sheet_grid.specs.laws.CellEquals.{cell_equals}
+use Rattle.sheet_grid.specs.laws.LineEquals.{link_equals, row_attr_equals, column_attr_equals}
 use Rattle.sheet_lines.specs.declared.kept.KeptLines.{KeptLines}
 use Rattle.sheet_lines.specs.contracts.kept.KeptLinesPartialEq.TheImpl as kept
 

@@ -3,7 +3,7 @@ use Rattle.std.specs.Prelude.{IfOk, IsTrue}
 use Rattle.std.proofs.lemmas.Int.{to_z-of_z}
 use Rattle.base_values.specs.declared.Position.{Position}
 use Rattle.formula_content.specs.Fitting.{fits_at}
-use Rattle.sheet_grid.specs.FittingLaws.{place_is}
+use Rattle.sheet_grid.specs.laws.FittingLaws.{place_is}
 use Rattle.edit_script.proofs.session.typed.Goals as goal
 
 pub returns-in-Ok-clause-fits : goal.returns-in-Ok-clause-fits

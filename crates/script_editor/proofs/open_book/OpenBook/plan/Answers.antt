@@ -2,7 +2,7 @@ use Rattle.std.proofs.Common.{w32, SFits, sym, subst}
 use Rattle.std.specs.Prelude.{IsTrue}
 use Rattle.std.proofs.lemmas.Int.{to_z-of_z}
 use Rattle.sheet_grid.specs.FittingCells.{is_shallow_entry}
-use Rattle.sheet_grid.specs.FittingLaws.{shallow_entry, shallow-found}
+use Rattle.sheet_grid.specs.laws.FittingLaws.{shallow_entry, shallow-found}
 use Rattle.sheet_rules.specs.WellFormedLaws.{sheets_fit_from_well_formed}
 use Rattle.script_editor.proofs.open_book.OpenBook.plan.Goals as goal
 

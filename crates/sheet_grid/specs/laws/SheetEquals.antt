@@ -9,9 +9,9 @@ use Rattle.base_values.specs.KeyMap.{same_entries_decides}
 use Rattle.base_styles.specs.laws.ColorEquals.{color_equals}
 use Rattle.base_tables.specs.laws.LocaleEquals.{locale_equals}
 use Rattle.base_tables.specs.laws.ZoneEquals.{zone_equals}
-use Rattle.sheet_grid.specs.StateEquals.{state_equals}
-use Rattle.sheet_grid.specs.CellEquals.{cell_equals}
-use Rattle.sheet_grid.specs.LineEquals.{link_equals, row_attr_equals, column_attr_equals}
+use Rattle.sheet_grid.specs.laws.StateEquals.{state_equals}
+use Rattle.sheet_grid.specs.laws.CellEquals.{cell_equals}
+use Rattle.sheet_grid.specs.laws.LineEquals.{link_equals, row_attr_equals, column_attr_equals}
 use Rattle.sheet_grid.specs.Sheet.{Sheet}
 use Rattle.sheet_grid.specs.Book.{Book}
 use Rattle.sheet_grid.specs.contracts.worksheet.WorksheetPartialEq.TheImpl as worksheet

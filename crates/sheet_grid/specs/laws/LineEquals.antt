@@ -12,6 +12,8 @@ use Rattle.sheet_grid.specs.declared.row_attr.RowAttr.{RowAttr}
 use Rattle.sheet_grid.specs.contracts.row_attr.RowAttrPartialEq.TheImpl as row_attr
 use Rattle.sheet_grid.specs.declared.column_attr.ColumnAttr.{ColumnAttr}
 use Rattle.sheet_grid.specs.contracts.column_attr.ColumnAttrPartialEq.TheImpl as column_attr
+use Rattle.sheet_grid.specs.declared.line_attr.LineAttr.{LineAttr}
+use Rattle.sheet_grid.specs.contracts.line_attr.LineAttrPartialEq.TheImpl as line_attr
 
 pub link_equals : (a b : Link) → Decides (link.ghosts.eq a b) (a ≡ b)
 link_equals a b = Decides-like _ (λ p i. record { target = p i }) (ap (λ x. x.target)) (bytes_decides _ _)
@@ -26,4 +28,10 @@ pub column_attr_equals : (a b : ColumnAttr) → Decides (column_attr.ghosts.eq a
 column_attr_equals a b =
     Decides-like _ (λ p i. record { width = p.0 i; style = p.1.0 i; hidden = p.1.1 i })
     (λ e. (ap (λ x. x.width) e, (ap (λ x. x.style) e, ap (λ x. x.hidden) e)))
+    (Decides-and _ _ (option_equals signed_Decides _ _) (Decides-and _ _ (option_equals style_equals _ _) (booleans_Decides _ _)))
+
+pub line_attr_equals : (a b : LineAttr) → Decides (line_attr.ghosts.eq a b) (a ≡ b)
+line_attr_equals a b =
+    Decides-like _ (λ p i. record { size = p.0 i; style = p.1.0 i; hidden = p.1.1 i })
+    (λ e. (ap (λ x. x.size) e, (ap (λ x. x.style) e, ap (λ x. x.hidden) e)))
     (Decides-and _ _ (option_equals signed_Decides _ _) (Decides-and _ _ (option_equals style_equals _ _) (booleans_Decides _ _)))

@@ -1,0 +1,6 @@
+pub mod CellEquals
+pub mod DimensionEquals
+pub mod FittingLaws
+pub mod LineEquals
+pub mod SheetEquals
+pub mod StateEquals

@@ -17,12 +17,19 @@ use Rattle.formula_tree.specs.declared.operator.UnaryKind.TheVariants as unary
 use Rattle.formula_tree.specs.Corners.{lower_corner, higher_corner}
 use Rattle.formula_tree.specs.Numbers.{constant_follows, lines_follow, numbers_follow}
 use Rattle.formula_tree.specs.laws.NumbersEquations.{numbers_boolean, numbers_number, numbers_text, numbers_reference, numbers_range, numbers_colon, numbers_concatenate, numbers_compare, numbers_sum, numbers_product, numbers_power, numbers_unary, numbers_call, numbers_named_call, numbers_array, numbers_name, numbers_error, numbers_empty_argument, numbers_spill, numbers_lambda, numbers_lambda_call, numbers_implicit_intersection}
+use Rattle.formula_grammar.specs.declared.operator.Infix.{Infix}
+use Rattle.formula_grammar.specs.declared.operator.Infix.TheVariants as between
+use Rattle.formula_grammar.specs.declared.operator.Postfix.{Postfix}
+use Rattle.formula_grammar.specs.declared.operator.Postfix.TheVariants as postfix
+use Rattle.formula_grammar.specs.declared.operator.Prefix.{Prefix}
+use Rattle.formula_grammar.specs.declared.operator.Prefix.TheVariants as prefix
 use Rattle.formula_grammar.specs.declared.profile.Profile.{Profile}
 use Rattle.formula_grammar.specs.declared.token.Token.{Token}
 use Rattle.formula_grammar.specs.declared.token.Token.TheVariants as t
+use Rattle.formula_grammar.specs.Levels.{infix_token, prefix_token, postfix_token, infix_node, postfix_node, prefix_node}
 use Rattle.formula_grammar.specs.Words.{separator_token, row_token, call_node, word_node, corner_of, negated}
 use Rattle.formula_grammar.specs.Grammar as G
-use Rattle.formula_grammar.specs.Grammar.{Item, Rows, item_tokens, item_value, rows_tokens, rows_lines, before_line, parameters_tokens, compare_token, sum_token, product_token, Compare, Concatenation, Sum, Product, Power, Signed, Percent, Single, Colon, Spill, Primary, Lambda, Arguments, Argument, More, compare_tree, concatenation_tree, sum_tree, product_tree, power_tree, signed_tree, percent_tree, single_tree, colon_tree, spill_tree, primary_tree, lambda_tree, arguments_trees, argument_tree, more_trees, compare_tokens, concatenation_tokens, sum_tokens, product_tokens, power_tokens, signed_tokens, percent_tokens, single_tokens, colon_tokens, spill_tokens, primary_tokens, lambda_tokens, arguments_tokens, argument_tokens, more_tokens}
+use Rattle.formula_grammar.specs.Grammar.{Item, Rows, item_tokens, item_value, rows_tokens, rows_lines, before_line, parameters_tokens, Expression, Primary, Lambda, Arguments, Argument, More, expression_tokens, primary_tokens, lambda_tokens, arguments_tokens, argument_tokens, more_tokens, expression_tree, primary_tree, lambda_tree, arguments_trees, argument_tree, more_trees}
 use Rattle.formula_grammar.specs.Numbers.{token_follows, tokens_follow}
 
 -- what two lists of tokens follow each, beside one another
@@ -90,59 +97,32 @@ word_follows r None word = numbers_name r word
 pair : {x : Bool} (a b : Bool) → x ≡ (a && b) → a ≡ true → b ≡ true → x ≡ true
 pair a b is e f = is ∙ and_from a b e f
 
+infix_follows : (r : NumberRule) (op : Infix) (a b : Node) → numbers_follow r a ≡ true → numbers_follow r b ≡ true → numbers_follow r (infix_node op a b) ≡ true
+infix_follows r (between.Compare kind) a b x y = pair _ _ (numbers_compare r kind a b) x y
+infix_follows r between.Concatenate a b x y = pair _ _ (numbers_concatenate r a b) x y
+infix_follows r (between.Sum kind) a b x y = pair _ _ (numbers_sum r kind a b) x y
+infix_follows r (between.Product kind) a b x y = pair _ _ (numbers_product r kind a b) x y
+infix_follows r between.Power a b x y = pair _ _ (numbers_power r a b) x y
+infix_follows r between.Colon a b x y = pair _ _ (numbers_colon r a b) x y
+
+postfix_follows : (r : NumberRule) (op : Postfix) (a : Node) → numbers_follow r a ≡ true → numbers_follow r (postfix_node op a) ≡ true
+postfix_follows r postfix.Percent a x = numbers_unary r unary.Percent a ∙ x
+postfix_follows r postfix.Spill a x = numbers_spill r a ∙ x
+
+prefix_follows : (r : NumberRule) (op : Prefix) (a : Node) → numbers_follow r a ≡ true → numbers_follow r (prefix_node op a) ≡ true
+prefix_follows r prefix.Minus a x = numbers_unary r unary.Minus a ∙ x
+prefix_follows r prefix.Plus a x = x
+prefix_follows r prefix.At a x = numbers_implicit_intersection r a ∙ x
+
 mutual
-  pub compare_follows : {p : Profile} (r : NumberRule) (d : Compare p) → tokens_follow r (compare_tokens d) ≡ true → numbers_follow r (compare_tree d) ≡ true
-  compare_follows r (G.concatenation a) e = concatenation_follows r a e
-  compare_follows r (G.compared a kind b) e =
-      let parts = apart r (compare_tokens a) (compare_token kind) (concatenation_tokens b) e in
-      pair _ _ (numbers_compare r kind (compare_tree a) (concatenation_tree b)) (compare_follows r a parts.0) (concatenation_follows r b parts.1)
-
-  concatenation_follows : {p : Profile} (r : NumberRule) (d : Concatenation p) → tokens_follow r (concatenation_tokens d) ≡ true → numbers_follow r (concatenation_tree d) ≡ true
-  concatenation_follows r (G.sum a) e = sum_follows r a e
-  concatenation_follows r (G.joined a b) e =
-      let parts = apart r (concatenation_tokens a) t.Ampersand (sum_tokens b) e in
-      pair _ _ (numbers_concatenate r (concatenation_tree a) (sum_tree b)) (concatenation_follows r a parts.0) (sum_follows r b parts.1)
-
-  sum_follows : {p : Profile} (r : NumberRule) (d : Sum p) → tokens_follow r (sum_tokens d) ≡ true → numbers_follow r (sum_tree d) ≡ true
-  sum_follows r (G.product a) e = product_follows r a e
-  sum_follows r (G.added a kind b) e =
-      let parts = apart r (sum_tokens a) (sum_token kind) (product_tokens b) e in
-      pair _ _ (numbers_sum r kind (sum_tree a) (product_tree b)) (sum_follows r a parts.0) (product_follows r b parts.1)
-
-  product_follows : {p : Profile} (r : NumberRule) (d : Product p) → tokens_follow r (product_tokens d) ≡ true → numbers_follow r (product_tree d) ≡ true
-  product_follows r (G.power a) e = power_follows r a e
-  product_follows r (G.multiplied a kind b) e =
-      let parts = apart r (product_tokens a) (product_token kind) (power_tokens b) e in
-      pair _ _ (numbers_product r kind (product_tree a) (power_tree b)) (product_follows r a parts.0) (power_follows r b parts.1)
-
-  power_follows : {p : Profile} (r : NumberRule) (d : Power p) → tokens_follow r (power_tokens d) ≡ true → numbers_follow r (power_tree d) ≡ true
-  power_follows r (G.signed a) e = signed_follows r a e
-  power_follows r (G.raised a b) e =
-      let parts = apart r (power_tokens a) t.Power (signed_tokens b) e in
-      pair _ _ (numbers_power r (power_tree a) (signed_tree b)) (power_follows r a parts.0) (signed_follows r b parts.1)
-
-  signed_follows : {p : Profile} (r : NumberRule) (d : Signed p) → tokens_follow r (signed_tokens d) ≡ true → numbers_follow r (signed_tree d) ≡ true
-  signed_follows r (G.percent a) e = percent_follows r a e
-  signed_follows r (G.minus a) e = numbers_unary r unary.Minus (signed_tree a) ∙ signed_follows r a e
-  signed_follows r (G.plus a) e = signed_follows r a e
-
-  percent_follows : {p : Profile} (r : NumberRule) (d : Percent p) → tokens_follow r (percent_tokens d) ≡ true → numbers_follow r (percent_tree d) ≡ true
-  percent_follows r (G.single a) e = single_follows r a e
-  percent_follows r (G.hundredth a) e = numbers_unary r unary.Percent (percent_tree a) ∙ percent_follows r a (split r (percent_tokens a) (t.Percent ∷ []) e).0
-
-  single_follows : {p : Profile} (r : NumberRule) (d : Single p) → tokens_follow r (single_tokens d) ≡ true → numbers_follow r (single_tree d) ≡ true
-  single_follows r (G.colon a) e = colon_follows r a e
-  single_follows r (G.singled a) e = numbers_implicit_intersection r (single_tree a) ∙ single_follows r a e
-
-  colon_follows : {p : Profile} (r : NumberRule) (d : Colon p) → tokens_follow r (colon_tokens d) ≡ true → numbers_follow r (colon_tree d) ≡ true
-  colon_follows r (G.spill a) e = spill_follows r a e
-  colon_follows r (G.spanned a b) e =
-      let parts = apart r (colon_tokens a) t.Colon (spill_tokens b) e in
-      pair _ _ (numbers_colon r (colon_tree a) (spill_tree b)) (colon_follows r a parts.0) (spill_follows r b parts.1)
-
-  spill_follows : {p : Profile} (r : NumberRule) (d : Spill p) → tokens_follow r (spill_tokens d) ≡ true → numbers_follow r (spill_tree d) ≡ true
-  spill_follows r (G.primary a) e = primary_follows r a e
-  spill_follows r (G.spilled a) e = numbers_spill r (spill_tree a) ∙ spill_follows r a (split r (spill_tokens a) (t.Hash ∷ []) e).0
+  pub expression_follows : {p : Profile} {level : ℕ} (r : NumberRule) (d : Expression p level) → tokens_follow r (expression_tokens d) ≡ true → numbers_follow r (expression_tree d) ≡ true
+  expression_follows r (G.primary a) e = primary_follows r a e
+  expression_follows r (G.lift a) e = expression_follows r a e
+  expression_follows r (G.joined op a b) e =
+      let parts = apart r (expression_tokens a) (infix_token op) (expression_tokens b) e in
+      infix_follows r op (expression_tree a) (expression_tree b) (expression_follows r a parts.0) (expression_follows r b parts.1)
+  expression_follows r (G.followed op a) e = postfix_follows r op (expression_tree a) (expression_follows r a (split r (expression_tokens a) (postfix_token op ∷ []) e).0)
+  expression_follows r (G.signed op a) e = prefix_follows r op (expression_tree a) (expression_follows r a (and_parts (token_follows r (prefix_token op)) (tokens_follow r (expression_tokens a)) e).1)
 
   primary_follows : {p : Profile} (r : NumberRule) (d : Primary p) → tokens_follow r (primary_tokens d) ≡ true → numbers_follow r (primary_tree d) ≡ true
   primary_follows r (G.number value) e = numbers_number r value ∙ (and_parts _ _ e).0
@@ -151,7 +131,7 @@ mutual
   primary_follows {p} r (G.reference sheet mark at is) e = numbers_reference r sheet (corner_of p.place mark at)
   primary_follows {p} r (G.range sheet first second start stop is also) e =
       numbers_range r sheet (lower_corner p.place (corner_of p.place first start) (corner_of p.place second stop)) (higher_corner p.place (corner_of p.place first start) (corner_of p.place second stop))
-  primary_follows r (G.parentheses a) e = compare_follows r a (split r (compare_tokens a) (t.CloseParenthesis ∷ []) e).0
+  primary_follows r (G.parentheses a) e = expression_follows r a (split r (expression_tokens a) (t.CloseParenthesis ∷ []) e).0
   primary_follows r (G.array rows is) e = numbers_array r (rows_lines rows) ∙ rows_follow r rows (split r (rows_tokens rows) (t.CloseBrace ∷ []) e).0
   primary_follows r (G.lambda a) e = lambda_follows r a e
   primary_follows {p} r (G.call name is all) e = call_follows r (function_of_name p.language name) name (arguments_trees all) (arguments_follow r all (split r (arguments_tokens all) (t.CloseParenthesis ∷ []) e).0)
@@ -159,15 +139,15 @@ mutual
 
   lambda_follows : {p : Profile} (r : NumberRule) (d : Lambda p) → tokens_follow r (lambda_tokens d) ≡ true → numbers_follow r (lambda_tree d) ≡ true
   lambda_follows {p} r (G.function name is parameters body) e =
-      let inner = (split r (parameters_tokens p parameters) (compare_tokens body ++ t.CloseParenthesis ∷ []) e).1 in
-      numbers_lambda r parameters (compare_tree body) ∙ compare_follows r body (split r (compare_tokens body) (t.CloseParenthesis ∷ []) inner).0
+      let inner = (split r (parameters_tokens p parameters) (expression_tokens body ++ t.CloseParenthesis ∷ []) e).1 in
+      numbers_lambda r parameters (expression_tree body) ∙ expression_follows r body (split r (expression_tokens body) (t.CloseParenthesis ∷ []) inner).0
   lambda_follows r (G.applied a all) e =
       let parts = apart r (lambda_tokens a) t.OpenParenthesis (arguments_tokens all ++ t.CloseParenthesis ∷ []) e in
       pair _ _ (numbers_lambda_call r (lambda_tree a) (arguments_trees all)) (lambda_follows r a parts.0) (arguments_follow r all (split r (arguments_tokens all) (t.CloseParenthesis ∷ []) parts.1).0)
 
   arguments_follow : {p : Profile} (r : NumberRule) (d : Arguments p) → tokens_follow r (arguments_tokens d) ≡ true → list_all (numbers_follow r) (arguments_trees d) ≡ true
   arguments_follow r G.none e = refl
-  arguments_follow r (G.only a) e = and_from _ _ (compare_follows r a e) refl
+  arguments_follow r (G.only a) e = and_from _ _ (expression_follows r a e) refl
   arguments_follow {p} r (G.several a b rest) e =
       let parts = apart r (argument_tokens a) (separator_token p.locale) (argument_tokens b ++ more_tokens rest) e in
       let others = split r (argument_tokens b) (more_tokens rest) parts.1 in
@@ -175,7 +155,7 @@ mutual
 
   argument_follows : {p : Profile} (r : NumberRule) (d : Argument p) → tokens_follow r (argument_tokens d) ≡ true → numbers_follow r (argument_tree d) ≡ true
   argument_follows r G.empty e = numbers_empty_argument r
-  argument_follows r (G.given a) e = compare_follows r a e
+  argument_follows r (G.given a) e = expression_follows r a e
 
   more_follow : {p : Profile} (r : NumberRule) (d : More p) → tokens_follow r (more_tokens d) ≡ true → list_all (numbers_follow r) (more_trees d) ≡ true
   more_follow r G.end e = refl

@@ -16,11 +16,18 @@ use Rattle.formula_tree.specs.laws.CornerLaws.{corner_row-corner_to, corner_colu
 use Rattle.formula_tree.specs.Placed.{is_placed}
 use Rattle.formula_tree.specs.laws.PlacedEquations.{placed_boolean, placed_number, placed_text, placed_reference, placed_range, placed_colon, placed_concatenate, placed_compare, placed_sum, placed_product, placed_power, placed_unary, placed_call, placed_named_call, placed_array, placed_name, placed_error, placed_empty_argument, placed_spill, placed_lambda, placed_lambda_call, placed_implicit_intersection}
 use Rattle.formula_tree.specs.laws.PlacedLaws.{ordered_placed}
+use Rattle.formula_grammar.specs.declared.operator.Infix.{Infix}
+use Rattle.formula_grammar.specs.declared.operator.Infix.TheVariants as between
+use Rattle.formula_grammar.specs.declared.operator.Postfix.{Postfix}
+use Rattle.formula_grammar.specs.declared.operator.Postfix.TheVariants as postfix
+use Rattle.formula_grammar.specs.declared.operator.Prefix.{Prefix}
+use Rattle.formula_grammar.specs.declared.operator.Prefix.TheVariants as prefix
 use Rattle.formula_grammar.specs.declared.profile.Profile.{Profile}
 use Rattle.formula_grammar.specs.declared.token.CellMark.{CellMark}
+use Rattle.formula_grammar.specs.Levels.{infix_node, postfix_node, prefix_node}
 use Rattle.formula_grammar.specs.Words.{call_node, word_node, mark_place, corner_of, range_node}
 use Rattle.formula_grammar.specs.Grammar as G
-use Rattle.formula_grammar.specs.Grammar.{Compare, Concatenation, Sum, Product, Power, Signed, Percent, Single, Colon, Spill, Primary, Lambda, Arguments, Argument, More, rows_lines, compare_tree, concatenation_tree, sum_tree, product_tree, power_tree, signed_tree, percent_tree, single_tree, colon_tree, spill_tree, primary_tree, lambda_tree, arguments_trees, argument_tree, more_trees}
+use Rattle.formula_grammar.specs.Grammar.{Expression, Primary, Lambda, Arguments, Argument, More, rows_lines, expression_tree, primary_tree, lambda_tree, arguments_trees, argument_tree, more_trees}
 
 both : (a b : Bool) → a ≡ true → b ≡ true → a && b ≡ true
 both a b left right = grind arith
@@ -64,47 +71,30 @@ word_placed : (place : Position) (value : Option Bool) (word : List ℕ) → is_
 word_placed place (Some value) word = placed_boolean place value
 word_placed place None word = placed_name place word
 
+infix_placed : (place : Position) (op : Infix) (a b : Node) → is_placed place a ≡ true → is_placed place b ≡ true → is_placed place (infix_node op a b) ≡ true
+infix_placed place (between.Compare kind) a b x y = placed_compare place kind a b ∙ both _ _ x y
+infix_placed place between.Concatenate a b x y = placed_concatenate place a b ∙ both _ _ x y
+infix_placed place (between.Sum kind) a b x y = placed_sum place kind a b ∙ both _ _ x y
+infix_placed place (between.Product kind) a b x y = placed_product place kind a b ∙ both _ _ x y
+infix_placed place between.Power a b x y = placed_power place a b ∙ both _ _ x y
+infix_placed place between.Colon a b x y = placed_colon place a b ∙ both _ _ x y
+
+postfix_placed : (place : Position) (op : Postfix) (a : Node) → is_placed place a ≡ true → is_placed place (postfix_node op a) ≡ true
+postfix_placed place postfix.Percent a x = placed_unary place unary.Percent a ∙ x
+postfix_placed place postfix.Spill a x = placed_spill place a ∙ x
+
+prefix_placed : (place : Position) (op : Prefix) (a : Node) → is_placed place a ≡ true → is_placed place (prefix_node op a) ≡ true
+prefix_placed place prefix.Minus a x = placed_unary place unary.Minus a ∙ x
+prefix_placed place prefix.Plus a x = x
+prefix_placed place prefix.At a x = placed_implicit_intersection place a ∙ x
+
 mutual
-  pub compare_placed : {p : Profile} (d : Compare p) → is_placed p.place (compare_tree d) ≡ true
-  compare_placed (G.concatenation a) = concatenation_placed a
-  compare_placed {p} (G.compared a kind b) = placed_compare p.place kind (compare_tree a) (concatenation_tree b) ∙ both _ _ (compare_placed a) (concatenation_placed b)
-
-  pub concatenation_placed : {p : Profile} (d : Concatenation p) → is_placed p.place (concatenation_tree d) ≡ true
-  concatenation_placed (G.sum a) = sum_placed a
-  concatenation_placed {p} (G.joined a b) = placed_concatenate p.place (concatenation_tree a) (sum_tree b) ∙ both _ _ (concatenation_placed a) (sum_placed b)
-
-  pub sum_placed : {p : Profile} (d : Sum p) → is_placed p.place (sum_tree d) ≡ true
-  sum_placed (G.product a) = product_placed a
-  sum_placed {p} (G.added a kind b) = placed_sum p.place kind (sum_tree a) (product_tree b) ∙ both _ _ (sum_placed a) (product_placed b)
-
-  pub product_placed : {p : Profile} (d : Product p) → is_placed p.place (product_tree d) ≡ true
-  product_placed (G.power a) = power_placed a
-  product_placed {p} (G.multiplied a kind b) = placed_product p.place kind (product_tree a) (power_tree b) ∙ both _ _ (product_placed a) (power_placed b)
-
-  pub power_placed : {p : Profile} (d : Power p) → is_placed p.place (power_tree d) ≡ true
-  power_placed (G.signed a) = signed_placed a
-  power_placed {p} (G.raised a b) = placed_power p.place (power_tree a) (signed_tree b) ∙ both _ _ (power_placed a) (signed_placed b)
-
-  pub signed_placed : {p : Profile} (d : Signed p) → is_placed p.place (signed_tree d) ≡ true
-  signed_placed (G.percent a) = percent_placed a
-  signed_placed {p} (G.minus a) = placed_unary p.place unary.Minus (signed_tree a) ∙ signed_placed a
-  signed_placed (G.plus a) = signed_placed a
-
-  pub percent_placed : {p : Profile} (d : Percent p) → is_placed p.place (percent_tree d) ≡ true
-  percent_placed (G.single a) = single_placed a
-  percent_placed {p} (G.hundredth a) = placed_unary p.place unary.Percent (percent_tree a) ∙ percent_placed a
-
-  pub single_placed : {p : Profile} (d : Single p) → is_placed p.place (single_tree d) ≡ true
-  single_placed (G.colon a) = colon_placed a
-  single_placed {p} (G.singled a) = placed_implicit_intersection p.place (single_tree a) ∙ single_placed a
-
-  pub colon_placed : {p : Profile} (d : Colon p) → is_placed p.place (colon_tree d) ≡ true
-  colon_placed (G.spill a) = spill_placed a
-  colon_placed {p} (G.spanned a b) = placed_colon p.place (colon_tree a) (spill_tree b) ∙ both _ _ (colon_placed a) (spill_placed b)
-
-  pub spill_placed : {p : Profile} (d : Spill p) → is_placed p.place (spill_tree d) ≡ true
-  spill_placed (G.primary a) = primary_placed a
-  spill_placed {p} (G.spilled a) = placed_spill p.place (spill_tree a) ∙ spill_placed a
+  pub expression_placed : {p : Profile} {level : ℕ} (d : Expression p level) → is_placed p.place (expression_tree d) ≡ true
+  expression_placed (G.primary a) = primary_placed a
+  expression_placed (G.lift a) = expression_placed a
+  expression_placed {p} (G.joined op a b) = infix_placed p.place op (expression_tree a) (expression_tree b) (expression_placed a) (expression_placed b)
+  expression_placed {p} (G.followed op a) = postfix_placed p.place op (expression_tree a) (expression_placed a)
+  expression_placed {p} (G.signed op a) = prefix_placed p.place op (expression_tree a) (expression_placed a)
 
   pub primary_placed : {p : Profile} (d : Primary p) → is_placed p.place (primary_tree d) ≡ true
   primary_placed {p} (G.number value) = placed_number p.place value
@@ -113,24 +103,24 @@ mutual
   primary_placed {p} (G.reference sheet mark at is) = placed_reference p.place sheet (corner_of p.place mark at) ∙ corner_inside p.place mark at is
   primary_placed {p} (G.range sheet first second start stop is also) =
       range_placed p.place sheet (corner_of p.place first start) (corner_of p.place second stop) (corner_inside p.place first start is) (corner_inside p.place second stop also)
-  primary_placed (G.parentheses a) = compare_placed a
+  primary_placed (G.parentheses a) = expression_placed a
   primary_placed {p} (G.array rows is) = placed_array p.place (rows_lines rows)
   primary_placed (G.lambda a) = lambda_placed a
   primary_placed {p} (G.call name is all) = call_placed p.place (function_of_name p.language name) name (arguments_trees all) (arguments_placed all)
   primary_placed {p} (G.word name) = word_placed p.place (boolean_of_text p.language name) name
 
   pub lambda_placed : {p : Profile} (d : Lambda p) → is_placed p.place (lambda_tree d) ≡ true
-  lambda_placed {p} (G.function name is parameters body) = placed_lambda p.place parameters (compare_tree body) ∙ compare_placed body
+  lambda_placed {p} (G.function name is parameters body) = placed_lambda p.place parameters (expression_tree body) ∙ expression_placed body
   lambda_placed {p} (G.applied a all) = placed_lambda_call p.place (lambda_tree a) (arguments_trees all) ∙ both _ _ (lambda_placed a) (arguments_placed all)
 
   pub arguments_placed : {p : Profile} (d : Arguments p) → list_all (is_placed p.place) (arguments_trees d) ≡ true
   arguments_placed G.none = refl
-  arguments_placed (G.only a) = both _ _ (compare_placed a) refl
+  arguments_placed (G.only a) = both _ _ (expression_placed a) refl
   arguments_placed (G.several a b rest) = both _ _ (argument_placed a) (both _ _ (argument_placed b) (more_placed rest))
 
   pub argument_placed : {p : Profile} (d : Argument p) → is_placed p.place (argument_tree d) ≡ true
   argument_placed {p} G.empty = placed_empty_argument p.place
-  argument_placed (G.given a) = compare_placed a
+  argument_placed (G.given a) = expression_placed a
 
   pub more_placed : {p : Profile} (d : More p) → list_all (is_placed p.place) (more_trees d) ≡ true
   more_placed G.end = refl

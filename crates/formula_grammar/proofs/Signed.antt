@@ -1,13 +1,17 @@
 -- Signs read one by one, and counted first.
-use Rattle.std.proofs.Common.{◌≡◌, ℕ, zero, suc, List, [], ◌∷◌, Option, Some, None, option_and_then, refl, sym, ap, ◌∙◌}
+use Rattle.std.proofs.Common.{◌≡◌, ℕ, zero, suc, Bool, true, false, cond, List, [], ◌∷◌, Option, Some, None, option_and_then, refl, sym, ap, ◌∙◌, arith}
+use Rattle.std.specs.Prelude.{◌==◌}
+use Rattle.std.proofs.lemmas.Bool.Decides.{nat_tests}
 use Rattle.formula_tree.specs.declared.node.Node.{Node}
 use Rattle.formula_tree.specs.declared.node.Node.TheVariants as n
 use Rattle.formula_tree.specs.declared.operator.UnaryKind.TheVariants as unary
-use Rattle.formula_grammar.specs.declared.profile.Profile.{Profile}
+use Rattle.formula_grammar.specs.declared.operator.Prefix.{Prefix}
+use Rattle.formula_grammar.specs.declared.operator.Prefix.TheVariants as prefix
 use Rattle.formula_grammar.specs.declared.token.Token.{Token}
 use Rattle.formula_grammar.specs.declared.token.Token.TheVariants as t
-use Rattle.formula_grammar.specs.laws.Reading.{Outcome, Parser, and_then, with_rest, made, make, colon, single, percent, signed}
-use Rattle.formula_grammar.specs.laws.Signs.{signs, at_signs, wrapped}
+use Rattle.formula_grammar.specs.Levels.{prefix_under, prefix_token}
+use Rattle.formula_grammar.specs.laws.Reading.{Outcome, Parser, and_then, pure, with_rest, made, make, prefix_if, prefix_of, make_signed, signed_step, signed}
+use Rattle.formula_grammar.specs.laws.Signs.{counted, signs, sign_node, wrapped}
 
 module _ (operator : Node → Node) where
   abbrev pub around : Outcome Node → ℕ → Outcome Node
@@ -44,17 +48,50 @@ module _ (operator : Node → Node) where
   no_sign None = refl
   no_sign (Some p) = refl
 
-pub signed-counted : (p : Profile) (inner : ℕ → Parser Node) (room : ℕ) (ts : List Token) → signed p inner room ts ≡ around (n.Unary unary.Minus) (percent p inner room (signs ts).1) (signs ts).0
-unfolding signed
-signed-counted p inner room (t.Minus ∷ ts) =
-    ap (λ (o : Outcome Node). and_then o (λ tree. make (n.Unary unary.Minus tree))) (signed-counted p inner room ts) ∙ one_more_sign (n.Unary unary.Minus) (signs ts).0 (percent p inner room (signs ts).1)
-signed-counted p inner room (t.Plus ∷ ts) = signed-counted p inner room ts
-signed-counted p inner room [] = no_sign (n.Unary unary.Minus) (percent p inner room [])
-signed-counted p inner room (x ∷ ts) = no_sign (n.Unary unary.Minus) (percent p inner room (x ∷ ts))
+-- behind a plus sign nothing is made
+plain : (o : Outcome Node) → and_then o pure ≡ o
+plain None = refl
+plain (Some p) = refl
 
-pub single-counted : (p : Profile) (inner : ℕ → Parser Node) (room : ℕ) (ts : List Token) → single p inner room ts ≡ around n.ImplicitIntersection (colon p inner room (at_signs ts).1) (at_signs ts).0
-unfolding single
-single-counted p inner room (t.At ∷ ts) =
-    ap (λ (o : Outcome Node). and_then o (λ tree. make (n.ImplicitIntersection tree))) (single-counted p inner room ts) ∙ one_more_sign n.ImplicitIntersection (at_signs ts).0 (colon p inner room (at_signs ts).1)
-single-counted p inner room [] = no_sign n.ImplicitIntersection (colon p inner room [])
-single-counted p inner room (x ∷ ts) = no_sign n.ImplicitIntersection (colon p inner room (x ∷ ts))
+if_own : (under : ℕ) (op other : Prefix) → prefix_if under op ≡ Some other → (prefix_under op ≡ under) × (op ≡ other)
+if_own under op other e = go (under == prefix_under op) refl e
+  where
+    go : (b : Bool) → (under == prefix_under op) ≡ b → cond b (Some op) None ≡ Some other → (prefix_under op ≡ under) × (op ≡ other)
+    go true h f = (grind (arith, nat_tests), cc)
+    go false h f = absurd cc
+
+-- a token that is a sign of a level
+pub prefix_is : (under : ℕ) (x : Token) (op : Prefix) → prefix_of under x ≡ Some op → (prefix_under op ≡ under) × (x ≡ prefix_token op)
+prefix_is under t.Minus op e = let q = if_own under prefix.Minus op e in (ap prefix_under (sym q.1) ∙ q.0, ap prefix_token q.1)
+prefix_is under t.Plus op e = let q = if_own under prefix.Plus op e in (ap prefix_under (sym q.1) ∙ q.0, ap prefix_token q.1)
+prefix_is under t.At op e = let q = if_own under prefix.At op e in (ap prefix_under (sym q.1) ∙ q.0, ap prefix_token q.1)
+prefix_is under _ op e = absurd cc
+
+module _ (under : ℕ) (operand : Parser Node) where
+  abbrev all_around : List Token → Outcome Node
+  all_around ts = around (sign_node under) (operand (signs under ts).1) (signs under ts).0
+
+  -- a sign that makes a node
+  made_sign : (op : Prefix) → prefix_under op ≡ under → (ts : List Token) (o : Outcome Node) → o ≡ all_around ts
+      → and_then o (make_signed op) ≡ around (sign_node under) (operand (counted [] (signs under ts) (Some op)).1) (counted [] (signs under ts) (Some op)).0
+  made_sign prefix.Minus is ts o e =
+      ap (λ (o : Outcome Node). and_then o (λ tree. make (n.Unary unary.Minus tree))) e
+      ∙ ap (λ (k : ℕ). and_then (all_around ts) (λ tree. make (sign_node k tree))) is
+      ∙ one_more_sign (sign_node under) (signs under ts).0 (operand (signs under ts).1)
+  made_sign prefix.Plus is ts o e = plain o ∙ e
+  made_sign prefix.At is ts o e =
+      ap (λ (o : Outcome Node). and_then o (λ tree. make (n.ImplicitIntersection tree))) e
+      ∙ ap (λ (k : ℕ). and_then (all_around ts) (λ tree. make (sign_node k tree))) is
+      ∙ one_more_sign (sign_node under) (signs under ts).0 (operand (signs under ts).1)
+
+  pub signed-counted : (ts : List Token) → signed under operand ts ≡ around (sign_node under) (operand (signs under ts).1) (signs under ts).0
+  unfolding signed
+  signed-counted [] = no_sign (sign_node under) (operand [])
+  signed-counted (x ∷ ts) = go (prefix_of under x) refl
+    where
+      go : (o : Option Prefix) → prefix_of under x ≡ o → signed_step under operand (operand (x ∷ ts)) (signed under operand ts) o
+          ≡ around (sign_node under) (operand (counted (x ∷ ts) (signs under ts) o).1) (counted (x ∷ ts) (signs under ts) o).0
+      go None e = no_sign (sign_node under) (operand (x ∷ ts))
+      go (Some prefix.Minus) e = made_sign prefix.Minus (prefix_is under x prefix.Minus e).0 ts (signed under operand ts) (signed-counted ts)
+      go (Some prefix.Plus) e = made_sign prefix.Plus (prefix_is under x prefix.Plus e).0 ts (signed under operand ts) (signed-counted ts)
+      go (Some prefix.At) e = made_sign prefix.At (prefix_is under x prefix.At e).0 ts (signed under operand ts) (signed-counted ts)

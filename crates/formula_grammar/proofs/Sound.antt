@@ -1,27 +1,39 @@
 -- What is read is derived by the grammar.
-use Rattle.std.proofs.Common.{◌≡◌, ℕ, zero, suc, ◌-◌, ◌<◌, ◌≤◌, Bool, true, false, cond, List, [], ◌∷◌, ◌++◌, length, Option, Some, None, Result, Ok, Err, refl, sym, ap, ◌∙◌, append_assoc, arith}
+use Rattle.std.proofs.Common.{◌≡◌, ℕ, zero, suc, ◌-◌, ◌<◌, ◌≤◌, Bool, true, false, cond, List, [], ◌∷◌, ◌++◌, length, Option, Some, None, option_and_then, Result, Ok, Err, refl, sym, ap, subst, ◌∙◌, append_assoc, arith}
+use Rattle.std.specs.Prelude.{◌==◌}
 use Rattle.std.proofs.lemmas.Bool.{eqb-false}
+use Rattle.std.proofs.lemmas.Bool.Decides.{nat_tests}
 use lib.Dec.{eqb}
 use Rattle.base_values.specs.declared.Position.{Position}
 use Rattle.base_values.specs.declared.EditError.{EditError}
 use Rattle.formula_tree.specs.declared.node.Node.{Node}
 use Rattle.formula_tree.specs.declared.node.Node.TheVariants as n
-use Rattle.formula_tree.specs.declared.operator.CompareKind.{CompareKind}
-use Rattle.formula_tree.specs.declared.operator.ProductKind.{ProductKind}
-use Rattle.formula_tree.specs.declared.operator.SumKind.{SumKind}
 use Rattle.formula_tree.specs.declared.operator.UnaryKind.TheVariants as unary
 use Rattle.formula_tree.specs.Depth.{depth_of}
 use Rattle.formula_tree.specs.laws.DepthEquations.{depth_number, depth_text, depth_reference, depth_error, depth_array, depth_empty_argument}
+use Rattle.formula_tree.specs.declared.operator.CompareKind.TheVariants as compare_kind
+use Rattle.formula_tree.specs.declared.operator.ProductKind.TheVariants as product_kind
+use Rattle.formula_tree.specs.declared.operator.SumKind.TheVariants as sum_kind
+use Rattle.formula_grammar.specs.declared.operator.Infix.{Infix}
+use Rattle.formula_grammar.specs.declared.operator.Infix.TheVariants as between
+use Rattle.formula_grammar.specs.declared.operator.Operator.{Operator}
+use Rattle.formula_grammar.specs.declared.operator.Operator.TheVariants as operator
+use Rattle.formula_grammar.specs.declared.operator.Postfix.{Postfix}
+use Rattle.formula_grammar.specs.declared.operator.Postfix.TheVariants as postfix
+use Rattle.formula_grammar.specs.declared.operator.Prefix.{Prefix}
+use Rattle.formula_grammar.specs.declared.operator.Prefix.TheVariants as prefix
 use Rattle.formula_grammar.specs.declared.profile.Profile.{Profile}
 use Rattle.formula_grammar.specs.declared.token.CellMark.{CellMark}
 use Rattle.formula_grammar.specs.declared.token.Token.{Token}
 use Rattle.formula_grammar.specs.declared.token.Token.TheVariants as t
 use Rattle.formula_grammar.specs.Words.{separator_token, is_lambda, called, worded, mark_place, corner_of}
+use Rattle.formula_grammar.specs.Levels.{infix_under, prefix_under, postfix_under, operator_under, infix_token, prefix_token, postfix_token, operator_token, infix_node, prefix_node, postfix_node}
 use Rattle.formula_grammar.specs.Grammar as G
-use Rattle.formula_grammar.specs.Grammar.{Compare, Concatenation, Sum, Product, Power, Signed, Percent, Single, Colon, Spill, Primary, Lambda, Arguments, Argument, More, compare_token, sum_token, product_token, parameters_tokens, rows_tokens, compare_tokens, concatenation_tokens, sum_tokens, product_tokens, power_tokens, signed_tokens, percent_tokens, single_tokens, colon_tokens, spill_tokens, primary_tokens, lambda_tokens, arguments_tokens, argument_tokens, more_tokens, compare_tree, concatenation_tree, sum_tree, product_tree, power_tree, signed_tree, percent_tree, single_tree, colon_tree, spill_tree, primary_tree, lambda_tree, arguments_trees, argument_tree, more_trees, compare_open, concatenation_open, sum_open, product_open, power_open, signed_open, percent_open, single_open, colon_open, spill_open, primary_open, lambda_open, arguments_open, argument_open, more_open}
-use Rattle.formula_grammar.specs.laws.Reading.{Outcome, Parser, ◌>>=◌, ◌>>◌, pure, with_rest, make, compare_sign, ampersand, sum_sign, product_sign, power_sign, percent_sign, colon_sign, hash, opening, closing, separator, is_empty_here, nothing, parameters, reference_at, range_at, enclosed, argument, arguments_from, arguments_by, arguments, function, lambda, call, primary, spill, colon, single, percent, signed, power, product, sum, concatenation, compare, whole}
+use Rattle.formula_grammar.specs.Grammar.{Expression, Primary, Lambda, Arguments, Argument, More, parameters_tokens, rows_tokens, expression_tokens, primary_tokens, lambda_tokens, arguments_tokens, argument_tokens, more_tokens, expression_tree, primary_tree, lambda_tree, arguments_trees, argument_tree, more_trees, expression_open, primary_open, lambda_open, arguments_open, argument_open, more_open}
+use Rattle.formula_grammar.specs.laws.Reading.{Outcome, Parser, ◌>>=◌, ◌>>◌, pure, with_rest, make, operator_of, own_operator, operator_at, prefix_of, make_signed, signed_step, signed, opening, closing, separator, is_empty_here, parameters, reference_at, range_at, enclosed, argument, arguments_from, arguments_by, arguments, function, lambda_turn, lambda, call, primary, turn, expression, whole}
 use Rattle.formula_grammar.proofs.Depths.{depth_worded, depth_range_node}
 use Rattle.formula_grammar.proofs.Steps.{Takes, found, some_pair, none_some, bind_some, make_some, chain_sound}
+use Rattle.formula_grammar.proofs.Signed.{prefix_is}
 use Rattle.formula_grammar.proofs.Parting.{separator_of, separator_is}
 use Rattle.formula_grammar.proofs.Lists.{array_sound, parameters_sound}
 
@@ -35,53 +47,6 @@ pub record Derived {D : Type 0} (tokens : D → List Token) (tree : D → Node) 
 
 -- ---- tokens
 
-compare_sign_is : (ts rest : List Token) (kind : CompareKind) → compare_sign ts ≡ Some (kind, rest) → ts ≡ compare_token kind ∷ rest
-compare_sign_is [] rest kind e = none_some (kind, rest) e
-compare_sign_is (t.Equal ∷ ts) rest kind e = let q = some_pair _ kind ts rest e in ap (λ x. compare_token x ∷ ts) q.0 ∙ ap (λ l. compare_token kind ∷ l) q.1
-compare_sign_is (t.NotEqual ∷ ts) rest kind e = let q = some_pair _ kind ts rest e in ap (λ x. compare_token x ∷ ts) q.0 ∙ ap (λ l. compare_token kind ∷ l) q.1
-compare_sign_is (t.Less ∷ ts) rest kind e = let q = some_pair _ kind ts rest e in ap (λ x. compare_token x ∷ ts) q.0 ∙ ap (λ l. compare_token kind ∷ l) q.1
-compare_sign_is (t.LessOrEqual ∷ ts) rest kind e = let q = some_pair _ kind ts rest e in ap (λ x. compare_token x ∷ ts) q.0 ∙ ap (λ l. compare_token kind ∷ l) q.1
-compare_sign_is (t.Greater ∷ ts) rest kind e = let q = some_pair _ kind ts rest e in ap (λ x. compare_token x ∷ ts) q.0 ∙ ap (λ l. compare_token kind ∷ l) q.1
-compare_sign_is (t.GreaterOrEqual ∷ ts) rest kind e = let q = some_pair _ kind ts rest e in ap (λ x. compare_token x ∷ ts) q.0 ∙ ap (λ l. compare_token kind ∷ l) q.1
-compare_sign_is (_ ∷ ts) rest kind e = none_some (kind, rest) e
-
-sum_sign_is : (ts rest : List Token) (kind : SumKind) → sum_sign ts ≡ Some (kind, rest) → ts ≡ sum_token kind ∷ rest
-sum_sign_is [] rest kind e = none_some (kind, rest) e
-sum_sign_is (t.Plus ∷ ts) rest kind e = let q = some_pair _ kind ts rest e in ap (λ x. sum_token x ∷ ts) q.0 ∙ ap (λ l. sum_token kind ∷ l) q.1
-sum_sign_is (t.Minus ∷ ts) rest kind e = let q = some_pair _ kind ts rest e in ap (λ x. sum_token x ∷ ts) q.0 ∙ ap (λ l. sum_token kind ∷ l) q.1
-sum_sign_is (_ ∷ ts) rest kind e = none_some (kind, rest) e
-
-product_sign_is : (ts rest : List Token) (kind : ProductKind) → product_sign ts ≡ Some (kind, rest) → ts ≡ product_token kind ∷ rest
-product_sign_is [] rest kind e = none_some (kind, rest) e
-product_sign_is (t.Times ∷ ts) rest kind e = let q = some_pair _ kind ts rest e in ap (λ x. product_token x ∷ ts) q.0 ∙ ap (λ l. product_token kind ∷ l) q.1
-product_sign_is (t.Divide ∷ ts) rest kind e = let q = some_pair _ kind ts rest e in ap (λ x. product_token x ∷ ts) q.0 ∙ ap (λ l. product_token kind ∷ l) q.1
-product_sign_is (_ ∷ ts) rest kind e = none_some (kind, rest) e
-
-ampersand_is : (ts rest : List Token) (u : Unit {0}) → ampersand ts ≡ Some (u, rest) → ts ≡ t.Ampersand ∷ rest
-ampersand_is [] rest u e = none_some (u, rest) e
-ampersand_is (t.Ampersand ∷ ts) rest u e = ap (λ l. t.Ampersand ∷ l) (some_pair tt u ts rest e).1
-ampersand_is (_ ∷ ts) rest u e = none_some (u, rest) e
-
-power_sign_is : (ts rest : List Token) (u : Unit {0}) → power_sign ts ≡ Some (u, rest) → ts ≡ t.Power ∷ rest
-power_sign_is [] rest u e = none_some (u, rest) e
-power_sign_is (t.Power ∷ ts) rest u e = ap (λ l. t.Power ∷ l) (some_pair tt u ts rest e).1
-power_sign_is (_ ∷ ts) rest u e = none_some (u, rest) e
-
-percent_sign_is : (ts rest : List Token) (u : Unit {0}) → percent_sign ts ≡ Some (u, rest) → ts ≡ t.Percent ∷ rest
-percent_sign_is [] rest u e = none_some (u, rest) e
-percent_sign_is (t.Percent ∷ ts) rest u e = ap (λ l. t.Percent ∷ l) (some_pair tt u ts rest e).1
-percent_sign_is (_ ∷ ts) rest u e = none_some (u, rest) e
-
-colon_sign_is : (ts rest : List Token) (u : Unit {0}) → colon_sign ts ≡ Some (u, rest) → ts ≡ t.Colon ∷ rest
-colon_sign_is [] rest u e = none_some (u, rest) e
-colon_sign_is (t.Colon ∷ ts) rest u e = ap (λ l. t.Colon ∷ l) (some_pair tt u ts rest e).1
-colon_sign_is (_ ∷ ts) rest u e = none_some (u, rest) e
-
-hash_is : (ts rest : List Token) (u : Unit {0}) → hash ts ≡ Some (u, rest) → ts ≡ t.Hash ∷ rest
-hash_is [] rest u e = none_some (u, rest) e
-hash_is (t.Hash ∷ ts) rest u e = ap (λ l. t.Hash ∷ l) (some_pair tt u ts rest e).1
-hash_is (_ ∷ ts) rest u e = none_some (u, rest) e
-
 opening_is : (ts rest : List Token) (u : Unit {0}) → opening ts ≡ Some (u, rest) → ts ≡ t.OpenParenthesis ∷ rest
 opening_is [] rest u e = none_some (u, rest) e
 opening_is (t.OpenParenthesis ∷ ts) rest u e = ap (λ l. t.OpenParenthesis ∷ l) (some_pair tt u ts rest e).1
@@ -94,35 +59,8 @@ closing_is (_ ∷ ts) rest u e = none_some (u, rest) e
 
 -- ---- the rules
 
-abbrev pub IsCompare : Profile → ℕ → List Token → Node → Type 0
-IsCompare p = Derived (compare_tokens {p = p}) compare_tree compare_open
-
-abbrev pub IsConcatenation : Profile → ℕ → List Token → Node → Type 0
-IsConcatenation p = Derived (concatenation_tokens {p = p}) concatenation_tree concatenation_open
-
-abbrev pub IsSum : Profile → ℕ → List Token → Node → Type 0
-IsSum p = Derived (sum_tokens {p = p}) sum_tree sum_open
-
-abbrev pub IsProduct : Profile → ℕ → List Token → Node → Type 0
-IsProduct p = Derived (product_tokens {p = p}) product_tree product_open
-
-abbrev pub IsPower : Profile → ℕ → List Token → Node → Type 0
-IsPower p = Derived (power_tokens {p = p}) power_tree power_open
-
-abbrev pub IsSigned : Profile → ℕ → List Token → Node → Type 0
-IsSigned p = Derived (signed_tokens {p = p}) signed_tree signed_open
-
-abbrev pub IsPercent : Profile → ℕ → List Token → Node → Type 0
-IsPercent p = Derived (percent_tokens {p = p}) percent_tree percent_open
-
-abbrev pub IsSingle : Profile → ℕ → List Token → Node → Type 0
-IsSingle p = Derived (single_tokens {p = p}) single_tree single_open
-
-abbrev pub IsColon : Profile → ℕ → List Token → Node → Type 0
-IsColon p = Derived (colon_tokens {p = p}) colon_tree colon_open
-
-abbrev pub IsSpill : Profile → ℕ → List Token → Node → Type 0
-IsSpill p = Derived (spill_tokens {p = p}) spill_tree spill_open
+abbrev pub IsExpression : Profile → ℕ → ℕ → List Token → Node → Type 0
+IsExpression p level = Derived (expression_tokens {p = p} {level = level}) expression_tree expression_open
 
 abbrev pub IsPrimary : Profile → ℕ → List Token → Node → Type 0
 IsPrimary p = Derived (primary_tokens {p = p}) primary_tree primary_open
@@ -133,117 +71,78 @@ IsLambda p = Derived (lambda_tokens {p = p}) lambda_tree lambda_open
 abbrev pub IsArgument : Profile → ℕ → List Token → Node → Type 0
 IsArgument p = Derived (argument_tokens {p = p}) argument_tree argument_open
 
-one_compare : (p : Profile) (room : ℕ) (xs : List Token) (a : Node) → IsConcatenation p room xs a → IsCompare p room xs a
-one_compare p room xs a d = record { by = G.concatenation d.by; spells = d.spells; gives = d.gives; within = d.within; shallow = d.shallow }
+of_primary : (p : Profile) (room : ℕ) (xs : List Token) (a : Node) → IsPrimary p room xs a → IsExpression p 0 room xs a
+of_primary p room xs a d = record { by = G.primary d.by; spells = d.spells; gives = d.gives; within = d.within; shallow = d.shallow }
 
-one_concatenation : (p : Profile) (room : ℕ) (xs : List Token) (a : Node) → IsSum p room xs a → IsConcatenation p room xs a
-one_concatenation p room xs a d = record { by = G.sum d.by; spells = d.spells; gives = d.gives; within = d.within; shallow = d.shallow }
-
-one_sum : (p : Profile) (room : ℕ) (xs : List Token) (a : Node) → IsProduct p room xs a → IsSum p room xs a
-one_sum p room xs a d = record { by = G.product d.by; spells = d.spells; gives = d.gives; within = d.within; shallow = d.shallow }
-
-one_product : (p : Profile) (room : ℕ) (xs : List Token) (a : Node) → IsPower p room xs a → IsProduct p room xs a
-one_product p room xs a d = record { by = G.power d.by; spells = d.spells; gives = d.gives; within = d.within; shallow = d.shallow }
-
-one_power : (p : Profile) (room : ℕ) (xs : List Token) (a : Node) → IsSigned p room xs a → IsPower p room xs a
-one_power p room xs a d = record { by = G.signed d.by; spells = d.spells; gives = d.gives; within = d.within; shallow = d.shallow }
-
-one_percent : (p : Profile) (room : ℕ) (xs : List Token) (a : Node) → IsSingle p room xs a → IsPercent p room xs a
-one_percent p room xs a d = record { by = G.single d.by; spells = d.spells; gives = d.gives; within = d.within; shallow = d.shallow }
-
-one_colon : (p : Profile) (room : ℕ) (xs : List Token) (a : Node) → IsSpill p room xs a → IsColon p room xs a
-one_colon p room xs a d = record { by = G.spill d.by; spells = d.spells; gives = d.gives; within = d.within; shallow = d.shallow }
-
-one_spill : (p : Profile) (room : ℕ) (xs : List Token) (a : Node) → IsPrimary p room xs a → IsSpill p room xs a
-one_spill p room xs a d = record { by = G.primary d.by; spells = d.spells; gives = d.gives; within = d.within; shallow = d.shallow }
-
-one_signed : (p : Profile) (room : ℕ) (xs : List Token) (a : Node) → IsPercent p room xs a → IsSigned p room xs a
-one_signed p room xs a d = record { by = G.percent d.by; spells = d.spells; gives = d.gives; within = d.within; shallow = d.shallow }
-
-one_single : (p : Profile) (room : ℕ) (xs : List Token) (a : Node) → IsColon p room xs a → IsSingle p room xs a
-one_single p room xs a d = record { by = G.colon d.by; spells = d.spells; gives = d.gives; within = d.within; shallow = d.shallow }
+lifted : (p : Profile) (level room : ℕ) (xs : List Token) (a : Node) → IsExpression p level room xs a → IsExpression p (suc level) room xs a
+lifted p level room xs a d = record { by = G.lift d.by; spells = d.spells; gives = d.gives; within = d.within; shallow = d.shallow }
 
 one_primary : (p : Profile) (room : ℕ) (xs : List Token) (a : Node) → IsLambda p room xs a → IsPrimary p room xs a
 one_primary p room xs a d = record { by = G.lambda d.by; spells = d.spells; gives = d.gives; within = d.within; shallow = d.shallow }
 
-more_compare : (p : Profile) (room : ℕ) (kind : CompareKind) (xs ys : List Token) (a b : Node) → IsCompare p room xs a → IsConcatenation p room ys b → depth_of (n.Compare kind a b) ≤ 64 → IsCompare p room (xs ++ compare_token kind ∷ ys) (n.Compare kind a b)
-more_compare p room kind xs ys a b x y h = record {
-  by = G.compared x.by kind y.by;
-  spells = ap (λ (l : List Token). l ++ compare_token kind ∷ concatenation_tokens y.by) x.spells ∙ ap (λ (l : List Token). xs ++ compare_token kind ∷ l) y.spells;
-  gives = ap (λ (c : Node). n.Compare kind c (concatenation_tree y.by)) x.gives ∙ ap (n.Compare kind a) y.gives;
-  within = omega (arith, x.within, y.within);
-  shallow = h;
-}
+-- with an infix operator, the operands of the levels that it asks for
+with_infix : (p : Profile) (room : ℕ) (op : Infix) (under : ℕ) → infix_under op ≡ under → (xs ys : List Token) (a b : Node) → IsExpression p (suc under) room xs a → IsExpression p under room ys b
+    → depth_of (infix_node op a b) ≤ 64 → IsExpression p (suc under) room (xs ++ infix_token op ∷ ys) (infix_node op a b)
+with_infix p room op under e xs ys a b = subst (λ (l : ℕ). IsExpression p (suc l) room xs a → IsExpression p l room ys b → depth_of (infix_node op a b) ≤ 64 → IsExpression p (suc l) room (xs ++ infix_token op ∷ ys) (infix_node op a b)) e own
+  where
+    own : IsExpression p (suc (infix_under op)) room xs a → IsExpression p (infix_under op) room ys b → depth_of (infix_node op a b) ≤ 64 → IsExpression p (suc (infix_under op)) room (xs ++ infix_token op ∷ ys) (infix_node op a b)
+    own x y h = record {
+      by = G.joined op x.by y.by;
+      spells = ap (λ (l : List Token). l ++ infix_token op ∷ expression_tokens y.by) x.spells ∙ ap (λ (l : List Token). xs ++ infix_token op ∷ l) y.spells;
+      gives = ap (λ (c : Node). infix_node op c (expression_tree y.by)) x.gives ∙ ap (infix_node op a) y.gives;
+      within = omega (arith, x.within, y.within);
+      shallow = h;
+    }
 
-more_concatenation : (p : Profile) (room : ℕ) (u : Unit {0}) (xs ys : List Token) (a b : Node) → IsConcatenation p room xs a → IsSum p room ys b → depth_of (n.Concatenate a b) ≤ 64 → IsConcatenation p room (xs ++ t.Ampersand ∷ ys) (n.Concatenate a b)
-more_concatenation p room u xs ys a b x y h = record {
-  by = G.joined x.by y.by;
-  spells = ap (λ (l : List Token). l ++ t.Ampersand ∷ sum_tokens y.by) x.spells ∙ ap (λ (l : List Token). xs ++ t.Ampersand ∷ l) y.spells;
-  gives = ap (λ (c : Node). n.Concatenate c (sum_tree y.by)) x.gives ∙ ap (n.Concatenate a) y.gives;
-  within = omega (arith, x.within, y.within);
-  shallow = h;
-}
+with_postfix : (p : Profile) (room : ℕ) (op : Postfix) (under : ℕ) → postfix_under op ≡ under → (xs : List Token) (a : Node) → IsExpression p (suc under) room xs a
+    → depth_of (postfix_node op a) ≤ 64 → IsExpression p (suc under) room (xs ++ postfix_token op ∷ []) (postfix_node op a)
+with_postfix p room op under e xs a = subst (λ (l : ℕ). IsExpression p (suc l) room xs a → depth_of (postfix_node op a) ≤ 64 → IsExpression p (suc l) room (xs ++ postfix_token op ∷ []) (postfix_node op a)) e own
+  where
+    own : IsExpression p (suc (postfix_under op)) room xs a → depth_of (postfix_node op a) ≤ 64 → IsExpression p (suc (postfix_under op)) room (xs ++ postfix_token op ∷ []) (postfix_node op a)
+    own x h = record { by = G.followed op x.by; spells = ap (λ (l : List Token). l ++ postfix_token op ∷ []) x.spells; gives = ap (postfix_node op) x.gives; within = x.within; shallow = h }
 
-more_sum : (p : Profile) (room : ℕ) (kind : SumKind) (xs ys : List Token) (a b : Node) → IsSum p room xs a → IsProduct p room ys b → depth_of (n.Sum kind a b) ≤ 64 → IsSum p room (xs ++ sum_token kind ∷ ys) (n.Sum kind a b)
-more_sum p room kind xs ys a b x y h = record {
-  by = G.added x.by kind y.by;
-  spells = ap (λ (l : List Token). l ++ sum_token kind ∷ product_tokens y.by) x.spells ∙ ap (λ (l : List Token). xs ++ sum_token kind ∷ l) y.spells;
-  gives = ap (λ (c : Node). n.Sum kind c (product_tree y.by)) x.gives ∙ ap (n.Sum kind a) y.gives;
-  within = omega (arith, x.within, y.within);
-  shallow = h;
-}
+with_prefix : (p : Profile) (room : ℕ) (op : Prefix) (under : ℕ) → prefix_under op ≡ under → (xs : List Token) (a : Node) → IsExpression p (suc under) room xs a
+    → depth_of (prefix_node op a) ≤ 64 → IsExpression p (suc under) room (prefix_token op ∷ xs) (prefix_node op a)
+with_prefix p room op under e xs a = subst (λ (l : ℕ). IsExpression p (suc l) room xs a → depth_of (prefix_node op a) ≤ 64 → IsExpression p (suc l) room (prefix_token op ∷ xs) (prefix_node op a)) e own
+  where
+    own : IsExpression p (suc (prefix_under op)) room xs a → depth_of (prefix_node op a) ≤ 64 → IsExpression p (suc (prefix_under op)) room (prefix_token op ∷ xs) (prefix_node op a)
+    own x h = record { by = G.signed op x.by; spells = ap (λ (l : List Token). prefix_token op ∷ l) x.spells; gives = ap (prefix_node op) x.gives; within = x.within; shallow = h }
 
-more_product : (p : Profile) (room : ℕ) (kind : ProductKind) (xs ys : List Token) (a b : Node) → IsProduct p room xs a → IsPower p room ys b → depth_of (n.Product kind a b) ≤ 64 → IsProduct p room (xs ++ product_token kind ∷ ys) (n.Product kind a b)
-more_product p room kind xs ys a b x y h = record {
-  by = G.multiplied x.by kind y.by;
-  spells = ap (λ (l : List Token). l ++ product_token kind ∷ power_tokens y.by) x.spells ∙ ap (λ (l : List Token). xs ++ product_token kind ∷ l) y.spells;
-  gives = ap (λ (c : Node). n.Product kind c (power_tree y.by)) x.gives ∙ ap (n.Product kind a) y.gives;
-  within = omega (arith, x.within, y.within);
-  shallow = h;
-}
+-- an operator that is read, and what it makes
+own_is : (under : ℕ) (ts rest : List Token) (o : Option Operator) (op : Operator) → with_rest ts (option_and_then (own_operator under) o) ≡ Some (op, rest) → (o ≡ Some op) × (operator_under op ≡ under) × (ts ≡ rest)
+own_is under ts rest None op e = none_some (op, rest) e
+own_is under ts rest (Some x) op e = go (operator_under x == under) refl e
+  where
+    go : (b : Bool) → (operator_under x == under) ≡ b → with_rest ts (cond b (Some x) None) ≡ Some (op, rest) → (Some x ≡ Some op) × (operator_under op ≡ under) × (ts ≡ rest)
+    go true h f =
+        let q = some_pair x op ts rest f in
+        let is : operator_under x ≡ under = grind (arith, nat_tests) in
+        (ap (λ (y : Operator). Some y) q.0, ap operator_under (sym q.0) ∙ is, q.1)
+    go false h f = none_some (op, rest) f
 
-more_power : (p : Profile) (room : ℕ) (u : Unit {0}) (xs ys : List Token) (a b : Node) → IsPower p room xs a → IsSigned p room ys b → depth_of (n.Power a b) ≤ 64 → IsPower p room (xs ++ t.Power ∷ ys) (n.Power a b)
-more_power p room u xs ys a b x y h = record {
-  by = G.raised x.by y.by;
-  spells = ap (λ (l : List Token). l ++ t.Power ∷ signed_tokens y.by) x.spells ∙ ap (λ (l : List Token). xs ++ t.Power ∷ l) y.spells;
-  gives = ap (λ (c : Node). n.Power c (signed_tree y.by)) x.gives ∙ ap (n.Power a) y.gives;
-  within = omega (arith, x.within, y.within);
-  shallow = h;
-}
+token_of : (x : Token) (op : Operator) → operator_of x ≡ Some op → x ≡ operator_token op
+token_of t.Equal op e = let same : operator.Infix (between.Compare compare_kind.Equal) ≡ op = cc in ap operator_token same
+token_of t.NotEqual op e = let same : operator.Infix (between.Compare compare_kind.NotEqual) ≡ op = cc in ap operator_token same
+token_of t.Less op e = let same : operator.Infix (between.Compare compare_kind.Less) ≡ op = cc in ap operator_token same
+token_of t.LessOrEqual op e = let same : operator.Infix (between.Compare compare_kind.LessOrEqual) ≡ op = cc in ap operator_token same
+token_of t.Greater op e = let same : operator.Infix (between.Compare compare_kind.Greater) ≡ op = cc in ap operator_token same
+token_of t.GreaterOrEqual op e = let same : operator.Infix (between.Compare compare_kind.GreaterOrEqual) ≡ op = cc in ap operator_token same
+token_of t.Ampersand op e = let same : operator.Infix between.Concatenate ≡ op = cc in ap operator_token same
+token_of t.Plus op e = let same : operator.Infix (between.Sum sum_kind.Add) ≡ op = cc in ap operator_token same
+token_of t.Minus op e = let same : operator.Infix (between.Sum sum_kind.Subtract) ≡ op = cc in ap operator_token same
+token_of t.Times op e = let same : operator.Infix (between.Product product_kind.Multiply) ≡ op = cc in ap operator_token same
+token_of t.Divide op e = let same : operator.Infix (between.Product product_kind.Divide) ≡ op = cc in ap operator_token same
+token_of t.Power op e = let same : operator.Infix between.Power ≡ op = cc in ap operator_token same
+token_of t.Colon op e = let same : operator.Infix between.Colon ≡ op = cc in ap operator_token same
+token_of t.Percent op e = let same : operator.Postfix postfix.Percent ≡ op = cc in ap operator_token same
+token_of t.Hash op e = let same : operator.Postfix postfix.Spill ≡ op = cc in ap operator_token same
+token_of _ op e = absurd cc
 
-more_colon : (p : Profile) (room : ℕ) (u : Unit {0}) (xs ys : List Token) (a b : Node) → IsColon p room xs a → IsSpill p room ys b → depth_of (n.Colon a b) ≤ 64 → IsColon p room (xs ++ t.Colon ∷ ys) (n.Colon a b)
-more_colon p room u xs ys a b x y h = record {
-  by = G.spanned x.by y.by;
-  spells = ap (λ (l : List Token). l ++ t.Colon ∷ spill_tokens y.by) x.spells ∙ ap (λ (l : List Token). xs ++ t.Colon ∷ l) y.spells;
-  gives = ap (λ (c : Node). n.Colon c (spill_tree y.by)) x.gives ∙ ap (n.Colon a) y.gives;
-  within = omega (arith, x.within, y.within);
-  shallow = h;
-}
-
--- after a postfix nothing is read
-abbrev IsNothing : List Token → Unit {0} → Type 0
-IsNothing ys u = [] ≡ ys
-
-nothing_sound : (ts rest : List Token) (u : Unit {0}) → nothing ts ≡ Some (u, rest) → Takes IsNothing ts rest u
-nothing_sound ts rest u e = record { front = []; parts = (some_pair tt u ts rest e).1; is = refl }
-
-more_percent : (p : Profile) (room : ℕ) (u : Unit {0}) (xs ys : List Token) (a : Node) (b : Unit {0}) → IsPercent p room xs a → IsNothing ys b → depth_of (n.Unary unary.Percent a) ≤ 64 → IsPercent p room (xs ++ t.Percent ∷ ys) (n.Unary unary.Percent a)
-more_percent p room u xs ys a b x y h = record {
-  by = G.hundredth x.by;
-  spells = ap (λ (l : List Token). l ++ t.Percent ∷ []) x.spells ∙ ap (λ (l : List Token). xs ++ t.Percent ∷ l) y;
-  gives = ap (n.Unary unary.Percent) x.gives;
-  within = x.within;
-  shallow = h;
-}
-
-more_spill : (p : Profile) (room : ℕ) (u : Unit {0}) (xs ys : List Token) (a : Node) (b : Unit {0}) → IsSpill p room xs a → IsNothing ys b → depth_of (n.Spill a) ≤ 64 → IsSpill p room (xs ++ t.Hash ∷ ys) (n.Spill a)
-more_spill p room u xs ys a b x y h = record {
-  by = G.spilled x.by;
-  spells = ap (λ (l : List Token). l ++ t.Hash ∷ []) x.spells ∙ ap (λ (l : List Token). xs ++ t.Hash ∷ l) y;
-  gives = ap (n.Spill) x.gives;
-  within = x.within;
-  shallow = h;
-}
+operator_is : (under : ℕ) (ts rest : List Token) (op : Operator) → operator_at under ts ≡ Some (op, rest) → (ts ≡ operator_token op ∷ rest) × (operator_under op ≡ under)
+operator_is under [] rest op e = none_some (op, rest) e
+operator_is under (x ∷ ts) rest op e =
+    let q = own_is under ts rest (operator_of x) op e in
+    (ap (λ (y : Token). y ∷ ts) (token_of x op q.0) ∙ ap (λ (l : List Token). operator_token op ∷ l) q.2, q.1)
 
 abbrev pub after : List Token → Outcome (Unit {0})
 after ts = Some (tt, ts)
@@ -330,7 +229,7 @@ range_leaf p sheet first second tree (Err x) b is also e = none_some tree e
 word_leaf : (p : Profile) (word : List ℕ) → IsLeaf p (t.Word word) (worded p.language word)
 word_leaf p word = record { by = G.word word; spells = refl; gives = refl; closed = refl; shallow = omega (arith, depth_worded p.language word) }
 
-module _ (p : Profile) (inner : ℕ → Parser Node) (inner_sound : (room : ℕ) (ts rest : List Token) (out : Node) → inner room ts ≡ Some (out, rest) → Takes (IsCompare p room) ts rest out) (room : ℕ) where
+module _ (p : Profile) (inner : ℕ → Parser Node) (inner_sound : (room : ℕ) (ts rest : List Token) (out : Node) → inner room ts ≡ Some (out, rest) → Takes (IsExpression p 10 room) ts rest out) (room : ℕ) where
   abbrev tail : ℕ → List Node → Parser (List Node)
   tail k found = separator p.locale >>= (λ goes_on. cond goes_on (arguments_from p inner room k found) (pure found))
 
@@ -415,12 +314,24 @@ module _ (p : Profile) (inner : ℕ → Parser Node) (inner_sound : (room : ℕ)
         };
       }
 
+  lambda_turn_sound : (word : List ℕ) (u : Unit {0}) (left : Node) (xs ts mid rest : List Token) (out : Node) → IsLambda p room (t.Word word ∷ t.OpenParenthesis ∷ xs) left → opening ts ≡ Some (u, mid)
+      → lambda_turn p inner room u left mid ≡ Some (out, rest) → Takes (λ ys. IsLambda p room (t.Word word ∷ t.OpenParenthesis ∷ ys)) (xs ++ ts) rest out
+  lambda_turn_sound word u left xs ts mid rest out b e f =
+      let r = bind_some (arguments p inner room mid) (λ all. make (n.LambdaCall left all)) out rest f in
+      let m = make_some (n.LambdaCall left r.0) out r.1 rest r.3 in
+      let a = arguments_sound mid r.1 r.0 r.2 in
+      let ts_is : ts ≡ t.OpenParenthesis ∷ (a.front ++ rest) = opening_is ts mid u e ∙ ap (λ (l : List Token). t.OpenParenthesis ∷ l) (a.parts ∙ ap (λ (l : List Token). a.front ++ l) m.1) in
+      record {
+        front = xs ++ t.OpenParenthesis ∷ a.front;
+        parts = ap (λ (l : List Token). xs ++ l) ts_is ∙ sym (append_assoc xs (t.OpenParenthesis ∷ a.front) rest);
+        is = subst (IsLambda p room (t.Word word ∷ t.OpenParenthesis ∷ (xs ++ t.OpenParenthesis ∷ a.front))) m.0 (more_lambda p room word u xs a.front left r.0 b a.is m.2);
+      }
+
   lambda_sound : (word : List ℕ) → is_lambda word ≡ true → (ts rest : List Token) (out : Node) → lambda p inner room ts ≡ Some (out, rest)
       → Takes (λ xs. IsLambda p room (t.Word word ∷ t.OpenParenthesis ∷ xs)) ts rest out
   unfolding lambda
   lambda_sound word is =
-      chain_sound opening (λ _. n.LambdaCall) (arguments p inner room) (λ _. t.OpenParenthesis) opening_is (IsArguments p room) (λ xs. IsLambda p room (t.Word word ∷ t.OpenParenthesis ∷ xs)) (more_lambda p room word) arguments_sound
-      (function p inner room) (function_sound word is)
+      chain_sound opening (lambda_turn p inner room) (λ xs. IsLambda p room (t.Word word ∷ t.OpenParenthesis ∷ xs)) (lambda_turn_sound word) (function p inner room) (function_sound word is)
 
   call_sound : (word : List ℕ) (ts rest : List Token) (out : Node) → call p inner room word ts ≡ Some (out, rest) → Takes (IsPrimary p room) (t.Word word ∷ t.OpenParenthesis ∷ ts) rest out
   unfolding call
@@ -496,96 +407,63 @@ module _ (p : Profile) (inner : ℕ → Parser Node) (inner_sound : (room : ℕ)
   raised : {A : List Token → Node → Type 0} {C : List Token → Node → Type 0} {ts rest : List Token} {out : Node} → ((xs : List Token) (a : Node) → A xs a → C xs a) → Takes A ts rest out → Takes C ts rest out
   raised f d = record { front = d.front; parts = d.parts; is = f d.front _ d.is }
 
-  spill_sound : (ts rest : List Token) (out : Node) → spill p inner room ts ≡ Some (out, rest) → Takes (IsSpill p room) ts rest out
-  unfolding spill
-  spill_sound =
-      chain_sound hash (λ _ tree _. n.Spill tree) nothing (λ _. t.Hash) hash_is IsNothing (IsSpill p room) (more_spill p room) nothing_sound
-      (primary p inner room) (λ ts rest out e. raised (one_spill p room) (primary_sound ts rest out e))
-
-  colon_sound : (ts rest : List Token) (out : Node) → colon p inner room ts ≡ Some (out, rest) → Takes (IsColon p room) ts rest out
-  unfolding colon
-  colon_sound =
-      chain_sound colon_sign (λ _. n.Colon) (spill p inner room) (λ _. t.Colon) colon_sign_is (IsSpill p room) (IsColon p room) (more_colon p room) spill_sound
-      (spill p inner room) (λ ts rest out e. raised (one_colon p room) (spill_sound ts rest out e))
-
-  unsingled_sound : (ts rest : List Token) (out : Node) → colon p inner room ts ≡ Some (out, rest) → Takes (IsSingle p room) ts rest out
-  unsingled_sound ts rest out e = raised (one_single p room) (colon_sound ts rest out e)
-
-  single_sound : (ts rest : List Token) (out : Node) → single p inner room ts ≡ Some (out, rest) → Takes (IsSingle p room) ts rest out
-  unfolding single
-  single_sound (t.At ∷ ts) rest out e =
-      let r = bind_some (single p inner room ts) (λ tree. make (n.ImplicitIntersection tree)) out rest e in
-      let m = make_some (n.ImplicitIntersection r.0) out r.1 rest r.3 in
-      let d = single_sound ts r.1 r.0 r.2 in
+  -- an operator behind an expression
+  turn_sound : (under : ℕ) (operand : Parser Node) (operand_sound : (ts rest : List Token) (out : Node) → operand ts ≡ Some (out, rest) → Takes (IsExpression p under room) ts rest out)
+      (op : Operator) (left : Node) (xs ts mid rest : List Token) (out : Node) → IsExpression p (suc under) room xs left → operator_at under ts ≡ Some (op, mid) → turn operand op left mid ≡ Some (out, rest)
+      → Takes (IsExpression p (suc under) room) (xs ++ ts) rest out
+  turn_sound under operand operand_sound (operator.Infix op) left xs ts mid rest out b e f =
+      let r = bind_some (operand mid) (λ right. make (infix_node op left right)) out rest f in
+      let m = make_some (infix_node op left r.0) out r.1 rest r.3 in
+      let right = operand_sound mid r.1 r.0 r.2 in
+      let q = operator_is under ts mid (operator.Infix op) e in
+      let ts_is : ts ≡ infix_token op ∷ (right.front ++ rest) = q.0 ∙ ap (λ (l : List Token). infix_token op ∷ l) (right.parts ∙ ap (λ (l : List Token). right.front ++ l) m.1) in
       record {
-        front = t.At ∷ d.front;
-        parts = ap (λ (l : List Token). t.At ∷ l) (d.parts ∙ ap (λ (l : List Token). d.front ++ l) m.1);
-        is = record { by = G.singled d.is.by; spells = ap (λ (l : List Token). t.At ∷ l) d.is.spells; gives = ap n.ImplicitIntersection d.is.gives ∙ m.0; within = d.is.within; shallow = omega (arith, m.2, ap depth_of m.0) };
+        front = xs ++ infix_token op ∷ right.front;
+        parts = ap (λ (l : List Token). xs ++ l) ts_is ∙ sym (append_assoc xs (infix_token op ∷ right.front) rest);
+        is = subst (IsExpression p (suc under) room (xs ++ infix_token op ∷ right.front)) m.0 (with_infix p room op under q.1 xs right.front left r.0 b right.is m.2);
       }
-  single_sound [] rest out e = unsingled_sound [] rest out e
-  single_sound (x ∷ ts) rest out e = unsingled_sound (x ∷ ts) rest out e
+  turn_sound under operand operand_sound (operator.Postfix op) left xs ts mid rest out b e f =
+      let m = make_some (postfix_node op left) out mid rest f in
+      let q = operator_is under ts mid (operator.Postfix op) e in
+      let ts_is : ts ≡ postfix_token op ∷ rest = q.0 ∙ ap (λ (l : List Token). postfix_token op ∷ l) m.1 in
+      record {
+        front = xs ++ postfix_token op ∷ [];
+        parts = ap (λ (l : List Token). xs ++ l) ts_is ∙ sym (append_assoc xs (postfix_token op ∷ []) rest);
+        is = subst (IsExpression p (suc under) room (xs ++ postfix_token op ∷ [])) m.0 (with_postfix p room op under q.1 xs left b m.2);
+      }
 
-  percent_sound : (ts rest : List Token) (out : Node) → percent p inner room ts ≡ Some (out, rest) → Takes (IsPercent p room) ts rest out
-  unfolding percent
-  percent_sound =
-      chain_sound percent_sign (λ _ tree _. n.Unary unary.Percent tree) nothing (λ _. t.Percent) percent_sign_is IsNothing (IsPercent p room) (more_percent p room) nothing_sound
-      (single p inner room) (λ ts rest out e. raised (one_percent p room) (single_sound ts rest out e))
+  make_signed_is : (op : Prefix) (x out : Node) (ts rest : List Token) → depth_of x ≤ 64 → make_signed op x ts ≡ Some (out, rest) → (prefix_node op x ≡ out) × (ts ≡ rest) × (depth_of (prefix_node op x) ≤ 64)
+  make_signed_is prefix.Minus x out ts rest h e = make_some (n.Unary unary.Minus x) out ts rest e
+  make_signed_is prefix.Plus x out ts rest h e = let q = some_pair x out ts rest e in (q.0, q.1, h)
+  make_signed_is prefix.At x out ts rest h e = make_some (n.ImplicitIntersection x) out ts rest e
 
-  unsigned_sound : (ts rest : List Token) (out : Node) → percent p inner room ts ≡ Some (out, rest) → Takes (IsSigned p room) ts rest out
-  unsigned_sound ts rest out e = raised (one_signed p room) (percent_sound ts rest out e)
-
-  signed_sound : (ts rest : List Token) (out : Node) → signed p inner room ts ≡ Some (out, rest) → Takes (IsSigned p room) ts rest out
+  signed_sound : (under : ℕ) (operand : Parser Node) (operand_sound : (ts rest : List Token) (out : Node) → operand ts ≡ Some (out, rest) → Takes (IsExpression p under room) ts rest out)
+      (ts rest : List Token) (out : Node) → signed under operand ts ≡ Some (out, rest) → Takes (IsExpression p (suc under) room) ts rest out
   unfolding signed
-  signed_sound (t.Minus ∷ ts) rest out e =
-      let r = bind_some (signed p inner room ts) (λ tree. make (n.Unary unary.Minus tree)) out rest e in
-      let m = make_some (n.Unary unary.Minus r.0) out r.1 rest r.3 in
-      let d = signed_sound ts r.1 r.0 r.2 in
-      record {
-        front = t.Minus ∷ d.front;
-        parts = ap (λ (l : List Token). t.Minus ∷ l) (d.parts ∙ ap (λ (l : List Token). d.front ++ l) m.1);
-        is = record { by = G.minus d.is.by; spells = ap (λ (l : List Token). t.Minus ∷ l) d.is.spells; gives = ap (n.Unary unary.Minus) d.is.gives ∙ m.0; within = d.is.within; shallow = omega (arith, m.2, ap depth_of m.0) };
-      }
-  signed_sound (t.Plus ∷ ts) rest out e =
-      let d = signed_sound ts rest out e in
-      record {
-        front = t.Plus ∷ d.front;
-        parts = ap (λ (l : List Token). t.Plus ∷ l) d.parts;
-        is = record { by = G.plus d.is.by; spells = ap (λ (l : List Token). t.Plus ∷ l) d.is.spells; gives = d.is.gives; within = d.is.within; shallow = d.is.shallow };
-      }
-  signed_sound [] rest out e = unsigned_sound [] rest out e
-  signed_sound (x ∷ ts) rest out e = unsigned_sound (x ∷ ts) rest out e
+  signed_sound under operand operand_sound [] rest out e = raised (lifted p under room) (operand_sound [] rest out e)
+  signed_sound under operand operand_sound (x ∷ ts) rest out e = go (prefix_of under x) refl e
+    where
+      go : (o : Option Prefix) → prefix_of under x ≡ o → signed_step under operand (operand (x ∷ ts)) (signed under operand ts) o ≡ Some (out, rest) → Takes (IsExpression p (suc under) room) (x ∷ ts) rest out
+      go None h f = raised (lifted p under room) (operand_sound (x ∷ ts) rest out f)
+      go (Some op) h f =
+          let r = bind_some (signed under operand ts) (make_signed op) out rest f in
+          let d = signed_sound under operand operand_sound ts r.1 r.0 r.2 in
+          let m = make_signed_is op r.0 out r.1 rest d.is.shallow r.3 in
+          let q = prefix_is under x op h in
+          record {
+            front = prefix_token op ∷ d.front;
+            parts = ap (λ (y : Token). y ∷ ts) q.1 ∙ ap (λ (l : List Token). prefix_token op ∷ l) (d.parts ∙ ap (λ (l : List Token). d.front ++ l) m.1);
+            is = subst (IsExpression p (suc under) room (prefix_token op ∷ d.front)) m.0 (with_prefix p room op under q.0 d.front r.0 d.is m.2);
+          }
 
-  power_sound : (ts rest : List Token) (out : Node) → power p inner room ts ≡ Some (out, rest) → Takes (IsPower p room) ts rest out
-  unfolding power
-  power_sound =
-      chain_sound power_sign (λ _. n.Power) (signed p inner room) (λ _. t.Power) power_sign_is (IsSigned p room) (IsPower p room) (more_power p room) signed_sound
-      (signed p inner room) (λ ts rest out e. raised (one_power p room) (signed_sound ts rest out e))
+  pub expression_sound : (level : ℕ) (ts rest : List Token) (out : Node) → expression p inner room level ts ≡ Some (out, rest) → Takes (IsExpression p level room) ts rest out
+  unfolding expression
+  expression_sound zero ts rest out e = raised (of_primary p room) (primary_sound ts rest out e)
+  expression_sound (suc under) ts rest out e =
+      chain_sound (operator_at under) (turn (expression p inner room under)) (IsExpression p (suc under) room) (turn_sound under (expression p inner room under) (expression_sound under))
+      (signed under (expression p inner room under)) (signed_sound under (expression p inner room under) (expression_sound under)) ts rest out e
 
-  product_sound : (ts rest : List Token) (out : Node) → product p inner room ts ≡ Some (out, rest) → Takes (IsProduct p room) ts rest out
-  unfolding product
-  product_sound =
-      chain_sound product_sign n.Product (power p inner room) product_token product_sign_is (IsPower p room) (IsProduct p room) (more_product p room) power_sound
-      (power p inner room) (λ ts rest out e. raised (one_product p room) (power_sound ts rest out e))
-
-  sum_sound : (ts rest : List Token) (out : Node) → sum p inner room ts ≡ Some (out, rest) → Takes (IsSum p room) ts rest out
-  unfolding sum
-  sum_sound =
-      chain_sound sum_sign n.Sum (product p inner room) sum_token sum_sign_is (IsProduct p room) (IsSum p room) (more_sum p room) product_sound
-      (product p inner room) (λ ts rest out e. raised (one_sum p room) (product_sound ts rest out e))
-
-  concatenation_sound : (ts rest : List Token) (out : Node) → concatenation p inner room ts ≡ Some (out, rest) → Takes (IsConcatenation p room) ts rest out
-  unfolding concatenation
-  concatenation_sound =
-      chain_sound ampersand (λ _. n.Concatenate) (sum p inner room) (λ _. t.Ampersand) ampersand_is (IsSum p room) (IsConcatenation p room) (more_concatenation p room) sum_sound
-      (sum p inner room) (λ ts rest out e. raised (one_concatenation p room) (sum_sound ts rest out e))
-
-  pub compare_sound : (ts rest : List Token) (out : Node) → compare p inner room ts ≡ Some (out, rest) → Takes (IsCompare p room) ts rest out
-  unfolding compare
-  compare_sound =
-      chain_sound compare_sign n.Compare (concatenation p inner room) compare_token compare_sign_is (IsConcatenation p room) (IsCompare p room) (more_compare p room) concatenation_sound
-      (concatenation p inner room) (λ ts rest out e. raised (one_compare p room) (concatenation_sound ts rest out e))
-
-pub whole_sound : (p : Profile) (nesting room : ℕ) (ts rest : List Token) (out : Node) → whole p nesting room ts ≡ Some (out, rest) → Takes (IsCompare p room) ts rest out
+pub whole_sound : (p : Profile) (nesting room : ℕ) (ts rest : List Token) (out : Node) → whole p nesting room ts ≡ Some (out, rest) → Takes (IsExpression p 10 room) ts rest out
 unfolding whole
 whole_sound p zero room ts rest out e = none_some (out, rest) e
-whole_sound p (suc nesting) room ts rest out e = compare_sound p (whole p nesting) (whole_sound p nesting) room ts rest out e
+whole_sound p (suc nesting) room ts rest out e = expression_sound p (whole p nesting) (whole_sound p nesting) room 10 ts rest out e

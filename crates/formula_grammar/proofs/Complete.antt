@@ -1,37 +1,35 @@
 -- What the grammar derives is read as that tree, whatever comes after it that does not go on with it.
-use Rattle.std.proofs.Common.{◌≡◌, ℕ, zero, suc, ◌+◌, ◌-◌, ◌<◌, ◌≤◌, max, Bool, true, false, cond, List, [], ◌∷◌, ◌++◌, length, map, Option, Some, None, option_and_then, Ok, refl, sym, ap, ◌∙◌, append_assoc, append-nil, length-append, arith}
+use Rattle.std.proofs.Common.{◌≡◌, ℕ, zero, suc, ◌+◌, ◌-◌, ◌<◌, ◌≤◌, max, Bool, true, false, cond, List, [], ◌∷◌, ◌++◌, length, map, Option, Some, None, option_and_then, Ok, refl, sym, ap, ◌∙◌, append_assoc, length-append, arith}
 use Rattle.std.specs.Prelude.{◌==◌}
 use Rattle.std.proofs.lemmas.Bool.{ne_eqb}
 use lib.Dec.{eqb}
-use Rattle.base_tables.specs.declared.Locale.{Locale}
-use Rattle.base_tables.specs.declared.Locale.TheVariants as locale
 use Rattle.formula_tree.specs.declared.node.Node.{Node}
 use Rattle.formula_tree.specs.declared.node.Node.TheVariants as n
-use Rattle.formula_tree.specs.declared.operator.UnaryKind.TheVariants as unary
 use Rattle.formula_tree.specs.declared.parameter.Parameter.{Parameter}
 use Rattle.formula_tree.specs.Depth.{depth_of, greatest}
 use Rattle.formula_tree.specs.laws.DepthEquations.{depth_lambda, depth_lambda_call}
 use Rattle.formula_tree.specs.laws.DepthLaws.{depth_positive}
-use Rattle.formula_grammar.specs.declared.operator.Infix.{Infix}
-use Rattle.formula_grammar.specs.declared.operator.Infix.TheVariants as between
+use Rattle.formula_levels.specs.declared.infix.Infix.{Infix}
+use Rattle.formula_levels.specs.declared.infix.Infix.TheVariants as between
+use Rattle.formula_levels.specs.declared.postfix.Postfix.{Postfix}
+use Rattle.formula_levels.specs.declared.postfix.Postfix.TheVariants as postfix
+use Rattle.formula_levels.specs.declared.prefix.Prefix.{Prefix}
+use Rattle.formula_levels.specs.declared.prefix.Prefix.TheVariants as prefix
+use Rattle.formula_levels.specs.Levels.{infix_node, prefix_node, postfix_node}
 use Rattle.formula_grammar.specs.declared.operator.Operator.{Operator}
 use Rattle.formula_grammar.specs.declared.operator.Operator.TheVariants as operator
-use Rattle.formula_grammar.specs.declared.operator.Postfix.{Postfix}
-use Rattle.formula_grammar.specs.declared.operator.Postfix.TheVariants as postfix
-use Rattle.formula_grammar.specs.declared.operator.Prefix.{Prefix}
-use Rattle.formula_grammar.specs.declared.operator.Prefix.TheVariants as prefix
 use Rattle.formula_grammar.specs.declared.profile.Profile.{Profile}
 use Rattle.formula_grammar.specs.declared.token.Token.{Token}
 use Rattle.formula_grammar.specs.declared.token.Token.TheVariants as t
+use Rattle.formula_grammar.specs.Operators.{infix_under, prefix_under, postfix_under, infix_token, prefix_token, postfix_token}
 use Rattle.formula_grammar.specs.Words.{are_even, separator_token, is_lambda, called, mark_place}
 use Rattle.formula_grammar.specs.Grammar as G
-use Rattle.formula_grammar.specs.Levels.{infix_under, prefix_under, postfix_under, operator_under, infix_token, prefix_token, postfix_token, infix_node, prefix_node, postfix_node}
-use Rattle.formula_grammar.specs.Grammar.{Expression, Primary, Lambda, Arguments, Argument, More, parameters_tokens, rows_tokens, rows_lines, expression_tokens, primary_tokens, lambda_tokens, arguments_tokens, argument_tokens, more_tokens, expression_tree, primary_tree, lambda_tree, arguments_trees, argument_tree, more_trees, expression_open, primary_open, lambda_open, arguments_open, argument_open, more_open}
-use Rattle.formula_grammar.specs.laws.Reading.{Outcome, Parser, and_then, ◌>>=◌, ◌>>◌, pure, with_rest, make, operator_of, own_operator, operator_at, prefix_of, make_signed, signed_step, signed, opening, closing, separator, is_empty_here, chain_from, parameters, reference_at, range_at, enclosed, argument, arguments_from, arguments_by, arguments, function, lambda_turn, lambda, call, primary, turn, expression, whole}
+use Rattle.formula_grammar.specs.Grammar.{Expression, Lambda, Arguments, Argument, parameters_tokens, rows_tokens, rows_lines, expression_tokens, lambda_tokens, arguments_tokens, argument_tokens, passed, expression_tree, lambda_tree, arguments_trees, argument_tree, expression_open, lambda_open, arguments_open, argument_open}
+use Rattle.formula_grammar.specs.laws.Reading.{Outcome, Parser, and_then, ◌>>=◌, ◌>>◌, pure, with_rest, make, operator_of, operator_under, own, operator_at, sign_at, make_signed, signed_step, signed, opening, closing, separator, is_empty_here, chain_from, parameters, reference_at, range_at, enclosed, argument, arguments_from, arguments_by, arguments, function, lambda_turn, lambda, call, primary, turn, expression, whole}
 use Rattle.formula_grammar.proofs.Depths.{depth_called, depth_infix, depth_postfix, depth_prefix, made-shallow}
 use Rattle.formula_grammar.proofs.Chains.{chain_starts, chain_turns, chain_closes, chain_never}
-use Rattle.formula_grammar.proofs.Follow.{EndsAt, ends_sooner, ends_operator, ends_lambda, ends_word, ends_at_separator, operator_reads, operator_ends, separator_reads, separator_empty}
-use Rattle.formula_grammar.proofs.Starts.{unsigned, starts_given, starts_no_close, expression_starts, expression_no_parameter}
+use Rattle.formula_grammar.proofs.Follow.{EndsAt, ends_sooner, ends_operator, ends_lambda, ends_word, ends_at_separator, operator_reads, operator_ends, separates}
+use Rattle.formula_grammar.proofs.Starts.{unsigned, starts_given, starts_no_close, begins}
 use Rattle.formula_grammar.proofs.Turns.{expression_turns, lambda_turns, expression_turns-lt, lambda_turns-lt}
 use Rattle.formula_grammar.proofs.Constants.{array_complete, parameters_complete}
 
@@ -125,7 +123,7 @@ turn_reads p inner room (suc k) found ts rest x h e =
 -- at a separator the list goes on
 tail_reads : (p : Profile) (inner : ℕ → Parser Node) (room k : ℕ) (found : List Node) (ts : List Token) → tail p inner room k found (separator_token p.locale ∷ ts) ≡ arguments_from p inner room k found ts
 tail_reads p inner room k found ts =
-    ap (λ (o : Outcome Bool). and_then o (λ goes_on. cond goes_on (arguments_from p inner room k found) (pure found))) (separator_reads p.locale ts)
+    ap (λ (o : Outcome Bool). and_then o (λ goes_on. cond goes_on (arguments_from p inner room k found) (pure found))) ((separates p.locale).reads ts)
 
 arguments_none : (p : Profile) (inner : ℕ → Parser Node) (room : ℕ) (ts : List Token) → arguments p inner room (t.CloseParenthesis ∷ ts) ≡ Some ([], ts)
 unfolding arguments
@@ -135,43 +133,31 @@ arguments_some : (p : Profile) (inner : ℕ → Parser Node) (room : ℕ) (ts : 
 unfolding arguments
 arguments_some p inner room ts e = ap (arguments_by p inner room ts) e
 
-abbrev more_count : {p : Profile} → More p → ℕ
-more_count G.end = 0
-more_count (G.more a rest) = suc (more_count rest)
+abbrev arguments_count : {p : Profile} → Arguments p → ℕ
+arguments_count (G.last a) = 1
+arguments_count (G.more a all) = suc (arguments_count all)
 
-more_count-le : {p : Profile} (m : More p) → more_count m ≤ length (more_tokens m)
-more_count-le G.end = omega arith
-more_count-le (G.more a rest) = omega (arith, more_count-le rest, length-append (argument_tokens a) (more_tokens rest))
-
-empty_no_close : (p : Profile) (r : List Token) → closing (separator_token p.locale ∷ r) ≡ None
-empty_no_close p r = go p.locale
-  where
-    go : (l : Locale) → closing (separator_token l ∷ r) ≡ None
-    go locale.En = refl
-    go locale.De = refl
-    go locale.Fr = refl
-    go locale.Es = refl
+arguments_count-le : {p : Profile} (d : Arguments p) → arguments_count d ≤ suc (length (arguments_tokens d))
+arguments_count-le (G.last a) = omega arith
+arguments_count-le {p} (G.more a all) = omega (arith, arguments_count-le all, length-append (argument_tokens a) (separator_token p.locale ∷ arguments_tokens all))
 
 argument_no_close : {p : Profile} (a : Argument p) (r : List Token) → closing (argument_tokens a ++ separator_token p.locale ∷ r) ≡ None
-argument_no_close {p} G.empty r = empty_no_close p r
-argument_no_close {p} (G.given a) r = starts_no_close (expression_tokens a ++ separator_token p.locale ∷ r) (expression_starts a (separator_token p.locale ∷ r))
-
-more_begins : {p : Profile} (m : More p) (r : List Token) → is_empty_here p.locale (more_tokens m ++ t.CloseParenthesis ∷ r) ≡ true
-more_begins G.end r = refl
-more_begins {p} (G.more a rest) r = separator_empty p.locale _
+argument_no_close {p} G.empty r = (separates p.locale).no_end r
+argument_no_close {p} (G.given a) r = starts_no_close (expression_tokens a ++ separator_token p.locale ∷ r) (begins a (separator_token p.locale ∷ r)).starts
 
 -- ---- expressions
 
--- a primary is read whole, and an expression of a level as far as the chain of that level has come
+-- what has no operator outermost is read whole, and an expression of a level as far as the chain of that level has come
 abbrev pub Reads : {p : Profile} (level : ℕ) → Expression p level → Type 0
 Reads {p} zero d = (nesting room : ℕ) (r : List Token) → Fits (suc nesting) room (expression_open d) (depth_of (expression_tree d)) → EndsAt 0 r
-    → expression p (whole p nesting) room 0 (expression_tokens d ++ r) ≡ Some (expression_tree d, r)
+    → primary p (whole p nesting) room (expression_tokens d ++ r) ≡ Some (expression_tree d, r)
 Reads {p} (suc under) d = (nesting room k : ℕ) (r : List Token) → Fits (suc nesting) room (expression_open d) (depth_of (expression_tree d)) → EndsAt under r → k + expression_turns d ≡ 64
     → expression p (whole p nesting) room (suc under) (expression_tokens d ++ r) ≡ chain_from (operator_at under) (turn (expression p (whole p nesting) room under)) k (expression_tree d) r
 
 -- where no operator of its level follows, it is read whole
 pub completes : {p : Profile} (level : ℕ) (d : Expression p level) → Reads level d → (nesting room : ℕ) (r : List Token) → Fits (suc nesting) room (expression_open d) (depth_of (expression_tree d)) → EndsAt level r
     → expression p (whole p nesting) room level (expression_tokens d ++ r) ≡ Some (expression_tree d, r)
+unfolding expression
 completes zero d reads nesting room r fits ends = reads nesting room r fits ends
 completes {p} (suc under) d reads nesting room r fits ends =
     chain_closes (operator_at under) (turn (expression p (whole p nesting) room under)) _ (expression_turns d) (expression_tree d) r (expression_turns-lt d) fits.shallow (ends_operator under r ends)
@@ -186,7 +172,7 @@ whole_completes {p} d reads nesting room r fits ends =
 given_completes : {p : Profile} (d : Expression p 10) → Reads 10 d → (nesting room : ℕ) (r : List Token) → Fits nesting room (expression_open d) (depth_of (expression_tree d)) → is_empty_here p.locale r ≡ true
     → argument p (whole p nesting) room (expression_tokens d ++ r) ≡ Some (expression_tree d, r)
 given_completes {p} d reads nesting room r fits ends =
-    given_reads p (whole p nesting) room (expression_tokens d ++ r) _ (starts_given p.locale (expression_tokens d ++ r) (expression_starts d r))
+    given_reads p (whole p nesting) room (expression_tokens d ++ r) _ (starts_given p.locale (expression_tokens d ++ r) (begins d r).starts)
     (whole_completes d reads nesting room r fits (ends_at_separator p.locale r ends))
 
 -- an operand of the level below
@@ -194,7 +180,7 @@ lift_reads : {p : Profile} (under : ℕ) (a : Expression p under) → Reads unde
 unfolding expression
 lift_reads {p} under a reads = λ nesting room k r fits ends is.
     chain_starts (operator_at under) (turn (expression p (whole p nesting) room under)) (signed under (expression p (whole p nesting) room under) (expression_tokens a ++ r)) (expression_tree a) r k
-    (unsigned under (expression p (whole p nesting) room under) (expression_tokens a ++ r) (expression_starts a r) ∙ completes under a reads nesting room r fits ends) (omega (arith, is))
+    (unsigned under (expression p (whole p nesting) room under) (expression_tokens a ++ r) (begins a r).starts ∙ completes under a reads nesting room r fits ends) (omega (arith, is))
 
 -- behind an operator, its right operand
 infix_turn : (operand : Parser Node) (op : Infix) (left right : Node) (ts rest : List Token) → operand ts ≡ Some (right, rest) → depth_of (infix_node op left right) ≤ 64
@@ -226,51 +212,30 @@ followed_reads {p} op a reads_a = λ nesting room k r fits ends is.
     (operator_reads (operator.Postfix op) r) (ap (with_rest r) (made-shallow (postfix_node op (expression_tree a)) fits.shallow))
 
 -- no operator has the level of a sign
-no_operator : (op : Prefix) (o : Option Operator) (ts : List Token) → with_rest ts (option_and_then (own_operator (prefix_under op)) o) ≡ None
+levels_apart : (op : Prefix) (x : Operator) → (operator_under x == prefix_under op) ≡ false
+levels_apart prefix.Minus (operator.Infix between.Power) = refl
+levels_apart prefix.Minus (operator.Postfix postfix.Percent) = refl
+levels_apart prefix.Plus (operator.Infix between.Power) = refl
+levels_apart prefix.Plus (operator.Postfix postfix.Percent) = refl
+levels_apart prefix.At (operator.Infix between.Power) = refl
+levels_apart prefix.At (operator.Postfix postfix.Percent) = refl
+levels_apart _ _ = refl
+
+no_operator : (op : Prefix) (o : Option Operator) (ts : List Token) → with_rest ts (option_and_then (own operator_under (prefix_under op)) o) ≡ None
 no_operator op None ts = refl
-no_operator op (Some x) ts =
-    let apart : (operator_under x == prefix_under op) ≡ false = levels_apart x op in
-    ap (λ (b : Bool). with_rest ts (cond b (Some x) None)) apart
-  where
-    levels_apart : (x : Operator) (op : Prefix) → (operator_under x == prefix_under op) ≡ false
-    levels_apart (operator.Infix (between.Compare kind)) prefix.Minus = refl
-    levels_apart (operator.Infix (between.Compare kind)) prefix.Plus = refl
-    levels_apart (operator.Infix (between.Compare kind)) prefix.At = refl
-    levels_apart (operator.Infix between.Concatenate) prefix.Minus = refl
-    levels_apart (operator.Infix between.Concatenate) prefix.Plus = refl
-    levels_apart (operator.Infix between.Concatenate) prefix.At = refl
-    levels_apart (operator.Infix (between.Sum kind)) prefix.Minus = refl
-    levels_apart (operator.Infix (between.Sum kind)) prefix.Plus = refl
-    levels_apart (operator.Infix (between.Sum kind)) prefix.At = refl
-    levels_apart (operator.Infix (between.Product kind)) prefix.Minus = refl
-    levels_apart (operator.Infix (between.Product kind)) prefix.Plus = refl
-    levels_apart (operator.Infix (between.Product kind)) prefix.At = refl
-    levels_apart (operator.Infix between.Power) prefix.Minus = refl
-    levels_apart (operator.Infix between.Power) prefix.Plus = refl
-    levels_apart (operator.Infix between.Power) prefix.At = refl
-    levels_apart (operator.Infix between.Colon) prefix.Minus = refl
-    levels_apart (operator.Infix between.Colon) prefix.Plus = refl
-    levels_apart (operator.Infix between.Colon) prefix.At = refl
-    levels_apart (operator.Postfix postfix.Percent) prefix.Minus = refl
-    levels_apart (operator.Postfix postfix.Percent) prefix.Plus = refl
-    levels_apart (operator.Postfix postfix.Percent) prefix.At = refl
-    levels_apart (operator.Postfix postfix.Spill) prefix.Minus = refl
-    levels_apart (operator.Postfix postfix.Spill) prefix.Plus = refl
-    levels_apart (operator.Postfix postfix.Spill) prefix.At = refl
+no_operator op (Some x) ts = ap (λ (b : Bool). with_rest ts (cond b (Some x) None)) (levels_apart op x)
 
 never_there : (op : Prefix) (ts : List Token) → operator_at (prefix_under op) ts ≡ None
 never_there op [] = refl
 never_there op (x ∷ ts) = no_operator op (operator_of x) ts
 
-sign_here : (op : Prefix) → prefix_of (prefix_under op) (prefix_token op) ≡ Some op
+sign_here : (op : Prefix) → sign_at (prefix_under op) (prefix_token op) ≡ Some op
 sign_here prefix.Minus = refl
-sign_here prefix.Plus = refl
-sign_here prefix.At = refl
+sign_here _ = refl
 
 sign_makes : (op : Prefix) (tree : Node) (rest : List Token) → depth_of (prefix_node op tree) ≤ 64 → make_signed op tree rest ≡ Some (prefix_node op tree, rest)
-sign_makes prefix.Minus tree rest h = ap (with_rest rest) (made-shallow (n.Unary unary.Minus tree) h)
 sign_makes prefix.Plus tree rest h = refl
-sign_makes prefix.At tree rest h = ap (with_rest rest) (made-shallow (n.ImplicitIntersection tree) h)
+sign_makes op tree rest h = ap (with_rest rest) (made-shallow (prefix_node op tree) h)
 
 fits_signed : {nesting room a : ℕ} (op : Prefix) (x : Node) → Fits nesting room a (depth_of (prefix_node op x)) → Fits nesting room a (depth_of x)
 fits_signed op x fits = record { within = fits.within; nested = omega (arith, fits.nested, depth_prefix op x); shallow = omega (arith, fits.shallow, depth_prefix op x) }
@@ -289,10 +254,33 @@ signed_reads {p} op a reads_a = λ nesting room k r fits ends is.
     (ap (signed_step under operand (operand (prefix_token op ∷ ts)) (signed under operand ts)) (sign_here op)
     ∙ ap (λ (o : Outcome Node). and_then o (make_signed op)) one ∙ sign_makes op (expression_tree a) r fits.shallow) (omega (arith, is))
 
-primary_whole : {p : Profile} (a : G.Primary p) → ((nesting room : ℕ) (r : List Token) → Fits (suc nesting) room (primary_open a) (depth_of (primary_tree a)) → EndsAt 0 r
-    → primary p (whole p nesting) room (primary_tokens a ++ r) ≡ Some (primary_tree a, r)) → Reads 0 (G.primary a)
-unfolding expression
-primary_whole a reads = λ nesting room r fits ends. reads nesting room r fits ends
+-- ---- arguments
+
+-- read from the first of them, after those found
+abbrev ReadsFrom : {p : Profile} → Arguments p → Type 0
+ReadsFrom {p} d = (nesting room k : ℕ) (found : List Node) (r : List Token) → Fits nesting room (arguments_open d) (greatest (map depth_of (arguments_trees d))) → arguments_count d ≤ k
+    → arguments_from p (whole p nesting) room k found (arguments_tokens d ++ t.CloseParenthesis ∷ r) ≡ Some (found ++ arguments_trees d, r)
+
+some_read : {p : Profile} (d : Arguments p) → ReadsFrom d → (nesting room : ℕ) (r : List Token) → Fits nesting room (arguments_open d) (greatest (map depth_of (arguments_trees d)))
+    → closing (arguments_tokens d ++ t.CloseParenthesis ∷ r) ≡ None → arguments p (whole p nesting) room (arguments_tokens d ++ t.CloseParenthesis ∷ r) ≡ Some (arguments_trees d, r)
+some_read {p} d reads nesting room r fits starts =
+    let ts = arguments_tokens d ++ t.CloseParenthesis ∷ r in
+    arguments_some p (whole p nesting) room ts starts
+    ∙ reads nesting room (length ts) [] r fits (omega (arith, arguments_count-le d, length-append (arguments_tokens d) (t.CloseParenthesis ∷ r)))
+
+-- a lone one that is empty is none
+passed_read : {p : Profile} (d : Arguments p) → ReadsFrom d → (nesting room : ℕ) (r : List Token) → Fits nesting room (arguments_open d) (greatest (map depth_of (passed d (arguments_trees d))))
+    → arguments p (whole p nesting) room ((arguments_tokens d ++ t.CloseParenthesis ∷ []) ++ r) ≡ Some (passed d (arguments_trees d), r)
+passed_read {p} d reads nesting room r fits = ap (arguments p (whole p nesting) room) (append_assoc (arguments_tokens d) (t.CloseParenthesis ∷ []) r) ∙ go d reads fits
+  where
+    go : (d : Arguments p) → ReadsFrom d → Fits nesting room (arguments_open d) (greatest (map depth_of (passed d (arguments_trees d))))
+        → arguments p (whole p nesting) room (arguments_tokens d ++ t.CloseParenthesis ∷ r) ≡ Some (passed d (arguments_trees d), r)
+    go (G.last G.empty) reads fits = arguments_none p (whole p nesting) room r
+    go (G.last (G.given a)) reads fits =
+        some_read (G.last (G.given a)) reads nesting room r fits (starts_no_close (expression_tokens a ++ t.CloseParenthesis ∷ r) (begins a (t.CloseParenthesis ∷ r)).starts)
+    go (G.more a all) reads fits =
+        some_read (G.more a all) reads nesting room r fits
+        (ap closing (append_assoc (argument_tokens a) (separator_token p.locale ∷ arguments_tokens all) (t.CloseParenthesis ∷ r)) ∙ argument_no_close a (arguments_tokens all ++ t.CloseParenthesis ∷ r))
 
 -- ---- derivations
 
@@ -300,99 +288,69 @@ mutual
   unfolding primary
 
   pub expression_reads : {p : Profile} {level : ℕ} (d : Expression p level) → Reads level d
-  expression_reads (G.primary a) = primary_whole a (primary_complete a)
   expression_reads (G.lift {level = under} a) = lift_reads under a (expression_reads a)
   expression_reads (G.joined op a b) = joined_reads op a b (expression_reads a) (expression_reads b)
   expression_reads (G.followed op a) = followed_reads op a (expression_reads a)
   expression_reads (G.signed op a) = signed_reads op a (expression_reads a)
-
-  pub primary_complete : {p : Profile} (d : Primary p) (nesting room : ℕ) (r : List Token) → Fits (suc nesting) room (primary_open d) (depth_of (primary_tree d)) → EndsAt 0 r
-      → primary p (whole p nesting) room (primary_tokens d ++ r) ≡ Some (primary_tree d, r)
-  primary_complete (G.number value) nesting room r fits ends = refl
-  primary_complete (G.text value) nesting room r fits ends = refl
-  primary_complete (G.error x) nesting room r fits ends = refl
-  primary_complete {p} (G.reference sheet mark at is) nesting room r fits ends = ap (λ o. with_rest r (reference_at p.place sheet mark o)) is
-  primary_complete {p} (G.range sheet first second start stop is also) nesting room r fits ends =
+  expression_reads {p} (G.reference sheet mark at is) = λ nesting room r fits ends. ap (λ o. with_rest r (reference_at p.place sheet mark o)) is
+  expression_reads {p} (G.range sheet first second start stop is also) = λ nesting room r fits ends.
       ap (λ o. with_rest r (range_at p.place sheet first second o (mark_place second))) is ∙ ap (λ o. with_rest r (range_at p.place sheet first second (Ok start) o)) also
-  primary_complete {p} (G.word name) nesting room r fits ends = ends_word p (whole p nesting) room name r ends
-  primary_complete {p} (G.array rows is) nesting room r fits ends = array_reads (whole p nesting) room rows r is
-  primary_complete {p} (G.parentheses a) nesting room r fits ends =
+  expression_reads {p} (G.word name) = λ nesting room r fits ends. ends_word p (whole p nesting) room name r ends
+  expression_reads {p} (G.array rows is) = λ nesting room r fits ends. array_reads (whole p nesting) room rows r is
+  expression_reads {p} (G.parentheses a) = λ nesting room r fits ends.
       enclosed_reads p (whole p nesting) room ((expression_tokens a ++ t.CloseParenthesis ∷ []) ++ r) r (expression_tree a) (omega (arith, fits.within))
       (ap (whole p nesting (room - 1)) (append_assoc (expression_tokens a) (t.CloseParenthesis ∷ []) r)
       ∙ whole_completes a (expression_reads a) nesting (room - 1) (t.CloseParenthesis ∷ r) (record { within = omega (arith, fits.within); nested = omega (arith, fits.nested); shallow = fits.shallow }) (omega arith))
-  primary_complete {p} (G.lambda a) nesting room r fits ends =
+  expression_reads {p} (G.lambda a) = λ nesting room r fits ends.
       chain_closes opening (lambda_turn p (whole p nesting) room) _ (lambda_turns a) (lambda_tree a) r (lambda_turns-lt a) fits.shallow (ends_lambda r ends)
       (λ j is. lambda_before a nesting room j r fits is)
-  primary_complete {p} (G.call name is all) nesting room r fits ends =
-      call_reads p (whole p nesting) room name ((arguments_tokens all ++ t.CloseParenthesis ∷ []) ++ r) r (arguments_trees all) is
-      (ap (arguments p (whole p nesting) room) (append_assoc (arguments_tokens all) (t.CloseParenthesis ∷ []) r)
-      ∙ arguments_complete all nesting room r (fits_inner fits (depth_called p.language name (arguments_trees all))))
+  expression_reads {p} (G.call name is all) = λ nesting room r fits ends.
+      call_reads p (whole p nesting) room name ((arguments_tokens all ++ t.CloseParenthesis ∷ []) ++ r) r (passed all (arguments_trees all)) is
+      (passed_read all (arguments_read all) nesting room r (fits_inner fits (depth_called p.language name (passed all (arguments_trees all)))))
       fits.shallow
+  expression_reads _ = λ nesting room r fits ends. refl
 
-  pub lambda_before : {p : Profile} (d : Lambda p) (nesting room k : ℕ) (r : List Token) → Fits (suc nesting) room (lambda_open d) (depth_of (lambda_tree d)) → k + lambda_turns d ≡ 64
+  lambda_before : {p : Profile} (d : Lambda p) (nesting room k : ℕ) (r : List Token) → Fits (suc nesting) room (lambda_open d) (depth_of (lambda_tree d)) → k + lambda_turns d ≡ 64
       → primary p (whole p nesting) room (lambda_tokens d ++ r) ≡ chain_from opening (lambda_turn p (whole p nesting) room) k (lambda_tree d) r
   lambda_before {p} (G.function name is all body) nesting room k r fits e =
       let fits_body : Fits nesting room (expression_open body) (depth_of (expression_tree body)) = fits_inner fits (depth_lambda all (expression_tree body)) in
-      let regrouped : (parameters_tokens p all ++ (expression_tokens body ++ t.CloseParenthesis ∷ [])) ++ r ≡ parameters_tokens p all ++ (expression_tokens body ++ t.CloseParenthesis ∷ r) =
+      let end : List Token = t.CloseParenthesis ∷ r in
+      let regrouped : (parameters_tokens p all ++ (expression_tokens body ++ t.CloseParenthesis ∷ [])) ++ r ≡ parameters_tokens p all ++ (expression_tokens body ++ end) =
       append_assoc (parameters_tokens p all) (expression_tokens body ++ t.CloseParenthesis ∷ []) r
       ∙ ap (λ (l : List Token). parameters_tokens p all ++ l) (append_assoc (expression_tokens body) (t.CloseParenthesis ∷ []) r) in
       lambda_reads p (whole p nesting) room k name _ r (n.Lambda all (expression_tree body)) is
       (ap (function p (whole p nesting) room) regrouped
-      ∙ function_reads p (whole p nesting) room (parameters_tokens p all ++ (expression_tokens body ++ t.CloseParenthesis ∷ r)) (expression_tokens body ++ t.CloseParenthesis ∷ r) r all (expression_tree body)
-      (parameters_complete p all (expression_tokens body ++ t.CloseParenthesis ∷ r) (expression_no_parameter body (t.CloseParenthesis ∷ r) refl))
-      (whole_completes body (expression_reads body) nesting room (t.CloseParenthesis ∷ r) fits_body (omega arith))
+      ∙ function_reads p (whole p nesting) room (parameters_tokens p all ++ (expression_tokens body ++ end)) (expression_tokens body ++ end) r all (expression_tree body)
+      (parameters_complete p all (expression_tokens body ++ end) ((begins body end).no_parameter refl))
+      (whole_completes body (expression_reads body) nesting room end fits_body (omega arith))
       fits.shallow)
       (omega (arith, e))
   lambda_before {p} (G.applied a all) nesting room k r fits e =
-      let deep = depth_lambda_call (lambda_tree a) (arguments_trees all) in
+      let given = passed all (arguments_trees all) in
+      let deep = depth_lambda_call (lambda_tree a) given in
       let fits_a : Fits (suc nesting) room (lambda_open a) (depth_of (lambda_tree a)) = fits_left _ _ _ _ fits deep in
-      let fits_all : Fits nesting room (arguments_open all) (greatest (map depth_of (arguments_trees all))) = record { within = omega (arith, fits.within); nested = omega (arith, fits.nested, deep); shallow = omega (arith, fits.shallow, deep) } in
+      let fits_all : Fits nesting room (arguments_open all) (greatest (map depth_of given)) = record { within = omega (arith, fits.within); nested = omega (arith, fits.nested, deep); shallow = omega (arith, fits.shallow, deep) } in
+      let rest : List Token = (arguments_tokens all ++ t.CloseParenthesis ∷ []) ++ r in
       ap (primary p (whole p nesting) room) (append_assoc (lambda_tokens a) (t.OpenParenthesis ∷ arguments_tokens all ++ t.CloseParenthesis ∷ []) r)
-      ∙ lambda_before a nesting room (suc k) (t.OpenParenthesis ∷ (arguments_tokens all ++ t.CloseParenthesis ∷ []) ++ r) fits_a (omega (arith, e))
-      ∙ chain_turns opening (lambda_turn p (whole p nesting) room) k tt (lambda_tree a) (n.LambdaCall (lambda_tree a) (arguments_trees all)) (t.OpenParenthesis ∷ (arguments_tokens all ++ t.CloseParenthesis ∷ []) ++ r) ((arguments_tokens all ++ t.CloseParenthesis ∷ []) ++ r) r refl
-      (ap (λ (o : Outcome (List Node)). and_then o (λ xs. make (n.LambdaCall (lambda_tree a) xs)))
-      (ap (arguments p (whole p nesting) room) (append_assoc (arguments_tokens all) (t.CloseParenthesis ∷ []) r) ∙ arguments_complete all nesting room r fits_all)
-      ∙ ap (with_rest r) (made-shallow (n.LambdaCall (lambda_tree a) (arguments_trees all)) fits.shallow))
+      ∙ lambda_before a nesting room (suc k) (t.OpenParenthesis ∷ rest) fits_a (omega (arith, e))
+      ∙ chain_turns opening (lambda_turn p (whole p nesting) room) k tt (lambda_tree a) (n.LambdaCall (lambda_tree a) given) (t.OpenParenthesis ∷ rest) rest r refl
+      (ap (λ (o : Outcome (List Node)). and_then o (λ xs. make (n.LambdaCall (lambda_tree a) xs))) (passed_read all (arguments_read all) nesting room r fits_all)
+      ∙ ap (with_rest r) (made-shallow (n.LambdaCall (lambda_tree a) given) fits.shallow))
 
-  pub arguments_complete : {p : Profile} (d : Arguments p) (nesting room : ℕ) (r : List Token) → Fits nesting room (arguments_open d) (greatest (map depth_of (arguments_trees d)))
-      → arguments p (whole p nesting) room (arguments_tokens d ++ t.CloseParenthesis ∷ r) ≡ Some (arguments_trees d, r)
-  arguments_complete {p} G.none nesting room r fits = arguments_none p (whole p nesting) room r
-  arguments_complete {p} (G.only a) nesting room r fits =
-      let shallow : depth_of (expression_tree a) ≤ 64 = omega (arith, fits.shallow) in
-      let ts = expression_tokens a ++ t.CloseParenthesis ∷ r in
-      let some : 0 < length ts = omega (arith, length-append (expression_tokens a) (t.CloseParenthesis ∷ r)) in
-      arguments_some p (whole p nesting) room ts (starts_no_close ts (expression_starts a (t.CloseParenthesis ∷ r)))
-      ∙ turn_reads p (whole p nesting) room (length ts) [] ts (t.CloseParenthesis ∷ r) (expression_tree a) some
-      (given_completes a (expression_reads a) nesting room (t.CloseParenthesis ∷ r) (record { within = fits.within; nested = omega (arith, fits.nested); shallow = shallow }) refl)
-  arguments_complete {p} (G.several a b m) nesting room r fits =
-      let z = more_tokens m ++ t.CloseParenthesis ∷ r in
-      let y = argument_tokens b ++ z in
-      let x = argument_tokens a ++ separator_token p.locale ∷ y in
-      let long : suc (suc (more_count m)) ≤ length x = omega (arith, more_count-le m, length-append (argument_tokens a) (separator_token p.locale ∷ y), length-append (argument_tokens b) z, length-append (more_tokens m) (t.CloseParenthesis ∷ r)) in
-      ap (arguments p (whole p nesting) room) (append_assoc (argument_tokens a) (separator_token p.locale ∷ argument_tokens b ++ more_tokens m) (t.CloseParenthesis ∷ r) ∙ ap (λ (l : List Token). argument_tokens a ++ separator_token p.locale ∷ l) (append_assoc (argument_tokens b) (more_tokens m) (t.CloseParenthesis ∷ r)))
-      ∙ arguments_some p (whole p nesting) room x (argument_no_close a y)
-      ∙ turn_reads p (whole p nesting) room (length x) [] x (separator_token p.locale ∷ y) (argument_tree a) (omega arith)
-      (argument_complete a nesting room (separator_token p.locale ∷ y) (record { within = omega (arith, fits.within); nested = omega (arith, fits.nested); shallow = omega (arith, fits.shallow) }) (separator_empty p.locale y))
-      ∙ tail_reads p (whole p nesting) room (length x - 1) (argument_tree a ∷ []) y
-      ∙ turn_reads p (whole p nesting) room (length x - 1) (argument_tree a ∷ []) y z (argument_tree b) (omega arith)
-      (argument_complete b nesting room z (record { within = omega (arith, fits.within); nested = omega (arith, fits.nested); shallow = omega (arith, fits.shallow) }) (more_begins m r))
-      ∙ more_complete m nesting room (length x - 1 - 1) (argument_tree a ∷ argument_tree b ∷ []) r
-      (record { within = omega (arith, fits.within); nested = omega (arith, fits.nested); shallow = omega (arith, fits.shallow) }) (omega arith)
+  arguments_read : {p : Profile} (d : Arguments p) → ReadsFrom d
+  arguments_read {p} (G.last a) nesting room k found r fits enough =
+      turn_reads p (whole p nesting) room k found (argument_tokens a ++ t.CloseParenthesis ∷ r) (t.CloseParenthesis ∷ r) (argument_tree a) (omega arith)
+      (argument_complete a nesting room (t.CloseParenthesis ∷ r) (record { within = fits.within; nested = omega (arith, fits.nested); shallow = omega (arith, fits.shallow) }) refl)
+  arguments_read {p} (G.more a all) nesting room k found r fits enough =
+      let rest : List Token = arguments_tokens all ++ t.CloseParenthesis ∷ r in
+      ap (arguments_from p (whole p nesting) room k found) (append_assoc (argument_tokens a) (separator_token p.locale ∷ arguments_tokens all) (t.CloseParenthesis ∷ r))
+      ∙ turn_reads p (whole p nesting) room k found (argument_tokens a ++ separator_token p.locale ∷ rest) (separator_token p.locale ∷ rest) (argument_tree a) (omega arith)
+      (argument_complete a nesting room (separator_token p.locale ∷ rest) (record { within = omega (arith, fits.within); nested = omega (arith, fits.nested); shallow = omega (arith, fits.shallow) }) ((separates p.locale).empty rest))
+      ∙ tail_reads p (whole p nesting) room (k - 1) (found ++ argument_tree a ∷ []) rest
+      ∙ arguments_read all nesting room (k - 1) (found ++ argument_tree a ∷ []) r (record { within = omega (arith, fits.within); nested = omega (arith, fits.nested); shallow = omega (arith, fits.shallow) }) (omega arith)
+      ∙ ap (λ (l : List Node). Some (l, r)) (append_assoc found (argument_tree a ∷ []) (arguments_trees all))
 
-  pub argument_complete : {p : Profile} (d : Argument p) (nesting room : ℕ) (r : List Token) → Fits nesting room (argument_open d) (depth_of (argument_tree d)) → is_empty_here p.locale r ≡ true
+  argument_complete : {p : Profile} (d : Argument p) (nesting room : ℕ) (r : List Token) → Fits nesting room (argument_open d) (depth_of (argument_tree d)) → is_empty_here p.locale r ≡ true
       → argument p (whole p nesting) room (argument_tokens d ++ r) ≡ Some (argument_tree d, r)
   argument_complete {p} G.empty nesting room r fits ends = empty_reads p (whole p nesting) room r ends
-  argument_complete {p} (G.given a) nesting room r fits ends =
-      given_completes a (expression_reads a) nesting room r fits ends
-
-  pub more_complete : {p : Profile} (d : More p) (nesting room k : ℕ) (found : List Node) (r : List Token) → Fits nesting room (more_open d) (greatest (map depth_of (more_trees d))) → more_count d ≤ k
-      → tail p (whole p nesting) room k found (more_tokens d ++ t.CloseParenthesis ∷ r) ≡ Some (found ++ more_trees d, r)
-  more_complete {p} G.end nesting room k found r fits enough = ap (λ (l : List Node). Some (l, r)) (sym (append-nil found))
-  more_complete {p} (G.more a m) nesting room k found r fits enough =
-      let z = more_tokens m ++ t.CloseParenthesis ∷ r in
-      tail_reads p (whole p nesting) room k found ((argument_tokens a ++ more_tokens m) ++ t.CloseParenthesis ∷ r)
-      ∙ ap (arguments_from p (whole p nesting) room k found) (append_assoc (argument_tokens a) (more_tokens m) (t.CloseParenthesis ∷ r))
-      ∙ turn_reads p (whole p nesting) room k found (argument_tokens a ++ z) z (argument_tree a) (omega arith)
-      (argument_complete a nesting room z (record { within = omega (arith, fits.within); nested = omega (arith, fits.nested); shallow = omega (arith, fits.shallow) }) (more_begins m r))
-      ∙ more_complete m nesting room (k - 1) (found ++ argument_tree a ∷ []) r (record { within = omega (arith, fits.within); nested = omega (arith, fits.nested); shallow = omega (arith, fits.shallow) }) (omega arith)
-      ∙ ap (λ (l : List Node). Some (l, r)) (append_assoc found (argument_tree a ∷ []) (more_trees m))
+  argument_complete {p} (G.given a) nesting room r fits ends = given_completes a (expression_reads a) nesting room r fits ends

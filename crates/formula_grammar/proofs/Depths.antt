@@ -1,6 +1,5 @@
 -- The depth of what is read, and the limit.
 use Rattle.std.proofs.Common.{◌≡◌, ℕ, ◌+◌, ◌<◌, ◌≤◌, max, Bool, true, false, cond, List, [], ◌∷◌, ◌++◌, map, Option, Some, None, refl, arith}
-use Rattle.std.specs.Prelude.{◌==◌}
 use Rattle.std.proofs.lemmas.Bool.{le-leb, lt-leb, leb-true}
 use lib.Dec.{leb}
 use Rattle.base_tables.specs.declared.Function.{Function}
@@ -15,14 +14,13 @@ use Rattle.base_values.specs.declared.Position.{Position}
 use Rattle.formula_tree.specs.Depth.{depth_of, greatest}
 use Rattle.formula_tree.specs.Corners.{lower_corner, higher_corner}
 use Rattle.formula_tree.specs.laws.DepthEquations.{depth_boolean, depth_number, depth_text, depth_reference, depth_range, depth_colon, depth_concatenate, depth_compare, depth_sum, depth_product, depth_power, depth_unary, depth_call, depth_named_call, depth_array, depth_name, depth_error, depth_empty_argument, depth_spill, depth_lambda, depth_lambda_call, depth_implicit_intersection}
-use Rattle.formula_grammar.specs.declared.operator.Infix.{Infix}
-use Rattle.formula_grammar.specs.declared.operator.Infix.TheVariants as between
-use Rattle.formula_grammar.specs.declared.operator.Postfix.{Postfix}
-use Rattle.formula_grammar.specs.declared.operator.Postfix.TheVariants as postfix
-use Rattle.formula_grammar.specs.declared.operator.Prefix.{Prefix}
-use Rattle.formula_grammar.specs.declared.operator.Prefix.TheVariants as prefix
-use Rattle.formula_grammar.specs.Levels.{infix_node, prefix_node, postfix_node}
-use Rattle.formula_grammar.specs.laws.Signs.{sign_node}
+use Rattle.formula_levels.specs.declared.infix.Infix.{Infix}
+use Rattle.formula_levels.specs.declared.infix.Infix.TheVariants as between
+use Rattle.formula_levels.specs.declared.postfix.Postfix.{Postfix}
+use Rattle.formula_levels.specs.declared.postfix.Postfix.TheVariants as postfix
+use Rattle.formula_levels.specs.declared.prefix.Prefix.{Prefix}
+use Rattle.formula_levels.specs.declared.prefix.Prefix.TheVariants as prefix
+use Rattle.formula_levels.specs.Levels.{infix_node, prefix_node, postfix_node}
 use Rattle.formula_grammar.specs.Words.{call_node, called, word_node, worded, range_node}
 use Rattle.formula_grammar.specs.laws.Reading.{made}
 
@@ -57,13 +55,6 @@ depth_prefix prefix.Minus a = omega (arith, depth_unary unary.Minus a)
 depth_prefix prefix.Plus a = omega arith
 depth_prefix prefix.At a = omega (arith, depth_implicit_intersection a)
 
-pub depth_sign : (under : ℕ) (a : Node) → depth_of (sign_node under a) ≡ depth_of a + 1
-depth_sign under a = go (under == 2)
-  where
-    go : (b : Bool) → depth_of (cond b (n.ImplicitIntersection a) (n.Unary unary.Minus a)) ≡ depth_of a + 1
-    go true = depth_implicit_intersection a
-    go false = depth_unary unary.Minus a
-
 pub depth_range_node : (place : Position) (sheet : Option (List ℕ)) (a b : Corner) → depth_of (range_node place sheet a b) ≡ 2
 depth_range_node place sheet a b = depth_range sheet (lower_corner place a b) (higher_corner place a b)
 
@@ -83,7 +74,7 @@ pub made-deep : (x : Node) → 64 < depth_of x → made x ≡ None
 unfolding made
 made-deep x h = rw (lt-leb (depth_of x) 64 h) refl
 
-pub ruleset depths = (depth_boolean, depth_number, depth_text, depth_reference, depth_range, depth_colon, depth_concatenate, depth_compare, depth_sum, depth_product, depth_power, depth_unary, depth_call, depth_named_call, depth_array, depth_name, depth_error, depth_empty_argument, depth_spill, depth_lambda, depth_lambda_call, depth_implicit_intersection, depth_called, depth_worded, depth_infix, depth_postfix, depth_sign, depth_range_node, made-shallow, made-deep)
+pub ruleset depths = (depth_boolean, depth_number, depth_text, depth_reference, depth_range, depth_colon, depth_concatenate, depth_compare, depth_sum, depth_product, depth_power, depth_unary, depth_call, depth_named_call, depth_array, depth_name, depth_error, depth_empty_argument, depth_spill, depth_lambda, depth_lambda_call, depth_implicit_intersection, depth_called, depth_worded, depth_infix, depth_postfix, depth_range_node, made-shallow, made-deep)
 
 pub greatest_push : (xs : List Node) (x : Node) → greatest (map depth_of (xs ++ x ∷ [])) ≡ max (greatest (map depth_of xs)) (depth_of x)
 greatest_push [] x = omega arith

@@ -9,17 +9,21 @@ use Rattle.formula_tree.specs.declared.node.Node.{Node}
 use Rattle.formula_tree.specs.declared.operator.CompareKind.TheVariants as compare_kind
 use Rattle.formula_tree.specs.declared.operator.ProductKind.TheVariants as product_kind
 use Rattle.formula_tree.specs.declared.operator.SumKind.TheVariants as sum_kind
+use Rattle.formula_levels.specs.declared.infix.Infix.TheVariants as between
+use Rattle.formula_levels.specs.declared.postfix.Postfix.TheVariants as postfix
 use Rattle.formula_grammar.specs.declared.after_item.AfterItem.TheVariants as after
-use Rattle.formula_grammar.specs.declared.operator.Infix.TheVariants as between
 use Rattle.formula_grammar.specs.declared.operator.Operator.{Operator}
 use Rattle.formula_grammar.specs.declared.operator.Operator.TheVariants as operator
-use Rattle.formula_grammar.specs.declared.operator.Postfix.TheVariants as postfix
 use Rattle.formula_grammar.specs.declared.profile.Profile.{Profile}
 use Rattle.formula_grammar.specs.declared.token.Token.{Token}
 use Rattle.formula_grammar.specs.declared.token.Token.TheVariants as t
-use Rattle.formula_grammar.specs.Levels.{operator_under, operator_token}
+use Rattle.formula_grammar.specs.Operators.{infix_token, postfix_token}
 use Rattle.formula_grammar.specs.Words.{separator_token, row_token, worded}
-use Rattle.formula_grammar.specs.laws.Reading.{Outcome, Parser, with_rest, operator_of, own_operator, operator_at, opening, is_separator, separator, is_empty_here, after_item, named}
+use Rattle.formula_grammar.specs.laws.Reading.{Outcome, Parser, with_rest, operator_of, operator_under, own, operator_at, opening, closing, is_separator, separator, is_empty_here, after_item, named}
+
+abbrev pub operator_token : Operator → Token
+operator_token (operator.Infix op) = infix_token op
+operator_token (operator.Postfix op) = postfix_token op
 
 -- the level at which a token goes on with what stands before it, and 11 where it does not
 abbrev pub level_of : Option Operator → ℕ
@@ -40,7 +44,7 @@ ends_sooner k l [] h e = tt
 ends_sooner k l (x ∷ ts) h e = omega arith
 
 -- an operator of a tighter or looser level is not one of this level
-own_none : (under : ℕ) (ts : List Token) (o : Option Operator) → suc under < level_of o → with_rest ts (option_and_then (own_operator under) o) ≡ None
+own_none : (under : ℕ) (ts : List Token) (o : Option Operator) → suc under < level_of o → with_rest ts (option_and_then (own operator_under under) o) ≡ None
 own_none under ts None h = refl
 own_none under ts (Some op) h =
     let apart : (operator_under op == under) ≡ false = ne_eqb (operator_under op) under (λ same. omega arith) in
@@ -77,26 +81,17 @@ pub record Known (op : Operator) : Type 0 where
 
 pub known : (op : Operator) → Known op
 known (operator.Infix (between.Compare compare_kind.Equal)) = record { is = refl; binds_so = refl; parts_none = λ locale. refl }
-known (operator.Infix (between.Compare compare_kind.NotEqual)) = record { is = refl; binds_so = refl; parts_none = λ locale. refl }
-known (operator.Infix (between.Compare compare_kind.Less)) = record { is = refl; binds_so = refl; parts_none = λ locale. refl }
-known (operator.Infix (between.Compare compare_kind.LessOrEqual)) = record { is = refl; binds_so = refl; parts_none = λ locale. refl }
-known (operator.Infix (between.Compare compare_kind.Greater)) = record { is = refl; binds_so = refl; parts_none = λ locale. refl }
-known (operator.Infix (between.Compare compare_kind.GreaterOrEqual)) = record { is = refl; binds_so = refl; parts_none = λ locale. refl }
-known (operator.Infix between.Concatenate) = record { is = refl; binds_so = refl; parts_none = λ locale. refl }
 known (operator.Infix (between.Sum sum_kind.Add)) = record { is = refl; binds_so = refl; parts_none = λ locale. refl }
-known (operator.Infix (between.Sum sum_kind.Subtract)) = record { is = refl; binds_so = refl; parts_none = λ locale. refl }
 known (operator.Infix (between.Product product_kind.Multiply)) = record { is = refl; binds_so = refl; parts_none = λ locale. refl }
-known (operator.Infix (between.Product product_kind.Divide)) = record { is = refl; binds_so = refl; parts_none = λ locale. refl }
 known (operator.Infix between.Power) = record { is = refl; binds_so = refl; parts_none = λ locale. refl }
-known (operator.Infix between.Colon) = record { is = refl; binds_so = refl; parts_none = λ locale. refl }
 known (operator.Postfix postfix.Percent) = record { is = refl; binds_so = refl; parts_none = λ locale. refl }
-known (operator.Postfix postfix.Spill) = record { is = refl; binds_so = refl; parts_none = λ locale. refl }
+known _ = record { is = refl; binds_so = refl; parts_none = λ locale. refl }
 
 pub operator_reads : (op : Operator) (ts : List Token) → operator_at (operator_under op) (operator_token op ∷ ts) ≡ Some (op, ts)
 operator_reads op ts =
-    let own : (operator_under op == operator_under op) ≡ true = grind (arith, nat_tests) in
-    ap (λ (o : Option Operator). with_rest ts (option_and_then (own_operator (operator_under op)) o)) (known op).is
-    ∙ ap (λ (b : Bool). with_rest ts (cond b (Some op) None)) own
+    let same : (operator_under op == operator_under op) ≡ true = grind (arith, nat_tests) in
+    ap (λ (o : Option Operator). with_rest ts (option_and_then (own operator_under (operator_under op)) o)) (known op).is
+    ∙ ap (λ (b : Bool). with_rest ts (cond b (Some op) None)) same
 
 -- an operator does not go on with what is tighter
 pub operator_ends : (op : Operator) (ts : List Token) → EndsAt (operator_under op) (operator_token op ∷ ts)
@@ -104,32 +99,14 @@ operator_ends op ts = omega (arith, (known op).binds_so)
 
 -- ---- the separators of a locale
 
-pub separator_parts : (locale : Locale) → is_separator locale (separator_token locale) ≡ true
-separator_parts locale.En = refl
-separator_parts locale.De = refl
-separator_parts locale.Fr = refl
-separator_parts locale.Es = refl
+pub record Separates (locale : Locale) : Type 0 where
+  pub parts : is_separator locale (separator_token locale) ≡ true
+  pub reads : (ts : List Token) → separator locale (separator_token locale ∷ ts) ≡ Some (true, ts)
+  pub empty : (ts : List Token) → is_empty_here locale (separator_token locale ∷ ts) ≡ true
+  pub no_end : (ts : List Token) → closing (separator_token locale ∷ ts) ≡ None
+  pub column : (ts : List Token) → after_item locale (separator_token locale ∷ ts) ≡ Some (after.Column, ts)
+  pub row : (ts : List Token) → after_item locale (row_token locale ∷ ts) ≡ Some (after.Row, ts)
 
-pub separator_reads : (locale : Locale) (ts : List Token) → separator locale (separator_token locale ∷ ts) ≡ Some (true, ts)
-separator_reads locale.En ts = refl
-separator_reads locale.De ts = refl
-separator_reads locale.Fr ts = refl
-separator_reads locale.Es ts = refl
-
-pub separator_empty : (locale : Locale) (ts : List Token) → is_empty_here locale (separator_token locale ∷ ts) ≡ true
-separator_empty locale.En ts = refl
-separator_empty locale.De ts = refl
-separator_empty locale.Fr ts = refl
-separator_empty locale.Es ts = refl
-
-pub column_reads : (locale : Locale) (ts : List Token) → after_item locale (separator_token locale ∷ ts) ≡ Some (after.Column, ts)
-column_reads locale.En ts = refl
-column_reads locale.De ts = refl
-column_reads locale.Fr ts = refl
-column_reads locale.Es ts = refl
-
-pub row_reads : (locale : Locale) (ts : List Token) → after_item locale (row_token locale ∷ ts) ≡ Some (after.Row, ts)
-row_reads locale.En ts = refl
-row_reads locale.De ts = refl
-row_reads locale.Fr ts = refl
-row_reads locale.Es ts = refl
+pub separates : (locale : Locale) → Separates locale
+separates locale.En = record { parts = refl; reads = λ ts. refl; empty = λ ts. refl; no_end = λ ts. refl; column = λ ts. refl; row = λ ts. refl }
+separates _ = record { parts = refl; reads = λ ts. refl; empty = λ ts. refl; no_end = λ ts. refl; column = λ ts. refl; row = λ ts. refl }

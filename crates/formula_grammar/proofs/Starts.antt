@@ -4,16 +4,16 @@ use Rattle.std.specs.Prelude.{◌==◌}
 use Rattle.std.proofs.lemmas.Bool.{ne_eqb}
 use Rattle.base_tables.specs.declared.Locale.{Locale}
 use Rattle.formula_tree.specs.declared.node.Node.{Node}
+use Rattle.formula_levels.specs.declared.prefix.Prefix.{Prefix}
+use Rattle.formula_levels.specs.declared.prefix.Prefix.TheVariants as prefix
 use Rattle.formula_grammar.specs.declared.operator.Operator.TheVariants as operator
-use Rattle.formula_grammar.specs.declared.operator.Prefix.{Prefix}
-use Rattle.formula_grammar.specs.declared.operator.Prefix.TheVariants as prefix
 use Rattle.formula_grammar.specs.declared.profile.Profile.{Profile}
 use Rattle.formula_grammar.specs.declared.token.Token.{Token}
 use Rattle.formula_grammar.specs.declared.token.Token.TheVariants as t
-use Rattle.formula_grammar.specs.Levels.{infix_under, postfix_under, prefix_under, infix_token, postfix_token, prefix_token}
+use Rattle.formula_grammar.specs.Operators.{prefix_under, infix_token, postfix_token, prefix_token}
 use Rattle.formula_grammar.specs.Grammar as G
-use Rattle.formula_grammar.specs.Grammar.{Expression, Primary, Lambda, expression_tokens, primary_tokens, lambda_tokens, arguments_tokens}
-use Rattle.formula_grammar.specs.laws.Reading.{Outcome, Parser, closing, is_separator, is_empty_here, parameter, prefix_if, prefix_of, signed_step, signed}
+use Rattle.formula_grammar.specs.Grammar.{Expression, Lambda, expression_tokens, lambda_tokens, arguments_tokens}
+use Rattle.formula_grammar.specs.laws.Reading.{Outcome, Parser, closing, is_separator, is_empty_here, parameter, own, sign_at, signed_step, signed}
 use Rattle.formula_grammar.proofs.Follow.{known}
 
 -- the level at which a token may stand first, and 11 where it may not
@@ -39,16 +39,13 @@ starts_later : (k l : ℕ) (ts : List Token) → k ≤ l → StartsAt k ts → S
 starts_later k l [] h e = absurd e
 starts_later k l (x ∷ ts) h e = omega arith
 
-regrouped : (level : ℕ) (a b c : List Token) → StartsAt level (a ++ (b ++ c)) → StartsAt level ((a ++ b) ++ c)
-regrouped level a b c h = subst (StartsAt level) (sym (append_assoc a b c)) h
-
 -- a sign has a level above
-other_sign : (under : ℕ) (op : Prefix) → suc (prefix_under op) ≤ under → prefix_if under op ≡ None
+other_sign : (under : ℕ) (op : Prefix) → suc (prefix_under op) ≤ under → own prefix_under under op ≡ None
 other_sign under op h =
-    let apart : (under == prefix_under op) ≡ false = ne_eqb under (prefix_under op) (λ same. omega arith) in
+    let apart : (prefix_under op == under) ≡ false = ne_eqb (prefix_under op) under (λ same. omega arith) in
     ap (λ (b : Bool). cond b (Some op) None) apart
 
-no_sign : (under : ℕ) (x : Token) → opens x ≤ under → prefix_of under x ≡ None
+no_sign : (under : ℕ) (x : Token) → opens x ≤ under → sign_at under x ≡ None
 no_sign under t.Minus h = other_sign under prefix.Minus h
 no_sign under t.Plus h = other_sign under prefix.Plus h
 no_sign under t.At h = other_sign under prefix.At h
@@ -78,30 +75,6 @@ starts_no_close [] h = absurd h
 starts_no_close (t.CloseParenthesis ∷ ts) h = absurd (omega arith)
 starts_no_close (_ ∷ ts) h = refl
 
-mutual
-  pub expression_starts : {p : Profile} {level : ℕ} (d : Expression p level) (r : List Token) → StartsAt level (expression_tokens d ++ r)
-  expression_starts (G.primary a) r = primary_starts a r
-  expression_starts (G.lift {level = l} a) r = starts_later l (suc l) (expression_tokens a ++ r) (omega arith) (expression_starts a r)
-  expression_starts (G.joined op a b) r = regrouped (suc (infix_under op)) (expression_tokens a) (infix_token op ∷ expression_tokens b) r (expression_starts a _)
-  expression_starts (G.followed op a) r = regrouped (suc (postfix_under op)) (expression_tokens a) (postfix_token op ∷ []) r (expression_starts a _)
-  expression_starts (G.signed op a) r = sign_opens op
-
-  pub primary_starts : {p : Profile} (d : Primary p) (r : List Token) → StartsAt 0 (primary_tokens d ++ r)
-  primary_starts (G.number value) r = omega arith
-  primary_starts (G.text value) r = omega arith
-  primary_starts (G.error x) r = omega arith
-  primary_starts (G.reference sheet mark at is) r = omega arith
-  primary_starts (G.range sheet first second start stop is also) r = omega arith
-  primary_starts (G.parentheses a) r = omega arith
-  primary_starts (G.array rows is) r = omega arith
-  primary_starts (G.call name is arguments) r = omega arith
-  primary_starts (G.word name) r = omega arith
-  primary_starts (G.lambda a) r = lambda_starts a r
-
-  pub lambda_starts : {p : Profile} (d : Lambda p) (r : List Token) → StartsAt 0 (lambda_tokens d ++ r)
-  lambda_starts (G.function name is parameters body) r = omega arith
-  lambda_starts (G.applied a arguments) r = regrouped 0 (lambda_tokens a) (t.OpenParenthesis ∷ arguments_tokens arguments ++ t.CloseParenthesis ∷ []) r (lambda_starts a _)
-
 -- ---- no tree is a parameter with a separator after it
 
 -- no separator stands there
@@ -115,34 +88,31 @@ no_word locale word (x ∷ ts) h = rw h refl
 
 sign_no_parameter : (locale : Locale) (op : Prefix) (ts : List Token) → parameter locale (prefix_token op ∷ ts) ≡ None
 sign_no_parameter locale prefix.Minus ts = refl
-sign_no_parameter locale prefix.Plus ts = refl
-sign_no_parameter locale prefix.At ts = refl
+sign_no_parameter locale _ ts = refl
 
-no_parameter_regrouped : (locale : Locale) (a b c : List Token) → parameter locale (a ++ (b ++ c)) ≡ None → parameter locale ((a ++ b) ++ c) ≡ None
-no_parameter_regrouped locale a b c h = ap (parameter locale) (append_assoc a b c) ∙ h
+-- ---- the tokens of a tree, before others
+
+pub record Begins (locale : Locale) (level : ℕ) (ts r : List Token) : Type 0 where
+  pub starts : StartsAt level (ts ++ r)
+  pub no_parameter : GoesOn locale r → parameter locale (ts ++ r) ≡ None
+
+regrouped : (locale : Locale) (level : ℕ) (a b r : List Token) → Begins locale level a (b ++ r) → GoesOn locale (b ++ r) → Begins locale level (a ++ b) r
+regrouped locale level a b r h goes_on = record {
+  starts = subst (StartsAt level) (sym (append_assoc a b r)) h.starts;
+  no_parameter = λ _. ap (parameter locale) (append_assoc a b r) ∙ h.no_parameter goes_on;
+}
 
 mutual
-  pub expression_no_parameter : {p : Profile} {level : ℕ} (d : Expression p level) (r : List Token) → GoesOn p.locale r → parameter p.locale (expression_tokens d ++ r) ≡ None
-  expression_no_parameter (G.primary a) r h = primary_no_parameter a r h
-  expression_no_parameter (G.lift a) r h = expression_no_parameter a r h
-  expression_no_parameter {p} (G.joined op a b) r h =
-      no_parameter_regrouped p.locale (expression_tokens a) (infix_token op ∷ expression_tokens b) r (expression_no_parameter a _ ((known (operator.Infix op)).parts_none p.locale))
-  expression_no_parameter {p} (G.followed op a) r h =
-      no_parameter_regrouped p.locale (expression_tokens a) (postfix_token op ∷ []) r (expression_no_parameter a _ ((known (operator.Postfix op)).parts_none p.locale))
-  expression_no_parameter {p} (G.signed op a) r h = sign_no_parameter p.locale op _
+  pub begins : {p : Profile} {level : ℕ} (d : Expression p level) (r : List Token) → Begins p.locale level (expression_tokens d) r
+  begins (G.lift {level = l} a) r = let b = begins a r in record { starts = starts_later l (suc l) (expression_tokens a ++ r) (omega arith) b.starts; no_parameter = b.no_parameter }
+  begins {p} {level} (G.joined op a b) r =
+      regrouped p.locale level (expression_tokens a) (infix_token op ∷ expression_tokens b) r (begins a _) ((known (operator.Infix op)).parts_none p.locale)
+  begins {p} {level} (G.followed op a) r = regrouped p.locale level (expression_tokens a) (postfix_token op ∷ []) r (begins a _) ((known (operator.Postfix op)).parts_none p.locale)
+  begins {p} (G.signed op a) r = record { starts = sign_opens op; no_parameter = λ _. sign_no_parameter p.locale op (expression_tokens a ++ r) }
+  begins {p} (G.word name) r = record { starts = omega arith; no_parameter = no_word p.locale name r }
+  begins (G.lambda a) r = lambda_begins a r
+  begins _ r = record { starts = omega arith; no_parameter = λ _. refl }
 
-  pub primary_no_parameter : {p : Profile} (d : Primary p) (r : List Token) → GoesOn p.locale r → parameter p.locale (primary_tokens d ++ r) ≡ None
-  primary_no_parameter (G.number value) r h = refl
-  primary_no_parameter (G.text value) r h = refl
-  primary_no_parameter (G.error x) r h = refl
-  primary_no_parameter (G.reference sheet mark at is) r h = refl
-  primary_no_parameter (G.range sheet first second start stop is also) r h = refl
-  primary_no_parameter (G.parentheses a) r h = refl
-  primary_no_parameter (G.array rows is) r h = refl
-  primary_no_parameter (G.call name is arguments) r h = refl
-  primary_no_parameter {p} (G.word name) r h = no_word p.locale name r h
-  primary_no_parameter (G.lambda a) r h = lambda_no_parameter a r h
-
-  pub lambda_no_parameter : {p : Profile} (d : Lambda p) (r : List Token) → GoesOn p.locale r → parameter p.locale (lambda_tokens d ++ r) ≡ None
-  lambda_no_parameter (G.function name is parameters body) r h = refl
-  lambda_no_parameter {p} (G.applied a arguments) r h = no_parameter_regrouped p.locale (lambda_tokens a) (t.OpenParenthesis ∷ arguments_tokens arguments ++ t.CloseParenthesis ∷ []) r (lambda_no_parameter a _ refl)
+  lambda_begins : {p : Profile} (d : Lambda p) (r : List Token) → Begins p.locale 0 (lambda_tokens d) r
+  lambda_begins (G.function name is parameters body) r = record { starts = omega arith; no_parameter = λ _. refl }
+  lambda_begins {p} (G.applied a all) r = regrouped p.locale 0 (lambda_tokens a) (t.OpenParenthesis ∷ arguments_tokens all ++ t.CloseParenthesis ∷ []) r (lambda_begins a _) refl

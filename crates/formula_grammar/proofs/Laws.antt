@@ -9,8 +9,7 @@ use Rattle.formula_grammar.specs.Grammar.{expression_tokens, expression_tree, De
 use Rattle.formula_grammar.specs.laws.Reading.{Outcome, expression, whole, if_last, tree_of}
 use Rattle.formula_grammar.proofs.Complete.{completes, expression_reads}
 use Rattle.formula_grammar.proofs.Sound.{whole_sound}
-use Rattle.formula_grammar.proofs.Placing.{expression_placed}
-use Rattle.formula_grammar.proofs.Formulas.{expression_formula}
+use Rattle.formula_grammar.proofs.Placing.{expression_formula, expression_placed}
 use Rattle.formula_grammar.proofs.Numbering.{expression_follows}
 use Rattle.formula_grammar.specs.Numbers.{tokens_follow}
 use Rattle.formula_tree.specs.declared.numbers.NumberRule.{NumberRule}
@@ -37,7 +36,7 @@ pub read_is_derived : (p : Profile) (ts : List Token) (tree : Node) → tree_of 
 unfolding tree_of
 read_is_derived p ts tree e =
     let d = whole_sound p 128 64 ts [] tree (if_last_is (whole p 128 64 ts) tree e) in
-    record { by = d.is.by; spells = d.is.spells ∙ sym (append-nil d.front) ∙ sym d.parts; gives = d.is.gives; shallow = d.is.shallow; open_few = d.is.within }
+    record { by = d.by; spells = sym (append-nil (expression_tokens d.by)) ∙ sym d.parts; gives = d.gives; shallow = d.shallow; open_few = d.within }
 
 -- tokens have one tree
 pub one_tree : (p : Profile) (ts : List Token) (a b : Node) → Derives p ts a → Derives p ts b → a ≡ b

@@ -44,7 +44,7 @@ impl<F: Fn(Global, Profile, &mut Cursor<'_>, u64, u64) -> Result<Found, Fault>> 
     /// An expression of a level: signs, an operand of the next tighter level, and the operators of the
     /// level behind it, which group to the left.
     #[cycle(expression)]
-    #[tactic(auto, using(crate::proofs::Chains::chain_next, crate::proofs::Chains::chain_done, crate::proofs::Chains::expression_steps), unfolding(crate::specs::laws::Reading::expression))]
+    #[tactic(auto, using(crate::proofs::Loops::chain_next, crate::proofs::Loops::chain_done, crate::proofs::Loops::expression_steps), unfolding(crate::specs::laws::Reading::expression))]
     pub fn expression(&self, tokens: &mut Cursor<'_>, level: u8) -> Result<Found, Fault>
         requires { Nests self.now.profile self.now.nesting (F.pre self.now.whole) (F.post self.now.whole) }
         ensures { Reads (spec.expression self.now.profile (spec.whole self.now.profile self.now.nesting) self.now.room level tokens.old.rest.now) result tokens.new.rest.now }
@@ -91,6 +91,7 @@ impl<F: Fn(Global, Profile, &mut Cursor<'_>, u64, u64) -> Result<Found, Fault>> 
     }
 
     /// The operand behind so many signs.
+    #[tactic(auto, using(crate::proofs::Loops::wrapped_next, crate::proofs::Loops::wrapped_done))]
     fn wrapped(&self, sign: Prefix, count: usize, operand: Found) -> Result<Found, Fault>
         ensures { Gives (wrapped sign count operand) result }
     {
@@ -187,6 +188,7 @@ impl<F: Fn(Global, Profile, &mut Cursor<'_>, u64, u64) -> Result<Found, Fault>> 
     }
 
     /// A lambda and its calls, after LAMBDA and the opening parenthesis.
+    #[tactic(auto, using(crate::proofs::Loops::chain_next, crate::proofs::Loops::chain_done), unfolding(crate::specs::laws::Reading::lambda))]
     fn lambda(&self, tokens: &mut Cursor<'_>) -> Result<Found, Fault>
         requires { Nests self.now.profile self.now.nesting (F.pre self.now.whole) (F.post self.now.whole) }
         ensures { Reads (spec.lambda self.now.profile (spec.whole self.now.profile self.now.nesting) self.now.room tokens.old.rest.now) result tokens.new.rest.now }
@@ -228,6 +230,7 @@ impl<F: Fn(Global, Profile, &mut Cursor<'_>, u64, u64) -> Result<Found, Fault>> 
     }
 
     /// The arguments of a call, up to the closing parenthesis.
+    #[tactic(auto, using(crate::proofs::Loops::argument_next, crate::proofs::Loops::argument_done), unfolding(crate::specs::laws::Reading::arguments))]
     fn arguments(&self, tokens: &mut Cursor<'_>) -> Result<FoundAll, Fault>
         requires { Nests self.now.profile self.now.nesting (F.pre self.now.whole) (F.post self.now.whole) }
         ensures { Reads (spec.arguments self.now.profile (spec.whole self.now.profile self.now.nesting) self.now.room tokens.old.rest.now) result tokens.new.rest.now }

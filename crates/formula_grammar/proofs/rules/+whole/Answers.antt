@@ -1,6 +1,6 @@
 use Rattle.std.proofs.Common.{◌≡◌, ap, arith}
 use Rattle.formula_grammar.specs.laws.Reading.{whole}
-use Rattle.formula_grammar.proofs.Counting.{deeper}
+use Rattle.formula_grammar.proofs.Loops.{deeper}
 use Rattle.formula_grammar.proofs.rules.+whole.Goals as goal
 
 pub returns-then-nesting-eq0 : goal.returns-then-nesting-eq0

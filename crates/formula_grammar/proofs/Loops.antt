@@ -8,7 +8,7 @@ use Rattle.formula_levels.specs.declared.prefix.Prefix.{Prefix}
 use Rattle.formula_levels.specs.Levels.{prefix_node}
 use Rattle.formula_grammar.specs.declared.profile.Profile.{Profile}
 use Rattle.formula_grammar.specs.declared.token.Token.{Token}
-use Rattle.formula_grammar.specs.laws.Reading.{Outcome, Parser, and_then, pure, made, item, after_item, rows_next, rows_from, parameter, parameters_step, parameters_from, separator, argument, arguments_from, operator_at, turn, chain_step, chain_from, signed, expression}
+use Rattle.formula_grammar.specs.laws.Reading.{Outcome, Parser, and_then, pure, made, item, after_item, rows_next, rows_from, parameter, parameters_step, parameters_from, separator, argument, arguments_from, operator_at, turn, chain_step, chain_from, signed, expression, whole}
 use Rattle.formula_grammar.specs.laws.Signs.{wrapped}
 
 next : {X : Type 0} (f : ℕ → X) (n at : ℕ) → at < n → f (n - at) ≡ f (suc (n - (at + 1)))
@@ -33,6 +33,10 @@ pub expression_steps : (p : Profile) (inner : ℕ → Parser Node) (room level :
     → expression p inner room level ts ≡ and_then (signed (level - 1) (expression p inner room (level - 1)) ts) (chain_from (operator_at (level - 1)) (turn (expression p inner room (level - 1))) 64)
 unfolding expression
 expression_steps p inner room level ts h = deeper (λ k. expression p inner room k ts) level h
+
+pub whole_steps : (p : Profile) (nesting room : ℕ) (ts : List Token) → 0 < nesting → whole p nesting room ts ≡ expression p (whole p (nesting - 1)) room 10 ts
+unfolding whole
+whole_steps p nesting room ts h = deeper (λ k. whole p k room ts) nesting h
 
 pub wrapped_next : (op : Prefix) (n at : ℕ) (tree : Node) → at < n → wrapped op (n - at) tree ≡ option_and_then (wrapped op (n - (at + 1))) (made (prefix_node op tree))
 wrapped_next op n at tree h = next (λ k. wrapped op k tree) n at h
@@ -60,10 +64,12 @@ parameter_done locale n at found ts h = done (λ k. parameters_from locale k fou
 
 pub argument_next : (p : Profile) (inner : ℕ → Parser Node) (room n at : ℕ) (found : List Node) (ts : List Token) → at < n
     → arguments_from p inner room (n - at) found ts ≡ and_then (argument p inner room ts)
-        (λ x rest. and_then (separator p.locale rest) (λ goes_on. cond goes_on (arguments_from p inner room (n - (at + 1)) (found ++ x ∷ [])) (pure (found ++ x ∷ []))))
+    (λ x rest. and_then (separator p.locale rest) (λ goes_on. cond goes_on (arguments_from p inner room (n - (at + 1)) (found ++ x ∷ [])) (pure (found ++ x ∷ []))))
 unfolding arguments_from
 argument_next p inner room n at found ts h = next (λ k. arguments_from p inner room k found ts) n at h
 
 pub argument_done : (p : Profile) (inner : ℕ → Parser Node) (room n at : ℕ) (found : List Node) (ts : List Token) → n ≤ at → arguments_from p inner room (n - at) found ts ≡ None
 unfolding arguments_from
 argument_done p inner room n at found ts h = done (λ k. arguments_from p inner room k found ts) n at h
+
+pub ruleset turns = (chain_next, chain_done, expression_steps, whole_steps, wrapped_next, wrapped_done, row_next, row_done, parameter_next, parameter_done, argument_next, argument_done)

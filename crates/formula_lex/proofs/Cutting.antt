@@ -91,9 +91,9 @@ span_turn p c z e = rw e
 pub span_stop : (p : ℕ → Bool) (c : ℕ) (z : Text) → p c ≡ false → span p (c ∷ z) ≡ ([], c ∷ z)
 span_stop p c z e = rw e
 
-pub number_turn : (locale : Locale) (after : Bool) (c : ℕ) (z : Text) → in_number locale after c ≡ true
-    → number_span locale after (c ∷ z) ≡ (c ∷ (number_span locale (is_exponent_letter c) z).0, (number_span locale (is_exponent_letter c) z).1)
-number_turn locale after c z e = rw e
+pub number_turn : (locale : Locale) (after letter : Bool) (c : ℕ) (z : Text) → in_number locale after c ≡ true → letter ≡ is_exponent_letter c
+    → number_span locale after (c ∷ z) ≡ (c ∷ (number_span locale letter z).0, (number_span locale letter z).1)
+number_turn locale after letter c z e f = rw (e, f)
 
 pub number_stop : (locale : Locale) (after : Bool) (c : ℕ) (z : Text) → in_number locale after c ≡ false → number_span locale after (c ∷ z) ≡ ([], c ∷ z)
 number_stop locale after c z e = rw e

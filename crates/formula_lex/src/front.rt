@@ -1,5 +1,6 @@
 ghost use Rattle.std.specs.Prelude.{◌≡◌, ◌<◌, ◌∷◌, false, length, Some, IfSome, IfOk, encode_utf8_all};
 ghost use Rattle.std.specs.Str.{chars};
+ghost use Rattle.base_decimal.specs.Numeral.{is_exponent_letter};
 ghost use Rattle.formula_lex.specs.Characters.{goes_on_number};
 ghost use Rattle.formula_lex.specs.laws.Lex as spec;
 ghost use Rattle.formula_lex.specs.laws.Outcome.{Cuts, seen};
@@ -74,6 +75,12 @@ fn in_number(locale: Locale, after_letter: bool, c: char) -> bool
     (after_letter && (c == '+' || c == '-')) || goes_on_number(locale, c)
 }
 
+fn is_exponent_letter(c: char) -> bool
+    ensures { result ≡ is_exponent_letter c }
+{
+    c == 'e' || c == 'E'
+}
+
 /// The length in bytes of the longest front that may be a number.
 fn number_len(locale: Locale, text: &str) -> usize
     ensures { Cuts text.now result (spec.number_span locale false (chars text.now)) }
@@ -84,13 +91,14 @@ fn number_len(locale: Locale, text: &str) -> usize
         if !in_number(locale, after_letter, c) {
             return text.len() - rest.len();
         }
-        after_letter = c == 'e' || c == 'E';
+        after_letter = is_exponent_letter(c);
         rest = more;
     }
     text.len()
 }
 
-#[tactic(auto, unfolding(crate::specs::laws::Lex::number_at))]
+/// The number at the front of the text. It takes no memory.
+#[tactic(auto, unfolding(crate::specs::laws::Lex::number_at), using(crate::proofs::Cutting::encoded))]
 fn number(locale: Locale, text: &str) -> Option<(Token, &str)>
     ensures { seen result ≡ spec.number_at locale (chars text.now) }
 {
@@ -224,6 +232,7 @@ fn is_sign(c: char) -> bool
 }
 
 /// The token that such a character begins. It stands at the front of `text`, and `rest` follows it.
+#[tactic(auto, unfolding(crate::specs::laws::Lex::by_sign))]
 fn by_sign<'a>(
     alloc: Global,
     language: Language,

@@ -235,7 +235,7 @@ abbrev pub is_sign : ℕ → Bool
 is_sign c = nat_lt c 128 && not (is_letter c || (is_digit c || (c == 95 || c == 36)))
 
 -- what such a character begins
-abbrev pub by_sign : Language → ℕ → Reader Token
+unfoldable pub by_sign : Language → ℕ → Reader Token
 by_sign language c text =
     if c == 34 then text_at text
     else (if c == 39 then quoted_sheet_at text

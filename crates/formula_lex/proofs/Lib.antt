@@ -3,3 +3,8 @@ pub mod Readers
 pub mod Strips
 pub mod Lines
 pub mod Quotes
+pub mod Letters
+pub mod Places
+pub mod ErrorTexts
+pub mod Doubled
+pub mod Numbers

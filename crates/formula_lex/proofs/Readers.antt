@@ -1,5 +1,5 @@
 -- What a reader answers has a property: how readers that are put together keep it.
-use Rattle.std.proofs.Common.{◌≡◌, ℕ, Bool, true, false, cond, [], ◌∷◌, ◌++◌, Option, Some, None, refl, ap, ◌∙◌, arith}
+use Rattle.std.proofs.Common.{◌≡◌, ℕ, Bool, true, false, cond, [], ◌∷◌, ◌++◌, Option, Some, None, refl, ap, subst, ◌∙◌, arith}
 use Rattle.std.specs.Prelude.{not, ◌==◌, IfSome, MatchOption}
 use Rattle.std.specs.Option.{option_map, option_and_then, option_or}
 use Rattle.std.proofs.lemmas.Bool.{cond_both, eqb-true}
@@ -21,10 +21,7 @@ module _ {A : Type 0} (P : A → Type 0) where
 
   pub if_at : (o : Option A) (a : A) → IfSome o P → o ≡ Some a → P a
   if_at None a h e = absurd cc
-  if_at (Some b) a h e = let is : b ≡ a = cc in subst_at is h
-    where
-      subst_at : b ≡ a → P b → P a
-      subst_at is h = rw (← is) h
+  if_at (Some b) a h e = let is : b ≡ a = cc in subst P is h
 
   pub if_or : (o other : Option A) → IfSome o P → IfSome other P → IfSome (option_or o other) P
   if_or None other f g = g

@@ -1,0 +1,276 @@
+-- Cells and ranges are read just where they are spelled.
+use Rattle.std.proofs.Common.{◌≡◌, ℕ, Bool, true, false, cond, [], ◌∷◌, ◌++◌, Option, Some, None, refl, sym, ap, subst, ◌∙◌, append_assoc, arith}
+use Rattle.std.specs.Prelude.{ℤ, pos, not, ◌==◌, ◌&&◌, IfSome, MatchOption}
+use Rattle.std.specs.List.{list_all}
+use Rattle.std.specs.Option.{option_map, option_and_then, option_or}
+use Rattle.std.proofs.lemmas.Bool.{eqb-true, and_parts, and_from}
+use Rattle.std.proofs.lemmas.Bool.Decides.{nat_tests}
+use Rattle.std.proofs.lemmas.List.Folds.{list_all-append}
+use Rattle.base_tables.specs.Column.{is_letter, letters_number, is_column_name, column_of_name}
+use Rattle.base_tables.specs.Word.{is_digit, digits_number, is_count, is_row_number}
+use Rattle.base_decimal.specs.Digits.{span, stops}
+use Rattle.base_decimal.proofs.Spans.{not_true, span_at, span_parts, stops_sooner}
+use Rattle.formula_grammar.specs.declared.CellMark.{CellMark}
+use Rattle.formula_lex.specs.declared.place.Line.{Line}
+use Rattle.formula_lex.specs.declared.place.Side.{Side}
+use Rattle.formula_lex.specs.declared.place.Side.TheVariants as side
+use Rattle.formula_lex.specs.declared.place.Spot.{Spot}
+use Rattle.formula_lex.specs.declared.place.Spot.TheVariants as spot
+use Rattle.formula_lex.specs.Characters.{Text, goes_on_place}
+use Rattle.formula_lex.specs.Lexicon.{dollar, row_of_name, IsLine, IsCell, IsSpan, IsRange, cells, columns, rows}
+use Rattle.formula_lex.specs.laws.Lex.{past, dollar_at, with_name, line_at, column_at, row_at, mark_of, with_row, with_column, corner_at, between, range_to, range_behind, cell_alone, behind_corner, spot_at, is_sign}
+use Rattle.formula_lex.proofs.Letters.{digit_no_letter, letter_no_dollar, digit_no_dollar, place_no_dollar, place_no_digit, place_no_letter, colon_ends}
+use Rattle.formula_lex.proofs.Readers.{Front, if_each, if_or, if_map, if_then, if_cond, if_more, past_is}
+
+-- ---- columns and rows
+
+-- before `!` stands the name of a sheet
+abbrev pub no_mark : ℕ → Bool
+no_mark c = not (c == 33)
+
+-- a name of lines is some characters that pass, none of which is a dollar or a mark
+record Names (line_of_name : Text → Option ℤ) (p : ℕ → Bool) : Type 0 where
+  all : (name : Text) (line : ℤ) → line_of_name name ≡ Some line → list_all p name ≡ true
+  some : line_of_name [] ≡ None
+  no_dollar : (c : ℕ) → p c ≡ true → (c == 36) ≡ false
+  unmarked : (c : ℕ) → p c ≡ true → no_mark c ≡ true
+
+abbrev LineIs : (Text → Option ℤ) → Line → Text → Type 0
+LineIs line_of_name l = IsLine line_of_name l.absolute l.number
+
+all_more : (p q : ℕ → Bool) → ((c : ℕ) → p c ≡ true → q c ≡ true) → (s : Text) → list_all p s ≡ true → list_all q s ≡ true
+all_more p q h [] e = refl
+all_more p q h (c ∷ s) e = let k = and_parts (p c) (list_all p s) e in and_from _ _ (h c k.0) (all_more p q h s k.1)
+
+letter_unmarked : (c : ℕ) → is_letter c ≡ true → no_mark c ≡ true
+letter_unmarked c e = grind (arith, nat_tests)
+
+digit_unmarked : (c : ℕ) → is_digit c ≡ true → no_mark c ≡ true
+digit_unmarked c e = grind (arith, nat_tests)
+
+dollar_parts : (text : Text) → text ≡ dollar (dollar_at text).0 ++ (dollar_at text).1
+dollar_parts [] = refl
+dollar_parts (c ∷ text) = go (c == 36) refl
+  where
+    go : (b : Bool) → (c == 36) ≡ b → c ∷ text ≡ (let d : Bool × Text = cond b (true, text) (false, c ∷ text) in dollar d.0 ++ d.1)
+    go true e = ap (λ (d : ℕ). d ∷ text) (eqb-true c 36 e)
+    go false e = refl
+
+dollar_none : (text : Text) → stops (λ c. c == 36) text ≡ true → dollar_at text ≡ (false, text)
+dollar_none [] e = refl
+dollar_none (c ∷ text) e = rw (not_true (c == 36) e)
+
+line_sound : (line_of_name : Text → Option ℤ) (p : ℕ → Bool) (text : Text) → IfSome (line_at line_of_name p text) (λ r. Front (LineIs line_of_name r.0) text r.1)
+unfolding line_at
+line_sound line_of_name p text =
+    let d = dollar_at text in
+    let s = span p d.1 in
+    if_map (λ (r : Line × Text). Front (LineIs line_of_name r.0) text r.1) (λ n. (record { absolute = d.0; number = n }, s.1)) (line_of_name s.0)
+    (if_each (λ n. Front (IsLine line_of_name d.0 n) text s.1) (line_of_name s.0) (λ n e. record {
+      spelled = dollar d.0 ++ s.0;
+      parts = dollar_parts text ∙ ap (λ (x : Text). dollar d.0 ++ x) (span_parts p d.1) ∙ sym (append_assoc (dollar d.0) s.0 s.1);
+      is = record { name = s.0; parts = refl; named = e };
+    }))
+
+module _ (line_of_name : Text → Option ℤ) (p : ℕ → Bool) (names : Names line_of_name p) where
+  -- the name, and that it begins with no character that a name can't
+  name_stops : (q : ℕ → Bool) → ((c : ℕ) → p c ≡ true → q c ≡ false) → (name : Text) (line : ℤ) (rest : Text) → line_of_name name ≡ Some line → stops q (name ++ rest) ≡ true
+  name_stops q h [] line rest e = absurd (let f = sym names.some ∙ e in cc)
+  name_stops q h (c ∷ name) line rest e = ap not (h c (and_parts (p c) (list_all p name) (names.all (c ∷ name) line e)).0)
+
+  line_dollar : (l : Line) (s rest : Text) → (is : LineIs line_of_name l s) → dollar_at (s ++ rest) ≡ (l.absolute, is.name ++ rest)
+  line_dollar l s rest is = ap dollar_at (ap (λ (x : Text). x ++ rest) is.parts ∙ append_assoc (dollar l.absolute) is.name rest) ∙ go l.absolute
+    where
+      go : (b : Bool) → dollar_at (dollar b ++ (is.name ++ rest)) ≡ (b, is.name ++ rest)
+      go true = refl
+      go false = dollar_none (is.name ++ rest) (name_stops (λ c. c == 36) names.no_dollar is.name l.number rest is.named)
+
+  line_read : (l : Line) (s rest : Text) → LineIs line_of_name l s → stops p rest ≡ true → line_at line_of_name p (s ++ rest) ≡ Some (l, rest)
+  unfolding line_at
+  line_read l s rest is ends =
+      ap (λ (d : Bool × Text). with_name line_of_name d.0 (span p d.1)) (line_dollar l s rest is)
+      ∙ ap (with_name line_of_name l.absolute) (span_at p is.name rest (names.all is.name l.number is.named) ends)
+      ∙ ap (option_map (λ n. (let q : Line × Text = (record { absolute = l.absolute; number = n }, rest) in q))) is.named
+
+  line_unmarked : (l : Line) (s : Text) → LineIs line_of_name l s → list_all no_mark s ≡ true
+  line_unmarked l s is =
+      ap (list_all no_mark) is.parts ∙ list_all-append no_mark (dollar l.absolute) is.name
+      ∙ and_from _ _ (go l.absolute) (all_more p no_mark names.unmarked is.name (names.all is.name l.number is.named))
+    where
+      go : (b : Bool) → list_all no_mark (dollar b) ≡ true
+      go true = refl
+      go false = refl
+
+if_name : (b : Bool) (value line : ℤ) → cond b (Some value) None ≡ Some line → b ≡ true
+if_name true value line e = refl
+if_name false value line e = absurd cc
+
+columns_named : Names column_of_name is_letter
+unfolding column_of_name is_column_name
+columns_named = record {
+  all = λ name line e. (and_parts _ _ (if_name (is_column_name name) (pos (letters_number name)) line e)).0;
+  some = refl;
+  no_dollar = letter_no_dollar;
+  unmarked = letter_unmarked;
+}
+
+rows_named : Names row_of_name is_digit
+unfolding is_count
+rows_named = record {
+  all = λ name line e. (and_parts _ _ (if_name (is_row_number name) (pos (digits_number name)) line e)).0;
+  some = refl;
+  no_dollar = digit_no_dollar;
+  unmarked = digit_unmarked;
+}
+
+row_no_letter : (l : Line) (s rest : Text) → LineIs row_of_name l s → stops is_letter (s ++ rest) ≡ true
+row_no_letter l s rest is = ap (stops is_letter) (ap (λ (x : Text). x ++ rest) is.parts ∙ append_assoc (dollar l.absolute) is.name rest) ∙ go l.absolute
+  where
+    go : (b : Bool) → stops is_letter (dollar b ++ (is.name ++ rest)) ≡ true
+    go true = refl
+    go false = name_stops row_of_name is_digit rows_named is_letter digit_no_letter is.name l.number rest is.named
+
+-- where neither stands behind the dollar
+no_column : (text : Text) (d : Bool) (behind : Text) → dollar_at text ≡ (d, behind) → stops is_letter behind ≡ true → column_at text ≡ None
+unfolding line_at column_of_name is_column_name
+no_column text d behind e f =
+    ap (λ (x : Bool × Text). with_name column_of_name x.0 (span is_letter x.1)) e ∙ ap (with_name column_of_name d) (span_at is_letter [] behind refl f)
+
+no_row : (text : Text) → stops (λ c. c == 36) text ≡ true → stops is_digit text ≡ true → row_at text ≡ None
+unfolding line_at is_count
+no_row text e f =
+    ap (λ (x : Bool × Text). with_name row_of_name x.0 (span is_digit x.1)) (dollar_none text e) ∙ ap (with_name row_of_name false) (span_at is_digit [] text refl f)
+
+-- ---- sides
+
+abbrev IsSide : Side → Text → Type 0
+IsSide (side.Cell mark) = IsCell mark
+IsSide (side.Column l) = LineIs column_of_name l
+IsSide (side.Row l) = LineIs row_of_name l
+
+-- a text of two parts before a rest
+pair_parts : (first middle second rest : Text) → (first ++ (middle ++ second)) ++ rest ≡ first ++ (middle ++ (second ++ rest))
+pair_parts first middle second rest = append_assoc first (middle ++ second) rest ∙ ap (λ (x : Text). first ++ x) (append_assoc middle second rest)
+
+corner_sound : (text : Text) → IfSome (corner_at text) (λ r. Front (IsSide r.0) text r.1)
+unfolding corner_at
+corner_sound text = go (column_at text) (line_sound column_of_name is_letter text)
+  where
+    row : (column : Line) (rest : Text) → Front (LineIs column_of_name column) text rest → (o : Option (Line × Text)) → IfSome o (λ r. Front (LineIs row_of_name r.0) rest r.1)
+        → IfSome (with_row column rest o) (λ r. Front (IsSide r.0) text r.1)
+    row column rest f None g = f
+    row column rest f (Some r) g = record {
+      spelled = f.spelled ++ g.spelled;
+      parts = f.parts ∙ ap (λ (x : Text). f.spelled ++ x) g.parts ∙ sym (append_assoc f.spelled g.spelled r.1);
+      is = record { first = f.spelled; second = g.spelled; parts = refl; is_first = f.is; is_second = g.is };
+    }
+
+    go : (o : Option (Line × Text)) → IfSome o (λ r. Front (LineIs column_of_name r.0) text r.1) → IfSome (with_column text o) (λ r. Front (IsSide r.0) text r.1)
+    go None f = if_map (λ r. Front (IsSide r.0) text r.1) (λ r. (side.Row r.0, r.1)) (row_at text) (line_sound row_of_name is_digit text)
+    go (Some c) f = row c.0 c.1 f (row_at c.1) (line_sound row_of_name is_digit c.1)
+
+corner_read : (x : Side) (s rest : Text) → IsSide x s → stops goes_on_place rest ≡ true → corner_at (s ++ rest) ≡ Some (x, rest)
+unfolding corner_at
+corner_read (side.Cell mark) s rest is ends =
+    let column : Line = record { absolute = mark.absolute_column; number = mark.column } in
+    let row : Line = record { absolute = mark.absolute_row; number = mark.row } in
+    let text : Text = is.first ++ (is.second ++ rest) in
+    ap (λ (x : Text). with_column x (column_at x)) (ap (λ (x : Text). x ++ rest) is.parts ∙ append_assoc is.first is.second rest)
+    ∙ ap (with_column text) (line_read column_of_name is_letter columns_named column is.first (is.second ++ rest) is.is_first (row_no_letter row is.second rest is.is_second))
+    ∙ ap (with_row column (is.second ++ rest)) (line_read row_of_name is_digit rows_named row is.second rest is.is_second (stops_sooner is_digit goes_on_place place_no_digit rest ends))
+corner_read (side.Column l) s rest is ends =
+    ap (with_column (s ++ rest)) (line_read column_of_name is_letter columns_named l s rest is (stops_sooner is_letter goes_on_place place_no_letter rest ends))
+    ∙ ap (with_row l rest) (no_row rest (stops_sooner (λ c. c == 36) goes_on_place place_no_dollar rest ends) (stops_sooner is_digit goes_on_place place_no_digit rest ends))
+corner_read (side.Row l) s rest is ends =
+    ap (with_column (s ++ rest)) (no_column (s ++ rest) l.absolute (is.name ++ rest) (line_dollar row_of_name is_digit rows_named l s rest is)
+    (name_stops row_of_name is_digit rows_named is_letter digit_no_letter is.name l.number rest is.named))
+    ∙ ap (option_map (λ r. (let q : Side × Text = (side.Row r.0, r.1) in q))) (line_read row_of_name is_digit rows_named l s rest is (stops_sooner is_digit goes_on_place place_no_digit rest ends))
+
+-- ---- ranges and cells
+
+abbrev pub IsSpot : Spot → Text → Type 0
+IsSpot (spot.Cell mark) = IsCell mark
+IsSpot (spot.Range a b) = IsRange a b
+
+-- what stands at the front, where a place may end
+pub record FrontSpot (x : Spot) (text rest : Text) : Type 0 where
+  pub front : Front (IsSpot x) text rest
+  pub ends : stops goes_on_place rest ≡ true
+
+between_sound : (a b : Side) (s t : Text) → IsSide a s → IsSide b t → IfSome (between a b) (λ x. IsSpot x (s ++ (58 ∷ t)))
+between_sound (side.Cell a) (side.Cell b) s t f g = cells (record { first = s; second = t; parts = refl; is_first = f; is_second = g })
+between_sound (side.Column a) (side.Column b) s t f g = columns (record { first = s; second = t; parts = refl; is_first = f; is_second = g }) refl refl
+between_sound (side.Row a) (side.Row b) s t f g = rows (record { first = s; second = t; parts = refl; is_first = f; is_second = g }) refl refl
+between_sound _ _ s t f g = tt
+
+range_sound : (a : Side) (s text : Text) → IsSide a s → IfSome (range_behind a text) (λ r. FrontSpot r.0 (s ++ text) r.1)
+unfolding range_behind
+range_sound a s text is = colon (past 58 text) (past_is 58 text)
+  where
+    to : (z : Text) → text ≡ 58 ∷ z → (b : Side) (rest : Text) → Front (IsSide b) z rest → IfSome (range_to a (b, rest)) (λ r. FrontSpot r.0 (s ++ text) r.1)
+    to z e b rest f = if_cond (λ (r : Spot × Text). FrontSpot r.0 (s ++ text) r.1) (stops goes_on_place rest) _ None
+        (λ ends. if_map (λ (r : Spot × Text). FrontSpot r.0 (s ++ text) r.1) (λ x. (x, rest)) (between a b)
+        (if_more (λ x. FrontSpot x (s ++ text) rest) (λ x. IsSpot x (s ++ (58 ∷ f.spelled))) (λ x is_spot. record {
+          front = record { spelled = s ++ (58 ∷ f.spelled); parts = ap (λ (x : Text). s ++ x) (e ∙ ap (λ (x : Text). 58 ∷ x) f.parts) ∙ sym (append_assoc s (58 ∷ f.spelled) rest); is = is_spot };
+          ends = ends;
+        }) (between a b) (between_sound a b s f.spelled is f.is)))
+        (λ h. tt)
+
+    colon : (o : Option Text) → MatchOption o (stops (λ c. c == 58) text ≡ true) (λ z. text ≡ 58 ∷ z) → IfSome (option_and_then (range_to a) (option_and_then corner_at o)) (λ r. FrontSpot r.0 (s ++ text) r.1)
+    colon None e = tt
+    colon (Some z) e = if_then (λ (r : Spot × Text). FrontSpot r.0 (s ++ text) r.1) (range_to a) (corner_at z)
+        (if_more (λ p. IfSome (range_to a p) (λ r. FrontSpot r.0 (s ++ text) r.1)) (λ p. Front (IsSide p.0) z p.1) (λ p f. to z e p.0 p.1 f) (corner_at z) (corner_sound z))
+
+alone_sound : (a : Side) (s text : Text) → IsSide a s → IfSome (cell_alone a text) (λ r. FrontSpot r.0 (s ++ text) r.1)
+alone_sound (side.Cell mark) s text is =
+    if_cond (λ (r : Spot × Text). FrontSpot r.0 (s ++ text) r.1) (stops goes_on_place text) (Some (spot.Cell mark, text)) None (λ ends. record { front = record { spelled = s; parts = refl; is = is }; ends = ends }) (λ h. tt)
+alone_sound _ s text is = tt
+
+pub spot_sound : (text : Text) → IfSome (spot_at text) (λ r. FrontSpot r.0 text r.1)
+unfolding spot_at
+spot_sound text =
+    if_then (λ (r : Spot × Text). FrontSpot r.0 text r.1) behind_corner (corner_at text)
+    (if_more (λ p. IfSome (behind_corner p) (λ r. FrontSpot r.0 text r.1)) (λ p. Front (IsSide p.0) text p.1)
+    (λ p f. subst (λ (x : Text). IfSome (behind_corner p) (λ r. FrontSpot r.0 x r.1)) (sym f.parts)
+    (if_or (λ (r : Spot × Text). FrontSpot r.0 (f.spelled ++ p.1) r.1) (range_behind p.0 p.1) (cell_alone p.0 p.1) (range_sound p.0 f.spelled p.1 f.is) (alone_sound p.0 f.spelled p.1 f.is)))
+    (corner_at text) (corner_sound text))
+
+span_read : (a b : Side) (x : Spot) (s rest : Text) → between a b ≡ Some x → IsSpan (IsSide a) (IsSide b) s → stops goes_on_place rest ≡ true → spot_at (s ++ rest) ≡ Some (x, rest)
+unfolding spot_at range_behind
+span_read a b x s rest e is ends =
+    let z : Text = is.second ++ rest in
+    ap spot_at (ap (λ (y : Text). y ++ rest) is.parts ∙ pair_parts is.first (58 ∷ []) is.second rest)
+    ∙ ap (option_and_then behind_corner) (corner_read a is.first (58 ∷ z) is.is_first (ap not colon_ends))
+    ∙ ap (λ (o : Option (Side × Text)). option_or (option_and_then (range_to a) o) (cell_alone a (58 ∷ z))) (corner_read b is.second rest is.is_second ends)
+    ∙ ap (λ (t : Bool). option_or (cond t (option_map (λ y. (let q : Spot × Text = (y, rest) in q)) (between a b)) None) (cell_alone a (58 ∷ z))) ends
+    ∙ ap (λ (o : Option Spot). option_or (option_map (λ y. (let q : Spot × Text = (y, rest) in q)) o) (cell_alone a (58 ∷ z))) e
+
+abbrev column_of : CellMark → Line
+column_of mark = record { absolute = mark.absolute_column; number = mark.column }
+
+abbrev row_of : CellMark → Line
+row_of mark = record { absolute = mark.absolute_row; number = mark.row }
+
+pub range_read : (a b : CellMark) (s rest : Text) → IsRange a b s → stops goes_on_place rest ≡ true → spot_at (s ++ rest) ≡ Some (spot.Range a b, rest)
+range_read a b s rest (cells is) ends = span_read (side.Cell a) (side.Cell b) (spot.Range a b) s rest refl is ends
+range_read a b s rest (columns is on_first on_last) ends =
+    span_read (side.Column (column_of a)) (side.Column (column_of b)) (spot.Range a b) s rest (rw (on_first, on_last)) is ends
+range_read a b s rest (rows is on_first on_last) ends =
+    span_read (side.Row (row_of a)) (side.Row (row_of b)) (spot.Range a b) s rest (rw (on_first, on_last)) is ends
+
+-- where a cell stands, it is read or else a range
+pub cell_read : (mark : CellMark) (s rest : Text) → IsCell mark s → stops goes_on_place rest ≡ true → spot_at (s ++ rest) ≡ option_or (range_behind (side.Cell mark) rest) (Some (spot.Cell mark, rest))
+unfolding spot_at
+cell_read mark s rest is ends =
+    ap (option_and_then behind_corner) (corner_read (side.Cell mark) s rest is ends)
+    ∙ ap (λ (t : Bool). option_or (range_behind (side.Cell mark) rest) (cond t (Some (spot.Cell mark, rest)) None)) ends
+
+-- no place begins with a sign
+pub sign_no_spot : (c : ℕ) (text : Text) → is_sign c ≡ true → spot_at (c ∷ text) ≡ None
+unfolding spot_at corner_at
+sign_no_spot c text e =
+    let d : (c == 36) ≡ false = grind (arith, nat_tests) in
+    let l : is_letter c ≡ false = grind (arith, nat_tests) in
+    let n : is_digit c ≡ false = grind (arith, nat_tests) in
+    ap (λ (o : Option (Line × Text)). option_and_then behind_corner (with_column (c ∷ text) o)) (no_column (c ∷ text) false (c ∷ text) (dollar_none (c ∷ text) (ap not d)) (ap not l))
+    ∙ ap (λ (o : Option (Line × Text)). option_and_then behind_corner (option_map (λ r. (side.Row r.0, r.1)) o)) (no_row (c ∷ text) (ap not d) (ap not n))

@@ -14,7 +14,7 @@ use Rattle.base_tables.specs.Tables.{entry_named}
 use Rattle.base_tables.specs.laws.Error.{error_of_text-error_text}
 use Rattle.base_tables.specs.laws.Tables.{found_name}
 use Rattle.formula_lex.specs.Characters.{Text}
-use Rattle.formula_lex.specs.laws.Lex.{strip, english_error, own_text, own_error, error_at}
+use Rattle.formula_lex.specs.laws.Lex.{past, strip, english_error, own_text, own_error, error_at}
 use Rattle.formula_lex.proofs.Readers.{Front, if_or, if_map, if_more, strip_is}
 
 abbrev Is : Language → Error → Text → Type 0
@@ -95,3 +95,9 @@ named language s rest error false h e =
 
 pub error_read : (language : Language) (s : Text) (error : Error) (rest : Text) → Is language error s → error_at language (s ++ rest) ≡ Some (error, rest)
 error_read language s error rest e = named language s rest error (is_own_reference_error language (encode_utf8_all s)) refl e
+
+-- each begins with a hash
+pub error_none : (language : Language) (text : Text) → past 35 text ≡ None → error_at language text ≡ None
+unfolding error_at
+error_none En text e = rw e
+error_none _ text e = rw e

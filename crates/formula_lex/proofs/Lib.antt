@@ -8,3 +8,4 @@ pub mod Places
 pub mod ErrorTexts
 pub mod Doubled
 pub mod Numbers
+pub mod Complete

@@ -3,11 +3,11 @@ use Rattle.std.proofs.Common.{◌≡◌, ℕ, Bool, true, false, cond, [], ◌�
 use Rattle.std.specs.Prelude.{ℤ, pos, not, ◌==◌, ◌&&◌, IfSome, MatchOption}
 use Rattle.std.specs.List.{list_all}
 use Rattle.std.specs.Option.{option_map, option_and_then, option_or}
-use Rattle.std.proofs.lemmas.Bool.{eqb-true, and_parts, and_from}
+use Rattle.std.proofs.lemmas.Bool.{eqb-true, and_parts, and_from, or_left, or_right, both_ways}
 use Rattle.std.proofs.lemmas.Bool.Decides.{nat_tests}
 use Rattle.std.proofs.lemmas.List.Folds.{list_all-append}
 use Rattle.base_tables.specs.Column.{is_letter, letters_number, is_column_name, column_of_name}
-use Rattle.base_tables.specs.Word.{is_digit, digits_number, is_count, is_row_number}
+use Rattle.base_tables.specs.Word.{is_digit, goes_on_word, digits_number, is_count, is_row_number}
 use Rattle.base_decimal.specs.Digits.{span, stops}
 use Rattle.base_decimal.proofs.Spans.{not_true, span_at, span_parts, stops_sooner}
 use Rattle.formula_grammar.specs.declared.CellMark.{CellMark}
@@ -19,7 +19,7 @@ use Rattle.formula_lex.specs.declared.place.Spot.TheVariants as spot
 use Rattle.formula_lex.specs.Characters.{Text, goes_on_place}
 use Rattle.formula_lex.specs.Lexicon.{dollar, row_of_name, IsLine, IsCell, IsSpan, IsRange, cells, columns, rows}
 use Rattle.formula_lex.specs.laws.Lex.{past, dollar_at, with_name, line_at, column_at, row_at, mark_of, with_row, with_column, corner_at, between, range_to, range_behind, cell_alone, behind_corner, spot_at, is_sign}
-use Rattle.formula_lex.proofs.Letters.{digit_no_letter, letter_no_dollar, digit_no_dollar, place_no_dollar, place_no_digit, place_no_letter, colon_ends}
+use Rattle.formula_lex.proofs.Letters.{digit_no_letter, letter_no_dollar, letter_no_digit, digit_no_dollar, place_no_dollar, place_no_digit, place_no_letter, colon_ends}
 use Rattle.formula_lex.proofs.Readers.{Front, if_each, if_or, if_map, if_then, if_cond, if_more, past_is}
 
 -- ---- columns and rows
@@ -92,6 +92,13 @@ module _ (line_of_name : Text → Option ℤ) (p : ℕ → Bool) (names : Names 
       ∙ ap (with_name line_of_name l.absolute) (span_at p is.name rest (names.all is.name l.number is.named) ends)
       ∙ ap (option_map (λ n. (let q : Line × Text = (record { absolute = l.absolute; number = n }, rest) in q))) is.named
 
+  line_stops : (q : ℕ → Bool) → q 36 ≡ false → ((c : ℕ) → p c ≡ true → q c ≡ false) → (l : Line) (s rest : Text) → LineIs line_of_name l s → stops q (s ++ rest) ≡ true
+  line_stops q d h l s rest is = ap (stops q) (ap (λ (x : Text). x ++ rest) is.parts ∙ append_assoc (dollar l.absolute) is.name rest) ∙ go l.absolute
+    where
+      go : (b : Bool) → stops q (dollar b ++ (is.name ++ rest)) ≡ true
+      go true = ap not d
+      go false = name_stops q h is.name l.number rest is.named
+
   line_unmarked : (l : Line) (s : Text) → LineIs line_of_name l s → list_all no_mark s ≡ true
   line_unmarked l s is =
       ap (list_all no_mark) is.parts ∙ list_all-append no_mark (dollar l.absolute) is.name
@@ -124,11 +131,7 @@ rows_named = record {
 }
 
 row_no_letter : (l : Line) (s rest : Text) → LineIs row_of_name l s → stops is_letter (s ++ rest) ≡ true
-row_no_letter l s rest is = ap (stops is_letter) (ap (λ (x : Text). x ++ rest) is.parts ∙ append_assoc (dollar l.absolute) is.name rest) ∙ go l.absolute
-  where
-    go : (b : Bool) → stops is_letter (dollar b ++ (is.name ++ rest)) ≡ true
-    go true = refl
-    go false = name_stops row_of_name is_digit rows_named is_letter digit_no_letter is.name l.number rest is.named
+row_no_letter = line_stops row_of_name is_digit rows_named is_letter refl digit_no_letter
 
 -- where neither stands behind the dollar
 no_column : (text : Text) (d : Bool) (behind : Text) → dollar_at text ≡ (d, behind) → stops is_letter behind ≡ true → column_at text ≡ None
@@ -151,6 +154,10 @@ IsSide (side.Row l) = LineIs row_of_name l
 -- a text of two parts before a rest
 pair_parts : (first middle second rest : Text) → (first ++ (middle ++ second)) ++ rest ≡ first ++ (middle ++ (second ++ rest))
 pair_parts first middle second rest = append_assoc first (middle ++ second) rest ∙ ap (λ (x : Text). first ++ x) (append_assoc middle second rest)
+
+parts_unmarked : (first middle second s : Text) → s ≡ first ++ (middle ++ second) → list_all no_mark first ≡ true → list_all no_mark middle ≡ true → list_all no_mark second ≡ true → list_all no_mark s ≡ true
+parts_unmarked first middle second s e f g h =
+    ap (list_all no_mark) e ∙ list_all-append no_mark first (middle ++ second) ∙ and_from _ _ f (list_all-append no_mark middle second ∙ and_from _ _ g h)
 
 corner_sound : (text : Text) → IfSome (corner_at text) (λ r. Front (IsSide r.0) text r.1)
 unfolding corner_at
@@ -188,51 +195,66 @@ corner_read (side.Row l) s rest is ends =
 
 -- ---- ranges and cells
 
+abbrev pub IsRangeSpot : Spot → Text → Type 0
+IsRangeSpot (spot.Cell mark) s = ⊥
+IsRangeSpot (spot.Range a b) s = IsRange a b s
+
 abbrev pub IsSpot : Spot → Text → Type 0
-IsSpot (spot.Cell mark) = IsCell mark
-IsSpot (spot.Range a b) = IsRange a b
+IsSpot (spot.Cell mark) s = IsCell mark s
+IsSpot (spot.Range a b) s = IsRange a b s
 
 -- what stands at the front, where a place may end
-pub record FrontSpot (x : Spot) (text rest : Text) : Type 0 where
-  pub front : Front (IsSpot x) text rest
+pub record Placed (Is : Text → Type 0) (text rest : Text) : Type 0 where
+  pub spelled : Text
+  pub parts : text ≡ spelled ++ rest
+  pub is : Is spelled
   pub ends : stops goes_on_place rest ≡ true
 
-between_sound : (a b : Side) (s t : Text) → IsSide a s → IsSide b t → IfSome (between a b) (λ x. IsSpot x (s ++ (58 ∷ t)))
+between_sound : (a b : Side) (s t : Text) → IsSide a s → IsSide b t → IfSome (between a b) (λ x. IsRangeSpot x (s ++ (58 ∷ t)))
 between_sound (side.Cell a) (side.Cell b) s t f g = cells (record { first = s; second = t; parts = refl; is_first = f; is_second = g })
 between_sound (side.Column a) (side.Column b) s t f g = columns (record { first = s; second = t; parts = refl; is_first = f; is_second = g }) refl refl
 between_sound (side.Row a) (side.Row b) s t f g = rows (record { first = s; second = t; parts = refl; is_first = f; is_second = g }) refl refl
 between_sound _ _ s t f g = tt
 
-range_sound : (a : Side) (s text : Text) → IsSide a s → IfSome (range_behind a text) (λ r. FrontSpot r.0 (s ++ text) r.1)
+pub range_sound : (a : Side) (s text : Text) → IsSide a s → IfSome (range_behind a text) (λ r. Placed (IsRangeSpot r.0) (s ++ text) r.1)
 unfolding range_behind
 range_sound a s text is = colon (past 58 text) (past_is 58 text)
   where
-    to : (z : Text) → text ≡ 58 ∷ z → (b : Side) (rest : Text) → Front (IsSide b) z rest → IfSome (range_to a (b, rest)) (λ r. FrontSpot r.0 (s ++ text) r.1)
-    to z e b rest f = if_cond (λ (r : Spot × Text). FrontSpot r.0 (s ++ text) r.1) (stops goes_on_place rest) _ None
-        (λ ends. if_map (λ (r : Spot × Text). FrontSpot r.0 (s ++ text) r.1) (λ x. (x, rest)) (between a b)
-        (if_more (λ x. FrontSpot x (s ++ text) rest) (λ x. IsSpot x (s ++ (58 ∷ f.spelled))) (λ x is_spot. record {
-          front = record { spelled = s ++ (58 ∷ f.spelled); parts = ap (λ (x : Text). s ++ x) (e ∙ ap (λ (x : Text). 58 ∷ x) f.parts) ∙ sym (append_assoc s (58 ∷ f.spelled) rest); is = is_spot };
+    to : (z : Text) → text ≡ 58 ∷ z → (b : Side) (rest : Text) → Front (IsSide b) z rest → IfSome (range_to a (b, rest)) (λ r. Placed (IsRangeSpot r.0) (s ++ text) r.1)
+    to z e b rest f = if_cond (λ (r : Spot × Text). Placed (IsRangeSpot r.0) (s ++ text) r.1) (stops goes_on_place rest) _ None
+        (λ ends. if_map (λ (r : Spot × Text). Placed (IsRangeSpot r.0) (s ++ text) r.1) (λ x. (x, rest)) (between a b)
+        (if_more (λ x. Placed (IsRangeSpot x) (s ++ text) rest) (λ x. IsRangeSpot x (s ++ (58 ∷ f.spelled))) (λ x range. record {
+          spelled = s ++ (58 ∷ f.spelled);
+          parts = ap (λ (x : Text). s ++ x) (e ∙ ap (λ (x : Text). 58 ∷ x) f.parts) ∙ sym (append_assoc s (58 ∷ f.spelled) rest);
+          is = range;
           ends = ends;
         }) (between a b) (between_sound a b s f.spelled is f.is)))
         (λ h. tt)
 
-    colon : (o : Option Text) → MatchOption o (stops (λ c. c == 58) text ≡ true) (λ z. text ≡ 58 ∷ z) → IfSome (option_and_then (range_to a) (option_and_then corner_at o)) (λ r. FrontSpot r.0 (s ++ text) r.1)
+    colon : (o : Option Text) → MatchOption o (stops (λ c. c == 58) text ≡ true) (λ z. text ≡ 58 ∷ z)
+        → IfSome (option_and_then (range_to a) (option_and_then corner_at o)) (λ r. Placed (IsRangeSpot r.0) (s ++ text) r.1)
     colon None e = tt
-    colon (Some z) e = if_then (λ (r : Spot × Text). FrontSpot r.0 (s ++ text) r.1) (range_to a) (corner_at z)
-        (if_more (λ p. IfSome (range_to a p) (λ r. FrontSpot r.0 (s ++ text) r.1)) (λ p. Front (IsSide p.0) z p.1) (λ p f. to z e p.0 p.1 f) (corner_at z) (corner_sound z))
+    colon (Some z) e = if_then (λ (r : Spot × Text). Placed (IsRangeSpot r.0) (s ++ text) r.1) (range_to a) (corner_at z)
+        (if_more (λ p. IfSome (range_to a p) (λ r. Placed (IsRangeSpot r.0) (s ++ text) r.1)) (λ p. Front (IsSide p.0) z p.1) (λ p f. to z e p.0 p.1 f) (corner_at z) (corner_sound z))
 
-alone_sound : (a : Side) (s text : Text) → IsSide a s → IfSome (cell_alone a text) (λ r. FrontSpot r.0 (s ++ text) r.1)
+range_placed : (text : Text) (r : Spot × Text) → Placed (IsRangeSpot r.0) text r.1 → Placed (IsSpot r.0) text r.1
+range_placed text (spot.Cell mark, rest) f = absurd f.is
+range_placed text (spot.Range a b, rest) f = f
+
+alone_sound : (a : Side) (s text : Text) → IsSide a s → IfSome (cell_alone a text) (λ r. Placed (IsSpot r.0) (s ++ text) r.1)
 alone_sound (side.Cell mark) s text is =
-    if_cond (λ (r : Spot × Text). FrontSpot r.0 (s ++ text) r.1) (stops goes_on_place text) (Some (spot.Cell mark, text)) None (λ ends. record { front = record { spelled = s; parts = refl; is = is }; ends = ends }) (λ h. tt)
+    if_cond (λ (r : Spot × Text). Placed (IsSpot r.0) (s ++ text) r.1) (stops goes_on_place text) (Some (spot.Cell mark, text)) None (λ ends. record { spelled = s; parts = refl; is = is; ends = ends }) (λ h. tt)
 alone_sound _ s text is = tt
 
-pub spot_sound : (text : Text) → IfSome (spot_at text) (λ r. FrontSpot r.0 text r.1)
+pub spot_sound : (text : Text) → IfSome (spot_at text) (λ r. Placed (IsSpot r.0) text r.1)
 unfolding spot_at
 spot_sound text =
-    if_then (λ (r : Spot × Text). FrontSpot r.0 text r.1) behind_corner (corner_at text)
-    (if_more (λ p. IfSome (behind_corner p) (λ r. FrontSpot r.0 text r.1)) (λ p. Front (IsSide p.0) text p.1)
-    (λ p f. subst (λ (x : Text). IfSome (behind_corner p) (λ r. FrontSpot r.0 x r.1)) (sym f.parts)
-    (if_or (λ (r : Spot × Text). FrontSpot r.0 (f.spelled ++ p.1) r.1) (range_behind p.0 p.1) (cell_alone p.0 p.1) (range_sound p.0 f.spelled p.1 f.is) (alone_sound p.0 f.spelled p.1 f.is)))
+    if_then (λ (r : Spot × Text). Placed (IsSpot r.0) text r.1) behind_corner (corner_at text)
+    (if_more (λ p. IfSome (behind_corner p) (λ r. Placed (IsSpot r.0) text r.1)) (λ p. Front (IsSide p.0) text p.1)
+    (λ p f. subst (λ (x : Text). IfSome (behind_corner p) (λ r. Placed (IsSpot r.0) x r.1)) (sym f.parts)
+    (if_or (λ (r : Spot × Text). Placed (IsSpot r.0) (f.spelled ++ p.1) r.1) (range_behind p.0 p.1) (cell_alone p.0 p.1)
+    (if_more (λ r. Placed (IsSpot r.0) (f.spelled ++ p.1) r.1) (λ r. Placed (IsRangeSpot r.0) (f.spelled ++ p.1) r.1) (range_placed (f.spelled ++ p.1)) (range_behind p.0 p.1) (range_sound p.0 f.spelled p.1 f.is))
+    (alone_sound p.0 f.spelled p.1 f.is)))
     (corner_at text) (corner_sound text))
 
 span_read : (a b : Side) (x : Spot) (s rest : Text) → between a b ≡ Some x → IsSpan (IsSide a) (IsSide b) s → stops goes_on_place rest ≡ true → spot_at (s ++ rest) ≡ Some (x, rest)
@@ -258,19 +280,72 @@ range_read a b s rest (columns is on_first on_last) ends =
 range_read a b s rest (rows is on_first on_last) ends =
     span_read (side.Row (row_of a)) (side.Row (row_of b)) (spot.Range a b) s rest (rw (on_first, on_last)) is ends
 
--- where a cell stands, it is read or else a range
+-- where a cell stands, it is read, or else a range
 pub cell_read : (mark : CellMark) (s rest : Text) → IsCell mark s → stops goes_on_place rest ≡ true → spot_at (s ++ rest) ≡ option_or (range_behind (side.Cell mark) rest) (Some (spot.Cell mark, rest))
 unfolding spot_at
 cell_read mark s rest is ends =
     ap (option_and_then behind_corner) (corner_read (side.Cell mark) s rest is ends)
     ∙ ap (λ (t : Bool). option_or (range_behind (side.Cell mark) rest) (cond t (Some (spot.Cell mark, rest)) None)) ends
 
--- no place begins with a sign
-pub sign_no_spot : (c : ℕ) (text : Text) → is_sign c ≡ true → spot_at (c ∷ text) ≡ None
+-- ---- where none is read
+
+sign_no_spot : (c : ℕ) (text : Text) → is_sign c ≡ true → spot_at (c ∷ text) ≡ None
 unfolding spot_at corner_at
 sign_no_spot c text e =
     let d : (c == 36) ≡ false = grind (arith, nat_tests) in
     let l : is_letter c ≡ false = grind (arith, nat_tests) in
     let n : is_digit c ≡ false = grind (arith, nat_tests) in
-    ap (λ (o : Option (Line × Text)). option_and_then behind_corner (with_column (c ∷ text) o)) (no_column (c ∷ text) false (c ∷ text) (dollar_none (c ∷ text) (ap not d)) (ap not l))
-    ∙ ap (λ (o : Option (Line × Text)). option_and_then behind_corner (option_map (λ r. (side.Row r.0, r.1)) o)) (no_row (c ∷ text) (ap not d) (ap not n))
+    rw (no_column (c ∷ text) false (c ∷ text) (dollar_none (c ∷ text) (ap not d)) (ap not l), no_row (c ∷ text) (ap not d) (ap not n))
+
+-- no place begins with a sign
+pub spot_starts : (q : ℕ → Bool) → ((c : ℕ) → q c ≡ true → is_sign c ≡ true) → (text : Text) (r : Spot × Text) → spot_at text ≡ Some r → stops q text ≡ true
+spot_starts q h [] r e = refl
+spot_starts q h (c ∷ text) r e = go (q c) refl
+  where
+    go : (b : Bool) → q c ≡ b → not b ≡ true
+    go false f = refl
+    go true f = absurd (let x = sym (sign_no_spot c text (h c f)) ∙ e in cc)
+
+pub no_spot : spot_at [] ≡ None
+unfolding spot_at corner_at
+no_spot = rw (no_column [] false [] refl refl, no_row [] refl refl)
+
+-- no cell begins with a digit
+pub cell_no_digit : (mark : CellMark) (s rest : Text) → IsCell mark s → stops is_digit (s ++ rest) ≡ true
+cell_no_digit mark s rest is =
+    ap (stops is_digit) (ap (λ (x : Text). x ++ rest) is.parts ∙ append_assoc is.first is.second rest)
+    ∙ line_stops column_of_name is_letter columns_named is_digit refl letter_no_digit (column_of mark) is.first (is.second ++ rest) is.is_first
+
+-- ---- no place stands before a mark that follows a word
+
+side_unmarked : (x : Side) (s : Text) → IsSide x s → list_all no_mark s ≡ true
+side_unmarked (side.Cell mark) s is = parts_unmarked is.first [] is.second s is.parts (line_unmarked column_of_name is_letter columns_named (column_of mark) is.first is.is_first) refl (line_unmarked row_of_name is_digit rows_named (row_of mark) is.second is.is_second)
+side_unmarked (side.Column l) s is = line_unmarked column_of_name is_letter columns_named l s is
+side_unmarked (side.Row l) s is = line_unmarked row_of_name is_digit rows_named l s is
+
+spot_unmarked : (x : Spot) (s : Text) → IsSpot x s → list_all no_mark s ≡ true
+spot_unmarked (spot.Cell mark) s is = side_unmarked (side.Cell mark) s is
+spot_unmarked (spot.Range a b) s (cells is) = parts_unmarked is.first (58 ∷ []) is.second s is.parts (side_unmarked (side.Cell a) is.first is.is_first) refl (side_unmarked (side.Cell b) is.second is.is_second)
+spot_unmarked (spot.Range a b) s (columns is on_first on_last) =
+    parts_unmarked is.first (58 ∷ []) is.second s is.parts (side_unmarked (side.Column (column_of a)) is.first is.is_first) refl (side_unmarked (side.Column (column_of b)) is.second is.is_second)
+spot_unmarked (spot.Range a b) s (rows is on_first on_last) =
+    parts_unmarked is.first (58 ∷ []) is.second s is.parts (side_unmarked (side.Row (row_of a)) is.first is.is_first) refl (side_unmarked (side.Row (row_of b)) is.second is.is_second)
+
+-- what has no mark in it ends inside the word or before the mark, where no place ends
+unmarked_goes_on : (word tail s rest : Text) → list_all goes_on_word word ≡ true → list_all no_mark s ≡ true → word ++ (33 ∷ tail) ≡ s ++ rest → stops goes_on_place rest ≡ true → ⊥
+unmarked_goes_on [] tail [] rest w n e ends = both_ways _ (not_true _ (ap (stops goes_on_place) e ∙ ends)) (or_right (goes_on_word 33) _ refl)
+unmarked_goes_on (c ∷ word) tail [] rest w n e ends =
+    both_ways _ (not_true _ (ap (stops goes_on_place) e ∙ ends)) (or_left (goes_on_word c) _ (and_parts (goes_on_word c) (list_all goes_on_word word) w).0)
+unmarked_goes_on [] tail (d ∷ s) rest w n e ends =
+    let is : 33 ≡ d = cc in
+    let h : no_mark 33 ≡ true = ap no_mark is ∙ (and_parts (no_mark d) (list_all no_mark s) n).0 in
+    absurd cc
+unmarked_goes_on (c ∷ word) tail (d ∷ s) rest w n e ends =
+    unmarked_goes_on word tail s rest (and_parts (goes_on_word c) (list_all goes_on_word word) w).1 (and_parts (no_mark d) (list_all no_mark s) n).1 (cc) ends
+
+pub word_no_spot : (word tail : Text) → list_all goes_on_word word ≡ true → spot_at (word ++ (33 ∷ tail)) ≡ None
+word_no_spot word tail w = go (spot_at (word ++ (33 ∷ tail))) (spot_sound (word ++ (33 ∷ tail)))
+  where
+    go : (o : Option (Spot × Text)) → IfSome o (λ r. Placed (IsSpot r.0) (word ++ (33 ∷ tail)) r.1) → o ≡ None
+    go None f = refl
+    go (Some r) f = absurd (unmarked_goes_on word tail f.spelled r.1 w (spot_unmarked r.0 f.spelled f.is) f.parts f.ends)

@@ -9,3 +9,6 @@ pub mod ErrorTexts
 pub mod Doubled
 pub mod Numbers
 pub mod Complete
+pub mod Sound
+pub mod Texts
+pub mod Turns

@@ -5,4 +5,7 @@
 mod characters;
 mod errors;
 mod front;
+mod lex;
 mod place;
+
+pub use lex::{lex_text, text_spells_one_list};

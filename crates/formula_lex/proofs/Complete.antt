@@ -1,19 +1,17 @@
 -- A token that is spelled is read.
-use Rattle.std.proofs.Common.{◌≡◌, ◌≢◌, ℕ, ◌<◌, Bool, true, false, cond, [], ◌∷◌, ◌++◌, length, Option, Some, None, refl, sym, ap, subst, ◌∙◌, append_assoc, arith}
+use Rattle.std.proofs.Common.{◌≡◌, ◌≢◌, ℕ, ◌<◌, true, false, [], ◌∷◌, ◌++◌, length, Option, Some, None, refl, sym, ap, subst, ◌∙◌, append_assoc, arith}
 use Rattle.std.specs.Prelude.{not, ◌==◌, ◌||◌, encode_utf8_all, IfSome, MatchOption}
 use Rattle.std.specs.List.{list_all}
-use Rattle.std.specs.Option.{option_map, option_and_then, option_or}
+use Rattle.std.specs.Option.{option_or}
 use Rattle.std.proofs.lemmas.Bool.{and_parts, or_parts, both_ways}
-use Rattle.std.proofs.lemmas.Bool.Decides.{nat_tests}
 use Rattle.std.proofs.lemmas.Str.{length-le-encodes}
 use Rattle.base_tables.specs.declared.Error.{Error}
 use Rattle.base_tables.specs.declared.Language.{Language}
-use Rattle.base_tables.specs.declared.Language.TheVariants.{En}
 use Rattle.base_tables.specs.declared.Locale.{Locale}
 use Rattle.base_tables.specs.Error.{error_of_text}
 use Rattle.base_tables.specs.Word.{is_digit, is_word, starts_word, goes_on_word, reads_as_cell}
 use Rattle.base_decimal.specs.declared.Decimal.{Decimal}
-use Rattle.base_decimal.specs.Digits.{span, stops}
+use Rattle.base_decimal.specs.Digits.{stops}
 use Rattle.base_decimal.proofs.Spans.{span_at, stops_sooner, not_true}
 use Rattle.formula_grammar.specs.declared.CellMark.{CellMark}
 use Rattle.formula_grammar.specs.declared.Token.{Token}
@@ -22,8 +20,8 @@ use Rattle.formula_lex.specs.declared.place.Side.TheVariants as side
 use Rattle.formula_lex.specs.declared.place.Spot.{Spot}
 use Rattle.formula_lex.specs.declared.place.Spot.TheVariants as spot
 use Rattle.formula_lex.specs.Characters.{Text, is_blank, goes_on_place, goes_on_name, doubled}
-use Rattle.formula_lex.specs.Lexicon.{IsPair, IsCell, IsRange, IsSheetName, plain, quoted, IsMark, IsSheet, OnSheet, IsNumber, Spells, NoCell, NoRange, NoError, Ends}
-use Rattle.formula_lex.specs.laws.Lex.{past, is_sign, on_sheet, behind_word, word_at, behind_quotes, quoted_text, quoted_sheet_at, text_at, number_at, plain_at, error_or_hash, error_at, behind_less, behind_greater, by_sign, place_token, place_at, spot_at, range_behind, token_at}
+use Rattle.formula_lex.specs.Lexicon.{IsCell, IsRange, IsSheetName, plain, quoted, IsSheet, OnSheet, IsNumber, Spells, NoRange, NoError, Ends}
+use Rattle.formula_lex.specs.laws.Lex.{past, is_sign, on_sheet, behind_word, word_at, behind_quotes, quoted_text, quoted_sheet_at, text_at, plain_at, error_or_hash, error_at, behind_less, behind_greater, by_sign, place_token, place_at, spot_at, range_behind, token_at}
 use Rattle.formula_lex.proofs.Letters.{start_no_sign, start_no_digit, digit_no_sign, blank_sign, name_no_word, name_no_mark, mark_no_word}
 use Rattle.formula_lex.proofs.Readers.{Front, past_is}
 use Rattle.formula_lex.proofs.Places.{IsRangeSpot, IsSpot, Placed, range_sound, spot_sound, range_read, cell_read, spot_starts, no_spot, cell_no_digit, word_no_spot}
@@ -122,7 +120,7 @@ module _ (locale : Locale) (language : Language) where
   cell_token sheet mark s rest is ends =
       let whole : s ++ rest ≡ is.first ++ (is.second ++ rest) = ap (λ (y : Text). y ++ rest) is.parts ∙ append_assoc is.first is.second rest in
       let never : NoRange None (is.second ++ rest) = λ a b z more parts at end.
-          ends.1 a b (is.first ++ z) more (whole ∙ ap (λ (y : Text). is.first ++ y) parts ∙ sym (append_assoc is.first z more)) (record { first = is.first; second = z; parts = refl; is_first = is.is_first; is_second = none_on (IsRange a b) z at }) end in
+      ends.1 a b (is.first ++ z) more (whole ∙ ap (λ (y : Text). is.first ++ y) parts ∙ sym (append_assoc is.first z more)) (record { first = is.first; second = z; parts = refl; is_first = is.is_first; is_second = none_on (IsRange a b) z at }) end in
       ap token whole ∙ placed_read sheet is.first (is.second ++ rest) (spot.Cell mark) rest is.is_first (cell_spot mark is.second rest is.is_second ends.0 never)
 
   -- ---- the other tokens

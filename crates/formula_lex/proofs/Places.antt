@@ -1,6 +1,6 @@
 -- Cells and ranges are read just where they are spelled.
 use Rattle.std.proofs.Common.{◌≡◌, ℕ, Bool, true, false, cond, [], ◌∷◌, ◌++◌, Option, Some, None, refl, sym, ap, subst, ◌∙◌, append_assoc, arith}
-use Rattle.std.specs.Prelude.{ℤ, pos, not, ◌==◌, ◌&&◌, IfSome, MatchOption}
+use Rattle.std.specs.Prelude.{ℤ, pos, not, ◌==◌, IfSome, MatchOption}
 use Rattle.std.specs.List.{list_all}
 use Rattle.std.specs.Option.{option_map, option_and_then, option_or}
 use Rattle.std.proofs.lemmas.Bool.{eqb-true, and_parts, and_from, or_left, or_right, both_ways}
@@ -18,7 +18,7 @@ use Rattle.formula_lex.specs.declared.place.Spot.{Spot}
 use Rattle.formula_lex.specs.declared.place.Spot.TheVariants as spot
 use Rattle.formula_lex.specs.Characters.{Text, goes_on_place}
 use Rattle.formula_lex.specs.Lexicon.{dollar, row_of_name, IsLine, IsCell, IsSpan, IsRange, cells, columns, rows}
-use Rattle.formula_lex.specs.laws.Lex.{past, dollar_at, with_name, line_at, column_at, row_at, mark_of, with_row, with_column, corner_at, between, range_to, range_behind, cell_alone, behind_corner, spot_at, is_sign}
+use Rattle.formula_lex.specs.laws.Lex.{past, dollar_at, with_name, line_at, column_at, row_at, with_row, with_column, corner_at, between, range_to, range_behind, cell_alone, behind_corner, spot_at, is_sign}
 use Rattle.formula_lex.proofs.Letters.{digit_no_letter, letter_no_dollar, letter_no_digit, digit_no_dollar, place_no_dollar, place_no_digit, place_no_letter, colon_ends}
 use Rattle.formula_lex.proofs.Readers.{Front, if_each, if_or, if_map, if_then, if_cond, if_more, past_is}
 

@@ -1,7 +1,6 @@
 -- A token that is read is spelled.
 use Rattle.std.proofs.Common.{◌≡◌, ◌≢◌, ℕ, Bool, true, false, cond, [], ◌∷◌, ◌++◌, Option, Some, None, refl, sym, ap, subst, ◌∙◌, append_assoc}
 use Rattle.std.specs.Prelude.{not, ◌==◌, ◌||◌, encode_utf8_all, IfSome, MatchOption}
-use Rattle.std.specs.List.{list_all}
 use Rattle.std.specs.Option.{option_map, option_and_then, option_or}
 use Rattle.std.proofs.lemmas.Bool.{and_from, or_from, eqb-true}
 use Rattle.base_tables.specs.declared.Error.{Error}
@@ -17,11 +16,11 @@ use Rattle.formula_grammar.specs.declared.Token.TheVariants as t
 use Rattle.formula_lex.specs.declared.place.Spot.{Spot}
 use Rattle.formula_lex.specs.declared.place.Spot.TheVariants as spot
 use Rattle.formula_lex.specs.Characters.{Text, is_blank, goes_on_name, doubled}
-use Rattle.formula_lex.specs.Lexicon.{IsCell, IsRange, IsSheetName, plain, quoted, IsSheet, OnSheet, Spells, NoCell, NoRange, Ends}
+use Rattle.formula_lex.specs.Lexicon.{IsCell, IsRange, IsSheetName, plain, quoted, IsSheet, Spells, NoCell, NoRange, Ends}
 use Rattle.formula_lex.specs.laws.Lex.{past, is_sign, on_sheet, behind_word, word_at, behind_quotes, quoted_text, quoted_sheet_at, text_at, number_at, plain_at, error_or_hash, error_at, if_next, behind_less, behind_greater, single, by_sign, place_token, place_at, spot_at, range_behind, token_at}
 use Rattle.formula_lex.specs.laws.Lex as lex
 use Rattle.formula_lex.proofs.Letters.{start_goes_on}
-use Rattle.formula_lex.proofs.Readers.{Front, if_each, if_at, if_or, if_map, if_then, if_cond, if_more, past_is}
+use Rattle.formula_lex.proofs.Readers.{Front, if_at, if_map, if_cond, if_more, past_is}
 use Rattle.formula_lex.proofs.Places.{IsSpot, Placed, spot_sound, range_read, cell_read}
 use Rattle.formula_lex.proofs.ErrorTexts.{error_sound, error_read}
 use Rattle.formula_lex.proofs.Numbers.{FrontNumber, number_sound}

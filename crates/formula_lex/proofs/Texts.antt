@@ -1,6 +1,6 @@
 -- The tokens of a text are read just where they are spelled.
-use Rattle.std.proofs.Common.{◌≡◌, ℕ, zero, suc, ◌+◌, ◌<◌, ◌≤◌, Bool, true, false, ◌⊎◌, inl, inr, List, [], ◌∷◌, ◌++◌, length, length-append, Option, Some, None, refl, sym, ap, subst, ◌∙◌, append-nil, append_assoc, arith}
-use Rattle.std.specs.Prelude.{not, ◌==◌, IfSome}
+use Rattle.std.proofs.Common.{◌≡◌, ℕ, zero, suc, ◌+◌, ◌<◌, true, ◌⊎◌, inl, inr, List, [], ◌∷◌, ◌++◌, length, length-append, Option, Some, None, refl, sym, ap, subst, ◌∙◌, append-nil, arith}
+use Rattle.std.specs.Prelude.{◌==◌, IfSome}
 use Rattle.std.proofs.lemmas.Bool.{or_cases, eqb-true, false_from_ne_true, not_from_false}
 use Rattle.std.specs.List.{list_all}
 use Rattle.std.specs.Option.{option_map, option_and_then}
@@ -12,9 +12,9 @@ use Rattle.base_decimal.proofs.Spans.{span_at, span_parts, span_all}
 use Rattle.formula_grammar.specs.declared.Token.{Token}
 use Rattle.formula_grammar.specs.declared.Token.TheVariants as t
 use Rattle.formula_lex.specs.Characters.{Text, is_blank}
-use Rattle.formula_lex.specs.Lexicon.{IsPair, IsCell, IsRange, IsSheet, Spells, Begins, IsTokens}
+use Rattle.formula_lex.specs.Lexicon.{IsPair, IsCell, IsRange, IsSheet, Spells, IsTokens}
 use Rattle.formula_lex.specs.laws.Lex.{token_at, by_sign, with_token, tokens_from, tokens_of}
-use Rattle.formula_lex.proofs.Readers.{if_each, if_at}
+use Rattle.formula_lex.proofs.Readers.{if_at}
 use Rattle.formula_lex.proofs.Complete.{on_none, token_read}
 use Rattle.formula_lex.proofs.Sound.{no_range_spelled, no_cell_spelled, FrontToken, token_sound}
 use Rattle.formula_lex.proofs.Places.{no_spot}

@@ -5,7 +5,9 @@ ghost use Rattle.formula_lex.specs.Characters.{goes_on_number};
 ghost use Rattle.formula_lex.specs.laws.Lex as spec;
 ghost use Rattle.formula_lex.specs.laws.Outcome.{Cuts, seen};
 
-use crate::characters::{Class, ends_before, first, goes_on_word, is_digit, is_letter, past, run, starts_word};
+use crate::characters::{
+    Class, ends_before, first, goes_on_word, is_digit, is_letter, past, run, starts_word,
+};
 use crate::errors::error;
 use crate::place::{Spot, place};
 use base_decimal::Decimal;

@@ -1,14 +1,4 @@
-pub mod Cutting
-pub mod Readers
-pub mod Strips
-pub mod Lines
-pub mod Quotes
-pub mod Letters
+pub mod Reading
 pub mod Places
-pub mod ErrorTexts
-pub mod Doubled
-pub mod Numbers
-pub mod Complete
-pub mod Sound
-pub mod Texts
-pub mod Turns
+pub mod Words
+pub mod Tokens

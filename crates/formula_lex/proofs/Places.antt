@@ -1,26 +1,134 @@
 -- Cells and ranges are read just where they are spelled.
-use Rattle.std.proofs.Common.{◌≡◌, ℕ, Bool, true, false, cond, [], ◌∷◌, ◌++◌, Option, Some, None, refl, sym, ap, subst, ◌∙◌, append_assoc, arith}
-use Rattle.std.specs.Prelude.{ℤ, pos, not, ◌==◌, IfSome, MatchOption}
-use Rattle.std.specs.List.{list_all}
-use Rattle.std.specs.Option.{option_map, option_and_then, option_or}
-use Rattle.std.proofs.lemmas.Bool.{eqb-true, and_parts, and_from, or_left, or_right, both_ways}
+use Rattle.std.proofs.Common.{◌≡◌, ℕ, ◌<◌, Bool, true, false, refl, arith, zero, suc, [], ◌∷◌, sym, ap, ◌∙◌, cond, ◌++◌, Option, Some, None, subst, append_assoc}
+use Rattle.std.specs.Prelude.{◌==◌, ℤ, pos, not, IfSome, MatchOption}
+use Rattle.std.proofs.lemmas.Bool.{or_parts, and_parts, eqb-true, and_from, or_left, or_right, both_ways}
 use Rattle.std.proofs.lemmas.Bool.Decides.{nat_tests}
+use Rattle.std.proofs.UnicodeAscii.{is_alphabetic_ascii}
+use Rattle.std.specs.List.{list_all}
+use Rattle.std.specs.Str.{chars, IsUtf8, IsAscii}
+use Rattle.std.proofs.lemmas.Str.{encodes-IsAscii, encodes-chars}
+use Rattle.std.specs.Option.{option_map, option_and_then, option_or}
 use Rattle.std.proofs.lemmas.List.Folds.{list_all-append}
 use Rattle.base_tables.specs.Column.{is_letter, letters_number, is_column_name, column_of_name}
-use Rattle.base_tables.specs.Word.{is_digit, goes_on_word, digits_number, is_count, is_row_number}
+use Rattle.base_tables.specs.Word.{is_digit, starts_word, goes_on_word, digits_number, is_count, is_row_number}
 use Rattle.base_decimal.specs.Digits.{span, stops}
-use Rattle.base_decimal.proofs.Spans.{not_true, span_at, span_parts, stops_sooner}
+use Rattle.base_decimal.proofs.Spans.{span_all, not_true, span_at, span_parts, stops_sooner}
 use Rattle.formula_grammar.specs.declared.CellMark.{CellMark}
+use Rattle.formula_lex.specs.Characters.{is_blank, goes_on_place, goes_on_name, Text}
+use Rattle.formula_lex.specs.laws.Lex.{is_sign, past, dollar_at, with_name, line_at, column_at, row_at, with_row, with_column, corner_at, between, range_to, range_behind, cell_alone, behind_corner, spot_at}
 use Rattle.formula_lex.specs.declared.place.Line.{Line}
 use Rattle.formula_lex.specs.declared.place.Side.{Side}
-use Rattle.formula_lex.specs.declared.place.Side.TheVariants as side
 use Rattle.formula_lex.specs.declared.place.Spot.{Spot}
-use Rattle.formula_lex.specs.declared.place.Spot.TheVariants as spot
-use Rattle.formula_lex.specs.Characters.{Text, goes_on_place}
 use Rattle.formula_lex.specs.Lexicon.{dollar, row_of_name, IsLine, IsCell, IsSpan, IsRange, cells, columns, rows}
-use Rattle.formula_lex.specs.laws.Lex.{past, dollar_at, with_name, line_at, column_at, row_at, with_row, with_column, corner_at, between, range_to, range_behind, cell_alone, behind_corner, spot_at, is_sign}
-use Rattle.formula_lex.proofs.Letters.{digit_no_letter, letter_no_dollar, letter_no_digit, digit_no_dollar, place_no_dollar, place_no_digit, place_no_letter, colon_ends}
-use Rattle.formula_lex.proofs.Readers.{Front, if_each, if_or, if_map, if_then, if_cond, if_more, past_is}
+use Rattle.formula_lex.proofs.Reading.{Front, if_each, if_or, if_map, if_then, if_cond, if_more, past_is}
+use Rattle.formula_lex.specs.declared.place.Side.TheVariants as side
+use Rattle.formula_lex.specs.declared.place.Spot.TheVariants as spot
+
+-- ---- which characters go on a place, a number or a word
+
+pub digit_no_letter : (c : ℕ) → is_digit c ≡ true → is_letter c ≡ false
+digit_no_letter c e = grind (arith, nat_tests)
+
+pub letter_no_digit : (c : ℕ) → is_letter c ≡ true → is_digit c ≡ false
+letter_no_digit c e = grind (arith, nat_tests)
+
+pub letter_no_dollar : (c : ℕ) → is_letter c ≡ true → (c == 36) ≡ false
+letter_no_dollar c e = grind (arith, nat_tests)
+
+pub digit_no_dollar : (c : ℕ) → is_digit c ≡ true → (c == 36) ≡ false
+digit_no_dollar c e = grind (arith, nat_tests)
+
+-- ---- where a place may end
+
+pub place_no_dollar : (c : ℕ) → goes_on_place c ≡ false → (c == 36) ≡ false
+place_no_dollar c e = grind (arith, nat_tests)
+
+pub place_no_digit : (c : ℕ) → goes_on_place c ≡ false → is_digit c ≡ false
+place_no_digit c e = grind (arith, nat_tests)
+
+pub place_no_letter : (c : ℕ) → goes_on_place c ≡ false → is_letter c ≡ false
+place_no_letter c e = go (is_letter c) refl
+  where
+    go : (b : Bool) → is_letter c ≡ b → b ≡ false
+    go false h = refl
+    go true h =
+        let low : c < 128 = grind (arith, nat_tests) in
+        let is = is_alphabetic_ascii c low in
+        grind (arith, nat_tests, is)
+
+-- ---- what begins a word
+
+pub start_no_sign : (c : ℕ) → starts_word c ≡ true → is_sign c ≡ false
+start_no_sign c e = go (is_sign c) refl
+  where
+    go : (b : Bool) → is_sign c ≡ b → b ≡ false
+    go false h = refl
+    go true h =
+        let low : c < 128 = grind (arith, nat_tests) in
+        let is = is_alphabetic_ascii c low in
+        grind (arith, nat_tests, is)
+
+pub start_no_digit : (c : ℕ) → starts_word c ≡ true → is_digit c ≡ false
+start_no_digit c e = go (is_digit c) refl
+  where
+    go : (b : Bool) → is_digit c ≡ b → b ≡ false
+    go false h = refl
+    go true h =
+        let low : c < 128 = grind (arith, nat_tests) in
+        let is = is_alphabetic_ascii c low in
+        grind (arith, nat_tests, is)
+
+pub start_goes_on : (c : ℕ) → starts_word c ≡ true → goes_on_word c ≡ true
+start_goes_on c e = grind (arith, nat_tests)
+
+pub mark_no_word : goes_on_word 33 ≡ false
+mark_no_word = let is = is_alphabetic_ascii 33 (omega arith) in grind (arith, nat_tests, is)
+
+pub colon_ends : goes_on_place 58 ≡ false
+colon_ends = let is = is_alphabetic_ascii 58 (omega arith) in grind (arith, nat_tests, is)
+
+pub digit_no_sign : (c : ℕ) → is_digit c ≡ true → is_sign c ≡ false
+digit_no_sign c e = grind (arith, nat_tests)
+
+pub blank_sign : (c : ℕ) → is_blank c ≡ true → is_sign c ≡ true
+blank_sign c e = grind (arith, nat_tests)
+
+pub name_no_word : (c : ℕ) → goes_on_name c ≡ false → goes_on_word c ≡ false
+name_no_word c e = (or_parts (goes_on_word c) (c == 33) e).0
+
+pub name_no_mark : (c : ℕ) → goes_on_name c ≡ false → (c == 33) ≡ false
+name_no_mark c e = (or_parts (goes_on_word c) (c == 33) e).1
+
+-- ---- a column or a row is read just where one is spelled
+
+-- characters of ASCII are their bytes
+all_low : (p : ℕ → Bool) → ((c : ℕ) → p c ≡ true → c < 128) → (s : Text) → list_all p s ≡ true → IsAscii s
+all_low p low [] e i = omega arith
+all_low p low (c ∷ s) e zero = low c (and_parts (p c) (list_all p s) e).0
+all_low p low (c ∷ s) e (suc i) = all_low p low s (and_parts (p c) (list_all p s) e).1 i
+
+run_bytes : (p : ℕ → Bool) → ((c : ℕ) → p c ≡ true → c < 128) → (bytes text : Text) → IsUtf8 bytes → chars bytes ≡ (span p text).0 → bytes ≡ (span p text).0
+run_bytes p low bytes text whole e =
+    sym (encodes-chars bytes whole) ∙ encodes-IsAscii (chars bytes) (all_low p low (chars bytes) (ap (list_all p) e ∙ span_all p text)) ∙ e
+
+letter_low : (c : ℕ) → is_letter c ≡ true → c < 128
+letter_low c e = grind (arith, nat_tests)
+
+digit_low : (c : ℕ) → is_digit c ≡ true → c < 128
+digit_low c e = grind (arith, nat_tests)
+
+pub letter_bytes : (bytes text : Text) → IsUtf8 bytes → chars bytes ≡ (span is_letter text).0 → bytes ≡ (span is_letter text).0
+letter_bytes = run_bytes is_letter letter_low
+
+pub digit_bytes : (bytes text : Text) → IsUtf8 bytes → chars bytes ≡ (span is_digit text).0 → bytes ≡ (span is_digit text).0
+digit_bytes = run_bytes is_digit digit_low
+
+pub digits_all : (bytes text : Text) → IsUtf8 bytes → chars bytes ≡ (span is_digit text).0 → list_all is_digit bytes ≡ true
+digits_all bytes text whole e = ap (list_all is_digit) (digit_bytes bytes text whole e) ∙ span_all is_digit text
+
+pub ruleset digits = (digit_bytes, digits_all)
+
+-- ---- cells and ranges are read just where they are spelled
 
 -- ---- columns and rows
 

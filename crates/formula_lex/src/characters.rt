@@ -60,7 +60,7 @@ fn passes(class: Class, c: char) -> bool
 }
 
 /// The first character, and what follows it.
-#[tactic(auto, using(crate::proofs::Cutting::first_character))]
+#[tactic(auto, using(crate::proofs::Reading::first_character))]
 pub fn first(text: &str) -> Option<(char, &str)>
     ensures value { seen result ≡ spec.first (chars text.now) }
     ensures bytes { IfSome result (λ p. text.now ≡ encode_utf8 p.0 ++ p.1.now) }

@@ -14,7 +14,7 @@ fn strip<'a>(name: &str, text: &'a str) -> Option<&'a str>
 }
 
 /// What follows the language's own text for a lost reference.
-#[tactic(auto, using(crate::proofs::Strips::own_texts))]
+#[tactic(auto, using(crate::proofs::Reading::own_texts))]
 fn own_error(language: Language, text: &str) -> Option<&str>
     ensures { left result ≡ spec.own_error language (chars text.now) }
 {
@@ -26,7 +26,7 @@ fn own_error(language: Language, text: &str) -> Option<&str>
 }
 
 /// What follows the error's English text.
-#[tactic(auto, using(crate::proofs::Strips::error_characters))]
+#[tactic(auto, using(crate::proofs::Reading::error_characters))]
 fn after_error(error: Error, text: &str) -> Option<&str>
     ensures { left result ≡ spec.strip (error_text error) (chars text.now) }
 {

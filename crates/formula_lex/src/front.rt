@@ -18,7 +18,7 @@ use formula_grammar::{Profile, Token};
 use std::alloc::{AllocError, Global};
 
 /// A copy of the text.
-#[tactic(auto, using(crate::proofs::Cutting::encoded))]
+#[tactic(auto, using(crate::proofs::Reading::encoded))]
 fn copy(alloc: Global, text: &str) -> Result<Text, AllocError>
     ensures { IfOk result (λ copy. copy ≡ encode_utf8_all (chars text.now)) }
 {
@@ -100,7 +100,7 @@ fn number_len(locale: Locale, text: &str) -> usize
 }
 
 /// The number at the front of the text. It takes no memory.
-#[tactic(auto, unfolding(crate::specs::laws::Lex::number_at), using(crate::proofs::Cutting::encoded))]
+#[tactic(auto, unfolding(crate::specs::laws::Lex::number_at), using(crate::proofs::Reading::encoded))]
 fn number(locale: Locale, text: &str) -> Option<(Token, &str)>
     ensures { seen result ≡ spec.number_at locale (chars text.now) }
 {
@@ -126,7 +126,7 @@ fn next_quoted(quote: char, text: &str) -> Option<(Option<char>, &str)>
 }
 
 /// What stands before the closing quote, with doubled quotes as one, and what follows it.
-#[tactic(auto, using(crate::proofs::Quotes::quotes))]
+#[tactic(auto, using(crate::proofs::Reading::quotes))]
 fn quoted(alloc: Global, quote: char, text: &str) -> Result<Option<(Text, &str)>, AllocError>
     ensures { IfOk result (λ found. seen found ≡ spec.quoted_text quote (chars text.now)) }
 {

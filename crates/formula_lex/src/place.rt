@@ -67,7 +67,7 @@ fn row_of(digits: &[u8]) -> Option<i32>
 }
 
 /// A column at the front of the text, and what follows it.
-#[tactic(auto, unfolding(crate::specs::laws::Lex::line_at), using(crate::proofs::Lines::letter_bytes))]
+#[tactic(auto, unfolding(crate::specs::laws::Lex::line_at), using(crate::proofs::Places::letter_bytes))]
 fn column(text: &str) -> Option<(Line, &str)>
     ensures { seen result ≡ spec.column_at (chars text.now) }
 {
@@ -78,7 +78,7 @@ fn column(text: &str) -> Option<(Line, &str)>
 }
 
 /// A row at the front of the text, and what follows it.
-#[tactic(auto, unfolding(crate::specs::laws::Lex::line_at), using(crate::proofs::Lines::digits))]
+#[tactic(auto, unfolding(crate::specs::laws::Lex::line_at), using(crate::proofs::Places::digits))]
 fn row(text: &str) -> Option<(Line, &str)>
     ensures { seen result ≡ spec.row_at (chars text.now) }
 {

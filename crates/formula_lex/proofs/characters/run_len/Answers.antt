@@ -2,7 +2,7 @@ use Rattle.std.proofs.Common.{sym, ◌∙◌, refl}
 use Rattle.std.specs.Str.{chars}
 use Rattle.base_decimal.specs.Digits.{span}
 use Rattle.formula_lex.specs.laws.Classes.{passes}
-use Rattle.formula_lex.proofs.Cutting.{went_start, went_turn, went_stop, went_out, span_turn, span_stop}
+use Rattle.formula_lex.proofs.Reading.{went_start, went_turn, went_stop, went_out, span_turn, span_stop}
 use Rattle.formula_lex.proofs.characters.run_len.Goals as goal
 
 pub loop-c-init : goal.loop-c-init

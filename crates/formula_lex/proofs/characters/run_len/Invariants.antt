@@ -2,7 +2,7 @@ use Rattle.std.proofs.Common.{length}
 use Rattle.std.specs.Str.{chars}
 use Rattle.base_decimal.specs.Digits.{span}
 use Rattle.formula_lex.specs.laws.Classes.{passes}
-use Rattle.formula_lex.proofs.Cutting.{Went}
+use Rattle.formula_lex.proofs.Reading.{Went}
 use Rattle.formula_lex.proofs.characters.run_len.Given as goal
 
 abbrev pub invariant-loop-c : goal.invariant-loop-c

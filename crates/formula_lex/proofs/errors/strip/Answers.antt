@@ -1,4 +1,4 @@
-use Rattle.formula_lex.proofs.Strips.{stripped}
+use Rattle.formula_lex.proofs.Reading.{stripped}
 use Rattle.formula_lex.proofs.errors.strip.Goals as goal
 
 pub returns : goal.returns

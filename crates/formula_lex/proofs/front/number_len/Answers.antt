@@ -1,7 +1,7 @@
 use Rattle.std.proofs.Common.{sym, ◌∙◌, refl, false}
 use Rattle.std.specs.Str.{chars}
 use Rattle.formula_lex.specs.laws.Lex.{number_span}
-use Rattle.formula_lex.proofs.Cutting.{went_start, went_turn, went_stop, went_out, number_turn, number_stop}
+use Rattle.formula_lex.proofs.Reading.{went_start, went_turn, went_stop, went_out, number_turn, number_stop}
 use Rattle.formula_lex.proofs.front.number_len.Goals as goal
 
 pub loop-c-init : goal.loop-c-init

@@ -1,7 +1,7 @@
 use Rattle.std.proofs.Common.{length, false}
 use Rattle.std.specs.Str.{chars}
 use Rattle.formula_lex.specs.laws.Lex.{number_span}
-use Rattle.formula_lex.proofs.Cutting.{Went}
+use Rattle.formula_lex.proofs.Reading.{Went}
 use Rattle.formula_lex.proofs.front.number_len.Given as goal
 
 abbrev pub invariant-loop-c : goal.invariant-loop-c

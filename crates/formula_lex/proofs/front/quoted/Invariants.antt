@@ -2,7 +2,7 @@ use Rattle.std.proofs.Common.{◌≡◌, length}
 use Rattle.std.specs.Prelude.{string_bytes}
 use Rattle.std.specs.Str.{chars}
 use Rattle.formula_lex.specs.laws.Lex.{quoted_text}
-use Rattle.formula_lex.proofs.Quotes.{after}
+use Rattle.formula_lex.proofs.Reading.{after}
 use Rattle.formula_lex.proofs.front.quoted.Given as goal
 use denote.Shadow.{shadow}
 use denote.Text.{Utf8}

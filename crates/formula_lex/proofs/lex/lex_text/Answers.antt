@@ -1,6 +1,6 @@
 use Rattle.std.specs.Str.{chars}
 use Rattle.std.proofs.Common.{◌∙◌}
-use Rattle.formula_lex.proofs.Texts.{found_tokens, tokens_complete}
+use Rattle.formula_lex.proofs.Tokens.{found_tokens, tokens_complete}
 use Rattle.formula_lex.proofs.lex.lex_text.Goals as goal
 
 pub returns-clause-found : goal.returns-clause-found

@@ -4,7 +4,7 @@ use Rattle.std.proofs.lemmas.Bool.{eqb-true}
 use Rattle.std.proofs.lemmas.Bool.Decides.{nat_tests}
 use Rattle.formula_lex.specs.laws.Lex.{tokens_of, token_at}
 use Rattle.formula_lex.specs.laws.Outcome.{seen}
-use Rattle.formula_lex.proofs.Turns.{ahead, ahead_none, turn_end, turn_on, turn_shorter, turn_fail, none_left, some_left}
+use Rattle.formula_lex.proofs.Tokens.{ahead, ahead_none, turn_end, turn_on, turn_shorter, turn_fail, none_left, some_left}
 use Rattle.formula_lex.proofs.lex.tokens.Goals as goal
 
 pub loop-more-init : goal.loop-more-init

@@ -1,7 +1,7 @@
 use Rattle.std.proofs.Common.{◌≡◌, length}
 use Rattle.std.specs.Str.{chars}
 use Rattle.formula_lex.specs.laws.Lex.{tokens_of}
-use Rattle.formula_lex.proofs.Turns.{ahead}
+use Rattle.formula_lex.proofs.Tokens.{ahead}
 use Rattle.formula_lex.proofs.lex.tokens.Given as goal
 use denote.Shadow.{shadow}
 use denote.Text.{Utf8}

@@ -1,17 +1,27 @@
--- A number is read just where one is spelled.
-use Rattle.std.proofs.Common.{◌≡◌, ℕ, zero, suc, ◌<◌, Bool, true, false, cond, [], ◌∷◌, ◌++◌, length, Option, Some, None, refl, sym, ap, ◌∙◌, append-nil, arith}
-use Rattle.std.specs.Prelude.{not, ◌==◌, ◌&&◌, ◌||◌, nat_lt, encode_utf8_all, IfSome}
+-- Numbers, errors and texts between quotes are read just where they are spelled.
+use Rattle.std.proofs.Common.{◌≡◌, ℕ, zero, suc, ◌<◌, Bool, true, false, cond, [], ◌∷◌, ◌++◌, length, Option, Some, None, refl, sym, ap, ◌∙◌, append-nil, arith, List, subst, append_assoc}
+use Rattle.std.specs.Prelude.{not, ◌==◌, ◌&&◌, ◌||◌, nat_lt, encode_utf8_all, IfSome, codes}
 use Rattle.std.specs.List.{list_all}
 use Rattle.std.specs.Option.{option_map}
 use Rattle.std.specs.Str.{IsAscii}
-use Rattle.std.proofs.lemmas.Bool.{and_parts, or_left, or_right, ltb-true}
+use Rattle.std.proofs.lemmas.Bool.{and_parts, or_left, or_right, ltb-true, eqb-true}
 use Rattle.std.proofs.lemmas.Bool.Decides.{nat_tests}
 use Rattle.std.proofs.lemmas.Str.{encodes_same, encodes-IsAscii}
 use Rattle.std.proofs.UnicodeAscii.{is_alphabetic_ascii}
 use Rattle.std.specs.Char.Unicode.Alphabetic.{is_alphabetic}
+use Rattle.std.specs.Cmp.Lexicographic.{bytes_decides}
+use lib.Utf8.{encode}
 use Rattle.base_tables.specs.declared.Locale.{Locale}
 use Rattle.base_tables.specs.Locale.{decimal_sign}
 use Rattle.base_tables.specs.Word.{is_digit, goes_on_word}
+use Rattle.base_tables.specs.declared.Error.{Error}
+use Rattle.base_tables.specs.declared.Error.TheVariants.{Ref}
+use Rattle.base_tables.specs.declared.Language.{Language}
+use Rattle.base_tables.specs.declared.Language.TheVariants.{En, De, Fr, Es}
+use Rattle.base_tables.specs.Error.{all_errors, error_text, error_of_text, is_own_reference_error}
+use Rattle.base_tables.specs.Tables.{entry_named}
+use Rattle.base_tables.specs.laws.Error.{error_of_text-error_text}
+use Rattle.base_tables.specs.laws.Tables.{found_name}
 use Rattle.base_decimal.specs.declared.Decimal.{Decimal}
 use Rattle.base_decimal.specs.Digits.{stops}
 use Rattle.base_decimal.specs.Numeral.{Fraction, NoFraction, Places, Exponent, NoExponent, Power, Numeral, IsNumeral, fraction_text, sign_text, exponent_text, numeral_text, is_numeral_fraction, is_numeral_exponent, is_exponent_len, is_exponent_letter, minus_text}
@@ -23,10 +33,12 @@ use Rattle.base_decimal.proofs.Numerals.{reads_found, reads_only}
 use Rattle.base_decimal.proofs.Spans.{not_true}
 use Rattle.formula_grammar.specs.declared.Token.{Token}
 use Rattle.formula_grammar.specs.declared.Token.TheVariants as t
-use Rattle.formula_lex.specs.Characters.{Text, goes_on_number}
+use Rattle.formula_lex.specs.Characters.{Text, goes_on_number, twice, doubled}
 use Rattle.formula_lex.specs.Lexicon.{starts_digit, IsNumber}
-use Rattle.formula_lex.specs.laws.Lex.{in_number, number_span, number_of, number_at}
-use Rattle.formula_lex.proofs.Readers.{if_map, if_each, same}
+use Rattle.formula_lex.specs.laws.Lex.{in_number, number_span, number_of, number_at, past, strip, english_error, own_text, own_error, error_at, quoted, in_front}
+use Rattle.formula_lex.proofs.Reading.{if_map, if_each, same, Front, if_or, if_more, strip_is, if_cond}
+
+-- ---- a number is read just where one is spelled
 
 module _ (locale : Locale) where
   -- ---- what is read is spelled
@@ -179,3 +191,142 @@ module _ (locale : Locale) where
       let walks : walk false s ≡ Some false = ap (walk false) spelled ∙ walk_numeral false r.numeral r.is_numeral in
       ap (number_of locale) (walk_span false s rest walks ends)
       ∙ ap (option_map (λ d. (let q : Token × Text = (t.Number d, rest) in q))) (reads_only (decimal_sign locale) (sign_is_mark locale) (encode_utf8_all s) number r)
+
+-- ---- the text of an error is read just where one is spelled
+
+abbrev Is : Language → Error → Text → Type 0
+Is language error s = error_of_text language (encode_utf8_all s) ≡ Some error
+
+-- ---- what is read is spelled
+
+error_encoded : (error : Error) → encode_utf8_all (error_text error) ≡ error_text error
+unfolding encode
+error_encoded Ref = refl
+error_encoded _ = refl
+
+english_sound : (language : Language) (errors : List Error) (text : Text) → IfSome (english_error errors text) (λ r. Front (Is language r.0) text r.1)
+english_sound language [] text = tt
+english_sound language (error ∷ errors) text =
+    if_or (λ r. Front (Is language r.0) text r.1) (option_map (λ rest. (error, rest)) (strip (error_text error) text)) (english_error errors text)
+    (if_map (λ r. Front (Is language r.0) text r.1) (λ rest. (error, rest)) (strip (error_text error) text)
+    (if_more (λ rest. Front (Is language error) text rest) (λ rest. text ≡ error_text error ++ rest)
+    (λ rest e. record { spelled = error_text error; parts = e; is = ap (error_of_text language) (error_encoded error) ∙ error_of_text-error_text language error })
+    (strip (error_text error) text) (strip_is (error_text error) text)))
+    (english_sound language errors text)
+
+own_is : (language : Language) → IfSome (own_text language) (λ name. Is language Ref name)
+unfolding encode
+own_is En = tt
+own_is De = refl
+own_is Fr = tt
+own_is Es = refl
+
+own_sound : (language : Language) (text : Text) → IfSome (own_error language text) (λ rest. Front (Is language Ref) text rest)
+own_sound language text = go (own_text language) (own_is language)
+  where
+    go : (o : Option Text) → IfSome o (λ name. Is language Ref name) → IfSome (elim o as (λ x. Option Text) [ None ↦ None | Some name ↦ strip name text ]) (λ rest. Front (Is language Ref) text rest)
+    go None e = tt
+    go (Some name) e = if_more (λ rest. Front (Is language Ref) text rest) (λ rest. text ≡ name ++ rest) (λ rest f. record { spelled = name; parts = f; is = e }) (strip name text) (strip_is name text)
+
+pub error_sound : (language : Language) (text : Text) → IfSome (error_at language text) (λ r. Front (Is language r.0) text r.1)
+unfolding error_at
+error_sound language text =
+    if_or (λ r. Front (Is language r.0) text r.1) (option_map (λ rest. (Ref, rest)) (own_error language text)) (english_error all_errors text)
+    (if_map (λ r. Front (Is language r.0) text r.1) (λ rest. (Ref, rest)) (own_error language text) (own_sound language text))
+    (english_sound language all_errors text)
+
+-- ---- what is spelled is read: no text of an error begins another
+
+english_read : (language : Language) (error : Error) (rest : Text) → error_at language (error_text error ++ rest) ≡ Some (error, rest)
+unfolding error_at
+english_read En Ref rest = refl
+english_read De Ref rest = refl
+english_read Fr Ref rest = refl
+english_read Es Ref rest = refl
+english_read _ _ rest = refl
+
+own_read : (language : Language) (rest : Text) → IfSome (own_text language) (λ name. error_at language (name ++ rest) ≡ Some (Ref, rest))
+unfolding error_at
+own_read En rest = tt
+own_read De rest = refl
+own_read Fr rest = tt
+own_read Es rest = refl
+
+-- the characters whose bytes are the language's own text
+own_named : (language : Language) (s : Text) → is_own_reference_error language (encode_utf8_all s) ≡ true → own_text language ≡ Some s
+unfolding encode
+own_named En s e = absurd cc
+own_named De s e = ap (λ (x : Text). Some x) (encodes_same (codes "#BEZUG!") s ((bytes_decides _ _).0 e))
+own_named Fr s e = absurd cc
+own_named Es s e = ap (λ (x : Text). Some x) (encodes_same (35 ∷ 161 ∷ codes "REF!") s ((bytes_decides _ _).0 e))
+
+named : (language : Language) (s rest : Text) (error : Error) (own : Bool) → is_own_reference_error language (encode_utf8_all s) ≡ own
+    → cond own (Some Ref) (entry_named error_text all_errors (encode_utf8_all s)) ≡ Some error → error_at language (s ++ rest) ≡ Some (error, rest)
+named language s rest error true h e =
+    let is : Ref ≡ error = cc in
+    subst (λ (o : Option Text). IfSome o (λ name. error_at language (name ++ rest) ≡ Some (error, rest))) (own_named language s h)
+    (subst (λ (x : Error). IfSome (own_text language) (λ name. error_at language (name ++ rest) ≡ Some (x, rest))) is (own_read language rest))
+named language s rest error false h e =
+    let is : error_text error ≡ s = encodes_same (error_text error) s (error_encoded error ∙ found_name error_text all_errors (encode_utf8_all s) error e) in
+    subst (λ (x : Text). error_at language (x ++ rest) ≡ Some (error, rest)) is (english_read language error rest)
+
+pub error_read : (language : Language) (s : Text) (error : Error) (rest : Text) → Is language error s → error_at language (s ++ rest) ≡ Some (error, rest)
+error_read language s error rest e = named language s rest error (is_own_reference_error language (encode_utf8_all s)) refl e
+
+-- each begins with a hash
+pub error_none : (language : Language) (text : Text) → past 35 text ≡ None → error_at language text ≡ None
+unfolding error_at
+error_none En text e = rw e
+error_none _ text e = rw e
+
+-- ---- a text between quotes is read just where one is spelled
+
+-- ---- what is spelled is read
+
+closing_read : (quote : ℕ) (rest : Text) → stops (λ c. c == quote) rest ≡ true → quoted quote true rest ≡ Some ([], rest)
+closing_read quote [] e = refl
+closing_read quote (c ∷ rest) e = rw (not_true (c == quote) e)
+
+twice_read : (quote c : ℕ) (z : Text) → quoted quote false (twice quote c ++ z) ≡ in_front c (quoted quote false z)
+twice_read quote c z = go (c == quote) refl
+  where
+    go : (b : Bool) → (c == quote) ≡ b → quoted quote false (cond b (quote ∷ quote ∷ []) (c ∷ []) ++ z) ≡ in_front c (quoted quote false z)
+    go true e = rw (same quote) (ap (λ (d : ℕ). in_front d (quoted quote false z)) (sym (eqb-true c quote e)))
+    go false e = rw e
+
+pub quoted_read : (quote : ℕ) (x rest : Text) → stops (λ c. c == quote) rest ≡ true → quoted quote false (doubled quote x ++ (quote ∷ rest)) ≡ Some (x, rest)
+quoted_read quote [] rest e = rw (same quote) (closing_read quote rest e)
+quoted_read quote (c ∷ x) rest e =
+    ap (quoted quote false) (append_assoc (twice quote c) (doubled quote x) (quote ∷ rest)) ∙ twice_read quote c (doubled quote x ++ (quote ∷ rest)) ∙ ap (in_front c) (quoted_read quote x rest e)
+
+-- ---- what is read is spelled
+
+-- the text up to the closing quote, maybe behind a quote
+pub record Closes (quote : ℕ) (behind : Bool) (text x rest : Text) : Type 0 where
+  pub parts : cond behind (quote ∷ text) text ≡ doubled quote x ++ (quote ∷ rest)
+  pub ends : stops (λ c. c == quote) rest ≡ true
+
+one_more : (quote c : ℕ) (text x rest : Text) (b : Bool) → (c == quote) ≡ b → Closes quote false text x rest → cond b (quote ∷ quote ∷ text) (c ∷ text) ≡ doubled quote (c ∷ x) ++ (quote ∷ rest)
+one_more quote c text x rest b e f =
+    go b ∙ ap (λ (t : Bool). cond t (quote ∷ quote ∷ []) (c ∷ []) ++ text) (sym e) ∙ ap (λ (y : Text). twice quote c ++ y) f.parts ∙ sym (append_assoc (twice quote c) (doubled quote x) (quote ∷ rest))
+  where
+    go : (b : Bool) → cond b (quote ∷ quote ∷ text) (c ∷ text) ≡ cond b (quote ∷ quote ∷ []) (c ∷ []) ++ text
+    go true = refl
+    go false = refl
+
+pub quoted_sound : (quote : ℕ) (behind : Bool) (text : Text) → IfSome (quoted quote behind text) (λ r. Closes quote behind text r.0 r.1)
+quoted_sound quote false [] = tt
+quoted_sound quote true [] = record { parts = refl; ends = refl }
+quoted_sound quote false (c ∷ text) =
+    if_cond (λ r. Closes quote false (c ∷ text) r.0 r.1) (c == quote) (quoted quote true text) (in_front c (quoted quote false text))
+    (λ e. if_more (λ r. Closes quote false (c ∷ text) r.0 r.1) (λ r. Closes quote true text r.0 r.1)
+    (λ r f. record { parts = ap (λ (d : ℕ). d ∷ text) (eqb-true c quote e) ∙ f.parts; ends = f.ends }) (quoted quote true text) (quoted_sound quote true text))
+    (λ e. if_map (λ r. Closes quote false (c ∷ text) r.0 r.1) (λ r. (c ∷ r.0, r.1)) (quoted quote false text)
+    (if_more (λ r. Closes quote false (c ∷ text) (c ∷ r.0) r.1) (λ r. Closes quote false text r.0 r.1)
+    (λ r f. record { parts = one_more quote c text r.0 r.1 false e f; ends = f.ends }) (quoted quote false text) (quoted_sound quote false text)))
+quoted_sound quote true (c ∷ text) =
+    if_cond (λ r. Closes quote true (c ∷ text) r.0 r.1) (c == quote) (in_front quote (quoted quote false text)) (Some ([], c ∷ text))
+    (λ e. if_map (λ r. Closes quote true (c ∷ text) r.0 r.1) (λ r. (quote ∷ r.0, r.1)) (quoted quote false text)
+    (if_more (λ r. Closes quote true (c ∷ text) (quote ∷ r.0) r.1) (λ r. Closes quote false text r.0 r.1)
+    (λ r f. record { parts = ap (λ (d : ℕ). quote ∷ d ∷ text) (eqb-true c quote e) ∙ one_more quote quote text r.0 r.1 true (same quote) f; ends = f.ends }) (quoted quote false text) (quoted_sound quote false text)))
+    (λ e. record { parts = refl; ends = ap not e })

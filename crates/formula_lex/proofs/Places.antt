@@ -1,7 +1,7 @@
 -- Cells and ranges are read just where they are spelled.
 use Rattle.std.proofs.Common.{◌≡◌, ℕ, ◌<◌, Bool, true, false, refl, arith, zero, suc, [], ◌∷◌, sym, ap, ◌∙◌, cond, ◌++◌, Option, Some, None, subst, append_assoc}
 use Rattle.std.specs.Prelude.{◌==◌, ℤ, pos, not, IfSome, MatchOption}
-use Rattle.std.proofs.lemmas.Bool.{or_parts, and_parts, eqb-true, and_from, or_left, or_right, both_ways}
+use Rattle.std.proofs.lemmas.Bool.{and_parts, and_from, or_left, or_right, both_ways, false_from_ne_true, not_from_false}
 use Rattle.std.proofs.lemmas.Bool.Decides.{nat_tests}
 use Rattle.std.proofs.UnicodeAscii.{is_alphabetic_ascii}
 use Rattle.std.specs.List.{list_all}
@@ -15,91 +15,44 @@ use Rattle.base_decimal.specs.Digits.{span, stops}
 use Rattle.base_decimal.proofs.Spans.{span_all, not_true, span_at, span_parts, stops_sooner}
 use Rattle.formula_grammar.specs.declared.CellMark.{CellMark}
 use Rattle.formula_lex.specs.Characters.{is_blank, goes_on_place, goes_on_name, Text}
-use Rattle.formula_lex.specs.laws.Lex.{is_sign, past, dollar_at, with_name, line_at, column_at, row_at, with_row, with_column, corner_at, between, range_to, range_behind, cell_alone, behind_corner, spot_at}
+use Rattle.formula_lex.specs.laws.Lex.{is_sign, past, dollar_at, behind_dollar, with_name, line_at, column_at, row_at, with_row, with_column, corner_at, between, range_to, range_behind, cell_alone, behind_corner, spot_at}
 use Rattle.formula_lex.specs.declared.place.Line.{Line}
 use Rattle.formula_lex.specs.declared.place.Side.{Side}
 use Rattle.formula_lex.specs.declared.place.Spot.{Spot}
-use Rattle.formula_lex.specs.Lexicon.{dollar, row_of_name, IsLine, IsCell, IsSpan, IsRange, cells, columns, rows}
-use Rattle.formula_lex.proofs.Reading.{Front, if_each, if_or, if_map, if_then, if_cond, if_more, past_is}
+use Rattle.formula_lex.specs.Lexicon.{dollar, row_of_name, IsLine, IsColumn, IsRow, IsPair, IsCell, IsSpan, IsRange, cells, columns, rows}
+use Rattle.formula_lex.proofs.Reading.{past_none, Front, if_each, if_or, if_map, if_then, if_cond, if_more, past_is}
 use Rattle.formula_lex.specs.declared.place.Side.TheVariants as side
 use Rattle.formula_lex.specs.declared.place.Spot.TheVariants as spot
 
--- ---- which characters go on a place, a number or a word
+-- ---- characters
 
-pub digit_no_letter : (c : ℕ) → is_digit c ≡ true → is_letter c ≡ false
+letter_low : (c : ℕ) → is_letter c ≡ true → c < 128
+letter_low c e = grind (arith, nat_tests)
+
+digit_low : (c : ℕ) → is_digit c ≡ true → c < 128
+digit_low c e = grind (arith, nat_tests)
+
+digit_no_letter : (c : ℕ) → is_digit c ≡ true → is_letter c ≡ false
 digit_no_letter c e = grind (arith, nat_tests)
 
-pub letter_no_digit : (c : ℕ) → is_letter c ≡ true → is_digit c ≡ false
-letter_no_digit c e = grind (arith, nat_tests)
-
-pub letter_no_dollar : (c : ℕ) → is_letter c ≡ true → (c == 36) ≡ false
-letter_no_dollar c e = grind (arith, nat_tests)
-
-pub digit_no_dollar : (c : ℕ) → is_digit c ≡ true → (c == 36) ≡ false
-digit_no_dollar c e = grind (arith, nat_tests)
-
--- ---- where a place may end
-
-pub place_no_dollar : (c : ℕ) → goes_on_place c ≡ false → (c == 36) ≡ false
+place_no_dollar : (c : ℕ) → goes_on_place c ≡ false → (c == 36) ≡ false
 place_no_dollar c e = grind (arith, nat_tests)
 
-pub place_no_digit : (c : ℕ) → goes_on_place c ≡ false → is_digit c ≡ false
+place_no_digit : (c : ℕ) → goes_on_place c ≡ false → is_digit c ≡ false
 place_no_digit c e = grind (arith, nat_tests)
 
-pub place_no_letter : (c : ℕ) → goes_on_place c ≡ false → is_letter c ≡ false
-place_no_letter c e = go (is_letter c) refl
-  where
-    go : (b : Bool) → is_letter c ≡ b → b ≡ false
-    go false h = refl
-    go true h =
-        let low : c < 128 = grind (arith, nat_tests) in
-        let is = is_alphabetic_ascii c low in
-        grind (arith, nat_tests, is)
+place_no_letter : (c : ℕ) → goes_on_place c ≡ false → is_letter c ≡ false
+place_no_letter c e = false_from_ne_true (is_letter c) (λ h. (let is = is_alphabetic_ascii c (letter_low c h) in grind (arith, nat_tests, is)))
 
--- ---- what begins a word
-
-pub start_no_sign : (c : ℕ) → starts_word c ≡ true → is_sign c ≡ false
-start_no_sign c e = go (is_sign c) refl
-  where
-    go : (b : Bool) → is_sign c ≡ b → b ≡ false
-    go false h = refl
-    go true h =
-        let low : c < 128 = grind (arith, nat_tests) in
-        let is = is_alphabetic_ascii c low in
-        grind (arith, nat_tests, is)
-
-pub start_no_digit : (c : ℕ) → starts_word c ≡ true → is_digit c ≡ false
-start_no_digit c e = go (is_digit c) refl
-  where
-    go : (b : Bool) → is_digit c ≡ b → b ≡ false
-    go false h = refl
-    go true h =
-        let low : c < 128 = grind (arith, nat_tests) in
-        let is = is_alphabetic_ascii c low in
-        grind (arith, nat_tests, is)
-
-pub start_goes_on : (c : ℕ) → starts_word c ≡ true → goes_on_word c ≡ true
-start_goes_on c e = grind (arith, nat_tests)
-
-pub mark_no_word : goes_on_word 33 ≡ false
-mark_no_word = let is = is_alphabetic_ascii 33 (omega arith) in grind (arith, nat_tests, is)
-
-pub colon_ends : goes_on_place 58 ≡ false
+colon_ends : goes_on_place 58 ≡ false
 colon_ends = let is = is_alphabetic_ascii 58 (omega arith) in grind (arith, nat_tests, is)
 
-pub digit_no_sign : (c : ℕ) → is_digit c ≡ true → is_sign c ≡ false
-digit_no_sign c e = grind (arith, nat_tests)
-
-pub blank_sign : (c : ℕ) → is_blank c ≡ true → is_sign c ≡ true
-blank_sign c e = grind (arith, nat_tests)
-
-pub name_no_word : (c : ℕ) → goes_on_name c ≡ false → goes_on_word c ≡ false
-name_no_word c e = (or_parts (goes_on_word c) (c == 33) e).0
-
-pub name_no_mark : (c : ℕ) → goes_on_name c ≡ false → (c == 33) ≡ false
-name_no_mark c e = (or_parts (goes_on_word c) (c == 33) e).1
-
--- ---- a column or a row is read just where one is spelled
+-- a character that begins a word is no sign and no digit
+pub start_is : (c : ℕ) → starts_word c ≡ true → (is_sign c ≡ false) × (is_digit c ≡ false) × (goes_on_word c ≡ true)
+start_is c e =
+    (false_from_ne_true (is_sign c) (λ h. (let low : c < 128 = grind (arith, nat_tests) in let is = is_alphabetic_ascii c low in grind (arith, nat_tests, is))),
+    false_from_ne_true (is_digit c) (λ h. (let is = is_alphabetic_ascii c (digit_low c h) in grind (arith, nat_tests, is))),
+    grind (arith, nat_tests))
 
 -- characters of ASCII are their bytes
 all_low : (p : ℕ → Bool) → ((c : ℕ) → p c ≡ true → c < 128) → (s : Text) → list_all p s ≡ true → IsAscii s
@@ -111,12 +64,6 @@ run_bytes : (p : ℕ → Bool) → ((c : ℕ) → p c ≡ true → c < 128) → 
 run_bytes p low bytes text whole e =
     sym (encodes-chars bytes whole) ∙ encodes-IsAscii (chars bytes) (all_low p low (chars bytes) (ap (list_all p) e ∙ span_all p text)) ∙ e
 
-letter_low : (c : ℕ) → is_letter c ≡ true → c < 128
-letter_low c e = grind (arith, nat_tests)
-
-digit_low : (c : ℕ) → is_digit c ≡ true → c < 128
-digit_low c e = grind (arith, nat_tests)
-
 pub letter_bytes : (bytes text : Text) → IsUtf8 bytes → chars bytes ≡ (span is_letter text).0 → bytes ≡ (span is_letter text).0
 letter_bytes = run_bytes is_letter letter_low
 
@@ -127,8 +74,6 @@ pub digits_all : (bytes text : Text) → IsUtf8 bytes → chars bytes ≡ (span 
 digits_all bytes text whole e = ap (list_all is_digit) (digit_bytes bytes text whole e) ∙ span_all is_digit text
 
 pub ruleset digits = (digit_bytes, digits_all)
-
--- ---- cells and ranges are read just where they are spelled
 
 -- ---- columns and rows
 
@@ -150,23 +95,15 @@ all_more : (p q : ℕ → Bool) → ((c : ℕ) → p c ≡ true → q c ≡ true
 all_more p q h [] e = refl
 all_more p q h (c ∷ s) e = let k = and_parts (p c) (list_all p s) e in and_from _ _ (h c k.0) (all_more p q h s k.1)
 
-letter_unmarked : (c : ℕ) → is_letter c ≡ true → no_mark c ≡ true
-letter_unmarked c e = grind (arith, nat_tests)
-
-digit_unmarked : (c : ℕ) → is_digit c ≡ true → no_mark c ≡ true
-digit_unmarked c e = grind (arith, nat_tests)
-
 dollar_parts : (text : Text) → text ≡ dollar (dollar_at text).0 ++ (dollar_at text).1
-dollar_parts [] = refl
-dollar_parts (c ∷ text) = go (c == 36) refl
+dollar_parts text = go (past 36 text) (past_is 36 text)
   where
-    go : (b : Bool) → (c == 36) ≡ b → c ∷ text ≡ (let d : Bool × Text = cond b (true, text) (false, c ∷ text) in dollar d.0 ++ d.1)
-    go true e = ap (λ (d : ℕ). d ∷ text) (eqb-true c 36 e)
-    go false e = refl
+    go : (o : Option Text) → MatchOption o (stops (λ c. c == 36) text ≡ true) (λ z. text ≡ 36 ∷ z) → text ≡ dollar (behind_dollar text o).0 ++ (behind_dollar text o).1
+    go None e = refl
+    go (Some z) e = e
 
 dollar_none : (text : Text) → stops (λ c. c == 36) text ≡ true → dollar_at text ≡ (false, text)
-dollar_none [] e = refl
-dollar_none (c ∷ text) e = rw (not_true (c == 36) e)
+dollar_none text e = ap (behind_dollar text) (past_none 36 text e)
 
 line_sound : (line_of_name : Text → Option ℤ) (p : ℕ → Bool) (text : Text) → IfSome (line_at line_of_name p text) (λ r. Front (LineIs line_of_name r.0) text r.1)
 unfolding line_at
@@ -225,8 +162,8 @@ unfolding column_of_name is_column_name
 columns_named = record {
   all = λ name line e. (and_parts _ _ (if_name (is_column_name name) (pos (letters_number name)) line e)).0;
   some = refl;
-  no_dollar = letter_no_dollar;
-  unmarked = letter_unmarked;
+  no_dollar = λ c e. grind (arith, nat_tests);
+  unmarked = λ c e. grind (arith, nat_tests);
 }
 
 rows_named : Names row_of_name is_digit
@@ -234,8 +171,8 @@ unfolding is_count
 rows_named = record {
   all = λ name line e. (and_parts _ _ (if_name (is_row_number name) (pos (digits_number name)) line e)).0;
   some = refl;
-  no_dollar = digit_no_dollar;
-  unmarked = digit_unmarked;
+  no_dollar = λ c e. grind (arith, nat_tests);
+  unmarked = λ c e. grind (arith, nat_tests);
 }
 
 row_no_letter : (l : Line) (s rest : Text) → LineIs row_of_name l s → stops is_letter (s ++ rest) ≡ true
@@ -254,6 +191,12 @@ no_row text e f =
 
 -- ---- sides
 
+abbrev column_of : CellMark → Line
+column_of mark = record { absolute = mark.absolute_column; number = mark.column }
+
+abbrev row_of : CellMark → Line
+row_of mark = record { absolute = mark.absolute_row; number = mark.row }
+
 abbrev IsSide : Side → Text → Type 0
 IsSide (side.Cell mark) = IsCell mark
 IsSide (side.Column l) = LineIs column_of_name l
@@ -262,10 +205,6 @@ IsSide (side.Row l) = LineIs row_of_name l
 -- a text of two parts before a rest
 pair_parts : (first middle second rest : Text) → (first ++ (middle ++ second)) ++ rest ≡ first ++ (middle ++ (second ++ rest))
 pair_parts first middle second rest = append_assoc first (middle ++ second) rest ∙ ap (λ (x : Text). first ++ x) (append_assoc middle second rest)
-
-parts_unmarked : (first middle second s : Text) → s ≡ first ++ (middle ++ second) → list_all no_mark first ≡ true → list_all no_mark middle ≡ true → list_all no_mark second ≡ true → list_all no_mark s ≡ true
-parts_unmarked first middle second s e f g h =
-    ap (list_all no_mark) e ∙ list_all-append no_mark first (middle ++ second) ∙ and_from _ _ f (list_all-append no_mark middle second ∙ and_from _ _ g h)
 
 corner_sound : (text : Text) → IfSome (corner_at text) (λ r. Front (IsSide r.0) text r.1)
 unfolding corner_at
@@ -287,8 +226,8 @@ corner_sound text = go (column_at text) (line_sound column_of_name is_letter tex
 corner_read : (x : Side) (s rest : Text) → IsSide x s → stops goes_on_place rest ≡ true → corner_at (s ++ rest) ≡ Some (x, rest)
 unfolding corner_at
 corner_read (side.Cell mark) s rest is ends =
-    let column : Line = record { absolute = mark.absolute_column; number = mark.column } in
-    let row : Line = record { absolute = mark.absolute_row; number = mark.row } in
+    let column = column_of mark in
+    let row = row_of mark in
     let text : Text = is.first ++ (is.second ++ rest) in
     ap (λ (x : Text). with_column x (column_at x)) (ap (λ (x : Text). x ++ rest) is.parts ∙ append_assoc is.first is.second rest)
     ∙ ap (with_column text) (line_read column_of_name is_letter columns_named column is.first (is.second ++ rest) is.is_first (row_no_letter row is.second rest is.is_second))
@@ -375,12 +314,6 @@ span_read a b x s rest e is ends =
     ∙ ap (λ (t : Bool). option_or (cond t (option_map (λ y. (let q : Spot × Text = (y, rest) in q)) (between a b)) None) (cell_alone a (58 ∷ z))) ends
     ∙ ap (λ (o : Option Spot). option_or (option_map (λ y. (let q : Spot × Text = (y, rest) in q)) o) (cell_alone a (58 ∷ z))) e
 
-abbrev column_of : CellMark → Line
-column_of mark = record { absolute = mark.absolute_column; number = mark.column }
-
-abbrev row_of : CellMark → Line
-row_of mark = record { absolute = mark.absolute_row; number = mark.row }
-
 pub range_read : (a b : CellMark) (s rest : Text) → IsRange a b s → stops goes_on_place rest ≡ true → spot_at (s ++ rest) ≡ Some (spot.Range a b, rest)
 range_read a b s rest (cells is) ends = span_read (side.Cell a) (side.Cell b) (spot.Range a b) s rest refl is ends
 range_read a b s rest (columns is on_first on_last) ends =
@@ -397,47 +330,55 @@ cell_read mark s rest is ends =
 
 -- ---- where none is read
 
-sign_no_spot : (c : ℕ) (text : Text) → is_sign c ≡ true → spot_at (c ∷ text) ≡ None
+no_start : (text : Text) → stops (λ c. c == 36) text ≡ true → stops is_letter text ≡ true → stops is_digit text ≡ true → spot_at text ≡ None
 unfolding spot_at corner_at
+no_start text d l n = rw (no_column text false text (dollar_none text d) l, no_row text d n)
+
+pub no_spot : spot_at [] ≡ None
+no_spot = no_start [] refl refl refl
+
+sign_no_spot : (c : ℕ) (text : Text) → is_sign c ≡ true → spot_at (c ∷ text) ≡ None
 sign_no_spot c text e =
     let d : (c == 36) ≡ false = grind (arith, nat_tests) in
     let l : is_letter c ≡ false = grind (arith, nat_tests) in
     let n : is_digit c ≡ false = grind (arith, nat_tests) in
-    rw (no_column (c ∷ text) false (c ∷ text) (dollar_none (c ∷ text) (ap not d)) (ap not l), no_row (c ∷ text) (ap not d) (ap not n))
+    no_start (c ∷ text) (ap not d) (ap not l) (ap not n)
 
 -- no place begins with a sign
 pub spot_starts : (q : ℕ → Bool) → ((c : ℕ) → q c ≡ true → is_sign c ≡ true) → (text : Text) (r : Spot × Text) → spot_at text ≡ Some r → stops q text ≡ true
 spot_starts q h [] r e = refl
-spot_starts q h (c ∷ text) r e = go (q c) refl
-  where
-    go : (b : Bool) → q c ≡ b → not b ≡ true
-    go false f = refl
-    go true f = absurd (let x = sym (sign_no_spot c text (h c f)) ∙ e in cc)
-
-pub no_spot : spot_at [] ≡ None
-unfolding spot_at corner_at
-no_spot = rw (no_column [] false [] refl refl, no_row [] refl refl)
+spot_starts q h (c ∷ text) r e = not_from_false (q c) (false_from_ne_true (q c) (λ f. (let x = sym (sign_no_spot c text (h c f)) ∙ e in absurd cc)))
 
 -- no cell begins with a digit
 pub cell_no_digit : (mark : CellMark) (s rest : Text) → IsCell mark s → stops is_digit (s ++ rest) ≡ true
 cell_no_digit mark s rest is =
     ap (stops is_digit) (ap (λ (x : Text). x ++ rest) is.parts ∙ append_assoc is.first is.second rest)
-    ∙ line_stops column_of_name is_letter columns_named is_digit refl letter_no_digit (column_of mark) is.first (is.second ++ rest) is.is_first
+    ∙ line_stops column_of_name is_letter columns_named is_digit refl (λ c h. grind (arith, nat_tests)) (column_of mark) is.first (is.second ++ rest) is.is_first
 
 -- ---- no place stands before a mark that follows a word
 
-side_unmarked : (x : Side) (s : Text) → IsSide x s → list_all no_mark s ≡ true
-side_unmarked (side.Cell mark) s is = parts_unmarked is.first [] is.second s is.parts (line_unmarked column_of_name is_letter columns_named (column_of mark) is.first is.is_first) refl (line_unmarked row_of_name is_digit rows_named (row_of mark) is.second is.is_second)
-side_unmarked (side.Column l) s is = line_unmarked column_of_name is_letter columns_named l s is
-side_unmarked (side.Row l) s is = line_unmarked row_of_name is_digit rows_named l s is
+abbrev Unmarked : Text → Type 0
+Unmarked s = list_all no_mark s ≡ true
 
-spot_unmarked : (x : Spot) (s : Text) → IsSpot x s → list_all no_mark s ≡ true
+pair_unmarked : (First Second : Text → Type 0) (middle : Text) → ((s : Text) → First s → Unmarked s) → Unmarked middle → ((s : Text) → Second s → Unmarked s) → (s : Text) → IsPair First middle Second s → Unmarked s
+pair_unmarked First Second middle f g h s is =
+    ap (list_all no_mark) is.parts ∙ list_all-append no_mark is.first (middle ++ is.second)
+    ∙ and_from _ _ (f is.first is.is_first) (list_all-append no_mark middle is.second ∙ and_from _ _ g (h is.second is.is_second))
+
+side_unmarked : (x : Side) (s : Text) → IsSide x s → Unmarked s
+side_unmarked (side.Cell mark) =
+    pair_unmarked (IsColumn mark) (IsRow mark) [] (line_unmarked column_of_name is_letter columns_named (column_of mark)) refl (line_unmarked row_of_name is_digit rows_named (row_of mark))
+side_unmarked (side.Column l) = line_unmarked column_of_name is_letter columns_named l
+side_unmarked (side.Row l) = line_unmarked row_of_name is_digit rows_named l
+
+span_unmarked : (a b : Side) (s : Text) → IsSpan (IsSide a) (IsSide b) s → Unmarked s
+span_unmarked a b = pair_unmarked (IsSide a) (IsSide b) (58 ∷ []) (side_unmarked a) refl (side_unmarked b)
+
+spot_unmarked : (x : Spot) (s : Text) → IsSpot x s → Unmarked s
 spot_unmarked (spot.Cell mark) s is = side_unmarked (side.Cell mark) s is
-spot_unmarked (spot.Range a b) s (cells is) = parts_unmarked is.first (58 ∷ []) is.second s is.parts (side_unmarked (side.Cell a) is.first is.is_first) refl (side_unmarked (side.Cell b) is.second is.is_second)
-spot_unmarked (spot.Range a b) s (columns is on_first on_last) =
-    parts_unmarked is.first (58 ∷ []) is.second s is.parts (side_unmarked (side.Column (column_of a)) is.first is.is_first) refl (side_unmarked (side.Column (column_of b)) is.second is.is_second)
-spot_unmarked (spot.Range a b) s (rows is on_first on_last) =
-    parts_unmarked is.first (58 ∷ []) is.second s is.parts (side_unmarked (side.Row (row_of a)) is.first is.is_first) refl (side_unmarked (side.Row (row_of b)) is.second is.is_second)
+spot_unmarked (spot.Range a b) s (cells is) = span_unmarked (side.Cell a) (side.Cell b) s is
+spot_unmarked (spot.Range a b) s (columns is on_first on_last) = span_unmarked (side.Column (column_of a)) (side.Column (column_of b)) s is
+spot_unmarked (spot.Range a b) s (rows is on_first on_last) = span_unmarked (side.Row (row_of a)) (side.Row (row_of b)) s is
 
 -- what has no mark in it ends inside the word or before the mark, where no place ends
 unmarked_goes_on : (word tail s rest : Text) → list_all goes_on_word word ≡ true → list_all no_mark s ≡ true → word ++ (33 ∷ tail) ≡ s ++ rest → stops goes_on_place rest ≡ true → ⊥

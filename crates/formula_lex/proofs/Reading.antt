@@ -15,6 +15,7 @@ use Rattle.base_tables.specs.declared.Error.{Error}
 use Rattle.base_tables.specs.declared.Error.TheVariants.{Ref}
 use Rattle.base_tables.specs.Error.{error_text, inverted_exclamation}
 use Rattle.base_decimal.specs.Digits.{stops, span}
+use Rattle.base_decimal.proofs.Spans.{not_true}
 use Rattle.base_decimal.specs.Numeral.{is_exponent_letter}
 use Rattle.formula_lex.specs.Characters.{Text}
 use Rattle.formula_lex.specs.laws.Lex.{past, strip, first, in_number, number_span, quoted, quoted_text, next_quoted, in_front}
@@ -68,6 +69,10 @@ pub past_is : (mark : ℕ) (text : Text) → MatchOption (past mark text) (stops
 past_is mark [] = refl
 past_is mark (c ∷ text) =
     cond_both (c == mark) (Some text) None (λ o. MatchOption o (not (c == mark) ≡ true) (λ rest. c ∷ text ≡ mark ∷ rest)) (λ e. ap (λ (d : ℕ). d ∷ text) (eqb-true c mark e)) (λ e. ap not e)
+
+pub past_none : (mark : ℕ) (text : Text) → stops (λ c. c == mark) text ≡ true → past mark text ≡ None
+past_none mark [] e = refl
+past_none mark (c ∷ text) e = rw (not_true (c == mark) e)
 
 pub strip_read : (name rest : Text) → strip name (name ++ rest) ≡ Some rest
 strip_read [] rest = refl

@@ -6,6 +6,8 @@ use Rattle.std.specs.Option.{option_or, option_map, option_and_then}
 use Rattle.std.proofs.lemmas.Bool.{and_parts, or_parts, both_ways, and_from, or_from, eqb-true, or_cases, false_from_ne_true, not_from_false}
 use Rattle.std.proofs.lemmas.Str.{length-le-encodes, chars-nil, encodes-chars}
 use Rattle.std.specs.Str.{chars, IsUtf8}
+use Rattle.std.proofs.lemmas.Bool.Decides.{nat_tests}
+use Rattle.std.proofs.UnicodeAscii.{is_alphabetic_ascii}
 use Rattle.base_tables.specs.declared.Error.{Error}
 use Rattle.base_tables.specs.declared.Language.{Language}
 use Rattle.base_tables.specs.declared.Locale.{Locale}
@@ -21,8 +23,8 @@ use Rattle.formula_lex.specs.declared.place.Spot.{Spot}
 use Rattle.formula_lex.specs.Characters.{Text, is_blank, goes_on_place, goes_on_name, doubled}
 use Rattle.formula_lex.specs.Lexicon.{IsCell, IsRange, IsSheetName, plain, quoted, IsSheet, OnSheet, IsNumber, Spells, NoRange, NoError, Ends, NoCell, IsPair, IsTokens}
 use Rattle.formula_lex.specs.laws.Lex.{past, is_sign, on_sheet, behind_word, word_at, behind_quotes, quoted_text, quoted_sheet_at, text_at, plain_at, error_or_hash, error_at, behind_less, behind_greater, by_sign, place_token, place_at, spot_at, range_behind, token_at, number_at, if_next, single, with_token, tokens_from, tokens_of}
-use Rattle.formula_lex.proofs.Places.{start_no_sign, start_no_digit, digit_no_sign, blank_sign, name_no_word, name_no_mark, mark_no_word, start_goes_on, IsRangeSpot, IsSpot, Placed, range_sound, spot_sound, range_read, cell_read, spot_starts, no_spot, cell_no_digit, word_no_spot}
-use Rattle.formula_lex.proofs.Reading.{Front, past_is, if_at, if_map, if_cond, if_more}
+use Rattle.formula_lex.proofs.Places.{start_is, IsRangeSpot, IsSpot, Placed, range_sound, spot_sound, range_read, cell_read, spot_starts, no_spot, cell_no_digit, word_no_spot}
+use Rattle.formula_lex.proofs.Reading.{past_none, Front, past_is, if_at, if_map, if_cond, if_more}
 use Rattle.formula_lex.proofs.Words.{error_sound, error_read, error_none, number_read, FrontNumber, number_sound, quoted_read, Closes, quoted_sound}
 use Rattle.formula_lex.specs.declared.place.Side.TheVariants as side
 use Rattle.formula_lex.specs.declared.place.Spot.TheVariants as spot
@@ -79,8 +81,8 @@ module _ (locale : Locale) (language : Language) where
   by_plain : (c : ℕ) (text : Text) → is_sign c ≡ false → spot_at (c ∷ text) ≡ None → token (c ∷ text) ≡ plain_at locale c (c ∷ text)
   by_plain c text e f = by_start c text e ∙ rw f
 
-  plain_word : (c : ℕ) (text : Text) → starts_word c ≡ true → plain_at locale c text ≡ word_at text
-  plain_word c text e = rw (start_no_digit c e, e)
+  by_word : (c : ℕ) (text : Text) → starts_word c ≡ true → spot_at (c ∷ text) ≡ None → token (c ∷ text) ≡ word_at (c ∷ text)
+  by_word c text e f = by_plain c text (start_is c e).0 f ∙ rw ((start_is c e).1, e)
 
   spot_token : (text : Text) (x : Spot) (rest : Text) → spot_at text ≡ Some (x, rest) → token text ≡ Some (place_token None x, rest)
   spot_token [] x rest e = absurd (let f = sym no_spot ∙ e in cc)
@@ -91,8 +93,8 @@ module _ (locale : Locale) (language : Language) where
   word_sheet [] tail word no_cell = absurd cc
   word_sheet (c ∷ name) tail word no_cell =
       let k = and_parts (starts_word c) (list_all goes_on_word (c ∷ name)) word in
-      by_plain c (name ++ (33 ∷ tail)) (start_no_sign c k.0) (word_no_spot (c ∷ name) tail k.1)
-      ∙ plain_word c (c ∷ name ++ (33 ∷ tail)) k.0 ∙ ap behind_word (span_at goes_on_word (c ∷ name) (33 ∷ tail) k.1 (ap not mark_no_word)) ∙ rw no_cell
+      let mark : goes_on_word 33 ≡ false = let is = is_alphabetic_ascii 33 (omega arith) in grind (arith, nat_tests, is) in
+      by_word c (name ++ (33 ∷ tail)) k.0 (word_no_spot (c ∷ name) tail k.1) ∙ ap behind_word (span_at goes_on_word (c ∷ name) (33 ∷ tail) k.1 (ap not mark)) ∙ rw no_cell
 
   quoted_sheet : (name tail : Text) → name ≢ [] → token (39 ∷ (doubled 39 name ++ (39 ∷ (33 ∷ tail)))) ≡ on_sheet (encode_utf8_all name) (33 ∷ tail)
   unfolding token_at by_sign quoted_sheet_at quoted_text
@@ -110,7 +112,7 @@ module _ (locale : Locale) (language : Language) where
   placed_read (Some sheet) first place x rest is e =
       let m = is.is_second in
       ap token (ap (λ (y : Text). y ++ place) is.parts ∙ append_assoc is.first is.second place ∙ ap (λ (y : Text). is.first ++ (y ++ place)) m.parts)
-      ∙ sheet_read sheet is.first (m.blanks ++ place) is.is_first ∙ on_sheet_read sheet m.blanks place m.all_blank (spot_starts is_blank blank_sign place (x, rest) e) ∙ rw e
+      ∙ sheet_read sheet is.first (m.blanks ++ place) is.is_first ∙ on_sheet_read sheet m.blanks place m.all_blank (spot_starts is_blank (λ c h. grind (arith, nat_tests)) place (x, rest) e) ∙ rw e
 
   pub range_token : (sheet : Option Text) (a b : CellMark) (s rest : Text) → OnSheet sheet (IsRange a b) s → stops goes_on_place rest ≡ true → token (s ++ rest) ≡ Some (t.Range sheet a b, rest)
   range_token sheet a b s rest is ends =
@@ -132,16 +134,16 @@ module _ (locale : Locale) (language : Language) where
   word_token (c ∷ s) rest word ends =
       let k = and_parts (starts_word c) (list_all goes_on_word (c ∷ s)) word in
       let none = no_spot_read (c ∷ s ++ rest) (λ mark more f. ends.1 mark f.spelled more f.parts (on_none (IsCell mark) f.spelled f.is) f.ends) ends.2 in
-      by_plain c (s ++ rest) (start_no_sign c k.0) none
-      ∙ plain_word c (c ∷ s ++ rest) k.0 ∙ ap behind_word (span_at goes_on_word (c ∷ s) rest k.1 (stops_sooner goes_on_word goes_on_name name_no_word rest ends.0))
-      ∙ rw (stops_sooner (λ d. d == 33) goes_on_name name_no_mark rest ends.0)
+      by_word c (s ++ rest) k.0 none
+      ∙ ap behind_word (span_at goes_on_word (c ∷ s) rest k.1 (stops_sooner goes_on_word goes_on_name (λ d h. (or_parts (goes_on_word d) (d == 33) h).0) rest ends.0))
+      ∙ rw (stops_sooner (λ d. d == 33) goes_on_name (λ d h. (or_parts (goes_on_word d) (d == 33) h).1) rest ends.0)
 
   number_token : (number : Decimal) (s rest : Text) → IsNumber locale number s → Ends locale language (t.Number number) s rest → token (s ++ rest) ≡ Some (t.Number number, rest)
   number_token number [] rest is ends = let h = is.starts in absurd cc
   number_token number (c ∷ s) rest is ends =
       let digit = is.starts in
       let none = no_spot_read (c ∷ s ++ rest) (λ mark more f. (let h : not (is_digit c) ≡ true = ap (stops is_digit) f.parts ∙ cell_no_digit mark f.spelled more f.is in both_ways (is_digit c) (not_true (is_digit c) h) digit)) ends.1 in
-      by_plain c (s ++ rest) (digit_no_sign c digit) none ∙ rw digit (number_read locale number (c ∷ s) rest is ends.0)
+      by_plain c (s ++ rest) (grind (arith, nat_tests, digit)) none ∙ rw digit (number_read locale number (c ∷ s) rest is ends.0)
 
   text_token : (inside rest : Text) → stops (λ c. c == 34) rest ≡ true → token (34 ∷ (doubled 34 inside ++ (34 ∷ rest))) ≡ Some (t.Text (encode_utf8_all inside), rest)
   unfolding token_at by_sign text_at quoted_text
@@ -173,12 +175,9 @@ module _ (locale : Locale) (language : Language) where
       go (Some r) f = absurd (never r.0 f.spelled r.1 f.parts f.is (stops_none r.1))
 
   less_read : (rest : Text) → stops (λ c. c == 61 || c == 62) rest ≡ true → behind_less rest ≡ Some (t.Less, rest)
-  less_read [] e = refl
-  less_read (c ∷ rest) e = let k = or_parts (c == 61) (c == 62) (not_true _ e) in rw (k.1, k.0)
-
-  greater_read : (rest : Text) → stops (λ c. c == 61) rest ≡ true → behind_greater rest ≡ Some (t.Greater, rest)
-  greater_read [] e = refl
-  greater_read (c ∷ rest) e = rw (not_true (c == 61) e)
+  less_read rest e =
+      rw (past_none 62 rest (stops_sooner (λ c. c == 62) (λ c. c == 61 || c == 62) (λ c h. (or_parts (c == 61) (c == 62) h).1) rest e),
+      past_none 61 rest (stops_sooner (λ c. c == 61) (λ c. c == 61 || c == 62) (λ c h. (or_parts (c == 61) (c == 62) h).0) rest e))
 
   pub token_read : (x : Token) (s rest : Text) → Spells locale language x s → Ends locale language x s rest → token (s ++ rest) ≡ Some (x, rest)
   unfolding token_at by_sign
@@ -191,7 +190,7 @@ module _ (locale : Locale) (language : Language) where
   token_read (t.Reference sheet mark) s rest is ends = cell_token sheet mark s rest is ends
   token_read (t.Range sheet a b) s rest is ends = range_token sheet a b s rest is ends
   token_read t.Less s rest is ends = ap (λ (y : Text). token (y ++ rest)) is ∙ less_read rest ends
-  token_read t.Greater s rest is ends = ap (λ (y : Text). token (y ++ rest)) is ∙ greater_read rest ends
+  token_read t.Greater s rest is ends = ap (λ (y : Text). token (y ++ rest)) is ∙ rw (past_none 61 rest ends)
   token_read t.Hash s rest is ends = ap (λ (y : Text). token (y ++ rest)) is ∙ hash_token rest (subst (λ (y : Text). NoError language (y ++ rest)) is ends)
   token_read _ s rest is ends = ap (λ (y : Text). token (y ++ rest)) is
 
@@ -225,7 +224,7 @@ span_by c z s passes = cond passes (c ∷ s.0, s.1) ([], c ∷ z)
 word_front : (c : ℕ) (text : Text) → starts_word c ≡ true → is_word (span goes_on_word (c ∷ text)).0 ≡ true
 unfolding is_word
 word_front c text e =
-    and_from _ _ (ap (λ (b : Bool). begins_word (span_by c text (span goes_on_word text) b).0) (start_goes_on c e) ∙ e) (span_all goes_on_word (c ∷ text))
+    and_from _ _ (ap (λ (b : Bool). begins_word (span_by c text (span goes_on_word text) b).0) (start_is c e).2 ∙ e) (span_all goes_on_word (c ∷ text))
 
 module _ (locale : Locale) (language : Language) where
   -- a token that is spelled at the front of a text

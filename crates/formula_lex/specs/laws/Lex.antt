@@ -45,9 +45,12 @@ strip (c ∷ name) text = option_and_then (strip name) (past c text)
 
 -- ---- cells and ranges
 
+abbrev pub behind_dollar : Text → Option Text → Bool × Text
+behind_dollar text None = (false, text)
+behind_dollar text (Some rest) = (true, rest)
+
 abbrev pub dollar_at : Text → Bool × Text
-dollar_at [] = (false, [])
-dollar_at (c ∷ text) = if c == 36 then (true, text) else (false, c ∷ text)
+dollar_at text = behind_dollar text (past 36 text)
 
 abbrev pub with_name : (Text → Option ℤ) → Bool → Text × Text → Option (Line × Text)
 with_name line_of_name absolute name = option_map (λ number. (record { absolute = absolute; number = number }, name.1)) (line_of_name name.0)

@@ -18,7 +18,7 @@ use Rattle.base_decimal.specs.Digits.{stops, span}
 use Rattle.base_decimal.proofs.Spans.{not_true}
 use Rattle.base_decimal.specs.Numeral.{is_exponent_letter}
 use Rattle.formula_lex.specs.Characters.{Text}
-use Rattle.formula_lex.specs.laws.Lex.{past, strip, first, in_number, number_span, quoted, quoted_text, next_quoted, in_front}
+use Rattle.formula_lex.specs.laws.Lex.{past, strip, first, in_number, number_span, quoted, quoted_text, in_front}
 use Rattle.formula_lex.specs.laws.Outcome.{Cuts, left}
 
 -- ---- what a reader answers has a property: how readers that are put together keep it
@@ -56,6 +56,10 @@ module _ {A : Type 0} (P : A → Type 0) where
   pub if_more : (Q : A → Type 0) → ((a : A) → Q a → P a) → (o : Option A) → IfSome o Q → IfSome o P
   if_more Q h None f = tt
   if_more Q h (Some a) f = h a f
+
+pub cond_some : {A : Type 0} (b : Bool) (o : Option A) (a : A) → cond b o None ≡ Some a → (b ≡ true) × (o ≡ Some a)
+cond_some true o a e = (refl, e)
+cond_some false o a e = absurd cc
 
 -- ---- characters at the front
 
@@ -212,59 +216,50 @@ pub ruleset own_texts = (german, spanish)
 
 -- ---- what stands before a closing quote, a character at a time
 
+-- behind a quote
+pub quoted_twice : (quote : ℕ) (z rest : Text) → past quote z ≡ Some rest → quoted quote true z ≡ in_front quote (quoted quote false rest)
+quoted_twice quote [] rest e = absurd cc
+quoted_twice quote (c ∷ z) rest e = go (c == quote) e
+  where
+    go : (b : Bool) → cond b (Some z) None ≡ Some rest → cond b (in_front quote (quoted quote false z)) (let p : Text × Text = ([], c ∷ z) in Some p) ≡ in_front quote (quoted quote false rest)
+    go true f = let is : z ≡ rest = cc in ap (λ (x : Text). in_front quote (quoted quote false x)) is
+    go false f = absurd cc
+
+pub quoted_close : (quote : ℕ) (z : Text) → past quote z ≡ None → quoted quote true z ≡ Some ([], z)
+quoted_close quote [] e = refl
+quoted_close quote (c ∷ z) e = go (c == quote) e
+  where
+    go : (b : Bool) → cond b (Some z) None ≡ None → cond b (in_front quote (quoted quote false z)) (let p : Text × Text = ([], c ∷ z) in Some p) ≡ Some ([], c ∷ z)
+    go true f = absurd cc
+    go false f = refl
+
+pub ruleset quote_behind = (quoted_twice, quoted_close)
+
 -- bytes that were read before stand in front
 abbrev pub after : Text → Option (Text × Text) → Option (Text × Text)
 after front = option_map (λ p. (front ++ p.0, p.1))
 
-after_none : (o : Option (Text × Text)) → o ≡ after [] o
-after_none None = refl
-after_none (Some p) = refl
-
 pub quoted_start : (quote : ℕ) (z : Text) → quoted_text quote z ≡ after [] (quoted_text quote z)
-quoted_start quote z = after_none (quoted_text quote z)
-
--- how the whole goes on from what stands next
-abbrev goes_on : ℕ → Option (Option ℕ × Text) → Option (Text × Text)
-goes_on quote None = None
-goes_on quote (Some (None, rest)) = Some ([], rest)
-goes_on quote (Some (Some c, rest)) = in_front c (quoted quote false rest)
-
-goes_on_by : (quote c d : ℕ) (z : Text) (b e : Bool)
-    → cond b (cond e (in_front quote (quoted quote false z)) (let p : Text × Text = ([], d ∷ z) in Some p)) (in_front c (quoted quote false (d ∷ z)))
-    ≡ goes_on quote (cond b (cond e (Some (Some quote, z)) (Some (None, d ∷ z))) (Some (Some c, d ∷ z)))
-goes_on_by quote c d z true true = refl
-goes_on_by quote c d z true false = refl
-goes_on_by quote c d z false e = refl
-
-quoted_next : (quote : ℕ) (z : Text) → quoted quote false z ≡ goes_on quote (next_quoted quote z)
-quoted_next quote [] = refl
-quoted_next quote (c ∷ []) = go (c == quote)
+quoted_start quote z = go (quoted_text quote z)
   where
-    go : (b : Bool) → cond b (let p : Text × Text = ([], []) in Some p) None ≡ goes_on quote (cond b (Some (None, [])) (Some (Some c, [])))
-    go true = refl
-    go false = refl
-quoted_next quote (c ∷ d ∷ z) = goes_on_by quote c d z (c == quote) (d == quote)
+    go : (o : Option (Text × Text)) → o ≡ after [] o
+    go None = refl
+    go (Some p) = refl
 
--- the same in bytes, where a front was read before
-abbrev written : Text → ℕ → Option (Option ℕ × Text) → Option (Text × Text)
-written front quote next = after front (option_map (λ p. (encode_utf8_all p.0, p.1)) (goes_on quote next))
-
-written_next : (quote : ℕ) (front z : Text) (next : Option (Option ℕ × Text)) → next_quoted quote z ≡ next → after front (quoted_text quote z) ≡ written front quote next
+pub quoted_more : (quote : ℕ) (front : Text) (c : ℕ) (z rest : Text) → quoted quote false z ≡ in_front c (quoted quote false rest) → after front (quoted_text quote z) ≡ after (front ++ encode_utf8 c) (quoted_text quote rest)
 unfolding quoted_text
-written_next quote front z next e = ap (λ (o : Option (Text × Text)). after front (option_map (λ p. (encode_utf8_all p.0, p.1)) o)) (quoted_next quote z) ∙ ap (written front quote) e
+quoted_more quote front c z rest e = rw e (go (quoted quote false rest))
+  where
+    go : (o : Option (Text × Text)) → after front (option_map (λ p. (encode_utf8_all p.0, p.1)) (in_front c o)) ≡ after (front ++ encode_utf8 c) (option_map (λ p. (encode_utf8_all p.0, p.1)) o)
+    go None = refl
+    go (Some p) = ap (λ (x : Text). let q : Text × Text = (x, p.1) in Some q) (sym (append_assoc front (encode_utf8 c) (encode_utf8_all p.0)))
 
-written_more : (front : Text) (c : ℕ) (o : Option (Text × Text)) → after front (option_map (λ p. (encode_utf8_all p.0, p.1)) (in_front c o)) ≡ after (front ++ encode_utf8 c) (option_map (λ p. (encode_utf8_all p.0, p.1)) o)
-written_more front c None = refl
-written_more front c (Some p) = ap (λ (x : Text). let q : Text × Text = (x, p.1) in Some q) (sym (append_assoc front (encode_utf8 c) (encode_utf8_all p.0)))
-
-pub quoted_more : (quote : ℕ) (front : Text) (c : ℕ) (z rest : Text) → next_quoted quote z ≡ Some (Some c, rest) → after front (quoted_text quote z) ≡ after (front ++ encode_utf8 c) (quoted_text quote rest)
+pub quoted_end : (quote : ℕ) (front z rest : Text) → quoted quote false z ≡ Some ([], rest) → after front (quoted_text quote z) ≡ Some (front, rest)
 unfolding quoted_text
-quoted_more quote front c z rest e = written_next quote front z (Some (Some c, rest)) e ∙ written_more front c (quoted quote false rest)
+quoted_end quote front z rest e = rw (e, append-nil front)
 
-pub quoted_end : (quote : ℕ) (front z rest : Text) → next_quoted quote z ≡ Some (None, rest) → after front (quoted_text quote z) ≡ Some (front, rest)
-quoted_end quote front z rest e = written_next quote front z (Some (None, rest)) e ∙ ap (λ (x : Text). let p : Text × Text = (x, rest) in Some p) (append-nil front)
-
-pub quoted_out : (quote : ℕ) (front z : Text) → next_quoted quote z ≡ None → after front (quoted_text quote z) ≡ None
-quoted_out quote front z e = written_next quote front z None e
+pub quoted_out : (quote : ℕ) (front z : Text) → quoted quote false z ≡ None → after front (quoted_text quote z) ≡ None
+unfolding quoted_text
+quoted_out quote front z e = rw e
 
 pub ruleset quotes = (quoted_start, quoted_out, quoted_more, quoted_end)

@@ -291,8 +291,8 @@ module _ (locale : Locale) (language : Language) where
   plain_sound : (c : ℕ) (text : Text) → spot_at (c ∷ text) ≡ None → IfSome (plain_at locale c (c ∷ text)) (Sound (c ∷ text))
   plain_sound c text none =
       if_cond (Sound (c ∷ text)) (is_digit c) (number_at locale (c ∷ text)) (cond (starts_word c) (word_at (c ∷ text)) None)
-      (λ digit. if_more (Sound (c ∷ text)) (λ r. FrontNumber locale (c ∷ text) r.0 r.1)
-      (λ r f e. subst (λ (x : Token). FrontToken (c ∷ text) x r.1) (sym f.token) (record { spelled = f.spelled; parts = f.parts; spells = f.is; ends = (f.ends, subst (NoRange None) f.parts (no_range_spelled (c ∷ text) none)) }))
+      (λ digit. if_more (Sound (c ∷ text)) (FrontNumber locale (c ∷ text))
+      (λ r f e. subst (λ (x : Token). FrontToken (c ∷ text) x r.1) (sym f.1) (record { spelled = f.2.spelled; parts = f.2.parts; spells = f.2.is; ends = (f.3, subst (NoRange None) f.2.parts (no_range_spelled (c ∷ text) none)) }))
       (number_at locale (c ∷ text)) (number_sound locale c text digit))
       (λ h. if_cond (Sound (c ∷ text)) (starts_word c) (word_at (c ∷ text)) None (λ start. word_sound c text start none) (λ k. tt))
 

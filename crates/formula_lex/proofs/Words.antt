@@ -2,7 +2,7 @@
 use Rattle.std.proofs.Common.{◌≡◌, ℕ, zero, suc, ◌<◌, Bool, true, false, cond, [], ◌∷◌, ◌++◌, length, Option, Some, None, refl, sym, ap, ◌∙◌, append-nil, arith, List, subst, append_assoc}
 use Rattle.std.specs.Prelude.{not, ◌==◌, ◌&&◌, ◌||◌, nat_lt, encode_utf8_all, IfSome, codes}
 use Rattle.std.specs.List.{list_all}
-use Rattle.std.specs.Option.{option_map}
+use Rattle.std.specs.Option.{option_and_then, option_map}
 use Rattle.std.specs.Str.{IsAscii}
 use Rattle.std.proofs.lemmas.Bool.{and_parts, or_left, or_right, ltb-true, eqb-true}
 use Rattle.std.proofs.lemmas.Bool.Decides.{nat_tests}
@@ -36,7 +36,7 @@ use Rattle.formula_grammar.specs.declared.Token.TheVariants as t
 use Rattle.formula_lex.specs.Characters.{Text, goes_on_number, twice, doubled}
 use Rattle.formula_lex.specs.Lexicon.{starts_digit, IsNumber}
 use Rattle.formula_lex.specs.laws.Lex.{in_number, number_span, number_of, number_at, past, strip, english_error, own_text, own_error, error_at, quoted, in_front}
-use Rattle.formula_lex.proofs.Reading.{if_map, if_each, same, Front, if_or, if_more, strip_is, if_cond}
+use Rattle.formula_lex.proofs.Reading.{cond_some, if_map, if_each, same, Front, if_or, if_more, strip_is, if_cond}
 
 -- ---- a number is read just where one is spelled
 
@@ -66,29 +66,19 @@ module _ (locale : Locale) where
   digit_in true c e = or_right (c == 43 || c == 45) _ (digit_goes_on c e)
   digit_in false c e = digit_goes_on c e
 
-  pub record FrontNumber (text : Text) (x : Token) (rest : Text) : Type 0 where
-    pub number : Decimal
-    pub spelled : Text
-    pub parts : text ≡ spelled ++ rest
-    pub is : IsNumber locale number spelled
-    pub ends : stops (goes_on_number locale) rest ≡ true
-    pub token : x ≡ t.Number number
+  -- a number that is spelled at the front, where one may end
+  abbrev pub FrontNumber : Text → Token × Text → Type 0
+  FrontNumber text r = (number : Decimal) × (r.0 ≡ t.Number number) × Front (IsNumber locale number) text r.1 × (stops (goes_on_number locale) r.1 ≡ true)
 
-  pub number_sound : (c : ℕ) (text : Text) → is_digit c ≡ true → IfSome (number_at locale (c ∷ text)) (λ r. FrontNumber (c ∷ text) r.0 r.1)
+  pub number_sound : (c : ℕ) (text : Text) → is_digit c ≡ true → IfSome (number_at locale (c ∷ text)) (FrontNumber (c ∷ text))
   unfolding number_at
   number_sound c text digit =
       let s = number_span locale false (c ∷ text) in
       let h = number_span_is false (c ∷ text) in
       let starts : starts_digit s.0 ≡ true = ap (λ (b : Bool). starts_digit (span_by (number_span locale (is_exponent_letter c) text) c text b).0) (digit_in false c digit) ∙ digit in
-      if_map (λ r. FrontNumber (c ∷ text) r.0 r.1) (λ number. (t.Number number, s.1)) (decimal_of (decimal_sign locale) (encode_utf8_all s.0))
-      (if_each (λ number. FrontNumber (c ∷ text) (t.Number number) s.1) (decimal_of (decimal_sign locale) (encode_utf8_all s.0)) (λ number e. record {
-        number = number;
-        spelled = s.0;
-        parts = h.0;
-        is = record { starts = starts; reads = reads_found (decimal_sign locale) (encode_utf8_all s.0) number e };
-        ends = h.1;
-        token = refl;
-      }))
+      if_map (FrontNumber (c ∷ text)) (λ number. (t.Number number, s.1)) (decimal_of (decimal_sign locale) (encode_utf8_all s.0))
+      (if_each (λ number. FrontNumber (c ∷ text) (t.Number number, s.1)) (decimal_of (decimal_sign locale) (encode_utf8_all s.0)) (λ number e.
+      (number, refl, record { spelled = s.0; parts = h.0; is = record { starts = starts; reads = reads_found (decimal_sign locale) (encode_utf8_all s.0) number e } }, h.1)))
 
   -- ---- what is spelled is read
 
@@ -108,16 +98,16 @@ module _ (locale : Locale) where
   walk_digits [] text e = refl
   walk_digits (c ∷ digits) text e = let k = and_parts (is_digit c) (list_all is_digit digits) e in digit_turn false c (digits ++ text) k.0 ∙ walk_digits digits text k.1
 
+  walk_all : (digits : Text) → list_all is_digit digits ≡ true → walk false digits ≡ Some false
+  unfolding walk
+  walk_all digits e = ap (walk false) (sym (append-nil digits)) ∙ walk_digits digits [] e
+
   walk_fraction : (f : Fraction) (text : Text) → is_numeral_fraction f ≡ true → walk false (fraction_text (decimal_sign locale) f ++ text) ≡ walk false text
   walk_fraction NoFraction text e = refl
   walk_fraction (Places digits) text e =
       let mark : ℕ = decimal_sign locale in
       let low = sign_is_ascii locale in
       walk_turn false false mark (digits ++ text) (grind (arith, nat_tests, low)) (or_right (goes_on_word mark) _ (same mark)) (sign_is_mark locale).no_letter ∙ walk_digits digits text e
-
-  walk_all : (digits : Text) → list_all is_digit digits ≡ true → walk false digits ≡ Some false
-  unfolding walk
-  walk_all digits e = ap (walk false) (sym (append-nil digits)) ∙ walk_digits digits [] e
 
   walk_signed : (sign : Sign) (digits : Text) → list_all is_digit digits ≡ true → is_exponent_len (length digits) ≡ true → walk true (sign_text sign ++ digits) ≡ Some false
   unfolding walk
@@ -148,20 +138,14 @@ module _ (locale : Locale) where
       go true = plain
       go false = plain
 
-  walk_step : (after last : Bool) (c : ℕ) (text : Text) → walk after (c ∷ text) ≡ Some last → (nat_lt c 128 ≡ true) × (in_number locale after c ≡ true) × (walk (is_exponent_letter c) text ≡ Some last)
+  walk_step : (after last : Bool) (c : ℕ) (text : Text) → walk after (c ∷ text) ≡ Some last → ((nat_lt c 128 ≡ true) × (in_number locale after c ≡ true)) × (walk (is_exponent_letter c) text ≡ Some last)
   unfolding walk
-  walk_step after last c text e = go (nat_lt c 128) (in_number locale after c) refl refl e
-    where
-      go : (a b : Bool) → nat_lt c 128 ≡ a → in_number locale after c ≡ b → cond (a && b) (walk (is_exponent_letter c) text) None ≡ Some last
-          → (nat_lt c 128 ≡ true) × (in_number locale after c ≡ true) × (walk (is_exponent_letter c) text ≡ Some last)
-      go true true g h f = (g, h, f)
-      go true false g h f = absurd cc
-      go false b g h f = absurd cc
+  walk_step after last c text e = let k = cond_some (nat_lt c 128 && in_number locale after c) (walk (is_exponent_letter c) text) last e in (and_parts _ _ k.0, k.1)
 
   walk_ascii : (after last : Bool) (text : Text) → walk after text ≡ Some last → IsAscii text
   walk_ascii after last [] e i = omega arith
-  walk_ascii after last (c ∷ text) e zero = ltb-true c 128 (walk_step after last c text e).0
-  walk_ascii after last (c ∷ text) e (suc i) = walk_ascii (is_exponent_letter c) last text (walk_step after last c text e).2 i
+  walk_ascii after last (c ∷ text) e zero = ltb-true c 128 (walk_step after last c text e).0.0
+  walk_ascii after last (c ∷ text) e (suc i) = walk_ascii (is_exponent_letter c) last text (walk_step after last c text e).1 i
 
   walk_span : (after : Bool) (s rest : Text) → walk after s ≡ Some false → stops (goes_on_number locale) rest ≡ true → number_span locale after (s ++ rest) ≡ (s, rest)
   unfolding walk
@@ -170,7 +154,7 @@ module _ (locale : Locale) where
   walk_span false [] (c ∷ rest) e ends = rw (not_true (goes_on_number locale c) ends)
   walk_span after (c ∷ s) rest e ends =
       let k = walk_step after false c s e in
-      rw (k.1, walk_span (is_exponent_letter c) s rest k.2 ends)
+      rw (k.0.1, walk_span (is_exponent_letter c) s rest k.1 ends)
 
   -- the characters of a number are its bytes
   written : (s : Text) (negative : Bool) (n : Numeral) → IsNumeral n → starts_digit s ≡ true → encode_utf8_all s ≡ minus_text negative ++ numeral_text (decimal_sign locale) n → s ≡ numeral_text (decimal_sign locale) n
@@ -204,15 +188,19 @@ unfolding encode
 error_encoded Ref = refl
 error_encoded _ = refl
 
+-- the error, and what follows its text
+abbrev found : Error → Option Text → Option (Error × Text)
+found error = option_map (λ rest. (error, rest))
+
+name_sound : (language : Language) (error : Error) (name text : Text) → Is language error name → IfSome (found error (strip name text)) (λ r. Front (Is language r.0) text r.1)
+name_sound language error name text is = if_map (λ r. Front (Is language r.0) text r.1) (λ rest. (error, rest)) (strip name text)
+    (if_more (λ rest. Front (Is language error) text rest) (λ rest. text ≡ name ++ rest) (λ rest e. record { spelled = name; parts = e; is = is }) (strip name text) (strip_is name text))
+
 english_sound : (language : Language) (errors : List Error) (text : Text) → IfSome (english_error errors text) (λ r. Front (Is language r.0) text r.1)
 english_sound language [] text = tt
 english_sound language (error ∷ errors) text =
-    if_or (λ r. Front (Is language r.0) text r.1) (option_map (λ rest. (error, rest)) (strip (error_text error) text)) (english_error errors text)
-    (if_map (λ r. Front (Is language r.0) text r.1) (λ rest. (error, rest)) (strip (error_text error) text)
-    (if_more (λ rest. Front (Is language error) text rest) (λ rest. text ≡ error_text error ++ rest)
-    (λ rest e. record { spelled = error_text error; parts = e; is = ap (error_of_text language) (error_encoded error) ∙ error_of_text-error_text language error })
-    (strip (error_text error) text) (strip_is (error_text error) text)))
-    (english_sound language errors text)
+    if_or (λ r. Front (Is language r.0) text r.1) (found error (strip (error_text error) text)) (english_error errors text)
+    (name_sound language error (error_text error) text (ap (error_of_text language) (error_encoded error) ∙ error_of_text-error_text language error)) (english_sound language errors text)
 
 own_is : (language : Language) → IfSome (own_text language) (λ name. Is language Ref name)
 unfolding encode
@@ -221,18 +209,18 @@ own_is De = refl
 own_is Fr = tt
 own_is Es = refl
 
-own_sound : (language : Language) (text : Text) → IfSome (own_error language text) (λ rest. Front (Is language Ref) text rest)
+own_sound : (language : Language) (text : Text) → IfSome (found Ref (own_error language text)) (λ r. Front (Is language r.0) text r.1)
 own_sound language text = go (own_text language) (own_is language)
   where
-    go : (o : Option Text) → IfSome o (λ name. Is language Ref name) → IfSome (elim o as (λ x. Option Text) [ None ↦ None | Some name ↦ strip name text ]) (λ rest. Front (Is language Ref) text rest)
+    go : (o : Option Text) → IfSome o (λ name. Is language Ref name) → IfSome (found Ref (option_and_then (λ name. strip name text) o)) (λ r. Front (Is language r.0) text r.1)
     go None e = tt
-    go (Some name) e = if_more (λ rest. Front (Is language Ref) text rest) (λ rest. text ≡ name ++ rest) (λ rest f. record { spelled = name; parts = f; is = e }) (strip name text) (strip_is name text)
+    go (Some name) e = name_sound language Ref name text e
 
 pub error_sound : (language : Language) (text : Text) → IfSome (error_at language text) (λ r. Front (Is language r.0) text r.1)
 unfolding error_at
 error_sound language text =
-    if_or (λ r. Front (Is language r.0) text r.1) (option_map (λ rest. (Ref, rest)) (own_error language text)) (english_error all_errors text)
-    (if_map (λ r. Front (Is language r.0) text r.1) (λ rest. (Ref, rest)) (own_error language text) (own_sound language text))
+    if_or (λ r. Front (Is language r.0) text r.1) (found Ref (own_error language text)) (english_error all_errors text)
+    (own_sound language text)
     (english_sound language all_errors text)
 
 -- ---- what is spelled is read: no text of an error begins another

@@ -111,8 +111,9 @@ fn number(locale: Locale, text: &str) -> Option<(Token, &str)>
 
 /// What stands next between quotes, and what follows: a character, where a doubled quote is one, or
 /// nothing at the closing quote. `None` where the text ends before it.
+#[tactic(auto, using(crate::proofs::Reading::quote_behind))]
 fn next_quoted(quote: char, text: &str) -> Option<(Option<char>, &str)>
-    ensures value { seen result ≡ spec.next_quoted quote (chars text.now) }
+    ensures value { spec.quoted quote false (chars text.now) ≡ spec.goes_on quote (seen result) }
     ensures shorter { IfSome result (λ next. length next.1.now < length text.now) }
 {
     let (c, rest) = first(text)?;

@@ -120,13 +120,6 @@ place_at sheet text = option_map (λ p. (place_token sheet p.0, p.1)) (spot_at t
 
 -- ---- texts and sheets
 
--- what stands next between quotes: a character, where a doubled quote is one, or nothing at the closing quote
-abbrev pub next_quoted : ℕ → Reader (Option ℕ)
-next_quoted quote [] = None
-next_quoted quote (c ∷ []) = if c == quote then Some (None, []) else Some (Some c, [])
-next_quoted quote (c ∷ d ∷ text) =
-    if c == quote then (if d == quote then Some (Some quote, text) else Some (None, d ∷ text)) else Some (Some c, d ∷ text)
-
 abbrev pub in_front : ℕ → Option (Text × Text) → Option (Text × Text)
 in_front c = option_map (λ p. (c ∷ p.0, p.1))
 
@@ -136,6 +129,12 @@ quoted quote false [] = None
 quoted quote true [] = Some ([], [])
 quoted quote false (c ∷ text) = if c == quote then quoted quote true text else in_front c (quoted quote false text)
 quoted quote true (c ∷ text) = if c == quote then in_front quote (quoted quote false text) else Some ([], c ∷ text)
+
+-- how it goes on from what stands next: a character, or nothing at the closing quote
+abbrev pub goes_on : ℕ → Option (Option ℕ × Text) → Option (Text × Text)
+goes_on quote None = None
+goes_on quote (Some (None, rest)) = Some ([], rest)
+goes_on quote (Some (Some c, rest)) = in_front c (quoted quote false rest)
 
 -- the same in bytes
 unfoldable pub quoted_text : ℕ → Reader Text

@@ -22,7 +22,7 @@ use Rattle.formula_grammar.specs.declared.Token.TheVariants as t
 use Rattle.formula_lex.specs.declared.place.Spot.{Spot}
 use Rattle.formula_lex.specs.Characters.{Text, is_blank, goes_on_place, goes_on_name, doubled}
 use Rattle.formula_lex.specs.Lexicon.{IsCell, IsRange, IsSheetName, plain, quoted, IsSheet, OnSheet, IsNumber, Spells, NoRange, NoError, Ends, NoCell, IsPair, IsTokens}
-use Rattle.formula_lex.specs.laws.Lex.{past, is_sign, on_sheet, behind_word, word_at, behind_quotes, quoted_text, quoted_sheet_at, text_at, plain_at, error_or_hash, error_at, behind_less, behind_greater, by_sign, place_token, place_at, spot_at, range_behind, token_at, number_at, if_next, single, with_token, tokens_from, tokens_of}
+use Rattle.formula_lex.specs.laws.Lex.{past, is_sign, on_sheet, behind_word, word_at, behind_quotes, quoted_text, quoted_sheet_at, text_at, plain_at, error_or_hash, error_at, behind_less, behind_greater, by_sign, place_token, place_at, spot_at, range_behind, token_at, number_at, if_next, single, some_text, behind_blanks, with_token, tokens_from, tokens_of}
 use Rattle.formula_lex.proofs.Places.{start_is, IsRangeSpot, IsSpot, Placed, range_sound, spot_sound, range_read, cell_read, spot_starts, no_spot, cell_no_digit, word_no_spot}
 use Rattle.formula_lex.proofs.Reading.{past_none, Front, past_is, if_at, if_map, if_cond, if_more}
 use Rattle.formula_lex.proofs.Words.{error_sound, error_read, error_none, number_read, FrontNumber, number_sound, quoted_read, Closes, quoted_sound}
@@ -413,121 +413,21 @@ on_empty First Second never is = go is.first is.second is.parts is.is_second
     go [] second e at = never (subst Second (sym e) at)
     go (c ∷ first) second e at = absurd cc
 
-module _ (locale : Locale) (language : Language) where
-  -- ---- a token is not empty
+-- what blanks stand before
+abbrev Behind : Text → Text → Type 0
+Behind text z = (blanks : Text) × (text ≡ blanks ++ z) × (list_all is_blank blanks ≡ true)
 
-  not_empty : (x : Token) → Spells locale language x [] → ⊥
-  unfolding is_word
-  not_empty (t.Number number) is = let h = is.starts in absurd cc
-  not_empty (t.Text text) is = let h = is.1 in absurd cc
-  not_empty (t.Error error) is = let e = sym (error_none language [] refl) ∙ error_read language [] error [] is in absurd cc
-  not_empty (t.Word word) is = let h = is.0 in absurd cc
-  not_empty (t.Reference sheet mark) is = on_empty (IsSheet sheet) (IsCell mark) (λ at. no_cell_spelled [] no_spot mark [] [] refl (on_none (IsCell mark) [] at) refl) is
-  not_empty (t.Range sheet a b) is = on_empty (IsSheet sheet) (IsRange a b) (λ at. no_range_spelled [] no_spot a b [] [] refl (on_none (IsRange a b) [] at) refl) is
-  not_empty _ is = absurd cc
+blanks_sound : (text : Text) → MatchOption (behind_blanks text) (list_all is_blank text ≡ true) (Behind text)
+unfolding behind_blanks
+blanks_sound text = go (span is_blank text).0 (span is_blank text).1 (span_parts is_blank text) (span_all is_blank text)
+  where
+    go : (b z : Text) → text ≡ b ++ z → list_all is_blank b ≡ true → MatchOption (some_text z) (list_all is_blank text ≡ true) (Behind text)
+    go b [] e f = ap (list_all is_blank) (e ∙ append-nil b) ∙ f
+    go b (c ∷ z) e f = (b, e, f)
 
-  pub token_shorter : (text : Text) (p : Token × Text) → token_at locale language text ≡ Some p → length p.1 < length text
-  token_shorter text p e = go f.spelled f.spells (ap length f.parts ∙ length-append f.spelled p.1)
-    where
-      f : FrontToken locale language text p.0 p.1
-      f = token_sound locale language text p e
-
-      go : (s : Text) → Spells locale language p.0 s → length text ≡ length s + length p.1 → length p.1 < length text
-      go [] is n = absurd (not_empty p.0 is)
-      go (c ∷ s) is n = omega arith
-
-  -- ---- a turn: the bound does not matter where it is large enough
-
-  with_same : (f g : Text → Option (List Token)) (text : Text) → ((rest : Text) → length rest < length text → f rest ≡ g rest) → with_token locale language f text ≡ with_token locale language g text
-  with_same f g [] h = refl
-  with_same f g (c ∷ text) h = go (token_at locale language (c ∷ text)) (token_shorter (c ∷ text))
-    where
-      go : (o : Option (Token × Text)) → ((p : Token × Text) → o ≡ Some p → length p.1 < length (c ∷ text))
-          → option_and_then (λ p. option_map (λ us. p.0 ∷ us) (f p.1)) o ≡ option_and_then (λ p. option_map (λ us. p.0 ∷ us) (g p.1)) o
-      go None k = refl
-      go (Some p) k = ap (option_map (λ us. p.0 ∷ us)) (h p.1 (k p refl))
-
-  from_same : (k m : ℕ) (text : Text) → length text < k → length text < m → tokens_from locale language k text ≡ tokens_from locale language m text
-  unfolding tokens_from
-  from_same zero m text a b = absurd (omega arith)
-  from_same (suc k) zero text a b = absurd (omega arith)
-  from_same (suc k) (suc m) text a b =
-      let s = span is_blank text in
-      let n = ap length (span_parts is_blank text) ∙ length-append s.0 s.1 in
-      with_same (tokens_from locale language k) (tokens_from locale language m) s.1 (λ rest h. from_same k m rest (omega arith) (omega arith))
-
-  pub tokens_turn : (text : Text) → tokens_of locale language text ≡ with_token locale language (tokens_of locale language) (span is_blank text).1
-  unfolding tokens_of tokens_from
-  tokens_turn text =
-      let s = span is_blank text in
-      let n = ap length (span_parts is_blank text) ∙ length-append s.0 s.1 in
-      let one : length text + 1 ≡ suc (length text) = omega arith in
-      ap (λ (k : ℕ). tokens_from locale language k text) one
-      ∙ with_same (tokens_from locale language (length text)) (tokens_of locale language) s.1 (λ rest h. from_same (length text) (length rest + 1) rest (omega arith) (omega arith))
-
-  -- ---- what is read is spelled
-
-  with_sound : (f : Text → Option (List Token)) → ((text : Text) → IfSome (f text) (IsTokens locale language text)) → (text blanks z : Text) → text ≡ blanks ++ z → list_all is_blank blanks ≡ true
-      → IfSome (with_token locale language f z) (IsTokens locale language text)
-  with_sound f again text blanks [] parts blank = ap (list_all is_blank) (parts ∙ append-nil blanks) ∙ blank
-  with_sound f again text blanks (c ∷ z) parts blank = go (token_at locale language (c ∷ z)) (token_sound locale language (c ∷ z))
-    where
-      more : (p : Token × Text) → FrontToken locale language (c ∷ z) p.0 p.1 → (o : Option (List Token)) → IfSome o (IsTokens locale language p.1) → IfSome (option_map (λ us. p.0 ∷ us) o) (IsTokens locale language text)
-      more p g None h = tt
-      more p g (Some tokens) h =
-          (p.1, record { blanks = blanks; spelled = g.spelled; parts = parts ∙ ap (λ (y : Text). blanks ++ y) g.parts; all_blank = blank; spells = g.spells; ends = g.ends }, h)
-
-      go : (o : Option (Token × Text)) → ((p : Token × Text) → o ≡ Some p → FrontToken locale language (c ∷ z) p.0 p.1) → IfSome (option_and_then (λ p. option_map (λ us. p.0 ∷ us) (f p.1)) o) (IsTokens locale language text)
-      go None g = tt
-      go (Some p) g = more p (g p refl) (f p.1) (again p.1)
-
-  from_sound : (k : ℕ) (text : Text) → IfSome (tokens_from locale language k text) (IsTokens locale language text)
-  unfolding tokens_from
-  from_sound zero text = tt
-  from_sound (suc k) text = with_sound (tokens_from locale language k) (from_sound k) text (span is_blank text).0 (span is_blank text).1 (span_parts is_blank text) (span_all is_blank text)
-
-  pub tokens_sound : (text : Text) (tokens : List Token) → tokens_of locale language text ≡ Some tokens → IsTokens locale language text tokens
-  unfolding tokens_of
-  tokens_sound text tokens = if_at (IsTokens locale language text) (tokens_of locale language text) tokens (from_sound (length text + 1) text)
-
-  -- ---- what is spelled is read
-
-  -- a token begins with no blank
-  blank_none : (c : ℕ) (text : Text) → ((c == 32) ≡ true) ⊎ ((c == 10) ≡ true) → token_at locale language (c ∷ text) ≡ None
-  unfolding token_at by_sign
-  blank_none c text (inl e) = ap (λ (d : ℕ). token_at locale language (d ∷ text)) (eqb-true c 32 e)
-  blank_none c text (inr e) = ap (λ (d : ℕ). token_at locale language (d ∷ text)) (eqb-true c 10 e)
-
-  no_blank : (text : Text) (p : Token × Text) → token_at locale language text ≡ Some p → stops is_blank text ≡ true
-  no_blank [] p e = refl
-  no_blank (c ∷ text) p e = not_from_false _ (false_from_ne_true (is_blank c) (λ h. (let f = sym (blank_none c text (or_cases (c == 32) (c == 10) h)) ∙ e in absurd cc)))
-
-  pub with_read : (f : Text → Option (List Token)) (text : Text) (x : Token) (rest : Text) (tokens : List Token) → token_at locale language text ≡ Some (x, rest) → f rest ≡ Some tokens → with_token locale language f text ≡ Some (x ∷ tokens)
-  unfolding token_at
-  with_read f [] x rest tokens e g = absurd cc
-  with_read f (c ∷ text) x rest tokens e g = rw (e, g)
-
-  pub tokens_complete : (tokens : List Token) (text : Text) → IsTokens locale language text tokens → tokens_of locale language text ≡ Some tokens
-  tokens_complete [] text is =
-      tokens_turn text ∙ ap (λ (z : Text). with_token locale language (tokens_of locale language) (span is_blank z).1) (sym (append-nil text))
-      ∙ ap (λ (p : Text × Text). with_token locale language (tokens_of locale language) p.1) (span_at is_blank text [] is refl)
-  tokens_complete (x ∷ tokens) text is =
-      let b = is.1 in
-      let read = token_read locale language x b.spelled is.0 b.spells b.ends in
-      tokens_turn text ∙ ap (λ (z : Text). with_token locale language (tokens_of locale language) (span is_blank z).1) b.parts
-      ∙ ap (λ (p : Text × Text). with_token locale language (tokens_of locale language) p.1) (span_at is_blank b.blanks (b.spelled ++ is.0) b.all_blank (no_blank (b.spelled ++ is.0) (x, is.0) read))
-      ∙ with_read (tokens_of locale language) (b.spelled ++ is.0) x is.0 tokens read (tokens_complete tokens is.0 is.2)
-
-  -- a text is at most one list of tokens
-  pub tokens_once : (text : Text) (a b : List Token) → IsTokens locale language text a → IsTokens locale language text b → a ≡ b
-  tokens_once text a b is at = let e = sym (tokens_complete a text is) ∙ tokens_complete b text at in cc
-
-  -- what a lexer ensures that answers the tokens of the function
-  pub found_tokens : {V : Type 0} (items : V → List Token) (text : Text) (o : Option V) → option_map items o ≡ tokens_of locale language text → IfSome o (λ v. IsTokens locale language text (items v))
-  found_tokens items text None e = tt
-  found_tokens items text (Some v) e = tokens_sound text (items v) (sym e)
-
--- ---- the tokens of a text, a turn of the loop at a time
+blanks_none : (text : Text) → list_all is_blank text ≡ true → behind_blanks text ≡ None
+unfolding behind_blanks
+blanks_none text e = ap (λ (z : Text). some_text (span is_blank z).1) (sym (append-nil text)) ∙ ap (λ (s : Text × Text). some_text s.1) (span_at is_blank text [] e refl)
 
 -- tokens that were read before stand in front
 abbrev pub ahead : List Token → Option (List Token) → Option (List Token)
@@ -542,42 +442,131 @@ ahead_one front x None = refl
 ahead_one front x (Some tokens) = ap (λ (us : List Token). Some us) (sym (append_assoc front (x ∷ []) tokens))
 
 module _ (locale : Locale) (language : Language) where
-  -- no token is left
-  pub turn_end : (front : List Token) (text : Text) → (span is_blank text).1 ≡ [] → ahead front (tokens_of locale language text) ≡ Some front
-  turn_end front text e =
-      ap (ahead front) (tokens_turn locale language text ∙ ap (with_token locale language (tokens_of locale language)) e) ∙ ap (λ (us : List Token). Some us) (append-nil front)
+  abbrev Lexer : Type 0
+  Lexer = Text → Option (List Token)
 
-  -- the next one
-  pub turn_on : (front : List Token) (text rest : Text) (x : Token) → token_at locale language (span is_blank text).1 ≡ Some (x, rest)
-      → ahead front (tokens_of locale language text) ≡ ahead (front ++ x ∷ []) (tokens_of locale language rest)
-  unfolding token_at
-  turn_on front text rest x e = ap (ahead front) (tokens_turn locale language text) ∙ go (span is_blank text).1 e
+  abbrev tokens : Lexer
+  tokens = tokens_of locale language
+
+  -- ---- a token is not empty, and begins with no blank
+
+  not_empty : (x : Token) → Spells locale language x [] → ⊥
+  unfolding is_word
+  not_empty (t.Number number) is = let h = is.starts in absurd cc
+  not_empty (t.Text text) is = let h = is.1 in absurd cc
+  not_empty (t.Error error) is = let e = sym (error_none language [] refl) ∙ error_read language [] error [] is in absurd cc
+  not_empty (t.Word word) is = let h = is.0 in absurd cc
+  not_empty (t.Reference sheet mark) is = on_empty (IsSheet sheet) (IsCell mark) (λ at. no_cell_spelled [] no_spot mark [] [] refl (on_none (IsCell mark) [] at) refl) is
+  not_empty (t.Range sheet a b) is = on_empty (IsSheet sheet) (IsRange a b) (λ at. no_range_spelled [] no_spot a b [] [] refl (on_none (IsRange a b) [] at) refl) is
+  not_empty _ is = absurd cc
+
+  blank_none : (c : ℕ) (text : Text) → ((c == 32) ≡ true) ⊎ ((c == 10) ≡ true) → token_at locale language (c ∷ text) ≡ None
+  unfolding token_at by_sign
+  blank_none c text (inl e) = ap (λ (d : ℕ). token_at locale language (d ∷ text)) (eqb-true c 32 e)
+  blank_none c text (inr e) = ap (λ (d : ℕ). token_at locale language (d ∷ text)) (eqb-true c 10 e)
+
+  blanks_read : (blanks z : Text) (p : Token × Text) → list_all is_blank blanks ≡ true → token_at locale language z ≡ Some p → behind_blanks (blanks ++ z) ≡ Some z
+  unfolding behind_blanks token_at
+  blanks_read blanks [] p all e = absurd cc
+  blanks_read blanks (c ∷ z) p all e =
+      let no = false_from_ne_true (is_blank c) (λ h. (let f = sym (blank_none c z (or_cases (c == 32) (c == 10) h)) ∙ e in absurd cc)) in
+      ap (λ (s : Text × Text). some_text s.1) (span_at is_blank blanks (c ∷ z) all (ap not no))
+
+  -- ---- a turn: the bound does not matter where it is large enough
+
+  pub turn_shorter : (text z rest : Text) (x : Token) → behind_blanks text ≡ Some z → token_at locale language z ≡ Some (x, rest) → length rest < length text
+  turn_shorter text z rest x e g = go f.spelled f.spells (ap length (b.1 ∙ ap (λ (y : Text). b.0 ++ y) f.parts))
     where
-      go : (z : Text) → token_at locale language z ≡ Some (x, rest) → ahead front (with_token locale language (tokens_of locale language) z) ≡ ahead (front ++ x ∷ []) (tokens_of locale language rest)
-      go [] f = absurd cc
-      go (c ∷ z) f = rw f (ahead_one front x (tokens_of locale language rest))
+      b : Behind text z
+      b = subst (λ o. MatchOption o (list_all is_blank text ≡ true) (Behind text)) e (blanks_sound text)
 
-  pub turn_shorter : (text : Text) (p : Token × Text) → token_at locale language (span is_blank text).1 ≡ Some p → length p.1 < length text
-  turn_shorter text p e =
-      let s = span is_blank text in
-      omega (arith, token_shorter locale language s.1 p e, ap length (span_parts is_blank text), length-append s.0 s.1)
+      f : FrontToken locale language z x rest
+      f = token_sound locale language z (x, rest) g
 
-  -- none where some text is left
-  pub turn_fail : (front : List Token) (text : Text) → 0 < length (span is_blank text).1 → None ≡ token_at locale language (span is_blank text).1 → None ≡ ahead front (tokens_of locale language text)
-  turn_fail front text some e = sym (ap (ahead front) (tokens_turn locale language text) ∙ go (span is_blank text).1 some (sym e))
+      go : (s : Text) → Spells locale language x s → length text ≡ length (b.0 ++ (s ++ rest)) → length rest < length text
+      go [] is n = absurd (not_empty x is)
+      go (c ∷ s) is n = omega (arith, length-append b.0 (c ∷ s ++ rest), length-append s rest)
+
+  turn_same : (f g : Lexer) (text : Text) → ((rest : Text) → length rest < length text → f rest ≡ g rest) → with_token locale language f (behind_blanks text) ≡ with_token locale language g (behind_blanks text)
+  turn_same f g text h = go (behind_blanks text) (turn_shorter text)
     where
-      go : (z : Text) → 0 < length z → token_at locale language z ≡ None → ahead front (with_token locale language (tokens_of locale language) z) ≡ None
-      go [] h f = absurd (omega arith)
-      go (c ∷ z) h f = rw f
+      more : (o : Option (Token × Text)) → ((rest : Text) (x : Token) → o ≡ Some (x, rest) → length rest < length text)
+          → option_and_then (λ p. option_map (λ us. p.0 ∷ us) (f p.1)) o ≡ option_and_then (λ p. option_map (λ us. p.0 ∷ us) (g p.1)) o
+      more None k = refl
+      more (Some p) k = ap (option_map (λ us. p.0 ∷ us)) (h p.1 (k p.1 p.0 refl))
 
--- a text is empty where it has no character
-pub none_left : (bytes : Text) → length bytes ≡ 0 → chars bytes ≡ []
-none_left [] e = chars-nil
-none_left (b ∷ bytes) e = absurd (omega arith)
+      go : (o : Option Text) → ((z rest : Text) (x : Token) → o ≡ Some z → token_at locale language z ≡ Some (x, rest) → length rest < length text) → with_token locale language f o ≡ with_token locale language g o
+      go None k = refl
+      go (Some z) k = more (token_at locale language z) (λ rest x. k z rest x refl)
 
-pub some_left : (bytes : Text) → IsUtf8 bytes → 0 < length bytes → 0 < length (chars bytes)
-some_left bytes whole some = go (chars bytes) (encodes-chars bytes whole)
-  where
-    go : (x : Text) → encode_utf8_all x ≡ bytes → 0 < length x
-    go [] e = absurd (omega (arith, ap length e))
-    go (c ∷ x) e = omega arith
+  from_same : (k m : ℕ) (text : Text) → length text < k → length text < m → tokens_from locale language k text ≡ tokens_from locale language m text
+  unfolding tokens_from
+  from_same zero m text a b = absurd (omega arith)
+  from_same (suc k) zero text a b = absurd (omega arith)
+  from_same (suc k) (suc m) text a b = turn_same (tokens_from locale language k) (tokens_from locale language m) text (λ rest h. from_same k m rest (omega arith) (omega arith))
+
+  tokens_turn : (text : Text) → tokens text ≡ with_token locale language tokens (behind_blanks text)
+  unfolding tokens_of tokens_from
+  tokens_turn text =
+      let one : length text + 1 ≡ suc (length text) = omega arith in
+      ap (λ (k : ℕ). tokens_from locale language k text) one
+      ∙ turn_same (tokens_from locale language (length text)) tokens text (λ rest h. from_same (length text) (length rest + 1) rest (omega arith) (omega arith))
+
+  pub turn_end : (front : List Token) (text : Text) → behind_blanks text ≡ None → ahead front (tokens text) ≡ Some front
+  turn_end front text e = rw (tokens_turn text, e, append-nil front)
+
+  pub turn_fail : (front : List Token) (text z : Text) → behind_blanks text ≡ Some z → token_at locale language z ≡ None → ahead front (tokens text) ≡ None
+  turn_fail front text z e g = rw (tokens_turn text, e, g)
+
+  pub turn_on : (front : List Token) (text z rest : Text) (x : Token) → behind_blanks text ≡ Some z → token_at locale language z ≡ Some (x, rest) → ahead front (tokens text) ≡ ahead (front ++ x ∷ []) (tokens rest)
+  turn_on front text z rest x e g = rw (tokens_turn text, e, g) (ahead_one front x (tokens rest))
+
+  -- ---- what is read is spelled
+
+  with_sound : (f : Lexer) → ((text : Text) → IfSome (f text) (IsTokens locale language text)) → (text : Text) → IfSome (with_token locale language f (behind_blanks text)) (IsTokens locale language text)
+  with_sound f again text = go (behind_blanks text) (blanks_sound text)
+    where
+      rest : (z : Text) → Behind text z → (p : Token × Text) → FrontToken locale language z p.0 p.1 → (o : Option (List Token)) → IfSome o (IsTokens locale language p.1)
+          → IfSome (option_map (λ us. p.0 ∷ us) o) (IsTokens locale language text)
+      rest z b p g None h = tt
+      rest z b p g (Some tokens) h =
+          (p.1, record { blanks = b.0; spelled = g.spelled; parts = b.1 ∙ ap (λ (y : Text). b.0 ++ y) g.parts; all_blank = b.2; spells = g.spells; ends = g.ends }, h)
+
+      more : (z : Text) → Behind text z → (o : Option (Token × Text)) → ((p : Token × Text) → o ≡ Some p → FrontToken locale language z p.0 p.1)
+          → IfSome (option_and_then (λ p. option_map (λ us. p.0 ∷ us) (f p.1)) o) (IsTokens locale language text)
+      more z b None g = tt
+      more z b (Some p) g = rest z b p (g p refl) (f p.1) (again p.1)
+
+      go : (o : Option Text) → MatchOption o (list_all is_blank text ≡ true) (Behind text) → IfSome (with_token locale language f o) (IsTokens locale language text)
+      go None b = b
+      go (Some z) b = more z b (token_at locale language z) (token_sound locale language z)
+
+  from_sound : (k : ℕ) (text : Text) → IfSome (tokens_from locale language k text) (IsTokens locale language text)
+  unfolding tokens_from
+  from_sound zero text = tt
+  from_sound (suc k) text = with_sound (tokens_from locale language k) (from_sound k) text
+
+  pub tokens_sound : (text : Text) (ts : List Token) → tokens text ≡ Some ts → IsTokens locale language text ts
+  unfolding tokens_of
+  tokens_sound text ts = if_at (IsTokens locale language text) (tokens text) ts (from_sound (length text + 1) text)
+
+  -- ---- what is spelled is read
+
+  pub tokens_complete : (ts : List Token) (text : Text) → IsTokens locale language text ts → tokens text ≡ Some ts
+  tokens_complete [] text is = rw (tokens_turn text, blanks_none text is)
+  tokens_complete (x ∷ ts) text is =
+      let b = is.1 in
+      let read = token_read locale language x b.spelled is.0 b.spells b.ends in
+      let behind = ap behind_blanks b.parts ∙ blanks_read b.blanks (b.spelled ++ is.0) (x, is.0) b.all_blank read in
+      rw (tokens_turn text, behind, read, tokens_complete ts is.0 is.2)
+
+  -- a text is at most one list of tokens
+  pub tokens_once : (text : Text) (a b : List Token) → IsTokens locale language text a → IsTokens locale language text b → a ≡ b
+  tokens_once text a b is at = let e = sym (tokens_complete a text is) ∙ tokens_complete b text at in cc
+
+  -- what a lexer ensures that answers the tokens of the function
+  pub found_tokens : {V : Type 0} (items : V → List Token) (text : Text) (o : Option V) → option_map items o ≡ tokens text → IfSome o (λ v. IsTokens locale language text (items v))
+  found_tokens items text None e = tt
+  found_tokens items text (Some v) e = tokens_sound text (items v) (sym e)
+
+pub ruleset turns = (ahead_none, turn_end, turn_fail, turn_on, turn_shorter)

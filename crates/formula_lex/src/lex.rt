@@ -6,24 +6,32 @@ ghost use Rattle.base_tables.specs.declared.Language.{Language as AnyLanguage};
 ghost use Rattle.base_tables.specs.declared.Locale.{Locale as AnyLocale};
 ghost use Rattle.formula_grammar.specs.declared.Token.{Token as AnyToken};
 ghost use Rattle.formula_lex.specs.Lexicon.{IsTokens};
-ghost use Rattle.formula_lex.specs.laws.Lex.{tokens_of};
+ghost use Rattle.formula_lex.specs.laws.Lex.{tokens_of, behind_blanks};
+ghost use Rattle.formula_lex.specs.laws.Outcome.{left};
 
-use crate::characters::{Class, run};
+use crate::characters::{Class, first, run};
 use crate::front::token;
 use base_values::EditError;
 use formula_grammar::{Profile, Token};
 use std::alloc::{AllocError, Global};
 
+/// What stands behind the blanks at the front of the text, if anything does.
+#[tactic(auto, unfolding(crate::specs::laws::Lex::behind_blanks))]
+fn behind_blanks(text: &str) -> Option<&str>
+    ensures { left result ≡ behind_blanks (chars text.now) }
+{
+    let (_, rest) = run(Class::Blank, text);
+    first(rest)?;
+    Some(rest)
+}
+
+#[tactic(auto, using(crate::proofs::Tokens::turns))]
 fn tokens(alloc: Global, profile: Profile, text: &str) -> Result<Option<Vec<Token>>, AllocError>
     ensures { IfOk result (λ found. option_map (λ tokens. tokens.items) found ≡ tokens_of profile.locale profile.language (chars text.now)) }
 {
     let mut tokens = Vec::new(alloc);
     let mut rest = text;
-    loop {
-        let (_, more) = run(Class::Blank, rest);
-        if more.is_empty() {
-            return Ok(Some(tokens));
-        }
+    while let Some(more) = behind_blanks(rest) {
         match token(alloc, profile, more) {
             Ok(Some((token, more))) => {
                 tokens.push(token)?;
@@ -33,6 +41,7 @@ fn tokens(alloc: Global, profile: Profile, text: &str) -> Result<Option<Vec<Toke
             Err(error) => return Err(error),
         }
     }
+    Ok(Some(tokens))
 }
 
 /// The one list of tokens that a formula's text is, in the locale and language of the profile.

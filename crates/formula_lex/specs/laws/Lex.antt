@@ -256,14 +256,23 @@ token_at locale language [] = None
 token_at locale language (c ∷ text) =
     if is_sign c then by_sign language c text else option_or (place_at None (c ∷ text)) (plain_at locale c (c ∷ text))
 
-abbrev pub with_token : Locale → Language → (Text → Option (List Token)) → Text → Option (List Token)
-with_token locale language rest [] = Some []
-with_token locale language rest (c ∷ text) = option_and_then (λ p. option_map (λ tokens. p.0 ∷ tokens) (rest p.1)) (token_at locale language (c ∷ text))
+-- a text in which something stands
+abbrev pub some_text : Text → Option Text
+some_text [] = None
+some_text (c ∷ text) = Some (c ∷ text)
+
+-- what stands behind blanks, if anything does
+unfoldable pub behind_blanks : Text → Option Text
+behind_blanks text = some_text (span is_blank text).1
+
+abbrev pub with_token : Locale → Language → (Text → Option (List Token)) → Option Text → Option (List Token)
+with_token locale language rest None = Some []
+with_token locale language rest (Some text) = option_and_then (λ p. option_map (λ tokens. p.0 ∷ tokens) (rest p.1)) (token_at locale language text)
 
 -- the number bounds the tokens
 unfoldable pub tokens_from : Locale → Language → ℕ → Text → Option (List Token)
 tokens_from locale language zero text = None
-tokens_from locale language (suc k) text = with_token locale language (tokens_from locale language k) (span is_blank text).1
+tokens_from locale language (suc k) text = with_token locale language (tokens_from locale language k) (behind_blanks text)
 
 unfoldable pub tokens_of : Locale → Language → Text → Option (List Token)
 tokens_of locale language text = tokens_from locale language (length text + 1) text

@@ -529,7 +529,7 @@ module _ (locale : Locale) (language : Language) where
       rest : (z : Text) → Behind text z → (p : Token × Text) → FrontToken locale language z p.0 p.1 → (o : Option (List Token)) → IfSome o (IsTokens locale language p.1)
           → IfSome (option_map (λ us. p.0 ∷ us) o) (IsTokens locale language text)
       rest z b p g None h = tt
-      rest z b p g (Some tokens) h =
+      rest z b p g (Some ts) h =
           (p.1, record { blanks = b.0; spelled = g.spelled; parts = b.1 ∙ ap (λ (y : Text). b.0 ++ y) g.parts; all_blank = b.2; spells = g.spells; ends = g.ends }, h)
 
       more : (z : Text) → Behind text z → (o : Option (Token × Text)) → ((p : Token × Text) → o ≡ Some p → FrontToken locale language z p.0 p.1)

@@ -7,6 +7,7 @@ ghost use Rattle.formula_lex.specs.laws.Outcome.{left, seen};
 use base_tables::{Error, Language};
 
 /// What follows the name, if it stands at the front of the text.
+#[tactic(auto, using(crate::proofs::Reading::stripped))]
 fn strip<'a>(name: &str, text: &'a str) -> Option<&'a str>
     ensures { left result ≡ spec.strip (chars name.now) (chars text.now) }
 {

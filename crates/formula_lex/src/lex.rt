@@ -49,6 +49,7 @@ fn tokens(alloc: Global, profile: Profile, text: &str) -> Result<Option<Vec<Toke
 /// after tokens.
 ///
 /// `NoMemory` where memory runs out.
+#[tactic(auto, using(crate::proofs::Tokens::tokens_complete))]
 pub fn lex_text(
     alloc: Global,
     text: &str,

@@ -132,10 +132,7 @@ module _ (line_of_name : Text → Option ℤ) (p : ℕ → Bool) (names : Names 
 
   line_read : (l : Line) (s rest : Text) → LineIs line_of_name l s → stops p rest ≡ true → line_at line_of_name p (s ++ rest) ≡ Some (l, rest)
   unfolding line_at
-  line_read l s rest is ends =
-      ap (λ (d : Bool × Text). with_name line_of_name d.0 (span p d.1)) (line_dollar l s rest is)
-      ∙ ap (with_name line_of_name l.absolute) (span_at p is.name rest (names.all is.name l.number is.named) ends)
-      ∙ ap (option_map (λ n. (let q : Line × Text = (record { absolute = l.absolute; number = n }, rest) in q))) is.named
+  line_read l s rest is ends = rw (line_dollar l s rest is, span_at p is.name rest (names.all is.name l.number is.named) ends, is.named)
 
   line_stops : (q : ℕ → Bool) → q 36 ≡ false → ((c : ℕ) → p c ≡ true → q c ≡ false) → (l : Line) (s rest : Text) → LineIs line_of_name l s → stops q (s ++ rest) ≡ true
   line_stops q d h l s rest is = ap (stops q) (ap (λ (x : Text). x ++ rest) is.parts ∙ append_assoc (dollar l.absolute) is.name rest) ∙ go l.absolute
@@ -181,13 +178,11 @@ row_no_letter = line_stops row_of_name is_digit rows_named is_letter refl digit_
 -- where neither stands behind the dollar
 no_column : (text : Text) (d : Bool) (behind : Text) → dollar_at text ≡ (d, behind) → stops is_letter behind ≡ true → column_at text ≡ None
 unfolding line_at column_of_name is_column_name
-no_column text d behind e f =
-    ap (λ (x : Bool × Text). with_name column_of_name x.0 (span is_letter x.1)) e ∙ ap (with_name column_of_name d) (span_at is_letter [] behind refl f)
+no_column text d behind e f = rw (e, span_at is_letter [] behind refl f)
 
 no_row : (text : Text) → stops (λ c. c == 36) text ≡ true → stops is_digit text ≡ true → row_at text ≡ None
 unfolding line_at is_count
-no_row text e f =
-    ap (λ (x : Bool × Text). with_name row_of_name x.0 (span is_digit x.1)) (dollar_none text e) ∙ ap (with_name row_of_name false) (span_at is_digit [] text refl f)
+no_row text e f = rw (dollar_none text e, span_at is_digit [] text refl f)
 
 -- ---- sides
 
@@ -226,19 +221,16 @@ corner_sound text = go (column_at text) (line_sound column_of_name is_letter tex
 corner_read : (x : Side) (s rest : Text) → IsSide x s → stops goes_on_place rest ≡ true → corner_at (s ++ rest) ≡ Some (x, rest)
 unfolding corner_at
 corner_read (side.Cell mark) s rest is ends =
-    let column = column_of mark in
-    let row = row_of mark in
-    let text : Text = is.first ++ (is.second ++ rest) in
-    ap (λ (x : Text). with_column x (column_at x)) (ap (λ (x : Text). x ++ rest) is.parts ∙ append_assoc is.first is.second rest)
-    ∙ ap (with_column text) (line_read column_of_name is_letter columns_named column is.first (is.second ++ rest) is.is_first (row_no_letter row is.second rest is.is_second))
-    ∙ ap (with_row column (is.second ++ rest)) (line_read row_of_name is_digit rows_named row is.second rest is.is_second (stops_sooner is_digit goes_on_place place_no_digit rest ends))
+    rw (is.parts, append_assoc is.first is.second rest,
+    line_read column_of_name is_letter columns_named (column_of mark) is.first (is.second ++ rest) is.is_first (row_no_letter (row_of mark) is.second rest is.is_second),
+    line_read row_of_name is_digit rows_named (row_of mark) is.second rest is.is_second (stops_sooner is_digit goes_on_place place_no_digit rest ends))
 corner_read (side.Column l) s rest is ends =
-    ap (with_column (s ++ rest)) (line_read column_of_name is_letter columns_named l s rest is (stops_sooner is_letter goes_on_place place_no_letter rest ends))
-    ∙ ap (with_row l rest) (no_row rest (stops_sooner (λ c. c == 36) goes_on_place place_no_dollar rest ends) (stops_sooner is_digit goes_on_place place_no_digit rest ends))
+    rw (line_read column_of_name is_letter columns_named l s rest is (stops_sooner is_letter goes_on_place place_no_letter rest ends),
+    no_row rest (stops_sooner (λ c. c == 36) goes_on_place place_no_dollar rest ends) (stops_sooner is_digit goes_on_place place_no_digit rest ends))
 corner_read (side.Row l) s rest is ends =
-    ap (with_column (s ++ rest)) (no_column (s ++ rest) l.absolute (is.name ++ rest) (line_dollar row_of_name is_digit rows_named l s rest is)
-    (name_stops row_of_name is_digit rows_named is_letter digit_no_letter is.name l.number rest is.named))
-    ∙ ap (option_map (λ r. (let q : Side × Text = (side.Row r.0, r.1) in q))) (line_read row_of_name is_digit rows_named l s rest is (stops_sooner is_digit goes_on_place place_no_digit rest ends))
+    let letter = name_stops row_of_name is_digit rows_named is_letter digit_no_letter is.name l.number rest is.named in
+    rw (no_column (s ++ rest) l.absolute (is.name ++ rest) (line_dollar row_of_name is_digit rows_named l s rest is) letter,
+    line_read row_of_name is_digit rows_named l s rest is (stops_sooner is_digit goes_on_place place_no_digit rest ends))
 
 -- ---- ranges and cells
 
@@ -307,12 +299,7 @@ spot_sound text =
 span_read : (a b : Side) (x : Spot) (s rest : Text) → between a b ≡ Some x → IsSpan (IsSide a) (IsSide b) s → stops goes_on_place rest ≡ true → spot_at (s ++ rest) ≡ Some (x, rest)
 unfolding spot_at range_behind
 span_read a b x s rest e is ends =
-    let z : Text = is.second ++ rest in
-    ap spot_at (ap (λ (y : Text). y ++ rest) is.parts ∙ pair_parts is.first (58 ∷ []) is.second rest)
-    ∙ ap (option_and_then behind_corner) (corner_read a is.first (58 ∷ z) is.is_first (ap not colon_ends))
-    ∙ ap (λ (o : Option (Side × Text)). option_or (option_and_then (range_to a) o) (cell_alone a (58 ∷ z))) (corner_read b is.second rest is.is_second ends)
-    ∙ ap (λ (t : Bool). option_or (cond t (option_map (λ y. (let q : Spot × Text = (y, rest) in q)) (between a b)) None) (cell_alone a (58 ∷ z))) ends
-    ∙ ap (λ (o : Option Spot). option_or (option_map (λ y. (let q : Spot × Text = (y, rest) in q)) o) (cell_alone a (58 ∷ z))) e
+    rw (is.parts, pair_parts is.first (58 ∷ []) is.second rest, corner_read a is.first (58 ∷ (is.second ++ rest)) is.is_first (ap not colon_ends), corner_read b is.second rest is.is_second ends, ends, e)
 
 pub range_read : (a b : CellMark) (s rest : Text) → IsRange a b s → stops goes_on_place rest ≡ true → spot_at (s ++ rest) ≡ Some (spot.Range a b, rest)
 range_read a b s rest (cells is) ends = span_read (side.Cell a) (side.Cell b) (spot.Range a b) s rest refl is ends
@@ -324,9 +311,7 @@ range_read a b s rest (rows is on_first on_last) ends =
 -- where a cell stands, it is read, or else a range
 pub cell_read : (mark : CellMark) (s rest : Text) → IsCell mark s → stops goes_on_place rest ≡ true → spot_at (s ++ rest) ≡ option_or (range_behind (side.Cell mark) rest) (Some (spot.Cell mark, rest))
 unfolding spot_at
-cell_read mark s rest is ends =
-    ap (option_and_then behind_corner) (corner_read (side.Cell mark) s rest is ends)
-    ∙ ap (λ (t : Bool). option_or (range_behind (side.Cell mark) rest) (cond t (Some (spot.Cell mark, rest)) None)) ends
+cell_read mark s rest is ends = rw (corner_read (side.Cell mark) s rest is ends, ends)
 
 -- ---- where none is read
 

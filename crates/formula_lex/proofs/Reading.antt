@@ -2,7 +2,7 @@
 use Rattle.std.proofs.Common.{◌≡◌, ℕ, Bool, true, false, cond, [], ◌∷◌, ◌++◌, Option, Some, None, refl, ap, subst, ◌∙◌, arith, ◌-◌, ◌<◌, length, sym, append_assoc, append-nil, length-append, option_map}
 use Rattle.std.specs.Prelude.{not, ◌==◌, IfSome, MatchOption, ◌&&◌, encode_utf8, encode_utf8_all, codes}
 use Rattle.std.specs.Option.{option_map, option_and_then, option_or}
-use Rattle.std.proofs.lemmas.Bool.{cond_both, eqb-true, and_parts}
+use Rattle.std.proofs.lemmas.Bool.{false_from_ne_true, cond_both, eqb-true, and_parts}
 use Rattle.std.proofs.lemmas.Bool.Decides.{nat_tests}
 use Rattle.std.specs.Str.{chars, IsUtf8}
 use Rattle.std.proofs.Math.Seq.{take-append_seam, drop-append_seam}
@@ -219,19 +219,11 @@ pub ruleset own_texts = (german, spanish)
 -- behind a quote
 pub quoted_twice : (quote : ℕ) (z rest : Text) → past quote z ≡ Some rest → quoted quote true z ≡ in_front quote (quoted quote false rest)
 quoted_twice quote [] rest e = absurd cc
-quoted_twice quote (c ∷ z) rest e = go (c == quote) e
-  where
-    go : (b : Bool) → cond b (Some z) None ≡ Some rest → cond b (in_front quote (quoted quote false z)) (let p : Text × Text = ([], c ∷ z) in Some p) ≡ in_front quote (quoted quote false rest)
-    go true f = let is : z ≡ rest = cc in ap (λ (x : Text). in_front quote (quoted quote false x)) is
-    go false f = absurd cc
+quoted_twice quote (c ∷ z) rest e = let k = cond_some (c == quote) (Some z) rest e in let is : z ≡ rest = cc in rw (k.0, is)
 
 pub quoted_close : (quote : ℕ) (z : Text) → past quote z ≡ None → quoted quote true z ≡ Some ([], z)
 quoted_close quote [] e = refl
-quoted_close quote (c ∷ z) e = go (c == quote) e
-  where
-    go : (b : Bool) → cond b (Some z) None ≡ None → cond b (in_front quote (quoted quote false z)) (let p : Text × Text = ([], c ∷ z) in Some p) ≡ Some ([], c ∷ z)
-    go true f = absurd cc
-    go false f = refl
+quoted_close quote (c ∷ z) e = rw (false_from_ne_true (c == quote) (λ h. (let f = rw h at e in absurd cc)))
 
 pub ruleset quote_behind = (quoted_twice, quoted_close)
 

@@ -1,206 +1,385 @@
 -- Cells and ranges are read just where they are spelled.
-use Rattle.std.proofs.Common.{◌≡◌, ℕ, Bool, true, false, [], ◌∷◌, ◌++◌, Option, Some, None, refl, sym, ap, subst, ◌∙◌}
-use Rattle.std.specs.Prelude.{ℤ, pos, not}
-use Rattle.std.specs.Option.{option_or}
-use Rattle.base_tables.specs.Column.{is_letter, column_of_name}
-use Rattle.base_tables.specs.Word.{is_digit}
-use Rattle.base_decimal.specs.Digits.{stops}
-use Rattle.base_decimal.proofs.Spans.{stops_sooner}
+use Rattle.std.proofs.Common.{◌≡◌, ℕ, ◌<◌, Bool, true, false, refl, arith, zero, suc, [], ◌∷◌, sym, ap, ◌∙◌, cond, ◌++◌, Option, Some, None, subst, append_assoc}
+use Rattle.std.specs.Prelude.{◌==◌, ℤ, pos, not, IfSome, MatchOption}
+use Rattle.std.proofs.lemmas.Bool.{and_parts, and_from, or_left, or_right, both_ways, false_from_ne_true, not_from_false}
+use Rattle.std.proofs.lemmas.Bool.Decides.{nat_tests}
+use Rattle.std.proofs.UnicodeAscii.{is_alphabetic_ascii}
+use Rattle.std.specs.List.{list_all}
+use Rattle.std.specs.Str.{chars, IsUtf8, IsAscii}
+use Rattle.std.proofs.lemmas.Str.{encodes-IsAscii, encodes-chars}
+use Rattle.std.specs.Option.{option_map, option_and_then, option_or}
+use Rattle.std.proofs.lemmas.List.Folds.{list_all-append}
+use Rattle.base_tables.specs.Column.{is_letter, letters_number, is_column_name, column_of_name}
+use Rattle.base_tables.specs.Word.{is_digit, starts_word, goes_on_word, digits_number, is_count, is_row_number}
+use Rattle.base_decimal.specs.Digits.{span, stops}
+use Rattle.base_decimal.proofs.Spans.{span_all, not_true, span_at, span_parts, stops_sooner}
 use Rattle.formula_grammar.specs.declared.CellMark.{CellMark}
+use Rattle.formula_lex.specs.Characters.{is_blank, goes_on_place, goes_on_name, Text}
+use Rattle.formula_lex.specs.laws.Lex.{is_sign, past, dollar_at, behind_dollar, with_name, line_at, column_at, row_at, with_row, with_column, corner_at, between, range_to, range_behind, cell_alone, behind_corner, spot_at}
 use Rattle.formula_lex.specs.declared.place.Line.{Line}
-use Rattle.formula_lex.specs.Characters.{Text, goes_on_place}
-use Rattle.formula_lex.specs.Lexicon.{IsSpan, IsLine, IsCell, IsRange, cells, columns, rows, row_of_name}
-use Rattle.formula_lex.specs.laws.Lex.{Reader, both, behind, mark_of, column_corners, row_corners, column_at, row_at, corner_at, two_at, cells_at, columns_at, rows_at, range_at, cell_at}
-use Rattle.formula_lex.proofs.Letters.{no_word_no_letter, no_word_no_digit, no_place_no_word}
-use Rattle.formula_lex.proofs.Readers.{Front, both_parted, both_joined, both_first_fails, both_second_fails, pair_parts, behind_read, behind_parts, ended_parts, ended_read, ended_fails}
-use Rattle.formula_lex.proofs.Lines.{column_read, column_parts, row_read, row_parts, row_no_letter, row_no_column, colon_no_row}
+use Rattle.formula_lex.specs.declared.place.Side.{Side}
+use Rattle.formula_lex.specs.declared.place.Spot.{Spot}
+use Rattle.formula_lex.specs.Lexicon.{dollar, row_of_name, IsLine, IsColumn, IsRow, IsPair, IsCell, IsSpan, IsRange, cells, columns, rows}
+use Rattle.formula_lex.proofs.Reading.{past_none, Front, if_each, if_or, if_map, if_then, if_cond, if_more, past_is}
+use Rattle.formula_lex.specs.declared.place.Side.TheVariants as side
+use Rattle.formula_lex.specs.declared.place.Spot.TheVariants as spot
 
-pub place_no_letter : (c : ℕ) → goes_on_place c ≡ false → is_letter c ≡ false
-place_no_letter c e = no_word_no_letter c (no_place_no_word c e)
+-- ---- characters
 
-pub place_no_digit : (c : ℕ) → goes_on_place c ≡ false → is_digit c ≡ false
-place_no_digit c e = no_word_no_digit c (no_place_no_word c e)
+letter_low : (c : ℕ) → is_letter c ≡ true → c < 128
+letter_low c e = grind (arith, nat_tests)
 
--- ---- corners and cells
+digit_low : (c : ℕ) → is_digit c ≡ true → c < 128
+digit_low c e = grind (arith, nat_tests)
 
-pub corner_read : (mark : CellMark) (s rest : Text) → IsCell mark s → stops is_digit rest ≡ true → corner_at (s ++ rest) ≡ Some (mark, rest)
-unfolding corner_at
-corner_read mark s rest is ends =
-    ap corner_at (ap (λ (x : Text). x ++ rest) is.parts ∙ pair_parts is.first [] is.second rest)
-    ∙ both_joined mark_of column_at row_at (is.first ++ (is.second ++ rest)) (is.second ++ rest) _ _ rest
-    (column_read mark.absolute_column mark.column is.first (is.second ++ rest) is.is_first (row_no_letter mark.absolute_row mark.row is.second rest is.is_second))
-    (row_read mark.absolute_row mark.row is.second rest is.is_second ends)
+digit_no_letter : (c : ℕ) → is_digit c ≡ true → is_letter c ≡ false
+digit_no_letter c e = grind (arith, nat_tests)
 
-pub corner_parts : (text : Text) (mark : CellMark) (rest : Text) → corner_at text ≡ Some (mark, rest) → Front (IsCell mark) text rest
-unfolding corner_at
-corner_parts text mark rest e =
-    let k = both_parted mark_of column_at row_at text mark rest e in
-    let h = k.2 in
-    let column = column_parts text k.0 h.between h.is_first in
-    let row = row_parts h.between k.1 rest h.is_second in
-    let front : Front (IsCell (mark_of k.0 k.1)) text rest = record {
-      spelled = column.spelled ++ row.spelled;
-      parts = column.parts ∙ ap (λ (x : Text). column.spelled ++ x) row.parts ∙ sym (pair_parts column.spelled [] row.spelled rest);
-      is = record { first = column.spelled; second = row.spelled; parts = refl; is_first = column.is; is_second = row.is };
-    } in
-    subst (λ (m : CellMark). Front (IsCell m) text rest) k.3 front
+place_no_dollar : (c : ℕ) → goes_on_place c ≡ false → (c == 36) ≡ false
+place_no_dollar c e = grind (arith, nat_tests)
 
-pub cell_read : (mark : CellMark) (s rest : Text) → IsCell mark s → stops goes_on_place rest ≡ true → cell_at (s ++ rest) ≡ Some (mark, rest)
-unfolding cell_at
-cell_read mark s rest is ends = ended_read corner_at (s ++ rest) mark rest (corner_read mark s rest is (stops_sooner is_digit goes_on_place place_no_digit rest ends)) ends
+place_no_digit : (c : ℕ) → goes_on_place c ≡ false → is_digit c ≡ false
+place_no_digit c e = grind (arith, nat_tests)
 
-pub cell_parts : (text : Text) (mark : CellMark) (rest : Text) → cell_at text ≡ Some (mark, rest) → Front (IsCell mark) text rest × (stops goes_on_place rest ≡ true)
-unfolding cell_at
-cell_parts text mark rest e = let k = ended_parts corner_at text mark rest e in (corner_parts text mark rest k.0, k.1)
+place_no_letter : (c : ℕ) → goes_on_place c ≡ false → is_letter c ≡ false
+place_no_letter c e = false_from_ne_true (is_letter c) (λ h. (let is = is_alphabetic_ascii c (letter_low c h) in grind (arith, nat_tests, is)))
 
--- ---- two with a colon between
+colon_ends : goes_on_place 58 ≡ false
+colon_ends = let is = is_alphabetic_ascii 58 (omega arith) in grind (arith, nat_tests, is)
 
-module _ {A C : Type 0} (pair : A → A → C) (reader : Reader A) (Is : A → Text → Type 0) (p : ℕ → Bool) where
-  two_read : ((a : A) (s rest : Text) → Is a s → stops p rest ≡ true → reader (s ++ rest) ≡ Some (a, rest)) → p 58 ≡ false → ((c : ℕ) → goes_on_place c ≡ false → p c ≡ false)
-      → (a b : A) (s rest : Text) → IsSpan (Is a) (Is b) s → stops goes_on_place rest ≡ true → two_at pair reader (s ++ rest) ≡ Some (pair a b, rest)
-  two_read read colon sooner a b s rest is ends =
-      let text : Text = is.first ++ (58 ∷ (is.second ++ rest)) in
-      ap (two_at pair reader) (ap (λ (x : Text). x ++ rest) is.parts ∙ pair_parts is.first (58 ∷ []) is.second rest)
-      ∙ ended_read (both pair reader (behind 58 reader)) text (pair a b) rest
-      (both_joined pair reader (behind 58 reader) text (58 ∷ (is.second ++ rest)) a b rest
-      (read a is.first (58 ∷ (is.second ++ rest)) is.is_first (ap not colon))
-      (behind_read 58 reader (is.second ++ rest) ∙ read b is.second rest is.is_second (stops_sooner p goes_on_place sooner rest ends)))
-      ends
+-- a character that begins a word is no sign and no digit
+pub start_is : (c : ℕ) → starts_word c ≡ true → (is_sign c ≡ false) × (is_digit c ≡ false) × (goes_on_word c ≡ true)
+start_is c e =
+    (false_from_ne_true (is_sign c) (λ h. (let low : c < 128 = grind (arith, nat_tests) in let is = is_alphabetic_ascii c low in grind (arith, nat_tests, is))),
+    false_from_ne_true (is_digit c) (λ h. (let is = is_alphabetic_ascii c (digit_low c h) in grind (arith, nat_tests, is))),
+    grind (arith, nat_tests))
 
-  record Two (text : Text) (c : C) (rest : Text) : Type 0 where
-    a : A
-    b : A
-    front : Front (IsSpan (Is a) (Is b)) text rest
-    ends : stops goes_on_place rest ≡ true
-    is : pair a b ≡ c
+-- characters of ASCII are their bytes
+all_low : (p : ℕ → Bool) → ((c : ℕ) → p c ≡ true → c < 128) → (s : Text) → list_all p s ≡ true → IsAscii s
+all_low p low [] e i = omega arith
+all_low p low (c ∷ s) e zero = low c (and_parts (p c) (list_all p s) e).0
+all_low p low (c ∷ s) e (suc i) = all_low p low s (and_parts (p c) (list_all p s) e).1 i
 
-  two_parts : ((text : Text) (a : A) (rest : Text) → reader text ≡ Some (a, rest) → Front (Is a) text rest) → (text : Text) (c : C) (rest : Text) → two_at pair reader text ≡ Some (c, rest) → Two text c rest
-  two_parts parts text c rest e =
-      let k = ended_parts (both pair reader (behind 58 reader)) text c rest e in
-      let m = both_parted pair reader (behind 58 reader) text c rest k.0 in
-      let h = m.2 in
-      let colon = behind_parts 58 reader h.between m.1 rest h.is_second in
-      let first = parts text m.0 h.between h.is_first in
-      let second = parts colon.0 m.1 rest colon.2 in
-      record {
-        a = m.0;
-        b = m.1;
-        front = record {
-          spelled = first.spelled ++ (58 ∷ second.spelled);
-          parts = first.parts ∙ ap (λ (x : Text). first.spelled ++ x) (colon.1 ∙ ap (λ (x : Text). 58 ∷ x) second.parts) ∙ sym (pair_parts first.spelled (58 ∷ []) second.spelled rest);
-          is = record { first = first.spelled; second = second.spelled; parts = refl; is_first = first.is; is_second = second.is };
-        };
-        ends = k.1;
-        is = m.3;
-      }
+run_bytes : (p : ℕ → Bool) → ((c : ℕ) → p c ≡ true → c < 128) → (bytes text : Text) → IsUtf8 bytes → chars bytes ≡ (span p text).0 → bytes ≡ (span p text).0
+run_bytes p low bytes text whole e =
+    sym (encodes-chars bytes whole) ∙ encodes-IsAscii (chars bytes) (all_low p low (chars bytes) (ap (list_all p) e ∙ span_all p text)) ∙ e
 
-  two_fails : (text : Text) → reader text ≡ None → two_at pair reader text ≡ None
-  two_fails text e = ended_fails (both pair reader (behind 58 reader)) text (both_first_fails pair reader (behind 58 reader) text e)
+pub letter_bytes : (bytes text : Text) → IsUtf8 bytes → chars bytes ≡ (span is_letter text).0 → bytes ≡ (span is_letter text).0
+letter_bytes = run_bytes is_letter letter_low
 
--- ---- ranges
+pub digit_bytes : (bytes text : Text) → IsUtf8 bytes → chars bytes ≡ (span is_digit text).0 → bytes ≡ (span is_digit text).0
+digit_bytes = run_bytes is_digit digit_low
+
+pub digits_all : (bytes text : Text) → IsUtf8 bytes → chars bytes ≡ (span is_digit text).0 → list_all is_digit bytes ≡ true
+digits_all bytes text whole e = ap (list_all is_digit) (digit_bytes bytes text whole e) ∙ span_all is_digit text
+
+pub ruleset digits = (digit_bytes, digits_all)
+
+-- ---- columns and rows
+
+-- before `!` stands the name of a sheet
+abbrev pub no_mark : ℕ → Bool
+no_mark c = not (c == 33)
+
+-- a name of lines is some characters that pass, none of which is a dollar or a mark
+record Names (line_of_name : Text → Option ℤ) (p : ℕ → Bool) : Type 0 where
+  all : (name : Text) (line : ℤ) → line_of_name name ≡ Some line → list_all p name ≡ true
+  some : line_of_name [] ≡ None
+  no_dollar : (c : ℕ) → p c ≡ true → (c == 36) ≡ false
+  unmarked : (c : ℕ) → p c ≡ true → no_mark c ≡ true
 
 abbrev LineIs : (Text → Option ℤ) → Line → Text → Type 0
 LineIs line_of_name l = IsLine line_of_name l.absolute l.number
 
-abbrev column_line : CellMark → Line
-column_line mark = record { absolute = mark.absolute_column; number = mark.column }
+all_more : (p q : ℕ → Bool) → ((c : ℕ) → p c ≡ true → q c ≡ true) → (s : Text) → list_all p s ≡ true → list_all q s ≡ true
+all_more p q h [] e = refl
+all_more p q h (c ∷ s) e = let k = and_parts (p c) (list_all p s) e in and_from _ _ (h c k.0) (all_more p q h s k.1)
 
-abbrev row_line : CellMark → Line
-row_line mark = record { absolute = mark.absolute_row; number = mark.row }
+dollar_parts : (text : Text) → text ≡ dollar (dollar_at text).0 ++ (dollar_at text).1
+dollar_parts text = go (past 36 text) (past_is 36 text)
+  where
+    go : (o : Option Text) → MatchOption o (stops (λ c. c == 36) text ≡ true) (λ z. text ≡ 36 ∷ z) → text ≡ dollar (behind_dollar text o).0 ++ (behind_dollar text o).1
+    go None e = refl
+    go (Some z) e = e
 
-abbrev Found : Type 0
-Found = Option ((CellMark × CellMark) × Text)
+dollar_none : (text : Text) → stops (λ c. c == 36) text ≡ true → dollar_at text ≡ (false, text)
+dollar_none text e = ap (behind_dollar text) (past_none 36 text e)
 
-cells_read : (a b : CellMark) (s rest : Text) → IsSpan (IsCell a) (IsCell b) s → stops goes_on_place rest ≡ true → cells_at (s ++ rest) ≡ Some ((a, b), rest)
-unfolding cells_at
-cells_read = two_read (λ a b. (a, b)) corner_at IsCell is_digit corner_read refl place_no_digit
+line_sound : (line_of_name : Text → Option ℤ) (p : ℕ → Bool) (text : Text) → IfSome (line_at line_of_name p text) (λ r. Front (LineIs line_of_name r.0) text r.1)
+unfolding line_at
+line_sound line_of_name p text =
+    let d = dollar_at text in
+    let s = span p d.1 in
+    if_map (λ (r : Line × Text). Front (LineIs line_of_name r.0) text r.1) (λ n. (record { absolute = d.0; number = n }, s.1)) (line_of_name s.0)
+    (if_each (λ n. Front (IsLine line_of_name d.0 n) text s.1) (line_of_name s.0) (λ n e. record {
+      spelled = dollar d.0 ++ s.0;
+      parts = dollar_parts text ∙ ap (λ (x : Text). dollar d.0 ++ x) (span_parts p d.1) ∙ sym (append_assoc (dollar d.0) s.0 s.1);
+      is = record { name = s.0; parts = refl; named = e };
+    }))
 
-columns_read : (a b : Line) (s rest : Text) → IsSpan (LineIs column_of_name a) (LineIs column_of_name b) s → stops goes_on_place rest ≡ true → columns_at (s ++ rest) ≡ Some (column_corners a b, rest)
-unfolding columns_at
-columns_read = two_read column_corners column_at (LineIs column_of_name) is_letter (λ a. column_read a.absolute a.number) refl place_no_letter
+module _ (line_of_name : Text → Option ℤ) (p : ℕ → Bool) (names : Names line_of_name p) where
+  -- the name, and that it begins with no character that a name can't
+  name_stops : (q : ℕ → Bool) → ((c : ℕ) → p c ≡ true → q c ≡ false) → (name : Text) (line : ℤ) (rest : Text) → line_of_name name ≡ Some line → stops q (name ++ rest) ≡ true
+  name_stops q h [] line rest e = absurd (let f = sym names.some ∙ e in cc)
+  name_stops q h (c ∷ name) line rest e = ap not (h c (and_parts (p c) (list_all p name) (names.all (c ∷ name) line e)).0)
 
-rows_read : (a b : Line) (s rest : Text) → IsSpan (LineIs row_of_name a) (LineIs row_of_name b) s → stops goes_on_place rest ≡ true → rows_at (s ++ rest) ≡ Some (row_corners a b, rest)
-unfolding rows_at
-rows_read = two_read row_corners row_at (LineIs row_of_name) is_digit (λ a. row_read a.absolute a.number) refl place_no_digit
+  line_dollar : (l : Line) (s rest : Text) → (is : LineIs line_of_name l s) → dollar_at (s ++ rest) ≡ (l.absolute, is.name ++ rest)
+  line_dollar l s rest is = ap dollar_at (ap (λ (x : Text). x ++ rest) is.parts ∙ append_assoc (dollar l.absolute) is.name rest) ∙ go l.absolute
+    where
+      go : (b : Bool) → dollar_at (dollar b ++ (is.name ++ rest)) ≡ (b, is.name ++ rest)
+      go true = refl
+      go false = dollar_none (is.name ++ rest) (name_stops (λ c. c == 36) names.no_dollar is.name l.number rest is.named)
 
--- where two columns stand, no cell does
-columns_no_corner : (a b : Line) (s rest : Text) → IsSpan (LineIs column_of_name a) (LineIs column_of_name b) s → corner_at (s ++ rest) ≡ None
+  line_read : (l : Line) (s rest : Text) → LineIs line_of_name l s → stops p rest ≡ true → line_at line_of_name p (s ++ rest) ≡ Some (l, rest)
+  unfolding line_at
+  line_read l s rest is ends = rw (line_dollar l s rest is, span_at p is.name rest (names.all is.name l.number is.named) ends, is.named)
+
+  line_stops : (q : ℕ → Bool) → q 36 ≡ false → ((c : ℕ) → p c ≡ true → q c ≡ false) → (l : Line) (s rest : Text) → LineIs line_of_name l s → stops q (s ++ rest) ≡ true
+  line_stops q d h l s rest is = ap (stops q) (ap (λ (x : Text). x ++ rest) is.parts ∙ append_assoc (dollar l.absolute) is.name rest) ∙ go l.absolute
+    where
+      go : (b : Bool) → stops q (dollar b ++ (is.name ++ rest)) ≡ true
+      go true = ap not d
+      go false = name_stops q h is.name l.number rest is.named
+
+  line_unmarked : (l : Line) (s : Text) → LineIs line_of_name l s → list_all no_mark s ≡ true
+  line_unmarked l s is =
+      ap (list_all no_mark) is.parts ∙ list_all-append no_mark (dollar l.absolute) is.name
+      ∙ and_from _ _ (go l.absolute) (all_more p no_mark names.unmarked is.name (names.all is.name l.number is.named))
+    where
+      go : (b : Bool) → list_all no_mark (dollar b) ≡ true
+      go true = refl
+      go false = refl
+
+if_name : (b : Bool) (value line : ℤ) → cond b (Some value) None ≡ Some line → b ≡ true
+if_name true value line e = refl
+if_name false value line e = absurd cc
+
+columns_named : Names column_of_name is_letter
+unfolding column_of_name is_column_name
+columns_named = record {
+  all = λ name line e. (and_parts _ _ (if_name (is_column_name name) (pos (letters_number name)) line e)).0;
+  some = refl;
+  no_dollar = λ c e. grind (arith, nat_tests);
+  unmarked = λ c e. grind (arith, nat_tests);
+}
+
+rows_named : Names row_of_name is_digit
+unfolding is_count
+rows_named = record {
+  all = λ name line e. (and_parts _ _ (if_name (is_row_number name) (pos (digits_number name)) line e)).0;
+  some = refl;
+  no_dollar = λ c e. grind (arith, nat_tests);
+  unmarked = λ c e. grind (arith, nat_tests);
+}
+
+row_no_letter : (l : Line) (s rest : Text) → LineIs row_of_name l s → stops is_letter (s ++ rest) ≡ true
+row_no_letter = line_stops row_of_name is_digit rows_named is_letter refl digit_no_letter
+
+-- where neither stands behind the dollar
+no_column : (text : Text) (d : Bool) (behind : Text) → dollar_at text ≡ (d, behind) → stops is_letter behind ≡ true → column_at text ≡ None
+unfolding line_at column_of_name is_column_name
+no_column text d behind e f = rw (e, span_at is_letter [] behind refl f)
+
+no_row : (text : Text) → stops (λ c. c == 36) text ≡ true → stops is_digit text ≡ true → row_at text ≡ None
+unfolding line_at is_count
+no_row text e f = rw (dollar_none text e, span_at is_digit [] text refl f)
+
+-- ---- sides
+
+abbrev column_of : CellMark → Line
+column_of mark = record { absolute = mark.absolute_column; number = mark.column }
+
+abbrev row_of : CellMark → Line
+row_of mark = record { absolute = mark.absolute_row; number = mark.row }
+
+abbrev IsSide : Side → Text → Type 0
+IsSide (side.Cell mark) = IsCell mark
+IsSide (side.Column l) = LineIs column_of_name l
+IsSide (side.Row l) = LineIs row_of_name l
+
+-- a text of two parts before a rest
+pair_parts : (first middle second rest : Text) → (first ++ (middle ++ second)) ++ rest ≡ first ++ (middle ++ (second ++ rest))
+pair_parts first middle second rest = append_assoc first (middle ++ second) rest ∙ ap (λ (x : Text). first ++ x) (append_assoc middle second rest)
+
+corner_sound : (text : Text) → IfSome (corner_at text) (λ r. Front (IsSide r.0) text r.1)
 unfolding corner_at
-columns_no_corner a b s rest is =
-    ap corner_at (ap (λ (x : Text). x ++ rest) is.parts ∙ pair_parts is.first (58 ∷ []) is.second rest)
-    ∙ both_second_fails mark_of column_at row_at (is.first ++ (58 ∷ (is.second ++ rest))) (58 ∷ (is.second ++ rest)) a
-    (column_read a.absolute a.number is.first (58 ∷ (is.second ++ rest)) is.is_first refl) (colon_no_row (is.second ++ rest))
+corner_sound text = go (column_at text) (line_sound column_of_name is_letter text)
+  where
+    row : (column : Line) (rest : Text) → Front (LineIs column_of_name column) text rest → (o : Option (Line × Text)) → IfSome o (λ r. Front (LineIs row_of_name r.0) rest r.1)
+        → IfSome (with_row column rest o) (λ r. Front (IsSide r.0) text r.1)
+    row column rest f None g = f
+    row column rest f (Some r) g = record {
+      spelled = f.spelled ++ g.spelled;
+      parts = f.parts ∙ ap (λ (x : Text). f.spelled ++ x) g.parts ∙ sym (append_assoc f.spelled g.spelled r.1);
+      is = record { first = f.spelled; second = g.spelled; parts = refl; is_first = f.is; is_second = g.is };
+    }
 
-rows_no_column : (a b : Line) (s rest : Text) → IsSpan (LineIs row_of_name a) (LineIs row_of_name b) s → column_at (s ++ rest) ≡ None
-rows_no_column a b s rest is =
-    ap column_at (ap (λ (x : Text). x ++ rest) is.parts ∙ pair_parts is.first (58 ∷ []) is.second rest)
-    ∙ row_no_column a.absolute a.number is.first (58 ∷ (is.second ++ rest)) is.is_first
+    go : (o : Option (Line × Text)) → IfSome o (λ r. Front (LineIs column_of_name r.0) text r.1) → IfSome (with_column text o) (λ r. Front (IsSide r.0) text r.1)
+    go None f = if_map (λ r. Front (IsSide r.0) text r.1) (λ r. (side.Row r.0, r.1)) (row_at text) (line_sound row_of_name is_digit text)
+    go (Some c) f = row c.0 c.1 f (row_at c.1) (line_sound row_of_name is_digit c.1)
 
-no_corner_no_cells : (text : Text) → corner_at text ≡ None → cells_at text ≡ None
-unfolding cells_at
-no_corner_no_cells = two_fails (λ a b. (a, b)) corner_at IsCell is_digit
-
-no_column_no_columns : (text : Text) → column_at text ≡ None → columns_at text ≡ None
-unfolding columns_at
-no_column_no_columns = two_fails column_corners column_at (LineIs column_of_name) is_letter
-
-no_column_no_corner : (text : Text) → column_at text ≡ None → corner_at text ≡ None
+corner_read : (x : Side) (s rest : Text) → IsSide x s → stops goes_on_place rest ≡ true → corner_at (s ++ rest) ≡ Some (x, rest)
 unfolding corner_at
-no_column_no_corner text e = both_first_fails mark_of column_at row_at text e
+corner_read (side.Cell mark) s rest is ends =
+    rw (is.parts, append_assoc is.first is.second rest,
+    line_read column_of_name is_letter columns_named (column_of mark) is.first (is.second ++ rest) is.is_first (row_no_letter (row_of mark) is.second rest is.is_second),
+    line_read row_of_name is_digit rows_named (row_of mark) is.second rest is.is_second (stops_sooner is_digit goes_on_place place_no_digit rest ends))
+corner_read (side.Column l) s rest is ends =
+    rw (line_read column_of_name is_letter columns_named l s rest is (stops_sooner is_letter goes_on_place place_no_letter rest ends),
+    no_row rest (stops_sooner (λ c. c == 36) goes_on_place place_no_dollar rest ends) (stops_sooner is_digit goes_on_place place_no_digit rest ends))
+corner_read (side.Row l) s rest is ends =
+    let letter = name_stops row_of_name is_digit rows_named is_letter digit_no_letter is.name l.number rest is.named in
+    rw (no_column (s ++ rest) l.absolute (is.name ++ rest) (line_dollar row_of_name is_digit rows_named l s rest is) letter,
+    line_read row_of_name is_digit rows_named l s rest is (stops_sooner is_digit goes_on_place place_no_digit rest ends))
 
-found : CellMark → CellMark → Text → Found
-found a b rest = Some ((a, b), rest)
+-- ---- ranges and cells
 
-pub range_read : (a b : CellMark) (s rest : Text) → IsRange a b s → stops goes_on_place rest ≡ true → range_at (s ++ rest) ≡ Some ((a, b), rest)
-unfolding range_at
-range_read a b s rest (cells is) ends = ap (λ (o : Found). option_or o (option_or (columns_at (s ++ rest)) (rows_at (s ++ rest)))) (cells_read a b s rest is ends)
-range_read a b s rest (columns is on_first on_last) ends =
-    ap (λ (o : Found). option_or o (option_or (columns_at (s ++ rest)) (rows_at (s ++ rest)))) (no_corner_no_cells (s ++ rest) (columns_no_corner (column_line a) (column_line b) s rest is))
-    ∙ ap (λ (o : Found). option_or o (rows_at (s ++ rest))) (columns_read (column_line a) (column_line b) s rest is ends)
-    ∙ ap (λ (c : CellMark). let p : (CellMark × CellMark) × Text = ((c, record b { absolute_row = true; row = pos 1048576 }), rest) in Some p) (sym on_first)
-    ∙ ap (λ (c : CellMark). let p : (CellMark × CellMark) × Text = ((a, c), rest) in Some p) (sym on_last)
-range_read a b s rest (rows is on_first on_last) ends =
-    let no_column = rows_no_column (row_line a) (row_line b) s rest is in
-    ap (λ (o : Found). option_or o (option_or (columns_at (s ++ rest)) (rows_at (s ++ rest)))) (no_corner_no_cells (s ++ rest) (no_column_no_corner (s ++ rest) no_column))
-    ∙ ap (λ (o : Found). option_or o (rows_at (s ++ rest))) (no_column_no_columns (s ++ rest) no_column)
-    ∙ rows_read (row_line a) (row_line b) s rest is ends
-    ∙ ap (λ (c : CellMark). let p : (CellMark × CellMark) × Text = ((c, record b { absolute_column = true; column = pos 16384 }), rest) in Some p) (sym on_first)
-    ∙ ap (λ (c : CellMark). let p : (CellMark × CellMark) × Text = ((a, c), rest) in Some p) (sym on_last)
+abbrev pub IsRangeSpot : Spot → Text → Type 0
+IsRangeSpot (spot.Cell mark) s = ⊥
+IsRangeSpot (spot.Range a b) s = IsRange a b s
 
-pub record FrontRange (text : Text) (p : CellMark × CellMark) (rest : Text) : Type 0 where
-  pub front : Front (IsRange p.0 p.1) text rest
+abbrev pub IsSpot : Spot → Text → Type 0
+IsSpot (spot.Cell mark) s = IsCell mark s
+IsSpot (spot.Range a b) s = IsRange a b s
+
+-- what stands at the front, where a place may end
+pub record Placed (Is : Text → Type 0) (text rest : Text) : Type 0 where
+  pub spelled : Text
+  pub parts : text ≡ spelled ++ rest
+  pub is : Is spelled
   pub ends : stops goes_on_place rest ≡ true
 
-front_map : {Is Other : Text → Type 0} {text rest : Text} → ((s : Text) → Is s → Other s) → Front Is text rest → Front Other text rest
-front_map h f = record { spelled = f.spelled; parts = f.parts; is = h f.spelled f.is }
+between_sound : (a b : Side) (s t : Text) → IsSide a s → IsSide b t → IfSome (between a b) (λ x. IsRangeSpot x (s ++ (58 ∷ t)))
+between_sound (side.Cell a) (side.Cell b) s t f g = cells (record { first = s; second = t; parts = refl; is_first = f; is_second = g })
+between_sound (side.Column a) (side.Column b) s t f g = columns (record { first = s; second = t; parts = refl; is_first = f; is_second = g }) refl refl
+between_sound (side.Row a) (side.Row b) s t f g = rows (record { first = s; second = t; parts = refl; is_first = f; is_second = g }) refl refl
+between_sound _ _ s t f g = tt
 
-cells_parts : (text : Text) (p : CellMark × CellMark) (rest : Text) → cells_at text ≡ Some (p, rest) → FrontRange text p rest
-unfolding cells_at
-cells_parts text p rest e =
-    let k = two_parts (λ a b. (a, b)) corner_at IsCell is_digit corner_parts text p rest e in
-    let range : FrontRange text (k.a, k.b) rest = record { front = front_map (λ s is. cells is) k.front; ends = k.ends } in
-    subst (λ (q : CellMark × CellMark). FrontRange text q rest) k.is range
+pub range_sound : (a : Side) (s text : Text) → IsSide a s → IfSome (range_behind a text) (λ r. Placed (IsRangeSpot r.0) (s ++ text) r.1)
+unfolding range_behind
+range_sound a s text is = colon (past 58 text) (past_is 58 text)
+  where
+    to : (z : Text) → text ≡ 58 ∷ z → (b : Side) (rest : Text) → Front (IsSide b) z rest → IfSome (range_to a (b, rest)) (λ r. Placed (IsRangeSpot r.0) (s ++ text) r.1)
+    to z e b rest f = if_cond (λ (r : Spot × Text). Placed (IsRangeSpot r.0) (s ++ text) r.1) (stops goes_on_place rest) _ None
+        (λ ends. if_map (λ (r : Spot × Text). Placed (IsRangeSpot r.0) (s ++ text) r.1) (λ x. (x, rest)) (between a b)
+        (if_more (λ x. Placed (IsRangeSpot x) (s ++ text) rest) (λ x. IsRangeSpot x (s ++ (58 ∷ f.spelled))) (λ x range. record {
+          spelled = s ++ (58 ∷ f.spelled);
+          parts = ap (λ (x : Text). s ++ x) (e ∙ ap (λ (x : Text). 58 ∷ x) f.parts) ∙ sym (append_assoc s (58 ∷ f.spelled) rest);
+          is = range;
+          ends = ends;
+        }) (between a b) (between_sound a b s f.spelled is f.is)))
+        (λ h. tt)
 
-columns_parts : (text : Text) (p : CellMark × CellMark) (rest : Text) → columns_at text ≡ Some (p, rest) → FrontRange text p rest
-unfolding columns_at
-columns_parts text p rest e =
-    let k = two_parts column_corners column_at (LineIs column_of_name) is_letter column_parts text p rest e in
-    let range : FrontRange text (column_corners k.a k.b) rest = record { front = front_map (λ s is. columns is refl refl) k.front; ends = k.ends } in
-    subst (λ (q : CellMark × CellMark). FrontRange text q rest) k.is range
+    colon : (o : Option Text) → MatchOption o (stops (λ c. c == 58) text ≡ true) (λ z. text ≡ 58 ∷ z)
+        → IfSome (option_and_then (range_to a) (option_and_then corner_at o)) (λ r. Placed (IsRangeSpot r.0) (s ++ text) r.1)
+    colon None e = tt
+    colon (Some z) e = if_then (λ (r : Spot × Text). Placed (IsRangeSpot r.0) (s ++ text) r.1) (range_to a) (corner_at z)
+        (if_more (λ p. IfSome (range_to a p) (λ r. Placed (IsRangeSpot r.0) (s ++ text) r.1)) (λ p. Front (IsSide p.0) z p.1) (λ p f. to z e p.0 p.1 f) (corner_at z) (corner_sound z))
 
-rows_parts : (text : Text) (p : CellMark × CellMark) (rest : Text) → rows_at text ≡ Some (p, rest) → FrontRange text p rest
-unfolding rows_at
-rows_parts text p rest e =
-    let k = two_parts row_corners row_at (LineIs row_of_name) is_digit row_parts text p rest e in
-    let range : FrontRange text (row_corners k.a k.b) rest = record { front = front_map (λ s is. rows is refl refl) k.front; ends = k.ends } in
-    subst (λ (q : CellMark × CellMark). FrontRange text q rest) k.is range
+range_placed : (text : Text) (r : Spot × Text) → Placed (IsRangeSpot r.0) text r.1 → Placed (IsSpot r.0) text r.1
+range_placed text (spot.Cell mark, rest) f = absurd f.is
+range_placed text (spot.Range a b, rest) f = f
 
-or_some : {A : Type 0} (o other : Option A) (y : A) → option_or o other ≡ Some y → (P : Type 0) → (o ≡ Some y → P) → (other ≡ Some y → P) → P
-or_some None other y e P f g = g e
-or_some (Some x) other y e P f g = f e
+alone_sound : (a : Side) (s text : Text) → IsSide a s → IfSome (cell_alone a text) (λ r. Placed (IsSpot r.0) (s ++ text) r.1)
+alone_sound (side.Cell mark) s text is =
+    if_cond (λ (r : Spot × Text). Placed (IsSpot r.0) (s ++ text) r.1) (stops goes_on_place text) (Some (spot.Cell mark, text)) None (λ ends. record { spelled = s; parts = refl; is = is; ends = ends }) (λ h. tt)
+alone_sound _ s text is = tt
 
-pub range_parts : (text : Text) (p : CellMark × CellMark) (rest : Text) → range_at text ≡ Some (p, rest) → FrontRange text p rest
-unfolding range_at
-range_parts text p rest e =
-    or_some (cells_at text) _ (p, rest) e (FrontRange text p rest) (cells_parts text p rest)
-    (λ f. or_some (columns_at text) _ (p, rest) f (FrontRange text p rest) (columns_parts text p rest) (rows_parts text p rest))
+pub spot_sound : (text : Text) → IfSome (spot_at text) (λ r. Placed (IsSpot r.0) text r.1)
+unfolding spot_at
+spot_sound text =
+    if_then (λ (r : Spot × Text). Placed (IsSpot r.0) text r.1) behind_corner (corner_at text)
+    (if_more (λ p. IfSome (behind_corner p) (λ r. Placed (IsSpot r.0) text r.1)) (λ p. Front (IsSide p.0) text p.1)
+    (λ p f. subst (λ (x : Text). IfSome (behind_corner p) (λ r. Placed (IsSpot r.0) x r.1)) (sym f.parts)
+    (if_or (λ (r : Spot × Text). Placed (IsSpot r.0) (f.spelled ++ p.1) r.1) (range_behind p.0 p.1) (cell_alone p.0 p.1)
+    (if_more (λ r. Placed (IsSpot r.0) (f.spelled ++ p.1) r.1) (λ r. Placed (IsRangeSpot r.0) (f.spelled ++ p.1) r.1) (range_placed (f.spelled ++ p.1)) (range_behind p.0 p.1) (range_sound p.0 f.spelled p.1 f.is))
+    (alone_sound p.0 f.spelled p.1 f.is)))
+    (corner_at text) (corner_sound text))
+
+span_read : (a b : Side) (x : Spot) (s rest : Text) → between a b ≡ Some x → IsSpan (IsSide a) (IsSide b) s → stops goes_on_place rest ≡ true → spot_at (s ++ rest) ≡ Some (x, rest)
+unfolding spot_at range_behind
+span_read a b x s rest e is ends =
+    rw (is.parts, pair_parts is.first (58 ∷ []) is.second rest, corner_read a is.first (58 ∷ (is.second ++ rest)) is.is_first (ap not colon_ends), corner_read b is.second rest is.is_second ends, ends, e)
+
+pub range_read : (a b : CellMark) (s rest : Text) → IsRange a b s → stops goes_on_place rest ≡ true → spot_at (s ++ rest) ≡ Some (spot.Range a b, rest)
+range_read a b s rest (cells is) ends = span_read (side.Cell a) (side.Cell b) (spot.Range a b) s rest refl is ends
+range_read a b s rest (columns is on_first on_last) ends =
+    span_read (side.Column (column_of a)) (side.Column (column_of b)) (spot.Range a b) s rest (rw (on_first, on_last)) is ends
+range_read a b s rest (rows is on_first on_last) ends =
+    span_read (side.Row (row_of a)) (side.Row (row_of b)) (spot.Range a b) s rest (rw (on_first, on_last)) is ends
+
+-- where a cell stands, it is read, or else a range
+pub cell_read : (mark : CellMark) (s rest : Text) → IsCell mark s → stops goes_on_place rest ≡ true → spot_at (s ++ rest) ≡ option_or (range_behind (side.Cell mark) rest) (Some (spot.Cell mark, rest))
+unfolding spot_at
+cell_read mark s rest is ends = rw (corner_read (side.Cell mark) s rest is ends, ends)
+
+-- ---- where none is read
+
+no_start : (text : Text) → stops (λ c. c == 36) text ≡ true → stops is_letter text ≡ true → stops is_digit text ≡ true → spot_at text ≡ None
+unfolding spot_at corner_at
+no_start text d l n = rw (no_column text false text (dollar_none text d) l, no_row text d n)
+
+pub no_spot : spot_at [] ≡ None
+no_spot = no_start [] refl refl refl
+
+sign_no_spot : (c : ℕ) (text : Text) → is_sign c ≡ true → spot_at (c ∷ text) ≡ None
+sign_no_spot c text e =
+    let d : (c == 36) ≡ false = grind (arith, nat_tests) in
+    let l : is_letter c ≡ false = grind (arith, nat_tests) in
+    let n : is_digit c ≡ false = grind (arith, nat_tests) in
+    no_start (c ∷ text) (ap not d) (ap not l) (ap not n)
+
+-- no place begins with a sign
+pub spot_starts : (q : ℕ → Bool) → ((c : ℕ) → q c ≡ true → is_sign c ≡ true) → (text : Text) (r : Spot × Text) → spot_at text ≡ Some r → stops q text ≡ true
+spot_starts q h [] r e = refl
+spot_starts q h (c ∷ text) r e = not_from_false (q c) (false_from_ne_true (q c) (λ f. (let x = sym (sign_no_spot c text (h c f)) ∙ e in absurd cc)))
+
+-- no cell begins with a digit
+pub cell_no_digit : (mark : CellMark) (s rest : Text) → IsCell mark s → stops is_digit (s ++ rest) ≡ true
+cell_no_digit mark s rest is =
+    ap (stops is_digit) (ap (λ (x : Text). x ++ rest) is.parts ∙ append_assoc is.first is.second rest)
+    ∙ line_stops column_of_name is_letter columns_named is_digit refl (λ c h. grind (arith, nat_tests)) (column_of mark) is.first (is.second ++ rest) is.is_first
+
+-- ---- no place stands before a mark that follows a word
+
+abbrev Unmarked : Text → Type 0
+Unmarked s = list_all no_mark s ≡ true
+
+pair_unmarked : (First Second : Text → Type 0) (middle : Text) → ((s : Text) → First s → Unmarked s) → Unmarked middle → ((s : Text) → Second s → Unmarked s) → (s : Text) → IsPair First middle Second s → Unmarked s
+pair_unmarked First Second middle f g h s is =
+    ap (list_all no_mark) is.parts ∙ list_all-append no_mark is.first (middle ++ is.second)
+    ∙ and_from _ _ (f is.first is.is_first) (list_all-append no_mark middle is.second ∙ and_from _ _ g (h is.second is.is_second))
+
+side_unmarked : (x : Side) (s : Text) → IsSide x s → Unmarked s
+side_unmarked (side.Cell mark) =
+    pair_unmarked (IsColumn mark) (IsRow mark) [] (line_unmarked column_of_name is_letter columns_named (column_of mark)) refl (line_unmarked row_of_name is_digit rows_named (row_of mark))
+side_unmarked (side.Column l) = line_unmarked column_of_name is_letter columns_named l
+side_unmarked (side.Row l) = line_unmarked row_of_name is_digit rows_named l
+
+span_unmarked : (a b : Side) (s : Text) → IsSpan (IsSide a) (IsSide b) s → Unmarked s
+span_unmarked a b = pair_unmarked (IsSide a) (IsSide b) (58 ∷ []) (side_unmarked a) refl (side_unmarked b)
+
+spot_unmarked : (x : Spot) (s : Text) → IsSpot x s → Unmarked s
+spot_unmarked (spot.Cell mark) s is = side_unmarked (side.Cell mark) s is
+spot_unmarked (spot.Range a b) s (cells is) = span_unmarked (side.Cell a) (side.Cell b) s is
+spot_unmarked (spot.Range a b) s (columns is on_first on_last) = span_unmarked (side.Column (column_of a)) (side.Column (column_of b)) s is
+spot_unmarked (spot.Range a b) s (rows is on_first on_last) = span_unmarked (side.Row (row_of a)) (side.Row (row_of b)) s is
+
+-- what has no mark in it ends inside the word or before the mark, where no place ends
+unmarked_goes_on : (word tail s rest : Text) → list_all goes_on_word word ≡ true → list_all no_mark s ≡ true → word ++ (33 ∷ tail) ≡ s ++ rest → stops goes_on_place rest ≡ true → ⊥
+unmarked_goes_on [] tail [] rest w n e ends = both_ways _ (not_true _ (ap (stops goes_on_place) e ∙ ends)) (or_right (goes_on_word 33) _ refl)
+unmarked_goes_on (c ∷ word) tail [] rest w n e ends =
+    both_ways _ (not_true _ (ap (stops goes_on_place) e ∙ ends)) (or_left (goes_on_word c) _ (and_parts (goes_on_word c) (list_all goes_on_word word) w).0)
+unmarked_goes_on [] tail (d ∷ s) rest w n e ends =
+    let is : 33 ≡ d = cc in
+    let h : no_mark 33 ≡ true = ap no_mark is ∙ (and_parts (no_mark d) (list_all no_mark s) n).0 in
+    absurd cc
+unmarked_goes_on (c ∷ word) tail (d ∷ s) rest w n e ends =
+    unmarked_goes_on word tail s rest (and_parts (goes_on_word c) (list_all goes_on_word word) w).1 (and_parts (no_mark d) (list_all no_mark s) n).1 (cc) ends
+
+pub word_no_spot : (word tail : Text) → list_all goes_on_word word ≡ true → spot_at (word ++ (33 ∷ tail)) ≡ None
+word_no_spot word tail w = go (spot_at (word ++ (33 ∷ tail))) (spot_sound (word ++ (33 ∷ tail)))
+  where
+    go : (o : Option (Spot × Text)) → IfSome o (λ r. Placed (IsSpot r.0) (word ++ (33 ∷ tail)) r.1) → o ≡ None
+    go None f = refl
+    go (Some r) f = absurd (unmarked_goes_on word tail f.spelled r.1 w (spot_unmarked r.0 f.spelled f.is) f.parts f.ends)

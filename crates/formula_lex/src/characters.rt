@@ -1,7 +1,5 @@
-ghost use Rattle.std.specs.Prelude.{◌≡◌, ◌≤◌, ◌==◌, length, true};
+ghost use Rattle.std.specs.Prelude.{◌≡◌, ◌<◌, ◌==◌, ◌++◌, length, IfSome, encode_utf8};
 ghost use Rattle.std.specs.Str.{chars};
-ghost use Rattle.std.specs.Option.{option_map};
-ghost use Rattle.std.specs.List.{list_all, prefix_len};
 ghost use Rattle.base_tables.specs.Column.{is_letter};
 ghost use Rattle.base_tables.specs.Word.{is_digit, starts_word, goes_on_word};
 ghost use Rattle.base_decimal.specs.Digits.{span, stops};
@@ -9,6 +7,7 @@ ghost use Rattle.formula_lex.specs.Characters.{is_blank, goes_on_place};
 ghost use Rattle.formula_lex.specs.laws.Lex as spec;
 ghost use Rattle.formula_lex.specs.laws.Lex.{dollar_at};
 ghost use Rattle.formula_lex.specs.laws.Classes.{passes};
+ghost use Rattle.formula_lex.specs.laws.Outcome.{Cuts, left, seen};
 
 /// The kinds of characters of which a run is taken.
 #[derive(Clone, Copy)]
@@ -60,78 +59,78 @@ fn passes(class: Class, c: char) -> bool
     }
 }
 
-fn run_len(class: Class, text: &[char]) -> usize
-    ensures value { result ≡ prefix_len (passes class) text.now }
-    ensures within { result ≤ length text.now }
+/// The first character, and what follows it.
+#[tactic(auto, using(crate::proofs::Reading::first_character))]
+pub fn first(text: &str) -> Option<(char, &str)>
+    ensures value { seen result ≡ spec.first (chars text.now) }
+    ensures bytes { IfSome result (λ p. text.now ≡ encode_utf8 p.0 ++ p.1.now) }
+    ensures shorter { IfSome result (λ p. length p.1.now < length text.now) }
 {
-    for (at, c) in text.iter().enumerate() {
-        if !passes(class, *c) {
-            return at;
+    let mut characters = text.chars();
+    let c = characters.next()?;
+    Some((c, characters.as_str()))
+}
+
+/// The length in bytes of the longest front of these characters.
+fn run_len(class: Class, text: &str) -> usize
+    ensures { Cuts text.now result (span (passes class) (chars text.now)) }
+{
+    let mut rest = text;
+    while let Some((c, more)) = first(rest) {
+        if !passes(class, c) {
+            return text.len() - rest.len();
         }
+        rest = more;
     }
     text.len()
 }
 
 /// The longest front of these characters, and what follows it.
-#[tactic(auto, using(crate::proofs::Runs::spans))]
-pub fn run(class: Class, text: &[char]) -> (&[char], &[char])
-    ensures all { list_all (passes class) result.0.now ≡ true }
-    ensures front { result.0.now ≡ (span (passes class) text.now).0 }
-    ensures rest { result.1.now ≡ (span (passes class) text.now).1 }
+pub fn run(class: Class, text: &str) -> (&str, &str)
+    ensures front { chars result.0.now ≡ (span (passes class) (chars text.now)).0 }
+    ensures rest { chars result.1.now ≡ (span (passes class) (chars text.now)).1 }
 {
-    let len = run_len(class, text);
-    text.split_at(len)
+    text.split_at(run_len(class, text))
 }
 
 /// Whether a dollar stands at the front, and what follows it.
-pub fn dollar(text: &[char]) -> (bool, &[char])
-    ensures mark { result.0 ≡ (dollar_at text.now).0 }
-    ensures rest { result.1.now ≡ (dollar_at text.now).1 }
+pub fn dollar(text: &str) -> (bool, &str)
+    ensures mark { result.0 ≡ (dollar_at (chars text.now)).0 }
+    ensures rest { chars result.1.now ≡ (dollar_at (chars text.now)).1 }
 {
-    match text {
-        ['$', rest @ ..] => (true, rest),
-        _ => (false, text),
+    match past('$', text) {
+        Some(rest) => (true, rest),
+        None => (false, text),
     }
 }
 
 /// Whether a cell or a range may end before the text.
-pub fn ends_place(text: &[char]) -> bool
-    ensures { result ≡ stops goes_on_place text.now }
+pub fn ends_place(text: &str) -> bool
+    ensures { result ≡ stops goes_on_place (chars text.now) }
 {
-    match text {
-        [c, ..] => !(goes_on_word(*c) || *c == '$' || *c == '!' || *c == '('),
-        [] => true,
+    match first(text) {
+        Some((c, _)) => !(goes_on_word(c) || c == '$' || c == '!' || c == '('),
+        None => true,
     }
 }
 
 /// Whether the text does not begin with the character.
-pub fn ends_before(mark: char, text: &[char]) -> bool
-    ensures { result ≡ stops (λ c. c == mark) text.now }
+pub fn ends_before(mark: char, text: &str) -> bool
+    ensures { result ≡ stops (λ c. c == mark) (chars text.now) }
 {
-    match text {
-        [c, ..] => *c != mark,
-        [] => true,
+    match first(text) {
+        Some((c, _)) => c != mark,
+        None => true,
     }
 }
 
 /// What follows this character, if it stands at the front.
-pub fn past(mark: char, text: &[char]) -> Option<&[char]>
-    ensures { option_map (λ rest. rest.now) result ≡ spec.past mark text.now }
+pub fn past(mark: char, text: &str) -> Option<&str>
+    ensures value { left result ≡ spec.past mark (chars text.now) }
+    ensures shorter { IfSome result (λ rest. length rest.now < length text.now) }
 {
-    match text {
-        [c, rest @ ..] if *c == mark => Some(rest),
+    match first(text) {
+        Some((c, rest)) if c == mark => Some(rest),
         _ => None,
     }
-}
-
-/// What follows these characters, if they stand at the front.
-pub fn strip<'a>(name: &str, text: &'a [char]) -> Option<&'a [char]>
-    ensures { option_map (λ rest. rest.now) result ≡ spec.strip (chars name.now) text.now }
-{
-    let mut name = name.chars();
-    let mut rest = text;
-    while let Some(c) = name.next() {
-        rest = past(c, rest)?;
-    }
-    Some(rest)
 }

@@ -1,17 +1,23 @@
 ghost use Rattle.std.specs.Prelude.{◌≡◌};
-ghost use Rattle.std.specs.Option.{option_map};
-ghost use Rattle.base_tables.specs.Error.{all_errors, error_text};
-ghost use Rattle.formula_lex.specs.laws.Lex.{own_error, english_error, error_at};
+ghost use Rattle.std.specs.Str.{chars};
+ghost use Rattle.base_tables.specs.Error.{error_text};
 ghost use Rattle.formula_lex.specs.laws.Lex as spec;
-ghost use Rattle.formula_lex.specs.laws.Outcome.{seen};
+ghost use Rattle.formula_lex.specs.laws.Outcome.{left, seen};
 
-use crate::characters::strip;
 use base_tables::{Error, Language};
 
+/// What follows the name, if it stands at the front of the text.
+#[tactic(auto, using(crate::proofs::Reading::stripped))]
+fn strip<'a>(name: &str, text: &'a str) -> Option<&'a str>
+    ensures { left result ≡ spec.strip (chars name.now) (chars text.now) }
+{
+    text.strip_prefix(name)
+}
+
 /// What follows the language's own text for a lost reference.
-#[tactic(auto, using(crate::proofs::ErrorCharacters::own_texts))]
-fn own_error(language: Language, text: &[char]) -> Option<&[char]>
-    ensures { option_map (λ rest. rest.now) result ≡ own_error language text.now }
+#[tactic(auto, using(crate::proofs::Reading::own_texts))]
+fn own_error(language: Language, text: &str) -> Option<&str>
+    ensures { left result ≡ spec.own_error language (chars text.now) }
 {
     match language {
         Language::De => strip("#BEZUG!", text),
@@ -21,16 +27,16 @@ fn own_error(language: Language, text: &[char]) -> Option<&[char]>
 }
 
 /// What follows the error's English text.
-#[tactic(auto, using(crate::proofs::ErrorCharacters::error_characters))]
-fn after_error(error: Error, text: &[char]) -> Option<&[char]>
-    ensures { option_map (λ rest. rest.now) result ≡ spec.strip (error_text error) text.now }
+#[tactic(auto, using(crate::proofs::Reading::error_characters))]
+fn after_error(error: Error, text: &str) -> Option<&str>
+    ensures { left result ≡ spec.strip (error_text error) (chars text.now) }
 {
     strip(error.text(), text)
 }
 
 /// The first of the errors whose English text stands at the front, and what follows that.
-fn english_error<'a>(errors: &[Error], text: &'a [char]) -> Option<(Error, &'a [char])>
-    ensures { seen result ≡ english_error errors.now text.now }
+fn english_error<'a>(errors: &[Error], text: &'a str) -> Option<(Error, &'a str)>
+    ensures { seen result ≡ spec.english_error errors.now (chars text.now) }
 {
     for error in errors {
         if let Some(rest) = after_error(*error, text) {
@@ -42,8 +48,8 @@ fn english_error<'a>(errors: &[Error], text: &'a [char]) -> Option<(Error, &'a [
 
 /// The error whose text stands at the front, and what follows it.
 #[tactic(auto, unfolding(crate::specs::laws::Lex::error_at))]
-pub fn error(language: Language, text: &[char]) -> Option<(Error, &[char])>
-    ensures { seen result ≡ error_at language text.now }
+pub fn error(language: Language, text: &str) -> Option<(Error, &str)>
+    ensures { seen result ≡ spec.error_at language (chars text.now) }
 {
     match own_error(language, text) {
         Some(rest) => Some((Error::Ref, rest)),

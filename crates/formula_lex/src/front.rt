@@ -1,12 +1,13 @@
-ghost use Rattle.std.specs.Prelude.{◌≡◌, ◌≤◌, ◌<◌, ◌∷◌, false, length, Some, IfSome, IfOk, encode_utf8_all};
-ghost use Rattle.std.specs.Option.{option_map};
-ghost use Rattle.base_tables.specs.Word.{reads_as_cell};
+ghost use Rattle.std.specs.Prelude.{◌≡◌, ◌<◌, ◌∷◌, false, length, Some, IfSome, IfOk, encode_utf8_all};
+ghost use Rattle.std.specs.Str.{chars};
 ghost use Rattle.base_decimal.specs.Numeral.{is_exponent_letter};
-ghost use Rattle.formula_lex.specs.laws.Lex as spec;
 ghost use Rattle.formula_lex.specs.Characters.{goes_on_number};
-ghost use Rattle.formula_lex.specs.laws.Outcome.{seen};
+ghost use Rattle.formula_lex.specs.laws.Lex as spec;
+ghost use Rattle.formula_lex.specs.laws.Outcome.{Cuts, seen};
 
-use crate::characters::{Class, ends_before, goes_on_word, is_digit, past, run, starts_word};
+use crate::characters::{
+    Class, ends_before, first, goes_on_word, is_digit, is_letter, past, run, starts_word,
+};
 use crate::errors::error;
 use crate::place::{Spot, place};
 use base_decimal::Decimal;
@@ -16,16 +17,12 @@ use base_values::Text;
 use formula_grammar::{Profile, Token};
 use std::alloc::{AllocError, Global};
 
-/// A text of these characters.
-#[tactic(auto, using(crate::proofs::Encoded::encoded_turn))]
-fn text_of(alloc: Global, characters: &[char]) -> Result<Text, AllocError>
-    ensures { IfOk result (λ text. text ≡ encode_utf8_all characters.now) }
+/// A copy of the text.
+#[tactic(auto, using(crate::proofs::Reading::encoded))]
+fn copy(alloc: Global, text: &str) -> Result<Text, AllocError>
+    ensures { IfOk result (λ copy. copy ≡ encode_utf8_all (chars text.now)) }
 {
-    let mut text = String::new(alloc);
-    for c in characters {
-        text.push(*c)?;
-    }
-    Ok(Text::new(text))
+    Ok(Text::new(String::from_str(alloc, text)?))
 }
 
 fn place_token(sheet: Option<Shared<Text>>, place: Spot) -> Token
@@ -38,45 +35,34 @@ fn place_token(sheet: Option<Shared<Text>>, place: Spot) -> Token
 }
 
 /// A range, or else a cell, at the front of the text, which stands on this sheet.
-#[tactic(auto, unfolding(crate::specs::laws::Lex::place_at))]
-fn place_on(sheet: Option<Shared<Text>>, text: &[char]) -> Option<(Token, &[char])>
-    ensures { seen result ≡ spec.place_at sheet text.now }
+fn place_on(sheet: Option<Shared<Text>>, text: &str) -> Option<(Token, &str)>
+    ensures { seen result ≡ spec.place_at sheet (chars text.now) }
 {
     let (found, rest) = place(text)?;
     Some((place_token(sheet, found), rest))
 }
 
 /// What stands on the sheet, behind its name.
-fn on_sheet(sheet: Shared<Text>, text: &[char]) -> Option<(Token, &[char])>
-    ensures { seen result ≡ spec.on_sheet sheet text.now }
+fn on_sheet(sheet: Shared<Text>, text: &str) -> Option<(Token, &str)>
+    ensures { seen result ≡ spec.on_sheet sheet (chars text.now) }
 {
     let (_, rest) = run(Class::Blank, past('!', text)?);
     place_on(Some(sheet), rest)
 }
 
-/// Whether a word, whose text is `name`, reads as a cell.
-#[tactic(auto, using(crate::proofs::Encoded::chars_back))]
-fn is_cell(word: &[char], name: &str) -> bool
-    requires { name.now ≡ encode_utf8_all word.now }
-    ensures { result ≡ reads_as_cell word.now }
-{
-    reads_as_cell(name)
-}
-
 /// A word, or what stands on the sheet that a word names.
 #[tactic(auto, unfolding(crate::specs::laws::Lex::word_at))]
-fn word(alloc: Global, text: &[char]) -> Result<Option<(Token, &[char])>, AllocError>
-    ensures { IfOk result (λ found. seen found ≡ spec.word_at text.now) }
+fn word(alloc: Global, text: &str) -> Result<Option<(Token, &str)>, AllocError>
+    ensures { IfOk result (λ found. seen found ≡ spec.word_at (chars text.now)) }
 {
     let (word, rest) = run(Class::Word, text);
-    let name = text_of(alloc, word)?;
     if ends_before('!', rest) {
-        return Ok(Some((Token::Word(name), rest)));
+        return Ok(Some((Token::Word(copy(alloc, word)?), rest)));
     }
-    if is_cell(word, name.as_str()) {
+    if reads_as_cell(word) {
         return Ok(None);
     }
-    Ok(on_sheet(Shared::new(alloc, name)?, rest))
+    Ok(on_sheet(Shared::new(alloc, copy(alloc, word)?)?, rest))
 }
 
 fn goes_on_number(locale: Locale, c: char) -> bool
@@ -85,62 +71,72 @@ fn goes_on_number(locale: Locale, c: char) -> bool
     goes_on_word(c) || c == locale.decimal_sign()
 }
 
-fn number_len(locale: Locale, text: &[char]) -> usize
-    ensures value { result ≡ spec.number_len locale false text.now }
-    ensures within { result ≤ length text.now }
+fn in_number(locale: Locale, after_letter: bool, c: char) -> bool
+    ensures { result ≡ spec.in_number locale after_letter c }
 {
+    (after_letter && (c == '+' || c == '-')) || goes_on_number(locale, c)
+}
+
+fn is_exponent_letter(c: char) -> bool
+    ensures { result ≡ is_exponent_letter c }
+{
+    c == 'e' || c == 'E'
+}
+
+/// The length in bytes of the longest front that may be a number.
+fn number_len(locale: Locale, text: &str) -> usize
+    ensures { Cuts text.now result (spec.number_span locale false (chars text.now)) }
+{
+    let mut rest = text;
     let mut after_letter = false;
-    for (at, c) in text.iter().enumerate() {
-        let sign = *c == '+' || *c == '-';
-        if !(goes_on_number(locale, *c) || (after_letter && sign)) {
-            return at;
+    while let Some((c, more)) = first(rest) {
+        if !in_number(locale, after_letter, c) {
+            return text.len() - rest.len();
         }
-        after_letter = *c == 'e' || *c == 'E';
+        after_letter = is_exponent_letter(c);
+        rest = more;
     }
     text.len()
 }
 
-#[tactic(auto, unfolding(crate::specs::laws::Lex::number_at))]
-fn number(
-    alloc: Global,
-    locale: Locale,
-    text: &[char],
-) -> Result<Option<(Token, &[char])>, AllocError>
-    ensures { IfOk result (λ found. seen found ≡ spec.number_at locale text.now) }
+/// The number at the front of the text. It takes no memory.
+#[tactic(auto, unfolding(crate::specs::laws::Lex::number_at), using(crate::proofs::Reading::encoded))]
+fn number(locale: Locale, text: &str) -> Option<(Token, &str)>
+    ensures { seen result ≡ spec.number_at locale (chars text.now) }
 {
     let (front, rest) = text.split_at(number_len(locale, text));
-    let front = text_of(alloc, front)?;
-    match Decimal::read(front.as_str(), locale) {
-        Some(number) => Ok(Some((Token::Number(number), rest))),
-        None => Ok(None),
-    }
+    let number = Decimal::read(front, locale)?;
+    Some((Token::Number(number), rest))
 }
 
 /// What stands next between quotes, and what follows: a character, where a doubled quote is one, or
 /// nothing at the closing quote. `None` where the text ends before it.
-fn next_quoted(quote: char, text: &[char]) -> Option<(Option<char>, &[char])>
-    ensures value { seen result ≡ spec.next_quoted quote text.now }
+#[tactic(auto, using(crate::proofs::Reading::quote_behind))]
+fn next_quoted(quote: char, text: &str) -> Option<(Option<char>, &str)>
+    ensures value { spec.quoted quote false (chars text.now) ≡ spec.goes_on quote (seen result) }
     ensures shorter { IfSome result (λ next. length next.1.now < length text.now) }
 {
-    match text {
-        [c, d, rest @ ..] if *c == quote && *d == quote => Some((Some(quote), rest)),
-        [c, rest @ ..] if *c == quote => Some((None, rest)),
-        [c, rest @ ..] => Some((Some(*c), rest)),
-        [] => None,
+    let (c, rest) = first(text)?;
+    if c != quote {
+        return Some((Some(c), rest));
+    }
+    match past(quote, rest) {
+        Some(rest) => Some((Some(quote), rest)),
+        None => Some((None, rest)),
     }
 }
 
 /// What stands before the closing quote, with doubled quotes as one, and what follows it.
-#[tactic(auto, using(crate::proofs::Quotes::quotes))]
-fn quoted(alloc: Global, quote: char, text: &[char]) -> Result<Option<(Text, &[char])>, AllocError>
-    ensures { IfOk result (λ found. seen found ≡ spec.quoted_text quote text.now) }
+#[tactic(auto, using(crate::proofs::Reading::quotes))]
+fn quoted(alloc: Global, quote: char, text: &str) -> Result<Option<(Text, &str)>, AllocError>
+    ensures { IfOk result (λ found. seen found ≡ spec.quoted_text quote (chars text.now)) }
 {
-    let mut name = String::new(alloc);
+    let mut value = String::new(alloc);
     let mut rest = text;
     while let Some((next, more)) = next_quoted(quote, rest) {
         match next {
-            Some(c) => name.push(c)?,
-            None => return Ok(Some((Text::new(name), more))),
+            Some(c) => value.push(c)?,
+            None => return Ok(Some((Text::new(value), more))),
         }
         rest = more;
     }
@@ -148,8 +144,8 @@ fn quoted(alloc: Global, quote: char, text: &[char]) -> Result<Option<(Text, &[c
 }
 
 #[tactic(auto, unfolding(crate::specs::laws::Lex::text_at))]
-fn text_token(alloc: Global, text: &[char]) -> Result<Option<(Token, &[char])>, AllocError>
-    ensures { IfOk result (λ found. seen found ≡ spec.text_at text.now) }
+fn text_token(alloc: Global, text: &str) -> Result<Option<(Token, &str)>, AllocError>
+    ensures { IfOk result (λ found. seen found ≡ spec.text_at (chars text.now)) }
 {
     match quoted(alloc, '"', text) {
         Ok(Some((value, rest))) => Ok(Some((Token::Text(value), rest))),
@@ -159,8 +155,8 @@ fn text_token(alloc: Global, text: &[char]) -> Result<Option<(Token, &[char])>, 
 }
 
 #[tactic(auto, unfolding(crate::specs::laws::Lex::quoted_sheet_at))]
-fn quoted_sheet(alloc: Global, text: &[char]) -> Result<Option<(Token, &[char])>, AllocError>
-    ensures { IfOk result (λ found. seen found ≡ spec.quoted_sheet_at text.now) }
+fn quoted_sheet(alloc: Global, text: &str) -> Result<Option<(Token, &str)>, AllocError>
+    ensures { IfOk result (λ found. seen found ≡ spec.quoted_sheet_at (chars text.now)) }
 {
     match quoted(alloc, '\'', text) {
         Ok(Some((sheet, rest))) if !sheet.as_str().is_empty() => {
@@ -172,8 +168,8 @@ fn quoted_sheet(alloc: Global, text: &[char]) -> Result<Option<(Token, &[char])>
 }
 
 /// An error's text, or a hash. The text begins with a hash, and `rest` follows that.
-fn error_or_hash<'a>(language: Language, text: &'a [char], rest: &'a [char]) -> (Token, &'a [char])
-    ensures { Some (result.0, result.1.now) ≡ spec.error_or_hash rest.now (spec.error_at language text.now) }
+fn error_or_hash<'a>(language: Language, text: &'a str, rest: &'a str) -> (Token, &'a str)
+    ensures { Some (result.0, chars result.1.now) ≡ spec.error_or_hash (chars rest.now) (spec.error_at language (chars text.now)) }
 {
     match error(language, text) {
         Some((error, rest)) => (Token::Error(error), rest),
@@ -182,23 +178,25 @@ fn error_or_hash<'a>(language: Language, text: &'a [char], rest: &'a [char]) -> 
 }
 
 /// Behind `<`.
-fn behind_less(text: &[char]) -> (Token, &[char])
-    ensures { Some (result.0, result.1.now) ≡ spec.behind_less text.now }
+fn behind_less(text: &str) -> (Token, &str)
+    ensures { Some (result.0, chars result.1.now) ≡ spec.behind_less (chars text.now) }
 {
-    match text {
-        ['>', rest @ ..] => (Token::NotEqual, rest),
-        ['=', rest @ ..] => (Token::LessOrEqual, rest),
-        _ => (Token::Less, text),
+    if let Some(rest) = past('>', text) {
+        return (Token::NotEqual, rest);
+    }
+    match past('=', text) {
+        Some(rest) => (Token::LessOrEqual, rest),
+        None => (Token::Less, text),
     }
 }
 
 /// Behind `>`.
-fn behind_greater(text: &[char]) -> (Token, &[char])
-    ensures { Some (result.0, result.1.now) ≡ spec.behind_greater text.now }
+fn behind_greater(text: &str) -> (Token, &str)
+    ensures { Some (result.0, chars result.1.now) ≡ spec.behind_greater (chars text.now) }
 {
-    match text {
-        ['=', rest @ ..] => (Token::GreaterOrEqual, rest),
-        _ => (Token::Greater, text),
+    match past('=', text) {
+        Some(rest) => (Token::GreaterOrEqual, rest),
+        None => (Token::Greater, text),
     }
 }
 
@@ -229,61 +227,73 @@ fn single(c: char) -> Option<Token>
     }
 }
 
-/// A sign that begins with this character, behind which the text stands.
-#[tactic(auto, unfolding(crate::specs::laws::Lex::sign_at))]
-fn sign(c: char, text: &[char]) -> Option<(Token, &[char])>
-    ensures { seen result ≡ spec.sign_at c text.now }
+/// Whether a character of ASCII begins no place, no number and no word.
+fn is_sign(c: char) -> bool
+    ensures { result ≡ spec.is_sign c }
+{
+    c.is_ascii() && !(is_letter(c) || is_digit(c) || c == '_' || c == '$')
+}
+
+/// The token that such a character begins. It stands at the front of `text`, and `rest` follows it.
+#[tactic(auto, unfolding(crate::specs::laws::Lex::by_sign))]
+fn by_sign<'a>(
+    alloc: Global,
+    language: Language,
+    c: char,
+    text: &'a str,
+    rest: &'a str,
+) -> Result<Option<(Token, &'a str)>, AllocError>
+    requires { chars text.now ≡ c ∷ chars rest.now }
+    ensures { IfOk result (λ found. seen found ≡ spec.by_sign language c (chars rest.now)) }
 {
     match c {
-        '<' => Some(behind_less(text)),
-        '>' => Some(behind_greater(text)),
+        '"' => text_token(alloc, rest),
+        '\'' => quoted_sheet(alloc, rest),
+        '#' => Ok(Some(error_or_hash(language, text, rest))),
+        '<' => Ok(Some(behind_less(rest))),
+        '>' => Ok(Some(behind_greater(rest))),
         _ => match single(c) {
-            Some(token) => Some((token, text)),
-            None => None,
+            Some(token) => Ok(Some((token, rest))),
+            None => Ok(None),
         },
     }
 }
 
-/// A token that is neither a cell nor a range. It begins with this character, behind which `rest` stands.
-#[tactic(auto, unfolding(crate::specs::laws::Lex::other_at))]
-fn other<'a>(
+/// The number or the word at the front of the text, which begins with this character.
+fn plain(
     alloc: Global,
-    profile: Profile,
+    locale: Locale,
     c: char,
-    text: &'a [char],
-    rest: &'a [char],
-) -> Result<Option<(Token, &'a [char])>, AllocError>
-    requires { text.now ≡ c ∷ rest.now }
-    ensures { IfOk result (λ found. seen found ≡ spec.other_at profile.locale profile.language c rest.now) }
+    text: &str,
+) -> Result<Option<(Token, &str)>, AllocError>
+    ensures { IfOk result (λ found. seen found ≡ spec.plain_at locale c (chars text.now)) }
 {
+    if is_digit(c) {
+        return Ok(number(locale, text));
+    }
     if starts_word(c) {
         return word(alloc, text);
     }
-    if is_digit(c) {
-        return number(alloc, profile.locale, text);
-    }
-    match c {
-        '"' => text_token(alloc, rest),
-        '\'' => quoted_sheet(alloc, rest),
-        '#' => Ok(Some(error_or_hash(profile.language, text, rest))),
-        _ => Ok(sign(c, rest)),
-    }
+    Ok(None)
 }
 
-/// The token at the front of the text, and what follows it.
+/// The token at the front of the text, and what follows it. The first character decides what is tried.
 #[tactic(auto, unfolding(crate::specs::laws::Lex::token_at))]
 pub fn token(
     alloc: Global,
     profile: Profile,
-    text: &[char],
-) -> Result<Option<(Token, &[char])>, AllocError>
-    ensures { IfOk result (λ found. seen found ≡ spec.token_at profile.locale profile.language text.now) }
+    text: &str,
+) -> Result<Option<(Token, &str)>, AllocError>
+    ensures { IfOk result (λ found. seen found ≡ spec.token_at profile.locale profile.language (chars text.now)) }
 {
-    let [c, rest @ ..] = text else {
+    let Some((c, rest)) = first(text) else {
         return Ok(None);
     };
+    if is_sign(c) {
+        return by_sign(alloc, profile.language, c, text, rest);
+    }
     match place_on(None, text) {
         Some(found) => Ok(Some(found)),
-        None => other(alloc, profile, *c, text, rest),
+        None => plain(alloc, profile.locale, c, text),
     }
 }

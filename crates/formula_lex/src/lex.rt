@@ -6,31 +6,32 @@ ghost use Rattle.base_tables.specs.declared.Language.{Language as AnyLanguage};
 ghost use Rattle.base_tables.specs.declared.Locale.{Locale as AnyLocale};
 ghost use Rattle.formula_grammar.specs.declared.Token.{Token as AnyToken};
 ghost use Rattle.formula_lex.specs.Lexicon.{IsTokens};
-ghost use Rattle.formula_lex.specs.laws.Lex.{tokens_of};
+ghost use Rattle.formula_lex.specs.laws.Lex.{tokens_of, behind_blanks};
+ghost use Rattle.formula_lex.specs.laws.Outcome.{left};
 
-use crate::characters::{Class, run};
+use crate::characters::{Class, first, run};
 use crate::front::token;
 use base_values::EditError;
 use formula_grammar::{Profile, Token};
 use std::alloc::{AllocError, Global};
 
-/// The characters of a text.
-fn characters_of(alloc: Global, text: &str) -> Result<Vec<char>, AllocError>
-    ensures { IfOk result (λ characters. characters.items ≡ chars text.now) }
+/// What stands behind the blanks at the front of the text, if anything does.
+#[tactic(auto, unfolding(crate::specs::laws::Lex::behind_blanks))]
+fn behind_blanks(text: &str) -> Option<&str>
+    ensures { left result ≡ behind_blanks (chars text.now) }
 {
-    text.chars().collect(alloc)
+    let (_, rest) = run(Class::Blank, text);
+    first(rest)?;
+    Some(rest)
 }
 
-fn tokens(alloc: Global, profile: Profile, text: &[char]) -> Result<Option<Vec<Token>>, AllocError>
-    ensures { IfOk result (λ found. option_map (λ tokens. tokens.items) found ≡ tokens_of profile.locale profile.language text.now) }
+#[tactic(auto, using(crate::proofs::Tokens::turns))]
+fn tokens(alloc: Global, profile: Profile, text: &str) -> Result<Option<Vec<Token>>, AllocError>
+    ensures { IfOk result (λ found. option_map (λ tokens. tokens.items) found ≡ tokens_of profile.locale profile.language (chars text.now)) }
 {
     let mut tokens = Vec::new(alloc);
     let mut rest = text;
-    for _turn in 0..text.len() + 1 {
-        let (_, more) = run(Class::Blank, rest);
-        if more.is_empty() {
-            return Ok(Some(tokens));
-        }
+    while let Some(more) = behind_blanks(rest) {
         match token(alloc, profile, more) {
             Ok(Some((token, more))) => {
                 tokens.push(token)?;
@@ -40,7 +41,7 @@ fn tokens(alloc: Global, profile: Profile, text: &[char]) -> Result<Option<Vec<T
             Err(error) => return Err(error),
         }
     }
-    Ok(None)
+    Ok(Some(tokens))
 }
 
 /// The one list of tokens that a formula's text is, in the locale and language of the profile.
@@ -48,6 +49,7 @@ fn tokens(alloc: Global, profile: Profile, text: &[char]) -> Result<Option<Vec<T
 /// after tokens.
 ///
 /// `NoMemory` where memory runs out.
+#[tactic(auto, using(crate::proofs::Tokens::tokens_complete))]
 pub fn lex_text(
     alloc: Global,
     text: &str,
@@ -57,8 +59,7 @@ pub fn lex_text(
     ensures only { IfOk result (λ o. (tokens : List AnyToken) → IsTokens profile.locale profile.language (chars text.now) tokens → option_map (λ found. found.items) o ≡ Some tokens) }
     ensures memory { IsOkUnless result NoMemory }
 {
-    let characters = characters_of(alloc, text)?;
-    Ok(tokens(alloc, profile, &characters)?)
+    Ok(tokens(alloc, profile, text)?)
 }
 
 /// A text is at most one list of tokens. The definition `tokens_of`, which computes, answers that list.

@@ -1,12 +1,13 @@
-ghost use Rattle.std.specs.Prelude.{◌≡◌, ◌≤◌, ◌<◌, ◌^◌, ◌&&◌, min, true, pos, Some, None, length, nat_le, IfSome, if◌then◌else◌};
+ghost use Rattle.std.specs.Prelude.{◌≡◌, ◌<◌, ◌^◌, min, true};
 ghost use Rattle.std.specs.List.{list_all};
-ghost use Rattle.base_tables.specs.Column.{is_between, is_letter, letter_value, letters_number, column_of_name};
+ghost use Rattle.std.specs.Str.{chars};
 ghost use Rattle.base_tables.specs.Word.{is_digit, digits_number};
 ghost use Rattle.formula_lex.specs.Lexicon.{row_of_name};
-ghost use Rattle.formula_lex.specs.laws.Lex.{column_at, row_at, corner_at, second_corner_at, second_column_at, second_row_at, corner_begins, column_begins, columns_begin, rows_begin, spot_at, mark_of, absolute_line};
+ghost use Rattle.formula_lex.specs.laws.Lex as spec;
 ghost use Rattle.formula_lex.specs.laws.Outcome.{seen};
 
 use crate::characters::{Class, dollar, ends_place, past, run};
+use base_tables::column_to_number;
 use base_values::{LAST_COLUMN, LAST_ROW};
 use formula_grammar::CellMark;
 
@@ -17,6 +18,14 @@ pub struct Line {
     pub number: i32,
 }
 
+/// What stands on one side of a range: a cell, a column or a row.
+#[derive(Clone, Copy)]
+pub enum Side {
+    Cell(CellMark),
+    Column(Line),
+    Row(Line),
+}
+
 /// What stands at the front of a text, with its corners as written. Of whole columns the rows are the
 /// absolute first and last one, of whole rows the columns.
 #[derive(Clone, Copy)]
@@ -25,65 +34,28 @@ pub enum Spot {
     Range(CellMark, CellMark),
 }
 
-fn letter_value(c: char) -> u32
-    requires { is_letter c ≡ true }
-    ensures value { result ≡ letter_value c }
-    ensures small { result ≤ 26 }
-{
-    if c >= 'a' {
-        c as u32 - 96
-    } else {
-        c as u32 - 64
-    }
-}
-
-fn letters_number(letters: &[char]) -> Option<u32>
-    requires { list_all is_letter letters.now ≡ true }
-    ensures value { result ≡ (if is_between 1 3 (length letters.now) && nat_le (letters_number letters.now) 16384 then Some (letters_number letters.now) else None) }
-    ensures inside { IfSome result (λ number. number ≤ 16384) }
-{
-    let number = match letters {
-        [a] => letter_value(*a),
-        [a, b] => letter_value(*a) * 26 + letter_value(*b),
-        [a, b, c] => (letter_value(*a) * 26 + letter_value(*b)) * 26 + letter_value(*c),
-        _ => return None,
-    };
-    if number <= 16_384 { Some(number) } else { None }
-}
-
-/// The column that letters name.
-#[tactic(auto, unfolding(base_tables::specs::Column::column_of_name, base_tables::specs::Column::is_column_name))]
-fn column_of(letters: &[char]) -> Option<i32>
-    requires { list_all is_letter letters.now ≡ true }
-    ensures { result ≡ column_of_name letters.now }
-{
-    match letters_number(letters) {
-        Some(number) => Some(number as i32),
-        None => None,
-    }
-}
-
 /// The number that digits write, or `cap` where it is larger.
-fn capped_number(digits: &[char], cap: u32) -> u32
+#[tactic(auto, using(base_tables::proofs::Counting::capped_turn), unfolding(base_tables::specs::Word::digits_number))]
+fn capped_number(digits: &[u8], cap: u32) -> u32
     requires bounded { cap < 2 ^ 24 }
     requires digits { list_all is_digit digits.now ≡ true }
     ensures { result ≡ min (digits_number digits.now) cap }
 {
     let mut number = 0;
-    for c in digits {
-        number = (number * 10 + (*c as u32 - 48)).min(cap);
+    for digit in digits {
+        number = (number * 10 + u32::from(*digit - b'0')).min(cap);
     }
     number
 }
 
 /// The row that digits name.
 #[tactic(auto, unfolding(base_tables::specs::Word::is_count))]
-fn row_of(digits: &[char]) -> Option<i32>
+fn row_of(digits: &[u8]) -> Option<i32>
     requires { list_all is_digit digits.now ≡ true }
     ensures { result ≡ row_of_name digits.now }
 {
     match digits {
-        [] | ['0', ..] => return None,
+        [] | [b'0', ..] => return None,
         _ => {}
     }
     let number = capped_number(digits, 1_048_577) as i32;
@@ -95,29 +67,29 @@ fn row_of(digits: &[char]) -> Option<i32>
 }
 
 /// A column at the front of the text, and what follows it.
-#[tactic(auto, unfolding(crate::specs::laws::Lex::column_at))]
-fn column(text: &[char]) -> Option<(Line, &[char])>
-    ensures { seen result ≡ column_at text.now }
+#[tactic(auto, unfolding(crate::specs::laws::Lex::line_at), using(crate::proofs::Places::letter_bytes))]
+fn column(text: &str) -> Option<(Line, &str)>
+    ensures { seen result ≡ spec.column_at (chars text.now) }
 {
     let (absolute, rest) = dollar(text);
     let (letters, rest) = run(Class::Letter, rest);
-    let number = column_of(letters)?;
+    let number = column_to_number(letters)?;
     Some((Line { absolute, number }, rest))
 }
 
 /// A row at the front of the text, and what follows it.
-#[tactic(auto, unfolding(crate::specs::laws::Lex::row_at))]
-fn row(text: &[char]) -> Option<(Line, &[char])>
-    ensures { seen result ≡ row_at text.now }
+#[tactic(auto, unfolding(crate::specs::laws::Lex::line_at), using(crate::proofs::Places::digits))]
+fn row(text: &str) -> Option<(Line, &str)>
+    ensures { seen result ≡ spec.row_at (chars text.now) }
 {
     let (absolute, rest) = dollar(text);
     let (digits, rest) = run(Class::Digit, rest);
-    let number = row_of(digits)?;
+    let number = row_of(digits.as_bytes())?;
     Some((Line { absolute, number }, rest))
 }
 
 fn mark(column: Line, row: Line) -> CellMark
-    ensures { result ≡ mark_of column row }
+    ensures { result ≡ spec.mark_of column row }
 {
     CellMark {
         absolute_row: row.absolute,
@@ -128,7 +100,7 @@ fn mark(column: Line, row: Line) -> CellMark
 }
 
 fn absolute_line(number: i32) -> Line
-    ensures { result ≡ absolute_line number }
+    ensures { result ≡ spec.absolute_line number }
 {
     Line {
         absolute: true,
@@ -136,112 +108,69 @@ fn absolute_line(number: i32) -> Line
     }
 }
 
+/// A cell, or else a column or a row alone, at the front of the text.
 #[tactic(auto, unfolding(crate::specs::laws::Lex::corner_at))]
-fn corner(text: &[char]) -> Option<(CellMark, &[char])>
-    ensures { seen result ≡ corner_at text.now }
+fn corner(text: &str) -> Option<(Side, &str)>
+    ensures { seen result ≡ spec.corner_at (chars text.now) }
 {
-    let (column, rest) = column(text)?;
-    let (row, rest) = row(rest)?;
-    Some((mark(column, row), rest))
-}
-
-/// What a first corner begins: a range, where a colon and a second corner follow, or else a cell.
-#[tactic(auto, unfolding(crate::specs::laws::Lex::corner_begins))]
-fn corner_begins(first: CellMark, text: &[char]) -> Option<(Spot, &[char])>
-    ensures { seen result ≡ corner_begins first text.now }
-{
-    if let Some((second, rest)) = second_corner(text) {
-        return Some((Spot::Range(first, second), rest));
-    }
-    if ends_place(text) {
-        Some((Spot::Cell(first), text))
-    } else {
-        None
+    let Some((column, rest)) = column(text) else {
+        let (row, rest) = row(text)?;
+        return Some((Side::Row(row), rest));
+    };
+    match row(rest) {
+        Some((row, rest)) => Some((Side::Cell(mark(column, row)), rest)),
+        None => Some((Side::Column(column), rest)),
     }
 }
 
-/// The second corner of a range, behind its colon.
-#[tactic(auto, unfolding(crate::specs::laws::Lex::second_corner_at))]
-fn second_corner(text: &[char]) -> Option<(CellMark, &[char])>
-    ensures { seen result ≡ second_corner_at text.now }
+/// The range between two corners of one kind.
+fn between(first: Side, second: Side) -> Option<Spot>
+    ensures { result ≡ spec.between first second }
+{
+    match (first, second) {
+        (Side::Cell(first), Side::Cell(second)) => Some(Spot::Range(first, second)),
+        (Side::Column(first), Side::Column(second)) => Some(Spot::Range(
+            mark(first, absolute_line(1)),
+            mark(second, absolute_line(LAST_ROW)),
+        )),
+        (Side::Row(first), Side::Row(second)) => Some(Spot::Range(
+            mark(absolute_line(1), first),
+            mark(absolute_line(LAST_COLUMN), second),
+        )),
+        _ => None,
+    }
+}
+
+/// A range from this corner, behind which the text stands.
+#[tactic(auto, unfolding(crate::specs::laws::Lex::range_behind))]
+fn range(first: Side, text: &str) -> Option<(Spot, &str)>
+    ensures { seen result ≡ spec.range_behind first (chars text.now) }
 {
     let (second, rest) = corner(past(':', text)?)?;
-    if ends_place(rest) {
-        Some((second, rest))
-    } else {
-        None
+    if !ends_place(rest) {
+        return None;
     }
+    Some((between(first, second)?, rest))
 }
 
-/// The second of two columns, behind the colon.
-#[tactic(auto, unfolding(crate::specs::laws::Lex::second_column_at))]
-fn second_column(text: &[char]) -> Option<(Line, &[char])>
-    ensures { seen result ≡ second_column_at text.now }
+/// This corner by itself, behind which the text stands, where it is a cell.
+fn cell(side: Side, text: &str) -> Option<(Spot, &str)>
+    ensures { seen result ≡ spec.cell_alone side (chars text.now) }
 {
-    let (second, rest) = column(past(':', text)?)?;
-    if ends_place(rest) {
-        Some((second, rest))
-    } else {
-        None
-    }
-}
-
-/// The second of two rows, behind the colon.
-#[tactic(auto, unfolding(crate::specs::laws::Lex::second_row_at))]
-fn second_row(text: &[char]) -> Option<(Line, &[char])>
-    ensures { seen result ≡ second_row_at text.now }
-{
-    let (second, rest) = row(past(':', text)?)?;
-    if ends_place(rest) {
-        Some((second, rest))
-    } else {
-        None
-    }
-}
-
-/// Whole columns, of which the first was read.
-#[tactic(auto, unfolding(crate::specs::laws::Lex::columns_begin))]
-fn columns_begin(first: Line, text: &[char]) -> Option<(Spot, &[char])>
-    ensures { seen result ≡ columns_begin first text.now }
-{
-    let (second, rest) = second_column(text)?;
-    let first = mark(first, absolute_line(1));
-    let second = mark(second, absolute_line(LAST_ROW));
-    Some((Spot::Range(first, second), rest))
-}
-
-/// Whole rows, of which the first was read.
-#[tactic(auto, unfolding(crate::specs::laws::Lex::rows_begin))]
-fn rows_begin(first: Line, text: &[char]) -> Option<(Spot, &[char])>
-    ensures { seen result ≡ rows_begin first text.now }
-{
-    let (second, rest) = second_row(text)?;
-    let first = mark(absolute_line(1), first);
-    let second = mark(absolute_line(LAST_COLUMN), second);
-    Some((Spot::Range(first, second), rest))
-}
-
-/// What a column begins: a corner's place, or whole columns.
-#[tactic(auto, unfolding(crate::specs::laws::Lex::column_begins))]
-fn column_begins(column: Line, text: &[char]) -> Option<(Spot, &[char])>
-    ensures { seen result ≡ column_begins column text.now }
-{
-    match row(text) {
-        Some((row, rest)) => corner_begins(mark(column, row), rest),
-        None => columns_begin(column, text),
+    match side {
+        Side::Cell(mark) if ends_place(text) => Some((Spot::Cell(mark), text)),
+        _ => None,
     }
 }
 
 /// A range, or else a cell, at the front of the text, and what follows it. Each line is read once.
 #[tactic(auto, unfolding(crate::specs::laws::Lex::spot_at))]
-pub fn place(text: &[char]) -> Option<(Spot, &[char])>
-    ensures { seen result ≡ spot_at text.now }
+pub fn place(text: &str) -> Option<(Spot, &str)>
+    ensures { seen result ≡ spec.spot_at (chars text.now) }
 {
-    match column(text) {
-        Some((column, rest)) => column_begins(column, rest),
-        None => {
-            let (row, rest) = row(text)?;
-            rows_begin(row, rest)
-        }
+    let (first, rest) = corner(text)?;
+    match range(first, rest) {
+        Some(found) => Some(found),
+        None => cell(first, rest),
     }
 }

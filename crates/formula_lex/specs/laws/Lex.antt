@@ -1,5 +1,5 @@
 -- Text to tokens, as a function.
-use Rattle.std.specs.Prelude.{ℕ, zero, suc, ◌+◌, ◌==◌, Bool, true, false, ◌&&◌, ◌||◌, ℤ, pos, codes, encode_utf8_all, List, [], ◌∷◌, take, drop, length, Option, Some, None, if◌then◌else◌}
+use Rattle.std.specs.Prelude.{ℕ, zero, suc, ◌+◌, ◌==◌, Bool, true, false, not, ◌&&◌, ◌||◌, nat_lt, ℤ, pos, codes, encode_utf8_all, List, [], ◌∷◌, length, Option, Some, None, if◌then◌else◌}
 use Rattle.std.specs.Option.{option_map, option_and_then, option_or}
 use Rattle.base_tables.specs.declared.Error.{Error}
 use Rattle.base_tables.specs.declared.Error.TheVariants.{Ref}
@@ -17,6 +17,8 @@ use Rattle.formula_grammar.specs.declared.CellMark.{CellMark}
 use Rattle.formula_grammar.specs.declared.Token.{Token}
 use Rattle.formula_grammar.specs.declared.Token.TheVariants as t
 use Rattle.formula_lex.specs.declared.place.Line.{Line}
+use Rattle.formula_lex.specs.declared.place.Side.{Side}
+use Rattle.formula_lex.specs.declared.place.Side.TheVariants as side
 use Rattle.formula_lex.specs.declared.place.Spot.{Spot}
 use Rattle.formula_lex.specs.declared.place.Spot.TheVariants as spot
 use Rattle.formula_lex.specs.Characters.{Text, is_blank, goes_on_place, goes_on_number}
@@ -26,43 +28,42 @@ use Rattle.formula_lex.specs.Lexicon.{row_of_name}
 abbrev pub Reader : Type 0 → Type 0
 Reader A = Text → Option (A × Text)
 
--- what one reader reads, and then another
-abbrev pub both : {A B C : Type 0} → (A → B → C) → Reader A → Reader B → Reader C
-both pair first second text = option_and_then (λ a. option_map (λ b. (pair a.0 b.0, b.1)) (second a.1)) (first text)
+-- the first character, and what follows it
+abbrev pub first : Reader ℕ
+first [] = None
+first (c ∷ text) = Some (c, text)
 
 -- what follows this character
 abbrev pub past : ℕ → Text → Option Text
 past mark [] = None
 past mark (c ∷ text) = if c == mark then Some text else None
 
--- what the reader reads behind this character
-abbrev pub behind : {A : Type 0} → ℕ → Reader A → Reader A
-behind mark reader text = option_and_then reader (past mark text)
+-- what follows these characters
+abbrev pub strip : Text → Text → Option Text
+strip [] text = Some text
+strip (c ∷ name) text = option_and_then (strip name) (past c text)
 
-abbrev pub if_ends : {A : Type 0} → A × Text → Option (A × Text)
-if_ends p = if stops goes_on_place p.1 then Some p else None
+-- ---- cells and ranges
 
--- what the reader reads, where a cell or range may end
-abbrev pub ended : {A : Type 0} → Reader A → Reader A
-ended reader text = option_and_then if_ends (reader text)
-
--- ---- columns, rows, cells and ranges
+abbrev pub behind_dollar : Text → Option Text → Bool × Text
+behind_dollar text None = (false, text)
+behind_dollar text (Some rest) = (true, rest)
 
 abbrev pub dollar_at : Text → Bool × Text
-dollar_at [] = (false, [])
-dollar_at (c ∷ text) = if c == 36 then (true, text) else (false, c ∷ text)
+dollar_at text = behind_dollar text (past 36 text)
 
 abbrev pub with_name : (Text → Option ℤ) → Bool → Text × Text → Option (Line × Text)
 with_name line_of_name absolute name = option_map (λ number. (record { absolute = absolute; number = number }, name.1)) (line_of_name name.0)
 
-abbrev pub with_dollar : (Text → Option ℤ) → (ℕ → Bool) → Bool × Text → Option (Line × Text)
-with_dollar line_of_name p front = with_name line_of_name front.0 (span p front.1)
+-- a column or a row: maybe a dollar, and the longest name
+unfoldable pub line_at : (Text → Option ℤ) → (ℕ → Bool) → Reader Line
+line_at line_of_name p text = with_name line_of_name (dollar_at text).0 (span p (dollar_at text).1)
 
-unfoldable pub column_at : Reader Line
-column_at text = with_dollar column_of_name is_letter (dollar_at text)
+abbrev pub column_at : Reader Line
+column_at = line_at column_of_name is_letter
 
-unfoldable pub row_at : Reader Line
-row_at text = with_dollar row_of_name is_digit (dollar_at text)
+abbrev pub row_at : Reader Line
+row_at = line_at row_of_name is_digit
 
 abbrev pub mark_of : Line → Line → CellMark
 mark_of column row = record { absolute_row = row.absolute; row = row.number; absolute_column = column.absolute; column = column.number }
@@ -70,86 +71,51 @@ mark_of column row = record { absolute_row = row.absolute; row = row.number; abs
 abbrev pub absolute_line : ℤ → Line
 absolute_line number = record { absolute = true; number = number }
 
--- the corners of whole columns and whole rows
-abbrev pub column_corners : Line → Line → CellMark × CellMark
-column_corners a b = (mark_of a (absolute_line (pos 1)), mark_of b (absolute_line (pos 1048576)))
+-- behind a column: its row, if one follows
+abbrev pub with_row : Line → Text → Option (Line × Text) → Option (Side × Text)
+with_row column text None = Some (side.Column column, text)
+with_row column text (Some p) = Some (side.Cell (mark_of column p.0), p.1)
 
-abbrev pub row_corners : Line → Line → CellMark × CellMark
-row_corners a b = (mark_of (absolute_line (pos 1)) a, mark_of (absolute_line (pos 16384)) b)
+abbrev pub with_column : Text → Option (Line × Text) → Option (Side × Text)
+with_column text None = option_map (λ p. (side.Row p.0, p.1)) (row_at text)
+with_column text (Some p) = with_row p.0 p.1 (row_at p.1)
 
-unfoldable pub corner_at : Reader CellMark
-corner_at = both mark_of column_at row_at
+-- a cell, or else a column or a row alone
+unfoldable pub corner_at : Reader Side
+corner_at text = with_column text (column_at text)
 
--- two of the same with a colon between
-abbrev pub two_at : {A C : Type 0} → (A → A → C) → Reader A → Reader C
-two_at pair reader = ended (both pair reader (behind 58 reader))
+-- the range between two corners of one kind
+abbrev pub between : Side → Side → Option Spot
+between (side.Cell a) (side.Cell b) = Some (spot.Range a b)
+between (side.Column a) (side.Column b) = Some (spot.Range (mark_of a (absolute_line (pos 1))) (mark_of b (absolute_line (pos 1048576))))
+between (side.Row a) (side.Row b) = Some (spot.Range (mark_of (absolute_line (pos 1)) a) (mark_of (absolute_line (pos 16384)) b))
+between _ _ = None
 
-unfoldable pub cells_at : Reader (CellMark × CellMark)
-cells_at = two_at (λ a b. (a, b)) corner_at
+-- a range to this corner, where one may end
+abbrev pub range_to : Side → Side × Text → Option (Spot × Text)
+range_to a p = if stops goes_on_place p.1 then option_map (λ range. (range, p.1)) (between a p.0) else None
 
-unfoldable pub columns_at : Reader (CellMark × CellMark)
-columns_at = two_at column_corners column_at
+-- behind the first corner of a range: a colon and the second one
+unfoldable pub range_behind : Side → Reader Spot
+range_behind a text = option_and_then (range_to a) (option_and_then corner_at (past 58 text))
 
-unfoldable pub rows_at : Reader (CellMark × CellMark)
-rows_at = two_at row_corners row_at
+-- a corner that is a cell by itself, where one may end
+abbrev pub cell_alone : Side → Reader Spot
+cell_alone (side.Cell mark) text = if stops goes_on_place text then Some (spot.Cell mark, text) else None
+cell_alone _ text = None
 
-unfoldable pub range_at : Reader (CellMark × CellMark)
-range_at text = option_or (cells_at text) (option_or (columns_at text) (rows_at text))
-
-unfoldable pub cell_at : Reader CellMark
-cell_at = ended corner_at
+abbrev pub behind_corner : Side × Text → Option (Spot × Text)
+behind_corner p = option_or (range_behind p.0 p.1) (cell_alone p.0 p.1)
 
 -- a range, or else a cell
-abbrev pub placed_at : Option Text → Reader Token
-placed_at sheet text =
-    option_or (option_map (λ p. (t.Range sheet p.0.0 p.0.1, p.1)) (range_at text)) (option_map (λ p. (t.Reference sheet p.0, p.1)) (cell_at text))
-
--- ---- the same, where each line is read once
-
--- what stands second, behind a colon, where a range may end
-abbrev pub second_at : {A : Type 0} → Reader A → Reader A
-second_at reader = ended (behind 58 reader)
-
-unfoldable pub second_corner_at : Reader CellMark
-second_corner_at = second_at corner_at
-
-unfoldable pub second_column_at : Reader Line
-second_column_at = second_at column_at
-
-unfoldable pub second_row_at : Reader Line
-second_row_at = second_at row_at
-
-unfoldable pub corner_begins : CellMark → Reader Spot
-corner_begins first text = option_or (option_map (λ p. (spot.Range first p.0, p.1)) (second_corner_at text)) (if stops goes_on_place text then Some (spot.Cell first, text) else None)
-
-abbrev pub range_of : CellMark × CellMark → Spot
-range_of p = spot.Range p.0 p.1
-
-unfoldable pub columns_begin : Line → Reader Spot
-columns_begin first text = option_map (λ p. (range_of (column_corners first p.0), p.1)) (second_column_at text)
-
-unfoldable pub rows_begin : Line → Reader Spot
-rows_begin first text = option_map (λ p. (range_of (row_corners first p.0), p.1)) (second_row_at text)
-
-abbrev pub behind_column : Line → Text → Option (Line × Text) → Option (Spot × Text)
-behind_column column text (Some p) = corner_begins (mark_of column p.0) p.1
-behind_column column text None = columns_begin column text
-
-unfoldable pub column_begins : Line → Reader Spot
-column_begins column text = behind_column column text (row_at text)
-
-abbrev pub by_column : Text → Option (Line × Text) → Option (Spot × Text)
-by_column text (Some p) = column_begins p.0 p.1
-by_column text None = option_and_then (λ p. rows_begin p.0 p.1) (row_at text)
-
 unfoldable pub spot_at : Reader Spot
-spot_at text = by_column text (column_at text)
+spot_at text = option_and_then behind_corner (corner_at text)
 
 abbrev pub place_token : Option Text → Spot → Token
 place_token sheet (spot.Cell mark) = t.Reference sheet mark
-place_token sheet (spot.Range first second) = t.Range sheet first second
+place_token sheet (spot.Range a b) = t.Range sheet a b
 
-unfoldable pub place_at : Option Text → Reader Token
+abbrev pub place_at : Option Text → Reader Token
 place_at sheet text = option_map (λ p. (place_token sheet p.0, p.1)) (spot_at text)
 
 -- ---- texts and sheets
@@ -157,27 +123,26 @@ place_at sheet text = option_map (λ p. (place_token sheet p.0, p.1)) (spot_at t
 abbrev pub in_front : ℕ → Option (Text × Text) → Option (Text × Text)
 in_front c = option_map (λ p. (c ∷ p.0, p.1))
 
--- what stands next between quotes: a character, where a doubled quote is one, or nothing at the closing quote
-abbrev pub next_quoted : ℕ → Reader (Option ℕ)
-next_quoted quote [] = None
-next_quoted quote (c ∷ []) = if c == quote then Some (None, []) else Some (Some c, [])
-next_quoted quote (c ∷ d ∷ text) =
-    if c == quote then (if d == quote then Some (Some quote, text) else Some (None, d ∷ text)) else Some (Some c, d ∷ text)
+-- up to the closing quote, where a doubled one stands for one. The test says whether the character before was a quote
+abbrev pub quoted : ℕ → Bool → Reader Text
+quoted quote false [] = None
+quoted quote true [] = Some ([], [])
+quoted quote false (c ∷ text) = if c == quote then quoted quote true text else in_front c (quoted quote false text)
+quoted quote true (c ∷ text) = if c == quote then in_front quote (quoted quote false text) else Some ([], c ∷ text)
 
--- up to the closing quote; a doubled one stands for one
-abbrev pub quoted : ℕ → Reader Text
-quoted quote [] = None
-quoted quote (c ∷ []) = if c == quote then Some ([], []) else None
-quoted quote (c ∷ d ∷ text) =
-    if c == quote then (if d == quote then in_front quote (quoted quote text) else Some ([], d ∷ text)) else in_front c (quoted quote (d ∷ text))
+-- how it goes on from what stands next: a character, or nothing at the closing quote
+abbrev pub goes_on : ℕ → Option (Option ℕ × Text) → Option (Text × Text)
+goes_on quote None = None
+goes_on quote (Some (None, rest)) = Some ([], rest)
+goes_on quote (Some (Some c, rest)) = in_front c (quoted quote false rest)
 
 -- the same in bytes
 unfoldable pub quoted_text : ℕ → Reader Text
-quoted_text quote text = option_map (λ p. (encode_utf8_all p.0, p.1)) (quoted quote text)
+quoted_text quote text = option_map (λ p. (encode_utf8_all p.0, p.1)) (quoted quote false text)
 
 -- what stands on a sheet, behind its name
 abbrev pub on_sheet : Text → Reader Token
-on_sheet sheet = behind 33 (λ text. place_at (Some sheet) (span is_blank text).1)
+on_sheet sheet text = option_and_then (λ place. place_at (Some sheet) (span is_blank place).1) (past 33 text)
 
 -- behind a name in quotes, which is not empty
 abbrev pub behind_quotes : Text × Text → Option (Token × Text)
@@ -203,38 +168,37 @@ word_at text = behind_word (span goes_on_word text)
 
 -- what a number may be made of: characters of words and decimal signs, and a sign behind the letter of an exponent
 abbrev pub in_number : Locale → Bool → ℕ → Bool
-in_number locale after_letter c = goes_on_number locale c || (after_letter && (c == 43 || c == 45))
+in_number locale false c = goes_on_number locale c
+in_number locale true c = (c == 43 || c == 45) || goes_on_number locale c
 
--- the length of the longest such front
-abbrev pub number_len : Locale → Bool → Text → ℕ
-number_len locale after_letter [] = 0
-number_len locale after_letter (c ∷ text) = if in_number locale after_letter c then 1 + number_len locale (is_exponent_letter c) text else 0
+-- the longest such front, and what follows it
+abbrev pub number_span : Locale → Bool → Text → Text × Text
+number_span locale after_letter [] = ([], [])
+number_span locale after_letter (c ∷ text) =
+    let s = number_span locale (is_exponent_letter c) text in if in_number locale after_letter c then (c ∷ s.0, s.1) else ([], c ∷ text)
 
--- the number that so many characters are
-abbrev pub number_in : Locale → Text → ℕ → Option (Token × Text)
-number_in locale text len = option_map (λ number. (t.Number number, drop len text)) (decimal_of (decimal_sign locale) (encode_utf8_all (take len text)))
+abbrev pub number_of : Locale → Text × Text → Option (Token × Text)
+number_of locale s = option_map (λ number. (t.Number number, s.1)) (decimal_of (decimal_sign locale) (encode_utf8_all s.0))
 
 unfoldable pub number_at : Locale → Reader Token
-number_at locale text = number_in locale text (number_len locale false text)
+number_at locale text = number_of locale (number_span locale false text)
 
 -- ---- errors
-
--- what follows these characters
-abbrev pub strip : Text → Text → Option Text
-strip [] text = Some text
-strip (c ∷ name) text = option_and_then (strip name) (past c text)
 
 -- the first of the errors whose text stands at the front
 abbrev pub english_error : List Error → Reader Error
 english_error [] text = None
 english_error (error ∷ errors) text = option_or (option_map (λ rest. (error, rest)) (strip (error_text error) text)) (english_error errors text)
 
--- behind the language's own text for a lost reference
+-- the characters of the language's own text for a lost reference
+abbrev pub own_text : Language → Option Text
+own_text En = None
+own_text De = Some (codes "#BEZUG!")
+own_text Fr = None
+own_text Es = Some (35 ∷ 161 ∷ codes "REF!")
+
 abbrev pub own_error : Language → Text → Option Text
-own_error En text = None
-own_error De text = strip (codes "#BEZUG!") text
-own_error Fr text = None
-own_error Es text = strip (35 ∷ 161 ∷ codes "REF!") text
+own_error language text = option_and_then (λ name. strip name text) (own_text language)
 
 unfoldable pub error_at : Language → Reader Error
 error_at language text = option_or (option_map (λ rest. (Ref, rest)) (own_error language text)) (english_error all_errors text)
@@ -245,15 +209,17 @@ error_or_hash text None = Some (t.Hash, text)
 
 -- ---- signs
 
+-- the token where this character stands next, or else the other
+abbrev pub if_next : ℕ → Token → Option (Token × Text) → Reader Token
+if_next mark token other text = option_or (option_map (λ rest. (token, rest)) (past mark text)) other
+
 -- behind `<`
 abbrev pub behind_less : Reader Token
-behind_less [] = Some (t.Less, [])
-behind_less (c ∷ text) = if c == 62 then Some (t.NotEqual, text) else (if c == 61 then Some (t.LessOrEqual, text) else Some (t.Less, c ∷ text))
+behind_less text = if_next 62 t.NotEqual (if_next 61 t.LessOrEqual (Some (t.Less, text)) text) text
 
 -- behind `>`
 abbrev pub behind_greater : Reader Token
-behind_greater [] = Some (t.Greater, [])
-behind_greater (c ∷ text) = if c == 61 then Some (t.GreaterOrEqual, text) else Some (t.Greater, c ∷ text)
+behind_greater text = if_next 61 t.GreaterOrEqual (Some (t.Greater, text)) text
 
 -- a token of one character, which no other begins with
 abbrev pub single : ℕ → Option Token
@@ -266,32 +232,47 @@ single c =
 
 -- ---- the token at the front
 
-unfoldable pub sign_at : ℕ → Reader Token
-sign_at c text =
-    if c == 60 then behind_less text else (if c == 62 then behind_greater text else option_map (λ token. (token, text)) (single c))
+-- ASCII that begins no place, no number and no word
+abbrev pub is_sign : ℕ → Bool
+is_sign c = nat_lt c 128 && not (is_letter c || (is_digit c || (c == 95 || c == 36)))
 
--- where neither a cell nor a range stands
-unfoldable pub other_at : Locale → Language → ℕ → Reader Token
-other_at locale language c text =
-    if starts_word c then word_at (c ∷ text)
-    else (if is_digit c then number_at locale (c ∷ text)
-    else (if c == 34 then text_at text
+-- what such a character begins
+unfoldable pub by_sign : Language → ℕ → Reader Token
+by_sign language c text =
+    if c == 34 then text_at text
     else (if c == 39 then quoted_sheet_at text
-    else (if c == 35 then error_or_hash text (error_at language (c ∷ text))
-    else sign_at c text))))
+    else (if c == 35 then error_or_hash text (error_at language (35 ∷ text))
+    else (if c == 60 then behind_less text
+    else (if c == 62 then behind_greater text
+    else option_map (λ token. (token, text)) (single c)))))
 
+-- what stands where there is no place: a number or a word, by its first character
+abbrev pub plain_at : Locale → ℕ → Reader Token
+plain_at locale c text = if is_digit c then number_at locale text else (if starts_word c then word_at text else None)
+
+-- the first character decides what is tried
 unfoldable pub token_at : Locale → Language → Reader Token
 token_at locale language [] = None
-token_at locale language (c ∷ text) = option_or (place_at None (c ∷ text)) (other_at locale language c text)
+token_at locale language (c ∷ text) =
+    if is_sign c then by_sign language c text else option_or (place_at None (c ∷ text)) (plain_at locale c (c ∷ text))
 
-abbrev pub with_token : Locale → Language → (Text → Option (List Token)) → Text → Option (List Token)
-with_token locale language rest [] = Some []
-with_token locale language rest (c ∷ text) = option_and_then (λ p. option_map (λ tokens. p.0 ∷ tokens) (rest p.1)) (token_at locale language (c ∷ text))
+-- a text in which something stands
+abbrev pub some_text : Text → Option Text
+some_text [] = None
+some_text (c ∷ text) = Some (c ∷ text)
+
+-- what stands behind blanks, if anything does
+unfoldable pub behind_blanks : Text → Option Text
+behind_blanks text = some_text (span is_blank text).1
+
+abbrev pub with_token : Locale → Language → (Text → Option (List Token)) → Option Text → Option (List Token)
+with_token locale language rest None = Some []
+with_token locale language rest (Some text) = option_and_then (λ p. option_map (λ tokens. p.0 ∷ tokens) (rest p.1)) (token_at locale language text)
 
 -- the number bounds the tokens
 unfoldable pub tokens_from : Locale → Language → ℕ → Text → Option (List Token)
 tokens_from locale language zero text = None
-tokens_from locale language (suc k) text = with_token locale language (tokens_from locale language k) (span is_blank text).1
+tokens_from locale language (suc k) text = with_token locale language (tokens_from locale language k) (behind_blanks text)
 
 unfoldable pub tokens_of : Locale → Language → Text → Option (List Token)
 tokens_of locale language text = tokens_from locale language (length text + 1) text

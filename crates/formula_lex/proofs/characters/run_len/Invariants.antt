@@ -1,7 +1,12 @@
-use Rattle.std.proofs.Common.{◌≡◌, ◌+◌, drop}
-use Rattle.std.specs.List.{prefix_len}
+use Rattle.std.proofs.Common.{length}
+use Rattle.std.specs.Str.{chars}
+use Rattle.base_decimal.specs.Digits.{span}
 use Rattle.formula_lex.specs.laws.Classes.{passes}
+use Rattle.formula_lex.proofs.Reading.{Went}
 use Rattle.formula_lex.proofs.characters.run_len.Given as goal
 
-abbrev pub invariant-loop-at : goal.invariant-loop-at
-invariant-loop-at l = prefix_len (passes l.class) l.text ≡ l.at + prefix_len (passes l.class) (drop l.at l.text)
+abbrev pub invariant-loop-c : goal.invariant-loop-c
+invariant-loop-c l = Went l.text l.rest (span (passes l.class)) (span (passes l.class) (chars l.text))
+
+abbrev pub decreases-loop-c : goal.decreases-loop-c
+decreases-loop-c l = length l.rest

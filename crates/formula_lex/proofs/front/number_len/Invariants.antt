@@ -1,6 +1,11 @@
-use Rattle.std.proofs.Common.{◌≡◌, ◌+◌, drop, false}
-use Rattle.formula_lex.specs.laws.Lex.{number_len}
+use Rattle.std.proofs.Common.{length, false}
+use Rattle.std.specs.Str.{chars}
+use Rattle.formula_lex.specs.laws.Lex.{number_span}
+use Rattle.formula_lex.proofs.Reading.{Went}
 use Rattle.formula_lex.proofs.front.number_len.Given as goal
 
-abbrev pub invariant-loop-at : goal.invariant-loop-at
-invariant-loop-at l = number_len l.locale false l.text ≡ l.at + number_len l.locale l.after_letter (drop l.at l.text)
+abbrev pub invariant-loop-c : goal.invariant-loop-c
+invariant-loop-c l = Went l.text l.rest (number_span l.locale l.after_letter) (number_span l.locale false (chars l.text))
+
+abbrev pub decreases-loop-c : goal.decreases-loop-c
+decreases-loop-c l = length l.rest

@@ -1,11 +1,17 @@
 use Rattle.std.proofs.Common.{◌≡◌, length}
 use Rattle.std.specs.Prelude.{string_bytes}
+use Rattle.std.specs.Str.{chars}
 use Rattle.formula_lex.specs.laws.Lex.{quoted_text}
-use Rattle.formula_lex.proofs.Quotes.{after}
+use Rattle.formula_lex.proofs.Reading.{after}
 use Rattle.formula_lex.proofs.front.quoted.Given as goal
+use denote.Shadow.{shadow}
+use denote.Text.{Utf8}
 
 abbrev pub invariant-loop-next : goal.invariant-loop-next
-invariant-loop-next l = quoted_text l.quote l.text ≡ after (string_bytes l.name) (quoted_text l.quote l.rest)
+invariant-loop-next l = record {
+  utf8 : shadow (Utf8 l.rest);
+  so_far : quoted_text l.quote (chars l.text) ≡ after (string_bytes l.value) (quoted_text l.quote (chars l.rest));
+}
 
 abbrev pub decreases-loop-next : goal.decreases-loop-next
 decreases-loop-next l = length l.rest

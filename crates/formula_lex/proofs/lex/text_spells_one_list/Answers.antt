@@ -1,4 +1,4 @@
-use Rattle.formula_lex.proofs.Texts.{tokens_complete, tokens_once, tokens_sound}
+use Rattle.formula_lex.proofs.Tokens.{tokens_complete, tokens_once, tokens_sound}
 use Rattle.formula_lex.proofs.lex.text_spells_one_list.Goals as goal
 
 pub returns-clause-one : goal.returns-clause-one

@@ -1,7 +1,16 @@
-use Rattle.std.proofs.Common.{◌≡◌, ◌+◌, ◌-◌, length}
-use Rattle.formula_lex.specs.laws.Lex.{tokens_of, tokens_from}
-use Rattle.formula_lex.proofs.Turns.{ahead}
+use Rattle.std.proofs.Common.{◌≡◌, length}
+use Rattle.std.specs.Str.{chars}
+use Rattle.formula_lex.specs.laws.Lex.{tokens_of}
+use Rattle.formula_lex.proofs.Tokens.{ahead}
 use Rattle.formula_lex.proofs.lex.tokens.Given as goal
+use denote.Shadow.{shadow}
+use denote.Text.{Utf8}
 
-abbrev pub invariant-loop-turn : goal.invariant-loop-turn
-invariant-loop-turn l = tokens_of l.profile.locale l.profile.language l.text ≡ ahead l.tokens.items (tokens_from l.profile.locale l.profile.language (length l.text + 1 - l._turn) l.rest)
+abbrev pub invariant-loop-more : goal.invariant-loop-more
+invariant-loop-more l = record {
+  utf8 : shadow (Utf8 l.rest);
+  so_far : tokens_of l.profile.locale l.profile.language (chars l.text) ≡ ahead l.tokens.items (tokens_of l.profile.locale l.profile.language (chars l.rest));
+}
+
+abbrev pub decreases-loop-more : goal.decreases-loop-more
+decreases-loop-more l = length (chars l.rest)

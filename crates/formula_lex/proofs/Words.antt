@@ -1,0 +1,320 @@
+-- Numbers, errors and texts between quotes are read just where they are spelled.
+use Rattle.std.proofs.Common.{◌≡◌, ℕ, zero, suc, ◌<◌, Bool, true, false, cond, [], ◌∷◌, ◌++◌, length, Option, Some, None, refl, sym, ap, ◌∙◌, append-nil, arith, List, subst, append_assoc}
+use Rattle.std.specs.Prelude.{not, ◌==◌, ◌&&◌, ◌||◌, nat_lt, encode_utf8_all, IfSome, codes}
+use Rattle.std.specs.List.{list_all}
+use Rattle.std.specs.Option.{option_and_then, option_map}
+use Rattle.std.specs.Str.{IsAscii}
+use Rattle.std.proofs.lemmas.Bool.{and_parts, or_left, or_right, ltb-true, eqb-true}
+use Rattle.std.proofs.lemmas.Bool.Decides.{nat_tests}
+use Rattle.std.proofs.lemmas.Str.{encodes_same, encodes-IsAscii}
+use Rattle.std.proofs.UnicodeAscii.{is_alphabetic_ascii}
+use Rattle.std.specs.Char.Unicode.Alphabetic.{is_alphabetic}
+use Rattle.std.specs.Cmp.Lexicographic.{bytes_decides}
+use lib.Utf8.{encode}
+use Rattle.base_tables.specs.declared.Locale.{Locale}
+use Rattle.base_tables.specs.Locale.{decimal_sign}
+use Rattle.base_tables.specs.Word.{is_digit, goes_on_word}
+use Rattle.base_tables.specs.declared.Error.{Error}
+use Rattle.base_tables.specs.declared.Error.TheVariants.{Ref}
+use Rattle.base_tables.specs.declared.Language.{Language}
+use Rattle.base_tables.specs.declared.Language.TheVariants.{En, De, Fr, Es}
+use Rattle.base_tables.specs.Error.{all_errors, error_text, error_of_text, is_own_reference_error}
+use Rattle.base_tables.specs.Tables.{entry_named}
+use Rattle.base_tables.specs.laws.Error.{error_of_text-error_text}
+use Rattle.base_tables.specs.laws.Tables.{found_name}
+use Rattle.base_decimal.specs.declared.Decimal.{Decimal}
+use Rattle.base_decimal.specs.Digits.{stops}
+use Rattle.base_decimal.specs.Numeral.{Fraction, NoFraction, Places, Exponent, NoExponent, Power, Numeral, IsNumeral, fraction_text, sign_text, exponent_text, numeral_text, is_numeral_fraction, is_numeral_exponent, is_exponent_len, is_exponent_letter, minus_text}
+use Rattle.base_decimal.specs.laws.Reading.{decimal_of}
+use Rattle.base_decimal.specs.declared.numeral.Sign.{Sign}
+use Rattle.base_decimal.specs.declared.numeral.Sign.TheVariants.{Absent, Plus, Minus}
+use Rattle.base_decimal.proofs.Marks.{sign_is_mark, sign_is_ascii}
+use Rattle.base_decimal.proofs.Numerals.{reads_found, reads_only}
+use Rattle.base_decimal.proofs.Spans.{not_true}
+use Rattle.formula_grammar.specs.declared.Token.{Token}
+use Rattle.formula_grammar.specs.declared.Token.TheVariants as t
+use Rattle.formula_lex.specs.Characters.{Text, goes_on_number, twice, doubled}
+use Rattle.formula_lex.specs.Lexicon.{starts_digit, IsNumber}
+use Rattle.formula_lex.specs.laws.Lex.{in_number, number_span, number_of, number_at, past, strip, english_error, own_text, own_error, error_at, quoted, in_front}
+use Rattle.formula_lex.proofs.Reading.{cond_some, if_map, if_each, same, Front, if_or, if_more, strip_is, if_cond}
+
+-- ---- a number is read just where one is spelled
+
+module _ (locale : Locale) where
+  -- ---- what is read is spelled
+
+  in_number_stops : (after : Bool) (c : ℕ) → in_number locale after c ≡ false → goes_on_number locale c ≡ false
+  in_number_stops true c e = grind (arith, nat_tests)
+  in_number_stops false c e = e
+
+  abbrev span_by : Text × Text → ℕ → Text → Bool → Text × Text
+  span_by s c text b = cond b (c ∷ s.0, s.1) ([], c ∷ text)
+
+  number_span_is : (after : Bool) (text : Text) → (text ≡ (number_span locale after text).0 ++ (number_span locale after text).1) × (stops (goes_on_number locale) (number_span locale after text).1 ≡ true)
+  number_span_is after [] = (refl, refl)
+  number_span_is after (c ∷ text) = go (number_span locale (is_exponent_letter c) text) (number_span_is (is_exponent_letter c) text) (in_number locale after c) refl
+    where
+      go : (s : Text × Text) → (text ≡ s.0 ++ s.1) × (stops (goes_on_number locale) s.1 ≡ true) → (b : Bool) → in_number locale after c ≡ b
+          → (c ∷ text ≡ (span_by s c text b).0 ++ (span_by s c text b).1) × (stops (goes_on_number locale) (span_by s c text b).1 ≡ true)
+      go s again true e = (ap (λ (x : Text). c ∷ x) again.0, again.1)
+      go s again false e = (refl, ap not (in_number_stops after c e))
+
+  digit_goes_on : (c : ℕ) → is_digit c ≡ true → goes_on_number locale c ≡ true
+  digit_goes_on c e = or_left (goes_on_word c) (c == decimal_sign locale) (or_right (is_alphabetic c) _ (or_left (is_digit c) (c == 95 || c == 46) e))
+
+  digit_in : (after : Bool) (c : ℕ) → is_digit c ≡ true → in_number locale after c ≡ true
+  digit_in true c e = or_right (c == 43 || c == 45) _ (digit_goes_on c e)
+  digit_in false c e = digit_goes_on c e
+
+  -- a number that is spelled at the front, where one may end
+  abbrev pub FrontNumber : Text → Token × Text → Type 0
+  FrontNumber text r = (number : Decimal) × (r.0 ≡ t.Number number) × Front (IsNumber locale number) text r.1 × (stops (goes_on_number locale) r.1 ≡ true)
+
+  pub number_sound : (c : ℕ) (text : Text) → is_digit c ≡ true → IfSome (number_at locale (c ∷ text)) (FrontNumber (c ∷ text))
+  unfolding number_at
+  number_sound c text digit =
+      let s = number_span locale false (c ∷ text) in
+      let h = number_span_is false (c ∷ text) in
+      let starts : starts_digit s.0 ≡ true = ap (λ (b : Bool). starts_digit (span_by (number_span locale (is_exponent_letter c) text) c text b).0) (digit_in false c digit) ∙ digit in
+      if_map (FrontNumber (c ∷ text)) (λ number. (t.Number number, s.1)) (decimal_of (decimal_sign locale) (encode_utf8_all s.0))
+      (if_each (λ number. FrontNumber (c ∷ text) (t.Number number, s.1)) (decimal_of (decimal_sign locale) (encode_utf8_all s.0)) (λ number e.
+      (number, refl, record { spelled = s.0; parts = h.0; is = record { starts = starts; reads = reads_found (decimal_sign locale) (encode_utf8_all s.0) number e } }, h.1)))
+
+  -- ---- what is spelled is read
+
+  -- characters of ASCII that a number may be made of, and whether the last one is the letter of an exponent
+  walk : Bool → Text → Option Bool
+  walk after [] = Some after
+  walk after (c ∷ text) = cond (nat_lt c 128 && in_number locale after c) (walk (is_exponent_letter c) text) None
+
+  walk_turn : (after letter : Bool) (c : ℕ) (text : Text) → nat_lt c 128 ≡ true → in_number locale after c ≡ true → is_exponent_letter c ≡ letter → walk after (c ∷ text) ≡ walk letter text
+  unfolding walk
+  walk_turn after letter c text low e f = rw (low, e, f)
+
+  digit_turn : (after : Bool) (c : ℕ) (text : Text) → is_digit c ≡ true → walk after (c ∷ text) ≡ walk false text
+  digit_turn after c text e = walk_turn after false c text (grind (arith, nat_tests)) (digit_in after c e) (grind (arith, nat_tests))
+
+  walk_digits : (digits text : Text) → list_all is_digit digits ≡ true → walk false (digits ++ text) ≡ walk false text
+  walk_digits [] text e = refl
+  walk_digits (c ∷ digits) text e = let k = and_parts (is_digit c) (list_all is_digit digits) e in digit_turn false c (digits ++ text) k.0 ∙ walk_digits digits text k.1
+
+  walk_all : (digits : Text) → list_all is_digit digits ≡ true → walk false digits ≡ Some false
+  unfolding walk
+  walk_all digits e = ap (walk false) (sym (append-nil digits)) ∙ walk_digits digits [] e
+
+  walk_fraction : (f : Fraction) (text : Text) → is_numeral_fraction f ≡ true → walk false (fraction_text (decimal_sign locale) f ++ text) ≡ walk false text
+  walk_fraction NoFraction text e = refl
+  walk_fraction (Places digits) text e =
+      let mark : ℕ = decimal_sign locale in
+      let low = sign_is_ascii locale in
+      walk_turn false false mark (digits ++ text) (grind (arith, nat_tests, low)) (or_right (goes_on_word mark) _ (same mark)) (sign_is_mark locale).no_letter ∙ walk_digits digits text e
+
+  walk_signed : (sign : Sign) (digits : Text) → list_all is_digit digits ≡ true → is_exponent_len (length digits) ≡ true → walk true (sign_text sign ++ digits) ≡ Some false
+  unfolding walk
+  walk_signed Absent [] e some = absurd cc
+  walk_signed Absent (c ∷ digits) e some = let k = and_parts (is_digit c) (list_all is_digit digits) e in digit_turn true c digits k.0 ∙ walk_all digits k.1
+  walk_signed Plus digits e some = walk_all digits e
+  walk_signed Minus digits e some = walk_all digits e
+
+  letter_goes_on : (c : ℕ) → is_exponent_letter c ≡ true → goes_on_number locale c ≡ true
+  letter_goes_on c e = let low : c < 128 = grind (arith, nat_tests) in let is = is_alphabetic_ascii c low in grind (arith, nat_tests, is)
+
+  walk_exponent : (x : Exponent) → is_numeral_exponent x ≡ true → walk false (exponent_text x) ≡ Some false
+  unfolding walk
+  walk_exponent NoExponent e = refl
+  walk_exponent (Power letter sign digits) e =
+      let k = and_parts (is_exponent_letter letter) (is_exponent_len (length digits) && list_all is_digit digits) e in
+      let m = and_parts (is_exponent_len (length digits)) (list_all is_digit digits) k.1 in
+      walk_turn false true letter (sign_text sign ++ digits) (let h = k.0 in grind (arith, nat_tests, h)) (letter_goes_on letter k.0) k.0 ∙ walk_signed sign digits m.1 m.0
+
+  walk_numeral : (negative : Bool) (n : Numeral) → IsNumeral n → walk negative (minus_text negative ++ numeral_text (decimal_sign locale) n) ≡ Some false
+  unfolding walk
+  walk_numeral negative n is = go negative
+    where
+      plain : walk false (numeral_text (decimal_sign locale) n) ≡ Some false
+      plain = walk_digits n.whole (fraction_text (decimal_sign locale) n.fraction ++ exponent_text n.exponent) is.whole ∙ walk_fraction n.fraction (exponent_text n.exponent) is.fraction ∙ walk_exponent n.exponent is.exponent
+
+      go : (b : Bool) → walk b (minus_text b ++ numeral_text (decimal_sign locale) n) ≡ Some false
+      go true = plain
+      go false = plain
+
+  walk_step : (after last : Bool) (c : ℕ) (text : Text) → walk after (c ∷ text) ≡ Some last → ((nat_lt c 128 ≡ true) × (in_number locale after c ≡ true)) × (walk (is_exponent_letter c) text ≡ Some last)
+  unfolding walk
+  walk_step after last c text e = let k = cond_some (nat_lt c 128 && in_number locale after c) (walk (is_exponent_letter c) text) last e in (and_parts _ _ k.0, k.1)
+
+  walk_ascii : (after last : Bool) (text : Text) → walk after text ≡ Some last → IsAscii text
+  walk_ascii after last [] e i = omega arith
+  walk_ascii after last (c ∷ text) e zero = ltb-true c 128 (walk_step after last c text e).0.0
+  walk_ascii after last (c ∷ text) e (suc i) = walk_ascii (is_exponent_letter c) last text (walk_step after last c text e).1 i
+
+  walk_span : (after : Bool) (s rest : Text) → walk after s ≡ Some false → stops (goes_on_number locale) rest ≡ true → number_span locale after (s ++ rest) ≡ (s, rest)
+  unfolding walk
+  walk_span true [] rest e ends = absurd cc
+  walk_span false [] [] e ends = refl
+  walk_span false [] (c ∷ rest) e ends = rw (not_true (goes_on_number locale c) ends)
+  walk_span after (c ∷ s) rest e ends =
+      let k = walk_step after false c s e in
+      rw (k.0.1, walk_span (is_exponent_letter c) s rest k.1 ends)
+
+  -- the characters of a number are its bytes
+  written : (s : Text) (negative : Bool) (n : Numeral) → IsNumeral n → starts_digit s ≡ true → encode_utf8_all s ≡ minus_text negative ++ numeral_text (decimal_sign locale) n → s ≡ numeral_text (decimal_sign locale) n
+  written s negative n is starts e = go negative (encodes_same s bytes (e ∙ sym (encodes-IsAscii bytes (walk_ascii negative false bytes (walk_numeral negative n is)))))
+    where
+      bytes : Text
+      bytes = minus_text negative ++ numeral_text (decimal_sign locale) n
+
+      go : (b : Bool) → s ≡ minus_text b ++ numeral_text (decimal_sign locale) n → s ≡ numeral_text (decimal_sign locale) n
+      go true f = absurd (let x : false ≡ true = sym (ap starts_digit f) ∙ starts in cc)
+      go false f = f
+
+  pub number_read : (number : Decimal) (s rest : Text) → IsNumber locale number s → stops (goes_on_number locale) rest ≡ true → number_at locale (s ++ rest) ≡ Some (t.Number number, rest)
+  unfolding number_at
+  number_read number s rest is ends =
+      let r = is.reads in
+      let spelled = written s r.negative r.numeral r.is_numeral is.starts r.written in
+      let walks : walk false s ≡ Some false = ap (walk false) spelled ∙ walk_numeral false r.numeral r.is_numeral in
+      ap (number_of locale) (walk_span false s rest walks ends)
+      ∙ ap (option_map (λ d. (let q : Token × Text = (t.Number d, rest) in q))) (reads_only (decimal_sign locale) (sign_is_mark locale) (encode_utf8_all s) number r)
+
+-- ---- the text of an error is read just where one is spelled
+
+abbrev Is : Language → Error → Text → Type 0
+Is language error s = error_of_text language (encode_utf8_all s) ≡ Some error
+
+-- ---- what is read is spelled
+
+error_encoded : (error : Error) → encode_utf8_all (error_text error) ≡ error_text error
+unfolding encode
+error_encoded Ref = refl
+error_encoded _ = refl
+
+-- the error, and what follows its text
+abbrev found : Error → Option Text → Option (Error × Text)
+found error = option_map (λ rest. (error, rest))
+
+name_sound : (language : Language) (error : Error) (name text : Text) → Is language error name → IfSome (found error (strip name text)) (λ r. Front (Is language r.0) text r.1)
+name_sound language error name text is = if_map (λ r. Front (Is language r.0) text r.1) (λ rest. (error, rest)) (strip name text)
+    (if_more (λ rest. Front (Is language error) text rest) (λ rest. text ≡ name ++ rest) (λ rest e. record { spelled = name; parts = e; is = is }) (strip name text) (strip_is name text))
+
+english_sound : (language : Language) (errors : List Error) (text : Text) → IfSome (english_error errors text) (λ r. Front (Is language r.0) text r.1)
+english_sound language [] text = tt
+english_sound language (error ∷ errors) text =
+    if_or (λ r. Front (Is language r.0) text r.1) (found error (strip (error_text error) text)) (english_error errors text)
+    (name_sound language error (error_text error) text (ap (error_of_text language) (error_encoded error) ∙ error_of_text-error_text language error)) (english_sound language errors text)
+
+own_is : (language : Language) → IfSome (own_text language) (λ name. Is language Ref name)
+unfolding encode
+own_is En = tt
+own_is De = refl
+own_is Fr = tt
+own_is Es = refl
+
+own_sound : (language : Language) (text : Text) → IfSome (found Ref (own_error language text)) (λ r. Front (Is language r.0) text r.1)
+own_sound language text = go (own_text language) (own_is language)
+  where
+    go : (o : Option Text) → IfSome o (λ name. Is language Ref name) → IfSome (found Ref (option_and_then (λ name. strip name text) o)) (λ r. Front (Is language r.0) text r.1)
+    go None e = tt
+    go (Some name) e = name_sound language Ref name text e
+
+pub error_sound : (language : Language) (text : Text) → IfSome (error_at language text) (λ r. Front (Is language r.0) text r.1)
+unfolding error_at
+error_sound language text =
+    if_or (λ r. Front (Is language r.0) text r.1) (found Ref (own_error language text)) (english_error all_errors text)
+    (own_sound language text)
+    (english_sound language all_errors text)
+
+-- ---- what is spelled is read: no text of an error begins another
+
+english_read : (language : Language) (error : Error) (rest : Text) → error_at language (error_text error ++ rest) ≡ Some (error, rest)
+unfolding error_at
+english_read En Ref rest = refl
+english_read De Ref rest = refl
+english_read Fr Ref rest = refl
+english_read Es Ref rest = refl
+english_read _ _ rest = refl
+
+own_read : (language : Language) (rest : Text) → IfSome (own_text language) (λ name. error_at language (name ++ rest) ≡ Some (Ref, rest))
+unfolding error_at
+own_read En rest = tt
+own_read De rest = refl
+own_read Fr rest = tt
+own_read Es rest = refl
+
+-- the characters whose bytes are the language's own text
+own_named : (language : Language) (s : Text) → is_own_reference_error language (encode_utf8_all s) ≡ true → own_text language ≡ Some s
+unfolding encode
+own_named En s e = absurd cc
+own_named De s e = ap (λ (x : Text). Some x) (encodes_same (codes "#BEZUG!") s ((bytes_decides _ _).0 e))
+own_named Fr s e = absurd cc
+own_named Es s e = ap (λ (x : Text). Some x) (encodes_same (35 ∷ 161 ∷ codes "REF!") s ((bytes_decides _ _).0 e))
+
+named : (language : Language) (s rest : Text) (error : Error) (own : Bool) → is_own_reference_error language (encode_utf8_all s) ≡ own
+    → cond own (Some Ref) (entry_named error_text all_errors (encode_utf8_all s)) ≡ Some error → error_at language (s ++ rest) ≡ Some (error, rest)
+named language s rest error true h e =
+    let is : Ref ≡ error = cc in
+    subst (λ (o : Option Text). IfSome o (λ name. error_at language (name ++ rest) ≡ Some (error, rest))) (own_named language s h)
+    (subst (λ (x : Error). IfSome (own_text language) (λ name. error_at language (name ++ rest) ≡ Some (x, rest))) is (own_read language rest))
+named language s rest error false h e =
+    let is : error_text error ≡ s = encodes_same (error_text error) s (error_encoded error ∙ found_name error_text all_errors (encode_utf8_all s) error e) in
+    subst (λ (x : Text). error_at language (x ++ rest) ≡ Some (error, rest)) is (english_read language error rest)
+
+pub error_read : (language : Language) (s : Text) (error : Error) (rest : Text) → Is language error s → error_at language (s ++ rest) ≡ Some (error, rest)
+error_read language s error rest e = named language s rest error (is_own_reference_error language (encode_utf8_all s)) refl e
+
+-- each begins with a hash
+pub error_none : (language : Language) (text : Text) → past 35 text ≡ None → error_at language text ≡ None
+unfolding error_at
+error_none En text e = rw e
+error_none _ text e = rw e
+
+-- ---- a text between quotes is read just where one is spelled
+
+-- ---- what is spelled is read
+
+closing_read : (quote : ℕ) (rest : Text) → stops (λ c. c == quote) rest ≡ true → quoted quote true rest ≡ Some ([], rest)
+closing_read quote [] e = refl
+closing_read quote (c ∷ rest) e = rw (not_true (c == quote) e)
+
+twice_read : (quote c : ℕ) (z : Text) → quoted quote false (twice quote c ++ z) ≡ in_front c (quoted quote false z)
+twice_read quote c z = go (c == quote) refl
+  where
+    go : (b : Bool) → (c == quote) ≡ b → quoted quote false (cond b (quote ∷ quote ∷ []) (c ∷ []) ++ z) ≡ in_front c (quoted quote false z)
+    go true e = rw (same quote) (ap (λ (d : ℕ). in_front d (quoted quote false z)) (sym (eqb-true c quote e)))
+    go false e = rw e
+
+pub quoted_read : (quote : ℕ) (x rest : Text) → stops (λ c. c == quote) rest ≡ true → quoted quote false (doubled quote x ++ (quote ∷ rest)) ≡ Some (x, rest)
+quoted_read quote [] rest e = rw (same quote) (closing_read quote rest e)
+quoted_read quote (c ∷ x) rest e =
+    ap (quoted quote false) (append_assoc (twice quote c) (doubled quote x) (quote ∷ rest)) ∙ twice_read quote c (doubled quote x ++ (quote ∷ rest)) ∙ ap (in_front c) (quoted_read quote x rest e)
+
+-- ---- what is read is spelled
+
+-- the text up to the closing quote, maybe behind a quote
+pub record Closes (quote : ℕ) (behind : Bool) (text x rest : Text) : Type 0 where
+  pub parts : cond behind (quote ∷ text) text ≡ doubled quote x ++ (quote ∷ rest)
+  pub ends : stops (λ c. c == quote) rest ≡ true
+
+one_more : (quote c : ℕ) (text x rest : Text) (b : Bool) → (c == quote) ≡ b → Closes quote false text x rest → cond b (quote ∷ quote ∷ text) (c ∷ text) ≡ doubled quote (c ∷ x) ++ (quote ∷ rest)
+one_more quote c text x rest b e f =
+    go b ∙ ap (λ (t : Bool). cond t (quote ∷ quote ∷ []) (c ∷ []) ++ text) (sym e) ∙ ap (λ (y : Text). twice quote c ++ y) f.parts ∙ sym (append_assoc (twice quote c) (doubled quote x) (quote ∷ rest))
+  where
+    go : (b : Bool) → cond b (quote ∷ quote ∷ text) (c ∷ text) ≡ cond b (quote ∷ quote ∷ []) (c ∷ []) ++ text
+    go true = refl
+    go false = refl
+
+pub quoted_sound : (quote : ℕ) (behind : Bool) (text : Text) → IfSome (quoted quote behind text) (λ r. Closes quote behind text r.0 r.1)
+quoted_sound quote false [] = tt
+quoted_sound quote true [] = record { parts = refl; ends = refl }
+quoted_sound quote false (c ∷ text) =
+    if_cond (λ r. Closes quote false (c ∷ text) r.0 r.1) (c == quote) (quoted quote true text) (in_front c (quoted quote false text))
+    (λ e. if_more (λ r. Closes quote false (c ∷ text) r.0 r.1) (λ r. Closes quote true text r.0 r.1)
+    (λ r f. record { parts = ap (λ (d : ℕ). d ∷ text) (eqb-true c quote e) ∙ f.parts; ends = f.ends }) (quoted quote true text) (quoted_sound quote true text))
+    (λ e. if_map (λ r. Closes quote false (c ∷ text) r.0 r.1) (λ r. (c ∷ r.0, r.1)) (quoted quote false text)
+    (if_more (λ r. Closes quote false (c ∷ text) (c ∷ r.0) r.1) (λ r. Closes quote false text r.0 r.1)
+    (λ r f. record { parts = one_more quote c text r.0 r.1 false e f; ends = f.ends }) (quoted quote false text) (quoted_sound quote false text)))
+quoted_sound quote true (c ∷ text) =
+    if_cond (λ r. Closes quote true (c ∷ text) r.0 r.1) (c == quote) (in_front quote (quoted quote false text)) (Some ([], c ∷ text))
+    (λ e. if_map (λ r. Closes quote true (c ∷ text) r.0 r.1) (λ r. (quote ∷ r.0, r.1)) (quoted quote false text)
+    (if_more (λ r. Closes quote true (c ∷ text) (quote ∷ r.0) r.1) (λ r. Closes quote false text r.0 r.1)
+    (λ r f. record { parts = ap (λ (d : ℕ). quote ∷ d ∷ text) (eqb-true c quote e) ∙ one_more quote quote text r.0 r.1 true (same quote) f; ends = f.ends }) (quoted quote false text) (quoted_sound quote false text)))
+    (λ e. record { parts = refl; ends = ap not e })

@@ -1,4 +1,4 @@
-ghost use Rattle.std.specs.Prelude.{◌≡◌, IfOk, IsOkUnless, string_bytes};
+ghost use Rattle.std.specs.Prelude.{◌≡◌, ◌++◌, IfOk, OnOk, IsOkUnless, string_bytes};
 ghost use Rattle.base_values.specs.declared.EditError.TheVariants.{NoMemory};
 ghost use Rattle.formula_print.specs.Forms.{localized_style, row_column_style, excel_style, excel_text, localized_text, english_text, row_column_text};
 ghost use Rattle.formula_print.specs.Print.{text_of};
@@ -43,13 +43,29 @@ fn text_in(alloc: Global, style: Style, node: &Node) -> Result<String, AllocErro
     Ok(text)
 }
 
-/// The text of a formula that stands in the cell `context`, in a locale's signs and a language's
-/// words.
+/// Writes the text of a formula that stands in the cell `context` at the end, in a locale's signs and
+/// a language's words.
 ///
 /// No blanks are printed, and parentheses only where an operand needs them. A reference that lies
 /// outside the sheet is `#REF!`, and a range that does so in part is `:` of what is left. Errors are
-/// printed in English. `NoMemory` is the only error.
+/// printed in English. `NoMemory` is the only error. A front of the text may then have been written.
 #[tactic(auto, unfolding(crate::specs::Forms::localized_text))]
+pub fn push_localized_string(
+    out: &mut String,
+    node: &Node,
+    context: &CellReferenceRC,
+    locale: Locale,
+    language: Language,
+) -> Result<(), EditError>
+    ensures text { OnOk result (string_bytes out.new ≡ string_bytes out.old ++ localized_text (context_place context.now) locale language node.now) }
+    ensures only { IsOkUnless result NoMemory }
+{
+    Ok(print_node(localized_style(context, locale, language), node, out)?)
+}
+
+/// The text that `push_localized_string` writes.
+///
+/// `NoMemory` is the only error.
 pub fn to_localized_string(
     alloc: Global,
     node: &Node,
@@ -60,7 +76,9 @@ pub fn to_localized_string(
     ensures text { IfOk result (λ text. string_bytes text ≡ localized_text (context_place context.now) locale language node.now) }
     ensures only { IsOkUnless result NoMemory }
 {
-    Ok(text_in(alloc, localized_style(context, locale, language), node)?)
+    let mut text = String::new(alloc);
+    push_localized_string(&mut text, node, context, locale, language)?;
+    Ok(text)
 }
 
 /// The text of a formula that stands in the cell `context`, with English words and signs.

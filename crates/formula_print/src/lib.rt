@@ -4,8 +4,10 @@
 #![tactic(auto)]
 
 mod bound_names;
+mod column;
 mod forms;
 mod kind;
+mod number;
 mod pieces;
 mod print;
 mod reference;
@@ -14,6 +16,7 @@ mod store;
 mod style;
 
 pub use forms::{
-    to_english_string, to_excel_array_formula_string, to_excel_string, to_localized_string,
-    to_rc_format,
+    push_localized_string, to_english_string, to_excel_array_formula_string, to_excel_string,
+    to_localized_string, to_rc_format,
 };
+pub use number::push_number;

@@ -1,13 +1,11 @@
 ghost use Rattle.std.specs.Prelude.{◌≡◌, ◌++◌, map, OnOk, string_bytes, encode_utf8, encode_utf8_all};
 ghost use Rattle.std.specs.Str.{chars};
 ghost use Rattle.std.specs.List.{flat_map};
-ghost use Rattle.base_tables.specs.Locale.{decimal_sign};
 ghost use Rattle.base_tables.specs.Tables.{lowered};
-ghost use Rattle.base_decimal.specs.Printed.{printed as decimal_text};
 ghost use Rattle.formula_print.specs.Pieces as spec;
 
+use crate::number::push_number;
 use crate::style::{Dialect, Style};
-use base_decimal::Decimal;
 use base_tables::{Function, Locale};
 use base_values::{Items, Text};
 use formula_levels::Infix;
@@ -40,20 +38,6 @@ pub(crate) fn push_text(text: &str, out: &mut String) -> Result<(), AllocError>
     out.push_str("\"")?;
     push_doubled(text, out)?;
     out.push_str("\"")
-}
-
-/// A number in plain digits.
-pub(crate) fn push_number(
-    locale: Locale,
-    number: &Decimal,
-    out: &mut String,
-) -> Result<(), AllocError>
-    ensures { OnOk result (string_bytes out.new ≡ string_bytes out.old ++ decimal_text (decimal_sign locale) number.now) }
-{
-    match number.print(*out.allocator(), locale) {
-        Ok(text) => out.push_str(text.as_str()),
-        Err(_) => Err(AllocError),
-    }
 }
 
 /// The name of a call, with A to Z as small letters.
@@ -151,7 +135,7 @@ fn push_item(style: Style, item: &ArrayItem, out: &mut String) -> Result<(), All
 {
     match item {
         ArrayItem::Boolean(value) => out.push_str(style.language.boolean(*value)),
-        ArrayItem::Number(number) => push_number(style.locale, number, out),
+        ArrayItem::Number(number) => push_number(out, number, style.locale),
         ArrayItem::Text(text) => push_text(text.as_str(), out),
         ArrayItem::Error(error) => out.push_str(error.text()),
     }

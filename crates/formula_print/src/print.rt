@@ -6,9 +6,10 @@ ghost use Rattle.formula_print.specs.Pieces.{function_word};
 ghost use Rattle.formula_print.specs.Print as spec;
 
 use crate::kind::{Kind, Need, left_need, right_need};
+use crate::number::push_number;
 use crate::pieces::{
-    function_word, infix_sign, lambda_word, push_array, push_lowered, push_number, push_parameters,
-    push_text, single_word, spill_word,
+    function_word, infix_sign, lambda_word, push_array, push_lowered, push_parameters, push_text,
+    single_word, spill_word,
 };
 use crate::reference::{is_cell_first, is_range_cell_first, push_range, push_reference};
 use crate::style::{Dialect, Style};
@@ -118,7 +119,7 @@ pub(crate) fn print_node(style: Style, node: &Node, out: &mut String) -> Result<
 {
     match node {
         Node::Boolean(value) => out.push_str(style.language.boolean(*value)),
-        Node::Number(number) => push_number(style.locale, number, out),
+        Node::Number(number) => push_number(out, number, style.locale),
         Node::Text(text) => push_text(text.as_str(), out),
         Node::Reference(sheet, corner) => push_reference(style.corners, sheet, *corner, out),
         Node::Range(sheet, a, b) => push_range(style.corners, sheet, *a, *b, out),

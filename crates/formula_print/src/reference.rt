@@ -1,23 +1,13 @@
 ghost use Rattle.std.specs.Prelude.{◌≡◌, ◌++◌, ◌&&◌, not, OnOk, string_bytes};
-ghost use Rattle.base_tables.specs.Column.{column_name};
 ghost use Rattle.formula_print.specs.References as spec;
 
+use crate::column::push_column_name;
 use crate::style::Corners;
 use base_shared::Shared;
-use base_tables::{number_to_column, quote_name};
+use base_tables::{needs_quotes, quote_name};
 use base_values::{Position, Text};
 use formula_tree::{Corner, corner_at, is_whole_columns, is_whole_rows};
 use std::alloc::AllocError;
-
-fn push_column_name(column: i32, out: &mut String) -> Result<(), AllocError>
-    ensures { OnOk result (string_bytes out.new ≡ string_bytes out.old ++ spec.some_text (column_name column)) }
-{
-    match number_to_column(*out.allocator(), column) {
-        Ok(Some(name)) => out.push_str(name.as_str()),
-        Ok(None) => Ok(()),
-        Err(_) => Err(AllocError),
-    }
-}
 
 fn push_mark(absolute: bool, out: &mut String) -> Result<(), AllocError>
     ensures { OnOk result (string_bytes out.new ≡ string_bytes out.old ++ spec.mark absolute) }
@@ -74,13 +64,25 @@ fn push_corners(
     }
 }
 
+/// The name of a sheet as one that needs quotes, in a text of its own.
 #[tactic(auto, unfolding(crate::specs::References::quoted_sheet))]
-fn push_quoted_name(name: &str, out: &mut String) -> Result<(), AllocError>
+fn push_in_quotes(name: &str, out: &mut String) -> Result<(), AllocError>
     ensures { OnOk result (string_bytes out.new ≡ string_bytes out.old ++ spec.quoted_sheet name.now) }
 {
     match quote_name(*out.allocator(), name) {
         Ok(text) => out.push_str(text.as_str()),
         Err(_) => Err(AllocError),
+    }
+}
+
+#[tactic(auto, using(crate::proofs::SheetNames::bare_sheet))]
+fn push_quoted_name(name: &str, out: &mut String) -> Result<(), AllocError>
+    ensures { OnOk result (string_bytes out.new ≡ string_bytes out.old ++ spec.quoted_sheet name.now) }
+{
+    if needs_quotes(name) {
+        push_in_quotes(name, out)
+    } else {
+        out.push_str(name)
     }
 }
 

@@ -1,8 +1,8 @@
--- A text without a backslash stands for itself.
+-- Texts that stand for themselves, and texts that are written as they are.
 use Rattle.std.proofs.Common.{◌≡◌, ℕ, ◌==◌, Bool, true, false, cond, List, [], ◌∷◌, Some, refl, ap, ◌∙◌}
 use Rattle.std.specs.Prelude.{IsTrue, not, ◌||◌}
 use Rattle.std.specs.List.{list_any}
-use Rattle.script_lines.specs.Escapes.{unescaped, onto}
+use Rattle.script_lines.specs.Escapes.{needs_escape, escaped, unescaped, onto}
 use Rattle.script_lines.proofs.EscapeLaws.{unescaped-byte}
 
 pub plain_unescaped : (bytes : List ℕ) → list_any (λ b. b == 92) bytes ≡ false → unescaped bytes ≡ Some bytes
@@ -20,3 +20,14 @@ stands_for_itself bytes t is true_ = plain_unescaped bytes (go (list_any (λ b. 
     go : (found : Bool) → t ≡ not found → t ≡ true → found ≡ false
     go false e h = refl
     go true e h = absurd (cc)
+
+-- a text without a line feed and a backslash is written as it is
+pub plain_escaped : (text : List ℕ) → list_any needs_escape text ≡ false → escaped text ≡ text
+plain_escaped [] plain = refl
+plain_escaped (b ∷ text) plain = go (plain_escaped text) (b == 10) refl (b == 92) refl plain
+  where
+    go : (list_any needs_escape text ≡ false → escaped text ≡ text) → (n : Bool) → (b == 10) ≡ n → (s : Bool) → (b == 92) ≡ s
+        → ((n || s) || list_any needs_escape text) ≡ false → escaped (b ∷ text) ≡ b ∷ text
+    go rest true e s f plain = absurd cc
+    go rest false e true f plain = absurd cc
+    go rest false e false f plain = rw (e, f) (ap (λ t. b ∷ t) (rest plain))

@@ -1,9 +1,13 @@
 -- Texts on one line: `\n` stands for a line feed, and `\\` for a backslash.
-use Rattle.std.specs.Prelude.{◌≡◌, ℕ, Bool, true, not, List, [], ◌∷◌, ◌==◌, if◌then◌else◌}
+use Rattle.std.specs.Prelude.{◌≡◌, ℕ, Bool, true, not, List, [], ◌∷◌, ◌==◌, ◌||◌, if◌then◌else◌}
 use Rattle.std.specs.List.{flat_map, list_all}
 use Rattle.std.specs.Option.{option_map}
 use Rattle.std.specs.declared.option.Option.{Option}
 use Rattle.std.specs.declared.option.Option.TheVariants.{Some, None}
+
+-- a byte that is not written as itself
+abbrev pub needs_escape : ℕ → Bool
+needs_escape b = b == 10 || b == 92
 
 -- how a byte is written
 abbrev pub escape_byte : ℕ → List ℕ

@@ -3,7 +3,7 @@ ghost use Rattle.std.specs.List.{list_any};
 ghost use Rattle.std.specs.Str.{IsUtf8};
 ghost use Rattle.std.specs.Option.{option_map};
 ghost use Rattle.base_values.specs.declared.error.EditError.TheVariants.{NoMemory};
-ghost use Rattle.script_lines.specs.Escapes.{escape_byte, escaped, unescaped, onto, IsUndone, IsOnlyWay};
+ghost use Rattle.script_lines.specs.Escapes.{needs_escape, escape_byte, escaped, unescaped, onto, IsUndone, IsOnlyWay};
 
 use base_values::{EditError, Text};
 use std::alloc::{AllocError, Global};
@@ -21,15 +21,33 @@ fn push_escaped_byte(out: &mut Vec<u8>, byte: u8) -> Result<(), AllocError>
     }
 }
 
-/// Writes a text at the end as answers print it: `\n` for a line feed, `\\` for a backslash. Where
-/// memory ends, a front of it may have been written.
-pub fn push_escaped(out: &mut Vec<u8>, text: &[u8]) -> Result<(), AllocError>
+fn push_escaped_bytes(out: &mut Vec<u8>, text: &[u8]) -> Result<(), AllocError>
     ensures { OnOk result (out.new.items ≡ out.old.items ++ escaped text.now) }
 {
     for byte in text {
         push_escaped_byte(out, *byte)?;
     }
     Ok(())
+}
+
+/// Whether a byte of the text is not written as itself.
+fn needs_escape(text: &[u8]) -> bool
+    ensures { result ≡ list_any needs_escape text.now }
+{
+    text.iter().any(|byte| *byte == b'\n' || *byte == b'\\')
+}
+
+/// Writes a text at the end as answers print it: `\n` for a line feed, `\\` for a backslash. Where
+/// memory ends, a front of it may have been written.
+#[tactic(auto, using(crate::proofs::Plain::plain_escaped))]
+pub fn push_escaped(out: &mut Vec<u8>, text: &[u8]) -> Result<(), AllocError>
+    ensures { OnOk result (out.new.items ≡ out.old.items ++ escaped text.now) }
+{
+    if needs_escape(text) {
+        return push_escaped_bytes(out, text);
+    }
+    // Most texts are written as they are: they are copied at once.
+    out.extend_from_slice(text)
 }
 
 /// The first byte that an escaped text stands for, and the rest of the text.

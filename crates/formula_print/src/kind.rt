@@ -9,7 +9,7 @@ const OPERAND: u8 = 11;
 
 /// What the rules of parentheses see of a tree.
 #[derive(Clone, Copy)]
-pub(crate) enum Kind {
+pub enum Kind {
     Infix(Infix),
     Prefix(Prefix),
     Postfix(Postfix),
@@ -25,7 +25,7 @@ pub(crate) enum Kind {
 
 /// What an operand must be to stand without parentheses.
 #[derive(Clone, Copy)]
-pub(crate) enum Need {
+pub enum Need {
     /// Of this level or a higher one.
     Level(u8),
     /// The operand of a minus.

@@ -19,4 +19,6 @@ pub use forms::{
     push_localized_string, to_english_string, to_excel_array_formula_string, to_excel_string,
     to_localized_string, to_rc_format,
 };
+pub use kind::{Kind, Need};
 pub use number::push_number;
+pub use style::{Corners, Dialect, Style};

@@ -20,7 +20,7 @@ use Rattle.formula_lex.specs.declared.place.Line.{Line}
 use Rattle.formula_lex.specs.declared.place.Side.{Side}
 use Rattle.formula_lex.specs.declared.place.Spot.{Spot}
 use Rattle.formula_lex.specs.Lexicon.{dollar, row_of_name, IsLine, IsColumn, IsRow, IsPair, IsCell, IsSpan, IsRange, cells, columns, rows}
-use Rattle.formula_lex.proofs.Reading.{past_none, Front, if_each, if_or, if_map, if_then, if_cond, if_more, past_is}
+use Rattle.formula_lex.proofs.Reading.{past_none, Front, if_each, if_over, if_or, if_map, if_then, if_cond, if_more, past_is}
 use Rattle.formula_lex.specs.declared.place.Side.TheVariants as side
 use Rattle.formula_lex.specs.declared.place.Spot.TheVariants as spot
 
@@ -208,11 +208,8 @@ corner_sound text = go (column_at text) (line_sound column_of_name is_letter tex
     row : (column : Line) (rest : Text) → Front (LineIs column_of_name column) text rest → (o : Option (Line × Text)) → IfSome o (λ r. Front (LineIs row_of_name r.0) rest r.1)
         → IfSome (with_row column rest o) (λ r. Front (IsSide r.0) text r.1)
     row column rest f None g = f
-    row column rest f (Some r) g = record {
-      spelled = f.spelled ++ g.spelled;
-      parts = f.parts ∙ ap (λ (x : Text). f.spelled ++ x) g.parts ∙ sym (append_assoc f.spelled g.spelled r.1);
-      is = record { first = f.spelled; second = g.spelled; parts = refl; is_first = f.is; is_second = g.is };
-    }
+    row column rest f (Some r) g =
+        record { spelled = f.spelled ++ g.spelled; parts = rw (f.parts, g.parts, append_assoc f.spelled g.spelled r.1); is = record { first = f.spelled; second = g.spelled; parts = refl; is_first = f.is; is_second = g.is } }
 
     go : (o : Option (Line × Text)) → IfSome o (λ r. Front (LineIs column_of_name r.0) text r.1) → IfSome (with_column text o) (λ r. Front (IsSide r.0) text r.1)
     go None f = if_map (λ r. Front (IsSide r.0) text r.1) (λ r. (side.Row r.0, r.1)) (row_at text) (line_sound row_of_name is_digit text)
@@ -261,13 +258,8 @@ range_sound a s text is = colon (past 58 text) (past_is 58 text)
   where
     to : (z : Text) → text ≡ 58 ∷ z → (b : Side) (rest : Text) → Front (IsSide b) z rest → IfSome (range_to a (b, rest)) (λ r. Placed (IsRangeSpot r.0) (s ++ text) r.1)
     to z e b rest f = if_cond (λ (r : Spot × Text). Placed (IsRangeSpot r.0) (s ++ text) r.1) (stops goes_on_place rest) _ None
-        (λ ends. if_map (λ (r : Spot × Text). Placed (IsRangeSpot r.0) (s ++ text) r.1) (λ x. (x, rest)) (between a b)
-        (if_more (λ x. Placed (IsRangeSpot x) (s ++ text) rest) (λ x. IsRangeSpot x (s ++ (58 ∷ f.spelled))) (λ x range. record {
-          spelled = s ++ (58 ∷ f.spelled);
-          parts = ap (λ (x : Text). s ++ x) (e ∙ ap (λ (x : Text). 58 ∷ x) f.parts) ∙ sym (append_assoc s (58 ∷ f.spelled) rest);
-          is = range;
-          ends = ends;
-        }) (between a b) (between_sound a b s f.spelled is f.is)))
+        (λ ends. if_over (λ (r : Spot × Text). Placed (IsRangeSpot r.0) (s ++ text) r.1) (λ x. (x, rest)) (λ x. IsRangeSpot x (s ++ (58 ∷ f.spelled)))
+        (λ x range. record { spelled = s ++ (58 ∷ f.spelled); parts = rw (e, f.parts, append_assoc s (58 ∷ f.spelled) rest); is = range; ends = ends }) (between a b) (between_sound a b s f.spelled is f.is))
         (λ h. tt)
 
     colon : (o : Option Text) → MatchOption o (stops (λ c. c == 58) text ≡ true) (λ z. text ≡ 58 ∷ z)

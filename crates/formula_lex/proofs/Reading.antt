@@ -53,6 +53,10 @@ module _ {A : Type 0} (P : A → Type 0) where
   pub if_cond : (b : Bool) (o other : Option A) → (b ≡ true → IfSome o P) → (b ≡ false → IfSome other P) → IfSome (cond b o other) P
   if_cond b o other = cond_both b o other (λ x. IfSome x P)
 
+  pub if_over : {B : Type 0} (f : B → A) (Q : B → Type 0) → ((b : B) → Q b → P (f b)) → (o : Option B) → IfSome o Q → IfSome (option_map f o) P
+  if_over f Q h None q = tt
+  if_over f Q h (Some b) q = h b q
+
   pub if_more : (Q : A → Type 0) → ((a : A) → Q a → P a) → (o : Option A) → IfSome o Q → IfSome o P
   if_more Q h None f = tt
   if_more Q h (Some a) f = h a f

@@ -24,7 +24,7 @@ use Rattle.formula_lex.specs.Characters.{Text, is_blank, goes_on_place, goes_on_
 use Rattle.formula_lex.specs.Lexicon.{IsCell, IsRange, IsSheetName, plain, quoted, IsSheet, OnSheet, IsNumber, Spells, NoRange, NoError, Ends, NoCell, IsPair, IsTokens}
 use Rattle.formula_lex.specs.laws.Lex.{past, is_sign, on_sheet, behind_word, word_at, behind_quotes, quoted_text, quoted_sheet_at, text_at, plain_at, error_or_hash, error_at, behind_less, behind_greater, by_sign, place_token, place_at, spot_at, range_behind, token_at, number_at, if_next, single, some_text, behind_blanks, with_token, tokens_from, tokens_of}
 use Rattle.formula_lex.proofs.Places.{start_is, IsRangeSpot, IsSpot, Placed, range_sound, spot_sound, range_read, cell_read, spot_starts, no_spot, cell_no_digit, word_no_spot}
-use Rattle.formula_lex.proofs.Reading.{past_none, Front, past_is, if_at, if_map, if_cond, if_more}
+use Rattle.formula_lex.proofs.Reading.{past_none, Front, past_is, if_at, if_over, if_map, if_cond, if_more}
 use Rattle.formula_lex.proofs.Words.{error_sound, error_read, error_none, number_read, FrontNumber, number_sound, quoted_read, Closes, quoted_sound}
 use Rattle.formula_lex.specs.declared.place.Side.TheVariants as side
 use Rattle.formula_lex.specs.declared.place.Spot.TheVariants as spot
@@ -232,8 +232,7 @@ module _ (locale : Locale) (language : Language) where
   -- ---- places
 
   place_sound : (sheet : Option Text) (text first place : Text) → text ≡ first ++ place → IsSheet sheet first → IfSome (place_at sheet place) (Sound text)
-  place_sound sheet text first place parts is = if_map (Sound text) (λ r. (place_token sheet r.0, r.1)) (spot_at place)
-      (if_more (λ r. Sound text (place_token sheet r.0, r.1)) (λ r. Placed (IsSpot r.0) place r.1) go (spot_at place) (spot_sound place))
+  place_sound sheet text first place parts is = if_over (Sound text) (λ r. (place_token sheet r.0, r.1)) (λ r. Placed (IsSpot r.0) place r.1) go (spot_at place) (spot_sound place)
     where
       whole : (s rest : Text) → place ≡ s ++ rest → text ≡ (first ++ s) ++ rest
       whole s rest e = rw (parts, e, append_assoc first s rest)

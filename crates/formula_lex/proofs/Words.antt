@@ -50,7 +50,7 @@ module _ (locale : Locale) where
   abbrev span_by : Text × Text → ℕ → Text → Bool → Text × Text
   span_by s c text b = cond b (c ∷ s.0, s.1) ([], c ∷ text)
 
-  number_span_is : (after : Bool) (text : Text) → (text ≡ (number_span locale after text).0 ++ (number_span locale after text).1) × (stops (goes_on_number locale) (number_span locale after text).1 ≡ true)
+  pub number_span_is : (after : Bool) (text : Text) → (text ≡ (number_span locale after text).0 ++ (number_span locale after text).1) × (stops (goes_on_number locale) (number_span locale after text).1 ≡ true)
   number_span_is after [] = (refl, refl)
   number_span_is after (c ∷ text) = go (number_span locale (is_exponent_letter c) text) (number_span_is (is_exponent_letter c) text) (in_number locale after c) refl
     where

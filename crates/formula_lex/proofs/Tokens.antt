@@ -23,7 +23,7 @@ use Rattle.formula_lex.specs.declared.place.Spot.{Spot}
 use Rattle.formula_lex.specs.Characters.{Text, is_blank, goes_on_place, goes_on_name, doubled}
 use Rattle.formula_lex.specs.Lexicon.{IsCell, IsRange, IsSheetName, plain, quoted, IsSheet, OnSheet, IsNumber, Spells, NoRange, NoError, Ends, NoCell, IsPair, IsTokens}
 use Rattle.formula_lex.specs.laws.Lex.{past, is_sign, on_sheet, behind_word, word_at, behind_quotes, quoted_text, quoted_sheet_at, text_at, plain_at, error_or_hash, error_at, behind_less, behind_greater, by_sign, place_token, place_at, spot_at, range_behind, token_at, number_at, if_next, single, some_text, behind_blanks, with_token, tokens_from, tokens_of}
-use Rattle.formula_lex.proofs.Places.{start_is, IsRangeSpot, IsSpot, Placed, range_sound, spot_sound, range_read, cell_read, spot_starts, no_spot, cell_no_digit, word_no_spot}
+use Rattle.formula_lex.proofs.Places.{start_is, Marks, ranged, IsSpot, Placed, range_sound, spot_sound, range_read, cell_read, spot_starts, no_spot, cell_no_digit, word_no_spot}
 use Rattle.formula_lex.proofs.Reading.{past_none, Front, past_is, if_at, if_over, if_map, if_cond, if_more}
 use Rattle.formula_lex.proofs.Words.{error_sound, error_read, error_none, number_read, FrontNumber, number_sound, quoted_read, Closes, quoted_sound}
 use Rattle.formula_lex.specs.declared.place.Side.TheVariants as side
@@ -44,10 +44,9 @@ none_on Is s is = subst Is (sym (is.parts ∙ ap (λ (x : Text). x ++ is.second)
 cell_spot : (mark : CellMark) (s rest : Text) → IsCell mark s → stops goes_on_place rest ≡ true → NoRange None (s ++ rest) → spot_at (s ++ rest) ≡ Some (spot.Cell mark, rest)
 cell_spot mark s rest is ends never = cell_read mark s rest is ends ∙ go (range_behind (side.Cell mark) rest) (range_sound (side.Cell mark) s rest is)
   where
-    go : (o : Option (Spot × Text)) → IfSome o (λ r. Placed (IsRangeSpot r.0) (s ++ rest) r.1) → option_or o (Some (spot.Cell mark, rest)) ≡ Some (spot.Cell mark, rest)
+    go : (o : Option (Marks × Text)) → IfSome o (λ r. Placed (IsRange r.0.0 r.0.1) (s ++ rest) r.1) → option_or (ranged o) (Some (spot.Cell mark, rest)) ≡ Some (spot.Cell mark, rest)
     go None f = refl
-    go (Some (spot.Cell mark, more)) f = absurd f.is
-    go (Some (spot.Range a b, more)) f = absurd (never a b f.spelled more f.parts (on_none (IsRange a b) f.spelled f.is) f.ends)
+    go (Some r) f = absurd (never r.0.0 r.0.1 f.spelled r.1 f.parts (on_none (IsRange r.0.0 r.0.1) f.spelled f.is) f.ends)
 
 no_spot_read : (text : Text) → ((mark : CellMark) (rest : Text) → Placed (IsCell mark) text rest → ⊥) → NoRange None text → spot_at text ≡ None
 no_spot_read text no_cell no_range = go (spot_at text) (spot_sound text)
@@ -205,9 +204,9 @@ apart sheet a b mark more rest e =
     let x : t.Range sheet a b ≡ t.Reference sheet mark = ap (λ (q : Token × Text). q.0) p in
     absurd cc
 
-stops_name : (text : Text) → stops goes_on_word text ≡ true → stops (λ c. c == 33) text ≡ true → stops goes_on_name text ≡ true
-stops_name [] e f = refl
-stops_name (c ∷ text) e f = ap not (or_from (goes_on_word c) (c == 33) (not_true (goes_on_word c) e) (not_true (c == 33) f))
+stops_either : (p q : ℕ → Bool) (text : Text) → stops p text ≡ true → stops q text ≡ true → stops (λ c. p c || q c) text ≡ true
+stops_either p q [] e f = refl
+stops_either p q (c ∷ text) e f = ap not (or_from (p c) (q c) (not_true (p c) e) (not_true (q c) f))
 
 abbrev span_by : ℕ → Text → Text × Text → Bool → Text × Text
 span_by c z s passes = cond passes (c ∷ s.0, s.1) ([], c ∷ z)
@@ -263,7 +262,7 @@ module _ (locale : Locale) (language : Language) where
       let parts : c ∷ text ≡ s.0 ++ s.1 = span_parts goes_on_word (c ∷ text) in
       if_cond (Sound (c ∷ text)) (stops (λ d. d == 33) s.1) (Some (t.Word (encode_utf8_all s.0), s.1)) (cond (reads_as_cell s.0) None (on_sheet (encode_utf8_all s.0) s.1))
       (λ h e. record { spelled = s.0; parts = parts; spells = (word_front c text start, refl);
-      ends = (stops_name s.1 (span_stops goes_on_word (c ∷ text)) h, subst (NoCell None) parts (no_cell_spelled (c ∷ text) none), subst (NoRange None) parts (no_range_spelled (c ∷ text) none)) })
+      ends = (stops_either goes_on_word (λ d. d == 33) s.1 (span_stops goes_on_word (c ∷ text)) h, subst (NoCell None) parts (no_cell_spelled (c ∷ text) none), subst (NoRange None) parts (no_range_spelled (c ∷ text) none)) })
       (λ h. if_cond (Sound (c ∷ text)) (reads_as_cell s.0) None (on_sheet (encode_utf8_all s.0) s.1) (λ k. tt)
       (λ k. on_sheet_sound (c ∷ text) (encode_utf8_all s.0) s.0 s.1 parts (plain (word_front c text start) k refl)))
 
@@ -319,13 +318,9 @@ module _ (locale : Locale) (language : Language) where
       go None h = more h
       go (Some z) h = λ e. record { spelled = c ∷ mark ∷ []; parts = ap (λ (y : Text). c ∷ y) h; spells = spells; ends = ends z }
 
-  stops_both : (a b : ℕ) (text : Text) → stops (λ c. c == a) text ≡ true → stops (λ c. c == b) text ≡ true → stops (λ c. c == a || c == b) text ≡ true
-  stops_both a b [] e f = refl
-  stops_both a b (c ∷ text) e f = ap not (or_from (c == a) (c == b) (not_true (c == a) e) (not_true (c == b) f))
-
   less_sound : (text : Text) → IfSome (behind_less text) (Sound (60 ∷ text))
   less_sound text = next_sound 60 62 t.NotEqual _ text refl (λ rest. tt) (λ h. next_sound 60 61 t.LessOrEqual (Some (t.Less, text)) text refl (λ rest. tt)
-      (λ k e. record { spelled = 60 ∷ []; parts = refl; spells = refl; ends = stops_both 61 62 text k h }))
+      (λ k e. record { spelled = 60 ∷ []; parts = refl; spells = refl; ends = stops_either (λ c. c == 61) (λ c. c == 62) text k h }))
 
   greater_sound : (text : Text) → IfSome (behind_greater text) (Sound (62 ∷ text))
   greater_sound text = next_sound 62 61 t.GreaterOrEqual (Some (t.Greater, text)) text refl (λ rest. tt) (λ k e. record { spelled = 62 ∷ []; parts = refl; spells = refl; ends = k })
@@ -540,3 +535,5 @@ module _ (locale : Locale) (language : Language) where
   found_tokens items text (Some v) e = tokens_sound text (items v) (sym e)
 
 pub ruleset turns = (ahead_none, turn_end, turn_fail, turn_on, turn_shorter)
+
+pub ruleset laws = (tokens_once, tokens_sound, tokens_complete)

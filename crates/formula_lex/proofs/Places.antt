@@ -14,8 +14,8 @@ use Rattle.base_tables.specs.Word.{is_digit, starts_word, goes_on_word, digits_n
 use Rattle.base_decimal.specs.Digits.{span, stops}
 use Rattle.base_decimal.proofs.Spans.{span_all, not_true, span_at, span_parts, stops_sooner}
 use Rattle.formula_grammar.specs.declared.CellMark.{CellMark}
-use Rattle.formula_lex.specs.Characters.{is_blank, goes_on_place, goes_on_name, Text}
-use Rattle.formula_lex.specs.laws.Lex.{is_sign, past, dollar_at, behind_dollar, with_name, line_at, column_at, row_at, with_row, with_column, corner_at, between, range_to, range_behind, cell_alone, behind_corner, spot_at}
+use Rattle.formula_lex.specs.Characters.{goes_on_place, Text}
+use Rattle.formula_lex.specs.laws.Lex.{is_sign, past, dollar_at, behind_dollar, line_at, column_at, row_at, with_row, with_column, corner_at, between, range_to, range_behind, cell_alone, behind_corner, spot_at}
 use Rattle.formula_lex.specs.declared.place.Line.{Line}
 use Rattle.formula_lex.specs.declared.place.Side.{Side}
 use Rattle.formula_lex.specs.declared.place.Spot.{Spot}
@@ -49,10 +49,11 @@ colon_ends = let is = is_alphabetic_ascii 58 (omega arith) in grind (arith, nat_
 
 -- a character that begins a word is no sign and no digit
 pub start_is : (c : ℕ) → starts_word c ≡ true → (is_sign c ≡ false) × (is_digit c ≡ false) × (goes_on_word c ≡ true)
-start_is c e =
-    (false_from_ne_true (is_sign c) (λ h. (let low : c < 128 = grind (arith, nat_tests) in let is = is_alphabetic_ascii c low in grind (arith, nat_tests, is))),
-    false_from_ne_true (is_digit c) (λ h. (let is = is_alphabetic_ascii c (digit_low c h) in grind (arith, nat_tests, is))),
-    grind (arith, nat_tests))
+start_is c e = (
+  false_from_ne_true (is_sign c) (λ h. (let low : c < 128 = grind (arith, nat_tests) in let is = is_alphabetic_ascii c low in grind (arith, nat_tests, is))),
+  false_from_ne_true (is_digit c) (λ h. (let is = is_alphabetic_ascii c (digit_low c h) in grind (arith, nat_tests, is))),
+  grind (arith, nat_tests),
+)
 
 -- characters of ASCII are their bytes
 all_low : (p : ℕ → Bool) → ((c : ℕ) → p c ≡ true → c < 128) → (s : Text) → list_all p s ≡ true → IsAscii s
@@ -218,16 +219,23 @@ corner_sound text = go (column_at text) (line_sound column_of_name is_letter tex
 corner_read : (x : Side) (s rest : Text) → IsSide x s → stops goes_on_place rest ≡ true → corner_at (s ++ rest) ≡ Some (x, rest)
 unfolding corner_at
 corner_read (side.Cell mark) s rest is ends =
-    rw (is.parts, append_assoc is.first is.second rest,
-    line_read column_of_name is_letter columns_named (column_of mark) is.first (is.second ++ rest) is.is_first (row_no_letter (row_of mark) is.second rest is.is_second),
-    line_read row_of_name is_digit rows_named (row_of mark) is.second rest is.is_second (stops_sooner is_digit goes_on_place place_no_digit rest ends))
+    rw (
+      is.parts,
+      append_assoc is.first is.second rest,
+      line_read column_of_name is_letter columns_named (column_of mark) is.first (is.second ++ rest) is.is_first (row_no_letter (row_of mark) is.second rest is.is_second),
+      line_read row_of_name is_digit rows_named (row_of mark) is.second rest is.is_second (stops_sooner is_digit goes_on_place place_no_digit rest ends),
+    )
 corner_read (side.Column l) s rest is ends =
-    rw (line_read column_of_name is_letter columns_named l s rest is (stops_sooner is_letter goes_on_place place_no_letter rest ends),
-    no_row rest (stops_sooner (λ c. c == 36) goes_on_place place_no_dollar rest ends) (stops_sooner is_digit goes_on_place place_no_digit rest ends))
+    rw (
+      line_read column_of_name is_letter columns_named l s rest is (stops_sooner is_letter goes_on_place place_no_letter rest ends),
+      no_row rest (stops_sooner (λ c. c == 36) goes_on_place place_no_dollar rest ends) (stops_sooner is_digit goes_on_place place_no_digit rest ends),
+    )
 corner_read (side.Row l) s rest is ends =
     let letter = name_stops row_of_name is_digit rows_named is_letter digit_no_letter is.name l.number rest is.named in
-    rw (no_column (s ++ rest) l.absolute (is.name ++ rest) (line_dollar row_of_name is_digit rows_named l s rest is) letter,
-    line_read row_of_name is_digit rows_named l s rest is (stops_sooner is_digit goes_on_place place_no_digit rest ends))
+    rw (
+      no_column (s ++ rest) l.absolute (is.name ++ rest) (line_dollar row_of_name is_digit rows_named l s rest is) letter,
+      line_read row_of_name is_digit rows_named l s rest is (stops_sooner is_digit goes_on_place place_no_digit rest ends),
+    )
 
 -- ---- ranges and cells
 

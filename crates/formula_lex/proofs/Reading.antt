@@ -1,8 +1,8 @@
 -- What the functions need that read the front of a text.
 use Rattle.std.proofs.Common.{take, drop, ◌≡◌, ℕ, Bool, true, false, cond, [], ◌∷◌, ◌++◌, Option, Some, None, refl, ap, subst, ◌∙◌, arith, ◌-◌, ◌<◌, length, sym, append_assoc, append-nil, length-append, option_map}
-use Rattle.std.specs.Prelude.{not, ◌==◌, IfSome, MatchOption, ◌&&◌, encode_utf8, encode_utf8_all, codes}
+use Rattle.std.specs.Prelude.{not, ◌==◌, IfSome, MatchOption, encode_utf8, encode_utf8_all, codes}
 use Rattle.std.specs.Option.{option_map, option_and_then, option_or}
-use Rattle.std.proofs.lemmas.Bool.{false_from_ne_true, cond_both, eqb-true, and_parts}
+use Rattle.std.proofs.lemmas.Bool.{false_from_ne_true, cond_both, eqb-true}
 use Rattle.std.proofs.lemmas.Bool.Decides.{nat_tests}
 use Rattle.std.specs.Str.{chars, IsUtf8}
 use Rattle.std.proofs.lemmas.List.{append_cancel_right}
@@ -10,15 +10,13 @@ use Rattle.std.proofs.Math.Seq.{take-append_seam, drop-append_seam}
 use Rattle.std.proofs.lemmas.Str.{IsUtf8-past_char, IsCharBoundary-at_seam, chars-append, chars-nil, chars_past_char, IsUtf8-take, encodes-chars, length-encode, len_utf8_bounds, encodes-append}
 use Rattle.std.specs.Str.Pattern.{FindsTextPrefix, StripsPrefix}
 use denote.Ref.{Bor}
-use Rattle.base_tables.specs.declared.Locale.{Locale}
 use Rattle.base_tables.specs.declared.Error.{Error}
 use Rattle.base_tables.specs.declared.Error.TheVariants.{Ref}
 use Rattle.base_tables.specs.Error.{error_text, inverted_exclamation}
-use Rattle.base_decimal.specs.Digits.{stops, span}
+use Rattle.base_decimal.specs.Digits.{stops}
 use Rattle.base_decimal.proofs.Spans.{not_true}
-use Rattle.base_decimal.specs.Numeral.{is_exponent_letter}
 use Rattle.formula_lex.specs.Characters.{Text}
-use Rattle.formula_lex.specs.laws.Lex.{past, strip, first, in_number, number_span, quoted, quoted_text, in_front}
+use Rattle.formula_lex.specs.laws.Lex.{past, strip, first, quoted, quoted_text, in_front}
 use Rattle.formula_lex.specs.laws.Outcome.{Cuts, left}
 
 -- ---- what a reader answers has a property: how readers that are put together keep it

@@ -3,9 +3,8 @@ use Rattle.std.proofs.Common.{◌≡◌, ◌≢◌, ℕ, ◌<◌, true, false, [
 use Rattle.std.specs.Prelude.{not, ◌==◌, ◌||◌, encode_utf8_all, IfSome, MatchOption}
 use Rattle.std.specs.List.{list_all}
 use Rattle.std.specs.Option.{option_or, option_map, option_and_then}
-use Rattle.std.proofs.lemmas.Bool.{and_parts, or_parts, both_ways, and_from, or_from, eqb-true, or_cases, false_from_ne_true, not_from_false}
-use Rattle.std.proofs.lemmas.Str.{length-le-encodes, chars-nil, encodes-chars}
-use Rattle.std.specs.Str.{chars, IsUtf8}
+use Rattle.std.proofs.lemmas.Bool.{and_parts, or_parts, both_ways, and_from, or_from, eqb-true, or_cases, false_from_ne_true}
+use Rattle.std.proofs.lemmas.Str.{length-le-encodes}
 use Rattle.std.proofs.lemmas.Bool.Decides.{nat_tests}
 use Rattle.std.proofs.UnicodeAscii.{is_alphabetic_ascii}
 use Rattle.base_tables.specs.declared.Error.{Error}
@@ -105,8 +104,14 @@ module _ (locale : Locale) (language : Language) where
   placed_read None first place x rest is e = ap (λ (y : Text). token (y ++ place)) is ∙ spot_token place x rest e
   placed_read (Some sheet) first place x rest is e =
       let m = is.is_second in
-      rw (is.parts, append_assoc is.first is.second place, m.parts, sheet_read sheet is.first (m.blanks ++ place) is.is_first,
-      span_at is_blank m.blanks place m.all_blank (spot_starts is_blank (λ c h. grind (arith, nat_tests)) place (x, rest) e), e)
+      rw (
+        is.parts,
+        append_assoc is.first is.second place,
+        m.parts,
+        sheet_read sheet is.first (m.blanks ++ place) is.is_first,
+        span_at is_blank m.blanks place m.all_blank (spot_starts is_blank (λ c h. grind (arith, nat_tests)) place (x, rest) e),
+        e,
+      )
 
   pub range_token : (sheet : Option Text) (a b : CellMark) (s rest : Text) → OnSheet sheet (IsRange a b) s → stops goes_on_place rest ≡ true → token (s ++ rest) ≡ Some (t.Range sheet a b, rest)
   range_token sheet a b s rest is ends =
@@ -168,8 +173,10 @@ module _ (locale : Locale) (language : Language) where
 
   less_read : (rest : Text) → stops (λ c. c == 61 || c == 62) rest ≡ true → behind_less rest ≡ Some (t.Less, rest)
   less_read rest e =
-      rw (past_none 62 rest (stops_sooner (λ c. c == 62) (λ c. c == 61 || c == 62) (λ c h. (or_parts (c == 61) (c == 62) h).1) rest e),
-      past_none 61 rest (stops_sooner (λ c. c == 61) (λ c. c == 61 || c == 62) (λ c h. (or_parts (c == 61) (c == 62) h).0) rest e))
+      rw (
+        past_none 62 rest (stops_sooner (λ c. c == 62) (λ c. c == 61 || c == 62) (λ c h. (or_parts (c == 61) (c == 62) h).1) rest e),
+        past_none 61 rest (stops_sooner (λ c. c == 61) (λ c. c == 61 || c == 62) (λ c h. (or_parts (c == 61) (c == 62) h).0) rest e),
+      )
 
   pub token_read : (x : Token) (s rest : Text) → Spells locale language x s → Ends locale language x s rest → token (s ++ rest) ≡ Some (x, rest)
   unfolding token_at by_sign
@@ -261,8 +268,12 @@ module _ (locale : Locale) (language : Language) where
       let s = span goes_on_word (c ∷ text) in
       let parts : c ∷ text ≡ s.0 ++ s.1 = span_parts goes_on_word (c ∷ text) in
       if_cond (Sound (c ∷ text)) (stops (λ d. d == 33) s.1) (Some (t.Word (encode_utf8_all s.0), s.1)) (cond (reads_as_cell s.0) None (on_sheet (encode_utf8_all s.0) s.1))
-      (λ h e. record { spelled = s.0; parts = parts; spells = (word_front c text start, refl);
-      ends = (stops_either goes_on_word (λ d. d == 33) s.1 (span_stops goes_on_word (c ∷ text)) h, subst (NoCell None) parts (no_cell_spelled (c ∷ text) none), subst (NoRange None) parts (no_range_spelled (c ∷ text) none)) })
+      (λ h e. record {
+        spelled = s.0;
+        parts = parts;
+        spells = (word_front c text start, refl);
+        ends = (stops_either goes_on_word (λ d. d == 33) s.1 (span_stops goes_on_word (c ∷ text)) h, subst (NoCell None) parts (no_cell_spelled (c ∷ text) none), subst (NoRange None) parts (no_range_spelled (c ∷ text) none));
+      })
       (λ h. if_cond (Sound (c ∷ text)) (reads_as_cell s.0) None (on_sheet (encode_utf8_all s.0) s.1) (λ k. tt)
       (λ k. on_sheet_sound (c ∷ text) (encode_utf8_all s.0) s.0 s.1 parts (plain (word_front c text start) k refl)))
 

@@ -1,4 +1,4 @@
-use Rattle.std.proofs.Common.{sym, ap, ◌∙◌, false}
+use Rattle.std.proofs.Common.{sym, ◌∙◌, false}
 use Rattle.std.specs.Str.{chars}
 use Rattle.std.proofs.lemmas.Str.{chars_past_char}
 use Rattle.formula_lex.specs.laws.Lex.{number_span}

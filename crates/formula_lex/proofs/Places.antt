@@ -14,13 +14,13 @@ use Rattle.base_tables.specs.Word.{is_digit, starts_word, goes_on_word, digits_n
 use Rattle.base_decimal.specs.Digits.{span, stops}
 use Rattle.base_decimal.proofs.Spans.{span_all, not_true, span_at, span_parts, stops_sooner}
 use Rattle.formula_grammar.specs.declared.CellMark.{CellMark}
-use Rattle.formula_lex.specs.Characters.{is_blank, goes_on_place, goes_on_name, Text}
-use Rattle.formula_lex.specs.laws.Lex.{is_sign, past, dollar_at, behind_dollar, with_name, line_at, column_at, row_at, with_row, with_column, corner_at, between, range_to, range_behind, cell_alone, behind_corner, spot_at}
+use Rattle.formula_lex.specs.Characters.{goes_on_place, Text}
+use Rattle.formula_lex.specs.laws.Lex.{is_sign, past, dollar_at, behind_dollar, line_at, column_at, row_at, with_row, with_column, corner_at, between, range_to, range_behind, cell_alone, behind_corner, spot_at}
 use Rattle.formula_lex.specs.declared.place.Line.{Line}
 use Rattle.formula_lex.specs.declared.place.Side.{Side}
 use Rattle.formula_lex.specs.declared.place.Spot.{Spot}
 use Rattle.formula_lex.specs.Lexicon.{dollar, row_of_name, IsLine, IsColumn, IsRow, IsPair, IsCell, IsSpan, IsRange, cells, columns, rows}
-use Rattle.formula_lex.proofs.Reading.{past_none, Front, if_each, if_or, if_map, if_then, if_cond, if_more, past_is}
+use Rattle.formula_lex.proofs.Reading.{past_none, Front, if_each, if_over, if_or, if_map, if_then, if_cond, if_more, past_is}
 use Rattle.formula_lex.specs.declared.place.Side.TheVariants as side
 use Rattle.formula_lex.specs.declared.place.Spot.TheVariants as spot
 
@@ -49,10 +49,11 @@ colon_ends = let is = is_alphabetic_ascii 58 (omega arith) in grind (arith, nat_
 
 -- a character that begins a word is no sign and no digit
 pub start_is : (c : ℕ) → starts_word c ≡ true → (is_sign c ≡ false) × (is_digit c ≡ false) × (goes_on_word c ≡ true)
-start_is c e =
-    (false_from_ne_true (is_sign c) (λ h. (let low : c < 128 = grind (arith, nat_tests) in let is = is_alphabetic_ascii c low in grind (arith, nat_tests, is))),
-    false_from_ne_true (is_digit c) (λ h. (let is = is_alphabetic_ascii c (digit_low c h) in grind (arith, nat_tests, is))),
-    grind (arith, nat_tests))
+start_is c e = (
+  false_from_ne_true (is_sign c) (λ h. (let low : c < 128 = grind (arith, nat_tests) in let is = is_alphabetic_ascii c low in grind (arith, nat_tests, is))),
+  false_from_ne_true (is_digit c) (λ h. (let is = is_alphabetic_ascii c (digit_low c h) in grind (arith, nat_tests, is))),
+  grind (arith, nat_tests),
+)
 
 -- characters of ASCII are their bytes
 all_low : (p : ℕ → Bool) → ((c : ℕ) → p c ≡ true → c < 128) → (s : Text) → list_all p s ≡ true → IsAscii s
@@ -208,11 +209,8 @@ corner_sound text = go (column_at text) (line_sound column_of_name is_letter tex
     row : (column : Line) (rest : Text) → Front (LineIs column_of_name column) text rest → (o : Option (Line × Text)) → IfSome o (λ r. Front (LineIs row_of_name r.0) rest r.1)
         → IfSome (with_row column rest o) (λ r. Front (IsSide r.0) text r.1)
     row column rest f None g = f
-    row column rest f (Some r) g = record {
-      spelled = f.spelled ++ g.spelled;
-      parts = f.parts ∙ ap (λ (x : Text). f.spelled ++ x) g.parts ∙ sym (append_assoc f.spelled g.spelled r.1);
-      is = record { first = f.spelled; second = g.spelled; parts = refl; is_first = f.is; is_second = g.is };
-    }
+    row column rest f (Some r) g =
+        record { spelled = f.spelled ++ g.spelled; parts = rw (f.parts, g.parts, append_assoc f.spelled g.spelled r.1); is = record { first = f.spelled; second = g.spelled; parts = refl; is_first = f.is; is_second = g.is } }
 
     go : (o : Option (Line × Text)) → IfSome o (λ r. Front (LineIs column_of_name r.0) text r.1) → IfSome (with_column text o) (λ r. Front (IsSide r.0) text r.1)
     go None f = if_map (λ r. Front (IsSide r.0) text r.1) (λ r. (side.Row r.0, r.1)) (row_at text) (line_sound row_of_name is_digit text)
@@ -221,22 +219,31 @@ corner_sound text = go (column_at text) (line_sound column_of_name is_letter tex
 corner_read : (x : Side) (s rest : Text) → IsSide x s → stops goes_on_place rest ≡ true → corner_at (s ++ rest) ≡ Some (x, rest)
 unfolding corner_at
 corner_read (side.Cell mark) s rest is ends =
-    rw (is.parts, append_assoc is.first is.second rest,
-    line_read column_of_name is_letter columns_named (column_of mark) is.first (is.second ++ rest) is.is_first (row_no_letter (row_of mark) is.second rest is.is_second),
-    line_read row_of_name is_digit rows_named (row_of mark) is.second rest is.is_second (stops_sooner is_digit goes_on_place place_no_digit rest ends))
+    rw (
+      is.parts,
+      append_assoc is.first is.second rest,
+      line_read column_of_name is_letter columns_named (column_of mark) is.first (is.second ++ rest) is.is_first (row_no_letter (row_of mark) is.second rest is.is_second),
+      line_read row_of_name is_digit rows_named (row_of mark) is.second rest is.is_second (stops_sooner is_digit goes_on_place place_no_digit rest ends),
+    )
 corner_read (side.Column l) s rest is ends =
-    rw (line_read column_of_name is_letter columns_named l s rest is (stops_sooner is_letter goes_on_place place_no_letter rest ends),
-    no_row rest (stops_sooner (λ c. c == 36) goes_on_place place_no_dollar rest ends) (stops_sooner is_digit goes_on_place place_no_digit rest ends))
+    rw (
+      line_read column_of_name is_letter columns_named l s rest is (stops_sooner is_letter goes_on_place place_no_letter rest ends),
+      no_row rest (stops_sooner (λ c. c == 36) goes_on_place place_no_dollar rest ends) (stops_sooner is_digit goes_on_place place_no_digit rest ends),
+    )
 corner_read (side.Row l) s rest is ends =
     let letter = name_stops row_of_name is_digit rows_named is_letter digit_no_letter is.name l.number rest is.named in
-    rw (no_column (s ++ rest) l.absolute (is.name ++ rest) (line_dollar row_of_name is_digit rows_named l s rest is) letter,
-    line_read row_of_name is_digit rows_named l s rest is (stops_sooner is_digit goes_on_place place_no_digit rest ends))
+    rw (
+      no_column (s ++ rest) l.absolute (is.name ++ rest) (line_dollar row_of_name is_digit rows_named l s rest is) letter,
+      line_read row_of_name is_digit rows_named l s rest is (stops_sooner is_digit goes_on_place place_no_digit rest ends),
+    )
 
 -- ---- ranges and cells
 
-abbrev pub IsRangeSpot : Spot → Text → Type 0
-IsRangeSpot (spot.Cell mark) s = ⊥
-IsRangeSpot (spot.Range a b) s = IsRange a b s
+abbrev pub Marks : Type 0
+Marks = CellMark × CellMark
+
+abbrev pub ranged : Option (Marks × Text) → Option (Spot × Text)
+ranged = option_map (λ r. (spot.Range r.0.0 r.0.1, r.1))
 
 abbrev pub IsSpot : Spot → Text → Type 0
 IsSpot (spot.Cell mark) s = IsCell mark s
@@ -249,36 +256,27 @@ pub record Placed (Is : Text → Type 0) (text rest : Text) : Type 0 where
   pub is : Is spelled
   pub ends : stops goes_on_place rest ≡ true
 
-between_sound : (a b : Side) (s t : Text) → IsSide a s → IsSide b t → IfSome (between a b) (λ x. IsRangeSpot x (s ++ (58 ∷ t)))
+between_sound : (a b : Side) (s t : Text) → IsSide a s → IsSide b t → IfSome (between a b) (λ r. IsRange r.0 r.1 (s ++ (58 ∷ t)))
 between_sound (side.Cell a) (side.Cell b) s t f g = cells (record { first = s; second = t; parts = refl; is_first = f; is_second = g })
 between_sound (side.Column a) (side.Column b) s t f g = columns (record { first = s; second = t; parts = refl; is_first = f; is_second = g }) refl refl
 between_sound (side.Row a) (side.Row b) s t f g = rows (record { first = s; second = t; parts = refl; is_first = f; is_second = g }) refl refl
 between_sound _ _ s t f g = tt
 
-pub range_sound : (a : Side) (s text : Text) → IsSide a s → IfSome (range_behind a text) (λ r. Placed (IsRangeSpot r.0) (s ++ text) r.1)
+pub range_sound : (a : Side) (s text : Text) → IsSide a s → IfSome (range_behind a text) (λ r. Placed (IsRange r.0.0 r.0.1) (s ++ text) r.1)
 unfolding range_behind
 range_sound a s text is = colon (past 58 text) (past_is 58 text)
   where
-    to : (z : Text) → text ≡ 58 ∷ z → (b : Side) (rest : Text) → Front (IsSide b) z rest → IfSome (range_to a (b, rest)) (λ r. Placed (IsRangeSpot r.0) (s ++ text) r.1)
-    to z e b rest f = if_cond (λ (r : Spot × Text). Placed (IsRangeSpot r.0) (s ++ text) r.1) (stops goes_on_place rest) _ None
-        (λ ends. if_map (λ (r : Spot × Text). Placed (IsRangeSpot r.0) (s ++ text) r.1) (λ x. (x, rest)) (between a b)
-        (if_more (λ x. Placed (IsRangeSpot x) (s ++ text) rest) (λ x. IsRangeSpot x (s ++ (58 ∷ f.spelled))) (λ x range. record {
-          spelled = s ++ (58 ∷ f.spelled);
-          parts = ap (λ (x : Text). s ++ x) (e ∙ ap (λ (x : Text). 58 ∷ x) f.parts) ∙ sym (append_assoc s (58 ∷ f.spelled) rest);
-          is = range;
-          ends = ends;
-        }) (between a b) (between_sound a b s f.spelled is f.is)))
+    to : (z : Text) → text ≡ 58 ∷ z → (b : Side) (rest : Text) → Front (IsSide b) z rest → IfSome (range_to a (b, rest)) (λ r. Placed (IsRange r.0.0 r.0.1) (s ++ text) r.1)
+    to z e b rest f = if_cond (λ (r : Marks × Text). Placed (IsRange r.0.0 r.0.1) (s ++ text) r.1) (stops goes_on_place rest) _ None
+        (λ ends. if_over (λ (r : Marks × Text). Placed (IsRange r.0.0 r.0.1) (s ++ text) r.1) (λ x. (x, rest)) (λ r. IsRange r.0 r.1 (s ++ (58 ∷ f.spelled)))
+        (λ x range. record { spelled = s ++ (58 ∷ f.spelled); parts = rw (e, f.parts, append_assoc s (58 ∷ f.spelled) rest); is = range; ends = ends }) (between a b) (between_sound a b s f.spelled is f.is))
         (λ h. tt)
 
     colon : (o : Option Text) → MatchOption o (stops (λ c. c == 58) text ≡ true) (λ z. text ≡ 58 ∷ z)
-        → IfSome (option_and_then (range_to a) (option_and_then corner_at o)) (λ r. Placed (IsRangeSpot r.0) (s ++ text) r.1)
+        → IfSome (option_and_then (range_to a) (option_and_then corner_at o)) (λ r. Placed (IsRange r.0.0 r.0.1) (s ++ text) r.1)
     colon None e = tt
-    colon (Some z) e = if_then (λ (r : Spot × Text). Placed (IsRangeSpot r.0) (s ++ text) r.1) (range_to a) (corner_at z)
-        (if_more (λ p. IfSome (range_to a p) (λ r. Placed (IsRangeSpot r.0) (s ++ text) r.1)) (λ p. Front (IsSide p.0) z p.1) (λ p f. to z e p.0 p.1 f) (corner_at z) (corner_sound z))
-
-range_placed : (text : Text) (r : Spot × Text) → Placed (IsRangeSpot r.0) text r.1 → Placed (IsSpot r.0) text r.1
-range_placed text (spot.Cell mark, rest) f = absurd f.is
-range_placed text (spot.Range a b, rest) f = f
+    colon (Some z) e = if_then (λ (r : Marks × Text). Placed (IsRange r.0.0 r.0.1) (s ++ text) r.1) (range_to a) (corner_at z)
+        (if_more (λ p. IfSome (range_to a p) (λ r. Placed (IsRange r.0.0 r.0.1) (s ++ text) r.1)) (λ p. Front (IsSide p.0) z p.1) (λ p f. to z e p.0 p.1 f) (corner_at z) (corner_sound z))
 
 alone_sound : (a : Side) (s text : Text) → IsSide a s → IfSome (cell_alone a text) (λ r. Placed (IsSpot r.0) (s ++ text) r.1)
 alone_sound (side.Cell mark) s text is =
@@ -291,25 +289,24 @@ spot_sound text =
     if_then (λ (r : Spot × Text). Placed (IsSpot r.0) text r.1) behind_corner (corner_at text)
     (if_more (λ p. IfSome (behind_corner p) (λ r. Placed (IsSpot r.0) text r.1)) (λ p. Front (IsSide p.0) text p.1)
     (λ p f. subst (λ (x : Text). IfSome (behind_corner p) (λ r. Placed (IsSpot r.0) x r.1)) (sym f.parts)
-    (if_or (λ (r : Spot × Text). Placed (IsSpot r.0) (f.spelled ++ p.1) r.1) (range_behind p.0 p.1) (cell_alone p.0 p.1)
-    (if_more (λ r. Placed (IsSpot r.0) (f.spelled ++ p.1) r.1) (λ r. Placed (IsRangeSpot r.0) (f.spelled ++ p.1) r.1) (range_placed (f.spelled ++ p.1)) (range_behind p.0 p.1) (range_sound p.0 f.spelled p.1 f.is))
-    (alone_sound p.0 f.spelled p.1 f.is)))
+    (if_or (λ (r : Spot × Text). Placed (IsSpot r.0) (f.spelled ++ p.1) r.1) (ranged (range_behind p.0 p.1)) (cell_alone p.0 p.1)
+    (if_map (λ (r : Spot × Text). Placed (IsSpot r.0) (f.spelled ++ p.1) r.1) (λ r. (spot.Range r.0.0 r.0.1, r.1)) (range_behind p.0 p.1) (range_sound p.0 f.spelled p.1 f.is)) (alone_sound p.0 f.spelled p.1 f.is)))
     (corner_at text) (corner_sound text))
 
-span_read : (a b : Side) (x : Spot) (s rest : Text) → between a b ≡ Some x → IsSpan (IsSide a) (IsSide b) s → stops goes_on_place rest ≡ true → spot_at (s ++ rest) ≡ Some (x, rest)
+span_read : (a b : Side) (x : Marks) (s rest : Text) → between a b ≡ Some x → IsSpan (IsSide a) (IsSide b) s → stops goes_on_place rest ≡ true → spot_at (s ++ rest) ≡ Some (spot.Range x.0 x.1, rest)
 unfolding spot_at range_behind
 span_read a b x s rest e is ends =
     rw (is.parts, pair_parts is.first (58 ∷ []) is.second rest, corner_read a is.first (58 ∷ (is.second ++ rest)) is.is_first (ap not colon_ends), corner_read b is.second rest is.is_second ends, ends, e)
 
 pub range_read : (a b : CellMark) (s rest : Text) → IsRange a b s → stops goes_on_place rest ≡ true → spot_at (s ++ rest) ≡ Some (spot.Range a b, rest)
-range_read a b s rest (cells is) ends = span_read (side.Cell a) (side.Cell b) (spot.Range a b) s rest refl is ends
+range_read a b s rest (cells is) ends = span_read (side.Cell a) (side.Cell b) (a, b) s rest refl is ends
 range_read a b s rest (columns is on_first on_last) ends =
-    span_read (side.Column (column_of a)) (side.Column (column_of b)) (spot.Range a b) s rest (rw (on_first, on_last)) is ends
+    span_read (side.Column (column_of a)) (side.Column (column_of b)) (a, b) s rest (rw (on_first, on_last)) is ends
 range_read a b s rest (rows is on_first on_last) ends =
-    span_read (side.Row (row_of a)) (side.Row (row_of b)) (spot.Range a b) s rest (rw (on_first, on_last)) is ends
+    span_read (side.Row (row_of a)) (side.Row (row_of b)) (a, b) s rest (rw (on_first, on_last)) is ends
 
 -- where a cell stands, it is read, or else a range
-pub cell_read : (mark : CellMark) (s rest : Text) → IsCell mark s → stops goes_on_place rest ≡ true → spot_at (s ++ rest) ≡ option_or (range_behind (side.Cell mark) rest) (Some (spot.Cell mark, rest))
+pub cell_read : (mark : CellMark) (s rest : Text) → IsCell mark s → stops goes_on_place rest ≡ true → spot_at (s ++ rest) ≡ option_or (ranged (range_behind (side.Cell mark) rest)) (Some (spot.Cell mark, rest))
 unfolding spot_at
 cell_read mark s rest is ends = rw (corner_read (side.Cell mark) s rest is ends, ends)
 

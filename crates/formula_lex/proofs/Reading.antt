@@ -1,24 +1,22 @@
 -- What the functions need that read the front of a text.
-use Rattle.std.proofs.Common.{◌≡◌, ℕ, Bool, true, false, cond, [], ◌∷◌, ◌++◌, Option, Some, None, refl, ap, subst, ◌∙◌, arith, ◌-◌, ◌<◌, length, sym, append_assoc, append-nil, length-append, option_map}
-use Rattle.std.specs.Prelude.{not, ◌==◌, IfSome, MatchOption, ◌&&◌, encode_utf8, encode_utf8_all, codes}
+use Rattle.std.proofs.Common.{take, drop, ◌≡◌, ℕ, Bool, true, false, cond, [], ◌∷◌, ◌++◌, Option, Some, None, refl, ap, subst, ◌∙◌, arith, ◌-◌, ◌<◌, length, sym, append_assoc, append-nil, length-append, option_map}
+use Rattle.std.specs.Prelude.{not, ◌==◌, IfSome, MatchOption, encode_utf8, encode_utf8_all, codes}
 use Rattle.std.specs.Option.{option_map, option_and_then, option_or}
-use Rattle.std.proofs.lemmas.Bool.{false_from_ne_true, cond_both, eqb-true, and_parts}
+use Rattle.std.proofs.lemmas.Bool.{false_from_ne_true, cond_both, eqb-true}
 use Rattle.std.proofs.lemmas.Bool.Decides.{nat_tests}
 use Rattle.std.specs.Str.{chars, IsUtf8}
+use Rattle.std.proofs.lemmas.List.{append_cancel_right}
 use Rattle.std.proofs.Math.Seq.{take-append_seam, drop-append_seam}
-use Rattle.std.proofs.lemmas.Str.{IsUtf8-append, IsUtf8-nil, IsUtf8-past_char, IsCharBoundary-at_seam, chars-append, chars-nil, chars_past_char, cons_from_encodes, encodes-chars, length-encode, len_utf8_bounds, encodes-append}
+use Rattle.std.proofs.lemmas.Str.{IsUtf8-past_char, IsCharBoundary-at_seam, chars-append, chars-nil, chars_past_char, IsUtf8-take, encodes-chars, length-encode, len_utf8_bounds, encodes-append}
 use Rattle.std.specs.Str.Pattern.{FindsTextPrefix, StripsPrefix}
-use lib.Utf8.{scalars, scalar}
 use denote.Ref.{Bor}
-use Rattle.base_tables.specs.declared.Locale.{Locale}
 use Rattle.base_tables.specs.declared.Error.{Error}
 use Rattle.base_tables.specs.declared.Error.TheVariants.{Ref}
 use Rattle.base_tables.specs.Error.{error_text, inverted_exclamation}
-use Rattle.base_decimal.specs.Digits.{stops, span}
+use Rattle.base_decimal.specs.Digits.{stops}
 use Rattle.base_decimal.proofs.Spans.{not_true}
-use Rattle.base_decimal.specs.Numeral.{is_exponent_letter}
 use Rattle.formula_lex.specs.Characters.{Text}
-use Rattle.formula_lex.specs.laws.Lex.{past, strip, first, in_number, number_span, quoted, quoted_text, in_front}
+use Rattle.formula_lex.specs.laws.Lex.{past, strip, first, quoted, quoted_text, in_front}
 use Rattle.formula_lex.specs.laws.Outcome.{Cuts, left}
 
 -- ---- what a reader answers has a property: how readers that are put together keep it
@@ -52,6 +50,10 @@ module _ {A : Type 0} (P : A → Type 0) where
 
   pub if_cond : (b : Bool) (o other : Option A) → (b ≡ true → IfSome o P) → (b ≡ false → IfSome other P) → IfSome (cond b o other) P
   if_cond b o other = cond_both b o other (λ x. IfSome x P)
+
+  pub if_over : {B : Type 0} (f : B → A) (Q : B → Type 0) → ((b : B) → Q b → P (f b)) → (o : Option B) → IfSome o Q → IfSome (option_map f o) P
+  if_over f Q h None q = tt
+  if_over f Q h (Some b) q = h b q
 
   pub if_more : (Q : A → Type 0) → ((a : A) → Q a → P a) → (o : Option A) → IfSome o Q → IfSome o P
   if_more Q h None f = tt
@@ -96,87 +98,39 @@ strip_is (c ∷ name) text = strip_by c name text (strip_is name) (past c text) 
 pub first_read : (bytes rest : Text) (c : ℕ) → IsUtf8 bytes → bytes ≡ encode_utf8 c ++ rest → first (chars bytes) ≡ Some (c, chars rest)
 first_read bytes rest c whole e = ap first (chars_past_char bytes rest c whole e)
 
--- a character of a text is a text
-character_utf8 : (bytes rest : Text) (c : ℕ) → IsUtf8 bytes → bytes ≡ encode_utf8 c ++ rest → IsUtf8 (encode_utf8 c)
-character_utf8 bytes rest c whole e =
-    let k = cons_from_encodes whole.0 rest c (whole.1.1 ∙ e) in
-    let is : scalar c ≡ true = (and_parts (scalar c) (scalars k.0) (sym (ap scalars k.1) ∙ whole.1.0)).0 in
-    (c ∷ [], (ap (λ (b : Bool). b && true) is, append-nil (encode_utf8 c)))
-
--- how far a reader of characters went, which has so much of the whole before it
-pub record Went (text rest : Text) (reader : Text → Text × Text) (whole : Text × Text) : Type 0 where
+-- how far a reader of characters went: what it leaves of the text is what the other one leaves of the rest
+pub record Went (text rest : Text) (reader other : Text → Text × Text) : Type 0 where
   pub before : Text
   pub parts : text ≡ before ++ rest
-  pub utf8_before : IsUtf8 before
-  pub utf8_rest : IsUtf8 rest
-  pub so_far : whole ≡ (chars before ++ (reader (chars rest)).0, (reader (chars rest)).1)
+  pub utf8 : IsUtf8 rest
+  pub so_far : (reader (chars text)).1 ≡ (other (chars rest)).1
 
-pub went_start : (text : Text) (reader : Text → Text × Text) → IsUtf8 text → Went text text reader (reader (chars text))
-went_start text reader whole = record {
-  before = [];
-  parts = refl;
-  utf8_before = IsUtf8-nil;
-  utf8_rest = whole;
-  so_far = ap (λ (x : Text). let s : Text × Text = (x ++ (reader (chars text)).0, (reader (chars text)).1) in s) (sym chars-nil);
+pub went_start : (text : Text) (reader : Text → Text × Text) → IsUtf8 text → Went text text reader reader
+went_start text reader whole = record { before = []; parts = refl; utf8 = whole; so_far = refl }
+
+pub went_turn : (text rest more : Text) (c : ℕ) (reader other next : Text → Text × Text) → Went text rest reader other → rest ≡ encode_utf8 c ++ more → ((z : Text) → (other (c ∷ z)).1 ≡ (next z).1) → Went text more reader next
+went_turn text rest more c reader other next w e step = record {
+  before = w.before ++ encode_utf8 c;
+  parts = rw (w.parts, e, append_assoc w.before (encode_utf8 c) more);
+  utf8 = IsUtf8-past_char rest more c w.utf8 e;
+  so_far = rw (w.so_far, chars_past_char rest more c w.utf8 e) (step (chars more));
 }
 
-pub went_turn : (text rest more : Text) (c : ℕ) (reader next : Text → Text × Text) (whole : Text × Text) → Went text rest reader whole → rest ≡ encode_utf8 c ++ more
-    → reader (c ∷ chars more) ≡ (c ∷ (next (chars more)).0, (next (chars more)).1) → Went text more next whole
-went_turn text rest more c reader next whole w e step =
-    let character = character_utf8 rest more c w.utf8_rest e in
-    let here : chars (encode_utf8 c) ≡ c ∷ [] = chars_past_char (encode_utf8 c) [] c character (sym (append-nil (encode_utf8 c))) ∙ ap (λ (x : Text). c ∷ x) chars-nil in
-    let s = next (chars more) in
-    record {
-      before = w.before ++ encode_utf8 c;
-      parts = w.parts ∙ ap (λ (x : Text). w.before ++ x) e ∙ sym (append_assoc w.before (encode_utf8 c) more);
-      utf8_before = IsUtf8-append w.before (encode_utf8 c) w.utf8_before character;
-      utf8_rest = IsUtf8-past_char rest more c w.utf8_rest e;
-      so_far = w.so_far ∙ ap (λ (x : Text). let p : Text × Text = (chars w.before ++ (reader x).0, (reader x).1) in p) (chars_past_char rest more c w.utf8_rest e)
-          ∙ ap (λ (p : Text × Text). let q : Text × Text = (chars w.before ++ p.0, p.1) in q) step
-          ∙ ap (λ (x : Text). let p : Text × Text = (x, s.1) in p) (sym (append_assoc (chars w.before) (c ∷ []) s.0) ∙ ap (λ (x : Text). x ++ s.0) (ap (λ (x : Text). chars w.before ++ x) (sym here) ∙ sym (chars-append w.before (encode_utf8 c) w.utf8_before)));
-    }
-
-went_end : (text rest : Text) (reader : Text → Text × Text) (whole : Text × Text) → Went text rest reader whole → reader (chars rest) ≡ ([], chars rest) → Cuts text (length text - length rest) whole
-went_end text rest reader whole w e =
+-- where the other one leaves all
+pub went_end : (text rest : Text) (reader other : Text → Text × Text) → IsUtf8 text → Went text rest reader other → (other (chars rest)).1 ≡ chars rest
+    → chars text ≡ (reader (chars text)).0 ++ (reader (chars text)).1 → Cuts text (length text - length rest) (reader (chars text))
+went_end text rest reader other whole w stop parts =
     let n : length text - length rest ≡ length w.before = omega (arith, ap length w.parts, length-append w.before rest) in
-    let is : whole ≡ (chars w.before, chars rest) = w.so_far ∙ ap (λ (p : Text × Text). let q : Text × Text = (chars w.before ++ p.0, p.1) in q) e ∙ ap (λ (x : Text). let q : Text × Text = (x, chars rest) in q) (append-nil (chars w.before)) in
-    rw (n, w.parts) (record {
-      boundary = IsCharBoundary-at_seam (w.before ++ rest) w.before rest refl w.utf8_rest;
-      front = ap chars (take-append_seam w.before rest) ∙ sym (ap (λ (s : Text × Text). s.0) is);
-      rest = ap chars (drop-append_seam w.before rest) ∙ sym (ap (λ (s : Text × Text). s.1) is);
-    })
+    let at = IsCharBoundary-at_seam text w.before rest w.parts w.utf8 in
+    let front : take (length w.before) text ≡ w.before = ap (take (length w.before)) w.parts ∙ take-append_seam w.before rest in
+    let behind : drop (length w.before) text ≡ rest = ap (drop (length w.before)) w.parts ∙ drop-append_seam w.before rest in
+    let left = sym (w.so_far ∙ stop) in
+    let both = sym (chars-append w.before rest (subst IsUtf8 front (IsUtf8-take text (length w.before) whole at))) ∙ ap chars (sym w.parts) ∙ parts ∙ ap (λ (x : Text). (reader (chars text)).0 ++ x) (sym left) in
+    rw n (record { boundary = at; front = ap chars front ∙ append_cancel_right _ _ (chars rest) both; rest = ap chars behind ∙ left })
 
--- where the next character is read no more
-pub went_stop : (text rest more : Text) (c : ℕ) (reader : Text → Text × Text) (whole : Text × Text) → Went text rest reader whole → rest ≡ encode_utf8 c ++ more
-    → reader (c ∷ chars more) ≡ ([], c ∷ chars more) → Cuts text (length text - length rest) whole
-went_stop text rest more c reader whole w e stop = let is = chars_past_char rest more c w.utf8_rest e in went_end text rest reader whole w (ap reader is ∙ stop ∙ ap (λ (x : Text). let s : Text × Text = ([], x) in s) (sym is))
-
--- where there is none
-pub went_out : (text rest : Text) (reader : Text → Text × Text) (whole : Text × Text) → Went text rest reader whole → None ≡ first (chars rest) → reader [] ≡ ([], []) → Cuts text (length text) whole
-went_out text rest reader whole w e stop =
-    let none : chars rest ≡ [] = is_empty (chars rest) e in
-    let empty : rest ≡ [] = sym (encodes-chars rest w.utf8_rest) ∙ ap encode_utf8_all none in
-    let n : length text - length rest ≡ length text = omega (arith, ap length empty) in
-    subst (λ (len : ℕ). Cuts text len whole) n (went_end text rest reader whole w (ap reader none ∙ stop ∙ ap (λ (x : Text). let s : Text × Text = ([], x) in s) (sym none)))
-  where
-    is_empty : (x : Text) → None ≡ first x → x ≡ []
-    is_empty [] e = refl
-    is_empty (c ∷ x) e = absurd cc
-
--- ---- a run of characters that pass a test
-
-pub span_turn : (p : ℕ → Bool) (c : ℕ) (z : Text) → p c ≡ true → span p (c ∷ z) ≡ (c ∷ (span p z).0, (span p z).1)
-span_turn p c z e = rw e
-
-pub span_stop : (p : ℕ → Bool) (c : ℕ) (z : Text) → p c ≡ false → span p (c ∷ z) ≡ ([], c ∷ z)
-span_stop p c z e = rw e
-
-pub number_turn : (locale : Locale) (after letter : Bool) (c : ℕ) (z : Text) → in_number locale after c ≡ true → letter ≡ is_exponent_letter c
-    → number_span locale after (c ∷ z) ≡ (c ∷ (number_span locale letter z).0, (number_span locale letter z).1)
-number_turn locale after letter c z e f = rw (e, f)
-
-pub number_stop : (locale : Locale) (after : Bool) (c : ℕ) (z : Text) → in_number locale after c ≡ false → number_span locale after (c ∷ z) ≡ ([], c ∷ z)
-number_stop locale after c z e = rw e
+pub last_read : (z : Text) → None ≡ first z → [] ≡ z
+last_read [] e = refl
+last_read (c ∷ z) e = absurd cc
 
 -- what a step leaves is shorter
 pub shorter : (bytes rest : Text) (c : ℕ) → bytes ≡ encode_utf8 c ++ rest → length rest < length bytes

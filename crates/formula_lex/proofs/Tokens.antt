@@ -3,9 +3,8 @@ use Rattle.std.proofs.Common.{◌≡◌, ◌≢◌, ℕ, ◌<◌, true, false, [
 use Rattle.std.specs.Prelude.{not, ◌==◌, ◌||◌, encode_utf8_all, IfSome, MatchOption}
 use Rattle.std.specs.List.{list_all}
 use Rattle.std.specs.Option.{option_or, option_map, option_and_then}
-use Rattle.std.proofs.lemmas.Bool.{and_parts, or_parts, both_ways, and_from, or_from, eqb-true, or_cases, false_from_ne_true, not_from_false}
-use Rattle.std.proofs.lemmas.Str.{length-le-encodes, chars-nil, encodes-chars}
-use Rattle.std.specs.Str.{chars, IsUtf8}
+use Rattle.std.proofs.lemmas.Bool.{and_parts, or_parts, both_ways, and_from, or_from, eqb-true, or_cases, false_from_ne_true}
+use Rattle.std.proofs.lemmas.Str.{length-le-encodes}
 use Rattle.std.proofs.lemmas.Bool.Decides.{nat_tests}
 use Rattle.std.proofs.UnicodeAscii.{is_alphabetic_ascii}
 use Rattle.base_tables.specs.declared.Error.{Error}
@@ -23,8 +22,8 @@ use Rattle.formula_lex.specs.declared.place.Spot.{Spot}
 use Rattle.formula_lex.specs.Characters.{Text, is_blank, goes_on_place, goes_on_name, doubled}
 use Rattle.formula_lex.specs.Lexicon.{IsCell, IsRange, IsSheetName, plain, quoted, IsSheet, OnSheet, IsNumber, Spells, NoRange, NoError, Ends, NoCell, IsPair, IsTokens}
 use Rattle.formula_lex.specs.laws.Lex.{past, is_sign, on_sheet, behind_word, word_at, behind_quotes, quoted_text, quoted_sheet_at, text_at, plain_at, error_or_hash, error_at, behind_less, behind_greater, by_sign, place_token, place_at, spot_at, range_behind, token_at, number_at, if_next, single, some_text, behind_blanks, with_token, tokens_from, tokens_of}
-use Rattle.formula_lex.proofs.Places.{start_is, IsRangeSpot, IsSpot, Placed, range_sound, spot_sound, range_read, cell_read, spot_starts, no_spot, cell_no_digit, word_no_spot}
-use Rattle.formula_lex.proofs.Reading.{past_none, Front, past_is, if_at, if_map, if_cond, if_more}
+use Rattle.formula_lex.proofs.Places.{start_is, Marks, ranged, IsSpot, Placed, range_sound, spot_sound, range_read, cell_read, spot_starts, no_spot, cell_no_digit, word_no_spot}
+use Rattle.formula_lex.proofs.Reading.{past_none, Front, past_is, if_at, if_over, if_map, if_cond, if_more}
 use Rattle.formula_lex.proofs.Words.{error_sound, error_read, error_none, number_read, FrontNumber, number_sound, quoted_read, Closes, quoted_sound}
 use Rattle.formula_lex.specs.declared.place.Side.TheVariants as side
 use Rattle.formula_lex.specs.declared.place.Spot.TheVariants as spot
@@ -44,10 +43,9 @@ none_on Is s is = subst Is (sym (is.parts ∙ ap (λ (x : Text). x ++ is.second)
 cell_spot : (mark : CellMark) (s rest : Text) → IsCell mark s → stops goes_on_place rest ≡ true → NoRange None (s ++ rest) → spot_at (s ++ rest) ≡ Some (spot.Cell mark, rest)
 cell_spot mark s rest is ends never = cell_read mark s rest is ends ∙ go (range_behind (side.Cell mark) rest) (range_sound (side.Cell mark) s rest is)
   where
-    go : (o : Option (Spot × Text)) → IfSome o (λ r. Placed (IsRangeSpot r.0) (s ++ rest) r.1) → option_or o (Some (spot.Cell mark, rest)) ≡ Some (spot.Cell mark, rest)
+    go : (o : Option (Marks × Text)) → IfSome o (λ r. Placed (IsRange r.0.0 r.0.1) (s ++ rest) r.1) → option_or (ranged o) (Some (spot.Cell mark, rest)) ≡ Some (spot.Cell mark, rest)
     go None f = refl
-    go (Some (spot.Cell mark, more)) f = absurd f.is
-    go (Some (spot.Range a b, more)) f = absurd (never a b f.spelled more f.parts (on_none (IsRange a b) f.spelled f.is) f.ends)
+    go (Some r) f = absurd (never r.0.0 r.0.1 f.spelled r.1 f.parts (on_none (IsRange r.0.0 r.0.1) f.spelled f.is) f.ends)
 
 no_spot_read : (text : Text) → ((mark : CellMark) (rest : Text) → Placed (IsCell mark) text rest → ⊥) → NoRange None text → spot_at text ≡ None
 no_spot_read text no_cell no_range = go (spot_at text) (spot_sound text)
@@ -58,9 +56,6 @@ no_spot_read text no_cell no_range = go (spot_at text) (spot_sound text)
     go (Some (spot.Range a b, rest)) f = absurd (no_range a b f.spelled rest f.parts (on_none (IsRange a b) f.spelled f.is) f.ends)
 
 -- ---- sheets
-
-on_sheet_read : (sheet blanks place : Text) → list_all is_blank blanks ≡ true → stops is_blank place ≡ true → on_sheet sheet (33 ∷ (blanks ++ place)) ≡ place_at (Some sheet) place
-on_sheet_read sheet blanks place all ends = ap (λ (p : Text × Text). place_at (Some sheet) p.1) (span_at is_blank blanks place all ends)
 
 pub behind_name : (name rest : Text) → name ≢ [] → behind_quotes (encode_utf8_all name, rest) ≡ on_sheet (encode_utf8_all name) rest
 behind_name [] rest some = absurd (some refl)
@@ -101,23 +96,26 @@ module _ (locale : Locale) (language : Language) where
   quoted_sheet name tail some = rw (quoted_read 39 name (33 ∷ tail) refl) (behind_name name (33 ∷ tail) some)
 
   sheet_read : (sheet name tail : Text) → IsSheetName sheet name → token (name ++ (33 ∷ tail)) ≡ on_sheet sheet (33 ∷ tail)
-  sheet_read sheet name tail (plain word no_cell is) = word_sheet name tail word no_cell ∙ ap (λ (x : Text). on_sheet x (33 ∷ tail)) (sym is)
-  sheet_read sheet name tail (quoted inside spelled some is) =
-      ap token (ap (λ (x : Text). x ++ (33 ∷ tail)) spelled ∙ ap (λ (x : Text). 39 ∷ x) (append_assoc (doubled 39 inside) (39 ∷ []) (33 ∷ tail)))
-      ∙ quoted_sheet inside tail some ∙ ap (λ (x : Text). on_sheet x (33 ∷ tail)) (sym is)
+  sheet_read sheet name tail (plain word no_cell is) = rw is (word_sheet name tail word no_cell)
+  sheet_read sheet name tail (quoted inside spelled some is) = rw (spelled, append_assoc (doubled 39 inside) (39 ∷ []) (33 ∷ tail), is) (quoted_sheet inside tail some)
 
   -- what stands on a sheet, or on none
   placed_read : (sheet : Option Text) (first place : Text) (x : Spot) (rest : Text) → IsSheet sheet first → spot_at place ≡ Some (x, rest) → token (first ++ place) ≡ Some (place_token sheet x, rest)
   placed_read None first place x rest is e = ap (λ (y : Text). token (y ++ place)) is ∙ spot_token place x rest e
   placed_read (Some sheet) first place x rest is e =
       let m = is.is_second in
-      ap token (ap (λ (y : Text). y ++ place) is.parts ∙ append_assoc is.first is.second place ∙ ap (λ (y : Text). is.first ++ (y ++ place)) m.parts)
-      ∙ sheet_read sheet is.first (m.blanks ++ place) is.is_first ∙ on_sheet_read sheet m.blanks place m.all_blank (spot_starts is_blank (λ c h. grind (arith, nat_tests)) place (x, rest) e) ∙ rw e
+      rw (
+        is.parts,
+        append_assoc is.first is.second place,
+        m.parts,
+        sheet_read sheet is.first (m.blanks ++ place) is.is_first,
+        span_at is_blank m.blanks place m.all_blank (spot_starts is_blank (λ c h. grind (arith, nat_tests)) place (x, rest) e),
+        e,
+      )
 
   pub range_token : (sheet : Option Text) (a b : CellMark) (s rest : Text) → OnSheet sheet (IsRange a b) s → stops goes_on_place rest ≡ true → token (s ++ rest) ≡ Some (t.Range sheet a b, rest)
   range_token sheet a b s rest is ends =
-      ap token (ap (λ (y : Text). y ++ rest) is.parts ∙ append_assoc is.first is.second rest)
-      ∙ placed_read sheet is.first (is.second ++ rest) (spot.Range a b) rest is.is_first (range_read a b is.second rest is.is_second ends)
+      rw (is.parts, append_assoc is.first is.second rest) (placed_read sheet is.first (is.second ++ rest) (spot.Range a b) rest is.is_first (range_read a b is.second rest is.is_second ends))
 
   cell_token : (sheet : Option Text) (mark : CellMark) (s rest : Text) → OnSheet sheet (IsCell mark) s → Ends locale language (t.Reference sheet mark) s rest → token (s ++ rest) ≡ Some (t.Reference sheet mark, rest)
   cell_token sheet mark s rest is ends =
@@ -134,8 +132,7 @@ module _ (locale : Locale) (language : Language) where
   word_token (c ∷ s) rest word ends =
       let k = and_parts (starts_word c) (list_all goes_on_word (c ∷ s)) word in
       let none = no_spot_read (c ∷ s ++ rest) (λ mark more f. ends.1 mark f.spelled more f.parts (on_none (IsCell mark) f.spelled f.is) f.ends) ends.2 in
-      by_word c (s ++ rest) k.0 none
-      ∙ ap behind_word (span_at goes_on_word (c ∷ s) rest k.1 (stops_sooner goes_on_word goes_on_name (λ d h. (or_parts (goes_on_word d) (d == 33) h).0) rest ends.0))
+      by_word c (s ++ rest) k.0 none ∙ ap behind_word (span_at goes_on_word (c ∷ s) rest k.1 (stops_sooner goes_on_word goes_on_name (λ d h. (or_parts (goes_on_word d) (d == 33) h).0) rest ends.0))
       ∙ rw (stops_sooner (λ d. d == 33) goes_on_name (λ d h. (or_parts (goes_on_word d) (d == 33) h).1) rest ends.0)
 
   number_token : (number : Decimal) (s rest : Text) → IsNumber locale number s → Ends locale language (t.Number number) s rest → token (s ++ rest) ≡ Some (t.Number number, rest)
@@ -176,15 +173,15 @@ module _ (locale : Locale) (language : Language) where
 
   less_read : (rest : Text) → stops (λ c. c == 61 || c == 62) rest ≡ true → behind_less rest ≡ Some (t.Less, rest)
   less_read rest e =
-      rw (past_none 62 rest (stops_sooner (λ c. c == 62) (λ c. c == 61 || c == 62) (λ c h. (or_parts (c == 61) (c == 62) h).1) rest e),
-      past_none 61 rest (stops_sooner (λ c. c == 61) (λ c. c == 61 || c == 62) (λ c h. (or_parts (c == 61) (c == 62) h).0) rest e))
+      rw (
+        past_none 62 rest (stops_sooner (λ c. c == 62) (λ c. c == 61 || c == 62) (λ c h. (or_parts (c == 61) (c == 62) h).1) rest e),
+        past_none 61 rest (stops_sooner (λ c. c == 61) (λ c. c == 61 || c == 62) (λ c h. (or_parts (c == 61) (c == 62) h).0) rest e),
+      )
 
   pub token_read : (x : Token) (s rest : Text) → Spells locale language x s → Ends locale language x s rest → token (s ++ rest) ≡ Some (x, rest)
   unfolding token_at by_sign
   token_read (t.Number number) s rest is ends = number_token number s rest is ends
-  token_read (t.Text text) s rest is ends =
-      ap (λ (y : Text). token (y ++ rest)) is.1 ∙ ap (λ (y : Text). token (34 ∷ y)) (append_assoc (doubled 34 is.0) (34 ∷ []) rest) ∙ text_token is.0 rest ends
-      ∙ ap (λ (y : Text). let q : Token × Text = (t.Text y, rest) in Some q) (sym is.2)
+  token_read (t.Text text) s rest is ends = rw (is.1, append_assoc (doubled 34 is.0) (34 ∷ []) rest, is.2) (text_token is.0 rest ends)
   token_read (t.Error error) s rest is ends = error_token error s rest is
   token_read (t.Word word) s rest is ends = subst (λ (y : Text). Ends locale language (t.Word y) s rest → token (s ++ rest) ≡ Some (t.Word y, rest)) (sym is.1) (word_token s rest is.0) ends
   token_read (t.Reference sheet mark) s rest is ends = cell_token sheet mark s rest is ends
@@ -214,9 +211,9 @@ apart sheet a b mark more rest e =
     let x : t.Range sheet a b ≡ t.Reference sheet mark = ap (λ (q : Token × Text). q.0) p in
     absurd cc
 
-stops_name : (text : Text) → stops goes_on_word text ≡ true → stops (λ c. c == 33) text ≡ true → stops goes_on_name text ≡ true
-stops_name [] e f = refl
-stops_name (c ∷ text) e f = ap not (or_from (goes_on_word c) (c == 33) (not_true (goes_on_word c) e) (not_true (c == 33) f))
+stops_either : (p q : ℕ → Bool) (text : Text) → stops p text ≡ true → stops q text ≡ true → stops (λ c. p c || q c) text ≡ true
+stops_either p q [] e f = refl
+stops_either p q (c ∷ text) e f = ap not (or_from (p c) (q c) (not_true (p c) e) (not_true (q c) f))
 
 abbrev span_by : ℕ → Text → Text × Text → Bool → Text × Text
 span_by c z s passes = cond passes (c ∷ s.0, s.1) ([], c ∷ z)
@@ -241,25 +238,17 @@ module _ (locale : Locale) (language : Language) where
   -- ---- places
 
   place_sound : (sheet : Option Text) (text first place : Text) → text ≡ first ++ place → IsSheet sheet first → IfSome (place_at sheet place) (Sound text)
-  place_sound sheet text first place parts is = if_map (Sound text) (λ r. (place_token sheet r.0, r.1)) (spot_at place)
-      (if_more (λ r. Sound text (place_token sheet r.0, r.1)) (λ r. Placed (IsSpot r.0) place r.1) go (spot_at place) (spot_sound place))
+  place_sound sheet text first place parts is = if_over (Sound text) (λ r. (place_token sheet r.0, r.1)) (λ r. Placed (IsSpot r.0) place r.1) go (spot_at place) (spot_sound place)
     where
       whole : (s rest : Text) → place ≡ s ++ rest → text ≡ (first ++ s) ++ rest
-      whole s rest e = parts ∙ ap (λ (y : Text). first ++ y) e ∙ sym (append_assoc first s rest)
+      whole s rest e = rw (parts, e, append_assoc first s rest)
 
       go : (r : Spot × Text) → Placed (IsSpot r.0) place r.1 → Sound text (place_token sheet r.0, r.1)
-      go (spot.Range a b, rest) f e = record {
-        spelled = first ++ f.spelled;
-        parts = whole f.spelled rest f.parts;
-        spells = record { first = first; second = f.spelled; parts = refl; is_first = is; is_second = f.is };
-        ends = f.ends;
-      }
-      go (spot.Cell mark, rest) f e = record {
-        spelled = first ++ f.spelled;
-        parts = whole f.spelled rest f.parts;
-        spells = record { first = first; second = f.spelled; parts = refl; is_first = is; is_second = f.is };
-        ends = (f.ends, λ a b z more there at ends. apart sheet a b mark more rest (sym (range_token locale language sheet a b z more at ends) ∙ ap (token_at locale language) (sym (whole f.spelled rest f.parts ∙ there)) ∙ e));
-      }
+      go (spot.Range a b, rest) f e =
+          record { spelled = first ++ f.spelled; parts = whole f.spelled rest f.parts; spells = record { first = first; second = f.spelled; parts = refl; is_first = is; is_second = f.is }; ends = f.ends }
+      go (spot.Cell mark, rest) f e =
+          let never : NoRange sheet ((first ++ f.spelled) ++ rest) = λ a b z more there at ends. apart sheet a b mark more rest (sym (range_token locale language sheet a b z more at ends) ∙ ap (token_at locale language) (sym (whole f.spelled rest f.parts ∙ there)) ∙ e) in
+          record { spelled = first ++ f.spelled; parts = whole f.spelled rest f.parts; spells = record { first = first; second = f.spelled; parts = refl; is_first = is; is_second = f.is }; ends = (f.ends, never) }
 
   on_sheet_sound : (text sheet name behind : Text) → text ≡ name ++ behind → IsSheetName sheet name → IfSome (on_sheet sheet behind) (Sound text)
   on_sheet_sound text sheet name behind parts named = go (past 33 behind) (past_is 33 behind)
@@ -268,7 +257,7 @@ module _ (locale : Locale) (language : Language) where
       go None e = tt
       go (Some z) e =
           let s = span is_blank z in
-          place_sound (Some sheet) text (name ++ (33 ∷ s.0)) s.1 (parts ∙ ap (λ (y : Text). name ++ y) (e ∙ ap (λ (y : Text). 33 ∷ y) (span_parts is_blank z)) ∙ sym (append_assoc name (33 ∷ s.0) s.1))
+          place_sound (Some sheet) text (name ++ (33 ∷ s.0)) s.1 (rw (parts, e, append_assoc name (33 ∷ s.0) s.1) (ap (λ (y : Text). name ++ (33 ∷ y)) (span_parts is_blank z)))
           (record { first = name; second = 33 ∷ s.0; parts = refl; is_first = named; is_second = record { blanks = s.0; parts = refl; all_blank = span_all is_blank z } })
 
   -- ---- words, numbers and texts
@@ -283,7 +272,7 @@ module _ (locale : Locale) (language : Language) where
         spelled = s.0;
         parts = parts;
         spells = (word_front c text start, refl);
-        ends = (stops_name s.1 (span_stops goes_on_word (c ∷ text)) h, subst (NoCell None) parts (no_cell_spelled (c ∷ text) none), subst (NoRange None) parts (no_range_spelled (c ∷ text) none));
+        ends = (stops_either goes_on_word (λ d. d == 33) s.1 (span_stops goes_on_word (c ∷ text)) h, subst (NoCell None) parts (no_cell_spelled (c ∷ text) none), subst (NoRange None) parts (no_range_spelled (c ∷ text) none));
       })
       (λ h. if_cond (Sound (c ∷ text)) (reads_as_cell s.0) None (on_sheet (encode_utf8_all s.0) s.1) (λ k. tt)
       (λ k. on_sheet_sound (c ∷ text) (encode_utf8_all s.0) s.0 s.1 parts (plain (word_front c text start) k refl)))
@@ -302,12 +291,7 @@ module _ (locale : Locale) (language : Language) where
     where
       go : (o : Option (Text × Text)) → IfSome o (λ r. Closes 34 false text r.0 r.1) → IfSome (option_map (λ (p : Text × Text). (t.Text p.0, p.1)) (option_map (λ (p : Text × Text). (encode_utf8_all p.0, p.1)) o)) (Sound (34 ∷ text))
       go None f = tt
-      go (Some r) f = λ e. record {
-        spelled = 34 ∷ doubled 34 r.0 ++ 34 ∷ [];
-        parts = ap (λ (y : Text). 34 ∷ y) (f.parts ∙ sym (append_assoc (doubled 34 r.0) (34 ∷ []) r.1));
-        spells = (r.0, refl, refl);
-        ends = f.ends;
-      }
+      go (Some r) f = λ e. record { spelled = 34 ∷ doubled 34 r.0 ++ 34 ∷ []; parts = rw (f.parts, append_assoc (doubled 34 r.0) (34 ∷ []) r.1); spells = (r.0, refl, refl); ends = f.ends }
 
   quoted_sheet_sound : (text : Text) → IfSome (quoted_sheet_at text) (Sound (39 ∷ text))
   unfolding quoted_sheet_at quoted_text
@@ -319,7 +303,7 @@ module _ (locale : Locale) (language : Language) where
           let some : (let q : Text = d ∷ name in q) ≢ [] = λ g. absurd cc in
           subst (λ o. IfSome o (Sound (39 ∷ text))) (sym (behind_name (d ∷ name) rest some))
           (on_sheet_sound (39 ∷ text) (encode_utf8_all (d ∷ name)) (39 ∷ doubled 39 (d ∷ name) ++ 39 ∷ []) rest
-          (ap (λ (y : Text). 39 ∷ y) (parts ∙ sym (append_assoc (doubled 39 (d ∷ name)) (39 ∷ []) rest))) (quoted (d ∷ name) refl some refl))
+          (rw (parts, append_assoc (doubled 39 (d ∷ name)) (39 ∷ []) rest)) (quoted (d ∷ name) refl some refl))
 
       go : (o : Option (Text × Text)) → IfSome o (λ r. Closes 39 false text r.0 r.1) → IfSome (option_and_then behind_quotes (option_map (λ (p : Text × Text). (encode_utf8_all p.0, p.1)) o)) (Sound (39 ∷ text))
       go None f = tt
@@ -333,12 +317,8 @@ module _ (locale : Locale) (language : Language) where
       go : (o : Option (Error × Text)) → error_at language (35 ∷ text) ≡ o → IfSome o (λ r. Front (λ s. error_of_text language (encode_utf8_all s) ≡ Some r.0) (35 ∷ text) r.1)
           → IfSome (error_or_hash text o) (Sound (35 ∷ text))
       go (Some r) h f = λ e. record { spelled = f.spelled; parts = f.parts; spells = f.is; ends = tt }
-      go None h f = λ e. record {
-        spelled = 35 ∷ [];
-        parts = refl;
-        spells = refl;
-        ends = λ error s more parts is ends. let g = sym (error_read language s error more is) ∙ ap (error_at language) (sym parts) ∙ h in absurd cc;
-      }
+      go None h f = λ e.
+          record { spelled = 35 ∷ []; parts = refl; spells = refl; ends = λ error s more parts is ends. let g = sym (error_read language s error more is) ∙ ap (error_at language) (sym parts) ∙ h in absurd cc }
 
   -- a character that may stand behind a sign
   next_sound : (c mark : ℕ) (x : Token) (other : Option (Token × Text)) (text : Text) → Spells locale language x (c ∷ mark ∷ []) → ((rest : Text) → Ends locale language x (c ∷ mark ∷ []) rest)
@@ -349,13 +329,9 @@ module _ (locale : Locale) (language : Language) where
       go None h = more h
       go (Some z) h = λ e. record { spelled = c ∷ mark ∷ []; parts = ap (λ (y : Text). c ∷ y) h; spells = spells; ends = ends z }
 
-  stops_both : (a b : ℕ) (text : Text) → stops (λ c. c == a) text ≡ true → stops (λ c. c == b) text ≡ true → stops (λ c. c == a || c == b) text ≡ true
-  stops_both a b [] e f = refl
-  stops_both a b (c ∷ text) e f = ap not (or_from (c == a) (c == b) (not_true (c == a) e) (not_true (c == b) f))
-
   less_sound : (text : Text) → IfSome (behind_less text) (Sound (60 ∷ text))
   less_sound text = next_sound 60 62 t.NotEqual _ text refl (λ rest. tt) (λ h. next_sound 60 61 t.LessOrEqual (Some (t.Less, text)) text refl (λ rest. tt)
-      (λ k e. record { spelled = 60 ∷ []; parts = refl; spells = refl; ends = stops_both 61 62 text k h }))
+      (λ k e. record { spelled = 60 ∷ []; parts = refl; spells = refl; ends = stops_either (λ c. c == 61) (λ c. c == 62) text k h }))
 
   greater_sound : (text : Text) → IfSome (behind_greater text) (Sound (62 ∷ text))
   greater_sound text = next_sound 62 61 t.GreaterOrEqual (Some (t.Greater, text)) text refl (λ rest. tt) (λ k e. record { spelled = 62 ∷ []; parts = refl; spells = refl; ends = k })
@@ -570,3 +546,5 @@ module _ (locale : Locale) (language : Language) where
   found_tokens items text (Some v) e = tokens_sound text (items v) (sym e)
 
 pub ruleset turns = (ahead_none, turn_end, turn_fail, turn_on, turn_shorter)
+
+pub ruleset laws = (tokens_once, tokens_sound, tokens_complete)

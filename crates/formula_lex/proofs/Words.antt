@@ -36,7 +36,7 @@ use Rattle.formula_grammar.specs.declared.Token.TheVariants as t
 use Rattle.formula_lex.specs.Characters.{Text, goes_on_number, twice, doubled}
 use Rattle.formula_lex.specs.Lexicon.{starts_digit, IsNumber}
 use Rattle.formula_lex.specs.laws.Lex.{in_number, number_span, number_of, number_at, past, strip, english_error, own_text, own_error, error_at, quoted, in_front}
-use Rattle.formula_lex.proofs.Reading.{cond_some, if_map, if_each, same, Front, if_or, if_more, strip_is, if_cond}
+use Rattle.formula_lex.proofs.Reading.{if_over, past_none, quoted_close, cond_some, if_map, if_each, same, Front, if_or, if_more, strip_is, if_cond}
 
 -- ---- a number is read just where one is spelled
 
@@ -50,7 +50,7 @@ module _ (locale : Locale) where
   abbrev span_by : Text × Text → ℕ → Text → Bool → Text × Text
   span_by s c text b = cond b (c ∷ s.0, s.1) ([], c ∷ text)
 
-  number_span_is : (after : Bool) (text : Text) → (text ≡ (number_span locale after text).0 ++ (number_span locale after text).1) × (stops (goes_on_number locale) (number_span locale after text).1 ≡ true)
+  pub number_span_is : (after : Bool) (text : Text) → (text ≡ (number_span locale after text).0 ++ (number_span locale after text).1) × (stops (goes_on_number locale) (number_span locale after text).1 ≡ true)
   number_span_is after [] = (refl, refl)
   number_span_is after (c ∷ text) = go (number_span locale (is_exponent_letter c) text) (number_span_is (is_exponent_letter c) text) (in_number locale after c) refl
     where
@@ -193,8 +193,8 @@ abbrev found : Error → Option Text → Option (Error × Text)
 found error = option_map (λ rest. (error, rest))
 
 name_sound : (language : Language) (error : Error) (name text : Text) → Is language error name → IfSome (found error (strip name text)) (λ r. Front (Is language r.0) text r.1)
-name_sound language error name text is = if_map (λ r. Front (Is language r.0) text r.1) (λ rest. (error, rest)) (strip name text)
-    (if_more (λ rest. Front (Is language error) text rest) (λ rest. text ≡ name ++ rest) (λ rest e. record { spelled = name; parts = e; is = is }) (strip name text) (strip_is name text))
+name_sound language error name text is =
+    if_over (λ r. Front (Is language r.0) text r.1) (λ rest. (error, rest)) (λ rest. text ≡ name ++ rest) (λ rest e. record { spelled = name; parts = e; is = is }) (strip name text) (strip_is name text)
 
 english_sound : (language : Language) (errors : List Error) (text : Text) → IfSome (english_error errors text) (λ r. Front (Is language r.0) text r.1)
 english_sound language [] text = tt
@@ -220,8 +220,7 @@ pub error_sound : (language : Language) (text : Text) → IfSome (error_at langu
 unfolding error_at
 error_sound language text =
     if_or (λ r. Front (Is language r.0) text r.1) (found Ref (own_error language text)) (english_error all_errors text)
-    (own_sound language text)
-    (english_sound language all_errors text)
+    (own_sound language text) (english_sound language all_errors text)
 
 -- ---- what is spelled is read: no text of an error begins another
 
@@ -233,27 +232,18 @@ english_read Fr Ref rest = refl
 english_read Es Ref rest = refl
 english_read _ _ rest = refl
 
-own_read : (language : Language) (rest : Text) → IfSome (own_text language) (λ name. error_at language (name ++ rest) ≡ Some (Ref, rest))
-unfolding error_at
-own_read En rest = tt
-own_read De rest = refl
-own_read Fr rest = tt
-own_read Es rest = refl
-
--- the characters whose bytes are the language's own text
-own_named : (language : Language) (s : Text) → is_own_reference_error language (encode_utf8_all s) ≡ true → own_text language ≡ Some s
-unfolding encode
-own_named En s e = absurd cc
-own_named De s e = ap (λ (x : Text). Some x) (encodes_same (codes "#BEZUG!") s ((bytes_decides _ _).0 e))
-own_named Fr s e = absurd cc
-own_named Es s e = ap (λ (x : Text). Some x) (encodes_same (35 ∷ 161 ∷ codes "REF!") s ((bytes_decides _ _).0 e))
+own_read : (language : Language) (s rest : Text) → is_own_reference_error language (encode_utf8_all s) ≡ true → error_at language (s ++ rest) ≡ Some (Ref, rest)
+unfolding error_at encode
+own_read En s rest e = absurd cc
+own_read De s rest e = rw (← encodes_same (codes "#BEZUG!") s ((bytes_decides _ _).0 e))
+own_read Fr s rest e = absurd cc
+own_read Es s rest e = rw (← encodes_same (35 ∷ 161 ∷ codes "REF!") s ((bytes_decides _ _).0 e))
 
 named : (language : Language) (s rest : Text) (error : Error) (own : Bool) → is_own_reference_error language (encode_utf8_all s) ≡ own
     → cond own (Some Ref) (entry_named error_text all_errors (encode_utf8_all s)) ≡ Some error → error_at language (s ++ rest) ≡ Some (error, rest)
 named language s rest error true h e =
     let is : Ref ≡ error = cc in
-    subst (λ (o : Option Text). IfSome o (λ name. error_at language (name ++ rest) ≡ Some (error, rest))) (own_named language s h)
-    (subst (λ (x : Error). IfSome (own_text language) (λ name. error_at language (name ++ rest) ≡ Some (x, rest))) is (own_read language rest))
+    rw (← is) (own_read language s rest h)
 named language s rest error false h e =
     let is : error_text error ≡ s = encodes_same (error_text error) s (error_encoded error ∙ found_name error_text all_errors (encode_utf8_all s) error e) in
     subst (λ (x : Text). error_at language (x ++ rest) ≡ Some (error, rest)) is (english_read language error rest)
@@ -271,10 +261,6 @@ error_none _ text e = rw e
 
 -- ---- what is spelled is read
 
-closing_read : (quote : ℕ) (rest : Text) → stops (λ c. c == quote) rest ≡ true → quoted quote true rest ≡ Some ([], rest)
-closing_read quote [] e = refl
-closing_read quote (c ∷ rest) e = rw (not_true (c == quote) e)
-
 twice_read : (quote c : ℕ) (z : Text) → quoted quote false (twice quote c ++ z) ≡ in_front c (quoted quote false z)
 twice_read quote c z = go (c == quote) refl
   where
@@ -283,7 +269,7 @@ twice_read quote c z = go (c == quote) refl
     go false e = rw e
 
 pub quoted_read : (quote : ℕ) (x rest : Text) → stops (λ c. c == quote) rest ≡ true → quoted quote false (doubled quote x ++ (quote ∷ rest)) ≡ Some (x, rest)
-quoted_read quote [] rest e = rw (same quote) (closing_read quote rest e)
+quoted_read quote [] rest e = rw (same quote) (quoted_close quote rest (past_none quote rest e))
 quoted_read quote (c ∷ x) rest e =
     ap (quoted quote false) (append_assoc (twice quote c) (doubled quote x) (quote ∷ rest)) ∙ twice_read quote c (doubled quote x ++ (quote ∷ rest)) ∙ ap (in_front c) (quoted_read quote x rest e)
 
@@ -295,12 +281,8 @@ pub record Closes (quote : ℕ) (behind : Bool) (text x rest : Text) : Type 0 wh
   pub ends : stops (λ c. c == quote) rest ≡ true
 
 one_more : (quote c : ℕ) (text x rest : Text) (b : Bool) → (c == quote) ≡ b → Closes quote false text x rest → cond b (quote ∷ quote ∷ text) (c ∷ text) ≡ doubled quote (c ∷ x) ++ (quote ∷ rest)
-one_more quote c text x rest b e f =
-    go b ∙ ap (λ (t : Bool). cond t (quote ∷ quote ∷ []) (c ∷ []) ++ text) (sym e) ∙ ap (λ (y : Text). twice quote c ++ y) f.parts ∙ sym (append_assoc (twice quote c) (doubled quote x) (quote ∷ rest))
-  where
-    go : (b : Bool) → cond b (quote ∷ quote ∷ text) (c ∷ text) ≡ cond b (quote ∷ quote ∷ []) (c ∷ []) ++ text
-    go true = refl
-    go false = refl
+one_more quote c text x rest true e f = rw e (ap (λ (y : Text). quote ∷ quote ∷ y) f.parts)
+one_more quote c text x rest false e f = rw e (ap (λ (y : Text). c ∷ y) f.parts)
 
 pub quoted_sound : (quote : ℕ) (behind : Bool) (text : Text) → IfSome (quoted quote behind text) (λ r. Closes quote behind text r.0 r.1)
 quoted_sound quote false [] = tt
@@ -309,12 +291,10 @@ quoted_sound quote false (c ∷ text) =
     if_cond (λ r. Closes quote false (c ∷ text) r.0 r.1) (c == quote) (quoted quote true text) (in_front c (quoted quote false text))
     (λ e. if_more (λ r. Closes quote false (c ∷ text) r.0 r.1) (λ r. Closes quote true text r.0 r.1)
     (λ r f. record { parts = ap (λ (d : ℕ). d ∷ text) (eqb-true c quote e) ∙ f.parts; ends = f.ends }) (quoted quote true text) (quoted_sound quote true text))
-    (λ e. if_map (λ r. Closes quote false (c ∷ text) r.0 r.1) (λ r. (c ∷ r.0, r.1)) (quoted quote false text)
-    (if_more (λ r. Closes quote false (c ∷ text) (c ∷ r.0) r.1) (λ r. Closes quote false text r.0 r.1)
-    (λ r f. record { parts = one_more quote c text r.0 r.1 false e f; ends = f.ends }) (quoted quote false text) (quoted_sound quote false text)))
+    (λ e. if_over (λ r. Closes quote false (c ∷ text) r.0 r.1) (λ r. (c ∷ r.0, r.1)) (λ r. Closes quote false text r.0 r.1)
+    (λ r f. record { parts = one_more quote c text r.0 r.1 false e f; ends = f.ends }) (quoted quote false text) (quoted_sound quote false text))
 quoted_sound quote true (c ∷ text) =
     if_cond (λ r. Closes quote true (c ∷ text) r.0 r.1) (c == quote) (in_front quote (quoted quote false text)) (Some ([], c ∷ text))
-    (λ e. if_map (λ r. Closes quote true (c ∷ text) r.0 r.1) (λ r. (quote ∷ r.0, r.1)) (quoted quote false text)
-    (if_more (λ r. Closes quote true (c ∷ text) (quote ∷ r.0) r.1) (λ r. Closes quote false text r.0 r.1)
-    (λ r f. record { parts = ap (λ (d : ℕ). quote ∷ d ∷ text) (eqb-true c quote e) ∙ one_more quote quote text r.0 r.1 true (same quote) f; ends = f.ends }) (quoted quote false text) (quoted_sound quote false text)))
+    (λ e. if_over (λ r. Closes quote true (c ∷ text) r.0 r.1) (λ r. (quote ∷ r.0, r.1)) (λ r. Closes quote false text r.0 r.1)
+    (λ r f. record { parts = ap (λ (d : ℕ). quote ∷ d ∷ text) (eqb-true c quote e) ∙ one_more quote quote text r.0 r.1 true (same quote) f; ends = f.ends }) (quoted quote false text) (quoted_sound quote false text))
     (λ e. record { parts = refl; ends = ap not e })

@@ -82,7 +82,7 @@ fn run_len(class: Class, text: &str) -> usize
         }
         rest = more;
     }
-    text.len()
+    text.len() - rest.len()
 }
 
 /// The longest front of these characters, and what follows it.

@@ -96,7 +96,7 @@ fn number_len(locale: Locale, text: &str) -> usize
         after_letter = is_exponent_letter(c);
         rest = more;
     }
-    text.len()
+    text.len() - rest.len()
 }
 
 /// The number at the front of the text. It takes no memory.

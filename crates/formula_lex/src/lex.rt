@@ -63,6 +63,7 @@ pub fn lex_text(
 }
 
 /// A text is at most one list of tokens. The definition `tokens_of`, which computes, answers that list.
+#[tactic(auto, using(crate::proofs::Tokens::laws))]
 pub fn text_spells_one_list()
     ensures one { (locale : AnyLocale) (language : AnyLanguage) (text : List ℕ) (a b : List AnyToken) → IsTokens locale language text a → IsTokens locale language text b → a ≡ b }
     ensures read { (locale : AnyLocale) (language : AnyLanguage) (text : List ℕ) (tokens : List AnyToken) → tokens_of locale language text ≡ Some tokens → IsTokens locale language text tokens }

@@ -123,17 +123,17 @@ fn corner(text: &str) -> Option<(Side, &str)>
     }
 }
 
-/// The range between two corners of one kind.
-fn between(first: Side, second: Side) -> Option<Spot>
+/// The corners of the range between two sides of one kind.
+fn between(first: Side, second: Side) -> Option<(CellMark, CellMark)>
     ensures { result ≡ spec.between first second }
 {
     match (first, second) {
-        (Side::Cell(first), Side::Cell(second)) => Some(Spot::Range(first, second)),
-        (Side::Column(first), Side::Column(second)) => Some(Spot::Range(
+        (Side::Cell(first), Side::Cell(second)) => Some((first, second)),
+        (Side::Column(first), Side::Column(second)) => Some((
             mark(first, absolute_line(1)),
             mark(second, absolute_line(LAST_ROW)),
         )),
-        (Side::Row(first), Side::Row(second)) => Some(Spot::Range(
+        (Side::Row(first), Side::Row(second)) => Some((
             mark(absolute_line(1), first),
             mark(absolute_line(LAST_COLUMN), second),
         )),
@@ -141,9 +141,9 @@ fn between(first: Side, second: Side) -> Option<Spot>
     }
 }
 
-/// A range from this corner, behind which the text stands.
+/// The corners of a range from this side, behind which the text stands.
 #[tactic(auto, unfolding(crate::specs::laws::Lex::range_behind))]
-fn range(first: Side, text: &str) -> Option<(Spot, &str)>
+fn range(first: Side, text: &str) -> Option<((CellMark, CellMark), &str)>
     ensures { seen result ≡ spec.range_behind first (chars text.now) }
 {
     let (second, rest) = corner(past(':', text)?)?;
@@ -153,7 +153,7 @@ fn range(first: Side, text: &str) -> Option<(Spot, &str)>
     Some((between(first, second)?, rest))
 }
 
-/// This corner by itself, behind which the text stands, where it is a cell.
+/// This side by itself, behind which the text stands, where it is a cell.
 fn cell(side: Side, text: &str) -> Option<(Spot, &str)>
     ensures { seen result ≡ spec.cell_alone side (chars text.now) }
 {
@@ -170,7 +170,7 @@ pub fn place(text: &str) -> Option<(Spot, &str)>
 {
     let (first, rest) = corner(text)?;
     match range(first, rest) {
-        Some(found) => Some(found),
+        Some(((first, second), rest)) => Some((Spot::Range(first, second), rest)),
         None => cell(first, rest),
     }
 }

@@ -84,28 +84,28 @@ with_column text (Some p) = with_row p.0 p.1 (row_at p.1)
 unfoldable pub corner_at : Reader Side
 corner_at text = with_column text (column_at text)
 
--- the range between two corners of one kind
-abbrev pub between : Side → Side → Option Spot
-between (side.Cell a) (side.Cell b) = Some (spot.Range a b)
-between (side.Column a) (side.Column b) = Some (spot.Range (mark_of a (absolute_line (pos 1))) (mark_of b (absolute_line (pos 1048576))))
-between (side.Row a) (side.Row b) = Some (spot.Range (mark_of (absolute_line (pos 1)) a) (mark_of (absolute_line (pos 16384)) b))
+-- the corners of the range between two sides of one kind
+abbrev pub between : Side → Side → Option (CellMark × CellMark)
+between (side.Cell a) (side.Cell b) = Some (a, b)
+between (side.Column a) (side.Column b) = Some (mark_of a (absolute_line (pos 1)), mark_of b (absolute_line (pos 1048576)))
+between (side.Row a) (side.Row b) = Some (mark_of (absolute_line (pos 1)) a, mark_of (absolute_line (pos 16384)) b)
 between _ _ = None
 
--- a range to this corner, where one may end
-abbrev pub range_to : Side → Side × Text → Option (Spot × Text)
+-- a range to this side, where one may end
+abbrev pub range_to : Side → Side × Text → Option ((CellMark × CellMark) × Text)
 range_to a p = if stops goes_on_place p.1 then option_map (λ range. (range, p.1)) (between a p.0) else None
 
--- behind the first corner of a range: a colon and the second one
-unfoldable pub range_behind : Side → Reader Spot
+-- behind the first side of a range: a colon and the second one
+unfoldable pub range_behind : Side → Reader (CellMark × CellMark)
 range_behind a text = option_and_then (range_to a) (option_and_then corner_at (past 58 text))
 
--- a corner that is a cell by itself, where one may end
+-- a side that is a cell by itself, where one may end
 abbrev pub cell_alone : Side → Reader Spot
 cell_alone (side.Cell mark) text = if stops goes_on_place text then Some (spot.Cell mark, text) else None
 cell_alone _ text = None
 
 abbrev pub behind_corner : Side × Text → Option (Spot × Text)
-behind_corner p = option_or (range_behind p.0 p.1) (cell_alone p.0 p.1)
+behind_corner p = option_or (option_map (λ r. (spot.Range r.0.0 r.0.1, r.1)) (range_behind p.0 p.1)) (cell_alone p.0 p.1)
 
 -- a range, or else a cell
 unfoldable pub spot_at : Reader Spot

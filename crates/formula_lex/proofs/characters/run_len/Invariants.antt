@@ -1,12 +1,11 @@
 use Rattle.std.proofs.Common.{length}
-use Rattle.std.specs.Str.{chars}
 use Rattle.base_decimal.specs.Digits.{span}
 use Rattle.formula_lex.specs.laws.Classes.{passes}
 use Rattle.formula_lex.proofs.Reading.{Went}
 use Rattle.formula_lex.proofs.characters.run_len.Given as goal
 
 abbrev pub invariant-loop-c : goal.invariant-loop-c
-invariant-loop-c l = Went l.text l.rest (span (passes l.class)) (span (passes l.class) (chars l.text))
+invariant-loop-c l = Went l.text l.rest (span (passes l.class)) (span (passes l.class))
 
 abbrev pub decreases-loop-c : goal.decreases-loop-c
 decreases-loop-c l = length l.rest

@@ -1,11 +1,10 @@
 use Rattle.std.proofs.Common.{length, false}
-use Rattle.std.specs.Str.{chars}
 use Rattle.formula_lex.specs.laws.Lex.{number_span}
 use Rattle.formula_lex.proofs.Reading.{Went}
 use Rattle.formula_lex.proofs.front.number_len.Given as goal
 
 abbrev pub invariant-loop-c : goal.invariant-loop-c
-invariant-loop-c l = Went l.text l.rest (number_span l.locale l.after_letter) (number_span l.locale false (chars l.text))
+invariant-loop-c l = Went l.text l.rest (number_span l.locale false) (number_span l.locale l.after_letter)
 
 abbrev pub decreases-loop-c : goal.decreases-loop-c
 decreases-loop-c l = length l.rest

@@ -1,4 +1,4 @@
-ghost use Rattle.std.specs.Prelude.{◌≡◌, ◌∷◌, IfOk, IsOkUnless, is_some};
+ghost use Rattle.std.specs.Prelude.{◌≡◌, ◌∷◌, ◌++◌, IfOk, OnOk, IsOkUnless, is_some};
 ghost use Rattle.std.specs.String.{string_bytes};
 ghost use Rattle.base_values.specs.declared.error.EditError.TheVariants.{NoMemory};
 ghost use Rattle.formula_read.specs.Formula.{profile_of};
@@ -8,9 +8,9 @@ use base_decimal::Decimal;
 use base_tables::{Language, Locale, read_boolean, read_error};
 use base_values::EditError;
 use formula_content::Content;
-use formula_print::to_localized_string;
+use formula_print::{push_localized_string, push_number};
 use formula_tree::{CellReferenceRC, Node};
-use std::alloc::Global;
+use std::alloc::{AllocError, Global};
 
 /// Whether the text is a boolean, an error or a number. It takes no memory.
 #[tactic(auto, using(crate::proofs::Texts::some_value))]
@@ -41,47 +41,68 @@ fn reads_as_text(text: &str, context: &CellReferenceRC, locale: Locale, language
     !is_value(text, locale, language)
 }
 
-/// A text as it is printed: with an apostrophe where it would be read as anything else.
-fn print_text(
-    alloc: Global,
+/// Writes a text as it is printed at the end: with an apostrophe where it would be read as anything
+/// else.
+fn push_text(
+    out: &mut String,
     text: &str,
     context: &CellReferenceRC,
     locale: Locale,
     language: Language,
-) -> Result<String, EditError>
-    ensures value { IfOk result (λ printed. string_bytes printed ≡ marked_text (profile_of context.now locale language) text.now) }
-    ensures memory { IsOkUnless result NoMemory }
+) -> Result<(), AllocError>
+    ensures { OnOk result (string_bytes out.new ≡ string_bytes out.old ++ marked_text (profile_of context.now locale language) text.now) }
 {
-    if reads_as_text(text, context, locale, language) {
-        return Ok(String::from_str(alloc, text)?);
+    if !reads_as_text(text, context, locale, language) {
+        out.push_str("'")?;
     }
-    let mut marked = String::from_str(alloc, "'")?;
-    marked.push_str(text)?;
-    Ok(marked)
+    out.push_str(text)
 }
 
-/// A formula's text behind an equals sign.
-fn print_formula(
-    alloc: Global,
+/// Writes a formula's text behind an equals sign at the end.
+fn push_formula(
+    out: &mut String,
     tree: &Node,
     context: &CellReferenceRC,
     locale: Locale,
     language: Language,
-) -> Result<String, EditError>
-    ensures value { IfOk result (λ printed. string_bytes printed ≡ formula_text (profile_of context.now locale language) tree.now) }
+) -> Result<(), EditError>
+    ensures value { OnOk result (string_bytes out.new ≡ string_bytes out.old ++ formula_text (profile_of context.now locale language) tree.now) }
     ensures memory { IsOkUnless result NoMemory }
 {
-    let text = to_localized_string(alloc, tree, context, locale, language)?;
-    let mut printed = String::from_str(alloc, "=")?;
-    printed.push_str(&text)?;
-    Ok(printed)
+    out.push_str("=")?;
+    push_localized_string(out, tree, context, locale, language)
 }
 
-/// The text of the content of a cell: nothing where it is empty, a number in plain digits, a
-/// boolean's word in the language, the English text of an error, a text as it is, and a formula
-/// behind an equals sign. An apostrophe leads a text that would be read as anything else.
+/// Writes the text of the content of a cell at the end: nothing where it is empty, a number in plain
+/// digits, a boolean's word in the language, the English text of an error, a text as it is, and a
+/// formula behind an equals sign. An apostrophe leads a text that would be read as anything else.
 ///
-/// `NoMemory` is the only error. docs/SCRIPT.md has the rules.
+/// `NoMemory` is the only error. A front of the text may then have been written. docs/SCRIPT.md has
+/// the rules.
+pub fn push_content(
+    out: &mut String,
+    content: &Content,
+    context: &CellReferenceRC,
+    locale: Locale,
+    language: Language,
+) -> Result<(), EditError>
+    ensures value { OnOk result (string_bytes out.new ≡ string_bytes out.old ++ input_text (profile_of context.now locale language) content.now) }
+    ensures memory { IsOkUnless result NoMemory }
+{
+    match content {
+        Content::Empty => Ok(()),
+        Content::Number(number) => Ok(push_number(out, number, locale)?),
+        Content::Boolean(value) => Ok(out.push_str(language.boolean(*value))?),
+        Content::Error(error) => Ok(out.push_str(error.text())?),
+        Content::Text(text) => Ok(push_text(out, text.as_str(), context, locale, language)?),
+        Content::Formula(tree) => push_formula(out, tree.get(), context, locale, language),
+        Content::Dynamic(tree) => push_formula(out, tree.get(), context, locale, language),
+    }
+}
+
+/// The text that `push_content` writes.
+///
+/// `NoMemory` is the only error.
 pub fn print_content(
     alloc: Global,
     content: &Content,
@@ -92,15 +113,9 @@ pub fn print_content(
     ensures value { IfOk result (λ text. string_bytes text ≡ input_text (profile_of context.now locale language) content.now) }
     ensures memory { IsOkUnless result NoMemory }
 {
-    match content {
-        Content::Empty => Ok(String::new(alloc)),
-        Content::Number(number) => number.print(alloc, locale),
-        Content::Boolean(value) => Ok(String::from_str(alloc, language.boolean(*value))?),
-        Content::Error(error) => Ok(String::from_str(alloc, error.text())?),
-        Content::Text(text) => print_text(alloc, text.as_str(), context, locale, language),
-        Content::Formula(tree) => print_formula(alloc, tree.get(), context, locale, language),
-        Content::Dynamic(tree) => print_formula(alloc, tree.get(), context, locale, language),
-    }
+    let mut text = String::new(alloc);
+    push_content(&mut text, content, context, locale, language)?;
+    Ok(text)
 }
 
 /// The law of contents: what is printed of a content without a formula is read as that content, at

@@ -1,0 +1,4 @@
+pub mod Characters
+pub mod Fronts
+pub mod Words
+pub mod Places

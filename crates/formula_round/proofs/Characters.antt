@@ -17,7 +17,7 @@ use Rattle.formula_lex.specs.Characters.{Text, goes_on_place, goes_on_name, goes
 
 -- ---- ASCII
 
-pub is_ascii : ℕ → Bool
+unfoldable pub is_ascii : ℕ → Bool
 is_ascii c = nat_lt c 128
 
 pub each_ascii : (s : Text) → list_all is_ascii s ≡ true → IsAscii s

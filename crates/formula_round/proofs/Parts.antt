@@ -1,0 +1,80 @@
+-- Parts of printed text that spell their tokens.
+use Rattle.std.proofs.Common.{◌≡◌, ℕ, Bool, true, false, List, [], ◌∷◌, ◌++◌, refl, sym, ap, subst, ◌∙◌, append_assoc, append-nil}
+use Rattle.std.specs.Prelude.{not, ◌==◌, ◌||◌}
+use Rattle.std.specs.List.{list_all}
+use Rattle.std.specs.Str.{chars, IsUtf8}
+use Rattle.std.proofs.lemmas.Str.{IsUtf8-nil, IsUtf8-append, IsUtf8-from_ascii, chars-nil, chars-append, chars-IsAscii}
+use Rattle.base_tables.specs.declared.Language.{Language}
+use Rattle.base_tables.specs.declared.Locale.{Locale}
+use Rattle.base_decimal.specs.Digits.{stops}
+use Rattle.formula_grammar.specs.declared.Token.{Token}
+use Rattle.formula_lex.specs.Characters.{Text}
+use Rattle.formula_lex.specs.Lexicon.{Spells, Ends, Begins, IsTokens}
+use Rattle.formula_round.proofs.Characters.{is_ascii, each_ascii}
+
+-- before what may follow it, a text of bytes is these tokens
+pub record Spelled (locale : Locale) (language : Language) (After : Text → Type 0) (text : List ℕ) (tokens : List Token) : Type 0 where
+  pub utf8 : IsUtf8 text
+  pub spells : (rest : Text) (more : List Token) → After rest → IsTokens locale language rest more → IsTokens locale language (chars text ++ rest) (tokens ++ more)
+
+-- anything may follow
+abbrev pub Anything : Text → Type 0
+Anything rest = Unit {0}
+
+-- this character follows
+abbrev pub Follows : ℕ → Text → Type 0
+Follows c rest = (behind : Text) × (rest ≡ c ∷ behind)
+
+-- neither `=` nor `>` follows
+abbrev pub NoComparison : Text → Type 0
+NoComparison rest = stops (λ c. c == 61 || c == 62) rest ≡ true
+
+pub ascii_chars : (text : List ℕ) → list_all is_ascii text ≡ true → chars text ≡ text
+ascii_chars text all = chars-IsAscii text (each_ascii text all)
+
+pub ascii_utf8 : (text : List ℕ) → list_all is_ascii text ≡ true → IsUtf8 text
+ascii_utf8 text all = IsUtf8-from_ascii text (each_ascii text all)
+
+module _ (locale : Locale) (language : Language) where
+  abbrev pub Part : (Text → Type 0) → List ℕ → List Token → Type 0
+  Part = Spelled locale language
+
+  pub nothing : (After : Text → Type 0) → Part After [] []
+  nothing After = record { utf8 = IsUtf8-nil; spells = λ rest more after is. subst (λ (x : Text). IsTokens locale language (x ++ rest) more) (sym chars-nil) is }
+
+  -- one token
+  pub one_token : (After : Text → Type 0) (x : Token) (text : List ℕ) → IsUtf8 text → Spells locale language x (chars text)
+      → ((rest : Text) → After rest → Ends locale language x (chars text) rest) → Part After text (x ∷ [])
+  one_token After x text utf8 spells ends = record {
+    utf8 = utf8;
+    spells = λ rest more after is. (rest, record { blanks = []; spelled = chars text; parts = refl; all_blank = refl; spells = spells; ends = ends rest after }, is);
+  }
+
+  -- one token of ASCII
+  pub ascii_token : (After : Text → Type 0) (x : Token) (text : List ℕ) → list_all is_ascii text ≡ true → Spells locale language x text
+      → ((rest : Text) → After rest → Ends locale language x text rest) → Part After text (x ∷ [])
+  ascii_token After x text all spells ends =
+      let same = ascii_chars text all in
+      one_token After x text (ascii_utf8 text all) (subst (Spells locale language x) (sym same) spells)
+      (λ rest after. subst (λ (s : Text). Ends locale language x s rest) (sym same) (ends rest after))
+
+  pub joined : (A B : Text → Type 0) (x y : List ℕ) (s z : List Token) → Part A x s → Part B y z → ((rest : Text) → B rest → A (chars y ++ rest)) → Part B (x ++ y) (s ++ z)
+  joined A B x y s z first second h = record {
+    utf8 = IsUtf8-append x y first.utf8 second.utf8;
+    spells = λ rest more after is. subst2 (sym (ap (λ (t : Text). t ++ rest) (chars-append x y first.utf8) ∙ append_assoc (chars x) (chars y) rest)) (sym (append_assoc s z more))
+        (first.spells (chars y ++ rest) (z ++ more) (h rest after) (second.spells rest more after is));
+  }
+    where
+      subst2 : {t u : Text} {v w : List Token} → t ≡ u → v ≡ w → IsTokens locale language t v → IsTokens locale language u w
+      subst2 {t} {u} {v} {w} e f is = subst (λ (ts : List Token). IsTokens locale language u ts) f (subst (λ (k : Text). IsTokens locale language k v) e is)
+
+  pub before : (A B : Text → Type 0) (x : List ℕ) (s : List Token) → Part A x s → ((rest : Text) → B rest → A rest) → Part B x s
+  before A B x s part h = record { utf8 = part.utf8; spells = λ rest more after is. part.spells rest more (h rest after) is }
+
+  pub same_text : (A : Text → Type 0) (x y : List ℕ) (s : List Token) → x ≡ y → Part A x s → Part A y s
+  same_text A x y s e = subst (λ (t : List ℕ). Part A t s) e
+
+  -- a text that ends a formula
+  pub whole : (A : Text → Type 0) (x : List ℕ) (s : List Token) → Part A x s → A [] → IsTokens locale language (chars x) s
+  whole A x s part after =
+      subst (λ (t : Text). IsTokens locale language t s) (append-nil (chars x)) (subst (λ (ts : List Token). IsTokens locale language (chars x ++ []) ts) (append-nil s) (part.spells [] [] after refl))

@@ -16,13 +16,13 @@ use Rattle.formula_tree.specs.declared.Parameter.{Parameter}
 use Rattle.formula_tree.specs.declared.UnaryKind.{UnaryKind}
 use Rattle.formula_tree.specs.declared.UnaryKind.TheVariants.{Minus, Percent}
 use Rattle.formula_tree.specs.Corners.{corner_row, corner_column}
-use Rattle.formula_print.specs.declared.kind.Infix.{Infix}
-use Rattle.formula_print.specs.declared.kind.Infix.TheVariants as op
-use Rattle.formula_print.specs.declared.kind.Kind.{Kind}
-use Rattle.formula_print.specs.declared.kind.Kind.TheVariants as k
-use Rattle.formula_print.specs.declared.kind.Need.{Need}
-use Rattle.formula_print.specs.declared.kind.Need.TheVariants as need
-use Rattle.formula_print.specs.declared.style.Corners.TheVariants.{Letters}
+use Rattle.formula_print.specs.declared.Infix.{Infix}
+use Rattle.formula_print.specs.declared.Infix.TheVariants as op
+use Rattle.formula_print.specs.declared.Kind.{Kind}
+use Rattle.formula_print.specs.declared.Kind.TheVariants as k
+use Rattle.formula_print.specs.declared.Need.{Need}
+use Rattle.formula_print.specs.declared.Need.TheVariants as need
+use Rattle.formula_print.specs.declared.Corners.TheVariants.{Letters}
 use Rattle.formula_print.specs.Kinds.{fits, left_need, right_need}
 use Rattle.formula_print.specs.Print.{unary_kind}
 use Rattle.formula_print.specs.References.{reference_cell_first, range_cell_first}

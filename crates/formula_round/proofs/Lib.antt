@@ -1,0 +1,10 @@
+pub mod Expressions
+pub mod Operands
+pub mod Trees
+pub mod Calls
+pub mod Arrays
+pub mod Layers
+pub mod Cells
+pub mod Named
+pub mod Binary
+pub mod Derived

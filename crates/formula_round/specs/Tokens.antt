@@ -30,7 +30,8 @@ use Rattle.formula_grammar.specs.declared.CellMark.{CellMark}
 use Rattle.formula_grammar.specs.declared.Profile.{Profile}
 use Rattle.formula_grammar.specs.declared.Token.{Token}
 use Rattle.formula_grammar.specs.declared.Token.TheVariants as t
-use Rattle.formula_grammar.specs.Grammar.{compare_token, sum_token, product_token, parameters_tokens}
+use Rattle.formula_grammar.specs.Grammar.{parameters_tokens}
+use Rattle.formula_grammar.specs.Operators.{compare_token, sum_token, product_token}
 use Rattle.formula_grammar.specs.Words.{separator_token, row_token}
 
 -- what a tree gives to the tree around it

@@ -34,7 +34,7 @@ use Rattle.formula_grammar.specs.declared.Profile.{Profile}
 use Rattle.formula_grammar.specs.declared.Token.{Token}
 use Rattle.formula_grammar.specs.declared.Token.TheVariants as t
 use Rattle.formula_grammar.specs.Grammar.{Derives, number, text, error, array}
-use Rattle.formula_grammar.specs.Normal.{Sort, lambda, other, Seen, is_empty, is_sum, is_callee, operand, arguments, right_of_sum, normal_seen, is_normal, is_named, is_called_name, is_table, is_parameter, has_item}
+use Rattle.formula_grammar.specs.Normal.{Sort, lambda, other, Seen, is_empty, is_sum, is_callee, operand, arguments, right_of_sum, normal_seen, is_normal, is_named, is_called_name, is_table, is_constant, is_parameter, has_item}
 use Rattle.formula_grammar.specs.Operators.{infix_under, infix_token}
 use Rattle.formula_grammar.specs.Words.{is_lambda as is_word_of_lambda, are_even}
 use Rattle.formula_round.specs.Tokens.{Tokened, tokened, tokens_of, operand as operand_tokens, in_parentheses, infix_tokens, unary_tokens, call_tokens, word_call_tokens, lambda_tokens, array_tokens}
@@ -134,7 +134,8 @@ module _ (p : Profile) where
   array_outcome : (lines : List (List ArrayItem)) → is_table lines ≡ true → Outcome p k.Other (array_tokens p lines) other (n.Array lines) 1
   array_outcome [] fine = absurd cc
   array_outcome (line ∷ lines) fine =
-      let parts = both_parts (nat_le 1 (length (line ∷ lines)) && list_all has_item (line ∷ lines)) (are_even (line ∷ lines)) fine in
+      let table_parts = both_parts ((nat_le 1 (length (line ∷ lines)) && list_all has_item (line ∷ lines)) && are_even (line ∷ lines)) (list_all (list_all is_constant) (line ∷ lines)) fine in
+      let parts = both_parts (nat_le 1 (length (line ∷ lines)) && list_all has_item (line ∷ lines)) (are_even (line ∷ lines)) table_parts.0 in
       let rows = table p line lines (both_parts (nat_le 1 (length (line ∷ lines))) (list_all has_item (line ∷ lines)) parts.0).1 in
       expression refl (record {
         by = array rows.by (ap are_even rows.gives ∙ parts.1);

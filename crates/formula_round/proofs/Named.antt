@@ -11,7 +11,7 @@ use Rattle.base_tables.specs.declared.Language.TheVariants.{En, De, Fr, Es}
 use Rattle.base_tables.specs.Function.{function_name, function_of_name}
 use Rattle.base_tables.specs.Language.{boolean_of_text, boolean_text}
 use Rattle.base_tables.specs.Tables.{lowered}
-use Rattle.base_tables.specs.Word.{is_word, reads_as_cell}
+use Rattle.base_tables.specs.Word.{reads_as_cell}
 use Rattle.base_tables.specs.laws.Function.{function_of_name-function_name}
 use Rattle.base_tables.specs.laws.Tables.{both_parts}
 use Rattle.std.specs.Str.{chars}
@@ -21,7 +21,7 @@ use Rattle.formula_grammar.specs.declared.Profile.{Profile}
 use Rattle.formula_grammar.specs.declared.Token.{Token}
 use Rattle.formula_grammar.specs.declared.Token.TheVariants as t
 use Rattle.formula_grammar.specs.Grammar.{word}
-use Rattle.formula_grammar.specs.Normal.{is_absent, is_plain_name, is_no_capital, is_called_name}
+use Rattle.formula_grammar.specs.Normal.{is_absent, is_text_word, is_plain_name, is_no_capital, is_called_name}
 use Rattle.formula_grammar.specs.Words.{is_lambda, call_node, word_node}
 use Rattle.formula_round.specs.Tokens.{in_parentheses}
 use Rattle.formula_round.proofs.Expressions.{Expressed}
@@ -42,7 +42,7 @@ boolean_expressed p value = word_expressed p (boolean_text p.language value) (So
 
 pub name_expressed : (p : Profile) (name : List ℕ) → is_plain_name p.language name ≡ true → Expressed p 0 (t.Word name ∷ []) (n.Name name) 1
 name_expressed p name plain =
-    word_expressed p name None (absent (boolean_of_text p.language name) (both_parts (is_word (chars name) && not (reads_as_cell (chars name))) (is_absent (boolean_of_text p.language name)) plain).1)
+    word_expressed p name None (absent (boolean_of_text p.language name) (both_parts (is_text_word name && not (reads_as_cell (chars name))) (is_absent (boolean_of_text p.language name)) plain).1)
 
 -- ---- calls
 
@@ -79,8 +79,8 @@ is_not false e = refl
 pub named_call_expressed : {p : Profile} {tokens : List Token} {trees : List Node} {below : ℕ} (name : List ℕ) → is_called_name p.language name ≡ true → Listed p tokens trees below
     → Expressed p 0 (t.Word (lowered name) ∷ in_parentheses tokens) (n.NamedCall name trees) (below + 1)
 named_call_expressed {p} {tokens} {trees} {below} name callable x =
-    let parts = both_parts (is_word (chars name) && list_all is_no_capital name) (is_absent (function_of_name p.language name) && not (is_lambda name)) callable in
-    let letters = both_parts (is_word (chars name)) (list_all is_no_capital name) parts.0 in
+    let parts = both_parts (is_text_word name && list_all is_no_capital name) (is_absent (function_of_name p.language name) && not (is_lambda name)) callable in
+    let letters = both_parts (is_text_word name) (list_all is_no_capital name) parts.0 in
     let others = both_parts (is_absent (function_of_name p.language name)) (not (is_lambda name)) parts.1 in
     subst (λ (word : List ℕ). Expressed p 0 (t.Word word ∷ in_parentheses tokens) (n.NamedCall name trees) (below + 1)) (sym (small_letters name letters.1))
     (with_called name None (absent (function_of_name p.language name) others.0) (is_not (is_lambda name) others.1) x)

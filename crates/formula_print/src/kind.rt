@@ -5,7 +5,7 @@ use formula_tree::{CompareKind, ProductKind, SumKind};
 
 /// What the rules of parentheses see of a tree.
 #[derive(Clone, Copy)]
-pub(crate) enum Kind {
+pub enum Kind {
     Compare,
     Concatenate,
     Sum,
@@ -28,7 +28,7 @@ pub(crate) enum Kind {
 
 /// What an operand must be to stand without parentheses.
 #[derive(Clone, Copy)]
-pub(crate) enum Need {
+pub enum Need {
     /// Of this level or a higher one.
     Level(u8),
     /// The operand of a minus.
@@ -45,7 +45,7 @@ pub(crate) enum Need {
 
 /// An operator between two operands, without `:`.
 #[derive(Clone, Copy)]
-pub(crate) enum Infix {
+pub enum Infix {
     Compare(CompareKind),
     Concatenate,
     Sum(SumKind),

@@ -3,7 +3,7 @@ use base_values::Position;
 
 /// How a form writes what other forms write differently.
 #[derive(Clone, Copy)]
-pub(crate) struct Style {
+pub struct Style {
     pub corners: Corners,
     /// The decimal sign, and the separators of arguments and of arrays.
     pub locale: Locale,
@@ -14,7 +14,7 @@ pub(crate) struct Style {
 
 /// How a form writes the corners of references and ranges.
 #[derive(Clone, Copy)]
-pub(crate) enum Corners {
+pub enum Corners {
     /// As `B$3`, seen from the formula's place.
     Letters(Position),
     /// As `R3C[1]`.
@@ -23,7 +23,7 @@ pub(crate) enum Corners {
 
 /// How a form writes what older programs don't know.
 #[derive(Clone, Copy, PartialEq, Eq)]
-pub(crate) enum Dialect {
+pub enum Dialect {
     /// `LET`, `LAMBDA`, `x#` and `@x`.
     Plain,
     /// With `_xlfn.`, and `#` and `@` as calls.

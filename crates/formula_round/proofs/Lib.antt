@@ -1,4 +1,17 @@
+pub mod Expressions
+pub mod Operands
+pub mod Trees
+pub mod Calls
+pub mod Arrays
+pub mod Layers
+pub mod Cells
+pub mod Named
+pub mod Binary
+pub mod Derived
 pub mod Characters
 pub mod Fronts
 pub mod Words
 pub mod Places
+pub mod Lines
+pub mod Parts
+pub mod Numbers

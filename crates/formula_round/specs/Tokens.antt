@@ -16,13 +16,13 @@ use Rattle.formula_tree.specs.declared.Parameter.{Parameter}
 use Rattle.formula_tree.specs.declared.UnaryKind.{UnaryKind}
 use Rattle.formula_tree.specs.declared.UnaryKind.TheVariants.{Minus, Percent}
 use Rattle.formula_tree.specs.Corners.{corner_row, corner_column}
-use Rattle.formula_print.specs.declared.kind.Infix.{Infix}
-use Rattle.formula_print.specs.declared.kind.Infix.TheVariants as op
-use Rattle.formula_print.specs.declared.kind.Kind.{Kind}
-use Rattle.formula_print.specs.declared.kind.Kind.TheVariants as k
-use Rattle.formula_print.specs.declared.kind.Need.{Need}
-use Rattle.formula_print.specs.declared.kind.Need.TheVariants as need
-use Rattle.formula_print.specs.declared.style.Corners.TheVariants.{Letters}
+use Rattle.formula_print.specs.declared.Infix.{Infix}
+use Rattle.formula_print.specs.declared.Infix.TheVariants as op
+use Rattle.formula_print.specs.declared.Kind.{Kind}
+use Rattle.formula_print.specs.declared.Kind.TheVariants as k
+use Rattle.formula_print.specs.declared.Need.{Need}
+use Rattle.formula_print.specs.declared.Need.TheVariants as need
+use Rattle.formula_print.specs.declared.Corners.TheVariants.{Letters}
 use Rattle.formula_print.specs.Kinds.{fits, left_need, right_need}
 use Rattle.formula_print.specs.Print.{unary_kind}
 use Rattle.formula_print.specs.References.{reference_cell_first, range_cell_first}
@@ -30,7 +30,8 @@ use Rattle.formula_grammar.specs.declared.CellMark.{CellMark}
 use Rattle.formula_grammar.specs.declared.Profile.{Profile}
 use Rattle.formula_grammar.specs.declared.Token.{Token}
 use Rattle.formula_grammar.specs.declared.Token.TheVariants as t
-use Rattle.formula_grammar.specs.Grammar.{compare_token, sum_token, product_token, parameters_tokens}
+use Rattle.formula_grammar.specs.Grammar.{parameters_tokens}
+use Rattle.formula_grammar.specs.Operators.{compare_token, sum_token, product_token}
 use Rattle.formula_grammar.specs.Words.{separator_token, row_token}
 
 -- what a tree gives to the tree around it

@@ -17,11 +17,10 @@ use Rattle.formula_lex.specs.Characters.{Text, goes_on_place, goes_on_name, goes
 
 -- ---- ASCII
 
-unfoldable pub is_ascii : ℕ → Bool
+abbrev pub is_ascii : ℕ → Bool
 is_ascii c = nat_lt c 128
 
 pub each_ascii : (s : Text) → list_all is_ascii s ≡ true → IsAscii s
-unfolding is_ascii
 each_ascii [] e i = omega arith
 each_ascii (c ∷ s) e zero = let test = (and_parts (is_ascii c) (list_all is_ascii s) e).0 in grind (arith, nat_tests, test)
 each_ascii (c ∷ s) e (suc i) = each_ascii s (and_parts (is_ascii c) (list_all is_ascii s) e).1 i
@@ -50,15 +49,15 @@ unfoldable pub follows : ℕ → Bool
 follows c = nat_lt c 128 && not (in_word c || (c == 34 || (c == 36 || (c == 33 || c == 40))))
 
 -- nor is it the decimal sign
-pub may_follow : Locale → ℕ → Bool
+unfoldable pub may_follow : Locale → ℕ → Bool
 may_follow locale c = follows c && not (c == decimal_sign locale)
 
 -- the text is empty, or begins with such a character
-pub is_followed : Locale → Text → Bool
+unfoldable pub is_followed : Locale → Text → Bool
 is_followed locale [] = true
 is_followed locale (c ∷ text) = may_follow locale c
 
-follows_low : (c : ℕ) → follows c ≡ true → c < 128
+pub follows_low : (c : ℕ) → follows c ≡ true → c < 128
 unfolding follows
 follows_low c e = let low = (and_parts (nat_lt c 128) _ e).0 in grind (arith, nat_tests, low)
 
@@ -93,7 +92,7 @@ follows_no_cell : (c : ℕ) → follows c ≡ true → in_cell c ≡ false
 unfolding in_word in_cell
 follows_no_cell c e = let none = follows_none c e in grind (arith, nat_tests, none)
 
-follow_parts : (locale : Locale) (c : ℕ) → may_follow locale c ≡ true → (follows c ≡ true) × ((c == decimal_sign locale) ≡ false)
+pub follow_parts : (locale : Locale) (c : ℕ) → may_follow locale c ≡ true → (follows c ≡ true) × ((c == decimal_sign locale) ≡ false)
 unfolding may_follow
 follow_parts locale c e = let k = and_parts (follows c) _ e in (k.0, not_true _ k.1)
 

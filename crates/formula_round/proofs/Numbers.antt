@@ -41,15 +41,15 @@ plain : ℕ → Bool
 plain c = is_ascii c && not (c == 58)
 
 plain_digit : (c : ℕ) → is_digit c ≡ true → plain c ≡ true
-unfolding plain is_ascii
+unfolding plain
 plain_digit c e = grind (arith, nat_tests, e)
 
 plain_letter : (c : ℕ) → is_exponent_letter c ≡ true → plain c ≡ true
-unfolding plain is_ascii
+unfolding plain
 plain_letter c e = grind (arith, nat_tests, e)
 
 plain_sign : (sign : Sign) → list_all plain (sign_text sign) ≡ true
-unfolding plain is_ascii
+unfolding plain
 plain_sign Absent = refl
 plain_sign Plus = refl
 plain_sign Minus = refl
@@ -72,7 +72,7 @@ module _ (mark : ℕ) (plain_mark : plain mark ≡ true) where
       (all_joined plain (fraction_text mark n.fraction) (exponent_text n.exponent) (plain_fraction n.fraction is.fraction) (plain_exponent n.exponent is.exponent))
 
 plain_decimal_sign : (locale : Locale) → plain (decimal_sign locale) ≡ true
-unfolding plain is_ascii
+unfolding plain
 plain_decimal_sign En = refl
 plain_decimal_sign De = refl
 plain_decimal_sign Fr = refl

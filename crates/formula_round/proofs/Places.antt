@@ -19,7 +19,7 @@ use Rattle.formula_round.proofs.Words.{word_goes_on, word_no_cell_before}
 
 -- ---- the two kinds of characters of a cell
 
-letter_or_dollar : ℕ → Bool
+unfoldable pub letter_or_dollar : ℕ → Bool
 letter_or_dollar c = is_letter c || c == 36
 
 digit_or_dollar : ℕ → Bool
@@ -34,7 +34,7 @@ unfolding digit_or_dollar
 row_digits mark s is = row_all digit_or_dollar refl (λ c e. ap (λ (b : Bool). b || c == 36) e) mark.absolute_row mark.row s is
 
 -- a cell has a digit, and a letter
-cell_some_digit : (mark : CellMark) (s : Text) → IsCell mark s → list_all letter_or_dollar s ≡ true → ⊥
+pub cell_some_digit : (mark : CellMark) (s : Text) → IsCell mark s → list_all letter_or_dollar s ≡ true → ⊥
 unfolding letter_or_dollar
 cell_some_digit mark s is all =
     row_some letter_or_dollar (λ c e. no_letter c e) mark.absolute_row mark.row is.second is.is_second (all_parted letter_or_dollar is.first is.second (sym (ap (list_all letter_or_dollar) is.parts) ∙ all)).1
@@ -64,7 +64,7 @@ in_cell_no_colon : (c : ℕ) → in_cell c ≡ true → not (c == 58) ≡ true
 unfolding in_cell
 in_cell_no_colon c e = grind (arith, nat_tests, e)
 
-in_cell_no_blank : (c : ℕ) → in_cell c ≡ true → is_blank c ≡ false
+pub in_cell_no_blank : (c : ℕ) → in_cell c ≡ true → is_blank c ≡ false
 unfolding in_cell
 in_cell_no_blank c e = grind (arith, nat_tests, e)
 

@@ -65,7 +65,7 @@ either : (a b : Bool) → a || b ≡ false → (a ≡ false) × (b ≡ false)
 either true b e = absurd cc
 either false b e = (refl, e)
 
-not_true : (a : Bool) → not a ≡ true → a ≡ false
+pub not_true : (a : Bool) → not a ≡ true → a ≡ false
 not_true true e = absurd cc
 not_true false e = refl
 

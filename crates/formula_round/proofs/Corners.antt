@@ -26,12 +26,13 @@ use Rattle.formula_grammar.specs.declared.Token.{Token}
 use Rattle.formula_grammar.specs.declared.Token.TheVariants as t
 use Rattle.formula_grammar.specs.Normal.{is_named}
 use Rattle.formula_lex.specs.Characters.{Text, is_blank, goes_on_place}
-use Rattle.formula_lex.specs.Lexicon.{dollar, row_of_name, IsLine, IsColumn, IsRow, IsPair, IsCell, IsRange, cells, columns, rows, IsSheetName, OnSheet, NoCell, NoRange, on_row, on_column}
+use Rattle.formula_lex.specs.Lexicon.{dollar, row_of_name, IsLine, IsColumn, IsRow, IsPair, IsCell, IsRange, cells, columns, rows, IsSheetName, plain, quoted, OnSheet, NoCell, NoRange, on_row, on_column}
 use Rattle.formula_round.specs.Tokens.{mark_of}
 use Rattle.formula_round.proofs.Characters.{is_ascii, in_cell, is_followed, ends_place, ends_cell}
-use Rattle.formula_round.proofs.Fronts.{weaker, all_joined, column_in_cell, row_in_cell, cell_in_cell, on_none}
+use Rattle.formula_round.proofs.Fronts.{ranged, first_in_cell, weaker, all_joined, column_in_cell, row_in_cell, cell_in_cell, on_none}
+use Rattle.formula_round.proofs.Leaves.{word_first}
 use Rattle.formula_round.proofs.Lines.{row_named, column_printed}
-use Rattle.formula_round.proofs.Parts.{Part, ascii_chars, ascii_utf8, one_token, ascii_token}
+use Rattle.formula_round.proofs.Parts.{Part, starts_operand, StartsOperand, starts_more, ascii_chars, ascii_utf8, one_token, ascii_token}
 use Rattle.formula_round.proofs.Places.{column_no_cell, row_no_cell, cell_no_range, sheet_no_range, sheet_no_cell, on_sheet, name_printed, name_scalars, in_cell_no_blank, cell_some_digit}
 
 -- where a corner stands
@@ -149,6 +150,33 @@ named_no_cell sheet place rest named all =
     let b = behind sheet place named all in
     subst (NoCell None) (sym (ap (λ (x : Text). x ++ rest) b.characters ∙ behind_parts b.name place rest)) (sheet_no_cell sheet b.name (place ++ rest) b.named)
 
+-- ---- first characters
+
+in_cell_starts : (c : ℕ) (s : Text) → in_cell c ≡ true → starts_operand (c ∷ s) ≡ true
+unfolding in_cell
+in_cell_starts c s e = grind (arith, nat_tests, e)
+
+cell_starts : (m : CellMark) (s : Text) → IsCell m s → starts_operand s ≡ true
+cell_starts m [] is = absurd (cell_some_digit m [] is refl)
+cell_starts m (c ∷ s) is = in_cell_starts c s (and_parts (in_cell c) _ (cell_in_cell m (c ∷ s) is)).0
+
+span_starts : (a b : CellMark) (s : Text) → IsRange a b s → starts_operand s ≡ true
+span_starts a b s is = let range = ranged a b s is in ap starts_operand range.parts ∙ by range.first range.second (first_in_cell a b range.first range.second range.sides)
+  where
+    by : (first second : Text) → list_all in_cell first ≡ true → starts_operand (first ++ (58 ∷ second)) ≡ true
+    by [] second all = refl
+    by (c ∷ first) second all = in_cell_starts c (first ++ (58 ∷ second)) (and_parts (in_cell c) _ all).0
+
+sheet_starts : (sheet name place : Text) → IsSheetName sheet name → starts_operand (name ++ place) ≡ true
+sheet_starts sheet name place (plain word no_cell is) = starts_more name place (word_first name word)
+sheet_starts sheet name place (quoted inside spelled some is) = ap (λ (x : Text). starts_operand (x ++ place)) spelled
+
+on_sheet_starts : (sheet : Option (List ℕ)) (place : List ℕ) → is_named sheet ≡ true → list_all is_ascii place ≡ true → starts_operand place ≡ true → StartsOperand (sheet_text sheet ++ place)
+on_sheet_starts None place named all starts = ap starts_operand (ascii_chars place all) ∙ starts
+on_sheet_starts (Some sheet) place named all starts =
+    let b = behind sheet place named all in
+    ap starts_operand (b.characters ∙ append_assoc b.name (33 ∷ []) place) ∙ sheet_starts sheet b.name (33 ∷ place) b.named
+
 -- ---- as they are printed
 
 printed_at : (place : Position) (sheet : Option (List ℕ)) (corner : Corner) → is_inside place corner ≡ true → reference_text (Letters place) sheet corner ≡ sheet_text sheet ++ cell_text corner (spot place corner)
@@ -170,6 +198,11 @@ unfolding reference_cell_first
 reference_no_cell place None corner named inside first rest = absurd (let x = sym (there place corner inside) in cc)
 reference_no_cell place (Some sheet) corner named inside first rest =
     subst (λ (x : List ℕ). NoCell None (chars x ++ rest)) (sym (printed_at place (Some sheet) corner inside)) (named_no_cell sheet (cell_text corner (spot place corner)) rest named (cell_ascii place corner inside))
+
+pub reference_starts : (place : Position) (sheet : Option (List ℕ)) (corner : Corner) → is_named sheet ≡ true → is_inside place corner ≡ true → StartsOperand (reference_text (Letters place) sheet corner)
+reference_starts place sheet corner named inside =
+    subst StartsOperand (sym (printed_at place sheet corner inside))
+    (on_sheet_starts sheet (cell_text corner (spot place corner)) named (cell_ascii place corner inside) (cell_starts (mark_of place corner) _ (is_cell place corner inside)))
 
 -- ---- ranges
 
@@ -299,3 +332,6 @@ module _ (place : Position) (first second : Corner) (here : is_inside place firs
       subst (λ (x : Text). NoCell None (x ++ rest)) (sym (ap chars (range_printed None) ∙ ascii_chars (corners_text first from second to) cornered.ascii)) (shortened short rest)
   range_no_cell (Some sheet) named no_first rest =
       subst (λ (x : List ℕ). NoCell None (chars x ++ rest)) (sym (range_printed (Some sheet))) (named_no_cell sheet (corners_text first from second to) rest named cornered.ascii)
+
+  pub range_starts : (sheet : Option (List ℕ)) → is_named sheet ≡ true → StartsOperand (range_text (Letters place) sheet first second)
+  range_starts sheet named = subst StartsOperand (sym (range_printed sheet)) (on_sheet_starts sheet (corners_text first from second to) named cornered.ascii (span_starts a b _ cornered.is_range))

@@ -1,12 +1,12 @@
 -- Signs, words, texts and errors spell their tokens.
-use Rattle.std.proofs.Common.{◌≡◌, ℕ, ◌<◌, Bool, true, false, cond, List, [], ◌∷◌, ◌++◌, refl, sym, ap, subst, ◌∙◌, arith}
+use Rattle.std.proofs.Common.{◌≡◌, ℕ, ◌<◌, Bool, true, false, cond, List, [], ◌∷◌, ◌++◌, refl, sym, ap, subst, ◌∙◌, append_assoc, arith}
 use Rattle.std.specs.Prelude.{not, ◌==◌, ◌||◌, ◌&&◌, codes, encode_utf8, encode_utf8_all, Option, Some, None}
 use Rattle.std.specs.Cmp.Lexicographic.{bytes_decides}
 use Rattle.std.specs.List.{list_all}
 use Rattle.std.specs.Str.{chars, IsUtf8}
 use Rattle.std.proofs.lemmas.Bool.{and_from, and_parts}
 use Rattle.std.proofs.lemmas.Bool.Decides.{nat_tests}
-use Rattle.std.proofs.lemmas.Str.{encode_ascii, encodes-append, encodes-chars, encodes-IsAscii, chars-encodes, scalars-chars}
+use Rattle.std.proofs.lemmas.Str.{encode_ascii, encodes-append, encodes-chars, encodes-IsAscii, chars-append, chars-encodes, scalars-chars}
 use lib.Utf8.{encode, scalars}
 use Rattle.base_tables.specs.declared.Error.{Error}
 use Rattle.base_tables.specs.declared.Error.TheVariants.{Ref, Name, Value, DivisionByZero, NotAvailable, Number, General, NotImplemented, Spill, Calc, Circular, Null}
@@ -22,7 +22,7 @@ use Rattle.base_tables.specs.Function.{function_name}
 use Rattle.base_tables.specs.Language.{boolean_text}
 use Rattle.base_tables.specs.Locale.{argument_separator, row_separator, column_separator}
 use Rattle.base_tables.specs.Tables.{entry_named}
-use Rattle.base_tables.specs.Word.{is_count, is_word, goes_on_word, reads_as_cell}
+use Rattle.base_tables.specs.Word.{is_count, is_word, starts_word, goes_on_word, reads_as_cell}
 use Rattle.base_tables.specs.laws.Error.{error_of_text-error_text}
 use Rattle.base_tables.specs.laws.Tables.{found_name}
 use Rattle.base_decimal.specs.Digits.{stops}
@@ -40,10 +40,10 @@ use Rattle.formula_grammar.specs.Words.{separator_token, row_token}
 use Rattle.formula_lex.specs.Characters.{Text, goes_on_name, goes_on_place, doubled as doubled_by}
 use Rattle.formula_lex.specs.Lexicon.{row_of_name, NoCell, NoRange, NoError}
 use Rattle.formula_round.specs.Tokens.{infix_token}
-use Rattle.formula_round.proofs.Characters.{is_ascii, each_ascii, in_word, in_cell, ascii_word, follows, follows_low, may_follow, follow_parts, is_followed, ends_place, ends_name, ends_text, ends_cell}
-use Rattle.formula_round.proofs.Fronts.{weaker}
+use Rattle.formula_round.proofs.Characters.{is_ascii, each_ascii, in_word, in_cell, ascii_word, ascii_starts, follows, follows_low, may_follow, follow_parts, is_followed, ends_place, ends_name, ends_text, ends_cell}
+use Rattle.formula_round.proofs.Fronts.{weaker, no_cell_here}
 use Rattle.formula_round.proofs.Numbers.{NoColon}
-use Rattle.formula_round.proofs.Parts.{Part, Anything, Follows, NoComparison, ascii_chars, ascii_utf8, one_token, ascii_token, joined}
+use Rattle.formula_round.proofs.Parts.{Part, Anything, Follows, NoComparison, starts_operand, StartsOperand, chars_front, ascii_chars, ascii_utf8, one_token, ascii_token, joined}
 use Rattle.formula_round.proofs.Places.{doubled_scalars}
 use Rattle.formula_round.proofs.Words.{letters_word, word_goes_on, word_no_cell, word_no_cell_before, word_no_range, no_side_no_range}
 
@@ -68,7 +68,7 @@ letters_ascii (c ∷ s) e = let k = and_parts (is_letter c) _ e in and_from (is_
     low_dot : (d : ℕ) → is_letter d || d == 46 ≡ true → is_ascii d ≡ true
     low_dot d h = grind (arith, nat_tests, h)
 
-boolean_letters : (language : Language) (value : Bool) → is_letters (boolean_text language value) ≡ true
+pub boolean_letters : (language : Language) (value : Bool) → is_letters (boolean_text language value) ≡ true
 boolean_letters En true = refl
 boolean_letters De true = refl
 boolean_letters Fr true = refl
@@ -99,7 +99,7 @@ boolean_no_row Fr true = refl
 boolean_no_row Es true = refl
 boolean_no_row _ _ = refl
 
-function_letters : (language : Language) (function : Function) → is_letters (function_name language function) ≡ true
+pub function_letters : (language : Language) (function : Function) → is_letters (function_name language function) ≡ true
 function_letters En Sum = refl
 function_letters De Sum = refl
 function_letters Fr Sum = refl
@@ -113,6 +113,35 @@ open_no_word = ascii_word 40 (omega arith)
 or_right : (a b : Bool) → b ≡ true → a || b ≡ true
 or_right true b e = refl
 or_right false b e = e
+
+letter_first : (s : Text) → is_letters s ≡ true → starts_operand s ≡ true
+letter_first [] e = absurd cc
+letter_first (c ∷ s) e = other c (and_parts (is_letter c) _ e).0
+  where
+    other : (c : ℕ) → is_letter c ≡ true → not (c == 61 || c == 62) ≡ true
+    other c h = grind (arith, nat_tests, h)
+
+pub letters_start : (word : List ℕ) → is_letters word ≡ true → StartsOperand word
+letters_start word letters = ap starts_operand (ascii_chars word (letters_ascii word letters)) ∙ letter_first word letters
+
+sign_starts_no_word : (c : ℕ) → c == 61 || c == 62 ≡ true → starts_word c ≡ false
+sign_starts_no_word c e = ascii_starts c (low c e) ∙ no_letter c e
+  where
+    low : (c : ℕ) → c == 61 || c == 62 ≡ true → c < 128
+    low c h = grind (arith, nat_tests, h)
+
+    no_letter : (c : ℕ) → c == 61 || c == 62 ≡ true → is_letter c || c == 95 ≡ false
+    no_letter c h = grind (arith, nat_tests, h)
+
+-- a word begins as an operand does
+pub word_first : (s : Text) → is_word s ≡ true → starts_operand s ≡ true
+unfolding is_word
+word_first [] e = absurd cc
+word_first (c ∷ s) e = by (c == 61 || c == 62) refl
+  where
+    by : (b : Bool) → c == 61 || c == 62 ≡ b → not (c == 61 || c == 62) ≡ true
+    by true h = let x : true ≡ false = sym (and_parts (starts_word c) _ e).0 ∙ sign_starts_no_word c h in absurd cc
+    by false h = ap not h
 
 -- ---- errors
 
@@ -176,6 +205,33 @@ no_error locale language rest ends error z r parts is stop = by z parts (error_h
 error_ascii : (error : Error) → list_all is_ascii (error_text error) ≡ true
 error_ascii Ref = refl
 error_ascii _ = refl
+
+pub error_first : (error : Error) (rest : Text) → NoCell None (chars (error_text error) ++ rest) × StartsOperand (error_text error)
+error_first error rest =
+    let h = english_hashed error in
+    let is : chars (error_text error) ≡ 35 ∷ (h.second ∷ h.more) = ascii_chars (error_text error) (error_ascii error) ∙ h.parts in
+    (subst (λ (s : Text). NoCell None (s ++ rest)) (sym is) (no_cell_here 35 (h.second ∷ h.more ++ rest) refl), ap starts_operand is)
+
+pub boolean_first : (locale : Locale) (language : Language) (value : Bool) (rest : Text) → is_followed locale rest ≡ true → NoCell None (chars (boolean_text language value) ++ rest)
+boolean_first locale language value rest after =
+    let word = boolean_text language value in
+    let letters = boolean_letters language value in
+    subst (λ (s : Text). NoCell None (s ++ rest)) (sym (ascii_chars word (letters_ascii word letters)))
+    (word_no_cell word rest (word_goes_on word (letters_are_word word letters)) (boolean_no_cell language value) (ends_cell locale rest after))
+
+-- no cell begins with a word that is called
+pub called_first : (word tail : List ℕ) (rest : Text) → IsUtf8 word → is_word (chars word) ≡ true → NoCell None (chars (word ++ (codes "(" ++ tail)) ++ rest)
+unfolding in_cell
+called_first word tail rest utf8 is =
+    let parts : chars (word ++ (codes "(" ++ tail)) ++ rest ≡ chars word ++ (40 ∷ (chars tail ++ rest)) =
+    ap (λ (x : Text). x ++ rest) (chars-append word (codes "(" ++ tail) utf8 ∙ ap (λ (x : Text). chars word ++ x) (chars_front 40 tail refl)) ∙ append_assoc (chars word) (40 ∷ chars tail) rest in
+    subst (NoCell None) (sym parts) (word_no_cell_before (chars word) 40 (chars tail ++ rest) (word_goes_on (chars word) is) refl (or_right (goes_on_word 40) _ refl))
+
+-- a word of letters is one in UTF-8
+pub letters_word_of : (word : List ℕ) → is_letters word ≡ true → IsUtf8 word × (is_word (chars word) ≡ true)
+letters_word_of word letters =
+    let ascii = letters_ascii word letters in
+    (ascii_utf8 word ascii, ap is_word (ascii_chars word ascii) ∙ letters_are_word word letters)
 
 -- ---- parts
 
@@ -287,9 +343,7 @@ module _ (locale : Locale) (language : Language) where
 
   -- the same of a word of letters
   pub letters_part : (word : List ℕ) → is_letters word ≡ true → Own Anything (word ++ codes "(") (t.Word word ∷ t.OpenParenthesis ∷ [])
-  letters_part word letters =
-      let ascii = letters_ascii word letters in
-      called_part word (ascii_utf8 word ascii) (ap is_word (ascii_chars word ascii) ∙ letters_are_word word letters)
+  letters_part word letters = let is = letters_word_of word letters in called_part word is.0 is.1
 
   pub boolean_part : (value : Bool) → Own (λ rest. is_followed locale rest ≡ true) (boolean_text language value) (t.Word (boolean_text language value) ∷ [])
   boolean_part value =

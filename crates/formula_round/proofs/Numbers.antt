@@ -1,10 +1,10 @@
 -- A printed number that is not negative spells its token.
 use Rattle.std.proofs.Common.{◌≡◌, ℕ, ◌+◌, ◌*◌, ◌/◌, ◌^◌, ◌<◌, Bool, true, false, List, [], ◌∷◌, ◌++◌, length, refl, sym, ap, subst, ◌∙◌, arith, rules}
 use Rattle.std.proofs.Math.Nat.{one-le-pow}
-use Rattle.std.specs.Prelude.{ℤ, pos, negsuc, neg_ℤ, not, ◌==◌, ◌&&◌, nat_lt, nat_le, int_le, unsigned_abs, decimal, encode_utf8_all, Option, None}
+use Rattle.std.specs.Prelude.{ℤ, pos, negsuc, neg_ℤ, not, ◌==◌, ◌&&◌, ◌||◌, nat_lt, nat_le, int_le, unsigned_abs, decimal, encode_utf8_all, Option, None}
 use Rattle.std.specs.Int.{is_negative}
 use Rattle.std.specs.List.{list_all}
-use Rattle.std.specs.Str.{IsUtf8}
+use Rattle.std.specs.Str.{chars}
 use Rattle.std.proofs.lemmas.Bool.{and_from, and_parts}
 use Rattle.std.proofs.lemmas.Bool.Decides.{nat_tests}
 use Rattle.std.proofs.lemmas.Fmt.{digits_decimal, decimal_nonempty}
@@ -14,6 +14,7 @@ use Rattle.std.proofs.lemmas.Str.Parse.{IsNumeralModel, numerals_by_fold}
 use Rattle.base_tables.specs.declared.Language.{Language}
 use Rattle.base_tables.specs.declared.Locale.{Locale}
 use Rattle.base_tables.specs.declared.Locale.TheVariants.{En, De, Fr, Es}
+use Rattle.base_tables.specs.Column.{is_letter}
 use Rattle.base_tables.specs.Locale.{decimal_sign}
 use Rattle.base_decimal.specs.declared.Decimal.{Decimal}
 use Rattle.base_decimal.specs.declared.numeral.Sign.{Sign}
@@ -28,11 +29,11 @@ use Rattle.base_decimal.proofs.Prints.{printed_reads}
 use Rattle.base_decimal.proofs.Trims.{ends, trim_ended}
 use Rattle.formula_grammar.specs.declared.Token.TheVariants as t
 use Rattle.formula_lex.specs.Characters.{Text}
-use Rattle.formula_lex.specs.Lexicon.{IsNumber, starts_digit}
+use Rattle.formula_lex.specs.Lexicon.{IsNumber, starts_digit, NoCell}
 use Rattle.formula_round.proofs.Characters.{is_ascii, each_ascii, is_followed, ends_number, ends_cell}
-use Rattle.formula_round.proofs.Fronts.{weaker, all_joined}
+use Rattle.formula_round.proofs.Fronts.{weaker, all_joined, no_cell_here}
 use Rattle.formula_round.proofs.Words.{no_colon_no_range}
-use Rattle.formula_round.proofs.Parts.{Part, ascii_token}
+use Rattle.formula_round.proofs.Parts.{Part, starts_operand, StartsOperand, ascii_chars, ascii_token}
 
 -- ---- the characters of a number
 
@@ -158,6 +159,25 @@ module _ (locale : Locale) (language : Language) where
       } in
       ascii_token locale language (NoColon locale) (t.Number d) text ascii spells
       (λ rest after. (ends_number locale rest after.0, no_colon_no_range text rest (weaker plain (λ c. not (c == 58)) plain_no_colon text all) (ends_cell locale rest after.0) after.1))
+
+-- neither a cell nor an operator begins with a number that is not negative
+digit_first : (s rest : Text) → starts_digit s ≡ true → NoCell None (s ++ rest) × (starts_operand s ≡ true)
+digit_first [] rest e = absurd cc
+digit_first (c ∷ s) rest e = (no_cell_here c (s ++ rest) (no_cell c e), other c e)
+  where
+    no_cell : (c : ℕ) → is_digit c ≡ true → is_letter c || c == 36 ≡ false
+    no_cell c h = grind (arith, nat_tests, h)
+
+    other : (c : ℕ) → is_digit c ≡ true → not (c == 61 || c == 62) ≡ true
+    other c h = grind (arith, nat_tests, h)
+
+pub number_first : (locale : Locale) (d : Decimal) → is_kept d ≡ true → int_le (pos 0) d.mantissa ≡ true → (rest : Text)
+    → NoCell None (chars (printed (decimal_sign locale) d) ++ rest) × StartsOperand (printed (decimal_sign locale) d)
+number_first locale d kept low rest =
+    let text : Text = printed (decimal_sign locale) d in
+    let all = weaker plain is_ascii plain_ascii text (printed_plain (decimal_sign locale) (plain_decimal_sign locale) d kept low) in
+    let first = digit_first text rest (printed_starts (decimal_sign locale) d kept low) in
+    (subst (λ (s : Text). NoCell None (s ++ rest)) (sym (ascii_chars text all)) first.0, ap starts_operand (ascii_chars text all) ∙ first.1)
 
 -- ---- negative numbers
 

@@ -29,11 +29,38 @@ Follows c rest = (behind : Text) × (rest ≡ c ∷ behind)
 abbrev pub NoComparison : Text → Type 0
 NoComparison rest = stops (λ c. c == 61 || c == 62) rest ≡ true
 
+-- the first character is neither `=` nor `>`
+abbrev pub starts_operand : Text → Bool
+starts_operand [] = false
+starts_operand (c ∷ text) = not (c == 61 || c == 62)
+
+-- so do the characters of the text
+abbrev pub StartsOperand : List ℕ → Type 0
+StartsOperand text = starts_operand (chars text) ≡ true
+
+pub starts_more : (text more : Text) → starts_operand text ≡ true → starts_operand (text ++ more) ≡ true
+starts_more [] more e = absurd cc
+starts_more (c ∷ text) more e = e
+
+pub starts_front : (x y : List ℕ) → IsUtf8 x → StartsOperand x → StartsOperand (x ++ y)
+starts_front x y utf8 e = ap starts_operand (chars-append x y utf8) ∙ starts_more (chars x) (chars y) e
+
+pub no_comparison : (text rest : Text) → starts_operand text ≡ true → NoComparison (text ++ rest)
+no_comparison [] rest e = absurd cc
+no_comparison (c ∷ text) rest e = e
+
 pub ascii_chars : (text : List ℕ) → list_all is_ascii text ≡ true → chars text ≡ text
 ascii_chars text all = chars-IsAscii text (each_ascii text all)
 
 pub ascii_utf8 : (text : List ℕ) → list_all is_ascii text ≡ true → IsUtf8 text
 ascii_utf8 text all = IsUtf8-from_ascii text (each_ascii text all)
+
+-- a first character of ASCII
+pub chars_front : (c : ℕ) (text : List ℕ) → list_all is_ascii (c ∷ []) ≡ true → chars (c ∷ text) ≡ c ∷ chars text
+chars_front c text ascii = chars-append (c ∷ []) text (ascii_utf8 (c ∷ []) ascii) ∙ ap (λ (x : Text). x ++ chars text) (ascii_chars (c ∷ []) ascii)
+
+pub starts_with : (c : ℕ) (text : List ℕ) → list_all is_ascii (c ∷ []) ≡ true → not (c == 61 || c == 62) ≡ true → StartsOperand (c ∷ text)
+starts_with c text ascii e = ap starts_operand (chars_front c text ascii) ∙ e
 
 module _ (locale : Locale) (language : Language) where
   abbrev pub Part : (Text → Type 0) → List ℕ → List Token → Type 0

@@ -101,8 +101,8 @@ row_clear in_locale.Fr rest = sign_clear in_locale.Fr 47 rest refl refl
 row_clear in_locale.Es rest = sign_clear in_locale.Es 47 rest refl refl
 
 -- signs that are clear in each locale
-pub plain_clear : (locale : Locale) (c : ℕ) (rest : Text) → follows c && not (c == 44) ≡ true → not (c == 58) ≡ true → list_all is_ascii (c ∷ []) ≡ true → NoColon locale (chars (c ∷ []) ++ rest)
-plain_clear locale c rest e other ascii = subst (NoColon locale) (sym (ap (λ (x : Text). x ++ rest) (ascii_chars (c ∷ []) ascii))) (sign_follows locale c rest e, other)
+pub plain_clear : (locale : Locale) (c : ℕ) (more rest : Text) → follows c && not (c == 44) ≡ true → not (c == 58) ≡ true → list_all is_ascii (c ∷ more) ≡ true → NoColon locale (chars (c ∷ more) ++ rest)
+plain_clear locale c more rest e other ascii = subst (NoColon locale) (sym (ap (λ (x : Text). x ++ rest) (ascii_chars (c ∷ more) ascii))) (sign_follows locale c (more ++ rest) e, other)
 
 -- ---- arrays
 
@@ -179,7 +179,7 @@ module _ (p : Profile) where
   array_part lines normal kept =
       joined p.locale p.language Anything Anything (codes "{") (lines_text style lines ++ codes "}") (t.OpenBrace ∷ []) (tokens.lines_tokens p lines ++ t.CloseBrace ∷ []) (open_brace_part p.locale p.language)
       (joined p.locale p.language (NoColon p.locale) Anything (lines_text style lines) (codes "}") (tokens.lines_tokens p lines) (t.CloseBrace ∷ []) (lines_part lines (lines_fine lines normal kept)) (close_brace_part p.locale p.language)
-      (λ rest after. plain_clear p.locale 125 rest refl refl refl))
+      (λ rest after. plain_clear p.locale 125 [] rest refl refl refl))
       (λ rest after. tt)
 
   -- ---- parameters
@@ -190,7 +190,7 @@ module _ (p : Profile) where
   bracketed name part true =
       joined p.locale p.language Anything (NoColon p.locale) (codes "[") (name ++ codes "]") (t.OpenBracket ∷ []) (t.Word name ∷ t.CloseBracket ∷ []) (open_bracket_part p.locale p.language)
       (joined p.locale p.language (NoColon p.locale) (NoColon p.locale) name (codes "]") (t.Word name ∷ []) (t.CloseBracket ∷ []) part (before p.locale p.language Anything (NoColon p.locale) _ _ (close_bracket_part p.locale p.language) (λ rest after. tt))
-      (λ rest after. plain_clear p.locale 93 rest refl refl refl))
+      (λ rest after. plain_clear p.locale 93 [] rest refl refl refl))
       (λ rest after. tt)
   bracketed name part false = part
 

@@ -68,7 +68,7 @@ function_call_expressed {p} function x =
 small_letter : (c : ℕ) → is_no_capital c ≡ true → to_ascii_lowercase c ≡ c
 small_letter c is_no = grind (arith, nat_tests)
 
-small_letters : (name : List ℕ) → list_all is_no_capital name ≡ true → lowered name ≡ name
+pub small_letters : (name : List ℕ) → list_all is_no_capital name ≡ true → lowered name ≡ name
 small_letters [] none = refl
 small_letters (c ∷ name) none = let parts = both_parts (is_no_capital c) (list_all is_no_capital name) none in λ i. small_letter c parts.0 i ∷ small_letters name parts.1 i
 

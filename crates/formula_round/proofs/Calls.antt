@@ -11,7 +11,7 @@ use Rattle.formula_tree.specs.Depth.{depth_of, greatest}
 use Rattle.formula_grammar.specs.declared.Profile.{Profile}
 use Rattle.formula_grammar.specs.declared.Token.{Token}
 use Rattle.formula_grammar.specs.declared.Token.TheVariants as t
-use Rattle.formula_grammar.specs.Grammar.{Argument, empty, given, argument_tokens, argument_tree, argument_open, Arguments, lone, more, passed, arguments_trees, arguments_open, call, lambda, function, applied}
+use Rattle.formula_grammar.specs.Grammar.{Argument, empty, given, argument_tokens, argument_tree, argument_open, Arguments, last, more, passed, arguments_trees, arguments_open, call, lambda, function, applied}
 use Rattle.formula_grammar.specs.Grammar as grammar
 use Rattle.formula_grammar.specs.Normal.{Seen, is_empty, arguments, normal_seen}
 use Rattle.formula_grammar.specs.Words.{separator_token, is_lambda, called}
@@ -60,7 +60,7 @@ module _ (p : Profile) where
       → Continued p (arguments_tokens p (map (tokened p) (a ∷ all))) (a ∷ all) (greatest (map depth_of (a ∷ all)))
   continued a [] holds fine =
       let x = argued a (holds.0 (both_parts (seen_of a).is_fine true fine).0) in
-      record { by = lone x.by; spells = x.spells ∙ sym (append-nil _); gives = λ i. x.gives i ∷ []; open_few = let few = x.open_few in omega arith }
+      record { by = last x.by; spells = x.spells ∙ sym (append-nil _); gives = λ i. x.gives i ∷ []; open_few = let few = x.open_few in omega arith }
   continued a (b ∷ all) holds fine =
       let parts = both_parts (seen_of a).is_fine (list_all (λ (x : Seen). x.is_fine) (map seen_of (b ∷ all))) fine in
       let x = argued a (holds.0 parts.0) in
@@ -75,12 +75,12 @@ module _ (p : Profile) where
   -- the arguments of a normal call
   pub listed : (all : List Node) → AllByRecursion (Holds p) all → arguments (map seen_of all) ≡ true
       → Listed p (arguments_tokens p (map (tokened p) all)) all (greatest (map depth_of all))
-  listed [] holds fine = record { by = lone empty; spells = refl; gives = refl; open_few = omega arith }
+  listed [] holds fine = record { by = last empty; spells = refl; gives = refl; open_few = omega arith }
   listed (a ∷ []) holds fine =
       let parts = both_parts (seen_of a).is_fine (not (is_empty (seen_of a).sort)) fine in
       let whole = whole_of (seen_of a).sort parts.1 (holds.0 parts.0) in
       let x = raised _ 10 (stands_within (tokened p a).kind) whole.expressed in
-      record { by = lone (given x.by); spells = x.spells ∙ sym (append-nil _); gives = λ i. x.gives i ∷ []; open_few = let few = x.open_few in omega arith }
+      record { by = last (given x.by); spells = x.spells ∙ sym (append-nil _); gives = λ i. x.gives i ∷ []; open_few = let few = x.open_few in omega arith }
   listed (a ∷ b ∷ all) holds fine =
       let parts = both_parts (seen_of a).is_fine (list_all (λ (x : Seen). x.is_fine) (map seen_of (b ∷ all))) fine in
       let x = argued a (holds.0 parts.0) in

@@ -9,30 +9,35 @@ use Rattle.formula_tree.specs.Depth.{depth_of, layer_depth}
 use Rattle.formula_grammar.specs.declared.Profile.{Profile}
 use Rattle.formula_grammar.specs.Normal.{Seen, normal_seen, normal_layer}
 use Rattle.formula_round.specs.Tokens.{Tokened, tokened, token_layer}
-use Rattle.formula_round.proofs.Trees.{Claim}
-use Rattle.formula_round.proofs.Calls.{Holds}
+use Rattle.formula_round.proofs.Trees.{Claim, seen_of, Holds}
 
 -- what a fold gives a tree with this top layer
-fold_at : {A : Type 0} (step : Node-F A → A) (layer : Node-F Node) (tree : Node) → roll-Node layer ≡ tree → fold-Node A step tree ≡ step (map-Node Node A (fold-Node A step) layer)
+fold_at : {A : Type 0} (step : Node-F A → A) (layer : Node-F Node) (tree : Node) → roll-Node layer ≡ tree
+    → fold-Node A step tree ≡ step (map-Node Node A (fold-Node A step) layer)
 fold_at {A} step layer tree is = ap (fold-Node A step) (sym is) ∙ fold-roll-Node A step layer
 
-module _ (p : Profile) where
-  abbrev LayerClaim : Node-F Node → Node → Type 0
-  LayerClaim layer tree =
-      Claim p (token_layer p (map-Node Node Tokened (tokened p) layer)) (normal_layer p.place p.language (map-Node Node Seen (normal_seen p.place p.language) layer))
-      (layer_depth (map-Node Node ℕ depth_of layer)) tree
+module _ (p : Profile) (layer : Node-F Node) where
+  abbrev layer_tokened : Tokened
+  layer_tokened = token_layer p (map-Node Node Tokened (tokened p) layer)
 
-  tokened_at : (layer : Node-F Node) (tree : Node) → roll-Node layer ≡ tree → tokened p tree ≡ token_layer p (map-Node Node Tokened (tokened p) layer)
-  unfolding tokened
-  tokened_at = fold_at (token_layer p)
+  abbrev layer_seen : Seen
+  layer_seen = normal_layer p.place p.language (map-Node Node Seen (seen_of p) layer)
 
-  normal_at : (layer : Node-F Node) (tree : Node) → roll-Node layer ≡ tree → normal_seen p.place p.language tree ≡ normal_layer p.place p.language (map-Node Node Seen (normal_seen p.place p.language) layer)
-  unfolding normal_seen
-  normal_at = fold_at (normal_layer p.place p.language)
+  abbrev depth : ℕ
+  depth = layer_depth (map-Node Node ℕ depth_of layer)
 
-  depth_at : (layer : Node-F Node) (tree : Node) → roll-Node layer ≡ tree → depth_of tree ≡ layer_depth (map-Node Node ℕ depth_of layer)
-  unfolding depth_of
-  depth_at = fold_at layer_depth
+  module _ (tree : Node) (is : roll-Node layer ≡ tree) where
+    tokened_at : tokened p tree ≡ layer_tokened
+    unfolding tokened
+    tokened_at = fold_at (token_layer p) layer tree is
 
-  pub holds_at : (layer : Node-F Node) (tree : Node) → roll-Node layer ≡ tree → LayerClaim layer tree → Holds p tree
-  holds_at layer tree is claim = subst (λ (c : Type 0). c) (sym (λ i. Claim p (tokened_at layer tree is i) (normal_at layer tree is i) (depth_at layer tree is i) tree)) claim
+    seen_at : seen_of p tree ≡ layer_seen
+    unfolding normal_seen
+    seen_at = fold_at (normal_layer p.place p.language) layer tree is
+
+    depth_at : depth_of tree ≡ depth
+    unfolding depth_of
+    depth_at = fold_at layer_depth layer tree is
+
+    pub holds_at : Claim p layer_tokened layer_seen depth tree → Holds p tree
+    holds_at claim = subst (λ (c : Type 0). c) (sym (λ i. Claim p (tokened_at i) (seen_at i) (depth_at i) tree)) claim

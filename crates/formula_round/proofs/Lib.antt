@@ -6,5 +6,4 @@ pub mod Arrays
 pub mod Layers
 pub mod Cells
 pub mod Named
-pub mod Binary
 pub mod Derived

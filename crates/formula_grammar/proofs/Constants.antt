@@ -15,7 +15,7 @@ use Rattle.formula_grammar.specs.Words.{separator_token, row_token, parameter_to
 use Rattle.formula_grammar.specs.Grammar as G
 use Rattle.formula_grammar.specs.Grammar.{Item, Rows, item_tokens, item_value, rows_tokens, before_line, rows_lines, parameters_tokens}
 use Rattle.formula_grammar.specs.laws.Reading.{Outcome, Parser, and_then, pure, with_rest, item, after_item, rows_next, rows_from, array, parameter, parameters_step, parameters_from, parameters}
-use Rattle.formula_grammar.proofs.Follow.{separator_parts, column_reads, row_reads}
+use Rattle.formula_grammar.proofs.Follow.{separates}
 
 item_reads : {p : Profile} (x : Item p) (ts : List Token) → item p.language (item_tokens x ++ ts) ≡ Some (item_value x, ts)
 item_reads (G.plain number) ts = refl
@@ -50,10 +50,7 @@ rows_count (G.above x rows) = suc (rows_count rows)
 
 item_long : {p : Profile} (x : Item p) → 1 ≤ length (item_tokens x)
 item_long (G.plain number) = omega arith
-item_long (G.negative number value is) = omega arith
-item_long (G.quoted text) = omega arith
-item_long (G.boolean word value is) = omega arith
-item_long (G.failed error) = omega arith
+item_long _ = omega arith
 
 rows_count-le : {p : Profile} (rows : Rows p) → rows_count rows ≤ length (rows_tokens rows)
 rows_count-le (G.last x) = item_long x
@@ -79,12 +76,12 @@ rows_complete : {p : Profile} (rows : Rows p) (k : ℕ) (lines : List (List Arra
 rows_complete (G.last x) k lines line r enough = item_turn x k lines line (t.CloseBrace ∷ r) r after.End (omega arith) refl
 rows_complete {p} (G.beside x rows) k lines line r enough =
     ap (rows_from p k lines line) (append_assoc (item_tokens x) (separator_token p.locale ∷ rows_tokens rows) (t.CloseBrace ∷ r))
-    ∙ item_turn x k lines line (separator_token p.locale ∷ rows_tokens rows ++ t.CloseBrace ∷ r) (rows_tokens rows ++ t.CloseBrace ∷ r) after.Column (omega arith) (column_reads p.locale _)
+    ∙ item_turn x k lines line (separator_token p.locale ∷ rows_tokens rows ++ t.CloseBrace ∷ r) (rows_tokens rows ++ t.CloseBrace ∷ r) after.Column (omega arith) ((separates p.locale).column _)
     ∙ rows_complete rows (k - 1) lines (line ++ item_value x ∷ []) r (omega arith)
     ∙ ap (λ l. Some (lines ++ l, r)) (continued_before line (item_value x) (rows_lines rows))
 rows_complete {p} (G.above x rows) k lines line r enough =
     ap (rows_from p k lines line) (append_assoc (item_tokens x) (row_token p.locale ∷ rows_tokens rows) (t.CloseBrace ∷ r))
-    ∙ item_turn x k lines line (row_token p.locale ∷ rows_tokens rows ++ t.CloseBrace ∷ r) (rows_tokens rows ++ t.CloseBrace ∷ r) after.Row (omega arith) (row_reads p.locale _)
+    ∙ item_turn x k lines line (row_token p.locale ∷ rows_tokens rows ++ t.CloseBrace ∷ r) (rows_tokens rows ++ t.CloseBrace ∷ r) after.Row (omega arith) ((separates p.locale).row _)
     ∙ rows_complete rows (k - 1) (lines ++ (line ++ item_value x ∷ []) ∷ []) [] r (omega arith)
     ∙ ap (λ l. Some ((lines ++ (line ++ item_value x ∷ []) ∷ []) ++ l, r)) (continued_none rows)
     ∙ ap (λ l. Some (l, r)) (append_assoc lines ((line ++ item_value x ∷ []) ∷ []) (rows_lines rows))
@@ -103,15 +100,16 @@ array_complete {p} rows r even =
 
 -- ---- parameters
 
+abbrev marked : Parameter → List Token → Bool → Outcome Parameter
+marked x ts b = Some (record { name = x.name; optional = b }, ts)
+
 parameter_reads : (locale : Locale) (x : Parameter) (ts : List Token) → parameter locale (parameter_tokens x ++ separator_token locale ∷ ts) ≡ Some (x, ts)
 parameter_reads locale x ts = go x.optional refl
   where
     go : (b : Bool) → x.optional ≡ b
         → parameter locale (cond b (t.OpenBracket ∷ t.Word x.name ∷ t.CloseBracket ∷ []) (t.Word x.name ∷ []) ++ separator_token locale ∷ ts) ≡ Some (x, ts)
-    go true h =
-        rw (separator_parts locale) (ap (λ (b : Bool). let y : Parameter = record { name = x.name; optional = b } in let q : Parameter × List Token = (y, ts) in Some q) (sym h))
-    go false h =
-        rw (separator_parts locale) (ap (λ (b : Bool). let y : Parameter = record { name = x.name; optional = b } in let q : Parameter × List Token = (y, ts) in Some q) (sym h))
+    go true h = rw (separates locale).parts (ap (marked x ts) (sym h))
+    go false h = rw (separates locale).parts (ap (marked x ts) (sym h))
 
 parameters_end : (locale : Locale) (k : ℕ) (found : List Parameter) (ts : List Token) → parameter locale ts ≡ None → parameters_from locale k found ts ≡ Some (found, ts)
 unfolding parameters_from

@@ -2,19 +2,15 @@
 use Rattle.std.proofs.Common.{◌≡◌, true, false, ◌≤◌, List, [], ◌∷◌, ◌++◌, Option, Some, None, Result, Ok, Err, refl, sym, ap, ◌∙◌, append-nil, arith}
 use Rattle.std.specs.Prelude.{IfOk, IfSome}
 use Rattle.formula_tree.specs.declared.node.Node.{Node}
-use Rattle.formula_tree.specs.declared.node.Node.TheVariants as n
 use Rattle.formula_tree.specs.Depth.{depth_of}
 use Rattle.formula_grammar.specs.declared.profile.Profile.{Profile}
 use Rattle.formula_grammar.specs.declared.token.Token.{Token}
-use Rattle.formula_grammar.specs.Grammar.{compare_tokens, compare_tree, Derives}
-use Rattle.formula_grammar.specs.laws.Reading.{Outcome, compare_sign, concatenation, compare, whole, if_last, tree_of}
-use Rattle.formula_grammar.proofs.Turns.{compare_turns, compare_turns-lt}
-use Rattle.formula_grammar.proofs.Chains.{chain_closes}
-use Rattle.formula_grammar.proofs.Complete.{compare_before}
+use Rattle.formula_grammar.specs.Grammar.{expression_tokens, expression_tree, Derives}
+use Rattle.formula_grammar.specs.laws.Reading.{Outcome, expression, whole, if_last, tree_of}
+use Rattle.formula_grammar.proofs.Complete.{completes, expression_reads}
 use Rattle.formula_grammar.proofs.Sound.{whole_sound}
-use Rattle.formula_grammar.proofs.Placing.{compare_placed}
-use Rattle.formula_grammar.proofs.Formulas.{compare_formula}
-use Rattle.formula_grammar.proofs.Numbering.{compare_follows}
+use Rattle.formula_grammar.proofs.Placing.{expression_formula, expression_placed}
+use Rattle.formula_grammar.proofs.Numbering.{expression_follows}
 use Rattle.formula_grammar.specs.Numbers.{tokens_follow}
 use Rattle.formula_tree.specs.declared.numbers.NumberRule.{NumberRule}
 use Rattle.formula_tree.specs.Numbers.{numbers_follow}
@@ -25,11 +21,10 @@ use Rattle.formula_tree.specs.Placed.{is_placed}
 pub derived_is_read : (p : Profile) (ts : List Token) (tree : Node) → Derives p ts tree → tree_of p ts ≡ Some tree
 unfolding tree_of whole
 derived_is_read p ts tree d =
-    let shallow : depth_of (compare_tree d.by) ≤ 64 = omega (arith, ap depth_of d.gives, d.shallow) in
-    let read : compare p (whole p 127) 64 (compare_tokens d.by ++ []) ≡ Some (compare_tree d.by, []) =
-    chain_closes compare_sign n.Compare (concatenation p (whole p 127) 64) _ (compare_turns d.by) (compare_tree d.by) [] (compare_turns-lt d.by) shallow refl
-    (λ j is. compare_before d.by 127 64 j [] (record { within = d.open_few; nested = omega (arith, shallow, d.open_few); shallow = shallow }) tt is) in
-    ap (λ (l : List Token). if_last (compare p (whole p 127) 64 l)) (sym d.spells ∙ sym (append-nil (compare_tokens d.by))) ∙ ap if_last read ∙ ap Some d.gives
+    let shallow : depth_of (expression_tree d.by) ≤ 64 = omega (arith, ap depth_of d.gives, d.shallow) in
+    let read : expression p (whole p 127) 64 10 (expression_tokens d.by ++ []) ≡ Some (expression_tree d.by, []) =
+    completes 10 d.by (expression_reads d.by) 127 64 [] (record { within = d.open_few; nested = omega (arith, shallow, d.open_few); shallow = shallow }) tt in
+    ap (λ (l : List Token). if_last (expression p (whole p 127) 64 10 l)) (sym d.spells ∙ sym (append-nil (expression_tokens d.by))) ∙ ap if_last read ∙ ap Some d.gives
 
 if_last_is : (o : Outcome Node) (tree : Node) → if_last o ≡ Some tree → o ≡ Some (tree, [])
 if_last_is None tree e = absurd cc
@@ -41,7 +36,7 @@ pub read_is_derived : (p : Profile) (ts : List Token) (tree : Node) → tree_of 
 unfolding tree_of
 read_is_derived p ts tree e =
     let d = whole_sound p 128 64 ts [] tree (if_last_is (whole p 128 64 ts) tree e) in
-    record { by = d.is.by; spells = d.is.spells ∙ sym (append-nil d.front) ∙ sym d.parts; gives = d.is.gives; shallow = d.is.shallow; open_few = d.is.within }
+    record { by = d.by; spells = sym (append-nil (expression_tokens d.by)) ∙ sym d.parts; gives = d.gives; shallow = d.shallow; open_few = d.within }
 
 -- tokens have one tree
 pub one_tree : (p : Profile) (ts : List Token) (a b : Node) → Derives p ts a → Derives p ts b → a ≡ b
@@ -60,12 +55,12 @@ only_this p ts (Err x) e = tt
 
 -- its corners lie as they should
 pub derived_placed : (p : Profile) (ts : List Token) (tree : Node) → Derives p ts tree → is_placed p.place tree ≡ true
-derived_placed p ts tree d = ap (is_placed p.place) (sym d.gives) ∙ compare_placed d.by
+derived_placed p ts tree d = ap (is_placed p.place) (sym d.gives) ∙ expression_placed d.by
 
 -- it is no text outside of the grammar
 pub derived_formula : (p : Profile) (ts : List Token) (tree : Node) → Derives p ts tree → is_parse_error tree ≡ false
-derived_formula p ts tree d = ap is_parse_error (sym d.gives) ∙ compare_formula d.by
+derived_formula p ts tree d = ap is_parse_error (sym d.gives) ∙ expression_formula d.by
 
 -- its numbers are as those of the tokens
 pub derived_follows : (r : NumberRule) (p : Profile) (ts : List Token) → tokens_follow r ts ≡ true → (tree : Node) → Derives p ts tree → numbers_follow r tree ≡ true
-derived_follows r p ts follow tree d = ap (numbers_follow r) (sym d.gives) ∙ compare_follows r d.by (ap (tokens_follow r) d.spells ∙ follow)
+derived_follows r p ts follow tree d = ap (numbers_follow r) (sym d.gives) ∙ expression_follows r d.by (ap (tokens_follow r) d.spells ∙ follow)

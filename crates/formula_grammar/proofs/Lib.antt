@@ -11,7 +11,7 @@ pub mod Lists
 pub mod Sound
 pub mod Placing
 pub mod Numbering
-pub mod Formulas
+pub mod Holding
 pub mod Laws
 pub mod Counting
 pub mod Signed

@@ -1,37 +1,36 @@
 -- Where the numbers of tokens follow a rule, so do those of the tree that they derive.
-use Rattle.std.proofs.Common.{◌≡◌, ℕ, zero, suc, ℤ, pos, Bool, true, false, cond, ◌&&◌, List, [], ◌∷◌, ◌++◌, Option, Some, None, refl, sym, ap, ◌∙◌}
+use Rattle.std.proofs.Common.{◌≡◌, ℕ, zero, suc, ℤ, pos, Bool, true, false, cond, ◌&&◌, List, [], ◌∷◌, ◌++◌, Option, Some, None, refl, sym, ap, ◌∙◌, arith}
 use Rattle.std.specs.Prelude.{◌+◌, ◌%◌, ◌^◌, ◌==◌, nat_lt, nat_le, not, int_le, negsuc, neg_ℤ, unsigned_abs}
 use Rattle.std.specs.List.{list_all}
 use Rattle.std.proofs.lemmas.Bool.{and_parts, and_from}
-use Rattle.std.proofs.lemmas.List.Folds.{list_all-append}
+use Rattle.base_tables.specs.declared.Function.{Function}
 use Rattle.base_decimal.specs.declared.Decimal.{Decimal}
 use Rattle.base_decimal.specs.Kept.{is_kept}
-use Rattle.base_tables.specs.declared.Function.{Function}
-use Rattle.base_tables.specs.Function.{function_of_name}
-use Rattle.base_tables.specs.Language.{boolean_of_text}
 use Rattle.formula_tree.specs.declared.array_item.ArrayItem.{ArrayItem}
 use Rattle.formula_tree.specs.declared.node.Node.{Node}
 use Rattle.formula_tree.specs.declared.numbers.NumberRule.{NumberRule}
 use Rattle.formula_tree.specs.declared.numbers.NumberRule.TheVariants as rule
-use Rattle.formula_tree.specs.declared.operator.UnaryKind.TheVariants as unary
 use Rattle.formula_tree.specs.Corners.{lower_corner, higher_corner}
 use Rattle.formula_tree.specs.Numbers.{constant_follows, lines_follow, numbers_follow}
-use Rattle.formula_tree.specs.laws.NumbersEquations.{numbers_boolean, numbers_number, numbers_text, numbers_reference, numbers_range, numbers_colon, numbers_concatenate, numbers_compare, numbers_sum, numbers_product, numbers_power, numbers_unary, numbers_call, numbers_named_call, numbers_array, numbers_name, numbers_error, numbers_empty_argument, numbers_spill, numbers_lambda, numbers_lambda_call, numbers_implicit_intersection}
+use Rattle.formula_tree.specs.laws.NumbersEquations.{numbers_boolean, numbers_number, numbers_text, numbers_reference, numbers_range, numbers_call, numbers_named_call, numbers_array, numbers_name, numbers_error, numbers_empty_argument, numbers_lambda, numbers_lambda_call, numberings}
+use Rattle.formula_levels.specs.declared.infix.Infix.{Infix}
+use Rattle.formula_levels.specs.declared.infix.Infix.TheVariants as between
+use Rattle.formula_levels.specs.declared.postfix.Postfix.{Postfix}
+use Rattle.formula_levels.specs.declared.postfix.Postfix.TheVariants as postfix
+use Rattle.formula_levels.specs.declared.prefix.Prefix.{Prefix}
+use Rattle.formula_levels.specs.declared.prefix.Prefix.TheVariants as prefix
+use Rattle.formula_levels.specs.Levels.{infix_node, prefix_node, postfix_node}
 use Rattle.formula_grammar.specs.declared.profile.Profile.{Profile}
 use Rattle.formula_grammar.specs.declared.token.Token.{Token}
-use Rattle.formula_grammar.specs.declared.token.Token.TheVariants as t
 use Rattle.formula_grammar.specs.Words.{separator_token, row_token, call_node, word_node, corner_of, negated}
 use Rattle.formula_grammar.specs.Grammar as G
-use Rattle.formula_grammar.specs.Grammar.{Item, Rows, item_tokens, item_value, rows_tokens, rows_lines, before_line, parameters_tokens, compare_token, sum_token, product_token, Compare, Concatenation, Sum, Product, Power, Signed, Percent, Single, Colon, Spill, Primary, Lambda, Arguments, Argument, More, compare_tree, concatenation_tree, sum_tree, product_tree, power_tree, signed_tree, percent_tree, single_tree, colon_tree, spill_tree, primary_tree, lambda_tree, arguments_trees, argument_tree, more_trees, compare_tokens, concatenation_tokens, sum_tokens, product_tokens, power_tokens, signed_tokens, percent_tokens, single_tokens, colon_tokens, spill_tokens, primary_tokens, lambda_tokens, arguments_tokens, argument_tokens, more_tokens}
+use Rattle.formula_grammar.specs.Grammar.{Item, Rows, item_tokens, item_value, rows_tokens, rows_lines, before_line, Expression, expression_tokens, expression_tree}
 use Rattle.formula_grammar.specs.Numbers.{token_follows, tokens_follow}
+use Rattle.formula_grammar.proofs.Holding.{Keeps, parted, expression_holds}
 
--- what two lists of tokens follow each, beside one another
-split : (r : NumberRule) (xs ys : List Token) → tokens_follow r (xs ++ ys) ≡ true → (tokens_follow r xs ≡ true) × (tokens_follow r ys ≡ true)
-split r xs ys e = and_parts _ _ (sym (list_all-append (token_follows r) xs ys) ∙ e)
-
--- and with a token between them
+-- of two lists with a token between them
 apart : (r : NumberRule) (xs : List Token) (x : Token) (ys : List Token) → tokens_follow r (xs ++ x ∷ ys) ≡ true → (tokens_follow r xs ≡ true) × (tokens_follow r ys ≡ true)
-apart r xs x ys e = let parts = split r xs (x ∷ ys) e in (parts.0, (and_parts (token_follows r x) (tokens_follow r ys) parts.1).1)
+apart r xs x ys e = let parts = parted (token_follows r) xs (x ∷ ys) e in (parts.0, (and_parts (token_follows r x) (tokens_follow r ys) parts.1).1)
 
 -- ---- arrays
 
@@ -60,9 +59,7 @@ kept_negated number value e kept = go (int_le (pos 0) number.mantissa) e
 item_follows : {p : Profile} (r : NumberRule) (x : Item p) → tokens_follow r (item_tokens x) ≡ true → constant_follows r (item_value x) ≡ true
 item_follows rule.Kept (G.plain number) e = (and_parts _ _ e).0
 item_follows rule.Kept (G.negative number value is) e = kept_negated number value is (and_parts _ _ e).0
-item_follows rule.Kept (G.quoted text) e = refl
-item_follows rule.Kept (G.boolean word value is) e = refl
-item_follows rule.Kept (G.failed error) e = refl
+item_follows rule.Kept _ e = refl
 item_follows rule.NotNegative x e = refl
 
 before_follows : (r : NumberRule) (x : ArrayItem) (lines : List (List ArrayItem)) → constant_follows r x ≡ true → lines_follow r lines ≡ true → lines_follow r (before_line x lines) ≡ true
@@ -74,7 +71,19 @@ rows_follow r (G.last x) e = and_from _ _ (and_from _ _ (item_follows r x e) ref
 rows_follow {p} r (G.beside x rows) e = let parts = apart r (item_tokens x) (separator_token p.locale) (rows_tokens rows) e in before_follows r (item_value x) (rows_lines rows) (item_follows r x parts.0) (rows_follow r rows parts.1)
 rows_follow {p} r (G.above x rows) e = let parts = apart r (item_tokens x) (row_token p.locale) (rows_tokens rows) e in and_from _ _ (and_from _ _ (item_follows r x parts.0) refl) (rows_follow r rows parts.1)
 
--- ---- words
+-- ---- trees
+
+infix_follows : (r : NumberRule) (op : Infix) (a b : Node) → numbers_follow r a ≡ true → numbers_follow r b ≡ true → numbers_follow r (infix_node op a b) ≡ true
+infix_follows r between.Power a b x y = grind (arith, numberings)
+infix_follows r _ a b x y = grind (arith, numberings)
+
+postfix_follows : (r : NumberRule) (op : Postfix) (a : Node) → numbers_follow r a ≡ true → numbers_follow r (postfix_node op a) ≡ true
+postfix_follows r postfix.Spill a x = grind (arith, numberings)
+postfix_follows r _ a x = grind (arith, numberings)
+
+prefix_follows : (r : NumberRule) (op : Prefix) (a : Node) → numbers_follow r a ≡ true → numbers_follow r (prefix_node op a) ≡ true
+prefix_follows r prefix.Plus a x = x
+prefix_follows r _ a x = grind (arith, numberings)
 
 call_follows : (r : NumberRule) (function : Option Function) (word : List ℕ) (all : List Node) → list_all (numbers_follow r) all ≡ true → numbers_follow r (call_node function word all) ≡ true
 call_follows r (Some function) word all e = numbers_call r function all ∙ e
@@ -84,101 +93,23 @@ word_follows : (r : NumberRule) (value : Option Bool) (word : List ℕ) → numb
 word_follows r (Some value) word = numbers_boolean r value
 word_follows r None word = numbers_name r word
 
--- ---- the rules
-
--- both operands follow
-pair : {x : Bool} (a b : Bool) → x ≡ (a && b) → a ≡ true → b ≡ true → x ≡ true
-pair a b is e f = is ∙ and_from a b e f
-
-mutual
-  pub compare_follows : {p : Profile} (r : NumberRule) (d : Compare p) → tokens_follow r (compare_tokens d) ≡ true → numbers_follow r (compare_tree d) ≡ true
-  compare_follows r (G.concatenation a) e = concatenation_follows r a e
-  compare_follows r (G.compared a kind b) e =
-      let parts = apart r (compare_tokens a) (compare_token kind) (concatenation_tokens b) e in
-      pair _ _ (numbers_compare r kind (compare_tree a) (concatenation_tree b)) (compare_follows r a parts.0) (concatenation_follows r b parts.1)
-
-  concatenation_follows : {p : Profile} (r : NumberRule) (d : Concatenation p) → tokens_follow r (concatenation_tokens d) ≡ true → numbers_follow r (concatenation_tree d) ≡ true
-  concatenation_follows r (G.sum a) e = sum_follows r a e
-  concatenation_follows r (G.joined a b) e =
-      let parts = apart r (concatenation_tokens a) t.Ampersand (sum_tokens b) e in
-      pair _ _ (numbers_concatenate r (concatenation_tree a) (sum_tree b)) (concatenation_follows r a parts.0) (sum_follows r b parts.1)
-
-  sum_follows : {p : Profile} (r : NumberRule) (d : Sum p) → tokens_follow r (sum_tokens d) ≡ true → numbers_follow r (sum_tree d) ≡ true
-  sum_follows r (G.product a) e = product_follows r a e
-  sum_follows r (G.added a kind b) e =
-      let parts = apart r (sum_tokens a) (sum_token kind) (product_tokens b) e in
-      pair _ _ (numbers_sum r kind (sum_tree a) (product_tree b)) (sum_follows r a parts.0) (product_follows r b parts.1)
-
-  product_follows : {p : Profile} (r : NumberRule) (d : Product p) → tokens_follow r (product_tokens d) ≡ true → numbers_follow r (product_tree d) ≡ true
-  product_follows r (G.power a) e = power_follows r a e
-  product_follows r (G.multiplied a kind b) e =
-      let parts = apart r (product_tokens a) (product_token kind) (power_tokens b) e in
-      pair _ _ (numbers_product r kind (product_tree a) (power_tree b)) (product_follows r a parts.0) (power_follows r b parts.1)
-
-  power_follows : {p : Profile} (r : NumberRule) (d : Power p) → tokens_follow r (power_tokens d) ≡ true → numbers_follow r (power_tree d) ≡ true
-  power_follows r (G.signed a) e = signed_follows r a e
-  power_follows r (G.raised a b) e =
-      let parts = apart r (power_tokens a) t.Power (signed_tokens b) e in
-      pair _ _ (numbers_power r (power_tree a) (signed_tree b)) (power_follows r a parts.0) (signed_follows r b parts.1)
-
-  signed_follows : {p : Profile} (r : NumberRule) (d : Signed p) → tokens_follow r (signed_tokens d) ≡ true → numbers_follow r (signed_tree d) ≡ true
-  signed_follows r (G.percent a) e = percent_follows r a e
-  signed_follows r (G.minus a) e = numbers_unary r unary.Minus (signed_tree a) ∙ signed_follows r a e
-  signed_follows r (G.plus a) e = signed_follows r a e
-
-  percent_follows : {p : Profile} (r : NumberRule) (d : Percent p) → tokens_follow r (percent_tokens d) ≡ true → numbers_follow r (percent_tree d) ≡ true
-  percent_follows r (G.single a) e = single_follows r a e
-  percent_follows r (G.hundredth a) e = numbers_unary r unary.Percent (percent_tree a) ∙ percent_follows r a (split r (percent_tokens a) (t.Percent ∷ []) e).0
-
-  single_follows : {p : Profile} (r : NumberRule) (d : Single p) → tokens_follow r (single_tokens d) ≡ true → numbers_follow r (single_tree d) ≡ true
-  single_follows r (G.colon a) e = colon_follows r a e
-  single_follows r (G.singled a) e = numbers_implicit_intersection r (single_tree a) ∙ single_follows r a e
-
-  colon_follows : {p : Profile} (r : NumberRule) (d : Colon p) → tokens_follow r (colon_tokens d) ≡ true → numbers_follow r (colon_tree d) ≡ true
-  colon_follows r (G.spill a) e = spill_follows r a e
-  colon_follows r (G.spanned a b) e =
-      let parts = apart r (colon_tokens a) t.Colon (spill_tokens b) e in
-      pair _ _ (numbers_colon r (colon_tree a) (spill_tree b)) (colon_follows r a parts.0) (spill_follows r b parts.1)
-
-  spill_follows : {p : Profile} (r : NumberRule) (d : Spill p) → tokens_follow r (spill_tokens d) ≡ true → numbers_follow r (spill_tree d) ≡ true
-  spill_follows r (G.primary a) e = primary_follows r a e
-  spill_follows r (G.spilled a) e = numbers_spill r (spill_tree a) ∙ spill_follows r a (split r (spill_tokens a) (t.Hash ∷ []) e).0
-
-  primary_follows : {p : Profile} (r : NumberRule) (d : Primary p) → tokens_follow r (primary_tokens d) ≡ true → numbers_follow r (primary_tree d) ≡ true
-  primary_follows r (G.number value) e = numbers_number r value ∙ (and_parts _ _ e).0
-  primary_follows r (G.text value) e = numbers_text r value
-  primary_follows r (G.error x) e = numbers_error r x
-  primary_follows {p} r (G.reference sheet mark at is) e = numbers_reference r sheet (corner_of p.place mark at)
-  primary_follows {p} r (G.range sheet first second start stop is also) e =
-      numbers_range r sheet (lower_corner p.place (corner_of p.place first start) (corner_of p.place second stop)) (higher_corner p.place (corner_of p.place first start) (corner_of p.place second stop))
-  primary_follows r (G.parentheses a) e = compare_follows r a (split r (compare_tokens a) (t.CloseParenthesis ∷ []) e).0
-  primary_follows r (G.array rows is) e = numbers_array r (rows_lines rows) ∙ rows_follow r rows (split r (rows_tokens rows) (t.CloseBrace ∷ []) e).0
-  primary_follows r (G.lambda a) e = lambda_follows r a e
-  primary_follows {p} r (G.call name is all) e = call_follows r (function_of_name p.language name) name (arguments_trees all) (arguments_follow r all (split r (arguments_tokens all) (t.CloseParenthesis ∷ []) e).0)
-  primary_follows {p} r (G.word name) e = word_follows r (boolean_of_text p.language name) name
-
-  lambda_follows : {p : Profile} (r : NumberRule) (d : Lambda p) → tokens_follow r (lambda_tokens d) ≡ true → numbers_follow r (lambda_tree d) ≡ true
-  lambda_follows {p} r (G.function name is parameters body) e =
-      let inner = (split r (parameters_tokens p parameters) (compare_tokens body ++ t.CloseParenthesis ∷ []) e).1 in
-      numbers_lambda r parameters (compare_tree body) ∙ compare_follows r body (split r (compare_tokens body) (t.CloseParenthesis ∷ []) inner).0
-  lambda_follows r (G.applied a all) e =
-      let parts = apart r (lambda_tokens a) t.OpenParenthesis (arguments_tokens all ++ t.CloseParenthesis ∷ []) e in
-      pair _ _ (numbers_lambda_call r (lambda_tree a) (arguments_trees all)) (lambda_follows r a parts.0) (arguments_follow r all (split r (arguments_tokens all) (t.CloseParenthesis ∷ []) parts.1).0)
-
-  arguments_follow : {p : Profile} (r : NumberRule) (d : Arguments p) → tokens_follow r (arguments_tokens d) ≡ true → list_all (numbers_follow r) (arguments_trees d) ≡ true
-  arguments_follow r G.none e = refl
-  arguments_follow r (G.only a) e = and_from _ _ (compare_follows r a e) refl
-  arguments_follow {p} r (G.several a b rest) e =
-      let parts = apart r (argument_tokens a) (separator_token p.locale) (argument_tokens b ++ more_tokens rest) e in
-      let others = split r (argument_tokens b) (more_tokens rest) parts.1 in
-      and_from _ _ (argument_follows r a parts.0) (and_from _ _ (argument_follows r b others.0) (more_follow r rest others.1))
-
-  argument_follows : {p : Profile} (r : NumberRule) (d : Argument p) → tokens_follow r (argument_tokens d) ≡ true → numbers_follow r (argument_tree d) ≡ true
-  argument_follows r G.empty e = numbers_empty_argument r
-  argument_follows r (G.given a) e = compare_follows r a e
-
-  more_follow : {p : Profile} (r : NumberRule) (d : More p) → tokens_follow r (more_tokens d) ≡ true → list_all (numbers_follow r) (more_trees d) ≡ true
-  more_follow r G.end e = refl
-  more_follow {p} r (G.more a rest) e =
-      let parts = split r (argument_tokens a) (more_tokens rest) (and_parts (token_follows r (separator_token p.locale)) (tokens_follow r (argument_tokens a ++ more_tokens rest)) e).1 in
-      and_from _ _ (argument_follows r a parts.0) (more_follow r rest parts.1)
+pub expression_follows : {p : Profile} (r : NumberRule) {level : ℕ} (d : Expression p level) → tokens_follow r (expression_tokens d) ≡ true → numbers_follow r (expression_tree d) ≡ true
+expression_follows {p} r d = expression_holds (token_follows r) (numbers_follow r) keeps d
+  where
+    keeps : Keeps p (token_follows r) (numbers_follow r)
+    keeps = record {
+      infixes = infix_follows r;
+      postfixes = postfix_follows r;
+      prefixes = prefix_follows r;
+      number = λ value e. numbers_number r value ∙ e;
+      text = numbers_text r;
+      error = numbers_error r;
+      reference = λ sheet mark at is. numbers_reference r sheet (corner_of p.place mark at);
+      range = λ sheet first second start stop is also. numbers_range r sheet _ _;
+      array = λ rows e. numbers_array r (rows_lines rows) ∙ rows_follow r rows e;
+      call = call_follows r;
+      word = word_follows r;
+      lambda = λ parameters a x. numbers_lambda r parameters a ∙ x;
+      lambda_call = λ a all x y. numbers_lambda_call r a all ∙ and_from _ _ x y;
+      empty = numbers_empty_argument r;
+    }

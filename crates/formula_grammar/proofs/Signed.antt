@@ -1,20 +1,23 @@
 -- Signs read one by one, and counted first.
-use Rattle.std.proofs.Common.{◌≡◌, ℕ, zero, suc, List, [], ◌∷◌, Option, Some, None, option_and_then, refl, sym, ap, ◌∙◌}
+use Rattle.std.proofs.Common.{◌≡◌, ℕ, zero, suc, Bool, true, false, cond, List, [], ◌∷◌, Option, Some, None, option_and_then, refl, sym, ap, ◌∙◌, arith}
+use Rattle.std.specs.Prelude.{◌==◌}
+use Rattle.std.proofs.lemmas.Bool.Decides.{nat_tests}
+use Rattle.formula_levels.specs.declared.prefix.Prefix.{Prefix}
+use Rattle.formula_levels.specs.declared.prefix.Prefix.TheVariants as prefix
+use Rattle.formula_levels.specs.Levels.{prefix_node}
 use Rattle.formula_tree.specs.declared.node.Node.{Node}
-use Rattle.formula_tree.specs.declared.node.Node.TheVariants as n
-use Rattle.formula_tree.specs.declared.operator.UnaryKind.TheVariants as unary
-use Rattle.formula_grammar.specs.declared.profile.Profile.{Profile}
 use Rattle.formula_grammar.specs.declared.token.Token.{Token}
 use Rattle.formula_grammar.specs.declared.token.Token.TheVariants as t
-use Rattle.formula_grammar.specs.laws.Reading.{Outcome, Parser, and_then, with_rest, made, make, colon, single, percent, signed}
-use Rattle.formula_grammar.specs.laws.Signs.{signs, at_signs, wrapped}
+use Rattle.formula_grammar.specs.Operators.{prefix_under, prefix_token}
+use Rattle.formula_grammar.specs.laws.Reading.{Outcome, Parser, and_then, pure, with_rest, made, make, sign_of, own, sign_at, make_signed, signed_step, signed}
+use Rattle.formula_grammar.specs.laws.Signs.{counted, signs, making, wrapped}
 
-module _ (operator : Node → Node) where
+module _ (op : Prefix) where
   abbrev pub around : Outcome Node → ℕ → Outcome Node
-  around o k = and_then o (λ tree rest. with_rest rest (wrapped operator k tree))
+  around o k = and_then o (λ tree rest. with_rest rest (wrapped op k tree))
 
   abbrev once : Option Node → Option Node
-  once = option_and_then (λ m. made (operator m))
+  once = option_and_then (λ m. made (prefix_node op m))
 
   abbrev unit : Node → Option Node
   unit m = Some m
@@ -23,20 +26,20 @@ module _ (operator : Node → Node) where
   some_same None = refl
   some_same (Some m) = refl
 
-  outer_some : (k : ℕ) → ((tree : Node) → once (wrapped operator k tree) ≡ option_and_then (wrapped operator k) (made (operator tree)))
-      → (o : Option Node) → once (option_and_then (wrapped operator k) o) ≡ option_and_then (wrapped operator (suc k)) o
+  outer_some : (k : ℕ) → ((tree : Node) → once (wrapped op k tree) ≡ option_and_then (wrapped op k) (made (prefix_node op tree)))
+      → (o : Option Node) → once (option_and_then (wrapped op k) o) ≡ option_and_then (wrapped op (suc k)) o
   outer_some k again None = refl
   outer_some k again (Some m) = again m
 
-  outer : (k : ℕ) (tree : Node) → once (wrapped operator k tree) ≡ option_and_then (wrapped operator k) (made (operator tree))
-  outer zero tree = sym (some_same (made (operator tree)))
-  outer (suc k) tree = outer_some k (outer k) (made (operator tree))
+  outer : (k : ℕ) (tree : Node) → once (wrapped op k tree) ≡ option_and_then (wrapped op k) (made (prefix_node op tree))
+  outer zero tree = sym (some_same (made (prefix_node op tree)))
+  outer (suc k) tree = outer_some k (outer k) (made (prefix_node op tree))
 
-  one_more_sign : (k : ℕ) (o : Outcome Node) → and_then (around o k) (λ tree. make (operator tree)) ≡ around o (suc k)
+  one_more_sign : (k : ℕ) (o : Outcome Node) → and_then (around o k) (λ tree. make (prefix_node op tree)) ≡ around o (suc k)
   one_more_sign k None = refl
-  one_more_sign k (Some p) = turn (wrapped operator k p.0) ∙ ap (with_rest p.1) (outer k p.0)
+  one_more_sign k (Some p) = turn (wrapped op k p.0) ∙ ap (with_rest p.1) (outer k p.0)
     where
-      turn : (m : Option Node) → and_then (with_rest p.1 m) (λ tree. make (operator tree)) ≡ with_rest p.1 (once m)
+      turn : (m : Option Node) → and_then (with_rest p.1 m) (λ tree. make (prefix_node op tree)) ≡ with_rest p.1 (once m)
       turn None = refl
       turn (Some x) = refl
 
@@ -44,17 +47,50 @@ module _ (operator : Node → Node) where
   no_sign None = refl
   no_sign (Some p) = refl
 
-pub signed-counted : (p : Profile) (inner : ℕ → Parser Node) (room : ℕ) (ts : List Token) → signed p inner room ts ≡ around (n.Unary unary.Minus) (percent p inner room (signs ts).1) (signs ts).0
-unfolding signed
-signed-counted p inner room (t.Minus ∷ ts) =
-    ap (λ (o : Outcome Node). and_then o (λ tree. make (n.Unary unary.Minus tree))) (signed-counted p inner room ts) ∙ one_more_sign (n.Unary unary.Minus) (signs ts).0 (percent p inner room (signs ts).1)
-signed-counted p inner room (t.Plus ∷ ts) = signed-counted p inner room ts
-signed-counted p inner room [] = no_sign (n.Unary unary.Minus) (percent p inner room [])
-signed-counted p inner room (x ∷ ts) = no_sign (n.Unary unary.Minus) (percent p inner room (x ∷ ts))
+-- behind a plus sign nothing is made
+plain : (o : Outcome Node) → and_then o pure ≡ o
+plain None = refl
+plain (Some p) = refl
 
-pub single-counted : (p : Profile) (inner : ℕ → Parser Node) (room : ℕ) (ts : List Token) → single p inner room ts ≡ around n.ImplicitIntersection (colon p inner room (at_signs ts).1) (at_signs ts).0
-unfolding single
-single-counted p inner room (t.At ∷ ts) =
-    ap (λ (o : Outcome Node). and_then o (λ tree. make (n.ImplicitIntersection tree))) (single-counted p inner room ts) ∙ one_more_sign n.ImplicitIntersection (at_signs ts).0 (colon p inner room (at_signs ts).1)
-single-counted p inner room [] = no_sign n.ImplicitIntersection (colon p inner room [])
-single-counted p inner room (x ∷ ts) = no_sign n.ImplicitIntersection (colon p inner room (x ∷ ts))
+-- an operator that has this level under it
+pub own_is : {Op : Type 0} (under_of : Op → ℕ) (under : ℕ) (o : Option Op) (op : Op) → option_and_then (own under_of under) o ≡ Some op → (o ≡ Some op) × (under_of op ≡ under)
+own_is under_of under None op e = absurd cc
+own_is under_of under (Some x) op e = go (under_of x == under) refl e
+  where
+    go : (b : Bool) → (under_of x == under) ≡ b → cond b (Some x) None ≡ Some op → (Some x ≡ Some op) × (under_of op ≡ under)
+    go true h f = let is : under_of x ≡ under = grind (arith, nat_tests) in (f, (let same : x ≡ op = cc in ap under_of (sym same) ∙ is))
+    go false h f = absurd cc
+
+-- the sign that a token is
+sign_is : (x : Token) (op : Prefix) → sign_of x ≡ Some op → x ≡ prefix_token op
+sign_is t.Minus op e = let same : prefix.Minus ≡ op = cc in ap prefix_token same
+sign_is t.Plus op e = let same : prefix.Plus ≡ op = cc in ap prefix_token same
+sign_is t.At op e = let same : prefix.At ≡ op = cc in ap prefix_token same
+sign_is _ op e = absurd cc
+
+pub prefix_is : (under : ℕ) (x : Token) (op : Prefix) → sign_at under x ≡ Some op → (prefix_under op ≡ under) × (x ≡ prefix_token op)
+prefix_is under x op e = let q = own_is prefix_under under (sign_of x) op e in (q.1, sign_is x op q.0)
+
+module _ (under : ℕ) (operand : Parser Node) where
+  abbrev all_around : List Token → Outcome Node
+  all_around ts = around (making under) (operand (signs under ts).1) (signs under ts).0
+
+  -- a sign that makes a node
+  made_sign : (op : Prefix) → making under ≡ op → (ts : List Token) (o : Outcome Node) → o ≡ all_around ts
+      → and_then o (λ tree. make (prefix_node op tree)) ≡ around (making under) (operand (signs under ts).1) (suc (signs under ts).0)
+  made_sign op is ts o e =
+      ap (λ (o : Outcome Node). and_then o (λ tree. make (prefix_node op tree))) e
+      ∙ ap (λ (x : Prefix). and_then (all_around ts) (λ tree. make (prefix_node x tree))) (sym is)
+      ∙ one_more_sign (making under) (signs under ts).0 (operand (signs under ts).1)
+
+  pub signed-counted : (ts : List Token) → signed under operand ts ≡ around (making under) (operand (signs under ts).1) (signs under ts).0
+  unfolding signed
+  signed-counted [] = no_sign (making under) (operand [])
+  signed-counted (x ∷ ts) = go (signed under operand ts) (signed-counted ts) (sign_at under x) refl
+    where
+      go : (rest : Outcome Node) → rest ≡ all_around ts → (o : Option Prefix) → sign_at under x ≡ o → signed_step under operand (operand (x ∷ ts)) rest o
+          ≡ around (making under) (operand (counted (x ∷ ts) (signs under ts) o).1) (counted (x ∷ ts) (signs under ts) o).0
+      go rest again None e = no_sign (making under) (operand (x ∷ ts))
+      go rest again (Some prefix.Plus) e = plain rest ∙ again
+      go rest again (Some prefix.Minus) e = made_sign prefix.Minus (sym (ap making (prefix_is under x prefix.Minus e).0)) ts rest again
+      go rest again (Some prefix.At) e = made_sign prefix.At (sym (ap making (prefix_is under x prefix.At e).0)) ts rest again

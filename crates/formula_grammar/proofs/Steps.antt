@@ -3,14 +3,8 @@ use Rattle.std.proofs.Common.{◌≡◌, ℕ, zero, suc, ◌≤◌, List, ◌∷
 use Rattle.formula_tree.specs.declared.node.Node.{Node}
 use Rattle.formula_tree.specs.Depth.{depth_of}
 use Rattle.formula_grammar.specs.declared.token.Token.{Token}
-use Rattle.formula_grammar.specs.laws.Reading.{Outcome, Parser, and_then, ◌>>=◌, with_rest, made, make, chain_step, chain_from, chain}
+use Rattle.formula_grammar.specs.laws.Reading.{Outcome, Parser, and_then, ◌>>=◌, with_rest, made, make, chain_step, chain_from}
 use Rattle.formula_grammar.proofs.Depths.{made-is}
-
--- some front of the tokens is such a thing
-pub record Takes {X : Type 0} (A : List Token → X → Type 0) (ts rest : List Token) (out : X) : Type 0 where
-  pub front : List Token
-  pub parts : ts ≡ front ++ rest
-  pub is : A front out
 
 abbrev pub found : {A : Type 0} → A → List Token → Outcome A
 found a ts = Some (a, ts)
@@ -40,39 +34,24 @@ make_some x y ts rest e =
     let q = made-is x y r.0 in
     (q.0, r.1, q.1)
 
--- ---- chains
+-- ---- chains: what holds of what was read, and of the tokens after it
 
-module _ {Op X : Type 0} (operator : Parser Op) (join : Op → Node → X → Node) (operand : Parser X) (token : Op → Token)
-    (operator_is : (ts rest : List Token) (op : Op) → operator ts ≡ Some (op, rest) → ts ≡ token op ∷ rest)
-    (A : List Token → X → Type 0) (B : List Token → Node → Type 0)
-    (more : (op : Op) (xs ys : List Token) (a : Node) (b : X) → B xs a → A ys b → depth_of (join op a b) ≤ 64 → B (xs ++ token op ∷ ys) (join op a b))
-    (operand_sound : (ts rest : List Token) (out : X) → operand ts ≡ Some (out, rest) → Takes A ts rest out) where
-  step_sound : (go_on : Node → Parser Node) (again : (left : Node) (xs ts rest : List Token) (out : Node) → B xs left → go_on left ts ≡ Some (out, rest) → Takes B (xs ++ ts) rest out)
-      (left : Node) (xs ts rest : List Token) (out : Node) → B xs left → (o : Outcome Op) → operator ts ≡ o
-      → chain_step operator join operand go_on left ts o ≡ Some (out, rest) → Takes B (xs ++ ts) rest out
-  step_sound go_on again left xs ts rest out b None e f =
-      let p = some_pair left out ts rest f in
-      record { front = xs; parts = ap (λ (l : List Token). xs ++ l) p.1; is = subst (B xs) p.0 b }
-  step_sound go_on again left xs ts rest out b (Some (op, mid)) e f =
-      let r = bind_some (operand mid) (λ right. make (join op left right) >>= go_on) out rest f in
-      let m = bind_some (make (join op left r.0) r.1) go_on out rest r.3 in
-      let made = make_some (join op left r.0) m.0 r.1 m.1 m.2 in
-      let right = operand_sound mid r.1 r.0 r.2 in
-      let longer = more op xs right.front left r.0 b right.is made.2 in
-      let f2 : go_on (join op left r.0) r.1 ≡ Some (out, rest) = ap (λ (x : Node). go_on x r.1) made.0 ∙ ap (go_on m.0) made.1 ∙ m.3 in
-      let found = again (join op left r.0) (xs ++ token op ∷ right.front) r.1 rest out longer f2 in
-      let ts-is : ts ≡ token op ∷ right.front ++ r.1 = operator_is ts mid op e ∙ ap (λ (l : List Token). token op ∷ l) right.parts in
-      record { front = found.front; parts = ap (λ (l : List Token). xs ++ l) ts-is ∙ sym (append_assoc xs (token op ∷ right.front) r.1) ∙ found.parts; is = found.is }
-
-  from_sound : (k : ℕ) (left : Node) (xs ts rest : List Token) (out : Node) → B xs left → chain_from operator join operand k left ts ≡ Some (out, rest) → Takes B (xs ++ ts) rest out
+module _ {Op : Type 0} (operator : Parser Op) (turn : Op → Node → Parser Node) (Read : List Token → Node → Type 0)
+    (turn_sound : (op : Op) (left : Node) (ts mid rest : List Token) (out : Node) → Read ts left → operator ts ≡ Some (op, mid) → turn op left mid ≡ Some (out, rest) → Read rest out) where
+  from_sound : (k : ℕ) (left : Node) (ts rest : List Token) (out : Node) → Read ts left → chain_from operator turn k left ts ≡ Some (out, rest) → Read rest out
   unfolding chain_from
-  from_sound zero left xs ts rest out b e = none_some (out, rest) e
-  from_sound (suc k) left xs ts rest out b e = step_sound (chain_from operator join operand k) (from_sound k) left xs ts rest out b (operator ts) refl e
+  from_sound zero left ts rest out b e = none_some (out, rest) e
+  from_sound (suc k) left ts rest out b e = go (from_sound k) (operator ts) refl e
+    where
+      go : ((left : Node) (ts rest : List Token) (out : Node) → Read ts left → chain_from operator turn k left ts ≡ Some (out, rest) → Read rest out)
+          → (o : Outcome Op) → operator ts ≡ o → chain_step operator turn (chain_from operator turn k) left ts o ≡ Some (out, rest) → Read rest out
+      go again None e f = let p = some_pair left out ts rest f in subst (λ (l : List Token). Read l out) p.1 (subst (Read ts) p.0 b)
+      go again (Some (op, mid)) e f =
+          let r = bind_some (turn op left mid) (chain_from operator turn k) out rest f in
+          again r.0 r.1 rest out (turn_sound op left ts mid r.1 r.0 b e r.2) r.3
 
-  pub chain_sound : (first : Parser Node) (first_sound : (ts rest : List Token) (out : Node) → first ts ≡ Some (out, rest) → Takes B ts rest out)
-      (ts rest : List Token) (out : Node) → chain operator join operand first ts ≡ Some (out, rest) → Takes B ts rest out
-  chain_sound first first_sound ts rest out e =
-      let r = bind_some (first ts) (chain_from operator join operand 64) out rest e in
-      let start = first_sound ts r.1 r.0 r.2 in
-      let found = from_sound 64 r.0 start.front r.1 rest out start.is r.3 in
-      record { front = found.front; parts = start.parts ∙ found.parts; is = found.is }
+  pub chain_sound : (first : Parser Node) (ts rest : List Token) (out : Node) → ((mid : List Token) (left : Node) → first ts ≡ Some (left, mid) → Read mid left)
+      → and_then (first ts) (chain_from operator turn 64) ≡ Some (out, rest) → Read rest out
+  chain_sound first ts rest out start e =
+      let r = bind_some (first ts) (chain_from operator turn 64) out rest e in
+      from_sound 64 r.0 r.1 rest out (start r.1 r.0 r.2) r.3

@@ -1,14 +1,15 @@
 ghost use Rattle.std.specs.Prelude.{◌≡◌};
 ghost use Rattle.formula_grammar.specs.laws.Reading as spec;
-ghost use Rattle.formula_grammar.specs.laws.Signs.{signs, at_signs};
+ghost use Rattle.formula_grammar.specs.laws.Signs.{signs};
 ghost use Rattle.formula_grammar.specs.laws.Outcome.{Reads, Picks, Eats};
 
 use crate::after_item::AfterItem;
 use crate::fault::Fault;
+use crate::operator::{Operator, operator_of, sign_at};
 use crate::separators::{has_point, is_separator};
 use crate::token::Token;
 use base_tables::Locale;
-use formula_tree::{CompareKind, ProductKind, SumKind};
+use formula_levels::Prefix;
 
 /// The tokens that are still to be read.
 #[derive(Drop)]
@@ -17,128 +18,16 @@ pub struct Cursor<'a> {
 }
 
 impl<'a> Cursor<'a> {
-    pub fn compare_sign(&mut self) -> Option<CompareKind>
-        ensures { Picks (spec.compare_sign self.old.rest.now) result self.old.rest.now self.new.rest.now }
+    /// Passes an operator with this level under it, if one stands here.
+    pub fn operator(&mut self, under: u8) -> Option<Operator>
+        ensures { Picks (spec.operator_at under self.old.rest.now) result self.old.rest.now self.new.rest.now }
     {
-        match self.rest {
-            [Token::Equal, rest @ ..] => {
-                self.rest = rest;
-                Some(CompareKind::Equal)
-            }
-            [Token::NotEqual, rest @ ..] => {
-                self.rest = rest;
-                Some(CompareKind::NotEqual)
-            }
-            [Token::Less, rest @ ..] => {
-                self.rest = rest;
-                Some(CompareKind::Less)
-            }
-            [Token::LessOrEqual, rest @ ..] => {
-                self.rest = rest;
-                Some(CompareKind::LessOrEqual)
-            }
-            [Token::Greater, rest @ ..] => {
-                self.rest = rest;
-                Some(CompareKind::Greater)
-            }
-            [Token::GreaterOrEqual, rest @ ..] => {
-                self.rest = rest;
-                Some(CompareKind::GreaterOrEqual)
-            }
-            _ => None,
-        }
-    }
-
-    pub fn sum_sign(&mut self) -> Option<SumKind>
-        ensures { Picks (spec.sum_sign self.old.rest.now) result self.old.rest.now self.new.rest.now }
-    {
-        match self.rest {
-            [Token::Plus, rest @ ..] => {
-                self.rest = rest;
-                Some(SumKind::Add)
-            }
-            [Token::Minus, rest @ ..] => {
-                self.rest = rest;
-                Some(SumKind::Subtract)
-            }
-            _ => None,
-        }
-    }
-
-    pub fn product_sign(&mut self) -> Option<ProductKind>
-        ensures { Picks (spec.product_sign self.old.rest.now) result self.old.rest.now self.new.rest.now }
-    {
-        match self.rest {
-            [Token::Times, rest @ ..] => {
-                self.rest = rest;
-                Some(ProductKind::Multiply)
-            }
-            [Token::Divide, rest @ ..] => {
-                self.rest = rest;
-                Some(ProductKind::Divide)
-            }
-            _ => None,
-        }
-    }
-
-    pub fn ampersand(&mut self) -> bool
-        ensures { Eats (spec.ampersand self.old.rest.now) result self.old.rest.now self.new.rest.now }
-    {
-        match self.rest {
-            [Token::Ampersand, rest @ ..] => {
-                self.rest = rest;
-                true
-            }
-            _ => false,
-        }
-    }
-
-    pub fn power_sign(&mut self) -> bool
-        ensures { Eats (spec.power_sign self.old.rest.now) result self.old.rest.now self.new.rest.now }
-    {
-        match self.rest {
-            [Token::Power, rest @ ..] => {
-                self.rest = rest;
-                true
-            }
-            _ => false,
-        }
-    }
-
-    pub fn percent_sign(&mut self) -> bool
-        ensures { Eats (spec.percent_sign self.old.rest.now) result self.old.rest.now self.new.rest.now }
-    {
-        match self.rest {
-            [Token::Percent, rest @ ..] => {
-                self.rest = rest;
-                true
-            }
-            _ => false,
-        }
-    }
-
-    pub fn colon_sign(&mut self) -> bool
-        ensures { Eats (spec.colon_sign self.old.rest.now) result self.old.rest.now self.new.rest.now }
-    {
-        match self.rest {
-            [Token::Colon, rest @ ..] => {
-                self.rest = rest;
-                true
-            }
-            _ => false,
-        }
-    }
-
-    pub fn hash(&mut self) -> bool
-        ensures { Eats (spec.hash self.old.rest.now) result self.old.rest.now self.new.rest.now }
-    {
-        match self.rest {
-            [Token::Hash, rest @ ..] => {
-                self.rest = rest;
-                true
-            }
-            _ => false,
-        }
+        let [first, rest @ ..] = self.rest else {
+            return None;
+        };
+        let operator = operator_of(first)?.own(under)?;
+        self.rest = rest;
+        Some(operator)
     }
 
     pub fn opening(&mut self) -> bool
@@ -209,32 +98,18 @@ impl<'a> Cursor<'a> {
         Ok(next)
     }
 
-    /// Passes the signs that stand here, and counts the minus signs.
-    pub fn signs(&mut self) -> usize
-        ensures { signs self.old.rest.now ≡ (result, self.new.rest.now) }
+    /// Passes the signs with this level under them that stand here, and counts those that make a node.
+    pub fn signs(&mut self, under: u8) -> usize
+        ensures { signs under self.old.rest.now ≡ (result, self.new.rest.now) }
     {
         let mut rest = self.rest;
         let mut count = 0;
         while let [first, more @ ..] = rest {
-            match first {
-                Token::Minus => count += 1,
-                Token::Plus => {}
-                _ => break,
+            match sign_at(under, first) {
+                Some(Prefix::Plus) => {}
+                Some(_) => count += 1,
+                None => break,
             }
-            rest = more;
-        }
-        self.rest = rest;
-        count
-    }
-
-    /// Passes the at signs that stand here, and counts them.
-    pub fn at_signs(&mut self) -> usize
-        ensures { at_signs self.old.rest.now ≡ (result, self.new.rest.now) }
-    {
-        let mut rest = self.rest;
-        let mut count = 0;
-        while let [Token::At, more @ ..] = rest {
-            count += 1;
             rest = more;
         }
         self.rest = rest;

@@ -1,12 +1,14 @@
 ghost use Rattle.std.specs.Prelude.{◌≡◌, ◌++◌, ◌∷◌, [], IfOk, ◌≤◌, map};
 ghost use Rattle.formula_tree.specs.Depth.{depth_of, greatest};
+ghost use Rattle.formula_levels.specs.Levels as table;
 ghost use Rattle.formula_grammar.specs.laws.Outcome.{Makes};
 
 use crate::fault::Fault;
 use base_shared::Shared;
 use base_tables::Function;
 use base_values::{Items, Text};
-use formula_tree::{CompareKind, MAX_DEPTH, Node, Parameter, ProductKind, SumKind, UnaryKind};
+use formula_levels::{Infix, Postfix, Prefix};
+use formula_tree::{MAX_DEPTH, Node, Parameter, UnaryKind};
 use std::alloc::{AllocError, Global};
 use std::marker::Model;
 
@@ -68,101 +70,44 @@ impl Found {
         Ok(Found { node, depth })
     }
 
+    /// What an infix operator makes of two trees.
     #[tactic(auto, using(crate::proofs::Depths::depths))]
-    pub fn compare(
-        alloc: Global,
-        kind: CompareKind,
-        left: Found,
-        right: Found,
-    ) -> Result<Found, Fault>
-        ensures { Makes (Node.Compare kind left right) result }
+    pub fn joined(alloc: Global, operator: Infix, left: Found, right: Found) -> Result<Found, Fault>
+        ensures { Makes (table.infix_node operator left right) result }
     {
         let depth = left.depth.max(right.depth) + 1;
         let left = Shared::new(alloc, left.into_node())?;
         let right = Shared::new(alloc, right.into_node())?;
-        Found::above(Node::Compare(kind, left, right), depth)
+        Found::above(operator.node(left, right), depth)
     }
 
+    /// What a postfix operator makes of a tree.
     #[tactic(auto, using(crate::proofs::Depths::depths))]
-    pub fn concatenation(alloc: Global, left: Found, right: Found) -> Result<Found, Fault>
-        ensures { Makes (Node.Concatenate left right) result }
-    {
-        let depth = left.depth.max(right.depth) + 1;
-        let left = Shared::new(alloc, left.into_node())?;
-        let right = Shared::new(alloc, right.into_node())?;
-        Found::above(Node::Concatenate(left, right), depth)
-    }
-
-    #[tactic(auto, using(crate::proofs::Depths::depths))]
-    pub fn sum(alloc: Global, kind: SumKind, left: Found, right: Found) -> Result<Found, Fault>
-        ensures { Makes (Node.Sum kind left right) result }
-    {
-        let depth = left.depth.max(right.depth) + 1;
-        let left = Shared::new(alloc, left.into_node())?;
-        let right = Shared::new(alloc, right.into_node())?;
-        Found::above(Node::Sum(kind, left, right), depth)
-    }
-
-    #[tactic(auto, using(crate::proofs::Depths::depths))]
-    pub fn product(
-        alloc: Global,
-        kind: ProductKind,
-        left: Found,
-        right: Found,
-    ) -> Result<Found, Fault>
-        ensures { Makes (Node.Product kind left right) result }
-    {
-        let depth = left.depth.max(right.depth) + 1;
-        let left = Shared::new(alloc, left.into_node())?;
-        let right = Shared::new(alloc, right.into_node())?;
-        Found::above(Node::Product(kind, left, right), depth)
-    }
-
-    #[tactic(auto, using(crate::proofs::Depths::depths))]
-    pub fn power(alloc: Global, left: Found, right: Found) -> Result<Found, Fault>
-        ensures { Makes (Node.Power left right) result }
-    {
-        let depth = left.depth.max(right.depth) + 1;
-        let left = Shared::new(alloc, left.into_node())?;
-        let right = Shared::new(alloc, right.into_node())?;
-        Found::above(Node::Power(left, right), depth)
-    }
-
-    #[tactic(auto, using(crate::proofs::Depths::depths))]
-    pub fn colon(alloc: Global, left: Found, right: Found) -> Result<Found, Fault>
-        ensures { Makes (Node.Colon left right) result }
-    {
-        let depth = left.depth.max(right.depth) + 1;
-        let left = Shared::new(alloc, left.into_node())?;
-        let right = Shared::new(alloc, right.into_node())?;
-        Found::above(Node::Colon(left, right), depth)
-    }
-
-    #[tactic(auto, using(crate::proofs::Depths::depths))]
-    pub fn unary(alloc: Global, kind: UnaryKind, operand: Found) -> Result<Found, Fault>
-        ensures { Makes (Node.Unary kind operand) result }
+    pub fn followed(alloc: Global, operator: Postfix, operand: Found) -> Result<Found, Fault>
+        ensures { Makes (table.postfix_node operator operand) result }
     {
         let depth = operand.depth + 1;
         let operand = Shared::new(alloc, operand.into_node())?;
-        Found::above(Node::Unary(kind, operand), depth)
+        Found::above(operator.node(operand), depth)
     }
 
+    /// What a sign makes of a tree.
     #[tactic(auto, using(crate::proofs::Depths::depths))]
-    pub fn spill(alloc: Global, operand: Found) -> Result<Found, Fault>
-        ensures { Makes (Node.Spill operand) result }
+    pub fn signed(alloc: Global, sign: Prefix, operand: Found) -> Result<Found, Fault>
+        ensures { Makes (table.prefix_node sign operand) result }
     {
         let depth = operand.depth + 1;
-        let operand = Shared::new(alloc, operand.into_node())?;
-        Found::above(Node::Spill(operand), depth)
-    }
-
-    #[tactic(auto, using(crate::proofs::Depths::depths))]
-    pub fn single(alloc: Global, operand: Found) -> Result<Found, Fault>
-        ensures { Makes (Node.ImplicitIntersection operand) result }
-    {
-        let depth = operand.depth + 1;
-        let operand = Shared::new(alloc, operand.into_node())?;
-        Found::above(Node::ImplicitIntersection(operand), depth)
+        match sign {
+            Prefix::Plus => Ok(operand),
+            Prefix::Minus => {
+                let operand = Shared::new(alloc, operand.into_node())?;
+                Found::above(Node::Unary(UnaryKind::Minus, operand), depth)
+            }
+            Prefix::At => {
+                let operand = Shared::new(alloc, operand.into_node())?;
+                Found::above(Node::ImplicitIntersection(operand), depth)
+            }
+        }
     }
 
     #[tactic(auto, using(crate::proofs::Depths::depths))]
@@ -233,10 +178,15 @@ impl FoundAll {
         }
     }
 
+    /// The trees, in exact room.
     pub fn into_nodes(self) -> Items<Node>
         ensures { result ≡ self }
     {
-        let FoundAll { nodes, depth: _ } = self;
+        let FoundAll {
+            mut nodes,
+            depth: _,
+        } = self;
+        nodes.fit();
         nodes
     }
 

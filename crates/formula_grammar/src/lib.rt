@@ -8,6 +8,7 @@ mod arrays;
 mod cursor;
 mod fault;
 mod found;
+mod operator;
 mod parameters;
 mod profile;
 mod read;

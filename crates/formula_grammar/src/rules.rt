@@ -4,19 +4,22 @@
 ghost use Rattle.std.specs.Prelude.{◌≡◌};
 ghost use Rattle.base_values.specs.Places.{IsPlace};
 ghost use Rattle.formula_grammar.specs.laws.Reading as spec;
-ghost use Rattle.formula_grammar.specs.laws.Outcome.{Reads};
+ghost use Rattle.formula_grammar.specs.laws.Outcome.{Gives, Reads};
+ghost use Rattle.formula_grammar.specs.laws.Signs.{making, wrapped};
 ghost use Rattle.formula_grammar.specs.laws.Nests.{Nests};
 
 use crate::arrays::array;
 use crate::cursor::Cursor;
 use crate::fault::Fault;
 use crate::found::{Found, FoundAll};
+use crate::operator::{Operator, making};
 use crate::parameters::parameters;
 use crate::profile::Profile;
 use crate::token::Token;
 use crate::words::{called, is_lambda, range, reference, worded};
 use base_values::Text;
-use formula_tree::{MAX_DEPTH, Node, UnaryKind};
+use formula_levels::LEVELS;
+use formula_tree::{MAX_DEPTH, Node};
 use std::alloc::Global;
 
 #[derive(Clone, Copy)]
@@ -38,146 +41,44 @@ impl<F: Fn(Global, Profile, &mut Cursor<'_>, u64, u64) -> Result<Found, Fault>> 
         (self.whole)(self.alloc, self.profile, tokens, self.nesting, room)
     }
 
-    pub fn compare(&self, tokens: &mut Cursor<'_>) -> Result<Found, Fault>
+    /// An expression of a level: signs, an operand of the level below, and the operators of the level
+    /// behind it, which group to the left.
+    pub fn expression(&self, tokens: &mut Cursor<'_>, level: u8) -> Result<Found, Fault>
         requires { Nests self.now.profile self.now.nesting (F.pre self.now.whole) (F.post self.now.whole) }
-        ensures { Reads (spec.compare self.now.profile (spec.whole self.now.profile self.now.nesting) self.now.room tokens.old.rest.now) result tokens.new.rest.now }
+        ensures { Reads (spec.expression self.now.profile (spec.whole self.now.profile self.now.nesting) self.now.room level tokens.old.rest.now) result tokens.new.rest.now }
     {
-        let mut left = self.concatenation(tokens)?;
+        if level == 0 {
+            return self.primary(tokens);
+        }
+        let under = level - 1;
+        let count = tokens.signs(under);
+        let operand = self.expression(tokens, under)?;
+        let mut left = self.signed(under, count, operand)?;
         for _turn in 0..MAX_DEPTH {
-            let Some(kind) = tokens.compare_sign() else {
+            let Some(operator) = tokens.operator(under) else {
                 return Ok(left);
             };
-            let right = self.concatenation(tokens)?;
-            left = Found::compare(self.alloc, kind, left, right)?;
-        }
-        Err(Fault::Outside)
-    }
-
-    fn concatenation(&self, tokens: &mut Cursor<'_>) -> Result<Found, Fault>
-        requires { Nests self.now.profile self.now.nesting (F.pre self.now.whole) (F.post self.now.whole) }
-        ensures { Reads (spec.concatenation self.now.profile (spec.whole self.now.profile self.now.nesting) self.now.room tokens.old.rest.now) result tokens.new.rest.now }
-    {
-        let mut left = self.sum(tokens)?;
-        for _turn in 0..MAX_DEPTH {
-            if !tokens.ampersand() {
-                return Ok(left);
-            }
-            let right = self.sum(tokens)?;
-            left = Found::concatenation(self.alloc, left, right)?;
-        }
-        Err(Fault::Outside)
-    }
-
-    fn sum(&self, tokens: &mut Cursor<'_>) -> Result<Found, Fault>
-        requires { Nests self.now.profile self.now.nesting (F.pre self.now.whole) (F.post self.now.whole) }
-        ensures { Reads (spec.sum self.now.profile (spec.whole self.now.profile self.now.nesting) self.now.room tokens.old.rest.now) result tokens.new.rest.now }
-    {
-        let mut left = self.product(tokens)?;
-        for _turn in 0..MAX_DEPTH {
-            let Some(kind) = tokens.sum_sign() else {
-                return Ok(left);
+            left = match operator {
+                Operator::Infix(op) => {
+                    let right = self.expression(tokens, under)?;
+                    Found::joined(self.alloc, op, left, right)?
+                }
+                Operator::Postfix(op) => Found::followed(self.alloc, op, left)?,
             };
-            let right = self.product(tokens)?;
-            left = Found::sum(self.alloc, kind, left, right)?;
         }
         Err(Fault::Outside)
     }
 
-    fn product(&self, tokens: &mut Cursor<'_>) -> Result<Found, Fault>
-        requires { Nests self.now.profile self.now.nesting (F.pre self.now.whole) (F.post self.now.whole) }
-        ensures { Reads (spec.product self.now.profile (spec.whole self.now.profile self.now.nesting) self.now.room tokens.old.rest.now) result tokens.new.rest.now }
+    /// The operand behind so many signs that make a node.
+    fn signed(&self, under: u8, count: usize, operand: Found) -> Result<Found, Fault>
+        ensures { Gives (wrapped (making under) count operand) result }
     {
-        let mut left = self.power(tokens)?;
-        for _turn in 0..MAX_DEPTH {
-            let Some(kind) = tokens.product_sign() else {
-                return Ok(left);
-            };
-            let right = self.power(tokens)?;
-            left = Found::product(self.alloc, kind, left, right)?;
-        }
-        Err(Fault::Outside)
-    }
-
-    fn power(&self, tokens: &mut Cursor<'_>) -> Result<Found, Fault>
-        requires { Nests self.now.profile self.now.nesting (F.pre self.now.whole) (F.post self.now.whole) }
-        ensures { Reads (spec.power self.now.profile (spec.whole self.now.profile self.now.nesting) self.now.room tokens.old.rest.now) result tokens.new.rest.now }
-    {
-        let mut left = self.signed(tokens)?;
-        for _turn in 0..MAX_DEPTH {
-            if !tokens.power_sign() {
-                return Ok(left);
-            }
-            let right = self.signed(tokens)?;
-            left = Found::power(self.alloc, left, right)?;
-        }
-        Err(Fault::Outside)
-    }
-
-    fn signed(&self, tokens: &mut Cursor<'_>) -> Result<Found, Fault>
-        requires { Nests self.now.profile self.now.nesting (F.pre self.now.whole) (F.post self.now.whole) }
-        ensures { Reads (spec.signed self.now.profile (spec.whole self.now.profile self.now.nesting) self.now.room tokens.old.rest.now) result tokens.new.rest.now }
-    {
-        let count = tokens.signs();
-        let mut tree = self.percent(tokens)?;
+        let sign = making(under);
+        let mut tree = operand;
         for _turn in 0..count {
-            tree = Found::unary(self.alloc, UnaryKind::Minus, tree)?;
+            tree = Found::signed(self.alloc, sign, tree)?;
         }
         Ok(tree)
-    }
-
-    fn percent(&self, tokens: &mut Cursor<'_>) -> Result<Found, Fault>
-        requires { Nests self.now.profile self.now.nesting (F.pre self.now.whole) (F.post self.now.whole) }
-        ensures { Reads (spec.percent self.now.profile (spec.whole self.now.profile self.now.nesting) self.now.room tokens.old.rest.now) result tokens.new.rest.now }
-    {
-        let mut tree = self.single(tokens)?;
-        for _turn in 0..MAX_DEPTH {
-            if !tokens.percent_sign() {
-                return Ok(tree);
-            }
-            tree = Found::unary(self.alloc, UnaryKind::Percent, tree)?;
-        }
-        Err(Fault::Outside)
-    }
-
-    fn single(&self, tokens: &mut Cursor<'_>) -> Result<Found, Fault>
-        requires { Nests self.now.profile self.now.nesting (F.pre self.now.whole) (F.post self.now.whole) }
-        ensures { Reads (spec.single self.now.profile (spec.whole self.now.profile self.now.nesting) self.now.room tokens.old.rest.now) result tokens.new.rest.now }
-    {
-        let count = tokens.at_signs();
-        let mut tree = self.colon(tokens)?;
-        for _turn in 0..count {
-            tree = Found::single(self.alloc, tree)?;
-        }
-        Ok(tree)
-    }
-
-    fn colon(&self, tokens: &mut Cursor<'_>) -> Result<Found, Fault>
-        requires { Nests self.now.profile self.now.nesting (F.pre self.now.whole) (F.post self.now.whole) }
-        ensures { Reads (spec.colon self.now.profile (spec.whole self.now.profile self.now.nesting) self.now.room tokens.old.rest.now) result tokens.new.rest.now }
-    {
-        let mut left = self.spill(tokens)?;
-        for _turn in 0..MAX_DEPTH {
-            if !tokens.colon_sign() {
-                return Ok(left);
-            }
-            let right = self.spill(tokens)?;
-            left = Found::colon(self.alloc, left, right)?;
-        }
-        Err(Fault::Outside)
-    }
-
-    fn spill(&self, tokens: &mut Cursor<'_>) -> Result<Found, Fault>
-        requires { Nests self.now.profile self.now.nesting (F.pre self.now.whole) (F.post self.now.whole) }
-        ensures { Reads (spec.spill self.now.profile (spec.whole self.now.profile self.now.nesting) self.now.room tokens.old.rest.now) result tokens.new.rest.now }
-    {
-        let mut tree = self.primary(tokens)?;
-        for _turn in 0..MAX_DEPTH {
-            if !tokens.hash() {
-                return Ok(tree);
-            }
-            tree = Found::spill(self.alloc, tree)?;
-        }
-        Err(Fault::Outside)
     }
 
     #[tactic(auto, using(crate::proofs::Depths::depths), unfolding(crate::specs::laws::Reading::primary))]
@@ -348,5 +249,5 @@ pub fn whole(
         room,
         whole,
     }
-    .compare(tokens)
+    .expression(tokens, LEVELS)
 }

@@ -21,7 +21,8 @@ use Rattle.formula_round.proofs.Expressions.{Expressed}
 abbrev spot : Position → Corner → Position
 spot place corner = record { row = corner_row place corner; column = corner_column place corner }
 
-inside_both : (rows columns : Bool) (at : Position) → rows && columns ≡ true → (if rows then (if columns then Ok at else Err InvalidColumn) else Err InvalidRow) ≡ Ok at
+inside_both : (rows columns : Bool) (at : Position) → rows && columns ≡ true
+    → (if rows then (if columns then Ok at else Err InvalidColumn) else Err InvalidRow) ≡ Ok at
 inside_both true true at inside = refl
 inside_both true false at inside = absurd cc
 inside_both false columns at inside = absurd cc
@@ -29,7 +30,8 @@ inside_both false columns at inside = absurd cc
 -- the mark of a corner inside the sheet stands where the corner does
 marks : (place : Position) (corner : Corner) → is_inside place corner ≡ true → mark_place (mark_of place corner) ≡ Ok (spot place corner)
 unfolding is_inside place_of
-marks place corner inside = inside_both (is_line (pos 1048576) (corner_row place corner)) (is_line (pos 16384) (corner_column place corner)) (spot place corner) inside
+marks place corner inside =
+    inside_both (is_line (pos 1048576) (corner_row place corner)) (is_line (pos 16384) (corner_column place corner)) (spot place corner) inside
 
 -- and has its corner
 remade : (place : Position) (corner : Corner) → corner_of place (mark_of place corner) (spot place corner) ≡ corner
@@ -44,7 +46,8 @@ reference_expressed p sheet corner inside = record {
   open_few = omega arith;
 }
 
-ordered : (place : Position) (sheet : Option (List ℕ)) (first second : Corner) → are_in_order place first second ≡ true → range_node place sheet first second ≡ n.Range sheet first second
+ordered : (place : Position) (sheet : Option (List ℕ)) (first second : Corner) → are_in_order place first second ≡ true
+    → range_node place sheet first second ≡ n.Range sheet first second
 ordered place sheet first second in_order = λ i. n.Range sheet (lower-in_order place first second in_order i) (higher-in_order place first second in_order i)
 
 placed_parts : (place : Position) (first second : Corner) → is_placed_range place first second ≡ true
@@ -60,7 +63,9 @@ pub range_expressed : (p : Profile) (sheet : Option (List ℕ)) (first second : 
 range_expressed p sheet first second placed =
     let parts = placed_parts p.place first second placed in
     record {
-      by = range sheet (mark_of p.place first) (mark_of p.place second) (spot p.place first) (spot p.place second) (marks p.place first parts.0) (marks p.place second parts.1);
+      by =
+          range sheet (mark_of p.place first) (mark_of p.place second) (spot p.place first) (spot p.place second)
+          (marks p.place first parts.0) (marks p.place second parts.1);
       spells = refl;
       gives = (λ i. range_node p.place sheet (remade p.place first i) (remade p.place second i)) ∙ ordered p.place sheet first second parts.2;
       open_few = omega arith;

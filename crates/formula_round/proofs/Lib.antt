@@ -6,7 +6,6 @@ pub mod Arrays
 pub mod Layers
 pub mod Cells
 pub mod Named
-pub mod Binary
 pub mod Derived
 pub mod Characters
 pub mod Fronts
@@ -15,3 +14,7 @@ pub mod Places
 pub mod Lines
 pub mod Parts
 pub mod Numbers
+pub mod Leaves
+pub mod Corners
+pub mod Separated
+pub mod Printings

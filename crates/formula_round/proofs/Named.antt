@@ -34,7 +34,8 @@ absent (Some a) e = absurd cc
 
 -- ---- words alone
 
-word_expressed : (p : Profile) (name : List ℕ) (value : Option Bool) → boolean_of_text p.language name ≡ value → Expressed p 0 (t.Word name ∷ []) (word_node value name) 1
+word_expressed : (p : Profile) (name : List ℕ) (value : Option Bool) → boolean_of_text p.language name ≡ value
+    → Expressed p 0 (t.Word name ∷ []) (word_node value name) 1
 word_expressed p name value is = record { by = word name; spells = refl; gives = ap (λ (o : Option Bool). word_node o name) is; open_few = omega arith }
 
 pub boolean_expressed : (p : Profile) (value : Bool) → Expressed p 0 (t.Word (boolean_text p.language value) ∷ []) (n.Boolean value) 1
@@ -42,7 +43,8 @@ boolean_expressed p value = word_expressed p (boolean_text p.language value) (So
 
 pub name_expressed : (p : Profile) (name : List ℕ) → is_plain_name p.language name ≡ true → Expressed p 0 (t.Word name ∷ []) (n.Name name) 1
 name_expressed p name plain =
-    word_expressed p name None (absent (boolean_of_text p.language name) (both_parts (is_text_word name && not (reads_as_cell (chars name))) (is_absent (boolean_of_text p.language name)) plain).1)
+    let parts = both_parts (is_text_word name && not (reads_as_cell (chars name))) (is_absent (boolean_of_text p.language name)) plain in
+    word_expressed p name None (absent (boolean_of_text p.language name) parts.1)
 
 -- ---- calls
 
@@ -55,32 +57,39 @@ no_lambda Fr Sum = refl
 no_lambda Es Sum = refl
 no_lambda _ _ = refl
 
-with_called : {p : Profile} {tokens : List Token} {trees : List Node} {below : ℕ} (name : List ℕ) (function : Option Function) → function_of_name p.language name ≡ function → is_lambda name ≡ false
-    → Listed p tokens trees below → Expressed p 0 (t.Word name ∷ in_parentheses tokens) (call_node function name trees) (below + 1)
-with_called {p} {tokens} {trees} {below} name function is is_no x =
-    subst (λ (o : Option Function). Expressed p 0 (t.Word name ∷ in_parentheses tokens) (call_node o name trees) (below + 1)) is (call_expressed name is_no x)
-
-pub function_call_expressed : {p : Profile} {tokens : List Token} {trees : List Node} {below : ℕ} (function : Function) → Listed p tokens trees below
-    → Expressed p 0 (t.Word (function_name p.language function) ∷ in_parentheses tokens) (n.Call function trees) (below + 1)
-function_call_expressed {p} function x =
-    with_called (function_name p.language function) (Some function) (function_of_name-function_name p.language function) (no_lambda p.language function) x
-
 small_letter : (c : ℕ) → is_no_capital c ≡ true → to_ascii_lowercase c ≡ c
 small_letter c is_no = grind (arith, nat_tests)
 
 pub small_letters : (name : List ℕ) → list_all is_no_capital name ≡ true → lowered name ≡ name
-small_letters [] none = refl
-small_letters (c ∷ name) none = let parts = both_parts (is_no_capital c) (list_all is_no_capital name) none in λ i. small_letter c parts.0 i ∷ small_letters name parts.1 i
+small_letters [] all = refl
+small_letters (c ∷ name) all =
+    let parts = both_parts (is_no_capital c) (list_all is_no_capital name) all in
+    λ i. small_letter c parts.0 i ∷ small_letters name parts.1 i
 
 is_not : (b : Bool) → not b ≡ true → b ≡ false
 is_not true e = absurd cc
 is_not false e = refl
 
-pub named_call_expressed : {p : Profile} {tokens : List Token} {trees : List Node} {below : ℕ} (name : List ℕ) → is_called_name p.language name ≡ true → Listed p tokens trees below
-    → Expressed p 0 (t.Word (lowered name) ∷ in_parentheses tokens) (n.NamedCall name trees) (below + 1)
-named_call_expressed {p} {tokens} {trees} {below} name callable x =
-    let parts = both_parts (is_text_word name && list_all is_no_capital name) (is_absent (function_of_name p.language name) && not (is_lambda name)) callable in
-    let letters = both_parts (is_text_word name) (list_all is_no_capital name) parts.0 in
-    let others = both_parts (is_absent (function_of_name p.language name)) (not (is_lambda name)) parts.1 in
-    subst (λ (word : List ℕ). Expressed p 0 (t.Word word ∷ in_parentheses tokens) (n.NamedCall name trees) (below + 1)) (sym (small_letters name letters.1))
-    (with_called name None (absent (function_of_name p.language name) others.0) (is_not (is_lambda name) others.1) x)
+abbrev Called : Profile → List Token → ℕ → List ℕ → Node → Type 0
+Called p tokens below name tree = Expressed p 0 (t.Word name ∷ in_parentheses tokens) tree (below + 1)
+
+module _ {p : Profile} {tokens : List Token} {trees : List Node} {below : ℕ} where
+  with_called : (name : List ℕ) (function : Option Function) → function_of_name p.language name ≡ function → is_lambda name ≡ false
+      → Listed p tokens trees below
+      → Called p tokens below name (call_node function name trees)
+  with_called name function is is_no x = subst (λ (o : Option Function). Called p tokens below name (call_node o name trees)) is (call_expressed name is_no x)
+
+  pub function_call_expressed : (function : Function) → Listed p tokens trees below
+      → Called p tokens below (function_name p.language function) (n.Call function trees)
+  function_call_expressed function x =
+      with_called (function_name p.language function) (Some function) (function_of_name-function_name p.language function) (no_lambda p.language function) x
+
+  pub named_call_expressed : (name : List ℕ) → is_called_name p.language name ≡ true → Listed p tokens trees below
+      → Called p tokens below (lowered name) (n.NamedCall name trees)
+  named_call_expressed name callable x =
+      let parts =
+      both_parts (is_text_word name && list_all is_no_capital name) (is_absent (function_of_name p.language name) && not (is_lambda name)) callable in
+      let letters = both_parts (is_text_word name) (list_all is_no_capital name) parts.0 in
+      let others = both_parts (is_absent (function_of_name p.language name)) (not (is_lambda name)) parts.1 in
+      subst (λ (spelled : List ℕ). Called p tokens below spelled (n.NamedCall name trees)) (sym (small_letters name letters.1))
+      (with_called name None (absent (function_of_name p.language name) others.0) (is_not (is_lambda name) others.1) x)

@@ -9,5 +9,4 @@ ghost use Rattle.formula_round.specs.Tokens.{tokens_of};
 #[tactic(auto, using(crate::proofs::Derived::tokens_derive))]
 pub fn normal_trees_are_derived()
     ensures derived { (profile : AnyProfile) (tree : Tree) → is_normal profile.place profile.language tree ≡ true → Derives profile (tokens_of profile tree) tree }
-{
-}
+{}

@@ -1,5 +1,5 @@
 -- Reading a tree from tokens, as a function.
-use Rattle.std.specs.Prelude.{ℕ, zero, suc, ◌-◌, Bool, true, false, not, if◌then◌else◌, ◌==◌, nat_le, List, [], ◌∷◌, ◌++◌, length, Option, Some, None, option_map, Result, Ok, Err}
+use Rattle.std.specs.Prelude.{ℕ, zero, suc, ◌-◌, Bool, true, false, not, if◌then◌else◌, ◌==◌, nat_le, List, [], ◌∷◌, ◌++◌, length, Option, Some, None, option_map, option_and_then, Result, Ok, Err}
 use Rattle.base_values.specs.declared.Position.{Position}
 use Rattle.base_values.specs.declared.EditError.{EditError}
 use Rattle.base_tables.specs.declared.Locale.{Locale}
@@ -9,21 +9,26 @@ use Rattle.formula_tree.specs.declared.array_item.ArrayItem.{ArrayItem}
 use Rattle.formula_tree.specs.declared.array_item.ArrayItem.TheVariants as entry
 use Rattle.formula_tree.specs.declared.node.Node.{Node}
 use Rattle.formula_tree.specs.declared.node.Node.TheVariants as n
-use Rattle.formula_tree.specs.declared.operator.CompareKind.{CompareKind}
 use Rattle.formula_tree.specs.declared.operator.CompareKind.TheVariants as compare_kind
-use Rattle.formula_tree.specs.declared.operator.ProductKind.{ProductKind}
 use Rattle.formula_tree.specs.declared.operator.ProductKind.TheVariants as product_kind
-use Rattle.formula_tree.specs.declared.operator.SumKind.{SumKind}
 use Rattle.formula_tree.specs.declared.operator.SumKind.TheVariants as sum_kind
 use Rattle.formula_tree.specs.declared.operator.UnaryKind.TheVariants as unary
 use Rattle.formula_tree.specs.declared.parameter.Parameter.{Parameter}
 use Rattle.formula_tree.specs.Depth.{depth_of}
 use Rattle.formula_grammar.specs.declared.after_item.AfterItem.{AfterItem}
 use Rattle.formula_grammar.specs.declared.after_item.AfterItem.TheVariants as after
+use Rattle.formula_levels.specs.declared.infix.Infix.TheVariants as between
+use Rattle.formula_levels.specs.declared.postfix.Postfix.TheVariants as postfix
+use Rattle.formula_levels.specs.declared.prefix.Prefix.{Prefix}
+use Rattle.formula_levels.specs.declared.prefix.Prefix.TheVariants as prefix
+use Rattle.formula_levels.specs.Levels.{infix_node, prefix_node, postfix_node}
+use Rattle.formula_grammar.specs.declared.operator.Operator.{Operator}
+use Rattle.formula_grammar.specs.declared.operator.Operator.TheVariants as operator
 use Rattle.formula_grammar.specs.declared.profile.Profile.{Profile}
 use Rattle.formula_grammar.specs.declared.token.CellMark.{CellMark}
 use Rattle.formula_grammar.specs.declared.token.Token.{Token}
 use Rattle.formula_grammar.specs.declared.token.Token.TheVariants as t
+use Rattle.formula_grammar.specs.Operators.{infix_under, prefix_under, postfix_under}
 use Rattle.formula_grammar.specs.Words.{has_point, is_lambda, called, worded, mark_place, corner_of, range_node, negated, are_even}
 
 -- what was read, and the tokens after it
@@ -61,44 +66,48 @@ make tree = λ ts. with_rest ts (made tree)
 
 -- ---- tokens
 
-abbrev pub compare_sign : Parser CompareKind
-compare_sign (t.Equal ∷ ts) = Some (compare_kind.Equal, ts)
-compare_sign (t.NotEqual ∷ ts) = Some (compare_kind.NotEqual, ts)
-compare_sign (t.Less ∷ ts) = Some (compare_kind.Less, ts)
-compare_sign (t.LessOrEqual ∷ ts) = Some (compare_kind.LessOrEqual, ts)
-compare_sign (t.Greater ∷ ts) = Some (compare_kind.Greater, ts)
-compare_sign (t.GreaterOrEqual ∷ ts) = Some (compare_kind.GreaterOrEqual, ts)
-compare_sign _ = None
+-- the operator that the token is
+abbrev pub operator_of : Token → Option Operator
+operator_of t.Equal = Some (operator.Infix (between.Compare compare_kind.Equal))
+operator_of t.NotEqual = Some (operator.Infix (between.Compare compare_kind.NotEqual))
+operator_of t.Less = Some (operator.Infix (between.Compare compare_kind.Less))
+operator_of t.LessOrEqual = Some (operator.Infix (between.Compare compare_kind.LessOrEqual))
+operator_of t.Greater = Some (operator.Infix (between.Compare compare_kind.Greater))
+operator_of t.GreaterOrEqual = Some (operator.Infix (between.Compare compare_kind.GreaterOrEqual))
+operator_of t.Ampersand = Some (operator.Infix between.Concatenate)
+operator_of t.Plus = Some (operator.Infix (between.Sum sum_kind.Add))
+operator_of t.Minus = Some (operator.Infix (between.Sum sum_kind.Subtract))
+operator_of t.Times = Some (operator.Infix (between.Product product_kind.Multiply))
+operator_of t.Divide = Some (operator.Infix (between.Product product_kind.Divide))
+operator_of t.Power = Some (operator.Infix between.Power)
+operator_of t.Colon = Some (operator.Infix between.Colon)
+operator_of t.Percent = Some (operator.Postfix postfix.Percent)
+operator_of t.Hash = Some (operator.Postfix postfix.Spill)
+operator_of _ = None
 
-abbrev pub ampersand : Parser (Unit {0})
-ampersand (t.Ampersand ∷ ts) = Some (tt, ts)
-ampersand _ = None
+-- the sign that the token is
+abbrev pub sign_of : Token → Option Prefix
+sign_of t.Minus = Some prefix.Minus
+sign_of t.Plus = Some prefix.Plus
+sign_of t.At = Some prefix.At
+sign_of _ = None
 
-abbrev pub sum_sign : Parser SumKind
-sum_sign (t.Plus ∷ ts) = Some (sum_kind.Add, ts)
-sum_sign (t.Minus ∷ ts) = Some (sum_kind.Subtract, ts)
-sum_sign _ = None
+abbrev pub operator_under : Operator → ℕ
+operator_under (operator.Infix op) = infix_under op
+operator_under (operator.Postfix op) = postfix_under op
 
-abbrev pub product_sign : Parser ProductKind
-product_sign (t.Times ∷ ts) = Some (product_kind.Multiply, ts)
-product_sign (t.Divide ∷ ts) = Some (product_kind.Divide, ts)
-product_sign _ = None
+-- only where it has this level under it
+abbrev pub own : {Op : Type 0} → (Op → ℕ) → ℕ → Op → Option Op
+own under_of under op = if under_of op == under then Some op else None
 
-abbrev pub power_sign : Parser (Unit {0})
-power_sign (t.Power ∷ ts) = Some (tt, ts)
-power_sign _ = None
+-- the operator with this level under it that stands here
+abbrev pub operator_at : ℕ → Parser Operator
+operator_at under [] = None
+operator_at under (x ∷ ts) = with_rest ts (option_and_then (own operator_under under) (operator_of x))
 
-abbrev pub percent_sign : Parser (Unit {0})
-percent_sign (t.Percent ∷ ts) = Some (tt, ts)
-percent_sign _ = None
-
-abbrev pub colon_sign : Parser (Unit {0})
-colon_sign (t.Colon ∷ ts) = Some (tt, ts)
-colon_sign _ = None
-
-abbrev pub hash : Parser (Unit {0})
-hash (t.Hash ∷ ts) = Some (tt, ts)
-hash _ = None
+-- the sign with this level under it that the token is
+abbrev pub sign_at : ℕ → Token → Option Prefix
+sign_at under x = option_and_then (own prefix_under under) (sign_of x)
 
 abbrev pub opening : Parser (Unit {0})
 opening (t.OpenParenthesis ∷ ts) = Some (tt, ts)
@@ -125,24 +134,32 @@ is_empty_here locale [] = false
 is_empty_here locale (t.CloseParenthesis ∷ ts) = true
 is_empty_here locale (x ∷ ts) = is_separator locale x
 
--- ---- operators of one level, which group to the left. The number bounds the turns: each makes the tree deeper.
+-- ---- what goes on behind a first operand, grouped to the left. The number bounds the turns: each makes the tree deeper.
 
-module _ {Op B : Type 0} (operator : Parser Op) (join : Op → Node → B → Node) (operand : Parser B) where
+module _ {Op : Type 0} (operator : Parser Op) (turn : Op → Node → Parser Node) where
   abbrev pub chain_step : (Node → Parser Node) → Node → List Token → Outcome Op → Outcome Node
   chain_step go_on left ts None = Some (left, ts)
-  chain_step go_on left ts (Some (op, rest)) = (do right ← operand; whole ← make (join op left right); go_on whole) rest
+  chain_step go_on left ts (Some (op, rest)) = and_then (turn op left rest) go_on
 
   unfoldable pub chain_from : ℕ → Node → Parser Node
   chain_from zero left ts = None
   chain_from (suc k) left ts = chain_step (chain_from k) left ts (operator ts)
 
--- a first operand, and the operators after it
-abbrev pub chain : {Op B : Type 0} → Parser Op → (Op → Node → B → Node) → Parser B → Parser Node → Parser Node
-chain operator join operand first = first >>= chain_from operator join operand 64
+-- ---- signs before an operand
 
--- nothing stands after a postfix
-abbrev pub nothing : Parser (Unit {0})
-nothing = pure tt
+-- behind a sign; a plus sign makes nothing
+abbrev pub make_signed : Prefix → Node → Parser Node
+make_signed prefix.Plus tree = pure tree
+make_signed op tree = make (prefix_node op tree)
+
+module _ (under : ℕ) (operand : Parser Node) where
+  abbrev pub signed_step : Outcome Node → Outcome Node → Option Prefix → Outcome Node
+  signed_step unsigned rest None = unsigned
+  signed_step unsigned rest (Some op) = and_then rest (make_signed op)
+
+  unfoldable pub signed : Parser Node
+  signed [] = operand []
+  signed (x ∷ ts) = signed_step (operand (x ∷ ts)) (signed ts) (sign_at under x)
 
 -- ---- arrays
 
@@ -210,7 +227,14 @@ range_at place sheet first second (Ok start) (Ok stop) = Some (range_node place 
 range_at place sheet first second (Ok start) (Err e) = None
 range_at place sheet first second (Err e) stop = None
 
--- ---- the rules. inner reads a whole one nest further in, with so many parentheses left to open.
+-- ---- the rules
+
+-- behind an operator, with an operand of the level under it
+abbrev pub turn : Parser Node → Operator → Node → Parser Node
+turn operand (operator.Infix op) left = do right ← operand; make (infix_node op left right)
+turn operand (operator.Postfix op) left = make (postfix_node op left)
+
+-- inner reads a whole one nest further in, with so many parentheses left to open.
 
 module _ (p : Profile) (inner : ℕ → Parser Node) (room : ℕ) where
   unfoldable pub enclosed : Parser Node
@@ -238,8 +262,12 @@ module _ (p : Profile) (inner : ℕ → Parser Node) (room : ℕ) where
   unfoldable pub function : Parser Node
   function = do all ← parameters p.locale; body ← inner room; closing; make (n.Lambda all body)
 
+  -- a call of what stands before
+  abbrev pub lambda_turn : Unit {0} → Node → Parser Node
+  lambda_turn _ left = do all ← arguments; make (n.LambdaCall left all)
+
   unfoldable pub lambda : Parser Node
-  lambda = chain opening (λ _. n.LambdaCall) arguments function
+  lambda = function >>= chain_from opening lambda_turn 64
 
   -- after a word and an opening parenthesis
   unfoldable pub call : List ℕ → Parser Node
@@ -261,44 +289,14 @@ module _ (p : Profile) (inner : ℕ → Parser Node) (room : ℕ) where
   primary (t.OpenBrace ∷ ts) = array p ts
   primary _ = None
 
-  unfoldable pub spill : Parser Node
-  spill = chain hash (λ _ tree _. n.Spill tree) nothing primary
-
-  unfoldable pub colon : Parser Node
-  colon = chain colon_sign (λ _. n.Colon) spill spill
-
-  unfoldable pub single : Parser Node
-  single (t.At ∷ ts) = and_then (single ts) (λ tree. make (n.ImplicitIntersection tree))
-  single ts = colon ts
-
-  unfoldable pub percent : Parser Node
-  percent = chain percent_sign (λ _ tree _. n.Unary unary.Percent tree) nothing single
-
-  -- a plus sign is dropped
-  unfoldable pub signed : Parser Node
-  signed (t.Minus ∷ ts) = and_then (signed ts) (λ tree. make (n.Unary unary.Minus tree))
-  signed (t.Plus ∷ ts) = signed ts
-  signed ts = percent ts
-
-  unfoldable pub power : Parser Node
-  power = chain power_sign (λ _. n.Power) signed signed
-
-  unfoldable pub product : Parser Node
-  product = chain product_sign n.Product power power
-
-  unfoldable pub sum : Parser Node
-  sum = chain sum_sign n.Sum product product
-
-  unfoldable pub concatenation : Parser Node
-  concatenation = chain ampersand (λ _. n.Concatenate) sum sum
-
-  unfoldable pub compare : Parser Node
-  compare = chain compare_sign n.Compare concatenation concatenation
+  unfoldable pub expression : ℕ → Parser Node
+  expression zero = primary
+  expression (suc under) = signed under (expression under) >>= chain_from (operator_at under) (turn (expression under)) 64
 
 -- a whole, with calls and parentheses nested no deeper than the first number, and no more open parentheses than the second
 unfoldable pub whole : Profile → ℕ → ℕ → Parser Node
 whole p zero room = λ ts. None
-whole p (suc nesting) room = compare p (whole p nesting) room
+whole p (suc nesting) room = expression p (whole p nesting) room 10
 
 abbrev pub if_last : Outcome Node → Option Node
 if_last (Some (tree, [])) = Some tree

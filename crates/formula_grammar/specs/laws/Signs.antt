@@ -1,22 +1,29 @@
 -- Signs before a tree, counted.
-use Rattle.std.specs.Prelude.{ℕ, zero, suc, List, ◌∷◌, Option, Some, option_and_then}
+use Rattle.std.specs.Prelude.{ℕ, zero, suc, ◌==◌, if◌then◌else◌, List, [], ◌∷◌, Option, Some, None, option_and_then}
+use Rattle.formula_levels.specs.declared.prefix.Prefix.{Prefix}
+use Rattle.formula_levels.specs.declared.prefix.Prefix.TheVariants.{Minus, Plus, At}
+use Rattle.formula_levels.specs.Levels.{prefix_node}
 use Rattle.formula_tree.specs.declared.node.Node.{Node}
 use Rattle.formula_grammar.specs.declared.token.Token.{Token}
-use Rattle.formula_grammar.specs.declared.token.Token.TheVariants as t
-use Rattle.formula_grammar.specs.laws.Reading.{made}
+use Rattle.formula_grammar.specs.Operators.{prefix_under}
+use Rattle.formula_grammar.specs.laws.Reading.{made, sign_at}
 
--- how many minus signs stand here, and what follows all signs
-abbrev pub signs : List Token → ℕ × List Token
-signs (t.Minus ∷ ts) = (suc (signs ts).0, (signs ts).1)
-signs (t.Plus ∷ ts) = signs ts
-signs ts = (0, ts)
+-- what a token adds to the count, where it is a sign
+abbrev pub counted : List Token → ℕ × List Token → Option Prefix → ℕ × List Token
+counted ts more None = (0, ts)
+counted ts more (Some Plus) = more
+counted ts more (Some op) = (suc more.0, more.1)
 
--- how many at signs stand here, and what follows them
-abbrev pub at_signs : List Token → ℕ × List Token
-at_signs (t.At ∷ ts) = (suc (at_signs ts).0, (at_signs ts).1)
-at_signs ts = (0, ts)
+-- how many signs with this level under them stand here that make a node, and what follows all signs
+abbrev pub signs : ℕ → List Token → ℕ × List Token
+signs under [] = (0, [])
+signs under (x ∷ ts) = counted (x ∷ ts) (signs under ts) (sign_at under x)
 
--- so many operators before the tree
-abbrev pub wrapped : (Node → Node) → ℕ → Node → Option Node
-wrapped operator zero tree = Some tree
-wrapped operator (suc k) tree = option_and_then (wrapped operator k) (made (operator tree))
+-- which sign each of them is
+abbrev pub making : ℕ → Prefix
+making under = if under == prefix_under At then At else Minus
+
+-- so many signs before the tree
+abbrev pub wrapped : Prefix → ℕ → Node → Option Node
+wrapped op zero tree = Some tree
+wrapped op (suc k) tree = option_and_then (wrapped op k) (made (prefix_node op tree))

@@ -9,4 +9,4 @@ returns-then-nesting-eq0 t c _ = let none : c.args.nesting ≡ 0 = omega arith i
 
 pub returns : goal.returns
 unfolding whole
-returns t c = rw (deeper (λ n. whole c.args.profile n c.args.room c.args.tokens.now.rest.now) c.args.nesting (omega arith)) c.compare.ensures
+returns t c = rw (deeper (λ n. whole c.args.profile n c.args.room c.args.tokens.now.rest.now) c.args.nesting (omega arith)) c.expression.ensures

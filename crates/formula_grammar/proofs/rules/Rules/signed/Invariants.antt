@@ -1,9 +1,6 @@
 use Rattle.std.proofs.Common.{◌≡◌, ◌-◌}
-use Rattle.formula_tree.specs.declared.node.Node.TheVariants as n
-use Rattle.formula_tree.specs.declared.operator.UnaryKind.TheVariants as unary
-use Rattle.formula_grammar.specs.laws.Reading.{with_rest, signed, whole}
-use Rattle.formula_grammar.specs.laws.Signs.{wrapped}
+use Rattle.formula_grammar.specs.laws.Signs.{sign_node, wrapped}
 use Rattle.formula_grammar.proofs.rules.Rules.signed.Given as goal
 
 abbrev pub invariant-loop-turn : goal.invariant-loop-turn
-invariant-loop-turn g l = signed l.self.profile (whole l.self.profile l.self.nesting) l.self.room l.fn.tokens.rest.now ≡ with_rest l.tokens.rest.now (wrapped (n.Unary unary.Minus) (l.count - l._turn) l.tree)
+invariant-loop-turn g l = wrapped (sign_node l.under) l.count l.fn.operand ≡ wrapped (sign_node l.under) (l.count - l._turn) l.tree

@@ -18,3 +18,4 @@ pub mod Leaves
 pub mod Corners
 pub mod Separated
 pub mod Printings
+pub mod Printed

@@ -1,6 +1,6 @@
 -- The printed text of a normal tree spells its tokens.
 use Rattle.std.proofs.Common.{◌≡◌, ℕ, Bool, true, false, List, [], ◌∷◌, ◌++◌, refl, sym, ap, subst, ◌∙◌, append_assoc}
-use Rattle.std.specs.Prelude.{pos, not, ◌&&◌, codes, encode_utf8, int_le, nat_le, map, flat_map, Option, None}
+use Rattle.std.specs.Prelude.{pos, not, ◌&&◌, codes, encode_utf8, if◌then◌else◌, int_le, nat_le, map, flat_map, Option, None}
 use Rattle.std.specs.List.{AllByRecursion, list_all}
 use Rattle.std.specs.Str.{chars, IsUtf8, is_utf8}
 use Rattle.std.proofs.lemmas.Bool.{and_from, and_parts}
@@ -10,10 +10,12 @@ use Rattle.base_tables.specs.declared.Function.{Function}
 use Rattle.base_tables.specs.Error.{error_text}
 use Rattle.base_tables.specs.Function.{function_name, function_of_name}
 use Rattle.base_tables.specs.Language.{boolean_text, boolean_of_text}
-use Rattle.base_tables.specs.Locale.{argument_separator}
+use Rattle.base_tables.specs.Locale.{decimal_sign, argument_separator}
 use Rattle.base_tables.specs.Tables.{lowered}
 use Rattle.base_tables.specs.Word.{is_word, reads_as_cell}
 use Rattle.base_decimal.specs.declared.Decimal.{Decimal}
+use Rattle.base_decimal.specs.Kept.{is_kept}
+use Rattle.base_decimal.specs.Printed.{printed as decimal_text}
 use Rattle.formula_tree.specs.declared.ArrayItem.{ArrayItem}
 use Rattle.formula_tree.specs.declared.Corner.{Corner}
 use Rattle.formula_tree.specs.declared.Node.{Node, map-Node}
@@ -27,7 +29,7 @@ use Rattle.formula_tree.specs.declared.SumKind.{SumKind}
 use Rattle.formula_tree.specs.declared.UnaryKind.{UnaryKind}
 use Rattle.formula_tree.specs.declared.UnaryKind.TheVariants.{Minus, Percent}
 use Rattle.formula_tree.specs.Corners.{is_inside}
-use Rattle.formula_tree.specs.Numbers.{has_kept_numbers, numbers_follow, numbers_layer}
+use Rattle.formula_tree.specs.Numbers.{lines_follow, has_kept_numbers, numbers_follow, numbers_layer}
 use Rattle.formula_tree.specs.Placed.{is_placed_range}
 use Rattle.formula_tree.specs.laws.Induction.{induct}
 use Rattle.formula_print.specs.declared.Infix.{Infix}
@@ -37,13 +39,13 @@ use Rattle.formula_print.specs.declared.Kind.TheVariants as k
 use Rattle.formula_print.specs.declared.Need.TheVariants as need
 use Rattle.formula_print.specs.Forms.{localized_style, localized_text}
 use Rattle.formula_print.specs.Kinds.{level_of, is_lambda, is_number_or_name}
-use Rattle.formula_print.specs.Pieces.{parameter_part}
-use Rattle.formula_print.specs.Print.{Printed, print_layer, printed, plainly, in_parentheses, operand, later_argument, arguments_text, call_text, infix_text, unary_kind, unary_text}
+use Rattle.formula_print.specs.Pieces.{doubled, text_constant, lines_text, array_text, parameter_part}
+use Rattle.formula_print.specs.Print.{Printed, print_layer, printed, plainly, in_parentheses, operand, later_argument, arguments_text, call_text, infix_text, colon_text, lambda_text, unary_kind, unary_text}
 use Rattle.formula_grammar.specs.declared.Profile.{Profile}
 use Rattle.formula_grammar.specs.declared.Token.{Token}
 use Rattle.formula_grammar.specs.declared.Token.TheVariants as t
 use Rattle.formula_grammar.specs.Grammar.{parameters_tokens}
-use Rattle.formula_grammar.specs.Normal.{Sort, empty, sum, lambda, other, Seen, is_empty, is_callee, operand as is_operand, arguments, right_of_sum, is_named, is_absent, is_text_word, is_plain_name, is_called_name, is_no_capital, is_constant, is_parameter, is_normal}
+use Rattle.formula_grammar.specs.Normal.{Sort, empty, sum, lambda, other, Seen, is_empty, is_callee, operand as is_operand, arguments, right_of_sum, is_named, is_absent, is_text_word, is_plain_name, is_called_name, is_no_capital, is_constant, is_table, is_parameter, is_normal}
 use Rattle.formula_grammar.specs.Words.{separator_token}
 use Rattle.formula_lex.specs.Characters.{Text}
 use Rattle.formula_lex.specs.Lexicon.{NoCell, IsTokens}
@@ -205,3 +207,222 @@ module _ (p : Profile) where
   arguments_part : (all : List Node) → AllByRecursion Good all → arguments (map (seen_of p) all) ≡ true → list_all (λ test. test) (map has_kept_numbers all) ≡ true
       → Own (NoColon p.locale) (arguments_text (style p) (map (printed (style p)) all)) (tokens.arguments_tokens p (map (tokened p) all))
   arguments_part all good normal kept = listed all (each_argued all good (each_fine all normal) kept)
+
+  -- ---- leaves
+
+  boolean_spelt : (value : Bool) → Piece p other (plainly k.Value (boolean_text p.language value)) (tokens.plainly k.Value (t.Word (boolean_text p.language value) ∷ []))
+  boolean_spelt value =
+      plain_piece p other k.Value _ _ refl
+      (before p.locale p.language (λ rest. is_followed p.locale rest ≡ true) (Shown k.Value) _ _ (boolean_part p.locale p.language value) (λ rest after. after.ended refl))
+      (letters_start (boolean_text p.language value) (boolean_letters p.language value))
+      (λ fit rest after. boolean_first p.locale p.language value rest (after.ended refl))
+
+  number_spelt : (value : Decimal) → int_le (pos 0) value.mantissa ≡ true → is_kept value ≡ true
+      → Piece p other (plainly k.Number (decimal_text (decimal_sign p.locale) value)) (tokens.plainly k.Number (t.Number value ∷ []))
+  number_spelt value low kept =
+      plain_piece p other k.Number _ _ refl
+      (before p.locale p.language (NoColon p.locale) (Shown k.Number) _ _ (number_part p.locale p.language value kept low) (λ rest after. after_clear p.locale k.Number rest refl refl after))
+      (number_first p.locale value kept low []).1
+      (λ fit rest after. (number_first p.locale value kept low rest).0)
+
+  text_spelt : (text : List ℕ) → is_utf8 text ≡ true → Piece p other (plainly k.Value (text_constant text)) (tokens.plainly k.Value (t.Text text ∷ []))
+  text_spelt text utf8 =
+      plain_piece p other k.Value _ _ refl
+      (before p.locale p.language (λ rest. is_followed p.locale rest ≡ true) (Shown k.Value) _ _ (text_part p.locale p.language text (IsUtf8-from_is_utf8 text utf8)) (λ rest after. after.ended refl))
+      (starts_with 34 (doubled text ++ codes "\"") refl refl)
+      (λ fit rest after. first_no_cell 34 (doubled text ++ codes "\"") rest (chars_front 34 _ refl) (no_cell_here 34 _ refl))
+
+  reference_spelt : (sheet : Option (List ℕ)) (corner : Corner) → is_named sheet && is_inside p.place corner ≡ true
+      → Piece p other (print_layer (style p) (layer.Reference sheet corner)) (tokens.token_layer p (layer.Reference sheet corner))
+  reference_spelt sheet corner normal =
+      let e = and_parts (is_named sheet) _ normal in
+      record {
+        same_kind = refl;
+        same_first = refl;
+        part = before p.locale p.language (AfterCell p.locale) (Shown k.Reference) _ _ (reference_part p.locale p.language p.place sheet corner e.0 e.1) (λ rest after. (after.ended refl, λ more is. (after.colon more is).1 refl));
+        starts = λ some. reference_starts p.place sheet corner e.0 e.1;
+        no_cell = λ some first fit rest after. reference_no_cell p.place sheet corner e.0 e.1 first rest;
+        callee = λ is. absurd cc;
+      }
+
+  range_spelt : (sheet : Option (List ℕ)) (first second : Corner) → is_named sheet && is_placed_range p.place first second ≡ true
+      → Piece p other (print_layer (style p) (layer.Range sheet first second)) (tokens.token_layer p (layer.Range sheet first second))
+  unfolding is_placed_range
+  range_spelt sheet first second normal =
+      let e = and_parts (is_named sheet) _ normal in
+      let inside = and_parts (is_inside p.place first) (is_inside p.place second) (and_parts _ _ e.1).0 in
+      record {
+        same_kind = refl;
+        same_first = refl;
+        part = before p.locale p.language (λ rest. is_followed p.locale rest ≡ true) (Shown k.Value) _ _ (range_part p.place first second inside.0 inside.1 p.locale p.language sheet e.0) (λ rest after. after.ended refl);
+        starts = λ some. range_starts p.place first second inside.0 inside.1 sheet e.0;
+        no_cell = λ some no_first fit rest after. range_no_cell p.place first second inside.0 inside.1 sheet e.0 no_first rest;
+        callee = λ is. absurd cc;
+      }
+
+  error_spelt : (error : Error) → Piece p other (plainly k.Other (error_text error)) (tokens.plainly k.Other (t.Error error ∷ []))
+  error_spelt error =
+      plain_piece p other k.Other _ _ refl (before p.locale p.language Anything (Shown k.Other) _ _ (error_part p.locale p.language error) (λ rest after. tt)) (error_first error []).1
+      (λ fit rest after. (error_first error rest).0)
+
+  name_spelt : (name : List ℕ) → is_plain_name p.language name ≡ true → Piece p other (plainly k.Name name) (tokens.plainly k.Name (t.Word name ∷ []))
+  name_spelt name normal =
+      let e = and_parts (is_text_word name) _ (and_parts (is_text_word name && not (reads_as_cell (chars name))) _ normal).0 in
+      let word = and_parts (is_utf8 name) _ e.0 in
+      let utf8 = IsUtf8-from_is_utf8 name word.0 in
+      let no_cell = not_true (reads_as_cell (chars name)) e.1 in
+      plain_piece p other k.Name _ _ refl
+      (before p.locale p.language (NoColon p.locale) (Shown k.Name) _ _ (name_part p.locale p.language name utf8 word.1 no_cell) (λ rest after. after_clear p.locale k.Name rest refl refl after))
+      (word_first (chars name) word.1)
+      (λ fit rest after. word_no_cell (chars name) rest (word_goes_on (chars name) word.1) no_cell (ends_cell p.locale rest (after.ended refl)))
+
+  array_spelt : (lines : List (List ArrayItem)) → is_table lines ≡ true → lines_follow Kept lines ≡ true → Piece p other (plainly k.Other (array_text (style p) lines)) (tokens.plainly k.Other (tokens.array_tokens p lines))
+  array_spelt lines normal kept =
+      plain_piece p other k.Other _ _ refl
+      (before p.locale p.language Anything (Shown k.Other) _ _ (array_part p lines (and_parts _ _ normal).1 kept) (λ rest after. tt))
+      (starts_with 123 (lines_text (style p) lines ++ codes "}") refl refl)
+      (λ fit rest after. first_no_cell 123 (lines_text (style p) lines ++ codes "}") rest (chars_front 123 _ refl) (no_cell_here 123 _ refl))
+
+  empty_spelt : Piece p empty (plainly k.Other []) (tokens.plainly k.Other [])
+  empty_spelt = record {
+    same_kind = refl;
+    same_first = refl;
+    part = nothing p.locale p.language (Shown k.Other);
+    starts = λ some. absurd cc;
+    no_cell = λ some first fit rest after. absurd cc;
+    callee = λ is. absurd cc;
+  }
+
+  -- ---- operators
+
+  colon_spelt : (a b : Node) → Two a b → Piece p other (plainly k.Colon (colon_text (printed (style p) a) (printed (style p) b))) (tokens.plainly k.Colon (tokens.colon_tokens (tokened p a) (tokened p b)))
+  colon_spelt a b two =
+      plain_piece p other k.Colon _ _ refl (colon_spelled p two.left.piece two.right.piece two.left.some two.right.some) (colon_starts p two.left.piece two.right.piece two.left.some two.right.some)
+      (λ fit rest after. absurd cc)
+
+  unary_spelt : (kind : UnaryKind) (a : Node) → Operand a
+      → Piece p other (plainly (unary_kind kind) (unary_text kind (printed (style p) a))) (tokens.plainly (unary_kind kind) (tokens.unary_tokens kind (tokened p a)))
+  unary_spelt Minus a x =
+      plain_piece p other k.Minus _ _ refl (minus_spelled p x.piece x.some) (starts_with 45 (operand need.Negated (printed (style p) a)) refl refl) (λ fit rest after. absurd cc)
+  unary_spelt Percent a x =
+      plain_piece p other k.Percent _ _ refl (percent_spelled p x.piece x.some) (postfix_starts p x.piece x.some (need.Level 7) (codes "%")) (λ fit rest after. absurd cc)
+
+  intersection_spelt : (a : Node) → Operand a
+      → Piece p other (plainly k.Intersection (codes "@" ++ operand (need.Level 8) (printed (style p) a))) (tokens.plainly k.Intersection (t.At ∷ tokens.operand (need.Level 8) (tokened p a)))
+  intersection_spelt a x =
+      plain_piece p other k.Intersection _ _ refl (at_spelled p x.piece x.some) (starts_with 64 (operand (need.Level 8) (printed (style p) a)) refl refl) (λ fit rest after. absurd cc)
+
+  spill_spelt : (a : Node) → Operand a
+      → Piece p other (record { kind = k.Spill; cell_first = (printed (style p) a).cell_first; text = operand (need.Level 10) (printed (style p) a) ++ codes "#" })
+        (record { kind = k.Spill; cell_first = (tokened p a).cell_first; tokens = tokens.operand (need.Level 10) (tokened p a) ++ t.Hash ∷ [] })
+  spill_spelt a x =
+      let piece = x.piece in
+      record {
+        same_kind = refl;
+        same_first = piece.same_first;
+        part = hash_spelled p x.piece x.some;
+        starts = λ some. postfix_starts p x.piece x.some (need.Level 10) (codes "#");
+        no_cell = λ some first fit rest after. hash_no_cell p x.piece x.some first rest;
+        callee = λ is. absurd cc;
+      }
+
+  -- ---- calls
+
+  function_spelt : (function : Function) (inner : List ℕ) (its : List Token) → Own (NoColon p.locale) inner its
+      → Piece p other (plainly k.Other (function_name p.language function ++ in_parentheses inner)) (tokens.plainly k.Other ((t.Word (function_name p.language function) ∷ []) ++ tokens.in_parentheses its))
+  function_spelt function inner its arguments = let is = letters_word_of (function_name p.language function) (function_letters p.language function) in word_call (function_name p.language function) inner its is.0 is.1 arguments
+
+  named_spelt : (name : List ℕ) (inner : List ℕ) (its : List Token) → is_called_name p.language name ≡ true → Own (NoColon p.locale) inner its
+      → Piece p other (plainly k.Other (lowered name ++ in_parentheses inner)) (tokens.plainly k.Other ((t.Word (lowered name) ∷ []) ++ tokens.in_parentheses its))
+  named_spelt name inner its normal arguments =
+      let e = and_parts (is_text_word name) (list_all is_no_capital name) (and_parts (is_text_word name && list_all is_no_capital name) _ normal).0 in
+      let word = and_parts (is_utf8 name) _ e.0 in
+      subst (λ (z : List ℕ). Piece p other (plainly k.Other (z ++ in_parentheses inner)) (tokens.plainly k.Other ((t.Word z ∷ []) ++ tokens.in_parentheses its))) (sym (small_letters name e.1))
+      (word_call name inner its (IsUtf8-from_is_utf8 name word.0) word.1 arguments)
+
+  lambda_spelt : (parameters : List Parameter) (a : Node) → list_all is_parameter parameters ≡ true → Operand a
+      → Piece p lambda (plainly k.Lambda (lambda_text (style p) parameters (printed (style p) a))) (tokens.plainly k.Lambda (tokens.lambda_tokens p parameters (tokened p a)))
+  lambda_spelt parameters a normal x =
+      let piece = x.piece in
+      let names : List ℕ = flat_map (parameter_part p.locale) parameters in
+      let is = letters_word_of (codes "LAMBDA") refl in
+      let body = before p.locale p.language (Shown (printed (style p) a).kind) (NoColon p.locale) _ _ piece.part (clear_after p.locale (printed (style p) a).kind) in
+      let inner = joined p.locale p.language Anything (NoColon p.locale) names (printed (style p) a).text (parameters_tokens p parameters) (tokened p a).tokens (parameters_part p parameters normal) body (λ rest after. tt) in
+      lambda_piece p _ _
+      (call_spelled (codes "LAMBDA") (t.Word (codes "LAMBDA") ∷ []) (names ++ (printed (style p) a).text) (parameters_tokens p parameters ++ (tokened p a).tokens) (called_part p.locale p.language (codes "LAMBDA") is.0 is.1) inner)
+      (starts_with 76 (codes "AMBDA" ++ in_parentheses (names ++ (printed (style p) a).text)) refl refl)
+      (λ rest. called_first (codes "LAMBDA") ((names ++ (printed (style p) a).text) ++ codes ")") rest is.0 is.1)
+
+  -- a parenthesis may follow a lambda
+  opened : (kind : Kind) (rest : Text) → is_lambda kind ≡ true → Shown kind (40 ∷ rest)
+  opened kind rest is = record { ended = λ no. absurd (let x = sym is ∙ no in cc); colon = λ behind e. absurd cc }
+
+  applied_spelt : (a : Node) (inner : List ℕ) (its : List Token) → Operand a → is_callee (seen_of p a).sort ≡ true → Own (NoColon p.locale) inner its
+      → Piece p lambda (plainly k.Lambda (operand need.Callee (printed (style p) a) ++ in_parentheses inner)) (tokens.plainly k.Lambda (tokens.operand need.Callee (tokened p a) ++ tokens.in_parentheses its))
+  applied_spelt a inner its x callee arguments =
+      let piece = x.piece in
+      let is = piece.callee callee in
+      let text = operand need.Callee (printed (style p) a) in
+      let called = operand_part p x.piece need.Callee in
+      let plain : text ≡ (printed (style p) a).text = ap (λ (b : Bool). if b then (printed (style p) a).text else in_parentheses (printed (style p) a).text) is.0 in
+      let front = joined p.locale p.language (Fits p x.piece need.Callee) Anything text (codes "(") (tokens.operand need.Callee (tokened p a)) (t.OpenParenthesis ∷ []) called (open_part p.locale p.language)
+          (λ rest after fit. subst (λ (z : Text). Shown (printed (style p) a).kind (z ++ rest)) (sym (ascii_chars (codes "(") refl)) (opened (printed (style p) a).kind rest is.0)) in
+      lambda_piece p _ _ (call_spelled text (tokens.operand need.Callee (tokened p a)) inner its front arguments)
+      (starts_front text (in_parentheses inner) called.utf8 (operand_starts p x.piece x.some need.Callee))
+      (λ rest.
+      let tail : Text = chars (inner ++ codes ")") ++ rest in
+      let parts : chars (text ++ in_parentheses inner) ++ rest ≡ chars (printed (style p) a).text ++ (40 ∷ tail) =
+      ap (λ (z : Text). z ++ rest) (chars-append text (in_parentheses inner) called.utf8 ∙ ap (λ (z : Text). chars text ++ z) (chars_front 40 (inner ++ codes ")") refl))
+      ∙ append_assoc (chars text) (40 ∷ chars (inner ++ codes ")")) rest ∙ ap (λ (z : List ℕ). chars z ++ (40 ∷ tail)) plain in
+      subst (NoCell None) (sym parts) (piece.no_cell x.some is.1 (lambda_level (printed (style p) a).kind is.0) (40 ∷ tail) (opened (printed (style p) a).kind tail is.0)))
+
+  -- ---- every tree
+
+  good : (tree : Node) → Good tree
+  good = induct Good (record {
+    boolean = λ value. good_at (layer.Boolean value) _ (n.rolls-Boolean value) (λ fine kept. boolean_spelt value);
+    number = λ value. good_at (layer.Number value) _ (n.rolls-Number value) (λ fine kept. number_spelt value fine kept);
+    text = λ text. good_at (layer.Text text) _ (n.rolls-Text text) (λ fine kept. text_spelt text fine);
+    reference = λ sheet corner. good_at (layer.Reference sheet corner) _ (n.rolls-Reference sheet corner) (λ fine kept. reference_spelt sheet corner fine);
+    range = λ sheet first second. good_at (layer.Range sheet first second) _ (n.rolls-Range sheet first second) (λ fine kept. range_spelt sheet first second fine);
+    colon = λ a b x y. good_at (layer.Colon a b) _ (n.rolls-Colon a b) (λ fine kept. colon_spelt a b (two_of a b x y fine kept));
+    concatenate = λ a b x y. good_at (layer.Concatenate a b) _ (n.rolls-Concatenate a b) (λ fine kept. infix_piece op.Concatenate k.Concatenate other a b refl refl refl (two_of a b x y fine kept));
+    compare = λ kind a b x y. good_at (layer.Compare kind a b) _ (n.rolls-Compare kind a b) (λ fine kept. infix_piece (op.Compare kind) k.Compare other a b refl refl refl (two_of a b x y fine kept));
+    sum = λ kind a b x y. good_at (layer.Sum kind a b) _ (n.rolls-Sum kind a b)
+        (λ fine kept. infix_piece (op.Sum kind) k.Sum sum a b refl refl refl (two_of a b x y (and_parts (is_operand (seen_of p a) && is_operand (seen_of p b)) _ fine).0 kept));
+    product = λ kind a b x y. good_at (layer.Product kind a b) _ (n.rolls-Product kind a b) (λ fine kept. infix_piece (op.Product kind) k.Product other a b refl refl refl (two_of a b x y fine kept));
+    power = λ a b x y. good_at (layer.Power a b) _ (n.rolls-Power a b) (λ fine kept. infix_piece op.Power k.Power other a b refl refl refl (two_of a b x y fine kept));
+    unary = λ kind a x. good_at (layer.Unary kind a) _ (n.rolls-Unary kind a) (λ fine kept. unary_spelt kind a (operand_of a x fine kept));
+    call = λ function all x. good_at (layer.Call function all) _ (n.rolls-Call function all) (λ fine kept. function_spelt function _ _ (arguments_part all x fine kept));
+    named_call = λ name all x. good_at (layer.NamedCall name all) _ (n.rolls-NamedCall name all)
+        (λ fine kept. let e = and_parts (is_called_name p.language name) _ fine in named_spelt name _ _ e.0 (arguments_part all x e.1 kept));
+    array = λ lines. good_at (layer.Array lines) _ (n.rolls-Array lines) (λ fine kept. array_spelt lines fine kept);
+    name = λ name. good_at (layer.Name name) _ (n.rolls-Name name) (λ fine kept. name_spelt name fine);
+    error = λ error. good_at (layer.Error error) _ (n.rolls-Error error) (λ fine kept. error_spelt error);
+    parse_error = λ text. good_at (layer.ParseError text) _ (n.rolls-ParseError text) (λ fine kept. absurd cc);
+    empty_argument = good_at layer.EmptyArgument _ n.rolls-EmptyArgument (λ fine kept. empty_spelt);
+    spill = λ a x. good_at (layer.Spill a) _ (n.rolls-Spill a) (λ fine kept. spill_spelt a (operand_of a x fine kept));
+    lambda = λ parameters a x. good_at (layer.Lambda parameters a) _ (n.rolls-Lambda parameters a)
+        (λ fine kept. let e = and_parts (list_all is_parameter parameters) _ fine in lambda_spelt parameters a e.0 (operand_of a x e.1 kept));
+    lambda_call = λ a all x y. good_at (layer.LambdaCall a all) _ (n.rolls-LambdaCall a all)
+        (λ fine kept.
+        let e = and_parts (is_operand (seen_of p a) && is_callee (seen_of p a).sort) _ fine in
+        let f = and_parts (has_kept_numbers a) _ kept in
+        let g = and_parts (is_operand (seen_of p a)) _ e.0 in
+        applied_spelt a _ _ (operand_of a x g.0 f.0) g.1 (arguments_part all y e.1 f.1));
+    implicit_intersection = λ a x. good_at (layer.ImplicitIntersection a) _ (n.rolls-ImplicitIntersection a) (λ fine kept. intersection_spelt a (operand_of a x fine kept));
+  })
+
+  -- nothing may follow a formula
+  at_end : (kind : Kind) → Shown kind []
+  unfolding is_followed
+  at_end kind = record { ended = λ no. refl; colon = λ behind e. absurd cc }
+
+  -- the printed text of a normal tree is its tokens
+  pub text_is_tokens : (tree : Node) → is_normal p.place p.language tree ≡ true → has_kept_numbers tree ≡ true
+      → IsTokens p.locale p.language (chars (localized_text p.place p.locale p.language tree)) (tokens_of p tree)
+  unfolding is_normal localized_text
+  text_is_tokens tree normal kept =
+      let x = operand_of tree (good tree) (and_parts _ _ normal).1 kept in
+      let piece = x.piece in
+      whole p.locale p.language (Shown (printed (style p) tree).kind) (printed (style p) tree).text (tokened p tree).tokens piece.part (at_end (printed (style p) tree).kind)

@@ -20,7 +20,8 @@ use Rattle.formula_round.proofs.Derived.{tokens_derive}
 module _ (p : Profile) where
   -- a normal tree's text, if it spells the tree's tokens, is a formula with the tree
   pub spelled_formula : (tree : Node) → is_normal p.place p.language tree ≡ true
-      → IsTokens p.locale p.language (chars (localized_text p.place p.locale p.language tree)) (tokens_of p tree) → IsFormula p (localized_text p.place p.locale p.language tree) tree
+      → IsTokens p.locale p.language (chars (localized_text p.place p.locale p.language tree)) (tokens_of p tree)
+      → IsFormula p (localized_text p.place p.locale p.language tree) tree
   spelled_formula tree normal spelled = record { tokens = tokens_of p tree; spelled = spelled; derives = tokens_derive p tree normal }
 
   -- a formula is read as its tree
@@ -28,9 +29,12 @@ module _ (p : Profile) where
   formula_read text tree read formula = read.only tree formula
 
   abbrev TreesReadBack : Type 0
-  TreesReadBack = (tree : Node) → is_normal p.place p.language tree ≡ true → has_kept_numbers tree ≡ true → formula_of p (localized_text p.place p.locale p.language tree) ≡ tree
+  TreesReadBack =
+      (tree : Node) → is_normal p.place p.language tree ≡ true → has_kept_numbers tree ≡ true
+      → formula_of p (localized_text p.place p.locale p.language tree) ≡ tree
 
-  pub content_back : TreesReadBack → IsReadAgain → (content : Content) → is_normal_content p content ≡ true → IsKeptContent content → input_of p (input_text p content) ≡ content
+  pub content_back : TreesReadBack → IsReadAgain → (content : Content) → is_normal_content p content ≡ true → IsKeptContent content
+      → input_of p (input_text p content) ≡ content
   content_back trees others Empty normal kept = others p Empty refl kept
   content_back trees others (Number number) normal kept = others p (Number number) refl kept
   content_back trees others (Boolean value) normal kept = others p (Boolean value) refl kept

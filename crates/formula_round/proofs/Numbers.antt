@@ -33,7 +33,7 @@ use Rattle.formula_lex.specs.Lexicon.{IsNumber, starts_digit, NoCell}
 use Rattle.formula_round.proofs.Characters.{is_ascii, each_ascii, is_followed, ends_number, ends_cell}
 use Rattle.formula_round.proofs.Fronts.{weaker, all_joined, no_cell_here}
 use Rattle.formula_round.proofs.Words.{no_colon_no_range}
-use Rattle.formula_round.proofs.Parts.{Part, starts_operand, StartsOperand, ascii_chars, ascii_token}
+use Rattle.formula_round.proofs.Parts.{Part, NoColon, starts_operand, StartsOperand, ascii_chars, ascii_token}
 
 -- ---- the characters of a number
 
@@ -135,10 +135,6 @@ printed_plain mark plain_mark d kept low = by r.negative r.written
 
 -- ---- tokens
 
--- what may follow, but no colon
-abbrev pub NoColon : Locale → Text → Type 0
-NoColon locale rest = (is_followed locale rest ≡ true) × (stops (λ c. c == 58) rest ≡ true)
-
 plain_ascii : (c : ℕ) → plain c ≡ true → is_ascii c ≡ true
 unfolding plain
 plain_ascii c e = (and_parts (is_ascii c) _ e).0
@@ -147,7 +143,7 @@ plain_no_colon : (c : ℕ) → plain c ≡ true → not (c == 58) ≡ true
 unfolding plain
 plain_no_colon c e = (and_parts (is_ascii c) _ e).1
 
-module _ (locale : Locale) (language : Language) where
+module _ {locale : Locale} {language : Language} where
   pub number_part : (d : Decimal) → is_kept d ≡ true → int_le (pos 0) d.mantissa ≡ true → Part locale language (NoColon locale) (printed (decimal_sign locale) d) (t.Number d ∷ [])
   number_part d kept low =
       let text : Text = printed (decimal_sign locale) d in

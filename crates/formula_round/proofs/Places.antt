@@ -3,13 +3,14 @@ use Rattle.std.proofs.Common.{◌≡◌, ◌≢◌, ℕ, Bool, true, false, cond
 use Rattle.std.specs.Prelude.{not, ◌==◌, ◌||◌, ◌&&◌, encode_utf8_all, Option, Some, None}
 use Rattle.std.specs.List.{list_all}
 use Rattle.std.specs.Str.{chars, IsUtf8}
-use Rattle.std.proofs.lemmas.Bool.{and_from, and_parts}
+use Rattle.std.proofs.lemmas.Bool.{and_from, and_parts, or_parts, or_right}
 use Rattle.std.proofs.lemmas.Bool.Decides.{nat_tests}
 use Rattle.std.proofs.lemmas.Str.{encodes_same, encodes-chars, chars-encodes, scalars-chars}
 use lib.Utf8.{scalar, scalars}
 use Rattle.base_tables.specs.Column.{is_letter}
 use Rattle.base_tables.specs.Word.{is_digit, is_word, starts_word, goes_on_word, reads_as_cell, reads_as_row_column, needs_quotes, quoted_name}
 use Rattle.base_decimal.specs.Digits.{stops}
+use Rattle.base_decimal.proofs.Spans.{not_false}
 use Rattle.formula_grammar.specs.declared.CellMark.{CellMark}
 use Rattle.formula_lex.specs.Characters.{Text, is_blank, goes_on_place, doubled}
 use Rattle.formula_lex.specs.Lexicon.{IsColumn, IsRow, IsPair, IsCell, IsRange, IsSheetName, plain, quoted, IsMark, IsSheet, OnSheet, NoCell, NoRange}
@@ -121,10 +122,6 @@ sheet_no_range sheet name place named stop none a b z r parts is ends =
     let behind : place ≡ mark.blanks ++ (is.second ++ r) = cc in
     none a b is.second r (no_blanks mark.blanks (is.second ++ r) place behind mark.all_blank stop) (on_none (IsRange a b) is.second is.is_second) ends
 
-or_right : (a b : Bool) → b ≡ true → a || b ≡ true
-or_right true b e = refl
-or_right false b e = e
-
 -- no cell of no sheet begins with a sheet
 pub sheet_no_cell : (sheet name place : Text) → IsSheetName sheet name → NoCell None (name ++ (33 ∷ place))
 unfolding in_cell
@@ -159,16 +156,8 @@ name_by : (name : Text) → (b : Bool) → needs_quotes name ≡ b → (sheet : 
 name_by name true e sheet is some = quoted name refl some is
 name_by name false e sheet is some = plain (not_false (is_word name) k.0) k.1 is
   where
-    either : (a b : Bool) → a || b ≡ false → (a ≡ false) × (b ≡ false)
-    either true b e = absurd cc
-    either false b e = (refl, e)
-
-    not_false : (a : Bool) → not a ≡ false → a ≡ true
-    not_false true e = refl
-    not_false false e = absurd cc
-
     k : (not (is_word name) ≡ false) × (reads_as_cell name ≡ false)
-    k = let h = either (not (is_word name)) _ e in (h.0, (either (reads_as_cell name) _ h.1).0)
+    k = let h = or_parts (not (is_word name)) _ e in (h.0, (or_parts (reads_as_cell name) _ h.1).0)
 
 pub name_printed : (sheet : Text) → IsUtf8 sheet → sheet ≢ [] → IsSheetName sheet (quoted_name (chars sheet))
 unfolding quoted_name

@@ -89,7 +89,8 @@ unfolding may_follow
 follow_parts locale c e = let k = and_parts (follows c) _ e in (k.0, not_true _ k.1)
 
 -- a test that fails on all of them stops there
-stops_by : (locale : Locale) (p : ℕ → Bool) → ((c : ℕ) → may_follow locale c ≡ true → p c ≡ false) → (text : Text) → is_followed locale text ≡ true → stops p text ≡ true
+stops_by : (locale : Locale) (p : ℕ → Bool) → ((c : ℕ) → may_follow locale c ≡ true → p c ≡ false) → (text : Text) → is_followed locale text ≡ true
+    → stops p text ≡ true
 unfolding is_followed
 stops_by locale p h [] e = refl
 stops_by locale p h (c ∷ text) e = ap not (h c e)

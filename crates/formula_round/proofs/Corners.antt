@@ -25,7 +25,7 @@ use Rattle.formula_grammar.specs.declared.CellMark.{CellMark}
 use Rattle.formula_grammar.specs.declared.Token.TheVariants as t
 use Rattle.formula_grammar.specs.Normal.{is_named}
 use Rattle.formula_lex.specs.Characters.{Text, is_blank}
-use Rattle.formula_lex.specs.Lexicon.{dollar, IsColumn, IsRow, IsCell, IsRange, cells, columns, rows, on_row, on_column}
+use Rattle.formula_lex.specs.Lexicon.{dollar, IsColumn, IsRow, IsCell, IsSpan, IsRange, cells, columns, rows, on_row, on_column}
 use Rattle.formula_lex.specs.Lexicon.{IsSheetName, plain, quoted, OnSheet, NoCell, NoRange}
 use Rattle.formula_round.specs.Tokens.{mark_of}
 use Rattle.formula_round.proofs.Characters.{is_ascii, in_cell, ends_place, ends_cell}
@@ -206,7 +206,8 @@ module _ (place : Position) (sheet : Option (List ℕ)) (corner : Corner) (named
 
   pub reference_part : (locale : Locale) (language : Language)
       → Part locale language (AfterCell locale) (reference_text (Letters place) sheet corner) (t.Reference sheet (mark_of place corner) ∷ [])
-  reference_part locale language = same_text (sym reference_is) (cell_part locale language sheet (mark_of place corner) cell named (is_cell place corner inside))
+  reference_part locale language =
+      same_text (sym reference_is) (cell_part locale language sheet (mark_of place corner) cell named (is_cell place corner inside))
 
   pub reference_starts : StartsOperand (reference_text (Letters place) sheet corner)
   reference_starts =
@@ -214,14 +215,17 @@ module _ (place : Position) (sheet : Option (List ℕ)) (corner : Corner) (named
       subst StartsOperand (sym reference_is) (sheet_starts sheet cell named ascii (cell_starts (mark_of place corner) cell (is_cell place corner inside)))
 
 no_reference_cell : (place : Position) (sheet : Option (List ℕ)) (corner : Corner) → is_named sheet ≡ true → is_inside place corner ≡ true
-    → print.reference_cell_first (Letters place) sheet corner ≡ false → (rest : Text) → NoCell None (chars (sheet_text sheet ++ cell_text corner (spot place corner)) ++ rest)
+    → print.reference_cell_first (Letters place) sheet corner ≡ false → (rest : Text)
+    → NoCell None (chars (sheet_text sheet ++ cell_text corner (spot place corner)) ++ rest)
 unfolding print.reference_cell_first
 no_reference_cell place None corner named inside first rest = absurd (let x = sym (there place corner inside) in cc)
-no_reference_cell place (Some sheet) corner named inside first rest = named_no_cell sheet (cell_text corner (spot place corner)) rest named (cell_ascii place corner inside)
+no_reference_cell place (Some sheet) corner named inside first rest =
+    named_no_cell sheet (cell_text corner (spot place corner)) rest named (cell_ascii place corner inside)
 
 -- a reference begins with a cell of no sheet only where it says so
 pub reference_no_cell : (place : Position) (sheet : Option (List ℕ)) (corner : Corner) → is_named sheet ≡ true → is_inside place corner ≡ true
-    → print.reference_cell_first (Letters place) sheet corner ≡ false → (rest : Text) → NoCell None (chars (reference_text (Letters place) sheet corner) ++ rest)
+    → print.reference_cell_first (Letters place) sheet corner ≡ false → (rest : Text)
+    → NoCell None (chars (reference_text (Letters place) sheet corner) ++ rest)
 reference_no_cell place sheet corner named inside first rest =
     let is = reference_is place sheet corner named inside in
     subst (λ (x : List ℕ). NoCell None (chars x ++ rest)) (sym is) (no_reference_cell place sheet corner named inside first rest)
@@ -231,7 +235,8 @@ reference_no_cell place sheet corner named inside first rest =
 same_int : (x y : ℤ) → int_eq x y ≡ true → x ≡ y
 same_int x y e = grind (arith, ints, nat_tests)
 
-on_that_column : (place : Position) (corner : Corner) (n : ℤ) → corner.absolute_column ≡ true → int_eq corner.column n ≡ true → on_column n (mark_of place corner)
+on_that_column : (place : Position) (corner : Corner) (n : ℤ) → corner.absolute_column ≡ true → int_eq corner.column n ≡ true
+    → on_column n (mark_of place corner)
 unfolding corner_column
 on_that_column place corner n absolute is = λ i. record {
   absolute_row = corner.absolute_row;
@@ -269,6 +274,9 @@ whole_rows_on place first second e =
 
 -- ---- ranges
 
+span : (First Second : Text → Type 0) (left right : Text) → First left → Second right → IsSpan First Second (with_colon left right)
+span First Second left right is at = record { first = left; second = right; parts = refl; is_first = is; is_second = at }
+
 span_ascii : (left right : Text) → list_all in_cell left ≡ true → list_all in_cell right ≡ true → list_all is_ascii (with_colon left right) ≡ true
 span_ascii left right first second = all_joined is_ascii left (58 ∷ right) (all_ascii left first) (and_from (is_ascii 58) _ refl (all_ascii right second))
 
@@ -296,7 +304,8 @@ module _ (place : Position) (first second : Corner) (here : is_inside place firs
   corners_is = is (is_whole_columns first second) (is_whole_rows first second)
     where
       is : (all_columns all_rows : Bool)
-          → (if all_columns then corners_by true true else (if all_rows then corners_by false true else corners_by false false)) ≡ corners_by all_columns all_rows
+          → (if all_columns then corners_by true true else (if all_rows then corners_by false true else corners_by false false))
+            ≡ corners_by all_columns all_rows
       is true all_rows = refl
       is false true = refl
       is false false = refl
@@ -305,31 +314,30 @@ module _ (place : Position) (first second : Corner) (here : is_inside place firs
     is_range : IsRange a b s
     ascii : list_all is_ascii s ≡ true
 
-  cornered_by : (all_columns all_rows : Bool) → is_whole_columns first second ≡ all_columns → is_whole_rows first second ≡ all_rows → Cornered (corners_by all_columns all_rows)
+  cornered_by : (all_columns all_rows : Bool) → is_whole_columns first second ≡ all_columns → is_whole_rows first second ≡ all_rows
+      → Cornered (corners_by all_columns all_rows)
   unfolding corners_by
   cornered_by true all_rows e f =
       let on = whole_columns_on place first second e in
       let left = is_row place first here in
       let right = is_row place second also in
-      record {
-        is_range = rows (record { first = row_text first from; second = row_text second to; parts = refl; is_first = left; is_second = right }) on.0 on.1;
-        ascii = span_ascii (row_text first from) (row_text second to) (row_in_cell a.absolute_row a.row _ left) (row_in_cell b.absolute_row b.row _ right);
-      }
+      let left_in = row_in_cell a.absolute_row a.row _ left in
+      let right_in = row_in_cell b.absolute_row b.row _ right in
+      let both = span (IsRow a) (IsRow b) (row_text first from) (row_text second to) left right in
+      record { is_range = rows both on.0 on.1; ascii = span_ascii (row_text first from) (row_text second to) left_in right_in }
   cornered_by false true e f =
       let on = whole_rows_on place first second f in
       let left = is_column place first here in
       let right = is_column place second also in
-      record {
-        is_range = columns (record { first = column_text first from; second = column_text second to; parts = refl; is_first = left; is_second = right }) on.0 on.1;
-        ascii = span_ascii (column_text first from) (column_text second to) (column_in_cell a.absolute_column a.column _ left) (column_in_cell b.absolute_column b.column _ right);
-      }
+      let left_in = column_in_cell a.absolute_column a.column _ left in
+      let right_in = column_in_cell b.absolute_column b.column _ right in
+      let both = span (IsColumn a) (IsColumn b) (column_text first from) (column_text second to) left right in
+      record { is_range = columns both on.0 on.1; ascii = span_ascii (column_text first from) (column_text second to) left_in right_in }
   cornered_by false false e f =
       let left = is_cell place first here in
       let right = is_cell place second also in
-      record {
-        is_range = cells (record { first = cell_text first from; second = cell_text second to; parts = refl; is_first = left; is_second = right });
-        ascii = span_ascii (cell_text first from) (cell_text second to) (cell_in_cell a _ left) (cell_in_cell b _ right);
-      }
+      let both = span (IsCell a) (IsCell b) (cell_text first from) (cell_text second to) left right in
+      record { is_range = cells both; ascii = span_ascii (cell_text first from) (cell_text second to) (cell_in_cell a _ left) (cell_in_cell b _ right) }
 
   cornered : Cornered (corners_text first from second to)
   cornered = subst Cornered (sym corners_is) (cornered_by (is_whole_columns first second) (is_whole_rows first second) refl refl)
@@ -338,15 +346,18 @@ module _ (place : Position) (first second : Corner) (here : is_inside place firs
   unfolding corners_by in_cell
   shortened_by true all_rows e rest =
       let behind : Text = 58 ∷ row_text second to in
-      subst (NoCell None) (sym (append_assoc (row_text first from) behind rest)) (row_no_cell a (row_text first from) (behind ++ rest) (is_row place first here) refl)
+      subst (NoCell None) (sym (append_assoc (row_text first from) behind rest))
+      (row_no_cell a (row_text first from) (behind ++ rest) (is_row place first here) refl)
   shortened_by false true e rest =
       let behind : Text = 58 ∷ column_text second to in
-      subst (NoCell None) (sym (append_assoc (column_text first from) behind rest)) (column_no_cell a (column_text first from) (behind ++ rest) (is_column place first here) refl)
+      subst (NoCell None) (sym (append_assoc (column_text first from) behind rest))
+      (column_no_cell a (column_text first from) (behind ++ rest) (is_column place first here) refl)
   shortened_by false false e rest = absurd cc
 
   -- no cell begins with whole rows or columns
   shortened : is_whole_rows first second || is_whole_columns first second ≡ true → (rest : Text) → NoCell None (corners_text first from second to ++ rest)
-  shortened e rest = subst (λ (x : Text). NoCell None (x ++ rest)) (sym corners_is) (shortened_by (is_whole_columns first second) (is_whole_rows first second) e rest)
+  shortened e rest =
+      subst (λ (x : Text). NoCell None (x ++ rest)) (sym corners_is) (shortened_by (is_whole_columns first second) (is_whole_rows first second) e rest)
 
   range_is : (sheet : Option (List ℕ)) → range_text (Letters place) sheet first second ≡ sheet_text sheet ++ corners_text first from second to
   unfolding range_text
@@ -363,7 +374,8 @@ module _ (place : Position) (first second : Corner) (here : is_inside place firs
       subst StartsOperand (sym (range_is sheet)) (sheet_starts sheet (corners_text first from second to) named cornered.ascii starts)
 
   -- where both corners are there, only whole rows or columns begin with no cell
-  short_by : (o q : Option Position) → o ≡ Some from → q ≡ Some to → (short : Bool) → print.is_there o && not ((print.is_there o && print.is_there q) && short) ≡ false → short ≡ true
+  short_by : (o q : Option Position) → o ≡ Some from → q ≡ Some to → (short : Bool)
+      → print.is_there o && not ((print.is_there o && print.is_there q) && short) ≡ false → short ≡ true
   short_by o q is at true e = refl
   short_by o q is at false e = cc
 
@@ -376,4 +388,5 @@ module _ (place : Position) (first second : Corner) (here : is_inside place firs
       let is = ap chars (range_is None) ∙ ascii_chars (corners_text first from second to) cornered.ascii in
       subst (λ (x : Text). NoCell None (x ++ rest)) (sym is) (shortened short rest)
   range_no_cell (Some sheet) named no_first rest =
-      subst (λ (x : List ℕ). NoCell None (chars x ++ rest)) (sym (range_is (Some sheet))) (named_no_cell sheet (corners_text first from second to) rest named cornered.ascii)
+      subst (λ (x : List ℕ). NoCell None (chars x ++ rest)) (sym (range_is (Some sheet)))
+      (named_no_cell sheet (corners_text first from second to) rest named cornered.ascii)

@@ -9,7 +9,8 @@ use Rattle.std.proofs.lemmas.Bool.Decides.{nat_tests}
 use Rattle.std.proofs.lemmas.Str.{encode_ascii, encodes-append, encodes-chars, encodes-IsAscii, chars-append, chars-encodes, scalars-chars}
 use lib.Utf8.{encode, scalars}
 use Rattle.base_tables.specs.declared.Error.{Error}
-use Rattle.base_tables.specs.declared.Error.TheVariants.{Ref, Name, Value, DivisionByZero, NotAvailable, Number, General, NotImplemented, Spill, Calc, Circular, Null}
+use Rattle.base_tables.specs.declared.Error.TheVariants.{Ref, Name, Value, DivisionByZero, NotAvailable, Number, General, NotImplemented, Spill, Calc, Circular}
+use Rattle.base_tables.specs.declared.Error.TheVariants.{Null}
 use Rattle.base_tables.specs.declared.Function.{Function}
 use Rattle.base_tables.specs.declared.Function.TheVariants.{Sum}
 use Rattle.base_tables.specs.declared.Language.{Language}
@@ -40,9 +41,11 @@ use Rattle.formula_grammar.specs.Words.{separator_token, row_token}
 use Rattle.formula_lex.specs.Characters.{Text, goes_on_name, goes_on_place, doubled as doubled_by}
 use Rattle.formula_lex.specs.Lexicon.{row_of_name, NoCell, NoRange, NoError}
 use Rattle.formula_round.specs.Tokens.{infix_token}
-use Rattle.formula_round.proofs.Characters.{is_ascii, each_ascii, in_word, in_cell, ascii_word, ascii_starts, follows, follows_low, may_follow, follow_parts, is_followed, ends_place, ends_name, ends_text, ends_cell}
+use Rattle.formula_round.proofs.Characters.{is_ascii, each_ascii, in_word, in_cell, ascii_word, ascii_starts, follows, follows_low, may_follow, follow_parts}
+use Rattle.formula_round.proofs.Characters.{is_followed, ends_place, ends_name, ends_text, ends_cell}
 use Rattle.formula_round.proofs.Fronts.{weaker, no_cell_here}
-use Rattle.formula_round.proofs.Parts.{Part, Anything, Followed, NoColon, Follows, NoComparison, starts_operand, StartsOperand, chars_front, ascii_chars, ascii_utf8, one_token, ascii_token, joined}
+use Rattle.formula_round.proofs.Parts.{Part, Anything, Followed, NoColon, Follows, NoComparison, starts_operand, StartsOperand, chars_front, ascii_chars}
+use Rattle.formula_round.proofs.Parts.{ascii_utf8, one_token, ascii_token, joined}
 use Rattle.formula_round.proofs.Places.{doubled_scalars}
 use Rattle.formula_round.proofs.Words.{letters_word, word_goes_on, word_no_cell, word_no_cell_before, word_no_range, no_side_no_range}
 
@@ -59,7 +62,8 @@ letters_are_word (c ∷ s) e = let k = and_parts (is_letter c) _ e in letters_wo
 
 letters_ascii : (s : Text) → is_letters s ≡ true → list_all is_ascii s ≡ true
 letters_ascii [] e = refl
-letters_ascii (c ∷ s) e = let k = and_parts (is_letter c) _ e in and_from (is_ascii c) _ (low c k.0) (weaker (λ d. is_letter d || d == 46) is_ascii low_dot s k.1)
+letters_ascii (c ∷ s) e =
+    let k = and_parts (is_letter c) _ e in and_from (is_ascii c) _ (low c k.0) (weaker (λ d. is_letter d || d == 46) is_ascii low_dot s k.1)
   where
     low : (d : ℕ) → is_letter d ≡ true → is_ascii d ≡ true
     low d h = grind (arith, nat_tests, h)
@@ -193,7 +197,8 @@ no_error locale language rest ends error z r parts is stop = by z parts (error_h
         let first : d ≡ 35 = cc in
         let behind : rest ≡ b ∷ (y ++ r) = cc in
         let k = follow_parts locale b (sym (ap (is_followed locale) behind) ∙ ends) in
-        let x = sym h.parts ∙ ap (λ (w : ℕ). encode_utf8_all (w ∷ b ∷ y)) first ∙ encoded_first 35 (b ∷ y) (omega arith) ∙ ap (λ (w : List ℕ). 35 ∷ w) (encoded_first b y (follows_low b k.0)) in
+        let x = sym h.parts ∙ ap (λ (w : ℕ). encode_utf8_all (w ∷ b ∷ y)) first ∙ encoded_first 35 (b ∷ y) (omega arith)
+        ∙ ap (λ (w : List ℕ). 35 ∷ w) (encoded_first b y (follows_low b k.0)) in
         let same : h.second ≡ b = cc in
         let none : true ≡ false = sym k.0 ∙ ap follows (sym same) ∙ h.no_end in cc
 
@@ -207,7 +212,8 @@ error_first error rest =
     let is : chars (error_text error) ≡ 35 ∷ (h.second ∷ h.more) = ascii_chars (error_text error) (error_ascii error) ∙ h.parts in
     (subst (λ (s : Text). NoCell None (s ++ rest)) (sym is) (no_cell_here 35 (h.second ∷ h.more ++ rest) refl), ap starts_operand is)
 
-pub boolean_first : (locale : Locale) (language : Language) (value : Bool) (rest : Text) → is_followed locale rest ≡ true → NoCell None (chars (boolean_text language value) ++ rest)
+pub boolean_first : (locale : Locale) (language : Language) (value : Bool) (rest : Text) → is_followed locale rest ≡ true
+    → NoCell None (chars (boolean_text language value) ++ rest)
 boolean_first locale language value rest after =
     let word = boolean_text language value in
     let letters = boolean_letters language value in
@@ -219,8 +225,10 @@ pub called_first : (word tail : List ℕ) (rest : Text) → IsUtf8 word → is_w
 unfolding in_cell
 called_first word tail rest utf8 is =
     let parts : chars (word ++ (codes "(" ++ tail)) ++ rest ≡ chars word ++ (40 ∷ (chars tail ++ rest)) =
-    ap (λ (x : Text). x ++ rest) (chars-append word (codes "(" ++ tail) utf8 ∙ ap (λ (x : Text). chars word ++ x) (chars_front 40 tail refl)) ∙ append_assoc (chars word) (40 ∷ chars tail) rest in
-    subst (NoCell None) (sym parts) (word_no_cell_before (chars word) 40 (chars tail ++ rest) (word_goes_on (chars word) is) refl (or_right (goes_on_word 40) _ refl))
+    ap (λ (x : Text). x ++ rest) (chars-append word (codes "(" ++ tail) utf8 ∙ ap (λ (x : Text). chars word ++ x) (chars_front 40 tail refl))
+    ∙ append_assoc (chars word) (40 ∷ chars tail) rest in
+    subst (NoCell None) (sym parts)
+    (word_no_cell_before (chars word) 40 (chars tail ++ rest) (word_goes_on (chars word) is) refl (or_right (goes_on_word 40) _ refl))
 
 -- a word of letters is one in UTF-8
 pub letters_word_of : (word : List ℕ) → is_letters word ≡ true → IsUtf8 word × (is_word (chars word) ≡ true)
@@ -293,7 +301,8 @@ module _ {locale : Locale} {language : Language} where
   error_part error =
       let text = error_text error in
       let encoded = encodes-IsAscii text (each_ascii text (error_ascii error)) in
-      ascii_token locale language Anything (t.Error error) text (error_ascii error) (ap (error_of_text language) encoded ∙ error_of_text-error_text language error)
+      ascii_token locale language Anything (t.Error error) text (error_ascii error)
+      (ap (error_of_text language) encoded ∙ error_of_text-error_text language error)
       (λ rest after. tt)
 
   -- ---- texts
@@ -308,13 +317,15 @@ module _ {locale : Locale} {language : Language} where
       encodes-append inside (34 ∷ []) ∙ ap (λ (x : List ℕ). encode_utf8_all inside ++ x) (encoded_first 34 [] (omega arith)) in
       let spelled : encode_utf8_all characters ≡ text_constant text = encoded_first 34 (inside ++ 34 ∷ []) (omega arith) ∙ ap (λ (x : List ℕ). 34 ∷ x) closed in
       let same : chars (text_constant text) ≡ characters = ap chars (sym spelled) ∙ chars-encodes characters all in
-      one_token locale language (Followed locale) (t.Text text) (text_constant text) (characters, (all, spelled)) (chars text, same, sym (encodes-chars text utf8))
+      one_token locale language (Followed locale) (t.Text text) (text_constant text) (characters, (all, spelled))
+      (chars text, same, sym (encodes-chars text utf8))
       (ends_text locale)
 
   -- ---- words
 
   -- a word that reads as no cell, before no colon
-  pub name_part : (word : List ℕ) → IsUtf8 word → is_word (chars word) ≡ true → reads_as_cell (chars word) ≡ false → Part locale language (NoColon locale) word (t.Word word ∷ [])
+  pub name_part : (word : List ℕ) → IsUtf8 word → is_word (chars word) ≡ true → reads_as_cell (chars word) ≡ false
+      → Part locale language (NoColon locale) word (t.Word word ∷ [])
   name_part word utf8 is none =
       let all = word_goes_on (chars word) is in
       one_token locale language (NoColon locale) (t.Word word) word utf8 (is, sym (encodes-chars word utf8))
@@ -334,7 +345,8 @@ module _ {locale : Locale} {language : Language} where
       subst (λ (x : Text). NoRange None (s ++ x)) (sym after.1) (word_no_range s (40 ∷ after.0) all refl refl)))
 
   -- a word and the parenthesis behind it
-  pub called_part : (word : List ℕ) → IsUtf8 word → is_word (chars word) ≡ true → Part locale language Anything (word ++ codes "(") (t.Word word ∷ t.OpenParenthesis ∷ [])
+  pub called_part : (word : List ℕ) → IsUtf8 word → is_word (chars word) ≡ true
+      → Part locale language Anything (word ++ codes "(") (t.Word word ∷ t.OpenParenthesis ∷ [])
   called_part word utf8 is = joined (word_before word utf8 is) open_part (λ rest after. (rest, ap (λ (x : Text). x ++ rest) (ascii_chars (codes "(") refl)))
 
   pub boolean_part : (value : Bool) → Part locale language (Followed locale) (boolean_text language value) (t.Word (boolean_text language value) ∷ [])
@@ -352,7 +364,8 @@ module _ {locale : Locale} {language : Language} where
 
 -- ---- separators
 
-pub separator_part : (locale : Locale) (language : Language) → Part locale language Anything (encode_utf8 (argument_separator locale)) (separator_token locale ∷ [])
+pub separator_part : (locale : Locale) (language : Language)
+    → Part locale language Anything (encode_utf8 (argument_separator locale)) (separator_token locale ∷ [])
 unfolding encode
 separator_part in_locale.En language = ascii_token in_locale.En language Anything t.Comma (codes ",") refl refl (λ rest after. tt)
 separator_part in_locale.De language = ascii_token in_locale.De language Anything t.Semicolon (codes ";") refl refl (λ rest after. tt)

@@ -15,7 +15,8 @@ use Rattle.formula_round.proofs.Characters.{is_ascii, each_ascii, is_followed}
 -- before what may follow it, a text of bytes is these tokens
 pub record Part (locale : Locale) (language : Language) (After : Text → Type 0) (text : List ℕ) (tokens : List Token) : Type 0 where
   pub utf8 : IsUtf8 text
-  pub spells : (rest : Text) (more : List Token) → After rest → IsTokens locale language rest more → IsTokens locale language (chars text ++ rest) (tokens ++ more)
+  pub spells : (rest : Text) (more : List Token) → After rest → IsTokens locale language rest more
+      → IsTokens locale language (chars text ++ rest) (tokens ++ more)
 
 -- ---- what may follow
 
@@ -79,7 +80,8 @@ starts_with c text ascii e = ap starts_operand (chars_front c text ascii) ∙ e
 -- ---- parts
 
 -- one token
-pub one_token : (locale : Locale) (language : Language) (After : Text → Type 0) (x : Token) (text : List ℕ) → IsUtf8 text → Spells locale language x (chars text)
+pub one_token : (locale : Locale) (language : Language) (After : Text → Type 0) (x : Token) (text : List ℕ) → IsUtf8 text
+    → Spells locale language x (chars text)
     → ((rest : Text) → After rest → Ends locale language x (chars text) rest) → Part locale language After text (x ∷ [])
 one_token locale language After x text utf8 spells ends = record {
   utf8 = utf8;
@@ -88,7 +90,8 @@ one_token locale language After x text utf8 spells ends = record {
 }
 
 -- one token of ASCII
-pub ascii_token : (locale : Locale) (language : Language) (After : Text → Type 0) (x : Token) (text : List ℕ) → list_all is_ascii text ≡ true → Spells locale language x text
+pub ascii_token : (locale : Locale) (language : Language) (After : Text → Type 0) (x : Token) (text : List ℕ) → list_all is_ascii text ≡ true
+    → Spells locale language x text
     → ((rest : Text) → After rest → Ends locale language x text rest) → Part locale language After text (x ∷ [])
 ascii_token locale language After x text all spells ends =
     let same = ascii_chars text all in
@@ -96,14 +99,17 @@ ascii_token locale language After x text all spells ends =
     (λ rest after. subst (λ (s : Text). Ends locale language x s rest) (sym same) (ends rest after))
 
 moved : (locale : Locale) (language : Language) {t u : Text} {v w : List Token} → t ≡ u → v ≡ w → IsTokens locale language t v → IsTokens locale language u w
-moved locale language {t} {u} {v} {w} e f is = subst (λ (ts : List Token). IsTokens locale language u ts) f (subst (λ (k : Text). IsTokens locale language k v) e is)
+moved locale language {t} {u} {v} {w} e f is =
+    subst (λ (ts : List Token). IsTokens locale language u ts) f (subst (λ (k : Text). IsTokens locale language k v) e is)
 
 module _ {locale : Locale} {language : Language} where
   pub nothing : (After : Text → Type 0) → Part locale language After [] []
-  nothing After = record { utf8 = IsUtf8-nil; spells = λ rest more after is. subst (λ (x : Text). IsTokens locale language (x ++ rest) more) (sym chars-nil) is }
+  nothing After =
+      record { utf8 = IsUtf8-nil; spells = λ rest more after is. subst (λ (x : Text). IsTokens locale language (x ++ rest) more) (sym chars-nil) is }
 
   -- a part for what may follow in fewer cases
-  pub before : {A : Text → Type 0} {x : List ℕ} {s : List Token} (B : Text → Type 0) → ((rest : Text) → B rest → A rest) → Part locale language A x s → Part locale language B x s
+  pub before : {A : Text → Type 0} {x : List ℕ} {s : List Token} (B : Text → Type 0) → ((rest : Text) → B rest → A rest) → Part locale language A x s
+      → Part locale language B x s
   before B h part = record { utf8 = part.utf8; spells = λ rest more after is. part.spells rest more (h rest after) is }
 
   -- a part that anything may follow
@@ -116,12 +122,14 @@ module _ {locale : Locale} {language : Language} where
   joined {A} {B} {x} {y} {s} {z} first second h = record {
     utf8 = IsUtf8-append x y first.utf8 second.utf8;
     spells = λ rest more after is.
-        moved locale language (sym (ap (λ (t : Text). t ++ rest) (chars-append x y first.utf8) ∙ append_assoc (chars x) (chars y) rest)) (sym (append_assoc s z more))
+        moved locale language (sym (ap (λ (t : Text). t ++ rest) (chars-append x y first.utf8) ∙ append_assoc (chars x) (chars y) rest))
+        (sym (append_assoc s z more))
         (first.spells (chars y ++ rest) (z ++ more) (h rest after) (second.spells rest more after is));
   }
 
   -- the same where anything may follow the first one
-  pub in_turn : {B : Text → Type 0} {x y : List ℕ} {s z : List Token} → Part locale language Anything x s → Part locale language B y z → Part locale language B (x ++ y) (s ++ z)
+  pub in_turn : {B : Text → Type 0} {x y : List ℕ} {s z : List Token} → Part locale language Anything x s → Part locale language B y z
+      → Part locale language B (x ++ y) (s ++ z)
   in_turn first second = joined first second (λ rest after. tt)
 
   -- the same text, and the same tokens

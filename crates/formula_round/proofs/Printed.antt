@@ -63,13 +63,15 @@ use Rattle.formula_round.proofs.Named.{small_letters}
 use Rattle.formula_round.proofs.Numbers.{number_part, number_first}
 use Rattle.formula_round.proofs.Parts.{Part, Anything, NoColon, StartsOperand, starts_front, starts_with, chars_front, ascii_chars}
 use Rattle.formula_round.proofs.Parts.{nothing, before, anyhow, joined, in_turn, same_text, same_tokens, whole}
-use Rattle.formula_round.proofs.Printings.{After, clear_after, after_clear, Piece, operand_part, operand_starts, infix_spelled, infix_starts, colon_spelled, colon_starts}
+use Rattle.formula_round.proofs.Printings.{After, clear_after, after_clear, Piece, operand_part, operand_starts, infix_spelled, infix_starts, colon_spelled}
+use Rattle.formula_round.proofs.Printings.{colon_starts}
 use Rattle.formula_round.proofs.Printings.{minus_spelled, at_spelled, percent_spelled, hash_spelled, first_starts, hash_no_cell}
 use Rattle.formula_round.proofs.Separated.{style, plain_clear, separator_clear, listed_parts, array_part, parameters_part}
 use Rattle.formula_round.proofs.Trees.{seen_of}
 use Rattle.formula_round.proofs.Words.{word_goes_on, word_no_cell}
 
-first_no_cell : (c : ℕ) (text : List ℕ) (rest : Text) → chars (c ∷ text) ≡ c ∷ chars text → NoCell None (c ∷ (chars text ++ rest)) → NoCell None (chars (c ∷ text) ++ rest)
+first_no_cell : (c : ℕ) (text : List ℕ) (rest : Text) → chars (c ∷ text) ≡ c ∷ chars text → NoCell None (c ∷ (chars text ++ rest))
+    → NoCell None (chars (c ∷ text) ++ rest)
 first_no_cell c text rest is none = subst (λ (z : Text). NoCell None (z ++ rest)) (sym is) none
 
 lambda_level : (kind : Kind) → is_lambda kind ≡ true → nat_le 10 (level_of kind) ≡ true
@@ -91,7 +93,8 @@ module _ (p : Profile) where
 
   -- a tree of one kind
   plain_piece : {sort : Sort} {kind : Kind} {text : List ℕ} {its : List Token} → is_callee sort ≡ false → Spells (Shown kind) text its → StartsOperand text
-      → (nat_le 10 (level_of kind) ≡ true → (rest : Text) → Shown kind rest → NoCell None (chars text ++ rest)) → Piece p sort (plainly kind text) (tokens.plainly kind its)
+      → (nat_le 10 (level_of kind) ≡ true → (rest : Text) → Shown kind rest → NoCell None (chars text ++ rest))
+      → Piece p sort (plainly kind text) (tokens.plainly kind its)
   plain_piece no_callee part starts no_cell = record {
     same_kind = refl;
     same_first = refl;
@@ -102,7 +105,8 @@ module _ (p : Profile) where
   }
 
   -- what ends by itself: what may follow it says nothing
-  closed_piece : {kind : Kind} {text : List ℕ} {its : List Token} → Spells Anything text its → StartsOperand text → ((rest : Text) → NoCell None (chars text ++ rest))
+  closed_piece : {kind : Kind} {text : List ℕ} {its : List Token} → Spells Anything text its → StartsOperand text
+      → ((rest : Text) → NoCell None (chars text ++ rest))
       → Piece p other (plainly kind text) (tokens.plainly kind its)
   closed_piece {kind} part starts no_cell = plain_piece refl (anyhow (Shown kind) part) starts (λ fit rest after. no_cell rest)
 
@@ -139,8 +143,13 @@ module _ (p : Profile) where
     unfolding numbers_follow
     kept_at = fold_at (numbers_layer Kept) layer tree is
 
-    good_at : Spelt (layer_seen p layer) (numbers_layer Kept (map-Node Node Bool has_kept_numbers layer)) (print_layer (style p) (map-Node Node Printed text_of layer)) (layer_tokened p layer)
-        → Good tree
+    abbrev layer_kept : Bool
+    layer_kept = numbers_layer Kept (map-Node Node Bool has_kept_numbers layer)
+
+    abbrev layer_printed : Printed
+    layer_printed = print_layer (style p) (map-Node Node Printed text_of layer)
+
+    good_at : Spelt (layer_seen p layer) layer_kept layer_printed (layer_tokened p layer) → Good tree
     good_at claim = subst (λ (c : Type 0). c) (sym (λ i. Spelt (seen_at p layer tree is i) (kept_at i) (printed_at i) (tokened_at p layer tree is i))) claim
 
   -- an operand is no empty argument
@@ -157,7 +166,8 @@ module _ (p : Profile) where
     left : Operand a
     right : Operand b
 
-  two_of : (a b : Node) → Good a → Good b → is_operand (seen_of p a) && is_operand (seen_of p b) ≡ true → has_kept_numbers a && has_kept_numbers b ≡ true → Two a b
+  two_of : (a b : Node) → Good a → Good b → is_operand (seen_of p a) && is_operand (seen_of p b) ≡ true → has_kept_numbers a && has_kept_numbers b ≡ true
+      → Two a b
   two_of a b x y normal kept =
       let e = and_parts (is_operand (seen_of p a)) _ normal in
       let f = and_parts (has_kept_numbers a) _ kept in
@@ -165,10 +175,12 @@ module _ (p : Profile) where
 
   -- ---- leaves
 
-  boolean_spelt : (value : Bool) → Piece p other (plainly k.Value (boolean_text p.language value)) (tokens.plainly k.Value (t.Word (boolean_text p.language value) ∷ []))
+  boolean_spelt : (value : Bool)
+      → Piece p other (plainly k.Value (boolean_text p.language value)) (tokens.plainly k.Value (t.Word (boolean_text p.language value) ∷ []))
   boolean_spelt value =
       plain_piece refl (before (Shown k.Value) (λ rest after. after.ended refl) (boolean_part value))
-      (letters_start (boolean_text p.language value) (boolean_letters p.language value)) (λ fit rest after. boolean_first p.locale p.language value rest (after.ended refl))
+      (letters_start (boolean_text p.language value) (boolean_letters p.language value))
+      (λ fit rest after. boolean_first p.locale p.language value rest (after.ended refl))
 
   number_spelt : (value : Decimal) → int_le (pos 0) value.mantissa ≡ true → is_kept value ≡ true
       → Piece p other (plainly k.Number (decimal_text (decimal_sign p.locale) value)) (tokens.plainly k.Number (t.Number value ∷ []))
@@ -180,7 +192,8 @@ module _ (p : Profile) where
   text_spelt text utf8 =
       let inside : List ℕ = doubled text ++ codes "\"" in
       plain_piece refl (before (Shown k.Value) (λ rest after. after.ended refl) (text_part text (IsUtf8-from_is_utf8 text utf8)))
-      (starts_with 34 inside refl refl) (λ fit rest after. first_no_cell 34 inside rest (chars_front 34 inside refl) (no_cell_here 34 (chars inside ++ rest) refl))
+      (starts_with 34 inside refl refl)
+      (λ fit rest after. first_no_cell 34 inside rest (chars_front 34 inside refl) (no_cell_here 34 (chars inside ++ rest) refl))
 
   reference_spelt : (sheet : Option (List ℕ)) (corner : Corner) → is_named sheet && is_inside p.place corner ≡ true
       → Piece p other (print_layer (style p) (layer.Reference sheet corner)) (tokens.token_layer p (layer.Reference sheet corner))
@@ -189,7 +202,8 @@ module _ (p : Profile) where
       record {
         same_kind = refl;
         same_first = refl;
-        part = before (Shown k.Reference) (λ rest after. (after.ended refl, λ more is. (after.colon more is).1 refl)) (reference_part p.place sheet corner e.0 e.1 p.locale p.language);
+        part = before (Shown k.Reference) (λ rest after. (after.ended refl, λ more is. (after.colon more is).1 refl))
+            (reference_part p.place sheet corner e.0 e.1 p.locale p.language);
         starts = λ some. reference_starts p.place sheet corner e.0 e.1;
         no_cell = λ some first fit rest after. reference_no_cell p.place sheet corner e.0 e.1 first rest;
         callee = λ is. absurd cc;
@@ -218,8 +232,10 @@ module _ (p : Profile) where
       let e = and_parts (is_text_word name) _ (and_parts (is_text_word name && not (reads_as_cell (chars name))) _ normal).0 in
       let word = and_parts (is_utf8 name) _ e.0 in
       let none = not_true (reads_as_cell (chars name)) e.1 in
-      plain_piece refl (before (Shown k.Name) (λ rest after. after_clear k.Name rest refl refl after) (name_part name (IsUtf8-from_is_utf8 name word.0) word.1 none))
-      (word_first (chars name) word.1) (λ fit rest after. word_no_cell (chars name) rest (word_goes_on (chars name) word.1) none (ends_cell p.locale rest (after.ended refl)))
+      plain_piece refl
+      (before (Shown k.Name) (λ rest after. after_clear k.Name rest refl refl after) (name_part name (IsUtf8-from_is_utf8 name word.0) word.1 none))
+      (word_first (chars name) word.1)
+      (λ fit rest after. word_no_cell (chars name) rest (word_goes_on (chars name) word.1) none (ends_cell p.locale rest (after.ended refl)))
 
   array_spelt : (lines : List (List ArrayItem)) → is_table lines ≡ true → lines_follow Kept lines ≡ true
       → Piece p other (plainly k.Other (array_text (style p) lines)) (tokens.plainly k.Other (tokens.array_tokens p lines))
@@ -240,26 +256,34 @@ module _ (p : Profile) where
 
   -- ---- operators
 
-  infix_spelt : (operator : Infix) (kind : Kind) (sort : Sort) (a b : Node) → is_callee sort ≡ false → is_lambda kind ≡ false → nat_le 10 (level_of kind) ≡ false → Two a b
-      → Piece p sort (plainly kind (infix_text operator (text_of a) (text_of b))) (tokens.plainly kind (tokens.infix_tokens operator (tokened p a) (tokened p b)))
+  infix_spelt : (operator : Infix) (kind : Kind) (sort : Sort) (a b : Node) → is_callee sort ≡ false → is_lambda kind ≡ false
+      → nat_le 10 (level_of kind) ≡ false → Two a b
+      → Piece p sort (plainly kind (infix_text operator (text_of a) (text_of b)))
+        (tokens.plainly kind (tokens.infix_tokens operator (tokened p a) (tokened p b)))
   infix_spelt operator kind sort a b no_callee no_lambda loose two =
       let no_left = ap (λ (x : Bool). x && not (is_number_or_name kind)) loose in
       plain_piece no_callee (infix_spelled two.left.piece two.right.piece two.left.some two.right.some operator kind no_lambda no_left)
       (infix_starts two.left.piece two.right.piece two.left.some two.right.some operator) (λ fit rest after. absurd (let x = sym loose ∙ fit in cc))
 
-  colon_spelt : (a b : Node) → Two a b → Piece p other (plainly k.Colon (colon_text (text_of a) (text_of b))) (tokens.plainly k.Colon (tokens.colon_tokens (tokened p a) (tokened p b)))
+  colon_spelt : (a b : Node) → Two a b
+      → Piece p other (plainly k.Colon (colon_text (text_of a) (text_of b))) (tokens.plainly k.Colon (tokens.colon_tokens (tokened p a) (tokened p b)))
   colon_spelt a b two =
-      plain_piece refl (colon_spelled two.left.piece two.right.piece two.left.some two.right.some) (colon_starts two.left.piece two.right.piece two.left.some two.right.some)
+      plain_piece refl (colon_spelled two.left.piece two.right.piece two.left.some two.right.some)
+      (colon_starts two.left.piece two.right.piece two.left.some two.right.some)
       (λ fit rest after. absurd cc)
 
   unary_spelt : (kind : UnaryKind) (a : Node) → Operand a
       → Piece p other (plainly (unary_kind kind) (unary_text kind (text_of a))) (tokens.plainly (unary_kind kind) (tokens.unary_tokens kind (tokened p a)))
-  unary_spelt Minus a x = plain_piece refl (minus_spelled x.piece x.some) (starts_with 45 (operand need.Negated (text_of a)) refl refl) (λ fit rest after. absurd cc)
-  unary_spelt Percent a x = plain_piece refl (percent_spelled x.piece x.some) (first_starts x.piece x.some (need.Level 7) (codes "%")) (λ fit rest after. absurd cc)
+  unary_spelt Minus a x =
+      plain_piece refl (minus_spelled x.piece x.some) (starts_with 45 (operand need.Negated (text_of a)) refl refl) (λ fit rest after. absurd cc)
+  unary_spelt Percent a x =
+      plain_piece refl (percent_spelled x.piece x.some) (first_starts x.piece x.some (need.Level 7) (codes "%")) (λ fit rest after. absurd cc)
 
   intersection_spelt : (a : Node) → Operand a
-      → Piece p other (plainly k.Intersection (codes "@" ++ operand (need.Level 8) (text_of a))) (tokens.plainly k.Intersection (t.At ∷ tokens.operand (need.Level 8) (tokened p a)))
-  intersection_spelt a x = plain_piece refl (at_spelled x.piece x.some) (starts_with 64 (operand (need.Level 8) (text_of a)) refl refl) (λ fit rest after. absurd cc)
+      → Piece p other (plainly k.Intersection (codes "@" ++ operand (need.Level 8) (text_of a)))
+        (tokens.plainly k.Intersection (t.At ∷ tokens.operand (need.Level 8) (tokened p a)))
+  intersection_spelt a x =
+      plain_piece refl (at_spelled x.piece x.some) (starts_with 64 (operand (need.Level 8) (text_of a)) refl refl) (λ fit rest after. absurd cc)
 
   spill_spelt : (a : Node) → Operand a
       → Piece p other (record { kind = k.Spill; cell_first = (text_of a).cell_first; text = operand (need.Level 10) (text_of a) ++ codes "#" })
@@ -280,18 +304,22 @@ module _ (p : Profile) where
   abbrev Argued : Node → Type 0
   Argued a = Spells (NoColon p.locale) (text_of a).text (tokened p a).tokens
 
-  listed : (all : List Node) → AllByRecursion Argued all → Spells (NoColon p.locale) (arguments_text (style p) (map text_of all)) (tokens.arguments_tokens p (map (tokened p) all))
+  listed : (all : List Node) → AllByRecursion Argued all
+      → Spells (NoColon p.locale) (arguments_text (style p) (map text_of all)) (tokens.arguments_tokens p (map (tokened p) all))
   listed [] parts = nothing (NoColon p.locale)
   listed (first ∷ later) parts =
-      listed_parts p.locale p.language (NoColon p.locale) (encode_utf8 (argument_separator p.locale)) (separator_token p.locale) (separator_part p.locale p.language) (separator_clear p.locale)
+      listed_parts p.locale p.language (NoColon p.locale) (encode_utf8 (argument_separator p.locale)) (separator_token p.locale)
+      (separator_part p.locale p.language) (separator_clear p.locale)
       {text = λ (x : Node). (text_of x).text} {own = λ (x : Node). (tokened p x).tokens}
-      {texts = λ (xs : List Node). flat_map (later_argument (style p)) (map text_of xs)} {tokens = λ (xs : List Node). flat_map (tokens.later_argument p) (map (tokened p) xs)}
+      {texts = λ (xs : List Node). flat_map (later_argument (style p)) (map text_of xs)}
+      {tokens = λ (xs : List Node). flat_map (tokens.later_argument p) (map (tokened p) xs)}
       (record { no_text = refl; no_tokens = refl; more_text = λ x xs. refl; more_tokens = λ x xs. refl }) Argued (λ x part. part) first later parts.0 parts.1
 
   clear_part : (a : Node) → Piece p (seen_of p a).sort (text_of a) (tokened p a) → Argued a
   clear_part a piece = before (NoColon p.locale) (clear_after (text_of a).kind) piece.part
 
-  each_argued : (all : List Node) → AllByRecursion Good all → list_all (λ (x : Seen). x.is_fine) (map (seen_of p) all) ≡ true → list_all (λ test. test) (map has_kept_numbers all) ≡ true
+  each_argued : (all : List Node) → AllByRecursion Good all → list_all (λ (x : Seen). x.is_fine) (map (seen_of p) all) ≡ true
+      → list_all (λ test. test) (map has_kept_numbers all) ≡ true
       → AllByRecursion Argued all
   each_argued [] good fine kept = tt
   each_argued (a ∷ all) good fine kept =
@@ -304,7 +332,8 @@ module _ (p : Profile) where
   each_fine (a ∷ []) e = and_from (seen_of p a).is_fine _ (and_parts (seen_of p a).is_fine _ e).0 refl
   each_fine (a ∷ b ∷ all) e = e
 
-  arguments_part : (all : List Node) → AllByRecursion Good all → arguments (map (seen_of p) all) ≡ true → list_all (λ test. test) (map has_kept_numbers all) ≡ true
+  arguments_part : (all : List Node) → AllByRecursion Good all → arguments (map (seen_of p) all) ≡ true
+      → list_all (λ test. test) (map has_kept_numbers all) ≡ true
       → Spells (NoColon p.locale) (arguments_text (style p) (map text_of all)) (tokens.arguments_tokens p (map (tokened p) all))
   arguments_part all good normal kept = listed all (each_argued all good (each_fine all normal) kept)
 
@@ -317,32 +346,38 @@ module _ (p : Profile) where
     unfolding follows in_word
     call_spelled called front first =
         let closed = joined inside close_part (λ rest after. plain_clear p.locale 41 [] rest refl refl refl) in
-        same_tokens (append_assoc front (t.OpenParenthesis ∷ []) (its ++ t.CloseParenthesis ∷ [])) (same_text (append_assoc called (codes "(") (inner ++ codes ")")) (in_turn first closed))
+        same_tokens (append_assoc front (t.OpenParenthesis ∷ []) (its ++ t.CloseParenthesis ∷ []))
+        (same_text (append_assoc called (codes "(") (inner ++ codes ")")) (in_turn first closed))
 
     -- a call by a word
     word_spelt : (word : List ℕ) → IsUtf8 word → is_word (chars word) ≡ true
         → Piece p other (plainly k.Other (word ++ in_parentheses inner)) (tokens.plainly k.Other ((t.Word word ∷ []) ++ tokens.in_parentheses its))
     word_spelt word utf8 is =
-        closed_piece (call_spelled word (t.Word word ∷ []) (called_part word utf8 is)) (starts_front word (in_parentheses inner) utf8 (word_first (chars word) is))
+        closed_piece (call_spelled word (t.Word word ∷ []) (called_part word utf8 is))
+        (starts_front word (in_parentheses inner) utf8 (word_first (chars word) is))
         (λ rest. called_first word (inner ++ codes ")") rest utf8 is)
 
     function_spelt : (function : Function)
-        → Piece p other (plainly k.Other (function_name p.language function ++ in_parentheses inner)) (tokens.plainly k.Other ((t.Word (function_name p.language function) ∷ []) ++ tokens.in_parentheses its))
+        → Piece p other (plainly k.Other (function_name p.language function ++ in_parentheses inner))
+          (tokens.plainly k.Other ((t.Word (function_name p.language function) ∷ []) ++ tokens.in_parentheses its))
     function_spelt function =
         let is = letters_word_of (function_name p.language function) (function_letters p.language function) in
         word_spelt (function_name p.language function) is.0 is.1
 
     named_spelt : (name : List ℕ) → is_called_name p.language name ≡ true
-        → Piece p other (plainly k.Other (lowered name ++ in_parentheses inner)) (tokens.plainly k.Other ((t.Word (lowered name) ∷ []) ++ tokens.in_parentheses its))
+        → Piece p other (plainly k.Other (lowered name ++ in_parentheses inner))
+          (tokens.plainly k.Other ((t.Word (lowered name) ∷ []) ++ tokens.in_parentheses its))
     named_spelt name normal =
         let e = and_parts (is_text_word name) (list_all is_no_capital name) (and_parts (is_text_word name && list_all is_no_capital name) _ normal).0 in
         let word = and_parts (is_utf8 name) _ e.0 in
         let spelt = word_spelt name (IsUtf8-from_is_utf8 name word.0) word.1 in
-        subst (λ (z : List ℕ). Piece p other (plainly k.Other (z ++ in_parentheses inner)) (tokens.plainly k.Other ((t.Word z ∷ []) ++ tokens.in_parentheses its))) (sym (small_letters name e.1)) spelt
+        subst (λ (z : List ℕ). Piece p other (plainly k.Other (z ++ in_parentheses inner)) (tokens.plainly k.Other ((t.Word z ∷ []) ++ tokens.in_parentheses its)))
+        (sym (small_letters name e.1)) spelt
 
     -- a call of a lambda
     applied_spelt : (a : Node) → Operand a → is_callee (seen_of p a).sort ≡ true
-        → Piece p lambda (plainly k.Lambda (operand need.Callee (text_of a) ++ in_parentheses inner)) (tokens.plainly k.Lambda (tokens.operand need.Callee (tokened p a) ++ tokens.in_parentheses its))
+        → Piece p lambda (plainly k.Lambda (operand need.Callee (text_of a) ++ in_parentheses inner))
+          (tokens.plainly k.Lambda (tokens.operand need.Callee (tokened p a) ++ tokens.in_parentheses its))
     applied_spelt a x callee =
         let piece = x.piece in
         let is = piece.callee callee in
@@ -355,17 +390,20 @@ module _ (p : Profile) where
         let tail : Text = chars (inner ++ codes ")") in
         let characters : chars (text ++ in_parentheses inner) ≡ chars (text_of a).text ++ (40 ∷ tail) =
         chars-append text (in_parentheses inner) called.utf8 ∙ (λ i. chars (plain i) ++ chars_front 40 (inner ++ codes ")") refl i) in
-        lambda_piece (call_spelled text (tokens.operand need.Callee (tokened p a)) front) (starts_front text (in_parentheses inner) called.utf8 (operand_starts x.piece x.some need.Callee))
+        lambda_piece (call_spelled text (tokens.operand need.Callee (tokened p a)) front)
+        (starts_front text (in_parentheses inner) called.utf8 (operand_starts x.piece x.some need.Callee))
         (λ rest.
         let whole = ap (λ (z : Text). z ++ rest) characters ∙ append_assoc (chars (text_of a).text) (40 ∷ tail) rest in
         subst (NoCell None) (sym whole) (piece.no_cell x.some is.1 (lambda_level kind is.0) (40 ∷ (tail ++ rest)) (opened kind (tail ++ rest) is.0)))
 
   lambda_spelt : (parameters : List Parameter) (a : Node) → list_all is_parameter parameters ≡ true → Operand a
-      → Piece p lambda (plainly k.Lambda (lambda_text (style p) parameters (text_of a))) (tokens.plainly k.Lambda (tokens.lambda_tokens p parameters (tokened p a)))
+      → Piece p lambda (plainly k.Lambda (lambda_text (style p) parameters (text_of a)))
+        (tokens.plainly k.Lambda (tokens.lambda_tokens p parameters (tokened p a)))
   lambda_spelt parameters a normal x =
       let inner : List ℕ = flat_map (parameter_part p.locale) parameters ++ (text_of a).text in
       let is = letters_word_of (codes "LAMBDA") refl in
-      lambda_piece (call_spelled (in_turn (parameters_part p parameters normal) (clear_part a x.piece)) (codes "LAMBDA") (t.Word (codes "LAMBDA") ∷ []) (called_part (codes "LAMBDA") is.0 is.1))
+      let inside = in_turn (parameters_part p parameters normal) (clear_part a x.piece) in
+      lambda_piece (call_spelled inside (codes "LAMBDA") (t.Word (codes "LAMBDA") ∷ []) (called_part (codes "LAMBDA") is.0 is.1))
       (starts_with 76 (codes "AMBDA" ++ in_parentheses inner) refl refl) (λ rest. called_first (codes "LAMBDA") (inner ++ codes ")") rest is.0 is.1)
 
   -- ---- every tree
@@ -376,19 +414,23 @@ module _ (p : Profile) where
     number = λ value. good_at (layer.Number value) _ (n.rolls-Number value) (λ fine kept. number_spelt value fine kept);
     text = λ text. good_at (layer.Text text) _ (n.rolls-Text text) (λ fine kept. text_spelt text fine);
     reference = λ sheet corner. good_at (layer.Reference sheet corner) _ (n.rolls-Reference sheet corner) (λ fine kept. reference_spelt sheet corner fine);
-    range = λ sheet first second. good_at (layer.Range sheet first second) _ (n.rolls-Range sheet first second) (λ fine kept. range_spelt sheet first second fine);
+    range = λ sheet first second. good_at (layer.Range sheet first second) _ (n.rolls-Range sheet first second)
+        (λ fine kept. range_spelt sheet first second fine);
     colon = λ a b x y. good_at (layer.Colon a b) _ (n.rolls-Colon a b) (λ fine kept. colon_spelt a b (two_of a b x y fine kept));
     concatenate = λ a b x y. good_at (layer.Concatenate a b) _ (n.rolls-Concatenate a b)
         (λ fine kept. infix_spelt op.Concatenate k.Concatenate other a b refl refl refl (two_of a b x y fine kept));
     compare = λ kind a b x y. good_at (layer.Compare kind a b) _ (n.rolls-Compare kind a b)
         (λ fine kept. infix_spelt (op.Compare kind) k.Compare other a b refl refl refl (two_of a b x y fine kept));
     sum = λ kind a b x y. good_at (layer.Sum kind a b) _ (n.rolls-Sum kind a b)
-        (λ fine kept. infix_spelt (op.Sum kind) k.Sum sum a b refl refl refl (two_of a b x y (and_parts (is_operand (seen_of p a) && is_operand (seen_of p b)) _ fine).0 kept));
+        (λ fine kept. infix_spelt (op.Sum kind) k.Sum sum a b refl refl refl
+            (two_of a b x y (and_parts (is_operand (seen_of p a) && is_operand (seen_of p b)) _ fine).0 kept));
     product = λ kind a b x y. good_at (layer.Product kind a b) _ (n.rolls-Product kind a b)
         (λ fine kept. infix_spelt (op.Product kind) k.Product other a b refl refl refl (two_of a b x y fine kept));
-    power = λ a b x y. good_at (layer.Power a b) _ (n.rolls-Power a b) (λ fine kept. infix_spelt op.Power k.Power other a b refl refl refl (two_of a b x y fine kept));
+    power = λ a b x y. good_at (layer.Power a b) _ (n.rolls-Power a b)
+        (λ fine kept. infix_spelt op.Power k.Power other a b refl refl refl (two_of a b x y fine kept));
     unary = λ kind a x. good_at (layer.Unary kind a) _ (n.rolls-Unary kind a) (λ fine kept. unary_spelt kind a (operand_of a x fine kept));
-    call = λ function all x. good_at (layer.Call function all) _ (n.rolls-Call function all) (λ fine kept. function_spelt (arguments_part all x fine kept) function);
+    call = λ function all x. good_at (layer.Call function all) _ (n.rolls-Call function all)
+        (λ fine kept. function_spelt (arguments_part all x fine kept) function);
     named_call = λ name all x. good_at (layer.NamedCall name all) _ (n.rolls-NamedCall name all)
         (λ fine kept. let e = and_parts (is_called_name p.language name) _ fine in named_spelt (arguments_part all x e.1 kept) name e.0);
     array = λ lines. good_at (layer.Array lines) _ (n.rolls-Array lines) (λ fine kept. array_spelt lines fine kept);
@@ -405,7 +447,8 @@ module _ (p : Profile) where
         let f = and_parts (has_kept_numbers a) _ kept in
         let callee = and_parts (is_operand (seen_of p a)) _ e.0 in
         applied_spelt (arguments_part all y e.1 f.1) a (operand_of a x callee.0 f.0) callee.1);
-    implicit_intersection = λ a x. good_at (layer.ImplicitIntersection a) _ (n.rolls-ImplicitIntersection a) (λ fine kept. intersection_spelt a (operand_of a x fine kept));
+    implicit_intersection = λ a x. good_at (layer.ImplicitIntersection a) _ (n.rolls-ImplicitIntersection a)
+        (λ fine kept. intersection_spelt a (operand_of a x fine kept));
   })
 
   -- nothing may follow a formula

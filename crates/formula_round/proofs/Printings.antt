@@ -105,7 +105,8 @@ module _ {p : Profile} {sort : Sort} {a : Printed} {b : Tokened} (piece : Piece 
 
   pub operand_part : (need : Need) → Part p.locale p.language (Fits need) (operand need a) (tokens.operand need b)
   operand_part need =
-      same_tokens (ap (λ (kind : Kind). if fits need kind then b.tokens else tokens.in_parentheses b.tokens) (sym piece.same_kind)) (operand_by (fits need a.kind))
+      same_tokens (ap (λ (kind : Kind). if fits need kind then b.tokens else tokens.in_parentheses b.tokens) (sym piece.same_kind))
+      (operand_by (fits need a.kind))
 
   pub operand_starts : is_empty sort ≡ false → (need : Need) → StartsOperand (operand need a)
   operand_starts some need = by (fits need a.kind)
@@ -115,7 +116,8 @@ module _ {p : Profile} {sort : Sort} {a : Printed} {b : Tokened} (piece : Piece 
       by false = starts_with 40 (a.text ++ codes ")") refl refl
 
   -- no cell begins an operand on the right of `:` that does not say so
-  pub operand_no_cell : is_empty sort ≡ false → a.cell_first ≡ false → (rest : Text) → Fits (need.Level 10) rest → NoCell None (chars (operand (need.Level 10) a) ++ rest)
+  pub operand_no_cell : is_empty sort ≡ false → a.cell_first ≡ false → (rest : Text) → Fits (need.Level 10) rest
+      → NoCell None (chars (operand (need.Level 10) a) ++ rest)
   operand_no_cell some no_first rest after = by (nat_le 10 (level_of a.kind)) refl
     where
       by : (fit : Bool) → nat_le 10 (level_of a.kind) ≡ fit → NoCell None (chars (if fit then a.text else in_parentheses a.text) ++ rest)
@@ -150,7 +152,8 @@ module _ {p : Profile} {sort : Sort} {a : Printed} {x : Tokened} (piece : Piece 
   -- the operand on the right of an operator that stands on no left of `:`
   last_operand : (need : Need) (outer : Kind) → is_lambda outer ≡ false → stands_left outer ≡ false
       → Part p.locale p.language (After p.locale outer) (operand need a) (tokens.operand need x)
-  last_operand need outer no_lambda no_left = before (After p.locale outer) (λ rest after fit. loosen outer a.kind rest no_lambda no_left after) (operand_part piece need)
+  last_operand need outer no_lambda no_left =
+      before (After p.locale outer) (λ rest after fit. loosen outer a.kind rest no_lambda no_left after) (operand_part piece need)
 
   pub minus_spelled : Part p.locale p.language (After p.locale k.Minus) (codes "-" ++ operand need.Negated a) (t.Minus ∷ tokens.operand need.Negated x)
   minus_spelled = in_turn minus_part (last_operand need.Negated k.Minus refl refl)
@@ -158,14 +161,18 @@ module _ {p : Profile} {sort : Sort} {a : Printed} {x : Tokened} (piece : Piece 
   pub at_spelled : Part p.locale p.language (After p.locale k.Intersection) (codes "@" ++ operand (need.Level 8) a) (t.At ∷ tokens.operand (need.Level 8) x)
   at_spelled = in_turn at_part (last_operand (need.Level 8) k.Intersection refl refl)
 
-  pub percent_spelled : Part p.locale p.language (After p.locale k.Percent) (operand (need.Level 7) a ++ codes "%") (tokens.operand (need.Level 7) x ++ t.Percent ∷ [])
+  pub percent_spelled : Part p.locale p.language (After p.locale k.Percent)
+      (operand (need.Level 7) a ++ codes "%") (tokens.operand (need.Level 7) x ++ t.Percent ∷ [])
   unfolding follows in_word
   percent_spelled =
-      joined (operand_part piece (need.Level 7)) (anyhow (After p.locale k.Percent) percent_part) (λ rest after fit. clear_after a.kind _ (plain_clear p.locale 37 [] rest refl refl refl))
+      joined (operand_part piece (need.Level 7)) (anyhow (After p.locale k.Percent) percent_part)
+      (λ rest after fit. clear_after a.kind _ (plain_clear p.locale 37 [] rest refl refl refl))
 
-  pub hash_spelled : Part p.locale p.language (After p.locale k.Spill) (operand (need.Level 10) a ++ codes "#") (tokens.operand (need.Level 10) x ++ t.Hash ∷ [])
+  pub hash_spelled : Part p.locale p.language (After p.locale k.Spill)
+      (operand (need.Level 10) a ++ codes "#") (tokens.operand (need.Level 10) x ++ t.Hash ∷ [])
   hash_spelled =
-      joined (operand_part piece (need.Level 10)) (before (After p.locale k.Spill) (λ rest after. after.ended refl) hash_part) (λ rest after fit. clear_after a.kind _ (hash_clear p.locale rest))
+      joined (operand_part piece (need.Level 10)) (before (After p.locale k.Spill) (λ rest after. after.ended refl) hash_part)
+      (λ rest after fit. clear_after a.kind _ (hash_clear p.locale rest))
 
   pub first_starts : (need : Need) (behind : List ℕ) → StartsOperand (operand need a ++ behind)
   first_starts need behind = let part = operand_part piece need in starts_front (operand need a) behind part.utf8 (operand_starts piece some need)
@@ -186,7 +193,8 @@ module _ {p : Profile} {sort other : Sort} {a b : Printed} {x y : Tokened} (firs
   infix_spelled operator outer no_lambda no_left =
       let right = operand (right_need operator) b in
       let starts = operand_starts second some_second (right_need operator) in
-      let signed = joined (operand_part first (left_need operator)) (infix_part operator) (λ rest after fit. clear_after a.kind _ (infix_clear p.locale operator rest)) in
+      let signed =
+      joined (operand_part first (left_need operator)) (infix_part operator) (λ rest after fit. clear_after a.kind _ (infix_clear p.locale operator rest)) in
       same_tokens (append_assoc (tokens.operand (left_need operator) x) (infix_token operator ∷ []) (tokens.operand (right_need operator) y))
       (joined signed (last_operand second some_second (right_need operator) outer no_lambda no_left) (λ rest after. no_comparison (chars right) rest starts))
 
@@ -194,13 +202,15 @@ module _ {p : Profile} {sort other : Sort} {a b : Printed} {x y : Tokened} (firs
   infix_starts operator =
       let left = operand (left_need operator) a in
       let right = operand (right_need operator) b in
-      ap (λ (z : List ℕ). starts_operand (chars z)) (append_assoc left (infix_sign operator) right) ∙ first_starts first some_first (left_need operator) (infix_sign operator ++ right)
+      ap (λ (z : List ℕ). starts_operand (chars z)) (append_assoc left (infix_sign operator) right)
+      ∙ first_starts first some_first (left_need operator) (infix_sign operator ++ right)
 
   -- behind a colon whose left operand is a reference, no cell stands
   abbrev NoSecond : Text → Type 0
   NoSecond rest = is_reference a.kind ≡ true → b.cell_first ≡ false → NoCell None rest
 
-  fit_left : (cell_follows : Bool) → fits (need.LeftOfColon cell_follows) a.kind ≡ true → (stands_left a.kind ≡ true) × (is_reference a.kind ≡ true → cell_follows ≡ false)
+  fit_left : (cell_follows : Bool) → fits (need.LeftOfColon cell_follows) a.kind ≡ true
+      → (stands_left a.kind ≡ true) × (is_reference a.kind ≡ true → cell_follows ≡ false)
   fit_left cell_follows fit =
       let both = and_parts (stands_left a.kind) (not (cell_follows && is_reference a.kind)) fit in
       (both.0, λ is. by cell_follows (ap (λ (r : Bool). not (cell_follows && r)) (sym is) ∙ both.1))
@@ -232,4 +242,5 @@ module _ {p : Profile} {sort other : Sort} {a b : Printed} {x y : Tokened} (firs
   colon_starts =
       let left = operand (need.LeftOfColon b.cell_first) a in
       let right = operand (need.Level 10) b in
-      ap (λ (z : List ℕ). starts_operand (chars z)) (append_assoc left (codes ":") right) ∙ first_starts first some_first (need.LeftOfColon b.cell_first) (codes ":" ++ right)
+      ap (λ (z : List ℕ). starts_operand (chars z)) (append_assoc left (codes ":") right)
+      ∙ first_starts first some_first (need.LeftOfColon b.cell_first) (codes ":" ++ right)

@@ -53,7 +53,8 @@ module _ (locale : Locale) (language : Language) (After : Text → Type 0) (sepa
     pub part : Part locale language After text tokens
     pub behind : (rest : Text) → After rest → After (chars text ++ rest)
 
-  module _ {X : Type 0} {text : X → List ℕ} {own : X → List Token} {texts : List X → List ℕ} {tokens : List X → List Token} (later : Later text own texts tokens)
+  module _ {X : Type 0} {text : X → List ℕ} {own : X → List Token} {texts : List X → List ℕ} {tokens : List X → List Token}
+      (later : Later text own texts tokens)
       (P : X → Type 0) (each : (x : X) → P x → Part locale language After (text x) (own x)) where
     pub later_parts : (xs : List X) → AllByRecursion P xs → Joined (texts xs) (tokens xs)
     later_parts [] all = record {
@@ -64,7 +65,8 @@ module _ (locale : Locale) (language : Language) (After : Text → Type 0) (sepa
         let again = later_parts xs all.1 in
         let inner = joined (each x all.0) again.part again.behind in
         let parts : texts (x ∷ xs) ≡ separator ++ (text x ++ texts xs) = later.more_text x xs ∙ append_assoc separator (text x) (texts xs) in
-        let characters : chars (texts (x ∷ xs)) ≡ chars separator ++ chars (text x ++ texts xs) = ap chars parts ∙ chars-append separator (text x ++ texts xs) separated.utf8 in
+        let characters : chars (texts (x ∷ xs)) ≡ chars separator ++ chars (text x ++ texts xs) =
+        ap chars parts ∙ chars-append separator (text x ++ texts xs) separated.utf8 in
         record {
           part = same_tokens (sym (later.more_tokens x xs)) (same_text (sym parts) (in_turn separated inner));
           behind = λ rest after.
@@ -133,7 +135,8 @@ module _ (p : Profile) where
       → Clear (decimal_text (decimal_sign p.locale) d) (if low then t.Number d ∷ [] else t.Minus ∷ t.Number (opposite d) ∷ [])
   number_item d kept true low = number_part d kept low
   number_item d kept false low =
-      same_text (sym (negative_printed (decimal_sign p.locale) d low)) (in_turn minus_part (number_part (opposite d) (opposite_kept d low kept) (opposite_low d.mantissa low)))
+      same_text (sym (negative_printed (decimal_sign p.locale) d low))
+      (in_turn minus_part (number_part (opposite d) (opposite_kept d low kept) (opposite_low d.mantissa low)))
 
   item_part : (x : ArrayItem) → Fine x → Clear (item_text style x) (tokens.item_tokens p x)
   item_part (item.Boolean value) fine = before (NoColon p.locale) (λ rest after. after.0) (boolean_part value)
@@ -144,18 +147,22 @@ module _ (p : Profile) where
   line_part : (line : List ArrayItem) → AllByRecursion Fine line → Clear (line_text style line) (tokens.line_tokens p line)
   line_part [] fine = nothing (NoColon p.locale)
   line_part (first ∷ later) fine =
-      listed_parts p.locale p.language (NoColon p.locale) (encode_utf8 (column_separator p.locale)) (separator_token p.locale) (separator_part p.locale p.language) (separator_clear p.locale)
+      listed_parts p.locale p.language (NoColon p.locale) (encode_utf8 (column_separator p.locale)) (separator_token p.locale)
+      (separator_part p.locale p.language) (separator_clear p.locale)
       {text = item_text style} {own = tokens.item_tokens p} {texts = flat_map (later_item style)} {tokens = flat_map (tokens.later_item p)}
       (record { no_text = refl; no_tokens = refl; more_text = λ x xs. refl; more_tokens = λ x xs. refl }) Fine item_part first later fine.0 fine.1
 
   lines_part : (lines : List (List ArrayItem)) → AllByRecursion (AllByRecursion Fine) lines → Clear (lines_text style lines) (tokens.lines_tokens p lines)
   lines_part [] fine = nothing (NoColon p.locale)
   lines_part (first ∷ later) fine =
-      listed_parts p.locale p.language (NoColon p.locale) (encode_utf8 (row_separator p.locale)) (row_token p.locale) (row_part p.locale p.language) (row_clear p.locale)
+      listed_parts p.locale p.language (NoColon p.locale) (encode_utf8 (row_separator p.locale)) (row_token p.locale)
+      (row_part p.locale p.language) (row_clear p.locale)
       {text = line_text style} {own = tokens.line_tokens p} {texts = flat_map (later_line style)} {tokens = flat_map (tokens.later_line p)}
-      (record { no_text = refl; no_tokens = refl; more_text = λ x xs. refl; more_tokens = λ x xs. refl }) (AllByRecursion Fine) line_part first later fine.0 fine.1
+      (record { no_text = refl; no_tokens = refl; more_text = λ x xs. refl; more_tokens = λ x xs. refl })
+      (AllByRecursion Fine) line_part first later fine.0 fine.1
 
-  lines_fine : (lines : List (List ArrayItem)) → list_all (list_all is_constant) lines ≡ true → lines_follow Kept lines ≡ true → AllByRecursion (AllByRecursion Fine) lines
+  lines_fine : (lines : List (List ArrayItem)) → list_all (list_all is_constant) lines ≡ true → lines_follow Kept lines ≡ true
+      → AllByRecursion (AllByRecursion Fine) lines
   lines_fine [] e f = tt
   lines_fine (line ∷ lines) e f =
       let k = and_parts (list_all is_constant line) _ e in
@@ -173,7 +180,8 @@ module _ (p : Profile) where
   -- ---- parameters
 
   bracketed : (name : List ℕ) → Clear name (t.Word name ∷ []) → (optional : Bool)
-      → Clear (if optional then codes "[" ++ (name ++ codes "]") else name) (if optional then t.OpenBracket ∷ t.Word name ∷ t.CloseBracket ∷ [] else t.Word name ∷ [])
+      → Clear (if optional then codes "[" ++ (name ++ codes "]") else name)
+        (if optional then t.OpenBracket ∷ t.Word name ∷ t.CloseBracket ∷ [] else t.Word name ∷ [])
   unfolding follows in_word
   bracketed name part true =
       let closed = joined part (anyhow (NoColon p.locale) close_bracket_part) (λ rest after. plain_clear p.locale 93 [] rest refl refl refl) in

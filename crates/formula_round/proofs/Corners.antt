@@ -1,6 +1,6 @@
 -- Printed references and ranges spell their tokens.
 use Rattle.std.proofs.Common.{◌≡◌, ◌≢◌, ℕ, ℤ, pos, Bool, true, false, cond, List, [], ◌∷◌, ◌++◌, refl, sym, ap, subst, ◌∙◌, append_assoc, arith}
-use Rattle.std.specs.Prelude.{not, ◌==◌, ◌||◌, ◌&&◌, codes, encode_utf8_all, if◌then◌else◌, Option, Some, None}
+use Rattle.std.specs.Prelude.{not, ◌||◌, ◌&&◌, codes, encode_utf8_all, if◌then◌else◌, Option, Some, None}
 use Rattle.std.specs.Fmt.{signed_decimal}
 use Rattle.std.specs.List.{list_all}
 use Rattle.std.specs.Ordering.{int_eq}
@@ -13,7 +13,7 @@ use Rattle.base_values.specs.declared.Position.{Position}
 use Rattle.base_values.specs.Places.{is_line}
 use Rattle.base_tables.specs.declared.Language.{Language}
 use Rattle.base_tables.specs.declared.Locale.{Locale}
-use Rattle.base_tables.specs.Column.{column_name, column_of_name}
+use Rattle.base_tables.specs.Column.{column_name}
 use Rattle.base_tables.specs.Word.{quoted_name}
 use Rattle.base_decimal.specs.Digits.{stops}
 use Rattle.formula_tree.specs.declared.Corner.{Corner}
@@ -151,9 +151,10 @@ module _ (locale : Locale) (language : Language) where
       (subst (OnSheet (Some sheet) (IsCell m)) (sym b.characters) (on_sheet (IsCell m) sheet b.name s b.named is))
       (λ rest after.
       let parts = ap (λ (x : Text). x ++ rest) b.characters ∙ behind_parts b.name s rest in
-      let none = cell_no_range m s rest is (ends_cell locale rest after.0) after.1 in
-      (ends_place locale rest after.0,
-      subst (NoRange (Some sheet)) (sym parts) (sheet_no_range sheet b.name (s ++ rest) b.named (cell_no_blank m s rest is) none)))
+      let none = cell_no_range m s rest is (ends_cell locale rest after.0) after.1 in (
+        ends_place locale rest after.0,
+        subst (NoRange (Some sheet)) (sym parts) (sheet_no_range sheet b.name (s ++ rest) b.named (cell_no_blank m s rest is) none),
+      ))
 
   span_part : (sheet : Option (List ℕ)) (a b : CellMark) (s : List ℕ) → is_named sheet ≡ true → list_all is_ascii s ≡ true → IsRange a b s
       → Part locale language (Followed locale) (sheet_text sheet ++ s) (t.Range sheet a b ∷ [])
@@ -305,7 +306,7 @@ module _ (place : Position) (first second : Corner) (here : is_inside place firs
     where
       is : (all_columns all_rows : Bool)
           → (if all_columns then corners_by true true else (if all_rows then corners_by false true else corners_by false false))
-            ≡ corners_by all_columns all_rows
+          ≡ corners_by all_columns all_rows
       is true all_rows = refl
       is false true = refl
       is false false = refl

@@ -1,6 +1,6 @@
 -- Signs, words, texts and errors spell their tokens.
 use Rattle.std.proofs.Common.{◌≡◌, ℕ, ◌<◌, Bool, true, false, cond, List, [], ◌∷◌, ◌++◌, refl, sym, ap, subst, ◌∙◌, append_assoc, arith}
-use Rattle.std.specs.Prelude.{not, ◌==◌, ◌||◌, ◌&&◌, codes, encode_utf8, encode_utf8_all, Option, Some, None}
+use Rattle.std.specs.Prelude.{not, ◌==◌, ◌||◌, ◌&&◌, codes, encode_utf8, encode_utf8_all, Some, None}
 use Rattle.std.specs.Cmp.Lexicographic.{bytes_decides}
 use Rattle.std.specs.List.{list_all}
 use Rattle.std.specs.Str.{chars, IsUtf8}
@@ -34,15 +34,14 @@ use Rattle.formula_tree.specs.declared.SumKind.TheVariants as s
 use Rattle.formula_print.specs.declared.Infix.{Infix}
 use Rattle.formula_print.specs.declared.Infix.TheVariants as op
 use Rattle.formula_print.specs.Pieces.{doubled, text_constant, compare_sign, infix_sign}
-use Rattle.formula_grammar.specs.declared.Token.{Token}
 use Rattle.formula_grammar.specs.declared.Token.TheVariants as t
 use Rattle.formula_grammar.specs.Operators.{compare_token}
 use Rattle.formula_grammar.specs.Words.{separator_token, row_token}
-use Rattle.formula_lex.specs.Characters.{Text, goes_on_name, goes_on_place, doubled as doubled_by}
+use Rattle.formula_lex.specs.Characters.{Text, goes_on_name, doubled as doubled_by}
 use Rattle.formula_lex.specs.Lexicon.{row_of_name, NoCell, NoRange, NoError}
 use Rattle.formula_round.specs.Tokens.{infix_token}
-use Rattle.formula_round.proofs.Characters.{is_ascii, each_ascii, in_word, in_cell, ascii_word, ascii_starts, follows, follows_low, may_follow, follow_parts}
-use Rattle.formula_round.proofs.Characters.{is_followed, ends_place, ends_name, ends_text, ends_cell}
+use Rattle.formula_round.proofs.Characters.{is_ascii, each_ascii, in_word, in_cell, ascii_word, ascii_starts, follows, follows_low, follow_parts}
+use Rattle.formula_round.proofs.Characters.{is_followed, ends_name, ends_text, ends_cell}
 use Rattle.formula_round.proofs.Fronts.{weaker, no_cell_here}
 use Rattle.formula_round.proofs.Parts.{Part, Anything, Followed, NoColon, Follows, NoComparison, starts_operand, StartsOperand, chars_front, ascii_chars}
 use Rattle.formula_round.proofs.Parts.{ascii_utf8, one_token, ascii_token, joined}
@@ -339,10 +338,11 @@ module _ {locale : Locale} {language : Language} where
       let s = chars word in
       let all = word_goes_on s is in
       one_token locale language (Follows 40) (t.Word word) word utf8 (is, sym (encodes-chars word utf8))
-      (λ rest after.
-      (ap (stops goes_on_name) after.1 ∙ ap (λ (b : Bool). not (b || false)) open_no_word,
-      subst (λ (x : Text). NoCell None (s ++ x)) (sym after.1) (word_no_cell_before s 40 after.0 all refl (or_right (goes_on_word 40) _ refl)),
-      subst (λ (x : Text). NoRange None (s ++ x)) (sym after.1) (word_no_range s (40 ∷ after.0) all refl refl)))
+      (λ rest after. (
+        ap (stops goes_on_name) after.1 ∙ ap (λ (b : Bool). not (b || false)) open_no_word,
+        subst (λ (x : Text). NoCell None (s ++ x)) (sym after.1) (word_no_cell_before s 40 after.0 all refl (or_right (goes_on_word 40) _ refl)),
+        subst (λ (x : Text). NoRange None (s ++ x)) (sym after.1) (word_no_range s (40 ∷ after.0) all refl refl),
+      ))
 
   -- a word and the parenthesis behind it
   pub called_part : (word : List ℕ) → IsUtf8 word → is_word (chars word) ≡ true
@@ -358,9 +358,11 @@ module _ {locale : Locale} {language : Language} where
       let no_cell = boolean_no_cell language value in
       ascii_token locale language (Followed locale) (t.Word word) word ascii (is, sym (encodes-IsAscii word (each_ascii word ascii)))
       (λ rest after.
-      let ends = ends_cell locale rest after in
-      (ends_name locale rest after, word_no_cell word rest all no_cell ends,
-      no_side_no_range word rest all no_cell (boolean_no_column language value) (boolean_no_row language value) ends))
+      let ends = ends_cell locale rest after in (
+        ends_name locale rest after,
+        word_no_cell word rest all no_cell ends,
+        no_side_no_range word rest all no_cell (boolean_no_column language value) (boolean_no_row language value) ends,
+      ))
 
 -- ---- separators
 

@@ -1,7 +1,7 @@
 -- A printed number that is not negative spells its token.
 use Rattle.std.proofs.Common.{◌≡◌, ℕ, ◌+◌, ◌*◌, ◌/◌, ◌^◌, ◌<◌, Bool, true, false, List, [], ◌∷◌, ◌++◌, length, refl, sym, ap, subst, ◌∙◌, arith, rules}
 use Rattle.std.proofs.Math.Nat.{one-le-pow}
-use Rattle.std.specs.Prelude.{ℤ, pos, negsuc, neg_ℤ, not, ◌==◌, ◌&&◌, ◌||◌, nat_lt, nat_le, int_le, unsigned_abs, decimal, encode_utf8_all, Option, None}
+use Rattle.std.specs.Prelude.{ℤ, pos, negsuc, neg_ℤ, not, ◌==◌, ◌&&◌, ◌||◌, nat_lt, nat_le, int_le, unsigned_abs, decimal, None}
 use Rattle.std.specs.Int.{is_negative}
 use Rattle.std.specs.List.{list_all}
 use Rattle.std.specs.Str.{chars}
@@ -19,19 +19,18 @@ use Rattle.base_tables.specs.Locale.{decimal_sign}
 use Rattle.base_decimal.specs.declared.Decimal.{Decimal}
 use Rattle.base_decimal.specs.declared.numeral.Sign.{Sign}
 use Rattle.base_decimal.specs.declared.numeral.Sign.TheVariants.{Absent, Plus, Minus}
-use Rattle.base_decimal.specs.Digits.{is_digit, number_after, stops}
+use Rattle.base_decimal.specs.Digits.{is_digit, number_after}
 use Rattle.base_decimal.specs.Kept.{is_kept}
 use Rattle.base_decimal.specs.Numeral.{Fraction, NoFraction, Places, Exponent, NoExponent, Power, Numeral, IsNumeral, minus_text, numeral_text, fraction_text}
 use Rattle.base_decimal.specs.Numeral.{exponent_text, sign_text, is_numeral_fraction, is_numeral_exponent, is_exponent_letter, is_exponent_len, Reads}
 use Rattle.base_decimal.specs.Printed.{digits_text, places_text, printed}
 use Rattle.base_decimal.specs.Value.{trim}
-use Rattle.base_decimal.proofs.Marks.{sign_is_ascii}
 use Rattle.base_decimal.proofs.Prints.{printed_reads}
 use Rattle.base_decimal.proofs.Trims.{ends, trim_ended}
 use Rattle.formula_grammar.specs.declared.Token.TheVariants as t
 use Rattle.formula_lex.specs.Characters.{Text}
 use Rattle.formula_lex.specs.Lexicon.{IsNumber, starts_digit, NoCell}
-use Rattle.formula_round.proofs.Characters.{is_ascii, each_ascii, is_followed, ends_number, ends_cell}
+use Rattle.formula_round.proofs.Characters.{is_ascii, each_ascii, ends_number, ends_cell}
 use Rattle.formula_round.proofs.Fronts.{weaker, all_joined, no_cell_here}
 use Rattle.formula_round.proofs.Words.{no_colon_no_range}
 use Rattle.formula_round.proofs.Parts.{Part, NoColon, starts_operand, StartsOperand, ascii_chars, ascii_token}

@@ -1,22 +1,22 @@
 -- Where cells, columns, rows and sheets stand, and where no cell and no range begins with them.
 use Rattle.std.proofs.Common.{◌≡◌, ◌≢◌, ℕ, Bool, true, false, cond, [], ◌∷◌, ◌++◌, refl, sym, ap, subst, ◌∙◌, append_assoc, arith}
-use Rattle.std.specs.Prelude.{not, ◌==◌, ◌||◌, ◌&&◌, encode_utf8_all, Option, Some, None}
+use Rattle.std.specs.Prelude.{not, ◌==◌, ◌||◌, encode_utf8_all, Some, None}
 use Rattle.std.specs.List.{list_all}
 use Rattle.std.specs.Str.{chars, IsUtf8}
 use Rattle.std.proofs.lemmas.Bool.{and_from, and_parts, or_parts, or_right}
 use Rattle.std.proofs.lemmas.Bool.Decides.{nat_tests}
-use Rattle.std.proofs.lemmas.Str.{encodes_same, encodes-chars, chars-encodes, scalars-chars}
+use Rattle.std.proofs.lemmas.Str.{encodes_same, encodes-chars, scalars-chars}
 use lib.Utf8.{scalar, scalars}
 use Rattle.base_tables.specs.Column.{is_letter}
-use Rattle.base_tables.specs.Word.{is_digit, is_word, starts_word, goes_on_word, reads_as_cell, reads_as_row_column, needs_quotes, quoted_name}
+use Rattle.base_tables.specs.Word.{is_digit, is_word, starts_word, goes_on_word, reads_as_cell, needs_quotes, quoted_name}
 use Rattle.base_decimal.specs.Digits.{stops}
 use Rattle.base_decimal.proofs.Spans.{not_false}
 use Rattle.formula_grammar.specs.declared.CellMark.{CellMark}
 use Rattle.formula_lex.specs.Characters.{Text, is_blank, goes_on_place, doubled}
-use Rattle.formula_lex.specs.Lexicon.{IsColumn, IsRow, IsPair, IsCell, IsRange, IsSheetName, plain, quoted, IsMark, IsSheet, OnSheet, NoCell, NoRange}
-use Rattle.formula_round.proofs.Characters.{in_cell, in_word, ascii_starts}
+use Rattle.formula_lex.specs.Lexicon.{IsColumn, IsRow, IsCell, IsRange, IsSheetName, plain, quoted, OnSheet, NoCell, NoRange}
+use Rattle.formula_round.proofs.Characters.{in_cell, ascii_starts}
 use Rattle.formula_round.proofs.Fronts.{Sides, two_cells, two_columns, two_rows, weaker, all_parted, column_all, row_all, column_some, row_some, cell_in_cell}
-use Rattle.formula_round.proofs.Fronts.{none_on, on_none, no_cell_without, no_cell_here, no_range_in}
+use Rattle.formula_round.proofs.Fronts.{on_none, no_cell_without, no_cell_here, no_range_in}
 use Rattle.formula_round.proofs.Words.{word_goes_on, word_no_cell_before}
 
 -- ---- the two kinds of characters of a cell

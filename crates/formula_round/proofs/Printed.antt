@@ -259,7 +259,7 @@ module _ (p : Profile) where
   infix_spelt : (operator : Infix) (kind : Kind) (sort : Sort) (a b : Node) → is_callee sort ≡ false → is_lambda kind ≡ false
       → nat_le 10 (level_of kind) ≡ false → Two a b
       → Piece p sort (plainly kind (infix_text operator (text_of a) (text_of b)))
-        (tokens.plainly kind (tokens.infix_tokens operator (tokened p a) (tokened p b)))
+      (tokens.plainly kind (tokens.infix_tokens operator (tokened p a) (tokened p b)))
   infix_spelt operator kind sort a b no_callee no_lambda loose two =
       let no_left = ap (λ (x : Bool). x && not (is_number_or_name kind)) loose in
       plain_piece no_callee (infix_spelled two.left.piece two.right.piece two.left.some two.right.some operator kind no_lambda no_left)
@@ -281,13 +281,13 @@ module _ (p : Profile) where
 
   intersection_spelt : (a : Node) → Operand a
       → Piece p other (plainly k.Intersection (codes "@" ++ operand (need.Level 8) (text_of a)))
-        (tokens.plainly k.Intersection (t.At ∷ tokens.operand (need.Level 8) (tokened p a)))
+      (tokens.plainly k.Intersection (t.At ∷ tokens.operand (need.Level 8) (tokened p a)))
   intersection_spelt a x =
       plain_piece refl (at_spelled x.piece x.some) (starts_with 64 (operand (need.Level 8) (text_of a)) refl refl) (λ fit rest after. absurd cc)
 
   spill_spelt : (a : Node) → Operand a
       → Piece p other (record { kind = k.Spill; cell_first = (text_of a).cell_first; text = operand (need.Level 10) (text_of a) ++ codes "#" })
-        (record { kind = k.Spill; cell_first = (tokened p a).cell_first; tokens = tokens.operand (need.Level 10) (tokened p a) ++ t.Hash ∷ [] })
+      (record { kind = k.Spill; cell_first = (tokened p a).cell_first; tokens = tokens.operand (need.Level 10) (tokened p a) ++ t.Hash ∷ [] })
   spill_spelt a x =
       let piece = x.piece in
       record {
@@ -359,25 +359,26 @@ module _ (p : Profile) where
 
     function_spelt : (function : Function)
         → Piece p other (plainly k.Other (function_name p.language function ++ in_parentheses inner))
-          (tokens.plainly k.Other ((t.Word (function_name p.language function) ∷ []) ++ tokens.in_parentheses its))
+        (tokens.plainly k.Other ((t.Word (function_name p.language function) ∷ []) ++ tokens.in_parentheses its))
     function_spelt function =
         let is = letters_word_of (function_name p.language function) (function_letters p.language function) in
         word_spelt (function_name p.language function) is.0 is.1
 
     named_spelt : (name : List ℕ) → is_called_name p.language name ≡ true
         → Piece p other (plainly k.Other (lowered name ++ in_parentheses inner))
-          (tokens.plainly k.Other ((t.Word (lowered name) ∷ []) ++ tokens.in_parentheses its))
+        (tokens.plainly k.Other ((t.Word (lowered name) ∷ []) ++ tokens.in_parentheses its))
     named_spelt name normal =
         let e = and_parts (is_text_word name) (list_all is_no_capital name) (and_parts (is_text_word name && list_all is_no_capital name) _ normal).0 in
         let word = and_parts (is_utf8 name) _ e.0 in
         let spelt = word_spelt name (IsUtf8-from_is_utf8 name word.0) word.1 in
-        subst (λ (z : List ℕ). Piece p other (plainly k.Other (z ++ in_parentheses inner)) (tokens.plainly k.Other ((t.Word z ∷ []) ++ tokens.in_parentheses its)))
+        subst
+        (λ (z : List ℕ). Piece p other (plainly k.Other (z ++ in_parentheses inner)) (tokens.plainly k.Other ((t.Word z ∷ []) ++ tokens.in_parentheses its)))
         (sym (small_letters name e.1)) spelt
 
     -- a call of a lambda
     applied_spelt : (a : Node) → Operand a → is_callee (seen_of p a).sort ≡ true
         → Piece p lambda (plainly k.Lambda (operand need.Callee (text_of a) ++ in_parentheses inner))
-          (tokens.plainly k.Lambda (tokens.operand need.Callee (tokened p a) ++ tokens.in_parentheses its))
+        (tokens.plainly k.Lambda (tokens.operand need.Callee (tokened p a) ++ tokens.in_parentheses its))
     applied_spelt a x callee =
         let piece = x.piece in
         let is = piece.callee callee in
@@ -398,7 +399,7 @@ module _ (p : Profile) where
 
   lambda_spelt : (parameters : List Parameter) (a : Node) → list_all is_parameter parameters ≡ true → Operand a
       → Piece p lambda (plainly k.Lambda (lambda_text (style p) parameters (text_of a)))
-        (tokens.plainly k.Lambda (tokens.lambda_tokens p parameters (tokened p a)))
+      (tokens.plainly k.Lambda (tokens.lambda_tokens p parameters (tokened p a)))
   lambda_spelt parameters a normal x =
       let inner : List ℕ = flat_map (parameter_part p.locale) parameters ++ (text_of a).text in
       let is = letters_word_of (codes "LAMBDA") refl in
@@ -423,7 +424,7 @@ module _ (p : Profile) where
         (λ fine kept. infix_spelt (op.Compare kind) k.Compare other a b refl refl refl (two_of a b x y fine kept));
     sum = λ kind a b x y. good_at (layer.Sum kind a b) _ (n.rolls-Sum kind a b)
         (λ fine kept. infix_spelt (op.Sum kind) k.Sum sum a b refl refl refl
-            (two_of a b x y (and_parts (is_operand (seen_of p a) && is_operand (seen_of p b)) _ fine).0 kept));
+        (two_of a b x y (and_parts (is_operand (seen_of p a) && is_operand (seen_of p b)) _ fine).0 kept));
     product = λ kind a b x y. good_at (layer.Product kind a b) _ (n.rolls-Product kind a b)
         (λ fine kept. infix_spelt (op.Product kind) k.Product other a b refl refl refl (two_of a b x y fine kept));
     power = λ a b x y. good_at (layer.Power a b) _ (n.rolls-Power a b)

@@ -1,13 +1,12 @@
 -- What is shown of each tree: before what may follow a tree of its kind, its printed text spells its tokens. Operands and operators.
 use Rattle.std.proofs.Common.{◌≡◌, ℕ, Bool, true, false, List, [], ◌∷◌, ◌++◌, refl, sym, ap, subst, ◌∙◌, append_assoc, arith}
-use Rattle.std.specs.Prelude.{not, ◌==◌, ◌||◌, ◌&&◌, codes, if◌then◌else◌, nat_le, Option, None}
+use Rattle.std.specs.Prelude.{not, ◌==◌, ◌&&◌, codes, if◌then◌else◌, nat_le, None}
 use Rattle.std.specs.Str.{chars}
 use Rattle.std.proofs.lemmas.Bool.{and_parts}
 use Rattle.std.proofs.lemmas.Bool.Decides.{nat_tests}
 use Rattle.std.proofs.lemmas.Str.{chars-append}
 use Rattle.base_tables.specs.declared.Locale.{Locale}
 use Rattle.base_decimal.specs.Digits.{stops}
-use Rattle.base_decimal.proofs.Spans.{not_true}
 use Rattle.formula_tree.specs.declared.CompareKind.TheVariants as c
 use Rattle.formula_tree.specs.declared.ProductKind.TheVariants as product
 use Rattle.formula_tree.specs.declared.SumKind.TheVariants as s
@@ -21,17 +20,16 @@ use Rattle.formula_print.specs.Kinds.{level_of, is_number_or_name, is_reference,
 use Rattle.formula_print.specs.Pieces.{infix_sign}
 use Rattle.formula_print.specs.Print.{Printed, in_parentheses, operand, infix_text, colon_text}
 use Rattle.formula_grammar.specs.declared.Profile.{Profile}
-use Rattle.formula_grammar.specs.declared.Token.{Token}
 use Rattle.formula_grammar.specs.declared.Token.TheVariants as t
 use Rattle.formula_grammar.specs.Normal.{Sort, is_empty, is_callee}
 use Rattle.formula_lex.specs.Characters.{Text}
 use Rattle.formula_lex.specs.Lexicon.{NoCell}
 use Rattle.formula_round.specs.Tokens.{Tokened, infix_token}
 use Rattle.formula_round.specs.Tokens as tokens
-use Rattle.formula_round.proofs.Characters.{in_word, follows, is_followed, sign_follows}
+use Rattle.formula_round.proofs.Characters.{in_word, follows, sign_follows}
 use Rattle.formula_round.proofs.Fronts.{no_cell_here}
 use Rattle.formula_round.proofs.Leaves.{infix_part, minus_part, percent_part, at_part, colon_part, open_part, close_part, hash_part}
-use Rattle.formula_round.proofs.Parts.{Part, Anything, Followed, NoColon, NoComparison, starts_operand, StartsOperand, starts_front, starts_with, no_comparison}
+use Rattle.formula_round.proofs.Parts.{Part, Anything, Followed, NoColon, starts_operand, StartsOperand, starts_front, starts_with, no_comparison}
 use Rattle.formula_round.proofs.Parts.{chars_front, ascii_chars, before, anyhow, joined, in_turn, same_tokens}
 use Rattle.formula_round.proofs.Separated.{plain_clear}
 
@@ -55,7 +53,7 @@ module _ {locale : Locale} where
       no_colon behind e = let x : false ≡ true = sym (ap (stops (λ c. c == 58)) e) ∙ clear.1 in cc
 
   -- what follows a tree that stands on no left of `:` follows any tree at its end
-  pub loosen : (outer inner : Kind) (rest : Text) → is_lambda outer ≡ false → stands_left outer ≡ false → After locale outer rest → After locale inner rest
+  loosen : (outer inner : Kind) (rest : Text) → is_lambda outer ≡ false → stands_left outer ≡ false → After locale outer rest → After locale inner rest
   loosen outer inner rest no_lambda no_left after = record {
     ended = λ _. after.ended no_lambda;
     colon = λ behind e. absurd (let x = sym (after.colon behind e).0 ∙ no_left in cc);
@@ -116,7 +114,7 @@ module _ {p : Profile} {sort : Sort} {a : Printed} {b : Tokened} (piece : Piece 
       by false = starts_with 40 (a.text ++ codes ")") refl refl
 
   -- no cell begins an operand on the right of `:` that does not say so
-  pub operand_no_cell : is_empty sort ≡ false → a.cell_first ≡ false → (rest : Text) → Fits (need.Level 10) rest
+  operand_no_cell : is_empty sort ≡ false → a.cell_first ≡ false → (rest : Text) → Fits (need.Level 10) rest
       → NoCell None (chars (operand (need.Level 10) a) ++ rest)
   operand_no_cell some no_first rest after = by (nat_le 10 (level_of a.kind)) refl
     where
@@ -234,7 +232,7 @@ module _ {p : Profile} {sort other : Sort} {a b : Printed} {x y : Tokened} (firs
       let right = need.Level 10 in
       let signed = joined (operand_part first left) (anyhow NoSecond colon_part) colon_after in
       let spelled = joined signed (last_operand second some_second right k.Colon refl refl)
-          (λ rest after is no_first. operand_no_cell second some_second no_first rest (λ fit. loosen k.Colon b.kind rest refl refl after)) in
+      (λ rest after is no_first. operand_no_cell second some_second no_first rest (λ fit. loosen k.Colon b.kind rest refl refl after)) in
       let parts = append_assoc (tokens.operand left x) (t.Colon ∷ []) (tokens.operand right y) in
       same_tokens (parts ∙ ap (λ (first : Bool). tokens.operand (need.LeftOfColon first) x ++ t.Colon ∷ tokens.operand right y) (sym second.same_first)) spelled
 

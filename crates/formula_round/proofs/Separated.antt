@@ -56,7 +56,7 @@ module _ (locale : Locale) (language : Language) (After : Text → Type 0) (sepa
   module _ {X : Type 0} {text : X → List ℕ} {own : X → List Token} {texts : List X → List ℕ} {tokens : List X → List Token}
       (later : Later text own texts tokens)
       (P : X → Type 0) (each : (x : X) → P x → Part locale language After (text x) (own x)) where
-    pub later_parts : (xs : List X) → AllByRecursion P xs → Joined (texts xs) (tokens xs)
+    later_parts : (xs : List X) → AllByRecursion P xs → Joined (texts xs) (tokens xs)
     later_parts [] all = record {
       part = same_tokens (sym later.no_tokens) (same_text (sym later.no_text) (nothing After));
       behind = λ rest after. subst (λ (z : Text). After (z ++ rest)) (sym (ap chars later.no_text ∙ chars-nil)) after;
@@ -181,7 +181,7 @@ module _ (p : Profile) where
 
   bracketed : (name : List ℕ) → Clear name (t.Word name ∷ []) → (optional : Bool)
       → Clear (if optional then codes "[" ++ (name ++ codes "]") else name)
-        (if optional then t.OpenBracket ∷ t.Word name ∷ t.CloseBracket ∷ [] else t.Word name ∷ [])
+      (if optional then t.OpenBracket ∷ t.Word name ∷ t.CloseBracket ∷ [] else t.Word name ∷ [])
   unfolding follows in_word
   bracketed name part true =
       let closed = joined part (anyhow (NoColon p.locale) close_bracket_part) (λ rest after. plain_clear p.locale 93 [] rest refl refl refl) in

@@ -1,11 +1,11 @@
 -- Where words, numbers and lines stand, and where no cell and no range begins with them.
-use Rattle.std.proofs.Common.{◌≡◌, ℕ, suc, ◌+◌, ◌<◌, Bool, true, false, cond, [], ◌∷◌, ◌++◌, take, drop, refl, sym, ap, subst, ◌∙◌, append_assoc, arith}
-use Rattle.std.specs.Prelude.{ℤ, not, ◌==◌, ◌||◌, ◌&&◌, Option, Some, None}
+use Rattle.std.proofs.Common.{◌≡◌, ℕ, suc, ◌+◌, ◌<◌, Bool, true, false, cond, [], ◌∷◌, ◌++◌, take, drop, refl, sym, ap, ◌∙◌, arith}
+use Rattle.std.specs.Prelude.{ℤ, not, ◌==◌, ◌||◌, Option, Some, None}
 use Rattle.std.specs.List.{list_all, prefix_len}
 use Rattle.std.proofs.lemmas.Bool.{and_from, and_parts}
 use Rattle.std.proofs.lemmas.Bool.Decides.{nat_tests}
 use Rattle.base_tables.specs.Column.{is_letter, is_column_name, column_of_name}
-use Rattle.base_tables.specs.Word.{is_digit, is_row_number, is_count, is_word, begins_word, starts_word, goes_on_word, front, behind, reads_as_cell}
+use Rattle.base_tables.specs.Word.{is_digit, is_row_number, is_word, begins_word, goes_on_word, front, behind, reads_as_cell}
 use Rattle.base_decimal.specs.Digits.{stops}
 use Rattle.formula_grammar.specs.declared.CellMark.{CellMark}
 use Rattle.formula_lex.specs.Characters.{Text, goes_on_place}
@@ -16,7 +16,7 @@ use Rattle.formula_round.proofs.Fronts.{no_range_in}
 
 -- ---- the longest front
 
-pub front_parts : (p : ℕ → Bool) (s rest : Text) → list_all p s ≡ true → stops p rest ≡ true → (front p (s ++ rest) ≡ s) × (behind p (s ++ rest) ≡ rest)
+front_parts : (p : ℕ → Bool) (s rest : Text) → list_all p s ≡ true → stops p rest ≡ true → (front p (s ++ rest) ≡ s) × (behind p (s ++ rest) ≡ rest)
 front_parts p [] [] all ends = (refl, refl)
 front_parts p [] (c ∷ rest) all ends =
     let no : p c ≡ false = by (p c) ends in
@@ -105,7 +105,7 @@ names_read first second column row is at =
     let parts = front_parts is_letter first second (column_letters_all first column is) (digits_no_letter second (row_digits_all second row at)) in
     and_from _ _ (ap is_column_name parts.0 ∙ if_some (is_column_name first) _ column is) (ap is_row_number parts.1 ∙ if_some (is_row_number second) _ row at)
 
-pub cell_reads : (mark : CellMark) (s : Text) → list_all goes_on_word s ≡ true → IsCell mark s → reads_as_cell s ≡ true
+cell_reads : (mark : CellMark) (s : Text) → list_all goes_on_word s ≡ true → IsCell mark s → reads_as_cell s ≡ true
 cell_reads mark s all is =
     let parts = all_parted goes_on_word is.first is.second (sym (ap (list_all goes_on_word) is.parts) ∙ all) in
     ap reads_as_cell is.parts

@@ -83,10 +83,10 @@ module _ (under : ℕ) (operand : Parser Node) where
       ∙ ap (λ (x : Prefix). and_then (all_around ts) (λ tree. make (prefix_node x tree))) (sym is)
       ∙ one_more_sign (making under) (signs under ts).0 (operand (signs under ts).1)
 
-  pub signed-counted : (ts : List Token) → signed under operand ts ≡ around (making under) (operand (signs under ts).1) (signs under ts).0
+  pub signed_counted : (ts : List Token) → signed under operand ts ≡ around (making under) (operand (signs under ts).1) (signs under ts).0
   unfolding signed
-  signed-counted [] = no_sign (making under) (operand [])
-  signed-counted (x ∷ ts) = go (signed under operand ts) (signed-counted ts) (sign_at under x) refl
+  signed_counted [] = no_sign (making under) (operand [])
+  signed_counted (x ∷ ts) = go (signed under operand ts) (signed_counted ts) (sign_at under x) refl
     where
       go : (rest : Outcome Node) → rest ≡ all_around ts → (o : Option Prefix) → sign_at under x ≡ o → signed_step under operand (operand (x ∷ ts)) rest o
           ≡ around (making under) (operand (counted (x ∷ ts) (signs under ts) o).1) (counted (x ∷ ts) (signs under ts) o).0

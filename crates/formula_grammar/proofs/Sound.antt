@@ -298,7 +298,7 @@ module _ (p : Profile) (inner : ℕ → Parser Node) (inner_sound : (room : ℕ)
       let m = make_some (n.LambdaCall left r.0) out r.1 rest r.3 in
       let a = arguments_sound mid r.1 r.0 r.2 in
       let tail : mid ≡ (arguments_tokens a.by ++ t.CloseParenthesis ∷ []) ++ rest =
-          between_parts (arguments_tokens a.by) t.CloseParenthesis [] rest (a.parts ∙ ap (λ (l : List Token). arguments_tokens a.by ++ t.CloseParenthesis ∷ l) m.1) in
+      between_parts (arguments_tokens a.by) t.CloseParenthesis [] rest (a.parts ∙ ap (λ (l : List Token). arguments_tokens a.by ++ t.CloseParenthesis ∷ l) m.1) in
       record {
         by = G.applied x.by a.by;
         parts = between_parts (lambda_tokens x.by) t.OpenParenthesis (arguments_tokens a.by ++ t.CloseParenthesis ∷ []) rest
@@ -317,7 +317,7 @@ module _ (p : Profile) (inner : ℕ → Parser Node) (inner_sound : (room : ℕ)
       go true h f =
           let all = t.Word word ∷ t.OpenParenthesis ∷ ts in
           let d = chain_sound opening (lambda_turn p inner room) (IsLambda p room all) (lambda_turn_sound all) (function p inner room) ts rest out
-              (λ mid left is. function_sound word h ts mid left is) f in
+          (λ mid left is. function_sound word h ts mid left is) f in
           record { by = G.lambda d.by; parts = d.parts; gives = d.gives; within = d.within; shallow = d.shallow }
       go false h f =
           let r = bind_some (arguments p inner room ts) (λ all. make (called p.language word all)) out rest f in

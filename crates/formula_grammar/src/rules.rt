@@ -5,7 +5,7 @@ ghost use Rattle.std.specs.Prelude.{◌≡◌};
 ghost use Rattle.base_values.specs.Places.{IsPlace};
 ghost use Rattle.formula_grammar.specs.laws.Reading as spec;
 ghost use Rattle.formula_grammar.specs.laws.Outcome.{Gives, Reads};
-ghost use Rattle.formula_grammar.specs.laws.Signs.{making, wrapped};
+ghost use Rattle.formula_grammar.specs.laws.Signs.{wrapped};
 ghost use Rattle.formula_grammar.specs.laws.Nests.{Nests};
 
 use crate::arrays::array;
@@ -18,7 +18,7 @@ use crate::profile::Profile;
 use crate::token::Token;
 use crate::words::{called, is_lambda, range, reference, worded};
 use base_values::Text;
-use formula_levels::LEVELS;
+use formula_levels::{LEVELS, Prefix};
 use formula_tree::{MAX_DEPTH, Node};
 use std::alloc::Global;
 
@@ -41,8 +41,10 @@ impl<F: Fn(Global, Profile, &mut Cursor<'_>, u64, u64) -> Result<Found, Fault>> 
         (self.whole)(self.alloc, self.profile, tokens, self.nesting, room)
     }
 
-    /// An expression of a level: signs, an operand of the level below, and the operators of the level
-    /// behind it, which group to the left.
+    /// An expression of a level: signs, an operand of the next tighter level, and the operators of the
+    /// level behind it, which group to the left.
+    #[cycle(expression)]
+    #[tactic(auto, using(crate::proofs::Chains::chain_next, crate::proofs::Chains::chain_done, crate::proofs::Chains::expression_steps), unfolding(crate::specs::laws::Reading::expression))]
     pub fn expression(&self, tokens: &mut Cursor<'_>, level: u8) -> Result<Found, Fault>
         requires { Nests self.now.profile self.now.nesting (F.pre self.now.whole) (F.post self.now.whole) }
         ensures { Reads (spec.expression self.now.profile (spec.whole self.now.profile self.now.nesting) self.now.room level tokens.old.rest.now) result tokens.new.rest.now }
@@ -51,29 +53,47 @@ impl<F: Fn(Global, Profile, &mut Cursor<'_>, u64, u64) -> Result<Found, Fault>> 
             return self.primary(tokens);
         }
         let under = level - 1;
-        let count = tokens.signs(under);
-        let operand = self.expression(tokens, under)?;
-        let mut left = self.signed(under, count, operand)?;
+        let mut left = self.signed(tokens, under)?;
         for _turn in 0..MAX_DEPTH {
             let Some(operator) = tokens.operator(under) else {
                 return Ok(left);
             };
-            left = match operator {
-                Operator::Infix(op) => {
-                    let right = self.expression(tokens, under)?;
-                    Found::joined(self.alloc, op, left, right)?
-                }
-                Operator::Postfix(op) => Found::followed(self.alloc, op, left)?,
-            };
+            left = self.turn(tokens, under, operator, left)?;
         }
         Err(Fault::Outside)
     }
 
-    /// The operand behind so many signs that make a node.
-    fn signed(&self, under: u8, count: usize, operand: Found) -> Result<Found, Fault>
-        ensures { Gives (wrapped (making under) count operand) result }
+    /// What an operator makes of the tree before it and of what follows.
+    #[cycle(expression)]
+    fn turn(&self, tokens: &mut Cursor<'_>, under: u8, operator: Operator, left: Found) -> Result<Found, Fault>
+        requires { Nests self.now.profile self.now.nesting (F.pre self.now.whole) (F.post self.now.whole) }
+        ensures { Reads (spec.turn (spec.expression self.now.profile (spec.whole self.now.profile self.now.nesting) self.now.room under) operator left tokens.old.rest.now) result tokens.new.rest.now }
     {
-        let sign = making(under);
+        match operator {
+            Operator::Infix(operator) => {
+                let right = self.expression(tokens, under)?;
+                Found::joined(self.alloc, operator, left, right)
+            }
+            Operator::Postfix(operator) => Found::followed(self.alloc, operator, left),
+        }
+    }
+
+    /// An operand with the signs of a level before it.
+    #[cycle(expression)]
+    #[tactic(auto, using(crate::proofs::Signed::signed_counted))]
+    fn signed(&self, tokens: &mut Cursor<'_>, under: u8) -> Result<Found, Fault>
+        requires { Nests self.now.profile self.now.nesting (F.pre self.now.whole) (F.post self.now.whole) }
+        ensures { Reads (spec.signed under (spec.expression self.now.profile (spec.whole self.now.profile self.now.nesting) self.now.room under) tokens.old.rest.now) result tokens.new.rest.now }
+    {
+        let count = tokens.signs(under);
+        let operand = self.expression(tokens, under)?;
+        self.wrapped(making(under), count, operand)
+    }
+
+    /// The operand behind so many signs.
+    fn wrapped(&self, sign: Prefix, count: usize, operand: Found) -> Result<Found, Fault>
+        ensures { Gives (wrapped sign count operand) result }
+    {
         let mut tree = operand;
         for _turn in 0..count {
             tree = Found::signed(self.alloc, sign, tree)?;

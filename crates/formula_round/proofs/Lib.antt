@@ -19,3 +19,4 @@ pub mod Corners
 pub mod Separated
 pub mod Printings
 pub mod Printed
+pub mod Back

@@ -3,4 +3,4 @@
 
 mod round;
 
-pub use round::normal_trees_are_derived;
+pub use round::{normal_contents_read_back, normal_trees_read_back};

@@ -6,11 +6,11 @@ use Rattle.std.proofs.lemmas.Bool.{and_from, and_parts}
 use Rattle.std.proofs.lemmas.Bool.Decides.{nat_tests}
 use Rattle.std.proofs.lemmas.List.Folds.{list_all-append}
 use Rattle.base_tables.specs.Column.{is_letter, is_column_name, column_of_name}
-use Rattle.base_tables.specs.Word.{is_digit, is_count, is_row_number, goes_on_word}
+use Rattle.base_tables.specs.Word.{is_digit, is_count, is_row_number}
 use Rattle.base_decimal.specs.Digits.{stops}
 use Rattle.formula_grammar.specs.declared.CellMark.{CellMark}
 use Rattle.formula_lex.specs.Characters.{Text, goes_on_place}
-use Rattle.formula_lex.specs.Lexicon.{dollar, row_of_name, IsLine, IsColumn, IsRow, IsPair, IsCell, IsRange, cells, columns, rows, OnSheet, NoCell, NoRange}
+use Rattle.formula_lex.specs.Lexicon.{dollar, row_of_name, IsLine, IsColumn, IsRow, IsCell, IsRange, cells, columns, rows, OnSheet, NoCell, NoRange}
 use Rattle.formula_round.proofs.Characters.{in_cell}
 
 -- ---- tests of all characters
@@ -37,7 +37,7 @@ pub record Later (z s r rest : Text) : Type 0 where
   pub parts : s ≡ z ++ more
   pub behind : r ≡ more ++ rest
 
-pub parts_later : (p : ℕ → Bool) (z r s rest : Text) → list_all p z ≡ true → stops p rest ≡ true → z ++ r ≡ s ++ rest → Later z s r rest
+parts_later : (p : ℕ → Bool) (z r s rest : Text) → list_all p z ≡ true → stops p rest ≡ true → z ++ r ≡ s ++ rest → Later z s r rest
 parts_later p [] r s rest all ends e = record { more = s; parts = refl; behind = e }
 parts_later p (c ∷ z) r [] rest all ends e =
     absurd (never (p c) (and_parts (p c) (list_all p z) all).0 (ap (stops p) e ∙ ends))
@@ -69,14 +69,10 @@ pub row_digits_all : (name : Text) (line : ℤ) → row_of_name name ≡ Some li
 unfolding is_count
 row_digits_all name line e = (and_parts _ _ (if_some (is_row_number name) _ line e)).0
 
-dollar_in_cell : (absolute : Bool) → list_all in_cell (dollar absolute) ≡ true
-unfolding in_cell
-dollar_in_cell true = refl
-dollar_in_cell false = refl
-
 -- the characters of a line: a dollar, or those of its name
 line_all : (p : ℕ → Bool) (line_of_name : Text → Option ℤ) → ((name : Text) (line : ℤ) → line_of_name name ≡ Some line → list_all p name ≡ true)
-    → (q : ℕ → Bool) → q 36 ≡ true → ((c : ℕ) → p c ≡ true → q c ≡ true) → (absolute : Bool) (line : ℤ) (s : Text) → IsLine line_of_name absolute line s → list_all q s ≡ true
+    → (q : ℕ → Bool) → q 36 ≡ true → ((c : ℕ) → p c ≡ true → q c ≡ true) → (absolute : Bool) (line : ℤ) (s : Text) → IsLine line_of_name absolute line s
+    → list_all q s ≡ true
 line_all p line_of_name named q dollars h absolute line s is =
     ap (list_all q) is.parts ∙ all_joined q (dollar absolute) is.name (mark absolute) (weaker p q h is.name (named is.name line is.named))
   where
@@ -84,15 +80,19 @@ line_all p line_of_name named q dollars h absolute line s is =
     mark true = ap (λ (b : Bool). b && true) dollars
     mark false = refl
 
-pub column_all : (q : ℕ → Bool) → q 36 ≡ true → ((c : ℕ) → is_letter c ≡ true → q c ≡ true) → (absolute : Bool) (line : ℤ) (s : Text) → IsLine column_of_name absolute line s → list_all q s ≡ true
+pub column_all : (q : ℕ → Bool) → q 36 ≡ true → ((c : ℕ) → is_letter c ≡ true → q c ≡ true) → (absolute : Bool) (line : ℤ) (s : Text)
+    → IsLine column_of_name absolute line s → list_all q s ≡ true
 column_all = line_all is_letter column_of_name column_letters_all
 
-pub row_all : (q : ℕ → Bool) → q 36 ≡ true → ((c : ℕ) → is_digit c ≡ true → q c ≡ true) → (absolute : Bool) (line : ℤ) (s : Text) → IsLine row_of_name absolute line s → list_all q s ≡ true
+pub row_all : (q : ℕ → Bool) → q 36 ≡ true → ((c : ℕ) → is_digit c ≡ true → q c ≡ true) → (absolute : Bool) (line : ℤ) (s : Text)
+    → IsLine row_of_name absolute line s → list_all q s ≡ true
 row_all = line_all is_digit row_of_name row_digits_all
 
 -- a name has a character, so that each line has one of its own
-some_name : (line_of_name : Text → Option ℤ) → line_of_name [] ≡ None → (p : ℕ → Bool) → ((name : Text) (line : ℤ) → line_of_name name ≡ Some line → list_all p name ≡ true)
-    → (q : ℕ → Bool) → ((c : ℕ) → p c ≡ true → q c ≡ false) → (absolute : Bool) (line : ℤ) (s : Text) → IsLine line_of_name absolute line s → list_all q s ≡ true → ⊥
+some_name : (line_of_name : Text → Option ℤ) → line_of_name [] ≡ None → (p : ℕ → Bool)
+    → ((name : Text) (line : ℤ) → line_of_name name ≡ Some line → list_all p name ≡ true)
+    → (q : ℕ → Bool) → ((c : ℕ) → p c ≡ true → q c ≡ false) → (absolute : Bool) (line : ℤ) (s : Text) → IsLine line_of_name absolute line s
+    → list_all q s ≡ true → ⊥
 some_name line_of_name none p named q h absolute line s is all =
     go is.name (named is.name line is.named) is.named (all_parted q (dollar absolute) is.name (sym (ap (list_all q) is.parts) ∙ all)).1
   where
@@ -103,12 +103,14 @@ some_name line_of_name none p named q h absolute line s is all =
         let yes = (and_parts (q c) (list_all q name) e).0 in cc
 
 -- a column has a letter
-pub column_some : (q : ℕ → Bool) → ((c : ℕ) → is_letter c ≡ true → q c ≡ false) → (absolute : Bool) (line : ℤ) (s : Text) → IsLine column_of_name absolute line s → list_all q s ≡ true → ⊥
+pub column_some : (q : ℕ → Bool) → ((c : ℕ) → is_letter c ≡ true → q c ≡ false) → (absolute : Bool) (line : ℤ) (s : Text)
+    → IsLine column_of_name absolute line s → list_all q s ≡ true → ⊥
 unfolding column_of_name is_column_name
 column_some = some_name column_of_name refl is_letter column_letters_all
 
 -- a row has a digit
-pub row_some : (q : ℕ → Bool) → ((c : ℕ) → is_digit c ≡ true → q c ≡ false) → (absolute : Bool) (line : ℤ) (s : Text) → IsLine row_of_name absolute line s → list_all q s ≡ true → ⊥
+pub row_some : (q : ℕ → Bool) → ((c : ℕ) → is_digit c ≡ true → q c ≡ false) → (absolute : Bool) (line : ℤ) (s : Text) → IsLine row_of_name absolute line s
+    → list_all q s ≡ true → ⊥
 unfolding is_count
 row_some = some_name row_of_name refl is_digit row_digits_all
 
@@ -123,7 +125,8 @@ row_in_cell = row_all in_cell refl digit_in_cell
 pub cell_in_cell : (mark : CellMark) (s : Text) → IsCell mark s → list_all in_cell s ≡ true
 cell_in_cell mark s is =
     ap (list_all in_cell) is.parts
-    ∙ all_joined in_cell is.first is.second (column_in_cell mark.absolute_column mark.column is.first is.is_first) (row_in_cell mark.absolute_row mark.row is.second is.is_second)
+    ∙ all_joined in_cell is.first is.second (column_in_cell mark.absolute_column mark.column is.first is.is_first)
+    (row_in_cell mark.absolute_row mark.row is.second is.is_second)
 
 -- what stands on both sides of the colon of a range
 pub data Sides (a b : CellMark) (first second : Text) : Type 0 where
@@ -149,7 +152,7 @@ first_in_cell a b first second (two_rows is at) = row_in_cell a.absolute_row a.r
 
 -- ---- of no sheet
 
-pub none_on : (Is : Text → Type 0) (s : Text) → OnSheet None Is s → Is s
+none_on : (Is : Text → Type 0) (s : Text) → OnSheet None Is s → Is s
 none_on Is s is = subst Is (sym (is.parts ∙ ap (λ (x : Text). x ++ is.second) is.is_first)) is.is_second
 
 pub on_none : (Is : Text → Type 0) (s : Text) → Is s → OnSheet None Is s
@@ -157,11 +160,12 @@ on_none Is s is = record { first = []; second = s; parts = refl; is_first = refl
 
 -- ---- no cell
 
-goes_on_by : (q : ℕ → Bool) → ((c : ℕ) → q c ≡ true → goes_on_place c ≡ true) → (m : ℕ) (more rest : Text) → list_all q (m ∷ more) ≡ true → stops goes_on_place (m ∷ more ++ rest) ≡ true → ⊥
-goes_on_by q h m more rest all ends = never (goes_on_place m) (h m (and_parts (q m) (list_all q more) all).0) ends
+goes_on : (m : ℕ) (more rest : Text) → list_all goes_on_place (m ∷ more) ≡ true → stops goes_on_place (m ∷ more ++ rest) ≡ true → ⊥
+goes_on m more rest all ends = never (goes_on_place m) (and_parts (goes_on_place m) (list_all goes_on_place more) all).0 ends
 
 -- a text whose characters all go on a place is a cell only whole
-pub no_cell_in : (s rest : Text) → list_all goes_on_place s ≡ true → stops in_cell rest ≡ true → ((mark : CellMark) → IsCell mark s → stops goes_on_place rest ≡ true → ⊥) → NoCell None (s ++ rest)
+pub no_cell_in : (s rest : Text) → list_all goes_on_place s ≡ true → stops in_cell rest ≡ true
+    → ((mark : CellMark) → IsCell mark s → stops goes_on_place rest ≡ true → ⊥) → NoCell None (s ++ rest)
 no_cell_in s rest all ends none mark z r parts is stop =
     let cell = none_on (IsCell mark) z is in
     let later = parts_later in_cell z r s rest (cell_in_cell mark z cell) ends (sym parts) in
@@ -170,10 +174,11 @@ no_cell_in s rest all ends none mark z r parts is stop =
     go : (more : Text) → s ≡ z ++ more → r ≡ more ++ rest → IsCell mark z → ⊥
     go [] e f cell = none mark (subst (IsCell mark) (sym (e ∙ append-nil z)) cell) (ap (stops goes_on_place) (sym f) ∙ stop)
     go (m ∷ more) e f cell =
-        goes_on_by goes_on_place (λ c h. h) m more rest (all_parted goes_on_place z (m ∷ more) (sym (ap (list_all goes_on_place) e) ∙ all)).1 (ap (stops goes_on_place) (sym f) ∙ stop)
+        goes_on m more rest (all_parted goes_on_place z (m ∷ more) (sym (ap (list_all goes_on_place) e) ∙ all)).1 (ap (stops goes_on_place) (sym f) ∙ stop)
 
 -- a text without one of the two kinds of characters that a cell has
-pub no_cell_without : (q : ℕ → Bool) (s rest : Text) → list_all q s ≡ true → stops in_cell rest ≡ true → ((mark : CellMark) (z : Text) → IsCell mark z → list_all q z ≡ true → ⊥) → NoCell None (s ++ rest)
+pub no_cell_without : (q : ℕ → Bool) (s rest : Text) → list_all q s ≡ true → stops in_cell rest ≡ true
+    → ((mark : CellMark) (z : Text) → IsCell mark z → list_all q z ≡ true → ⊥) → NoCell None (s ++ rest)
 no_cell_without q s rest all ends none mark z r parts is stop =
     let cell = none_on (IsCell mark) z is in
     let later = parts_later in_cell z r s rest (cell_in_cell mark z cell) ends (sym parts) in
@@ -210,26 +215,22 @@ no_cell_here c rest other mark z r parts is stop = go (none_on (IsCell mark) z i
         (parts ∙ ap (λ (x : Text). x ++ r) cell.parts ∙ append_assoc cell.first cell.second r
         ∙ ap (λ (x : Text). x ++ (cell.second ++ r)) column.parts ∙ append_assoc (dollar mark.absolute_column) column.name (cell.second ++ r))
 
-pub no_cell_nowhere : NoCell None []
-no_cell_nowhere mark [] r parts is stop =
-    let cell = none_on (IsCell mark) [] is in
-    row_some (λ c. false) (λ c e. refl) mark.absolute_row mark.row cell.second cell.is_second (all_parted (λ c. false) cell.first cell.second (sym (ap (list_all (λ c. false)) cell.parts))).1
-no_cell_nowhere mark (c ∷ z) r parts is stop = cc
-
 -- ---- no range
 
 -- a text without a colon is the first part of a range only whole
 pub no_range_in : (s rest : Text) → list_all (λ c. not (c == 58)) s ≡ true → stops in_cell rest ≡ true
-    → ((a b : CellMark) (second behind : Text) → rest ≡ 58 ∷ (second ++ behind) → stops goes_on_place behind ≡ true → Sides a b s second → ⊥) → NoRange None (s ++ rest)
+    → ((a b : CellMark) (second behind : Text) → rest ≡ 58 ∷ (second ++ behind) → stops goes_on_place behind ≡ true → Sides a b s second → ⊥)
+    → NoRange None (s ++ rest)
 no_range_in s rest all ends none a b z r parts is stop =
     let range = ranged a b z (none_on (IsRange a b) z is) in
     let later = parts_later in_cell range.first (58 ∷ (range.second ++ r)) s rest (first_in_cell a b range.first range.second range.sides) ends
-        (sym (parts ∙ ap (λ (x : Text). x ++ r) range.parts ∙ append_assoc range.first (58 ∷ range.second) r)) in
+    (sym (parts ∙ ap (λ (x : Text). x ++ r) range.parts ∙ append_assoc range.first (58 ∷ range.second) r)) in
     go range later.more later.parts later.behind
   where
     go : (range : Ranged a b z) (more : Text) → s ≡ range.first ++ more → 58 ∷ (range.second ++ r) ≡ more ++ rest → ⊥
     go range [] e f = none a b range.second r (sym f) stop (subst (λ (x : Text). Sides a b x range.second) (sym (e ∙ append-nil range.first)) range.sides)
     go range (m ∷ more) e f =
         let head : 58 ≡ m = cc in
-        let yes = (and_parts (not (m == 58)) _ (all_parted (λ c. not (c == 58)) range.first (m ∷ more) (sym (ap (list_all (λ c. not (c == 58))) e) ∙ all)).1).0 in
+        let yes =
+        (and_parts (not (m == 58)) _ (all_parted (λ c. not (c == 58)) range.first (m ∷ more) (sym (ap (list_all (λ c. not (c == 58))) e) ∙ all)).1).0 in
         let x : false ≡ true = ap (λ (c : ℕ). not (c == 58)) head ∙ yes in cc

@@ -1,7 +1,7 @@
 -- A printed number that is not negative spells its token.
 use Rattle.std.proofs.Common.{◌≡◌, ℕ, ◌+◌, ◌*◌, ◌/◌, ◌^◌, ◌<◌, Bool, true, false, List, [], ◌∷◌, ◌++◌, length, refl, sym, ap, subst, ◌∙◌, arith, rules}
 use Rattle.std.proofs.Math.Nat.{one-le-pow}
-use Rattle.std.specs.Prelude.{ℤ, pos, negsuc, neg_ℤ, not, ◌==◌, ◌&&◌, ◌||◌, nat_lt, nat_le, int_le, unsigned_abs, decimal, encode_utf8_all, Option, None}
+use Rattle.std.specs.Prelude.{ℤ, pos, negsuc, neg_ℤ, not, ◌==◌, ◌&&◌, ◌||◌, nat_lt, nat_le, int_le, unsigned_abs, decimal, None}
 use Rattle.std.specs.Int.{is_negative}
 use Rattle.std.specs.List.{list_all}
 use Rattle.std.specs.Str.{chars}
@@ -19,21 +19,21 @@ use Rattle.base_tables.specs.Locale.{decimal_sign}
 use Rattle.base_decimal.specs.declared.Decimal.{Decimal}
 use Rattle.base_decimal.specs.declared.numeral.Sign.{Sign}
 use Rattle.base_decimal.specs.declared.numeral.Sign.TheVariants.{Absent, Plus, Minus}
-use Rattle.base_decimal.specs.Digits.{is_digit, number_after, stops}
+use Rattle.base_decimal.specs.Digits.{is_digit, number_after}
 use Rattle.base_decimal.specs.Kept.{is_kept}
-use Rattle.base_decimal.specs.Numeral.{Fraction, NoFraction, Places, Exponent, NoExponent, Power, Numeral, IsNumeral, minus_text, numeral_text, fraction_text, exponent_text, sign_text, is_numeral_fraction, is_numeral_exponent, is_exponent_letter, is_exponent_len, Reads}
+use Rattle.base_decimal.specs.Numeral.{Fraction, NoFraction, Places, Exponent, NoExponent, Power, Numeral, IsNumeral, minus_text, numeral_text, fraction_text}
+use Rattle.base_decimal.specs.Numeral.{exponent_text, sign_text, is_numeral_fraction, is_numeral_exponent, is_exponent_letter, is_exponent_len, Reads}
 use Rattle.base_decimal.specs.Printed.{digits_text, places_text, printed}
 use Rattle.base_decimal.specs.Value.{trim}
-use Rattle.base_decimal.proofs.Marks.{sign_is_ascii}
 use Rattle.base_decimal.proofs.Prints.{printed_reads}
 use Rattle.base_decimal.proofs.Trims.{ends, trim_ended}
 use Rattle.formula_grammar.specs.declared.Token.TheVariants as t
 use Rattle.formula_lex.specs.Characters.{Text}
 use Rattle.formula_lex.specs.Lexicon.{IsNumber, starts_digit, NoCell}
-use Rattle.formula_round.proofs.Characters.{is_ascii, each_ascii, is_followed, ends_number, ends_cell}
+use Rattle.formula_round.proofs.Characters.{is_ascii, each_ascii, ends_number, ends_cell}
 use Rattle.formula_round.proofs.Fronts.{weaker, all_joined, no_cell_here}
 use Rattle.formula_round.proofs.Words.{no_colon_no_range}
-use Rattle.formula_round.proofs.Parts.{Part, starts_operand, StartsOperand, ascii_chars, ascii_token}
+use Rattle.formula_round.proofs.Parts.{Part, NoColon, starts_operand, StartsOperand, ascii_chars, ascii_token}
 
 -- ---- the characters of a number
 
@@ -65,12 +65,14 @@ module _ (mark : ℕ) (plain_mark : plain mark ≡ true) where
   plain_exponent (Power letter sign digits) e =
       let k = and_parts (is_exponent_letter letter) _ e in
       let all = (and_parts (is_exponent_len (length digits)) (list_all is_digit digits) k.1).1 in
-      and_from (plain letter) _ (plain_letter letter k.0) (all_joined plain (sign_text sign) digits (plain_sign sign) (weaker is_digit plain plain_digit digits all))
+      and_from (plain letter) _ (plain_letter letter k.0)
+      (all_joined plain (sign_text sign) digits (plain_sign sign) (weaker is_digit plain plain_digit digits all))
 
   plain_numeral : (n : Numeral) → IsNumeral n → list_all plain (numeral_text mark n) ≡ true
   plain_numeral n is =
       all_joined plain n.whole (fraction_text mark n.fraction ++ exponent_text n.exponent) (weaker is_digit plain plain_digit n.whole is.whole)
-      (all_joined plain (fraction_text mark n.fraction) (exponent_text n.exponent) (plain_fraction n.fraction is.fraction) (plain_exponent n.exponent is.exponent))
+      (all_joined plain (fraction_text mark n.fraction) (exponent_text n.exponent) (plain_fraction n.fraction is.fraction)
+      (plain_exponent n.exponent is.exponent))
 
 plain_decimal_sign : (locale : Locale) → plain (decimal_sign locale) ≡ true
 unfolding plain
@@ -120,7 +122,8 @@ printed_starts mark d kept low =
     let q = d.places in
     let whole = kept_whole d kept in
     ap starts_digit
-    (ap (λ (b : Bool). minus_text b ++ digits_text mark (trim n q).0 (trim n q).1) (no_minus d.mantissa low) ∙ ap (λ (t : ℕ × ℕ). digits_text mark t.0 t.1) (trim_ended n q (kept_ends d kept)))
+    (ap (λ (b : Bool). minus_text b ++ digits_text mark (trim n q).0 (trim n q).1) (no_minus d.mantissa low)
+    ∙ ap (λ (t : ℕ × ℕ). digits_text mark t.0 t.1) (trim_ended n q (kept_ends d kept)))
     ∙ starts (decimal (n / 10 ^ q)) (places_text mark q n) (decimal_nonempty (n / 10 ^ q) whole) (digits_decimal own (n / 10 ^ q) whole)
 
 printed_plain : (mark : ℕ) → plain mark ≡ true → (d : Decimal) → is_kept d ≡ true → int_le (pos 0) d.mantissa ≡ true → list_all plain (printed mark d) ≡ true
@@ -135,10 +138,6 @@ printed_plain mark plain_mark d kept low = by r.negative r.written
 
 -- ---- tokens
 
--- what may follow, but no colon
-abbrev pub NoColon : Locale → Text → Type 0
-NoColon locale rest = (is_followed locale rest ≡ true) × (stops (λ c. c == 58) rest ≡ true)
-
 plain_ascii : (c : ℕ) → plain c ≡ true → is_ascii c ≡ true
 unfolding plain
 plain_ascii c e = (and_parts (is_ascii c) _ e).0
@@ -147,18 +146,21 @@ plain_no_colon : (c : ℕ) → plain c ≡ true → not (c == 58) ≡ true
 unfolding plain
 plain_no_colon c e = (and_parts (is_ascii c) _ e).1
 
-module _ (locale : Locale) (language : Language) where
-  pub number_part : (d : Decimal) → is_kept d ≡ true → int_le (pos 0) d.mantissa ≡ true → Part locale language (NoColon locale) (printed (decimal_sign locale) d) (t.Number d ∷ [])
+module _ {locale : Locale} {language : Language} where
+  pub number_part : (d : Decimal) → is_kept d ≡ true → int_le (pos 0) d.mantissa ≡ true
+      → Part locale language (NoColon locale) (printed (decimal_sign locale) d) (t.Number d ∷ [])
   number_part d kept low =
       let text : Text = printed (decimal_sign locale) d in
       let all = printed_plain (decimal_sign locale) (plain_decimal_sign locale) d kept low in
       let ascii : list_all is_ascii text ≡ true = weaker plain is_ascii plain_ascii text all in
+      let no_colon = weaker plain (λ c. not (c == 58)) plain_no_colon text all in
+      let encoded = encodes-IsAscii text (each_ascii text ascii) in
       let spells : IsNumber locale d text = record {
         starts = printed_starts (decimal_sign locale) d kept low;
-        reads = subst (λ (x : Text). Reads (decimal_sign locale) x d) (sym (encodes-IsAscii text (each_ascii text ascii))) (printed_reads (decimal_sign locale) d kept);
+        reads = subst (λ (x : Text). Reads (decimal_sign locale) x d) (sym encoded) (printed_reads (decimal_sign locale) d kept);
       } in
       ascii_token locale language (NoColon locale) (t.Number d) text ascii spells
-      (λ rest after. (ends_number locale rest after.0, no_colon_no_range text rest (weaker plain (λ c. not (c == 58)) plain_no_colon text all) (ends_cell locale rest after.0) after.1))
+      (λ rest after. (ends_number locale rest after.0, no_colon_no_range text rest no_colon (ends_cell locale rest after.0) after.1))
 
 -- neither a cell nor an operator begins with a number that is not negative
 digit_first : (s rest : Text) → starts_digit s ≡ true → NoCell None (s ++ rest) × (starts_operand s ≡ true)
@@ -189,11 +191,15 @@ opposite_low (pos n) e = absurd (not_below n e)
 opposite_low (negsuc n) e = grind (arith, nat_tests)
 
 -- a negative number is printed as a minus and its opposite
-pub negative_printed : (mark : ℕ) (d : Decimal) → int_le (pos 0) d.mantissa ≡ false → printed mark d ≡ 45 ∷ printed mark (record d { mantissa = neg_ℤ d.mantissa })
+pub negative_printed : (mark : ℕ) (d : Decimal) → int_le (pos 0) d.mantissa ≡ false
+    → printed mark d ≡ 45 ∷ printed mark (record d { mantissa = neg_ℤ d.mantissa })
 unfolding printed
 negative_printed mark d low = go d.mantissa d.places low
   where
-    go : (m : ℤ) (q : ℕ) → int_le (pos 0) m ≡ false → (let t = trim (unsigned_abs m) q in minus_text (is_negative m) ++ digits_text mark t.0 t.1) ≡ 45 ∷ (let t = trim (unsigned_abs (neg_ℤ m)) q in minus_text (is_negative (neg_ℤ m)) ++ digits_text mark t.0 t.1)
+    text : ℤ → ℕ → List ℕ
+    text m q = let t = trim (unsigned_abs m) q in minus_text (is_negative m) ++ digits_text mark t.0 t.1
+
+    go : (m : ℤ) (q : ℕ) → int_le (pos 0) m ≡ false → text m q ≡ 45 ∷ text (neg_ℤ m) q
     go (pos n) q e = absurd (not_below n e)
     go (negsuc n) q e =
         let t = trim (unsigned_abs (negsuc n)) q in

@@ -15,6 +15,7 @@ use Rattle.base_tables.specs.Word.{reads_as_cell}
 use Rattle.base_tables.specs.laws.Function.{function_of_name-function_name}
 use Rattle.base_tables.specs.laws.Tables.{both_parts}
 use Rattle.std.specs.Str.{chars}
+use Rattle.base_decimal.proofs.Spans.{not_true}
 use Rattle.formula_tree.specs.declared.Node.{Node}
 use Rattle.formula_tree.specs.declared.Node.TheVariants as n
 use Rattle.formula_grammar.specs.declared.Profile.{Profile}
@@ -66,10 +67,6 @@ small_letters (c ∷ name) all =
     let parts = both_parts (is_no_capital c) (list_all is_no_capital name) all in
     λ i. small_letter c parts.0 i ∷ small_letters name parts.1 i
 
-is_not : (b : Bool) → not b ≡ true → b ≡ false
-is_not true e = absurd cc
-is_not false e = refl
-
 abbrev Called : Profile → List Token → ℕ → List ℕ → Node → Type 0
 Called p tokens below name tree = Expressed p 0 (t.Word name ∷ in_parentheses tokens) tree (below + 1)
 
@@ -92,4 +89,4 @@ module _ {p : Profile} {tokens : List Token} {trees : List Node} {below : ℕ} w
       let letters = both_parts (is_text_word name) (list_all is_no_capital name) parts.0 in
       let others = both_parts (is_absent (function_of_name p.language name)) (not (is_lambda name)) parts.1 in
       subst (λ (spelled : List ℕ). Called p tokens below spelled (n.NamedCall name trees)) (sym (small_letters name letters.1))
-      (with_called name None (absent (function_of_name p.language name) others.0) (is_not (is_lambda name) others.1) x)
+      (with_called name None (absent (function_of_name p.language name) others.0) (not_true (is_lambda name) others.1) x)

@@ -6,6 +6,7 @@ use Rattle.std.proofs.lemmas.Bool.{and_from, and_parts}
 use Rattle.std.proofs.lemmas.Bool.Decides.{nat_tests}
 use Rattle.base_tables.specs.Column.{is_letter, is_column_name, column_of_name}
 use Rattle.base_tables.specs.Word.{is_digit, is_row_number, is_word, begins_word, goes_on_word, front, behind, reads_as_cell}
+use Rattle.base_decimal.proofs.Spans.{not_true}
 use Rattle.base_decimal.specs.Digits.{stops}
 use Rattle.formula_grammar.specs.declared.CellMark.{CellMark}
 use Rattle.formula_lex.specs.Characters.{Text, goes_on_place}
@@ -19,12 +20,8 @@ use Rattle.formula_round.proofs.Fronts.{no_range_in}
 front_parts : (p : ℕ → Bool) (s rest : Text) → list_all p s ≡ true → stops p rest ≡ true → (front p (s ++ rest) ≡ s) × (behind p (s ++ rest) ≡ rest)
 front_parts p [] [] all ends = (refl, refl)
 front_parts p [] (c ∷ rest) all ends =
-    let no : p c ≡ false = by (p c) ends in
+    let no : p c ≡ false = not_true (p c) ends in
     (ap (λ (b : Bool). take (cond b (1 + prefix_len p rest) 0) (c ∷ rest)) no, ap (λ (b : Bool). drop (cond b (1 + prefix_len p rest) 0) (c ∷ rest)) no)
-  where
-    by : (b : Bool) → not b ≡ true → b ≡ false
-    by true e = cc
-    by false e = refl
 front_parts p (c ∷ s) rest all ends =
     let k = and_parts (p c) (list_all p s) all in
     let again = front_parts p s rest k.1 ends in

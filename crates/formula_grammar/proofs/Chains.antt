@@ -3,8 +3,7 @@ use Rattle.std.proofs.Common.{◌≡◌, ℕ, zero, suc, ◌+◌, ◌-◌, ◌<�
 use Rattle.formula_tree.specs.declared.node.Node.{Node}
 use Rattle.formula_tree.specs.Depth.{depth_of}
 use Rattle.formula_grammar.specs.declared.token.Token.{Token}
-use Rattle.formula_grammar.specs.declared.profile.Profile.{Profile}
-use Rattle.formula_grammar.specs.laws.Reading.{Outcome, Parser, and_then, chain_step, chain_from, operator_at, turn, signed, expression}
+use Rattle.formula_grammar.specs.laws.Reading.{Outcome, Parser, and_then, chain_step, chain_from}
 
 module _ {Op : Type 0} (operator : Parser Op) (turn : Op → Node → Parser Node) where
   abbrev from : ℕ → Node → Parser Node
@@ -31,20 +30,3 @@ module _ {Op : Type 0} (operator : Parser Op) (turn : Op → Node → Parser Nod
   pub chain_never : ((ts : List Token) → operator ts ≡ None) → (o : Outcome Node) → and_then o (from 64) ≡ o
   chain_never never None = refl
   chain_never never (Some p) = chain_ends 64 p.0 p.1 (omega arith) (never p.1)
-
-  -- the next of at most 64 turns
-  pub chain_next : (at : ℕ) (left : Node) (ts : List Token) → at < 64 → from (64 - at) left ts ≡ chain_step operator turn (from (64 - (at + 1))) left ts (operator ts)
-  unfolding chain_from
-  chain_next at left ts h = let more : 64 - at ≡ suc (64 - (at + 1)) = omega arith in ap (λ k. from k left ts) more
-
-  pub chain_done : (at : ℕ) (left : Node) (ts : List Token) → 64 ≤ at → from (64 - at) left ts ≡ None
-  unfolding chain_from
-  chain_done at left ts h = let none : 64 - at ≡ 0 = omega arith in ap (λ k. from k left ts) none
-
-pub expression_steps : (p : Profile) (inner : ℕ → Parser Node) (room level : ℕ) (ts : List Token) → 0 < level
-    → expression p inner room level ts ≡ and_then (signed (level - 1) (expression p inner room (level - 1)) ts) (chain_from (operator_at (level - 1)) (turn (expression p inner room (level - 1))) 64)
-unfolding expression
-expression_steps p inner room zero ts h = absurd (omega arith)
-expression_steps p inner room (suc under) ts h =
-    let turn_under : under ≡ suc under - 1 = omega arith in
-    ap (λ k. and_then (signed k (expression p inner room k) ts) (chain_from (operator_at k) (turn (expression p inner room k)) 64)) turn_under

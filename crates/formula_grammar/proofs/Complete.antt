@@ -32,6 +32,7 @@ use Rattle.formula_grammar.proofs.Follow.{EndsAt, ends_sooner, ends_operator, en
 use Rattle.formula_grammar.proofs.Starts.{unsigned, starts_given, starts_no_close, begins}
 use Rattle.formula_grammar.proofs.Turns.{expression_turns, lambda_turns, expression_turns-lt, lambda_turns-lt}
 use Rattle.formula_grammar.proofs.Constants.{array_complete, parameters_complete}
+use Rattle.formula_grammar.proofs.Loops.{deeper, whole_steps}
 
 -- the limits leave room for what opens so many parentheses, and is so deep
 pub record Fits (nesting room opened depth : ℕ) : Type 0 where
@@ -54,12 +55,6 @@ fits_inner : {nesting room a x d : ℕ} → Fits (suc nesting) room a d → d �
 fits_inner fits deep = record { within = fits.within; nested = omega (arith, fits.nested, deep); shallow = omega (arith, fits.shallow, deep) }
 
 -- ---- each rule by itself
-
--- a whole is read one nest further in
-whole_reads : (p : Profile) (nesting room : ℕ) (ts : List Token) (o : Outcome Node) → 0 < nesting → ((i : ℕ) → nesting ≡ suc i → expression p (whole p i) room 10 ts ≡ o) → whole p nesting room ts ≡ o
-unfolding whole
-whole_reads p zero room ts o h f = absurd (omega arith)
-whole_reads p (suc i) room ts o h f = f i refl
 
 enclosed_reads : (p : Profile) (inner : ℕ → Parser Node) (room : ℕ) (ts rest : List Token) (tree : Node) → 0 < room → inner (room - 1) ts ≡ Some (tree, t.CloseParenthesis ∷ rest)
     → primary p inner room (t.OpenParenthesis ∷ ts) ≡ Some (tree, rest)
@@ -115,10 +110,8 @@ tail p inner room k found = separator p.locale >>= (λ goes_on. cond goes_on (ar
 turn_reads : (p : Profile) (inner : ℕ → Parser Node) (room k : ℕ) (found : List Node) (ts rest : List Token) (x : Node) → 0 < k → argument p inner room ts ≡ Some (x, rest)
     → arguments_from p inner room k found ts ≡ tail p inner room (k - 1) (found ++ x ∷ []) rest
 unfolding arguments_from
-turn_reads p inner room zero found ts rest x h e = absurd (omega arith)
-turn_reads p inner room (suc k) found ts rest x h e =
-    let turn : k ≡ suc k - 1 = omega arith in
-    ap (λ (o : Outcome Node). and_then o (λ y. tail p inner room k (found ++ y ∷ []))) e ∙ ap (λ j. tail p inner room j (found ++ x ∷ []) rest) turn
+turn_reads p inner room k found ts rest x h e =
+    deeper (λ j. arguments_from p inner room j found ts) k h ∙ ap (λ (o : Outcome Node). and_then o (λ y. tail p inner room (k - 1) (found ++ y ∷ []))) e
 
 -- at a separator the list goes on
 tail_reads : (p : Profile) (inner : ℕ → Parser Node) (room k : ℕ) (found : List Node) (ts : List Token) → tail p inner room k found (separator_token p.locale ∷ ts) ≡ arguments_from p inner room k found ts
@@ -166,8 +159,8 @@ completes {p} (suc under) d reads nesting room r fits ends =
 whole_completes : {p : Profile} (d : Expression p 10) → Reads 10 d → (nesting room : ℕ) (r : List Token) → Fits nesting room (expression_open d) (depth_of (expression_tree d)) → EndsAt 10 r
     → whole p nesting room (expression_tokens d ++ r) ≡ Some (expression_tree d, r)
 whole_completes {p} d reads nesting room r fits ends =
-    whole_reads p nesting room (expression_tokens d ++ r) _ (omega (arith, fits.nested, depth_positive (expression_tree d)))
-    (λ i is. completes 10 d reads i room r (record { within = fits.within; nested = omega (arith, fits.nested, is); shallow = fits.shallow }) ends)
+    whole_steps p nesting room (expression_tokens d ++ r) (omega (arith, fits.nested, depth_positive (expression_tree d)))
+    ∙ completes 10 d reads (nesting - 1) room r (record { within = fits.within; nested = omega (arith, fits.nested); shallow = fits.shallow }) ends
 
 given_completes : {p : Profile} (d : Expression p 10) → Reads 10 d → (nesting room : ℕ) (r : List Token) → Fits nesting room (expression_open d) (depth_of (expression_tree d)) → is_empty_here p.locale r ≡ true
     → argument p (whole p nesting) room (expression_tokens d ++ r) ≡ Some (expression_tree d, r)

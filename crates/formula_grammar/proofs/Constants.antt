@@ -16,6 +16,7 @@ use Rattle.formula_grammar.specs.Grammar as G
 use Rattle.formula_grammar.specs.Grammar.{Item, Rows, item_tokens, item_value, rows_tokens, before_line, rows_lines, parameters_tokens}
 use Rattle.formula_grammar.specs.laws.Reading.{Outcome, Parser, and_then, pure, with_rest, item, after_item, rows_next, rows_from, array, parameter, parameters_step, parameters_from, parameters}
 use Rattle.formula_grammar.proofs.Follow.{separates}
+use Rattle.formula_grammar.proofs.Loops.{deeper}
 
 item_reads : {p : Profile} (x : Item p) (ts : List Token) → item p.language (item_tokens x ++ ts) ≡ Some (item_value x, ts)
 item_reads (G.plain number) ts = refl
@@ -64,12 +65,10 @@ after_line p k lines line = λ ts. and_then (after_item p.locale ts) (rows_next 
 item_turn : {p : Profile} (x : Item p) (k : ℕ) (lines : List (List ArrayItem)) (line : List ArrayItem) (ts rest : List Token) (next : AfterItem) → 0 < k → after_item p.locale ts ≡ Some (next, rest)
     → rows_from p k lines line (item_tokens x ++ ts) ≡ rows_next (rows_from p (k - 1)) lines (line ++ item_value x ∷ []) next rest
 unfolding rows_from
-item_turn x zero lines line ts rest next h e = absurd (omega arith)
-item_turn {p} x (suc k) lines line ts rest next h e =
-    let turn : k ≡ suc k - 1 = omega arith in
-    ap (λ (o : Outcome ArrayItem). and_then o (λ y. after_line p k lines (line ++ y ∷ []))) (item_reads x ts)
-    ∙ ap (λ (o : Outcome AfterItem). and_then o (rows_next (rows_from p k) lines (line ++ item_value x ∷ []))) e
-    ∙ ap (λ j. rows_next (rows_from p j) lines (line ++ item_value x ∷ []) next rest) turn
+item_turn {p} x k lines line ts rest next h e =
+    deeper (λ j. rows_from p j lines line (item_tokens x ++ ts)) k h
+    ∙ ap (λ (o : Outcome ArrayItem). and_then o (λ y. after_line p (k - 1) lines (line ++ y ∷ []))) (item_reads x ts)
+    ∙ ap (λ (o : Outcome AfterItem). and_then o (rows_next (rows_from p (k - 1)) lines (line ++ item_value x ∷ []))) e
 
 rows_complete : {p : Profile} (rows : Rows p) (k : ℕ) (lines : List (List ArrayItem)) (line : List ArrayItem) (r : List Token) → rows_count rows ≤ k
     → rows_from p k lines line (rows_tokens rows ++ t.CloseBrace ∷ r) ≡ Some (lines ++ continued line (rows_lines rows), r)
@@ -118,10 +117,7 @@ parameters_end locale (suc k) found ts e = ap (parameters_step (parameters_from 
 
 parameter_turn : (locale : Locale) (k : ℕ) (found : List Parameter) (ts rest : List Token) (x : Parameter) → 0 < k → parameter locale ts ≡ Some (x, rest) → parameters_from locale k found ts ≡ parameters_from locale (k - 1) (found ++ x ∷ []) rest
 unfolding parameters_from
-parameter_turn locale zero found ts rest x h e = absurd (omega arith)
-parameter_turn locale (suc k) found ts rest x h e =
-    let turn : k ≡ suc k - 1 = omega arith in
-    ap (parameters_step (parameters_from locale k) found ts) e ∙ ap (λ j. parameters_from locale j (found ++ x ∷ []) rest) turn
+parameter_turn locale k found ts rest x h e = deeper (λ j. parameters_from locale j found ts) k h ∙ ap (parameters_step (parameters_from locale (k - 1)) found ts) e
 
 parameters_follow : (p : Profile) (xs : List Parameter) (k : ℕ) (found : List Parameter) (ts : List Token) → length xs ≤ k → parameter p.locale ts ≡ None
     → parameters_from p.locale k found (parameters_tokens p xs ++ ts) ≡ Some (found ++ xs, ts)

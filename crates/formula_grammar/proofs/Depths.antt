@@ -8,12 +8,9 @@ use Rattle.base_tables.specs.Function.{function_of_name}
 use Rattle.base_tables.specs.Language.{boolean_of_text}
 use Rattle.formula_tree.specs.declared.corner.Corner.{Corner}
 use Rattle.formula_tree.specs.declared.node.Node.{Node}
-use Rattle.formula_tree.specs.declared.node.Node.TheVariants as n
-use Rattle.formula_tree.specs.declared.operator.UnaryKind.TheVariants as unary
 use Rattle.base_values.specs.declared.Position.{Position}
 use Rattle.formula_tree.specs.Depth.{depth_of, greatest}
-use Rattle.formula_tree.specs.Corners.{lower_corner, higher_corner}
-use Rattle.formula_tree.specs.laws.DepthEquations.{depth_boolean, depth_number, depth_text, depth_reference, depth_range, depth_colon, depth_concatenate, depth_compare, depth_sum, depth_product, depth_power, depth_unary, depth_call, depth_named_call, depth_array, depth_name, depth_error, depth_empty_argument, depth_spill, depth_lambda, depth_lambda_call, depth_implicit_intersection}
+use Rattle.formula_tree.specs.laws.DepthEquations.{depths as tree_depths}
 use Rattle.formula_levels.specs.declared.infix.Infix.{Infix}
 use Rattle.formula_levels.specs.declared.infix.Infix.TheVariants as between
 use Rattle.formula_levels.specs.declared.postfix.Postfix.{Postfix}
@@ -25,38 +22,33 @@ use Rattle.formula_grammar.specs.Words.{call_node, called, word_node, worded, ra
 use Rattle.formula_grammar.specs.laws.Reading.{made}
 
 depth_call_node : (function : Option Function) (word : List ℕ) (all : List Node) → depth_of (call_node function word all) ≡ greatest (map depth_of all) + 1
-depth_call_node (Some function) word all = depth_call function all
-depth_call_node None word all = depth_named_call word all
+depth_call_node None word all = search tree_depths
+depth_call_node _ word all = search tree_depths
 
 pub depth_called : (language : Language) (word : List ℕ) (all : List Node) → depth_of (called language word all) ≡ greatest (map depth_of all) + 1
 depth_called language word all = depth_call_node (function_of_name language word) word all
 
 depth_word_node : (value : Option Bool) (word : List ℕ) → depth_of (word_node value word) ≡ 1
-depth_word_node (Some value) word = depth_boolean value
-depth_word_node None word = depth_name word
+depth_word_node None word = search tree_depths
+depth_word_node _ word = search tree_depths
 
 pub depth_worded : (language : Language) (word : List ℕ) → depth_of (worded language word) ≡ 1
 depth_worded language word = depth_word_node (boolean_of_text language word) word
 
 pub depth_infix : (op : Infix) (a b : Node) → depth_of (infix_node op a b) ≡ max (depth_of a) (depth_of b) + 1
-depth_infix (between.Compare kind) a b = depth_compare kind a b
-depth_infix between.Concatenate a b = depth_concatenate a b
-depth_infix (between.Sum kind) a b = depth_sum kind a b
-depth_infix (between.Product kind) a b = depth_product kind a b
-depth_infix between.Power a b = depth_power a b
-depth_infix between.Colon a b = depth_colon a b
+depth_infix between.Power a b = search tree_depths
+depth_infix _ a b = search tree_depths
 
 pub depth_postfix : (op : Postfix) (a : Node) → depth_of (postfix_node op a) ≡ depth_of a + 1
-depth_postfix postfix.Percent a = depth_unary unary.Percent a
-depth_postfix postfix.Spill a = depth_spill a
+depth_postfix postfix.Spill a = search tree_depths
+depth_postfix _ a = search tree_depths
 
 pub depth_prefix : (op : Prefix) (a : Node) → depth_of a ≤ depth_of (prefix_node op a)
-depth_prefix prefix.Minus a = omega (arith, depth_unary unary.Minus a)
 depth_prefix prefix.Plus a = omega arith
-depth_prefix prefix.At a = omega (arith, depth_implicit_intersection a)
+depth_prefix _ a = omega (arith, tree_depths)
 
 pub depth_range_node : (place : Position) (sheet : Option (List ℕ)) (a b : Corner) → depth_of (range_node place sheet a b) ≡ 2
-depth_range_node place sheet a b = depth_range sheet (lower_corner place a b) (higher_corner place a b)
+depth_range_node place sheet a b = search tree_depths
 
 pub made-shallow : (x : Node) → depth_of x ≤ 64 → made x ≡ Some x
 unfolding made
@@ -74,7 +66,7 @@ pub made-deep : (x : Node) → 64 < depth_of x → made x ≡ None
 unfolding made
 made-deep x h = rw (lt-leb (depth_of x) 64 h) refl
 
-pub ruleset depths = (depth_boolean, depth_number, depth_text, depth_reference, depth_range, depth_colon, depth_concatenate, depth_compare, depth_sum, depth_product, depth_power, depth_unary, depth_call, depth_named_call, depth_array, depth_name, depth_error, depth_empty_argument, depth_spill, depth_lambda, depth_lambda_call, depth_implicit_intersection, depth_called, depth_worded, depth_infix, depth_postfix, depth_range_node, made-shallow, made-deep)
+pub ruleset depths = (tree_depths, depth_called, depth_worded, depth_infix, depth_postfix, depth_range_node, made-shallow, made-deep)
 
 pub greatest_push : (xs : List Node) (x : Node) → greatest (map depth_of (xs ++ x ∷ [])) ≡ max (greatest (map depth_of xs)) (depth_of x)
 greatest_push [] x = omega arith

@@ -13,5 +13,5 @@ pub mod Placing
 pub mod Numbering
 pub mod Holding
 pub mod Laws
-pub mod Counting
+pub mod Loops
 pub mod Signed

@@ -8,13 +8,8 @@ use Rattle.formula_tree.specs.declared.node.Node.{Node}
 use Rattle.formula_tree.specs.declared.node.Node.TheVariants as n
 use Rattle.formula_tree.specs.Depth.{depth_of}
 use Rattle.formula_tree.specs.laws.DepthEquations.{depth_number, depth_text, depth_reference, depth_error, depth_array, depth_empty_argument}
-use Rattle.formula_tree.specs.declared.operator.CompareKind.TheVariants as compare_kind
-use Rattle.formula_tree.specs.declared.operator.ProductKind.TheVariants as product_kind
-use Rattle.formula_tree.specs.declared.operator.SumKind.TheVariants as sum_kind
 use Rattle.formula_levels.specs.declared.infix.Infix.{Infix}
-use Rattle.formula_levels.specs.declared.infix.Infix.TheVariants as between
 use Rattle.formula_levels.specs.declared.postfix.Postfix.{Postfix}
-use Rattle.formula_levels.specs.declared.postfix.Postfix.TheVariants as postfix
 use Rattle.formula_levels.specs.declared.prefix.Prefix.{Prefix}
 use Rattle.formula_levels.specs.declared.prefix.Prefix.TheVariants as prefix
 use Rattle.formula_levels.specs.Levels.{infix_node, prefix_node, postfix_node}
@@ -117,39 +112,39 @@ module _ (p : Profile) (room : ℕ) where
   lifted : {level : ℕ} {ts rest : List Token} {out : Node} → IsExpression p level room ts rest out → IsExpression p (suc level) room ts rest out
   lifted d = record { by = G.lift d.by; parts = d.parts; gives = d.gives; within = d.within; shallow = d.shallow }
 
+  -- an operator of a level beside expressions of that level
   with_infix : (op : Infix) (under : ℕ) → infix_under op ≡ under → (all ts mid rest : List Token) (a b : Node) → ts ≡ infix_token op ∷ mid → depth_of (infix_node op a b) ≤ 64
       → IsExpression p (suc under) room all ts a → IsExpression p under room mid rest b → IsExpression p (suc under) room all rest (infix_node op a b)
-  with_infix op under e all ts mid rest a b is h = subst (λ (l : ℕ). IsExpression p (suc l) room all ts a → IsExpression p l room mid rest b → IsExpression p (suc l) room all rest (infix_node op a b)) e own
-    where
-      own : IsExpression p (suc (infix_under op)) room all ts a → IsExpression p (infix_under op) room mid rest b → IsExpression p (suc (infix_under op)) room all rest (infix_node op a b)
-      own x y = record {
+  with_infix op under e all ts mid rest a b is h left right =
+      let x = subst (λ (l : ℕ). IsExpression p (suc l) room all ts a) (sym e) left in
+      let y = subst (λ (l : ℕ). IsExpression p l room mid rest b) (sym e) right in
+      subst (λ (l : ℕ). IsExpression p (suc l) room all rest (infix_node op a b)) e (record {
         by = G.joined op x.by y.by;
         parts = between_parts (expression_tokens x.by) (infix_token op) (expression_tokens y.by) rest
             (x.parts ∙ ap (λ (l : List Token). expression_tokens x.by ++ l) (is ∙ ap (λ (l : List Token). infix_token op ∷ l) y.parts));
         gives = ap (λ (c : Node). infix_node op c (expression_tree y.by)) x.gives ∙ ap (infix_node op a) y.gives;
         within = omega (arith, x.within, y.within);
         shallow = h;
-      }
+      })
 
   with_postfix : (op : Postfix) (under : ℕ) → postfix_under op ≡ under → (all ts rest : List Token) (a : Node) → ts ≡ postfix_token op ∷ rest → depth_of (postfix_node op a) ≤ 64
       → IsExpression p (suc under) room all ts a → IsExpression p (suc under) room all rest (postfix_node op a)
-  with_postfix op under e all ts rest a is h = subst (λ (l : ℕ). IsExpression p (suc l) room all ts a → IsExpression p (suc l) room all rest (postfix_node op a)) e own
-    where
-      own : IsExpression p (suc (postfix_under op)) room all ts a → IsExpression p (suc (postfix_under op)) room all rest (postfix_node op a)
-      own x = record {
+  with_postfix op under e all ts rest a is h before =
+      let x = subst (λ (l : ℕ). IsExpression p (suc l) room all ts a) (sym e) before in
+      subst (λ (l : ℕ). IsExpression p (suc l) room all rest (postfix_node op a)) e (record {
         by = G.followed op x.by;
         parts = between_parts (expression_tokens x.by) (postfix_token op) [] rest (x.parts ∙ ap (λ (l : List Token). expression_tokens x.by ++ l) is);
         gives = ap (postfix_node op) x.gives;
         within = x.within;
         shallow = h;
-      }
+      })
 
   with_prefix : (op : Prefix) (under : ℕ) → prefix_under op ≡ under → (ts rest : List Token) (a : Node) → depth_of (prefix_node op a) ≤ 64
       → IsExpression p (suc under) room ts rest a → IsExpression p (suc under) room (prefix_token op ∷ ts) rest (prefix_node op a)
-  with_prefix op under e ts rest a h = subst (λ (l : ℕ). IsExpression p (suc l) room ts rest a → IsExpression p (suc l) room (prefix_token op ∷ ts) rest (prefix_node op a)) e own
-    where
-      own : IsExpression p (suc (prefix_under op)) room ts rest a → IsExpression p (suc (prefix_under op)) room (prefix_token op ∷ ts) rest (prefix_node op a)
-      own x = record { by = G.signed op x.by; parts = ap (λ (l : List Token). prefix_token op ∷ l) x.parts; gives = ap (prefix_node op) x.gives; within = x.within; shallow = h }
+  with_prefix op under e ts rest a h behind =
+      let x = subst (λ (l : ℕ). IsExpression p (suc l) room ts rest a) (sym e) behind in
+      subst (λ (l : ℕ). IsExpression p (suc l) room (prefix_token op ∷ ts) rest (prefix_node op a)) e
+      (record { by = G.signed op x.by; parts = ap (λ (l : List Token). prefix_token op ∷ l) x.parts; gives = ap (prefix_node op) x.gives; within = x.within; shallow = h })
 
   module _ (under : ℕ) (operand : Parser Node) (operand_sound : (ts rest : List Token) (out : Node) → operand ts ≡ Some (out, rest) → IsExpression p under room ts rest out) where
     -- an operator behind an expression

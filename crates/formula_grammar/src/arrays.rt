@@ -85,6 +85,7 @@ fn are_even(lines: &[Items<ArrayItem>]) -> bool
 }
 
 /// The lines of an array, up to its closing brace.
+#[tactic(auto, using(crate::proofs::Loops::turns))]
 fn rows(
     alloc: Global,
     profile: Profile,

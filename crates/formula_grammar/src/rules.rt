@@ -44,7 +44,7 @@ impl<F: Fn(Global, Profile, &mut Cursor<'_>, u64, u64) -> Result<Found, Fault>> 
     /// An expression of a level: signs, an operand of the next tighter level, and the operators of the
     /// level behind it, which group to the left.
     #[cycle(expression)]
-    #[tactic(auto, using(crate::proofs::Chains::chain_next, crate::proofs::Chains::chain_done, crate::proofs::Chains::expression_steps), unfolding(crate::specs::laws::Reading::expression))]
+    #[tactic(auto, using(crate::proofs::Loops::turns), unfolding(crate::specs::laws::Reading::expression))]
     pub fn expression(&self, tokens: &mut Cursor<'_>, level: u8) -> Result<Found, Fault>
         requires { Nests self.now.profile self.now.nesting (F.pre self.now.whole) (F.post self.now.whole) }
         ensures { Reads (spec.expression self.now.profile (spec.whole self.now.profile self.now.nesting) self.now.room level tokens.old.rest.now) result tokens.new.rest.now }
@@ -65,9 +65,16 @@ impl<F: Fn(Global, Profile, &mut Cursor<'_>, u64, u64) -> Result<Found, Fault>> 
 
     /// What an operator makes of the tree before it and of what follows.
     #[cycle(expression)]
-    fn turn(&self, tokens: &mut Cursor<'_>, under: u8, operator: Operator, left: Found) -> Result<Found, Fault>
+    fn turn(
+        &self,
+        tokens: &mut Cursor<'_>,
+        under: u8,
+        operator: Operator,
+        left: Found,
+    ) -> Result<Found, Fault>
         requires { Nests self.now.profile self.now.nesting (F.pre self.now.whole) (F.post self.now.whole) }
-        ensures { Reads (spec.turn (spec.expression self.now.profile (spec.whole self.now.profile self.now.nesting) self.now.room under) operator left tokens.old.rest.now) result tokens.new.rest.now }
+        ensures { let operand = spec.expression self.now.profile (spec.whole self.now.profile self.now.nesting) self.now.room under in
+            Reads (spec.turn operand operator left tokens.old.rest.now) result tokens.new.rest.now }
     {
         match operator {
             Operator::Infix(operator) => {
@@ -83,7 +90,8 @@ impl<F: Fn(Global, Profile, &mut Cursor<'_>, u64, u64) -> Result<Found, Fault>> 
     #[tactic(auto, using(crate::proofs::Signed::signed_counted))]
     fn signed(&self, tokens: &mut Cursor<'_>, under: u8) -> Result<Found, Fault>
         requires { Nests self.now.profile self.now.nesting (F.pre self.now.whole) (F.post self.now.whole) }
-        ensures { Reads (spec.signed under (spec.expression self.now.profile (spec.whole self.now.profile self.now.nesting) self.now.room under) tokens.old.rest.now) result tokens.new.rest.now }
+        ensures { let operand = spec.expression self.now.profile (spec.whole self.now.profile self.now.nesting) self.now.room under in
+            Reads (spec.signed under operand tokens.old.rest.now) result tokens.new.rest.now }
     {
         let count = tokens.signs(under);
         let operand = self.expression(tokens, under)?;
@@ -91,6 +99,7 @@ impl<F: Fn(Global, Profile, &mut Cursor<'_>, u64, u64) -> Result<Found, Fault>> 
     }
 
     /// The operand behind so many signs.
+    #[tactic(auto, using(crate::proofs::Loops::turns))]
     fn wrapped(&self, sign: Prefix, count: usize, operand: Found) -> Result<Found, Fault>
         ensures { Gives (wrapped sign count operand) result }
     {
@@ -187,6 +196,7 @@ impl<F: Fn(Global, Profile, &mut Cursor<'_>, u64, u64) -> Result<Found, Fault>> 
     }
 
     /// A lambda and its calls, after LAMBDA and the opening parenthesis.
+    #[tactic(auto, using(crate::proofs::Loops::turns), unfolding(crate::specs::laws::Reading::lambda))]
     fn lambda(&self, tokens: &mut Cursor<'_>) -> Result<Found, Fault>
         requires { Nests self.now.profile self.now.nesting (F.pre self.now.whole) (F.post self.now.whole) }
         ensures { Reads (spec.lambda self.now.profile (spec.whole self.now.profile self.now.nesting) self.now.room tokens.old.rest.now) result tokens.new.rest.now }
@@ -228,6 +238,7 @@ impl<F: Fn(Global, Profile, &mut Cursor<'_>, u64, u64) -> Result<Found, Fault>> 
     }
 
     /// The arguments of a call, up to the closing parenthesis.
+    #[tactic(auto, using(crate::proofs::Loops::turns), unfolding(crate::specs::laws::Reading::arguments))]
     fn arguments(&self, tokens: &mut Cursor<'_>) -> Result<FoundAll, Fault>
         requires { Nests self.now.profile self.now.nesting (F.pre self.now.whole) (F.post self.now.whole) }
         ensures { Reads (spec.arguments self.now.profile (spec.whole self.now.profile self.now.nesting) self.now.room tokens.old.rest.now) result tokens.new.rest.now }
@@ -249,6 +260,7 @@ impl<F: Fn(Global, Profile, &mut Cursor<'_>, u64, u64) -> Result<Found, Fault>> 
 
 /// A whole, with calls and parentheses nested no deeper than `nesting`, and with at most `room` open
 /// parentheses that are no call's.
+#[tactic(auto, using(crate::proofs::Loops::turns), unfolding(crate::specs::laws::Reading::whole))]
 pub fn whole(
     alloc: Global,
     profile: Profile,

@@ -1,4 +1,4 @@
-ghost use Rattle.std.specs.Prelude.{◌≡◌};
+ghost use Rattle.std.specs.Prelude.{◌≡◌, ◌≤◌};
 ghost use Rattle.formula_levels.specs.Levels.{infix_level, infix_node};
 
 use base_shared::Shared;
@@ -21,7 +21,8 @@ pub enum Infix {
 impl Infix {
     /// How tightly it binds: 1 is the loosest level, 10 the tightest.
     pub fn level(self) -> u8
-        ensures { result ≡ infix_level self }
+        ensures level { result ≡ infix_level self }
+        ensures most { result ≤ 10 }
     {
         match self {
             Infix::Compare(_) => 1,

@@ -19,8 +19,8 @@ use Rattle.formula_tree.specs.declared.SumKind.TheVariants as s
 use Rattle.formula_tree.specs.declared.ProductKind.{ProductKind}
 use Rattle.formula_tree.specs.declared.ProductKind.TheVariants as p
 use Rattle.formula_tree.specs.declared.Parameter.{Parameter}
-use Rattle.formula_print.specs.declared.kind.Infix.{Infix}
-use Rattle.formula_print.specs.declared.kind.Infix.TheVariants as op
+use Rattle.formula_levels.specs.declared.infix.Infix.{Infix}
+use Rattle.formula_levels.specs.declared.infix.Infix.TheVariants as op
 use Rattle.formula_print.specs.declared.style.Style.{Style}
 use Rattle.formula_print.specs.declared.style.Dialect.{Dialect}
 use Rattle.formula_print.specs.declared.style.Dialect.TheVariants.{Plain, Excel}
@@ -80,6 +80,7 @@ infix_sign op.Concatenate = codes "&"
 infix_sign (op.Sum kind) = sum_sign kind
 infix_sign (op.Product kind) = product_sign kind
 infix_sign op.Power = codes "^"
+infix_sign op.Colon = codes ":"
 
 -- ---- arrays
 

@@ -17,8 +17,11 @@ use Rattle.formula_print.specs.declared.kind.Kind.{Kind}
 use Rattle.formula_print.specs.declared.kind.Kind.TheVariants as k
 use Rattle.formula_print.specs.declared.kind.Need.{Need}
 use Rattle.formula_print.specs.declared.kind.Need.TheVariants as need
-use Rattle.formula_print.specs.declared.kind.Infix.{Infix}
-use Rattle.formula_print.specs.declared.kind.Infix.TheVariants as op
+use Rattle.formula_levels.specs.declared.infix.Infix.{Infix}
+use Rattle.formula_levels.specs.declared.infix.Infix.TheVariants as op
+use Rattle.formula_levels.specs.declared.postfix.Postfix.TheVariants as postfix
+use Rattle.formula_levels.specs.declared.prefix.Prefix.TheVariants as prefix
+use Rattle.formula_levels.specs.Levels.{prefix_level, postfix_level}
 use Rattle.formula_print.specs.declared.style.Style.{Style}
 use Rattle.formula_print.specs.declared.style.Dialect.{Dialect}
 use Rattle.formula_print.specs.declared.style.Dialect.TheVariants.{Plain, Excel}
@@ -53,22 +56,22 @@ abbrev pub first_text : Bool → Printed → List ℕ
 first_text cell_follows a = operand (need.LeftOfColon cell_follows) a ++ codes ":"
 
 abbrev pub colon_text : Printed → Printed → List ℕ
-colon_text a b = first_text b.cell_first a ++ operand (need.Level 10) b
+colon_text a b = first_text b.cell_first a ++ operand (right_need op.Colon) b
 
 abbrev pub unary_text : UnaryKind → Printed → List ℕ
 unary_text Minus a = codes "-" ++ operand need.Negated a
-unary_text Percent a = operand (need.Level 7) a ++ codes "%"
+unary_text Percent a = operand (need.Level (postfix_level postfix.Percent)) a ++ codes "%"
 
 abbrev pub unary_kind : UnaryKind → Kind
-unary_kind Minus = k.Minus
-unary_kind Percent = k.Percent
+unary_kind Minus = k.Prefix prefix.Minus
+unary_kind Percent = k.Postfix postfix.Percent
 
 -- an operand as the one argument of a call
 abbrev pub one_argument_call : List ℕ → Printed → List ℕ
 one_argument_call word a = word ++ in_parentheses a.text
 
 abbrev pub spill_text : Dialect → Printed → List ℕ
-spill_text Plain a = operand (need.Level 10) a ++ codes "#"
+spill_text Plain a = operand (need.Level (postfix_level postfix.Spill)) a ++ codes "#"
 spill_text Excel a = one_argument_call spill_word a
 
 abbrev pub spill_cell_first : Dialect → Bool → Bool
@@ -76,7 +79,7 @@ spill_cell_first Plain cell_first = cell_first
 spill_cell_first Excel cell_first = false
 
 abbrev pub intersection_text : Dialect → Printed → List ℕ
-intersection_text Plain a = codes "@" ++ operand (need.Level 8) a
+intersection_text Plain a = codes "@" ++ operand (need.Level (prefix_level prefix.At)) a
 intersection_text Excel a = one_argument_call single_word a
 
 abbrev pub later_argument : Style → Printed → List ℕ
@@ -110,12 +113,12 @@ print_layer style (layer.Reference sheet corner) =
     record { kind = k.Reference; cell_first = reference_cell_first style.corners sheet corner; text = reference_text style.corners sheet corner }
 print_layer style (layer.Range sheet first second) =
     record { kind = k.Value; cell_first = range_cell_first style.corners sheet first second; text = range_text style.corners sheet first second }
-print_layer style (layer.Colon a b) = plainly k.Colon (colon_text a b)
-print_layer style (layer.Concatenate a b) = plainly k.Concatenate (infix_text op.Concatenate a b)
-print_layer style (layer.Compare kind a b) = plainly k.Compare (infix_text (op.Compare kind) a b)
-print_layer style (layer.Sum kind a b) = plainly k.Sum (infix_text (op.Sum kind) a b)
-print_layer style (layer.Product kind a b) = plainly k.Product (infix_text (op.Product kind) a b)
-print_layer style (layer.Power a b) = plainly k.Power (infix_text op.Power a b)
+print_layer style (layer.Colon a b) = plainly (k.Infix op.Colon) (colon_text a b)
+print_layer style (layer.Concatenate a b) = plainly (k.Infix op.Concatenate) (infix_text op.Concatenate a b)
+print_layer style (layer.Compare kind a b) = plainly (k.Infix (op.Compare kind)) (infix_text (op.Compare kind) a b)
+print_layer style (layer.Sum kind a b) = plainly (k.Infix (op.Sum kind)) (infix_text (op.Sum kind) a b)
+print_layer style (layer.Product kind a b) = plainly (k.Infix (op.Product kind)) (infix_text (op.Product kind) a b)
+print_layer style (layer.Power a b) = plainly (k.Infix op.Power) (infix_text op.Power a b)
 print_layer style (layer.Unary kind a) = plainly (unary_kind kind) (unary_text kind a)
 print_layer style (layer.Call function all) = plainly k.Other (call_text style (function_word style function) all)
 print_layer style (layer.NamedCall name all) = plainly k.Other (call_text style (lowered name) all)
@@ -124,10 +127,10 @@ print_layer style (layer.Name name) = plainly k.Name name
 print_layer style (layer.Error error) = plainly k.Other (error_text error)
 print_layer style (layer.ParseError text) = plainly k.Other text
 print_layer style layer.EmptyArgument = plainly k.Other []
-print_layer style (layer.Spill a) = record { kind = k.Spill; cell_first = spill_cell_first style.dialect a.cell_first; text = spill_text style.dialect a }
+print_layer style (layer.Spill a) = record { kind = k.Postfix postfix.Spill; cell_first = spill_cell_first style.dialect a.cell_first; text = spill_text style.dialect a }
 print_layer style (layer.Lambda parameters a) = plainly k.Lambda (lambda_text style parameters a)
 print_layer style (layer.LambdaCall a all) = plainly k.Lambda (call_text style (operand need.Callee a) all)
-print_layer style (layer.ImplicitIntersection a) = plainly k.Intersection (intersection_text style.dialect a)
+print_layer style (layer.ImplicitIntersection a) = plainly (k.Prefix prefix.At) (intersection_text style.dialect a)
 
 -- a tree in a form of this style
 unfoldable pub printed : Style → Node → Printed

@@ -1,21 +1,18 @@
 ghost use Rattle.std.specs.Prelude.{◌≡◌};
 ghost use Rattle.formula_print.specs.Kinds.{level_of, is_simple, is_percent, is_sign, is_number_or_name, is_reference, is_lambda, fits, left_need, right_need};
 
-use formula_tree::{CompareKind, ProductKind, SumKind};
+use formula_levels::{Infix, Postfix, Prefix};
+use formula_tree::SumKind;
+
+/// The level of what is no operator: all operators are looser.
+const OPERAND: u8 = 11;
 
 /// What the rules of parentheses see of a tree.
 #[derive(Clone, Copy)]
 pub enum Kind {
-    Compare,
-    Concatenate,
-    Sum,
-    Product,
-    Power,
-    Minus,
-    Percent,
-    Intersection,
-    Colon,
-    Spill,
+    Infix(Infix),
+    Prefix(Prefix),
+    Postfix(Postfix),
     Number,
     Name,
     Reference,
@@ -43,42 +40,24 @@ pub enum Need {
     Callee,
 }
 
-/// An operator between two operands, without `:`.
-#[derive(Clone, Copy)]
-pub enum Infix {
-    Compare(CompareKind),
-    Concatenate,
-    Sum(SumKind),
-    Product(ProductKind),
-    Power,
+/// What the left operand must be to stand without parentheses. That of `:` asks for more.
+pub(crate) fn left_need(operator: Infix) -> Need
+    ensures { result ≡ left_need operator }
+{
+    match operator {
+        Infix::Power => Need::Base,
+        _ => Need::Level(operator.level()),
+    }
 }
 
-impl Infix {
-    /// What the left operand must be to stand without parentheses.
-    pub(crate) fn left_need(self) -> Need
-        ensures { result ≡ left_need self }
-    {
-        match self {
-            Infix::Compare(_) => Need::Level(1),
-            Infix::Concatenate => Need::Level(2),
-            Infix::Sum(_) => Need::Level(3),
-            Infix::Product(_) => Need::Level(4),
-            Infix::Power => Need::Base,
-        }
-    }
-
-    /// What the right operand must be to stand without parentheses.
-    pub(crate) fn right_need(self) -> Need
-        ensures { result ≡ right_need self }
-    {
-        match self {
-            Infix::Compare(_) => Need::Level(2),
-            Infix::Concatenate => Need::Level(3),
-            Infix::Sum(SumKind::Add) => Need::Level(3),
-            Infix::Sum(SumKind::Subtract) => Need::Level(4),
-            Infix::Product(_) => Need::Level(5),
-            Infix::Power => Need::Exponent,
-        }
+/// What the right operand must be to stand without parentheses.
+pub(crate) fn right_need(operator: Infix) -> Need
+    ensures { result ≡ right_need operator }
+{
+    match operator {
+        Infix::Power => Need::Exponent,
+        Infix::Sum(SumKind::Add) => Need::Level(operator.level()),
+        _ => Need::Level(operator.level() + 1),
     }
 }
 
@@ -88,22 +67,10 @@ impl Kind {
         ensures { result ≡ level_of self }
     {
         match self {
-            Kind::Compare => 1,
-            Kind::Concatenate => 2,
-            Kind::Sum => 3,
-            Kind::Product => 4,
-            Kind::Power => 5,
-            Kind::Minus => 6,
-            Kind::Percent => 7,
-            Kind::Intersection => 8,
-            Kind::Colon => 9,
-            Kind::Spill => 10,
-            Kind::Number
-            | Kind::Name
-            | Kind::Reference
-            | Kind::Value
-            | Kind::Lambda
-            | Kind::Other => 11,
+            Kind::Infix(operator) => operator.level(),
+            Kind::Prefix(operator) => operator.level(),
+            Kind::Postfix(operator) => operator.level(),
+            _ => OPERAND,
         }
     }
 
@@ -120,7 +87,7 @@ impl Kind {
         ensures { result ≡ is_percent self }
     {
         match self {
-            Kind::Percent => true,
+            Kind::Postfix(Postfix::Percent) => true,
             _ => false,
         }
     }
@@ -129,7 +96,7 @@ impl Kind {
         ensures { result ≡ is_sign self }
     {
         match self {
-            Kind::Minus | Kind::Percent => true,
+            Kind::Prefix(Prefix::Minus) | Kind::Postfix(Postfix::Percent) => true,
             _ => false,
         }
     }
@@ -167,11 +134,11 @@ impl Kind {
     {
         match need {
             Need::Level(least) => least <= self.level(),
-            Need::Negated => 6 <= self.level() && !self.is_percent(),
+            Need::Negated => Prefix::Minus.level() <= self.level() && !self.is_percent(),
             Need::Base => self.is_simple() || self.is_sign(),
             Need::Exponent => self.is_simple(),
             Need::LeftOfColon { cell_follows } => {
-                10 <= self.level()
+                Infix::Colon.level() < self.level()
                     && !self.is_number_or_name()
                     && !(cell_follows && self.is_reference())
             }

@@ -17,5 +17,5 @@ pub use forms::{
     to_english_string, to_excel_array_formula_string, to_excel_string, to_localized_string,
     to_rc_format,
 };
-pub use kind::{Infix, Kind, Need};
+pub use kind::{Kind, Need};
 pub use style::{Corners, Dialect, Style};

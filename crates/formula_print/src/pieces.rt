@@ -6,11 +6,11 @@ ghost use Rattle.base_tables.specs.Tables.{lowered};
 ghost use Rattle.base_decimal.specs.Printed.{printed as decimal_text};
 ghost use Rattle.formula_print.specs.Pieces as spec;
 
-use crate::kind::Infix;
 use crate::style::{Dialect, Style};
 use base_decimal::Decimal;
 use base_tables::{Function, Locale};
 use base_values::{Items, Text};
+use formula_levels::Infix;
 use formula_tree::{ArrayItem, CompareKind, Parameter, ProductKind, SumKind};
 use std::alloc::AllocError;
 
@@ -142,6 +142,7 @@ pub(crate) fn infix_sign(operator: Infix) -> &'static str
         Infix::Sum(kind) => sum_sign(kind),
         Infix::Product(kind) => product_sign(kind),
         Infix::Power => "^",
+        Infix::Colon => ":",
     }
 }
 

@@ -5,7 +5,7 @@ ghost use Rattle.formula_print.specs.Kinds.{right_need};
 ghost use Rattle.formula_print.specs.Pieces.{function_word};
 ghost use Rattle.formula_print.specs.Print as spec;
 
-use crate::kind::{Infix, Kind, Need};
+use crate::kind::{Kind, Need, left_need, right_need};
 use crate::pieces::{
     function_word, infix_sign, lambda_word, push_array, push_lowered, push_number, push_parameters,
     push_text, single_word, spill_word,
@@ -13,6 +13,7 @@ use crate::pieces::{
 use crate::reference::{is_cell_first, is_range_cell_first, push_range, push_reference};
 use crate::style::{Dialect, Style};
 use base_tables::{Function, Locale};
+use formula_levels::{Infix, Postfix, Prefix};
 use formula_tree::{Node, Parameter, UnaryKind};
 use std::alloc::AllocError;
 
@@ -20,8 +21,8 @@ fn unary_kind(kind: UnaryKind) -> Kind
     ensures { result ≡ spec.unary_kind kind }
 {
     match kind {
-        UnaryKind::Minus => Kind::Minus,
-        UnaryKind::Percent => Kind::Percent,
+        UnaryKind::Minus => Kind::Prefix(Prefix::Minus),
+        UnaryKind::Percent => Kind::Postfix(Postfix::Percent),
     }
 }
 
@@ -36,12 +37,12 @@ fn kind_of(node: &Node) -> Kind
         Node::Text(_) => Kind::Value,
         Node::Reference(_, _) => Kind::Reference,
         Node::Range(..) => Kind::Value,
-        Node::Colon(_, _) => Kind::Colon,
-        Node::Concatenate(_, _) => Kind::Concatenate,
-        Node::Compare(..) => Kind::Compare,
-        Node::Sum(..) => Kind::Sum,
-        Node::Product(..) => Kind::Product,
-        Node::Power(_, _) => Kind::Power,
+        Node::Colon(_, _) => Kind::Infix(Infix::Colon),
+        Node::Concatenate(_, _) => Kind::Infix(Infix::Concatenate),
+        Node::Compare(kind, _, _) => Kind::Infix(Infix::Compare(*kind)),
+        Node::Sum(kind, _, _) => Kind::Infix(Infix::Sum(*kind)),
+        Node::Product(kind, _, _) => Kind::Infix(Infix::Product(*kind)),
+        Node::Power(_, _) => Kind::Infix(Infix::Power),
         Node::Unary(kind, _) => unary_kind(*kind),
         Node::Call(_, _) => Kind::Other,
         Node::NamedCall(_, _) => Kind::Other,
@@ -50,10 +51,10 @@ fn kind_of(node: &Node) -> Kind
         Node::Error(_) => Kind::Other,
         Node::ParseError(_) => Kind::Other,
         Node::EmptyArgument => Kind::Other,
-        Node::Spill(_) => Kind::Spill,
+        Node::Spill(_) => Kind::Postfix(Postfix::Spill),
         Node::Lambda(_, _) => Kind::Lambda,
         Node::LambdaCall(_, _) => Kind::Lambda,
-        Node::ImplicitIntersection(_) => Kind::Intersection,
+        Node::ImplicitIntersection(_) => Kind::Prefix(Prefix::At),
     }
 }
 
@@ -123,7 +124,7 @@ pub(crate) fn print_node(style: Style, node: &Node, out: &mut String) -> Result<
         Node::Range(sheet, a, b) => push_range(style.corners, sheet, *a, *b, out),
         Node::Colon(a, b) => {
             print_first(style, begins_with_cell(style, b.get()), a.get(), out)?;
-            print_operand(style, Need::Level(10), b.get(), out)
+            print_right(style, Infix::Colon, b.get(), out)
         }
         Node::Concatenate(a, b) => print_infix!(style, Infix::Concatenate, a, b, out),
         Node::Compare(kind, a, b) => print_infix!(style, Infix::Compare(*kind), a, b, out),
@@ -179,7 +180,7 @@ fn print_left(
 ) -> Result<(), AllocError>
     ensures { OnOk result (string_bytes out.new ≡ string_bytes out.old ++ spec.left_text operator (spec.printed style node.now)) }
 {
-    print_operand(style, operator.left_need(), node, out)?;
+    print_operand(style, left_need(operator), node, out)?;
     out.push_str(infix_sign(operator))
 }
 
@@ -193,7 +194,7 @@ fn print_right(
 ) -> Result<(), AllocError>
     ensures { OnOk result (string_bytes out.new ≡ string_bytes out.old ++ spec.operand (right_need operator) (spec.printed style node.now)) }
 {
-    print_operand(style, operator.right_need(), node, out)
+    print_operand(style, right_need(operator), node, out)
 }
 
 /// The left operand of `:`, and the sign.
@@ -225,7 +226,7 @@ fn print_unary(
             print_operand(style, Need::Negated, node, out)
         }
         UnaryKind::Percent => {
-            print_operand(style, Need::Level(7), node, out)?;
+            print_operand(style, Need::Level(Postfix::Percent.level()), node, out)?;
             out.push_str("%")
         }
     }
@@ -246,7 +247,7 @@ fn print_spill(style: Style, node: &Node, out: &mut String) -> Result<(), AllocE
 {
     match style.dialect {
         Dialect::Plain => {
-            print_operand(style, Need::Level(10), node, out)?;
+            print_operand(style, Need::Level(Postfix::Spill.level()), node, out)?;
             out.push_str("#")
         }
         Dialect::Excel => print_as_call(style, spill_word(), node, out),
@@ -260,7 +261,7 @@ fn print_intersection(style: Style, node: &Node, out: &mut String) -> Result<(),
     match style.dialect {
         Dialect::Plain => {
             out.push_str("@")?;
-            print_operand(style, Need::Level(8), node, out)
+            print_operand(style, Need::Level(Prefix::At.level()), node, out)
         }
         Dialect::Excel => print_as_call(style, single_word(), node, out),
     }

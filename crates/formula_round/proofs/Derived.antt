@@ -9,13 +9,11 @@ use Rattle.base_tables.specs.Function.{function_name}
 use Rattle.base_tables.specs.Tables.{lowered}
 use Rattle.base_tables.specs.laws.Tables.{both_parts}
 use Rattle.formula_tree.specs.declared.ArrayItem.{ArrayItem}
-use Rattle.formula_tree.specs.declared.CompareKind.{CompareKind}
 use Rattle.formula_tree.specs.declared.Corner.{Corner}
 use Rattle.formula_tree.specs.declared.Node.{Node}
 use Rattle.formula_tree.specs.declared.Node.TheOpen as layer
 use Rattle.formula_tree.specs.declared.Node.TheVariants as n
 use Rattle.formula_tree.specs.declared.Parameter.{Parameter}
-use Rattle.formula_tree.specs.declared.ProductKind.{ProductKind}
 use Rattle.formula_tree.specs.declared.SumKind.{SumKind}
 use Rattle.formula_tree.specs.declared.SumKind.TheVariants.{Add, Subtract}
 use Rattle.formula_tree.specs.declared.UnaryKind.{UnaryKind}
@@ -25,16 +23,15 @@ use Rattle.formula_tree.specs.Depth.{depth_of, greatest}
 use Rattle.formula_tree.specs.Placed.{is_placed_range}
 use Rattle.formula_tree.specs.laws.Induction.{induct}
 use Rattle.formula_levels.specs.declared.Infix.{Infix}
-use Rattle.formula_levels.specs.declared.Infix.TheVariants as between
-use Rattle.formula_levels.specs.declared.Postfix.TheVariants as behind
-use Rattle.formula_levels.specs.declared.Prefix.TheVariants as before
-use Rattle.formula_levels.specs.Levels.{infix_node}
-use Rattle.formula_print.specs.declared.Infix.TheVariants as op
+use Rattle.formula_levels.specs.declared.Infix.TheVariants as op
+use Rattle.formula_levels.specs.declared.Postfix.TheVariants as postfix
+use Rattle.formula_levels.specs.declared.Prefix.TheVariants as prefix
+use Rattle.formula_levels.specs.Levels.{prefix_level, postfix_level, infix_node}
 use Rattle.formula_print.specs.declared.Kind.{Kind}
 use Rattle.formula_print.specs.declared.Kind.TheVariants as k
 use Rattle.formula_print.specs.declared.Need.{Need}
 use Rattle.formula_print.specs.declared.Need.TheVariants as need
-use Rattle.formula_print.specs.Kinds.{is_lambda, right_need}
+use Rattle.formula_print.specs.Kinds.{is_lambda, left_need, right_need}
 use Rattle.formula_print.specs.Print.{unary_kind}
 use Rattle.formula_grammar.specs.declared.Profile.{Profile}
 use Rattle.formula_grammar.specs.declared.Token.{Token}
@@ -49,7 +46,7 @@ use Rattle.formula_round.specs.Tokens.{infix_tokens, colon_tokens, unary_tokens,
 use Rattle.formula_round.proofs.Arrays.{table}
 use Rattle.formula_round.proofs.Calls.{listed, function_applicable, applied_applicable, applicable_expressed}
 use Rattle.formula_round.proofs.Cells.{reference_expressed, range_expressed}
-use Rattle.formula_round.proofs.Expressions.{Expressed, itself, looser}
+use Rattle.formula_round.proofs.Expressions.{Expressed, itself, looser, same_level}
 use Rattle.formula_round.proofs.Layers.{holds_at}
 use Rattle.formula_round.proofs.Named.{boolean_expressed, name_expressed, function_call_expressed, named_call_expressed}
 use Rattle.formula_round.proofs.Operands.{stands, Own, whole, fits_within, infix_operands, prefix_operand, postfix_operand}
@@ -61,34 +58,68 @@ at_least : (least : ℕ) (kind : Kind) → fits_within (need.Level least) (11 - 
 at_least least kind = grind (arith, nat_tests)
 
 negated_within : (kind : Kind) → fits_within need.Negated 5 kind ≡ true
-negated_within k.Compare = refl
+negated_within (k.Infix op.Power) = refl
+negated_within (k.Prefix prefix.Minus) = refl
+negated_within (k.Postfix postfix.Percent) = refl
 negated_within _ = refl
 
 base_within : (kind : Kind) → fits_within need.Base 6 kind ≡ true
-base_within k.Compare = refl
+base_within (k.Prefix prefix.Minus) = refl
+base_within (k.Postfix postfix.Percent) = refl
 base_within _ = refl
 
 exponent_within : (kind : Kind) → fits_within need.Exponent 5 kind ≡ true
-exponent_within k.Compare = refl
+exponent_within k.Number = refl
 exponent_within _ = refl
 
 left_of_colon_within : (cell_follows : Bool) (kind : Kind) → fits_within (need.LeftOfColon cell_follows) 2 kind ≡ true
-left_of_colon_within true k.Compare = refl
-left_of_colon_within false k.Compare = refl
+left_of_colon_within true (k.Infix op.Power) = refl
+left_of_colon_within true (k.Prefix prefix.Minus) = refl
+left_of_colon_within true (k.Postfix postfix.Percent) = refl
+left_of_colon_within false (k.Infix op.Power) = refl
+left_of_colon_within false (k.Prefix prefix.Minus) = refl
+left_of_colon_within false (k.Postfix postfix.Percent) = refl
 left_of_colon_within _ _ = refl
 
+left_within : (operator : Infix) (kind : Kind) → fits_within (left_need operator) (suc (infix_under operator)) kind ≡ true
+left_within (op.Compare _) kind = at_least 1 kind
+left_within op.Concatenate kind = at_least 2 kind
+left_within (op.Sum _) kind = at_least 3 kind
+left_within (op.Product _) kind = at_least 4 kind
+left_within op.Power kind = base_within kind
+left_within op.Colon kind = at_least 9 kind
+
 sum_within : (kind : Kind) → not (is_sum (sort_of kind)) ≡ true → fits_within (need.Level 3) 7 kind ≡ true
-sum_within k.Sum is_no = absurd cc
+sum_within (k.Infix (op.Sum _)) is_no = absurd cc
+sum_within (k.Prefix prefix.Minus) is_no = refl
+sum_within (k.Postfix postfix.Percent) is_no = refl
 sum_within _ is_no = refl
 
 -- no sum stands on the right of `+`
-right_within : (kind : SumKind) (b : Kind) (seen : Seen) → seen.sort ≡ sort_of b → right_of_sum kind seen ≡ true
-    → fits_within (right_need (op.Sum kind)) 7 b ≡ true
-right_within Add b seen sorted fine = sum_within b (ap (λ (s : Sort). not (is_sum s)) (sym sorted) ∙ fine)
-right_within Subtract b seen sorted fine = at_least 4 b
+abbrev may_stand_right : Infix → Kind → Bool
+may_stand_right (op.Sum Add) kind = not (is_sum (sort_of kind))
+may_stand_right _ kind = true
+
+right_within : (operator : Infix) (kind : Kind) → may_stand_right operator kind ≡ true → fits_within (right_need operator) (infix_under operator) kind ≡ true
+right_within (op.Compare _) kind may = at_least 2 kind
+right_within op.Concatenate kind may = at_least 3 kind
+right_within (op.Sum Add) kind may = sum_within kind may
+right_within (op.Sum Subtract) kind may = at_least 4 kind
+right_within (op.Product _) kind may = at_least 5 kind
+right_within op.Power kind may = exponent_within kind
+right_within op.Colon kind may = at_least 10 kind
+
+right_of_sum_may : (kind : SumKind) (b : Kind) (seen : Seen) → seen.sort ≡ sort_of b → right_of_sum kind seen ≡ true → may_stand_right (op.Sum kind) b ≡ true
+right_of_sum_may Add b seen sorted fine = ap (λ (s : Sort). not (is_sum s)) (sym sorted) ∙ fine
+right_of_sum_may Subtract b seen sorted fine = refl
+
+infix_stands : (operator : Infix) → suc (infix_under operator) ≡ stands (k.Infix operator)
+infix_stands op.Power = refl
+infix_stands _ = refl
 
 callee_is_lambda : (kind : Kind) → is_callee (sort_of kind) ≡ true → is_lambda kind ≡ true
 callee_is_lambda k.Lambda is = refl
+callee_is_lambda (k.Infix (op.Sum _)) is = absurd cc
 callee_is_lambda _ is = absurd cc
 
 -- ---- outcomes
@@ -113,68 +144,51 @@ module _ (p : Profile) where
 
   -- ---- operators
 
-  -- what stands there without parentheses is an expression of the level, whatever its kind
-  abbrev Within : Need → ℕ → Type 0
-  Within need level = (kind : Kind) → fits_within need level kind ≡ true
-
   module _ (a b : Node) (holds_a : Holds p a) (holds_b : Holds p b) where
-    abbrev both_fine : Bool
-    both_fine = operand (seen_of p a) && operand (seen_of p b)
+    abbrev Joined : Infix → List Token → Type 0
+    Joined operator tokens = Outcome p (k.Infix operator) tokens (sort_of (k.Infix operator)) (infix_node operator a b) (max (depth_of a) (depth_of b) + 1)
 
-    binary : (op : Infix) (left right : Need) → Within left (suc (infix_under op)) → Within right (infix_under op) → both_fine ≡ true
-        → Expressed p (suc (infix_under op)) (operand_tokens left (tokened p a) ++ infix_token op ∷ operand_tokens right (tokened p b)) (infix_node op a b)
-        (max (depth_of a) (depth_of b) + 1)
-    binary op left right low_left low_right fine =
+    joined : (operator : Infix) (left right : Need) → fits_within left (suc (infix_under operator)) (tokened p a).kind ≡ true
+        → fits_within right (infix_under operator) (tokened p b).kind ≡ true → operand (seen_of p a) && operand (seen_of p b) ≡ true
+        → Joined operator (operand_tokens left (tokened p a) ++ infix_token operator ∷ operand_tokens right (tokened p b))
+    joined operator left right low_left low_right fine =
         let parts = both_parts (operand (seen_of p a)) (operand (seen_of p b)) fine in
-        infix_operands op left right (tokened p a) (tokened p b) (low_left (tokened p a).kind) (low_right (tokened p b).kind)
-        (own a holds_a parts.0) (own b holds_b parts.1)
+        let x = infix_operands operator left right (tokened p a) (tokened p b) low_left low_right (own a holds_a parts.0) (own b holds_b parts.1) in
+        expression refl (same_level (infix_stands operator) x)
 
-    abbrev Joined : Kind → List Token → Node → Type 0
-    Joined kind tokens tree = Outcome p kind tokens (sort_of kind) tree (max (depth_of a) (depth_of b) + 1)
-
-    colon_outcome : both_fine ≡ true → Joined k.Colon (colon_tokens (tokened p a) (tokened p b)) (n.Colon a b)
+    colon_outcome : operand (seen_of p a) && operand (seen_of p b) ≡ true → Joined op.Colon (colon_tokens (tokened p a) (tokened p b))
     colon_outcome fine =
         let follows = (tokened p b).cell_first in
-        expression refl (binary between.Colon (need.LeftOfColon follows) (need.Level 10) (left_of_colon_within follows) (at_least 10) fine)
+        joined op.Colon (need.LeftOfColon follows) (right_need op.Colon) (left_of_colon_within follows (tokened p a).kind)
+        (right_within op.Colon (tokened p b).kind refl) fine
 
-    concatenate_outcome : both_fine ≡ true → Joined k.Concatenate (infix_tokens op.Concatenate (tokened p a) (tokened p b)) (n.Concatenate a b)
-    concatenate_outcome fine = expression refl (binary between.Concatenate (need.Level 2) (need.Level 3) (at_least 2) (at_least 3) fine)
+    infix_outcome : (operator : Infix) → may_stand_right operator (tokened p b).kind ≡ true → operand (seen_of p a) && operand (seen_of p b) ≡ true
+        → Joined operator (infix_tokens operator (tokened p a) (tokened p b))
+    infix_outcome operator may fine =
+        joined operator (left_need operator) (right_need operator) (left_within operator (tokened p a).kind) (right_within operator (tokened p b).kind may) fine
 
-    compare_outcome : (kind : CompareKind) → both_fine ≡ true
-        → Joined k.Compare (infix_tokens (op.Compare kind) (tokened p a) (tokened p b)) (n.Compare kind a b)
-    compare_outcome kind fine = expression refl (binary (between.Compare kind) (need.Level 1) (need.Level 2) (at_least 1) (at_least 2) fine)
-
-    sum_outcome : (kind : SumKind) → both_fine && right_of_sum kind (seen_of p b) ≡ true
-        → Joined k.Sum (infix_tokens (op.Sum kind) (tokened p a) (tokened p b)) (n.Sum kind a b)
+    sum_outcome : (kind : SumKind) → (operand (seen_of p a) && operand (seen_of p b)) && right_of_sum kind (seen_of p b) ≡ true
+        → Joined (op.Sum kind) (infix_tokens (op.Sum kind) (tokened p a) (tokened p b))
     sum_outcome kind fine =
-        let parts = both_parts both_fine (right_of_sum kind (seen_of p b)) fine in
-        let operands = both_parts (operand (seen_of p a)) (operand (seen_of p b)) parts.0 in
-        let right = operand_whole p b holds_b operands.1 in
-        expression refl (infix_operands (between.Sum kind) (need.Level 3) (right_need (op.Sum kind)) (tokened p a) (tokened p b) (at_least 3 (tokened p a).kind)
-        (right_within kind (tokened p b).kind (seen_of p b) right.sorted parts.1) (own a holds_a operands.0) right.expressed)
-
-    product_outcome : (kind : ProductKind) → both_fine ≡ true
-        → Joined k.Product (infix_tokens (op.Product kind) (tokened p a) (tokened p b)) (n.Product kind a b)
-    product_outcome kind fine = expression refl (binary (between.Product kind) (need.Level 4) (need.Level 5) (at_least 4) (at_least 5) fine)
-
-    power_outcome : both_fine ≡ true → Joined k.Power (infix_tokens op.Power (tokened p a) (tokened p b)) (n.Power a b)
-    power_outcome fine = expression refl (binary between.Power need.Base need.Exponent base_within exponent_within fine)
+        let parts = both_parts (operand (seen_of p a) && operand (seen_of p b)) (right_of_sum kind (seen_of p b)) fine in
+        let right = operand_whole p b holds_b (both_parts (operand (seen_of p a)) (operand (seen_of p b)) parts.0).1 in
+        infix_outcome (op.Sum kind) (right_of_sum_may kind (tokened p b).kind (seen_of p b) right.sorted parts.1) parts.0
 
   module _ (a : Node) (holds : Holds p a) where
     unary_outcome : (kind : UnaryKind) → operand (seen_of p a) ≡ true
         → Outcome p (unary_kind kind) (unary_tokens kind (tokened p a)) other (n.Unary kind a) (depth_of a + 1)
     unary_outcome Minus fine =
-        expression refl (prefix_operand before.Minus need.Negated (tokened p a) (negated_within (tokened p a).kind) (own a holds fine))
+        expression refl (prefix_operand prefix.Minus need.Negated (tokened p a) (negated_within (tokened p a).kind) (own a holds fine))
     unary_outcome Percent fine =
-        expression refl (postfix_operand behind.Percent (need.Level 7) (tokened p a) (at_least 7 (tokened p a).kind) (own a holds fine))
+        expression refl (postfix_operand postfix.Percent (need.Level 7) (tokened p a) (at_least 7 (tokened p a).kind) (own a holds fine))
 
     spill_outcome : operand (seen_of p a) ≡ true
-        → Outcome p k.Spill (operand_tokens (need.Level 10) (tokened p a) ++ t.Hash ∷ []) other (n.Spill a) (depth_of a + 1)
-    spill_outcome fine = expression refl (postfix_operand behind.Spill (need.Level 10) (tokened p a) (at_least 10 (tokened p a).kind) (own a holds fine))
+        → Outcome p (k.Postfix postfix.Spill) (operand_tokens (need.Level (postfix_level postfix.Spill)) (tokened p a) ++ t.Hash ∷ []) other (n.Spill a) (depth_of a + 1)
+    spill_outcome fine = expression refl (postfix_operand postfix.Spill (need.Level 10) (tokened p a) (at_least 10 (tokened p a).kind) (own a holds fine))
 
     intersection_outcome : operand (seen_of p a) ≡ true
-        → Outcome p k.Intersection (t.At ∷ operand_tokens (need.Level 8) (tokened p a)) other (n.ImplicitIntersection a) (depth_of a + 1)
-    intersection_outcome fine = expression refl (prefix_operand before.At (need.Level 8) (tokened p a) (at_least 8 (tokened p a).kind) (own a holds fine))
+        → Outcome p (k.Prefix prefix.At) (t.At ∷ operand_tokens (need.Level (prefix_level prefix.At)) (tokened p a)) other (n.ImplicitIntersection a) (depth_of a + 1)
+    intersection_outcome fine = expression refl (prefix_operand prefix.At (need.Level 8) (tokened p a) (at_least 8 (tokened p a).kind) (own a holds fine))
 
   -- ---- calls and lambdas
 
@@ -249,11 +263,11 @@ module _ (p : Profile) where
     reference = λ sheet corner. holds_at p (layer.Reference sheet corner) _ (n.rolls-Reference sheet corner) (reference_outcome sheet corner);
     range = λ sheet first second. holds_at p (layer.Range sheet first second) _ (n.rolls-Range sheet first second) (range_outcome sheet first second);
     colon = λ a b x y. holds_at p (layer.Colon a b) _ (n.rolls-Colon a b) (colon_outcome a b x y);
-    concatenate = λ a b x y. holds_at p (layer.Concatenate a b) _ (n.rolls-Concatenate a b) (concatenate_outcome a b x y);
-    compare = λ kind a b x y. holds_at p (layer.Compare kind a b) _ (n.rolls-Compare kind a b) (compare_outcome a b x y kind);
+    concatenate = λ a b x y. holds_at p (layer.Concatenate a b) _ (n.rolls-Concatenate a b) (infix_outcome a b x y op.Concatenate refl);
+    compare = λ kind a b x y. holds_at p (layer.Compare kind a b) _ (n.rolls-Compare kind a b) (infix_outcome a b x y (op.Compare kind) refl);
     sum = λ kind a b x y. holds_at p (layer.Sum kind a b) _ (n.rolls-Sum kind a b) (sum_outcome a b x y kind);
-    product = λ kind a b x y. holds_at p (layer.Product kind a b) _ (n.rolls-Product kind a b) (product_outcome a b x y kind);
-    power = λ a b x y. holds_at p (layer.Power a b) _ (n.rolls-Power a b) (power_outcome a b x y);
+    product = λ kind a b x y. holds_at p (layer.Product kind a b) _ (n.rolls-Product kind a b) (infix_outcome a b x y (op.Product kind) refl);
+    power = λ a b x y. holds_at p (layer.Power a b) _ (n.rolls-Power a b) (infix_outcome a b x y op.Power refl);
     unary = λ kind a x. holds_at p (layer.Unary kind a) _ (n.rolls-Unary kind a) (unary_outcome a x kind);
     call = λ function all x. holds_at p (layer.Call function all) _ (n.rolls-Call function all) (function_call_outcome function all x);
     named_call = λ name all x. holds_at p (layer.NamedCall name all) _ (n.rolls-NamedCall name all) (named_call_outcome name all x);

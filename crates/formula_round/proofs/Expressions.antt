@@ -32,7 +32,7 @@ module _ {p : Profile} where
     module _ {below : ℕ} where
       -- ---- levels
 
-      same_level : {low high : ℕ} → low ≡ high → Expressed p low tokens tree below → Expressed p high tokens tree below
+      pub same_level : {low high : ℕ} → low ≡ high → Expressed p low tokens tree below → Expressed p high tokens tree below
       same_level same x = subst (λ (level : ℕ). Expressed p level tokens tree below) same x
 
       one_up : {level : ℕ} → Expressed p level tokens tree below → Expressed p (suc level) tokens tree below

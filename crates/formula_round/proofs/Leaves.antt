@@ -31,15 +31,14 @@ use Rattle.formula_tree.specs.declared.CompareKind.{CompareKind}
 use Rattle.formula_tree.specs.declared.CompareKind.TheVariants as c
 use Rattle.formula_tree.specs.declared.ProductKind.TheVariants as p
 use Rattle.formula_tree.specs.declared.SumKind.TheVariants as s
-use Rattle.formula_print.specs.declared.Infix.{Infix}
-use Rattle.formula_print.specs.declared.Infix.TheVariants as op
+use Rattle.formula_levels.specs.declared.Infix.{Infix}
+use Rattle.formula_levels.specs.declared.Infix.TheVariants as op
 use Rattle.formula_print.specs.Pieces.{doubled, text_constant, compare_sign, infix_sign}
 use Rattle.formula_grammar.specs.declared.Token.TheVariants as t
-use Rattle.formula_grammar.specs.Operators.{compare_token}
+use Rattle.formula_grammar.specs.Operators.{compare_token, infix_token}
 use Rattle.formula_grammar.specs.Words.{separator_token, row_token}
 use Rattle.formula_lex.specs.Characters.{Text, goes_on_name, doubled as doubled_by}
 use Rattle.formula_lex.specs.Lexicon.{row_of_name, NoCell, NoRange, NoError}
-use Rattle.formula_round.specs.Tokens.{infix_token}
 use Rattle.formula_round.proofs.Characters.{is_ascii, each_ascii, in_word, in_cell, ascii_word, ascii_starts, follows, follows_low, follow_parts}
 use Rattle.formula_round.proofs.Characters.{is_followed, ends_name, ends_text, ends_cell}
 use Rattle.formula_round.proofs.Fronts.{weaker, no_cell_here}
@@ -262,6 +261,7 @@ module _ {locale : Locale} {language : Language} where
   infix_part (op.Product p.Multiply) = ascii_token locale language NoComparison t.Times (codes "*") refl refl (λ rest after. tt)
   infix_part (op.Product p.Divide) = ascii_token locale language NoComparison t.Divide (codes "/") refl refl (λ rest after. tt)
   infix_part op.Power = ascii_token locale language NoComparison t.Power (codes "^") refl refl (λ rest after. tt)
+  infix_part op.Colon = ascii_token locale language NoComparison t.Colon (codes ":") refl refl (λ rest after. tt)
 
   pub minus_part : Part locale language Anything (codes "-") (t.Minus ∷ [])
   minus_part = ascii_token locale language Anything t.Minus (codes "-") refl refl (λ rest after. tt)

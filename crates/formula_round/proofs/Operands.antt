@@ -4,8 +4,11 @@ use Rattle.std.proofs.Common.{refl, arith}
 use Rattle.std.proofs.lemmas.Bool.Decides.{nat_tests}
 use Rattle.formula_tree.specs.declared.Node.{Node}
 use Rattle.formula_levels.specs.declared.Infix.{Infix}
+use Rattle.formula_levels.specs.declared.Infix.TheVariants as op
 use Rattle.formula_levels.specs.declared.Postfix.{Postfix}
+use Rattle.formula_levels.specs.declared.Postfix.TheVariants as postfix
 use Rattle.formula_levels.specs.declared.Prefix.{Prefix}
+use Rattle.formula_levels.specs.declared.Prefix.TheVariants as prefix
 use Rattle.formula_levels.specs.Levels.{infix_node, prefix_node, postfix_node}
 use Rattle.formula_print.specs.declared.Kind.{Kind}
 use Rattle.formula_print.specs.declared.Kind.TheVariants as k
@@ -21,7 +24,9 @@ abbrev pub stands : Kind → ℕ
 stands kind = 11 - level_of kind
 
 level_positive : (kind : Kind) → nat_le 1 (level_of kind) ≡ true
-level_positive k.Compare = refl
+level_positive (k.Infix op.Power) = refl
+level_positive (k.Prefix prefix.Minus) = refl
+level_positive (k.Postfix postfix.Percent) = refl
 level_positive _ = refl
 
 stands_within : (kind : Kind) → stands kind ≤ 10

@@ -33,13 +33,16 @@ use Rattle.formula_tree.specs.Corners.{is_inside}
 use Rattle.formula_tree.specs.Numbers.{lines_follow, has_kept_numbers, numbers_follow, numbers_layer}
 use Rattle.formula_tree.specs.Placed.{is_placed_range}
 use Rattle.formula_tree.specs.laws.Induction.{induct}
-use Rattle.formula_print.specs.declared.Infix.{Infix}
-use Rattle.formula_print.specs.declared.Infix.TheVariants as op
+use Rattle.formula_levels.specs.declared.Infix.{Infix}
+use Rattle.formula_levels.specs.declared.Infix.TheVariants as op
+use Rattle.formula_levels.specs.declared.Postfix.TheVariants as postfix
+use Rattle.formula_levels.specs.declared.Prefix.TheVariants as prefix
+use Rattle.formula_levels.specs.Levels.{infix_level}
 use Rattle.formula_print.specs.declared.Kind.{Kind}
 use Rattle.formula_print.specs.declared.Kind.TheVariants as k
 use Rattle.formula_print.specs.declared.Need.TheVariants as need
 use Rattle.formula_print.specs.Forms.{localized_text}
-use Rattle.formula_print.specs.Kinds.{level_of, is_number_or_name, is_lambda}
+use Rattle.formula_print.specs.Kinds.{level_of, is_lambda}
 use Rattle.formula_print.specs.Pieces.{doubled, text_constant, lines_text, array_text, parameter_part}
 use Rattle.formula_print.specs.Print.{Printed, print_layer, printed, plainly, in_parentheses, operand, infix_text, colon_text, unary_kind, unary_text}
 use Rattle.formula_print.specs.Print.{later_argument, arguments_text, lambda_text}
@@ -63,7 +66,7 @@ use Rattle.formula_round.proofs.Named.{small_letters}
 use Rattle.formula_round.proofs.Numbers.{number_part, number_first}
 use Rattle.formula_round.proofs.Parts.{Part, Anything, NoColon, StartsOperand, starts_front, starts_with, chars_front, ascii_chars}
 use Rattle.formula_round.proofs.Parts.{nothing, before, anyhow, joined, in_turn, same_text, same_tokens, whole}
-use Rattle.formula_round.proofs.Printings.{After, clear_after, after_clear, Piece, operand_part, operand_starts, infix_spelled, infix_starts, colon_spelled}
+use Rattle.formula_round.proofs.Printings.{After, clear_after, after_clear, Piece, operand_part, operand_starts, is_colon, infix_spelled, infix_starts, colon_spelled}
 use Rattle.formula_round.proofs.Printings.{colon_starts}
 use Rattle.formula_round.proofs.Printings.{minus_spelled, at_spelled, percent_spelled, hash_spelled, first_starts, hash_no_cell}
 use Rattle.formula_round.proofs.Separated.{style, plain_clear, separator_clear, listed_parts, array_part, parameters_part}
@@ -256,17 +259,20 @@ module _ (p : Profile) where
 
   -- ---- operators
 
-  infix_spelt : (operator : Infix) (kind : Kind) (sort : Sort) (a b : Node) → is_callee sort ≡ false → is_lambda kind ≡ false
-      → nat_le 10 (level_of kind) ≡ false → Two a b
-      → Piece p sort (plainly kind (infix_text operator (text_of a) (text_of b)))
-      (tokens.plainly kind (tokens.infix_tokens operator (tokened p a) (tokened p b)))
-  infix_spelt operator kind sort a b no_callee no_lambda loose two =
-      let no_left = ap (λ (x : Bool). x && not (is_number_or_name kind)) loose in
-      plain_piece no_callee (infix_spelled two.left.piece two.right.piece two.left.some two.right.some operator kind no_lambda no_left)
-      (infix_starts two.left.piece two.right.piece two.left.some two.right.some operator) (λ fit rest after. absurd (let x = sym loose ∙ fit in cc))
+  infix_loose : (operator : Infix) → nat_le 10 (infix_level operator) ≡ false
+  infix_loose op.Power = refl
+  infix_loose _ = refl
+
+  infix_spelt : (operator : Infix) (sort : Sort) (a b : Node) → is_callee sort ≡ false → is_colon operator ≡ false → Two a b
+      → Piece p sort (plainly (k.Infix operator) (infix_text operator (text_of a) (text_of b)))
+      (tokens.plainly (k.Infix operator) (tokens.infix_tokens operator (tokened p a) (tokened p b)))
+  infix_spelt operator sort a b no_callee no_colon two =
+      plain_piece no_callee (infix_spelled two.left.piece two.right.piece two.left.some two.right.some operator no_colon)
+      (infix_starts two.left.piece two.right.piece two.left.some two.right.some operator)
+      (λ fit rest after. absurd (let x = sym (infix_loose operator) ∙ fit in cc))
 
   colon_spelt : (a b : Node) → Two a b
-      → Piece p other (plainly k.Colon (colon_text (text_of a) (text_of b))) (tokens.plainly k.Colon (tokens.colon_tokens (tokened p a) (tokened p b)))
+      → Piece p other (plainly (k.Infix op.Colon) (colon_text (text_of a) (text_of b))) (tokens.plainly (k.Infix op.Colon) (tokens.colon_tokens (tokened p a) (tokened p b)))
   colon_spelt a b two =
       plain_piece refl (colon_spelled two.left.piece two.right.piece two.left.some two.right.some)
       (colon_starts two.left.piece two.right.piece two.left.some two.right.some)
@@ -280,14 +286,14 @@ module _ (p : Profile) where
       plain_piece refl (percent_spelled x.piece x.some) (first_starts x.piece x.some (need.Level 7) (codes "%")) (λ fit rest after. absurd cc)
 
   intersection_spelt : (a : Node) → Operand a
-      → Piece p other (plainly k.Intersection (codes "@" ++ operand (need.Level 8) (text_of a)))
-      (tokens.plainly k.Intersection (t.At ∷ tokens.operand (need.Level 8) (tokened p a)))
+      → Piece p other (plainly (k.Prefix prefix.At) (codes "@" ++ operand (need.Level 8) (text_of a)))
+      (tokens.plainly (k.Prefix prefix.At) (t.At ∷ tokens.operand (need.Level 8) (tokened p a)))
   intersection_spelt a x =
       plain_piece refl (at_spelled x.piece x.some) (starts_with 64 (operand (need.Level 8) (text_of a)) refl refl) (λ fit rest after. absurd cc)
 
   spill_spelt : (a : Node) → Operand a
-      → Piece p other (record { kind = k.Spill; cell_first = (text_of a).cell_first; text = operand (need.Level 10) (text_of a) ++ codes "#" })
-      (record { kind = k.Spill; cell_first = (tokened p a).cell_first; tokens = tokens.operand (need.Level 10) (tokened p a) ++ t.Hash ∷ [] })
+      → Piece p other (record { kind = k.Postfix postfix.Spill; cell_first = (text_of a).cell_first; text = operand (need.Level 10) (text_of a) ++ codes "#" })
+      (record { kind = k.Postfix postfix.Spill; cell_first = (tokened p a).cell_first; tokens = tokens.operand (need.Level 10) (tokened p a) ++ t.Hash ∷ [] })
   spill_spelt a x =
       let piece = x.piece in
       record {
@@ -419,16 +425,16 @@ module _ (p : Profile) where
         (λ fine kept. range_spelt sheet first second fine);
     colon = λ a b x y. good_at (layer.Colon a b) _ (n.rolls-Colon a b) (λ fine kept. colon_spelt a b (two_of a b x y fine kept));
     concatenate = λ a b x y. good_at (layer.Concatenate a b) _ (n.rolls-Concatenate a b)
-        (λ fine kept. infix_spelt op.Concatenate k.Concatenate other a b refl refl refl (two_of a b x y fine kept));
+        (λ fine kept. infix_spelt op.Concatenate other a b refl refl (two_of a b x y fine kept));
     compare = λ kind a b x y. good_at (layer.Compare kind a b) _ (n.rolls-Compare kind a b)
-        (λ fine kept. infix_spelt (op.Compare kind) k.Compare other a b refl refl refl (two_of a b x y fine kept));
+        (λ fine kept. infix_spelt (op.Compare kind) other a b refl refl (two_of a b x y fine kept));
     sum = λ kind a b x y. good_at (layer.Sum kind a b) _ (n.rolls-Sum kind a b)
-        (λ fine kept. infix_spelt (op.Sum kind) k.Sum sum a b refl refl refl
+        (λ fine kept. infix_spelt (op.Sum kind) sum a b refl refl
         (two_of a b x y (and_parts (is_operand (seen_of p a) && is_operand (seen_of p b)) _ fine).0 kept));
     product = λ kind a b x y. good_at (layer.Product kind a b) _ (n.rolls-Product kind a b)
-        (λ fine kept. infix_spelt (op.Product kind) k.Product other a b refl refl refl (two_of a b x y fine kept));
+        (λ fine kept. infix_spelt (op.Product kind) other a b refl refl (two_of a b x y fine kept));
     power = λ a b x y. good_at (layer.Power a b) _ (n.rolls-Power a b)
-        (λ fine kept. infix_spelt op.Power k.Power other a b refl refl refl (two_of a b x y fine kept));
+        (λ fine kept. infix_spelt op.Power other a b refl refl (two_of a b x y fine kept));
     unary = λ kind a x. good_at (layer.Unary kind a) _ (n.rolls-Unary kind a) (λ fine kept. unary_spelt kind a (operand_of a x fine kept));
     call = λ function all x. good_at (layer.Call function all) _ (n.rolls-Call function all)
         (λ fine kept. function_spelt (arguments_part all x fine kept) function);

@@ -1,6 +1,6 @@
 -- What is shown of each tree: before what may follow a tree of its kind, its printed text spells its tokens. Operands and operators.
 use Rattle.std.proofs.Common.{◌≡◌, ℕ, Bool, true, false, List, [], ◌∷◌, ◌++◌, refl, sym, ap, subst, ◌∙◌, append_assoc, arith}
-use Rattle.std.specs.Prelude.{not, ◌==◌, ◌&&◌, codes, if◌then◌else◌, nat_le, None}
+use Rattle.std.specs.Prelude.{not, ◌==◌, ◌&&◌, codes, if◌then◌else◌, nat_le, nat_lt, None}
 use Rattle.std.specs.Str.{chars}
 use Rattle.std.proofs.lemmas.Bool.{and_parts}
 use Rattle.std.proofs.lemmas.Bool.Decides.{nat_tests}
@@ -10,8 +10,11 @@ use Rattle.base_decimal.specs.Digits.{stops}
 use Rattle.formula_tree.specs.declared.CompareKind.TheVariants as c
 use Rattle.formula_tree.specs.declared.ProductKind.TheVariants as product
 use Rattle.formula_tree.specs.declared.SumKind.TheVariants as s
-use Rattle.formula_print.specs.declared.Infix.{Infix}
-use Rattle.formula_print.specs.declared.Infix.TheVariants as op
+use Rattle.formula_levels.specs.declared.Infix.{Infix}
+use Rattle.formula_levels.specs.declared.Infix.TheVariants as op
+use Rattle.formula_levels.specs.declared.Postfix.TheVariants as postfix
+use Rattle.formula_levels.specs.declared.Prefix.TheVariants as prefix
+use Rattle.formula_levels.specs.Levels.{infix_level}
 use Rattle.formula_print.specs.declared.Kind.{Kind}
 use Rattle.formula_print.specs.declared.Kind.TheVariants as k
 use Rattle.formula_print.specs.declared.Need.{Need}
@@ -22,9 +25,10 @@ use Rattle.formula_print.specs.Print.{Printed, in_parentheses, operand, infix_te
 use Rattle.formula_grammar.specs.declared.Profile.{Profile}
 use Rattle.formula_grammar.specs.declared.Token.TheVariants as t
 use Rattle.formula_grammar.specs.Normal.{Sort, is_empty, is_callee}
+use Rattle.formula_grammar.specs.Operators.{infix_token}
 use Rattle.formula_lex.specs.Characters.{Text}
 use Rattle.formula_lex.specs.Lexicon.{NoCell}
-use Rattle.formula_round.specs.Tokens.{Tokened, infix_token}
+use Rattle.formula_round.specs.Tokens.{Tokened}
 use Rattle.formula_round.specs.Tokens as tokens
 use Rattle.formula_round.proofs.Characters.{in_word, follows, sign_follows}
 use Rattle.formula_round.proofs.Fronts.{no_cell_here}
@@ -37,7 +41,7 @@ use Rattle.formula_round.proofs.Separated.{plain_clear}
 
 -- a tree of this kind may stand on the left of `:`
 abbrev pub stands_left : Kind → Bool
-stands_left kind = nat_le 10 (level_of kind) && not (is_number_or_name kind)
+stands_left kind = nat_lt (infix_level op.Colon) (level_of kind) && not (is_number_or_name kind)
 
 -- anything may follow a lambda. A colon follows only what may stand on its left, and behind a colon that follows a reference no cell stands
 pub record After (locale : Locale) (kind : Kind) (rest : Text) : Type 0 where
@@ -126,20 +130,30 @@ module _ {p : Profile} {sort : Sort} {a : Printed} {b : Tokened} (piece : Piece 
 
 -- ---- operators
 
-infix_clear : (locale : Locale) (operator : Infix) (rest : Text) → NoColon locale (chars (infix_sign operator) ++ rest)
+abbrev pub is_colon : Infix → Bool
+is_colon op.Colon = true
+is_colon _ = false
+
+-- no tree with an operator between two operands stands on the left of `:`
+infix_no_left : (operator : Infix) → stands_left (k.Infix operator) ≡ false
+infix_no_left op.Power = refl
+infix_no_left _ = refl
+
+infix_clear : (locale : Locale) (operator : Infix) → is_colon operator ≡ false → (rest : Text) → NoColon locale (chars (infix_sign operator) ++ rest)
 unfolding follows in_word
-infix_clear locale (op.Compare c.Equal) rest = plain_clear locale 61 [] rest refl refl refl
-infix_clear locale (op.Compare c.NotEqual) rest = plain_clear locale 60 (62 ∷ []) rest refl refl refl
-infix_clear locale (op.Compare c.Less) rest = plain_clear locale 60 [] rest refl refl refl
-infix_clear locale (op.Compare c.LessOrEqual) rest = plain_clear locale 60 (61 ∷ []) rest refl refl refl
-infix_clear locale (op.Compare c.Greater) rest = plain_clear locale 62 [] rest refl refl refl
-infix_clear locale (op.Compare c.GreaterOrEqual) rest = plain_clear locale 62 (61 ∷ []) rest refl refl refl
-infix_clear locale op.Concatenate rest = plain_clear locale 38 [] rest refl refl refl
-infix_clear locale (op.Sum s.Add) rest = plain_clear locale 43 [] rest refl refl refl
-infix_clear locale (op.Sum s.Subtract) rest = plain_clear locale 45 [] rest refl refl refl
-infix_clear locale (op.Product product.Multiply) rest = plain_clear locale 42 [] rest refl refl refl
-infix_clear locale (op.Product product.Divide) rest = plain_clear locale 47 [] rest refl refl refl
-infix_clear locale op.Power rest = plain_clear locale 94 [] rest refl refl refl
+infix_clear locale (op.Compare c.Equal) other rest = plain_clear locale 61 [] rest refl refl refl
+infix_clear locale (op.Compare c.NotEqual) other rest = plain_clear locale 60 (62 ∷ []) rest refl refl refl
+infix_clear locale (op.Compare c.Less) other rest = plain_clear locale 60 [] rest refl refl refl
+infix_clear locale (op.Compare c.LessOrEqual) other rest = plain_clear locale 60 (61 ∷ []) rest refl refl refl
+infix_clear locale (op.Compare c.Greater) other rest = plain_clear locale 62 [] rest refl refl refl
+infix_clear locale (op.Compare c.GreaterOrEqual) other rest = plain_clear locale 62 (61 ∷ []) rest refl refl refl
+infix_clear locale op.Concatenate other rest = plain_clear locale 38 [] rest refl refl refl
+infix_clear locale (op.Sum s.Add) other rest = plain_clear locale 43 [] rest refl refl refl
+infix_clear locale (op.Sum s.Subtract) other rest = plain_clear locale 45 [] rest refl refl refl
+infix_clear locale (op.Product product.Multiply) other rest = plain_clear locale 42 [] rest refl refl refl
+infix_clear locale (op.Product product.Divide) other rest = plain_clear locale 47 [] rest refl refl refl
+infix_clear locale op.Power other rest = plain_clear locale 94 [] rest refl refl refl
+infix_clear locale op.Colon other rest = absurd cc
 
 hash_clear : (locale : Locale) (rest : Text) → NoColon locale (chars (codes "#") ++ rest)
 unfolding follows in_word
@@ -153,23 +167,23 @@ module _ {p : Profile} {sort : Sort} {a : Printed} {x : Tokened} (piece : Piece 
   last_operand need outer no_lambda no_left =
       before (After p.locale outer) (λ rest after fit. loosen outer a.kind rest no_lambda no_left after) (operand_part piece need)
 
-  pub minus_spelled : Part p.locale p.language (After p.locale k.Minus) (codes "-" ++ operand need.Negated a) (t.Minus ∷ tokens.operand need.Negated x)
-  minus_spelled = in_turn minus_part (last_operand need.Negated k.Minus refl refl)
+  pub minus_spelled : Part p.locale p.language (After p.locale (k.Prefix prefix.Minus)) (codes "-" ++ operand need.Negated a) (t.Minus ∷ tokens.operand need.Negated x)
+  minus_spelled = in_turn minus_part (last_operand need.Negated (k.Prefix prefix.Minus) refl refl)
 
-  pub at_spelled : Part p.locale p.language (After p.locale k.Intersection) (codes "@" ++ operand (need.Level 8) a) (t.At ∷ tokens.operand (need.Level 8) x)
-  at_spelled = in_turn at_part (last_operand (need.Level 8) k.Intersection refl refl)
+  pub at_spelled : Part p.locale p.language (After p.locale (k.Prefix prefix.At)) (codes "@" ++ operand (need.Level 8) a) (t.At ∷ tokens.operand (need.Level 8) x)
+  at_spelled = in_turn at_part (last_operand (need.Level 8) (k.Prefix prefix.At) refl refl)
 
-  pub percent_spelled : Part p.locale p.language (After p.locale k.Percent)
+  pub percent_spelled : Part p.locale p.language (After p.locale (k.Postfix postfix.Percent))
       (operand (need.Level 7) a ++ codes "%") (tokens.operand (need.Level 7) x ++ t.Percent ∷ [])
   unfolding follows in_word
   percent_spelled =
-      joined (operand_part piece (need.Level 7)) (anyhow (After p.locale k.Percent) percent_part)
+      joined (operand_part piece (need.Level 7)) (anyhow (After p.locale (k.Postfix postfix.Percent)) percent_part)
       (λ rest after fit. clear_after a.kind _ (plain_clear p.locale 37 [] rest refl refl refl))
 
-  pub hash_spelled : Part p.locale p.language (After p.locale k.Spill)
+  pub hash_spelled : Part p.locale p.language (After p.locale (k.Postfix postfix.Spill))
       (operand (need.Level 10) a ++ codes "#") (tokens.operand (need.Level 10) x ++ t.Hash ∷ [])
   hash_spelled =
-      joined (operand_part piece (need.Level 10)) (before (After p.locale k.Spill) (λ rest after. after.ended refl) hash_part)
+      joined (operand_part piece (need.Level 10)) (before (After p.locale (k.Postfix postfix.Spill)) (λ rest after. after.ended refl) hash_part)
       (λ rest after fit. clear_after a.kind _ (hash_clear p.locale rest))
 
   pub first_starts : (need : Need) (behind : List ℕ) → StartsOperand (operand need a ++ behind)
@@ -185,16 +199,16 @@ module _ {p : Profile} {sort : Sort} {a : Printed} {x : Tokened} (piece : Piece 
 -- two operands
 module _ {p : Profile} {sort other : Sort} {a b : Printed} {x y : Tokened} (first : Piece p sort a x) (second : Piece p other b y)
     (some_first : is_empty sort ≡ false) (some_second : is_empty other ≡ false) where
-  -- with a sign between them, of a kind that stands on no left of `:`
-  pub infix_spelled : (operator : Infix) (outer : Kind) → is_lambda outer ≡ false → stands_left outer ≡ false
-      → Part p.locale p.language (After p.locale outer) (infix_text operator a b) (tokens.infix_tokens operator x y)
-  infix_spelled operator outer no_lambda no_left =
+  -- with a sign between them
+  pub infix_spelled : (operator : Infix) → is_colon operator ≡ false
+      → Part p.locale p.language (After p.locale (k.Infix operator)) (infix_text operator a b) (tokens.infix_tokens operator x y)
+  infix_spelled operator other =
       let right = operand (right_need operator) b in
       let starts = operand_starts second some_second (right_need operator) in
       let signed =
-      joined (operand_part first (left_need operator)) (infix_part operator) (λ rest after fit. clear_after a.kind _ (infix_clear p.locale operator rest)) in
+      joined (operand_part first (left_need operator)) (infix_part operator) (λ rest after fit. clear_after a.kind _ (infix_clear p.locale operator other rest)) in
       same_tokens (append_assoc (tokens.operand (left_need operator) x) (infix_token operator ∷ []) (tokens.operand (right_need operator) y))
-      (joined signed (last_operand second some_second (right_need operator) outer no_lambda no_left) (λ rest after. no_comparison (chars right) rest starts))
+      (joined signed (last_operand second some_second (right_need operator) (k.Infix operator) refl (infix_no_left operator)) (λ rest after. no_comparison (chars right) rest starts))
 
   pub infix_starts : (operator : Infix) → StartsOperand (infix_text operator a b)
   infix_starts operator =
@@ -226,13 +240,13 @@ module _ {p : Profile} {sort other : Sort} {a b : Printed} {x y : Tokened} (firs
         colon = λ behind e. (left.0, λ is. let same : rest ≡ behind = cc in subst (NoCell None) same (after is (left.1 is)));
       })
 
-  pub colon_spelled : Part p.locale p.language (After p.locale k.Colon) (colon_text a b) (tokens.colon_tokens x y)
+  pub colon_spelled : Part p.locale p.language (After p.locale (k.Infix op.Colon)) (colon_text a b) (tokens.colon_tokens x y)
   colon_spelled =
       let left = need.LeftOfColon b.cell_first in
       let right = need.Level 10 in
       let signed = joined (operand_part first left) (anyhow NoSecond colon_part) colon_after in
-      let spelled = joined signed (last_operand second some_second right k.Colon refl refl)
-      (λ rest after is no_first. operand_no_cell second some_second no_first rest (λ fit. loosen k.Colon b.kind rest refl refl after)) in
+      let spelled = joined signed (last_operand second some_second right (k.Infix op.Colon) refl refl)
+      (λ rest after is no_first. operand_no_cell second some_second no_first rest (λ fit. loosen (k.Infix op.Colon) b.kind rest refl refl after)) in
       let parts = append_assoc (tokens.operand left x) (t.Colon ∷ []) (tokens.operand right y) in
       same_tokens (parts ∙ ap (λ (first : Bool). tokens.operand (need.LeftOfColon first) x ++ t.Colon ∷ tokens.operand right y) (sym second.same_first)) spelled
 

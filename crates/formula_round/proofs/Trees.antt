@@ -5,6 +5,7 @@ use Rattle.base_tables.specs.laws.Tables.{both_parts}
 use Rattle.formula_tree.specs.declared.Node.{Node}
 use Rattle.formula_tree.specs.declared.Node.TheVariants as n
 use Rattle.formula_tree.specs.Depth.{depth_of}
+use Rattle.formula_levels.specs.declared.Infix.TheVariants as op
 use Rattle.formula_print.specs.declared.Kind.{Kind}
 use Rattle.formula_print.specs.declared.Kind.TheVariants as k
 use Rattle.formula_print.specs.Kinds.{is_lambda}
@@ -18,7 +19,7 @@ use Rattle.formula_round.proofs.Operands.{stands}
 
 -- what the tree around asks of a tree that is not empty, by its kind
 abbrev pub sort_of : Kind → Sort
-sort_of k.Sum = sum
+sort_of (k.Infix (op.Sum kind)) = sum
 sort_of k.Lambda = lambda
 sort_of _ = other
 

@@ -16,8 +16,11 @@ use Rattle.formula_tree.specs.declared.Parameter.{Parameter}
 use Rattle.formula_tree.specs.declared.UnaryKind.{UnaryKind}
 use Rattle.formula_tree.specs.declared.UnaryKind.TheVariants.{Minus, Percent}
 use Rattle.formula_tree.specs.Corners.{corner_row, corner_column}
-use Rattle.formula_print.specs.declared.Infix.{Infix}
-use Rattle.formula_print.specs.declared.Infix.TheVariants as op
+use Rattle.formula_levels.specs.declared.Infix.{Infix}
+use Rattle.formula_levels.specs.declared.Infix.TheVariants as op
+use Rattle.formula_levels.specs.declared.Postfix.TheVariants as postfix
+use Rattle.formula_levels.specs.declared.Prefix.TheVariants as prefix
+use Rattle.formula_levels.specs.Levels.{prefix_level, postfix_level}
 use Rattle.formula_print.specs.declared.Kind.{Kind}
 use Rattle.formula_print.specs.declared.Kind.TheVariants as k
 use Rattle.formula_print.specs.declared.Need.{Need}
@@ -31,7 +34,7 @@ use Rattle.formula_grammar.specs.declared.Profile.{Profile}
 use Rattle.formula_grammar.specs.declared.Token.{Token}
 use Rattle.formula_grammar.specs.declared.Token.TheVariants as t
 use Rattle.formula_grammar.specs.Grammar.{parameters_tokens}
-use Rattle.formula_grammar.specs.Operators.{compare_token, sum_token, product_token}
+use Rattle.formula_grammar.specs.Operators.{infix_token}
 use Rattle.formula_grammar.specs.Words.{separator_token, row_token}
 
 -- what a tree gives to the tree around it
@@ -50,22 +53,15 @@ operand need a = if fits need a.kind then a.tokens else in_parentheses a.tokens
 
 -- ---- operators
 
-abbrev pub infix_token : Infix → Token
-infix_token (op.Compare kind) = compare_token kind
-infix_token op.Concatenate = t.Ampersand
-infix_token (op.Sum kind) = sum_token kind
-infix_token (op.Product kind) = product_token kind
-infix_token op.Power = t.Power
-
 abbrev pub infix_tokens : Infix → Tokened → Tokened → List Token
 infix_tokens operator a b = operand (left_need operator) a ++ infix_token operator ∷ operand (right_need operator) b
 
 abbrev pub colon_tokens : Tokened → Tokened → List Token
-colon_tokens a b = operand (need.LeftOfColon b.cell_first) a ++ t.Colon ∷ operand (need.Level 10) b
+colon_tokens a b = operand (need.LeftOfColon b.cell_first) a ++ t.Colon ∷ operand (right_need op.Colon) b
 
 abbrev pub unary_tokens : UnaryKind → Tokened → List Token
 unary_tokens Minus a = t.Minus ∷ operand need.Negated a
-unary_tokens Percent a = operand (need.Level 7) a ++ t.Percent ∷ []
+unary_tokens Percent a = operand (need.Level (postfix_level postfix.Percent)) a ++ t.Percent ∷ []
 
 -- ---- cells
 
@@ -147,12 +143,12 @@ token_layer p (layer.Range sheet first second) = record {
   cell_first = range_cell_first (Letters p.place) sheet first second;
   tokens = t.Range sheet (mark_of p.place first) (mark_of p.place second) ∷ [];
 }
-token_layer p (layer.Colon a b) = plainly k.Colon (colon_tokens a b)
-token_layer p (layer.Concatenate a b) = plainly k.Concatenate (infix_tokens op.Concatenate a b)
-token_layer p (layer.Compare kind a b) = plainly k.Compare (infix_tokens (op.Compare kind) a b)
-token_layer p (layer.Sum kind a b) = plainly k.Sum (infix_tokens (op.Sum kind) a b)
-token_layer p (layer.Product kind a b) = plainly k.Product (infix_tokens (op.Product kind) a b)
-token_layer p (layer.Power a b) = plainly k.Power (infix_tokens op.Power a b)
+token_layer p (layer.Colon a b) = plainly (k.Infix op.Colon) (colon_tokens a b)
+token_layer p (layer.Concatenate a b) = plainly (k.Infix op.Concatenate) (infix_tokens op.Concatenate a b)
+token_layer p (layer.Compare kind a b) = plainly (k.Infix (op.Compare kind)) (infix_tokens (op.Compare kind) a b)
+token_layer p (layer.Sum kind a b) = plainly (k.Infix (op.Sum kind)) (infix_tokens (op.Sum kind) a b)
+token_layer p (layer.Product kind a b) = plainly (k.Infix (op.Product kind)) (infix_tokens (op.Product kind) a b)
+token_layer p (layer.Power a b) = plainly (k.Infix op.Power) (infix_tokens op.Power a b)
 token_layer p (layer.Unary kind a) = plainly (unary_kind kind) (unary_tokens kind a)
 token_layer p (layer.Call function all) = plainly k.Other (word_call_tokens p (function_name p.language function) all)
 token_layer p (layer.NamedCall name all) = plainly k.Other (word_call_tokens p (lowered name) all)
@@ -161,10 +157,14 @@ token_layer p (layer.Name name) = plainly k.Name (t.Word name ∷ [])
 token_layer p (layer.Error error) = plainly k.Other (t.Error error ∷ [])
 token_layer p (layer.ParseError text) = plainly k.Other []
 token_layer p layer.EmptyArgument = plainly k.Other []
-token_layer p (layer.Spill a) = record { kind = k.Spill; cell_first = a.cell_first; tokens = operand (need.Level 10) a ++ t.Hash ∷ [] }
+token_layer p (layer.Spill a) = record {
+  kind = k.Postfix postfix.Spill;
+  cell_first = a.cell_first;
+  tokens = operand (need.Level (postfix_level postfix.Spill)) a ++ t.Hash ∷ [];
+}
 token_layer p (layer.Lambda parameters a) = plainly k.Lambda (lambda_tokens p parameters a)
 token_layer p (layer.LambdaCall a all) = plainly k.Lambda (call_tokens p (operand need.Callee a) all)
-token_layer p (layer.ImplicitIntersection a) = plainly k.Intersection (t.At ∷ operand (need.Level 8) a)
+token_layer p (layer.ImplicitIntersection a) = plainly (k.Prefix prefix.At) (t.At ∷ operand (need.Level (prefix_level prefix.At)) a)
 
 -- a tree in a formula that is printed for the place, the locale and the language of a profile
 unfoldable pub tokened : Profile → Node → Tokened

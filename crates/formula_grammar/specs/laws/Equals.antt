@@ -19,9 +19,6 @@ cell_mark_equals a b =
     (λ e. (ap (λ x. x.absolute_row) e, (ap (λ x. x.row) e, (ap (λ x. x.absolute_column) e, ap (λ x. x.column) e))))
     (Decides-and _ _ (booleans_Decides _ _) (Decides-and _ _ (signed_Decides _ _) (Decides-and _ _ (booleans_Decides _ _) (signed_Decides _ _))))
 
-no : {A : Type 0} → false ≡ true → A
-no e = absurd cc
-
 -- equal tokens are one
 token_is : (a b : Token) → token.ghosts.eq a b ≡ true → a ≡ b
 token_is (t.Number x) (t.Number y) e = ap t.Number ((decimal_equals x y).0 e)
@@ -33,31 +30,7 @@ token_is (t.Reference s a) (t.Reference u b) e =
 token_is (t.Range s a b) (t.Range u c d) e =
     let q = (Decides-and _ _ (option_equals bytes_decides s u) (Decides-and _ _ (cell_mark_equals a c) (cell_mark_equals b d))).0 e in
     λ i. t.Range (q.0 i) (q.1.0 i) (q.1.1 i)
-token_is t.Equal t.Equal e = refl
-token_is t.NotEqual t.NotEqual e = refl
-token_is t.Less t.Less e = refl
-token_is t.LessOrEqual t.LessOrEqual e = refl
-token_is t.Greater t.Greater e = refl
-token_is t.GreaterOrEqual t.GreaterOrEqual e = refl
-token_is t.Ampersand t.Ampersand e = refl
-token_is t.Plus t.Plus e = refl
-token_is t.Minus t.Minus e = refl
-token_is t.Times t.Times e = refl
-token_is t.Divide t.Divide e = refl
-token_is t.Power t.Power e = refl
-token_is t.Percent t.Percent e = refl
-token_is t.At t.At e = refl
-token_is t.Colon t.Colon e = refl
-token_is t.Hash t.Hash e = refl
-token_is t.OpenParenthesis t.OpenParenthesis e = refl
-token_is t.CloseParenthesis t.CloseParenthesis e = refl
-token_is t.OpenBrace t.OpenBrace e = refl
-token_is t.CloseBrace t.CloseBrace e = refl
-token_is t.OpenBracket t.OpenBracket e = refl
-token_is t.CloseBracket t.CloseBracket e = refl
-token_is t.Comma t.Comma e = refl
-token_is t.Semicolon t.Semicolon e = refl
-token_is _ _ e = no e
+token_is _ _ e = cc
 
 -- a token equals itself
 token_same : (a : Token) → token.ghosts.eq a a ≡ true
@@ -67,30 +40,7 @@ token_same (t.Error x) = (error_equals x x).1 refl
 token_same (t.Word x) = (bytes_decides x x).1 refl
 token_same (t.Reference s a) = (Decides-and _ _ (option_equals bytes_decides s s) (cell_mark_equals a a)).1 (refl, refl)
 token_same (t.Range s a b) = (Decides-and _ _ (option_equals bytes_decides s s) (Decides-and _ _ (cell_mark_equals a a) (cell_mark_equals b b))).1 (refl, (refl, refl))
-token_same t.Equal = refl
-token_same t.NotEqual = refl
-token_same t.Less = refl
-token_same t.LessOrEqual = refl
-token_same t.Greater = refl
-token_same t.GreaterOrEqual = refl
-token_same t.Ampersand = refl
-token_same t.Plus = refl
-token_same t.Minus = refl
-token_same t.Times = refl
-token_same t.Divide = refl
-token_same t.Power = refl
-token_same t.Percent = refl
-token_same t.At = refl
-token_same t.Colon = refl
-token_same t.Hash = refl
-token_same t.OpenParenthesis = refl
-token_same t.CloseParenthesis = refl
-token_same t.OpenBrace = refl
-token_same t.CloseBrace = refl
-token_same t.OpenBracket = refl
-token_same t.CloseBracket = refl
-token_same t.Comma = refl
-token_same t.Semicolon = refl
+token_same _ = refl
 
 pub token_equals : (a b : Token) → Decides (token.ghosts.eq a b) (a ≡ b)
 token_equals a b = (token_is a b, λ e. subst (λ x. token.ghosts.eq a x ≡ true) e (token_same a))

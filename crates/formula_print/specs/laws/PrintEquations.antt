@@ -22,7 +22,9 @@ use Rattle.formula_tree.specs.declared.Node.TheOpen.{Node-F}
 use Rattle.formula_tree.specs.declared.Node.TheFolds.{fold-Node, fold-roll-Node}
 use Rattle.formula_print.specs.declared.kind.Kind.TheVariants as k
 use Rattle.formula_print.specs.declared.kind.Need.TheVariants as need
-use Rattle.formula_print.specs.declared.kind.Infix.TheVariants as op
+use Rattle.formula_levels.specs.declared.infix.Infix.TheVariants as op
+use Rattle.formula_levels.specs.declared.postfix.Postfix.TheVariants as postfix
+use Rattle.formula_levels.specs.declared.prefix.Prefix.TheVariants as prefix
 use Rattle.formula_print.specs.declared.style.Style.{Style}
 use Rattle.formula_print.specs.References.{reference_text, range_text, reference_cell_first, range_cell_first}
 use Rattle.formula_print.specs.Pieces.{text_constant, function_word, array_text}
@@ -48,27 +50,27 @@ pub printed_range : (style : Style) (sheet : Option (List ℕ)) (first second : 
 unfolding printed
 printed_range style sheet first second = ap (fold-Node Printed (print_layer style)) (sym (node.rolls-Range sheet first second)) ∙ fold-roll-Node Printed (print_layer style) (Node-F.Range sheet first second)
 
-pub printed_colon : (style : Style) (a b : Node) → printed style (node.Colon a b) ≡ plainly k.Colon (colon_text (printed style a) (printed style b))
+pub printed_colon : (style : Style) (a b : Node) → printed style (node.Colon a b) ≡ plainly (k.Infix op.Colon) (colon_text (printed style a) (printed style b))
 unfolding printed
 printed_colon style a b = ap (fold-Node Printed (print_layer style)) (sym (node.rolls-Colon a b)) ∙ fold-roll-Node Printed (print_layer style) (Node-F.Colon a b)
 
-pub printed_concatenate : (style : Style) (a b : Node) → printed style (node.Concatenate a b) ≡ plainly k.Concatenate (infix_text op.Concatenate (printed style a) (printed style b))
+pub printed_concatenate : (style : Style) (a b : Node) → printed style (node.Concatenate a b) ≡ plainly (k.Infix op.Concatenate) (infix_text op.Concatenate (printed style a) (printed style b))
 unfolding printed
 printed_concatenate style a b = ap (fold-Node Printed (print_layer style)) (sym (node.rolls-Concatenate a b)) ∙ fold-roll-Node Printed (print_layer style) (Node-F.Concatenate a b)
 
-pub printed_compare : (style : Style) (kind : CompareKind) (a b : Node) → printed style (node.Compare kind a b) ≡ plainly k.Compare (infix_text (op.Compare kind) (printed style a) (printed style b))
+pub printed_compare : (style : Style) (kind : CompareKind) (a b : Node) → printed style (node.Compare kind a b) ≡ plainly (k.Infix (op.Compare kind)) (infix_text (op.Compare kind) (printed style a) (printed style b))
 unfolding printed
 printed_compare style kind a b = ap (fold-Node Printed (print_layer style)) (sym (node.rolls-Compare kind a b)) ∙ fold-roll-Node Printed (print_layer style) (Node-F.Compare kind a b)
 
-pub printed_sum : (style : Style) (kind : SumKind) (a b : Node) → printed style (node.Sum kind a b) ≡ plainly k.Sum (infix_text (op.Sum kind) (printed style a) (printed style b))
+pub printed_sum : (style : Style) (kind : SumKind) (a b : Node) → printed style (node.Sum kind a b) ≡ plainly (k.Infix (op.Sum kind)) (infix_text (op.Sum kind) (printed style a) (printed style b))
 unfolding printed
 printed_sum style kind a b = ap (fold-Node Printed (print_layer style)) (sym (node.rolls-Sum kind a b)) ∙ fold-roll-Node Printed (print_layer style) (Node-F.Sum kind a b)
 
-pub printed_product : (style : Style) (kind : ProductKind) (a b : Node) → printed style (node.Product kind a b) ≡ plainly k.Product (infix_text (op.Product kind) (printed style a) (printed style b))
+pub printed_product : (style : Style) (kind : ProductKind) (a b : Node) → printed style (node.Product kind a b) ≡ plainly (k.Infix (op.Product kind)) (infix_text (op.Product kind) (printed style a) (printed style b))
 unfolding printed
 printed_product style kind a b = ap (fold-Node Printed (print_layer style)) (sym (node.rolls-Product kind a b)) ∙ fold-roll-Node Printed (print_layer style) (Node-F.Product kind a b)
 
-pub printed_power : (style : Style) (a b : Node) → printed style (node.Power a b) ≡ plainly k.Power (infix_text op.Power (printed style a) (printed style b))
+pub printed_power : (style : Style) (a b : Node) → printed style (node.Power a b) ≡ plainly (k.Infix op.Power) (infix_text op.Power (printed style a) (printed style b))
 unfolding printed
 printed_power style a b = ap (fold-Node Printed (print_layer style)) (sym (node.rolls-Power a b)) ∙ fold-roll-Node Printed (print_layer style) (Node-F.Power a b)
 
@@ -104,7 +106,7 @@ pub printed_empty_argument : (style : Style) → printed style node.EmptyArgumen
 unfolding printed
 printed_empty_argument style = ap (fold-Node Printed (print_layer style)) (sym (node.rolls-EmptyArgument)) ∙ fold-roll-Node Printed (print_layer style) Node-F.EmptyArgument
 
-pub printed_spill : (style : Style) (a : Node) → printed style (node.Spill a) ≡ record { kind = k.Spill; cell_first = spill_cell_first style.dialect (printed style a).cell_first; text = spill_text style.dialect (printed style a) }
+pub printed_spill : (style : Style) (a : Node) → printed style (node.Spill a) ≡ record { kind = k.Postfix postfix.Spill; cell_first = spill_cell_first style.dialect (printed style a).cell_first; text = spill_text style.dialect (printed style a) }
 unfolding printed
 printed_spill style a = ap (fold-Node Printed (print_layer style)) (sym (node.rolls-Spill a)) ∙ fold-roll-Node Printed (print_layer style) (Node-F.Spill a)
 
@@ -116,7 +118,7 @@ pub printed_lambda_call : (style : Style) (a : Node) (all : List Node) → print
 unfolding printed
 printed_lambda_call style a all = ap (fold-Node Printed (print_layer style)) (sym (node.rolls-LambdaCall a all)) ∙ fold-roll-Node Printed (print_layer style) (Node-F.LambdaCall a all)
 
-pub printed_implicit_intersection : (style : Style) (a : Node) → printed style (node.ImplicitIntersection a) ≡ plainly k.Intersection (intersection_text style.dialect (printed style a))
+pub printed_implicit_intersection : (style : Style) (a : Node) → printed style (node.ImplicitIntersection a) ≡ plainly (k.Prefix prefix.At) (intersection_text style.dialect (printed style a))
 unfolding printed
 printed_implicit_intersection style a = ap (fold-Node Printed (print_layer style)) (sym (node.rolls-ImplicitIntersection a)) ∙ fold-roll-Node Printed (print_layer style) (Node-F.ImplicitIntersection a)
 

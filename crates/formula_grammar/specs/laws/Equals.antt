@@ -19,6 +19,9 @@ cell_mark_equals a b =
     (λ e. (ap (λ x. x.absolute_row) e, (ap (λ x. x.row) e, (ap (λ x. x.absolute_column) e, ap (λ x. x.column) e))))
     (Decides-and _ _ (booleans_Decides _ _) (Decides-and _ _ (signed_Decides _ _) (Decides-and _ _ (booleans_Decides _ _) (signed_Decides _ _))))
 
+no : {A : Type 0} → false ≡ true → A
+no e = absurd cc
+
 -- equal tokens are one
 token_is : (a b : Token) → token.ghosts.eq a b ≡ true → a ≡ b
 token_is (t.Number x) (t.Number y) e = ap t.Number ((decimal_equals x y).0 e)
@@ -30,7 +33,31 @@ token_is (t.Reference s a) (t.Reference u b) e =
 token_is (t.Range s a b) (t.Range u c d) e =
     let q = (Decides-and _ _ (option_equals bytes_decides s u) (Decides-and _ _ (cell_mark_equals a c) (cell_mark_equals b d))).0 e in
     λ i. t.Range (q.0 i) (q.1.0 i) (q.1.1 i)
-token_is _ _ e = cc
+token_is t.Equal t.Equal e = refl
+token_is t.NotEqual t.NotEqual e = refl
+token_is t.Less t.Less e = refl
+token_is t.LessOrEqual t.LessOrEqual e = refl
+token_is t.Greater t.Greater e = refl
+token_is t.GreaterOrEqual t.GreaterOrEqual e = refl
+token_is t.Ampersand t.Ampersand e = refl
+token_is t.Plus t.Plus e = refl
+token_is t.Minus t.Minus e = refl
+token_is t.Times t.Times e = refl
+token_is t.Divide t.Divide e = refl
+token_is t.Power t.Power e = refl
+token_is t.Percent t.Percent e = refl
+token_is t.At t.At e = refl
+token_is t.Colon t.Colon e = refl
+token_is t.Hash t.Hash e = refl
+token_is t.OpenParenthesis t.OpenParenthesis e = refl
+token_is t.CloseParenthesis t.CloseParenthesis e = refl
+token_is t.OpenBrace t.OpenBrace e = refl
+token_is t.CloseBrace t.CloseBrace e = refl
+token_is t.OpenBracket t.OpenBracket e = refl
+token_is t.CloseBracket t.CloseBracket e = refl
+token_is t.Comma t.Comma e = refl
+token_is t.Semicolon t.Semicolon e = refl
+token_is _ _ e = no e
 
 -- a token equals itself
 token_same : (a : Token) → token.ghosts.eq a a ≡ true

@@ -183,11 +183,13 @@ module _ (p : Profile) where
         expression refl (postfix_operand postfix.Percent (need.Level 7) (tokened p a) (at_least 7 (tokened p a).kind) (own a holds fine))
 
     spill_outcome : operand (seen_of p a) ≡ true
-        → Outcome p (k.Postfix postfix.Spill) (operand_tokens (need.Level (postfix_level postfix.Spill)) (tokened p a) ++ t.Hash ∷ []) other (n.Spill a) (depth_of a + 1)
+        → Outcome p (k.Postfix postfix.Spill) (operand_tokens (need.Level (postfix_level postfix.Spill)) (tokened p a) ++ t.Hash ∷ []) other (n.Spill a)
+        (depth_of a + 1)
     spill_outcome fine = expression refl (postfix_operand postfix.Spill (need.Level 10) (tokened p a) (at_least 10 (tokened p a).kind) (own a holds fine))
 
     intersection_outcome : operand (seen_of p a) ≡ true
-        → Outcome p (k.Prefix prefix.At) (t.At ∷ operand_tokens (need.Level (prefix_level prefix.At)) (tokened p a)) other (n.ImplicitIntersection a) (depth_of a + 1)
+        → Outcome p (k.Prefix prefix.At) (t.At ∷ operand_tokens (need.Level (prefix_level prefix.At)) (tokened p a)) other (n.ImplicitIntersection a)
+        (depth_of a + 1)
     intersection_outcome fine = expression refl (prefix_operand prefix.At (need.Level 8) (tokened p a) (at_least 8 (tokened p a).kind) (own a holds fine))
 
   -- ---- calls and lambdas

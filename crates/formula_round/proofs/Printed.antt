@@ -66,7 +66,8 @@ use Rattle.formula_round.proofs.Named.{small_letters}
 use Rattle.formula_round.proofs.Numbers.{number_part, number_first}
 use Rattle.formula_round.proofs.Parts.{Part, Anything, NoColon, StartsOperand, starts_front, starts_with, chars_front, ascii_chars}
 use Rattle.formula_round.proofs.Parts.{nothing, before, anyhow, joined, in_turn, same_text, same_tokens, whole}
-use Rattle.formula_round.proofs.Printings.{After, clear_after, after_clear, Piece, operand_part, operand_starts, is_colon, infix_spelled, infix_starts, colon_spelled}
+use Rattle.formula_round.proofs.Printings.{After, clear_after, after_clear, Piece, operand_part, operand_starts}
+use Rattle.formula_round.proofs.Printings.{is_colon, infix_spelled, infix_starts, colon_spelled}
 use Rattle.formula_round.proofs.Printings.{colon_starts}
 use Rattle.formula_round.proofs.Printings.{minus_spelled, at_spelled, percent_spelled, hash_spelled, first_starts, hash_no_cell}
 use Rattle.formula_round.proofs.Separated.{style, plain_clear, separator_clear, listed_parts, array_part, parameters_part}
@@ -272,7 +273,8 @@ module _ (p : Profile) where
       (λ fit rest after. absurd (let x = sym (infix_loose operator) ∙ fit in cc))
 
   colon_spelt : (a b : Node) → Two a b
-      → Piece p other (plainly (k.Infix op.Colon) (colon_text (text_of a) (text_of b))) (tokens.plainly (k.Infix op.Colon) (tokens.colon_tokens (tokened p a) (tokened p b)))
+      → Piece p other (plainly (k.Infix op.Colon) (colon_text (text_of a) (text_of b)))
+      (tokens.plainly (k.Infix op.Colon) (tokens.colon_tokens (tokened p a) (tokened p b)))
   colon_spelt a b two =
       plain_piece refl (colon_spelled two.left.piece two.right.piece two.left.some two.right.some)
       (colon_starts two.left.piece two.right.piece two.left.some two.right.some)

@@ -167,10 +167,12 @@ module _ {p : Profile} {sort : Sort} {a : Printed} {x : Tokened} (piece : Piece 
   last_operand need outer no_lambda no_left =
       before (After p.locale outer) (λ rest after fit. loosen outer a.kind rest no_lambda no_left after) (operand_part piece need)
 
-  pub minus_spelled : Part p.locale p.language (After p.locale (k.Prefix prefix.Minus)) (codes "-" ++ operand need.Negated a) (t.Minus ∷ tokens.operand need.Negated x)
+  pub minus_spelled : Part p.locale p.language (After p.locale (k.Prefix prefix.Minus))
+      (codes "-" ++ operand need.Negated a) (t.Minus ∷ tokens.operand need.Negated x)
   minus_spelled = in_turn minus_part (last_operand need.Negated (k.Prefix prefix.Minus) refl refl)
 
-  pub at_spelled : Part p.locale p.language (After p.locale (k.Prefix prefix.At)) (codes "@" ++ operand (need.Level 8) a) (t.At ∷ tokens.operand (need.Level 8) x)
+  pub at_spelled : Part p.locale p.language (After p.locale (k.Prefix prefix.At))
+      (codes "@" ++ operand (need.Level 8) a) (t.At ∷ tokens.operand (need.Level 8) x)
   at_spelled = in_turn at_part (last_operand (need.Level 8) (k.Prefix prefix.At) refl refl)
 
   pub percent_spelled : Part p.locale p.language (After p.locale (k.Postfix postfix.Percent))
@@ -206,9 +208,11 @@ module _ {p : Profile} {sort other : Sort} {a b : Printed} {x y : Tokened} (firs
       let right = operand (right_need operator) b in
       let starts = operand_starts second some_second (right_need operator) in
       let signed =
-      joined (operand_part first (left_need operator)) (infix_part operator) (λ rest after fit. clear_after a.kind _ (infix_clear p.locale operator other rest)) in
+      joined (operand_part first (left_need operator)) (infix_part operator)
+      (λ rest after fit. clear_after a.kind _ (infix_clear p.locale operator other rest)) in
       same_tokens (append_assoc (tokens.operand (left_need operator) x) (infix_token operator ∷ []) (tokens.operand (right_need operator) y))
-      (joined signed (last_operand second some_second (right_need operator) (k.Infix operator) refl (infix_no_left operator)) (λ rest after. no_comparison (chars right) rest starts))
+      (joined signed (last_operand second some_second (right_need operator) (k.Infix operator) refl (infix_no_left operator))
+      (λ rest after. no_comparison (chars right) rest starts))
 
   pub infix_starts : (operator : Infix) → StartsOperand (infix_text operator a b)
   infix_starts operator =

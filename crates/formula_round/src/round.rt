@@ -1,17 +1,15 @@
 ghost use Rattle.std.specs.Prelude.{◌≡◌, true};
 ghost use Rattle.std.specs.Str.{chars};
 ghost use Rattle.formula_tree.specs.declared.Node.{Node as Tree};
-ghost use Rattle.formula_tree.specs.Numbers.{has_kept_numbers};
 ghost use Rattle.formula_content.specs.declared.Content.{Content as AnyContent};
 ghost use Rattle.formula_content.specs.KeptContent.{IsKeptContent};
-ghost use Rattle.formula_print.specs.Forms.{localized_text};
 ghost use Rattle.formula_grammar.specs.declared.Profile.{Profile as AnyProfile};
 ghost use Rattle.formula_grammar.specs.Grammar.{Derives};
 ghost use Rattle.formula_grammar.specs.Normal.{is_normal};
 ghost use Rattle.formula_lex.specs.Lexicon.{IsTokens};
 ghost use Rattle.formula_read.specs.Formula.{IsFormula, formula_of};
 ghost use Rattle.formula_input.specs.Inputs.{input_of, input_text};
-ghost use Rattle.formula_round.specs.Back.{is_normal_content};
+ghost use Rattle.formula_round.specs.Back.{IsKeptNormal, is_normal_content, text_at};
 ghost use Rattle.formula_round.specs.Tokens.{tokens_of};
 
 use formula_input::contents_read_again;
@@ -22,9 +20,9 @@ use formula_read::text_has_one_tree;
 /// those of the tree.
 pub fn normal_trees_read_back()
     ensures derived { (p : AnyProfile) (tree : Tree) → is_normal p.place p.language tree ≡ true → Derives p (tokens_of p tree) tree }
-    ensures spelled { (p : AnyProfile) (tree : Tree) → is_normal p.place p.language tree ≡ true → has_kept_numbers tree ≡ true → IsTokens p.locale p.language (chars (localized_text p.place p.locale p.language tree)) (tokens_of p tree) }
-    ensures formula { (p : AnyProfile) (tree : Tree) → is_normal p.place p.language tree ≡ true → has_kept_numbers tree ≡ true → IsFormula p (localized_text p.place p.locale p.language tree) tree }
-    ensures read { (p : AnyProfile) (tree : Tree) → is_normal p.place p.language tree ≡ true → has_kept_numbers tree ≡ true → formula_of p (localized_text p.place p.locale p.language tree) ≡ tree }
+    ensures spelled { (p : AnyProfile) (tree : Tree) → IsKeptNormal p tree → IsTokens p.locale p.language (chars (text_at p tree)) (tokens_of p tree) }
+    ensures formula { (p : AnyProfile) (tree : Tree) → IsKeptNormal p tree → IsFormula p (text_at p tree) tree }
+    ensures read { (p : AnyProfile) (tree : Tree) → IsKeptNormal p tree → formula_of p (text_at p tree) ≡ tree }
 {
     text_has_one_tree();
 }

@@ -1,7 +1,7 @@
 -- Normal trees: those whose printed text reads back as them, in a formula at the same place, in the same locale and language. The reader gives others too.
 use Rattle.std.specs.Prelude.{ℕ, Bool, true, false, not, ◌&&◌, nat_le, List, [], ◌∷◌, length, Option, Some, None}
 use Rattle.std.specs.List.{list_all}
-use Rattle.std.specs.Str.{chars}
+use Rattle.std.specs.Str.{chars, is_utf8}
 use Rattle.base_values.specs.declared.Position.{Position}
 use Rattle.base_tables.specs.declared.Language.{Language}
 use Rattle.base_tables.specs.Column.{is_between}
@@ -9,6 +9,7 @@ use Rattle.base_tables.specs.Function.{function_of_name}
 use Rattle.base_tables.specs.Language.{boolean_of_text}
 use Rattle.base_tables.specs.Word.{is_word, reads_as_cell}
 use Rattle.formula_tree.specs.declared.array_item.ArrayItem.{ArrayItem}
+use Rattle.formula_tree.specs.declared.array_item.ArrayItem.TheVariants as item
 use Rattle.formula_tree.specs.declared.node.Node.{Node, fold-Node}
 use Rattle.formula_tree.specs.declared.node.Node.TheOpen.{Node-F}
 use Rattle.formula_tree.specs.declared.node.Node.TheOpen as layer
@@ -28,9 +29,13 @@ abbrev pub is_absent : {A : Type 0} → Option A → Bool
 is_absent None = true
 is_absent (Some a) = false
 
+-- a word in UTF-8, as each text of a program's tree is
+abbrev pub is_text_word : List ℕ → Bool
+is_text_word name = is_utf8 name && is_word (chars name)
+
 -- a word that reads neither as a cell nor as a boolean of the language
 abbrev pub is_plain_name : Language → List ℕ → Bool
-is_plain_name language name = (is_word (chars name) && not (reads_as_cell (chars name))) && is_absent (boolean_of_text language name)
+is_plain_name language name = (is_text_word name && not (reads_as_cell (chars name))) && is_absent (boolean_of_text language name)
 
 -- not a letter from A to Z
 abbrev pub is_no_capital : ℕ → Bool
@@ -38,17 +43,17 @@ is_no_capital c = not (is_between 65 90 c)
 
 -- a word, maybe one that reads as a cell, without capitals from A to Z, that is no function of the language and not `lambda`
 abbrev pub is_called_name : Language → List ℕ → Bool
-is_called_name language name = (is_word (chars name) && list_all is_no_capital name) && (is_absent (function_of_name language name) && not (is_lambda name))
+is_called_name language name = (is_text_word name && list_all is_no_capital name) && (is_absent (function_of_name language name) && not (is_lambda name))
 
 -- a word that reads as no cell
 abbrev pub is_parameter : Parameter → Bool
-is_parameter parameter = is_word (chars parameter.name) && not (reads_as_cell (chars parameter.name))
+is_parameter parameter = is_text_word parameter.name && not (reads_as_cell (chars parameter.name))
 
--- a sheet that is named has a name that is not empty
+-- a sheet that is named has a name that is not empty, in UTF-8
 abbrev pub is_named : Option (List ℕ) → Bool
 is_named None = true
 is_named (Some []) = false
-is_named (Some (c ∷ name)) = true
+is_named (Some (c ∷ name)) = is_utf8 (c ∷ name)
 
 -- ---- arrays
 
@@ -56,9 +61,16 @@ is_named (Some (c ∷ name)) = true
 abbrev pub has_item : List ArrayItem → Bool
 has_item line = nat_le 1 (length line)
 
+-- a text is in UTF-8
+abbrev pub is_constant : ArrayItem → Bool
+is_constant (item.Boolean value) = true
+is_constant (item.Number value) = true
+is_constant (item.Text text) = is_utf8 text
+is_constant (item.Error error) = true
+
 -- at least one line, with at least one item, and lines of equal length
 abbrev pub is_table : List (List ArrayItem) → Bool
-is_table lines = (nat_le 1 (length lines) && list_all has_item lines) && are_even lines
+is_table lines = ((nat_le 1 (length lines) && list_all has_item lines) && are_even lines) && list_all (list_all is_constant) lines
 
 -- ---- trees
 
@@ -109,7 +121,7 @@ seen sort is_fine = record { sort = sort; is_fine = is_fine }
 abbrev pub normal_layer : Position → Language → Node-F Seen → Seen
 normal_layer place language (layer.Boolean value) = seen other true
 normal_layer place language (layer.Number value) = seen other (number_follows NotNegative value)
-normal_layer place language (layer.Text text) = seen other true
+normal_layer place language (layer.Text text) = seen other (is_utf8 text)
 normal_layer place language (layer.Reference sheet corner) = seen other (is_named sheet && is_inside place corner)
 normal_layer place language (layer.Range sheet first second) = seen other (is_named sheet && is_placed_range place first second)
 normal_layer place language (layer.Colon a b) = seen other (operand a && operand b)

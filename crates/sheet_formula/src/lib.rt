@@ -1,7 +1,7 @@
 //! Formulas in one crate: trees, their texts both ways, references that move, and what cells hold.
 //!
 //! It passes on what `formula_tree`, `formula_print`, `formula_read`, `formula_move`,
-//! `formula_content` and `formula_input` hold; their contracts stand there.
+//! `formula_content`, `formula_input` and `formula_round` hold; their contracts stand there.
 #![tactic(auto)]
 
 pub use formula_content::{Content, fits_at};
@@ -12,6 +12,7 @@ pub use formula_print::{
     to_rc_format,
 };
 pub use formula_read::{read_formula, text_has_one_tree};
+pub use formula_round::{normal_contents_read_back, normal_trees_read_back};
 pub use formula_tree::{
     ArrayItem, CellReferenceRC, CompareKind, Corner, CornerMap, MAX_DEPTH, Node, Parameter,
     ProductKind, SumKind, UnaryKind, corner_at, has_kept_numbers, has_no_negative_number,

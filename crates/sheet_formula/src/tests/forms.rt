@@ -1,6 +1,5 @@
 // Texts as spreadsheets print them, form by form. `notation` says how the trees are written.
-mod notation;
-
+use crate::tests::notation::tree;
 use crate::{
     to_english_string, to_excel_array_formula_string, to_excel_string, to_localized_string,
     to_rc_format,
@@ -8,7 +7,6 @@ use crate::{
 use base_tables::{Language, Locale};
 use base_values::Text;
 use formula_tree::CellReferenceRC;
-use notation::tree;
 use std::alloc::Global;
 use std::process::Abort;
 use std::test::Fail;

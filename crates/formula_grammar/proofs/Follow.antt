@@ -19,7 +19,7 @@ use Rattle.formula_grammar.specs.declared.token.Token.{Token}
 use Rattle.formula_grammar.specs.declared.token.Token.TheVariants as t
 use Rattle.formula_grammar.specs.Operators.{infix_token, postfix_token}
 use Rattle.formula_grammar.specs.Words.{separator_token, row_token, worded}
-use Rattle.formula_grammar.specs.laws.Reading.{Outcome, Parser, with_rest, operator_of, operator_under, own, operator_at, opening, closing, is_separator, separator, is_empty_here, after_item, named}
+use Rattle.formula_grammar.specs.laws.Reading.{Parser, with_rest, operator_of, operator_under, own, operator_at, opening, closing, is_separator, separator, is_empty_here, after_item, named}
 
 abbrev pub operator_token : Operator → Token
 operator_token (operator.Infix op) = infix_token op

@@ -1,5 +1,5 @@
 -- A recursion on how many turns are left, beside a loop that counts up to n: its next turn, and its end.
-use Rattle.std.proofs.Common.{◌≡◌, ℕ, zero, suc, ◌+◌, ◌-◌, ◌<◌, ◌≤◌, cond, List, [], ◌∷◌, ◌++◌, Option, Some, None, option_and_then, ap, arith}
+use Rattle.std.proofs.Common.{◌≡◌, ℕ, suc, ◌+◌, ◌-◌, ◌<◌, ◌≤◌, cond, List, [], ◌∷◌, ◌++◌, Some, None, option_and_then, ap, arith}
 use Rattle.base_tables.specs.declared.Locale.{Locale}
 use Rattle.formula_tree.specs.declared.array_item.ArrayItem.{ArrayItem}
 use Rattle.formula_tree.specs.declared.node.Node.{Node}
@@ -8,7 +8,7 @@ use Rattle.formula_levels.specs.declared.prefix.Prefix.{Prefix}
 use Rattle.formula_levels.specs.Levels.{prefix_node}
 use Rattle.formula_grammar.specs.declared.profile.Profile.{Profile}
 use Rattle.formula_grammar.specs.declared.token.Token.{Token}
-use Rattle.formula_grammar.specs.laws.Reading.{Outcome, Parser, and_then, pure, made, item, after_item, rows_next, rows_from, parameter, parameters_step, parameters_from, separator, argument, arguments_from, operator_at, turn, chain_step, chain_from, signed, expression, whole}
+use Rattle.formula_grammar.specs.laws.Reading.{Parser, and_then, pure, made, item, after_item, rows_next, rows_from, parameter, parameters_step, parameters_from, separator, argument, arguments_from, operator_at, turn, chain_step, chain_from, signed, expression, whole}
 use Rattle.formula_grammar.specs.laws.Signs.{wrapped}
 
 next : {X : Type 0} (f : ℕ → X) (n at : ℕ) → at < n → f (n - at) ≡ f (suc (n - (at + 1)))

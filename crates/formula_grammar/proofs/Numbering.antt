@@ -10,7 +10,6 @@ use Rattle.formula_tree.specs.declared.array_item.ArrayItem.{ArrayItem}
 use Rattle.formula_tree.specs.declared.node.Node.{Node}
 use Rattle.formula_tree.specs.declared.numbers.NumberRule.{NumberRule}
 use Rattle.formula_tree.specs.declared.numbers.NumberRule.TheVariants as rule
-use Rattle.formula_tree.specs.Corners.{lower_corner, higher_corner}
 use Rattle.formula_tree.specs.Numbers.{constant_follows, lines_follow, numbers_follow}
 use Rattle.formula_tree.specs.laws.NumbersEquations.{numbers_boolean, numbers_number, numbers_text, numbers_reference, numbers_range, numbers_call, numbers_named_call, numbers_array, numbers_name, numbers_error, numbers_empty_argument, numbers_lambda, numbers_lambda_call, numberings}
 use Rattle.formula_levels.specs.declared.infix.Infix.{Infix}

@@ -9,7 +9,7 @@ use Rattle.formula_tree.specs.declared.node.Node.{Node}
 use Rattle.formula_grammar.specs.declared.token.Token.{Token}
 use Rattle.formula_grammar.specs.declared.token.Token.TheVariants as t
 use Rattle.formula_grammar.specs.Operators.{prefix_under, prefix_token}
-use Rattle.formula_grammar.specs.laws.Reading.{Outcome, Parser, and_then, pure, with_rest, made, make, sign_of, own, sign_at, make_signed, signed_step, signed}
+use Rattle.formula_grammar.specs.laws.Reading.{Outcome, Parser, and_then, pure, with_rest, made, make, sign_of, own, sign_at, signed_step, signed}
 use Rattle.formula_grammar.specs.laws.Signs.{counted, signs, making, wrapped}
 
 module _ (op : Prefix) where

@@ -1,5 +1,5 @@
 -- The first tokens of a tree.
-use Rattle.std.proofs.Common.{◌≡◌, ℕ, suc, ◌≤◌, Bool, false, cond, List, [], ◌∷◌, ◌++◌, Option, Some, None, refl, sym, ap, subst, ◌∙◌, append_assoc, arith}
+use Rattle.std.proofs.Common.{◌≡◌, ℕ, suc, ◌≤◌, Bool, false, cond, List, [], ◌∷◌, ◌++◌, Some, None, refl, sym, ap, subst, ◌∙◌, append_assoc, arith}
 use Rattle.std.specs.Prelude.{◌==◌}
 use Rattle.std.proofs.lemmas.Bool.{ne_eqb}
 use Rattle.base_tables.specs.declared.Locale.{Locale}
@@ -13,7 +13,7 @@ use Rattle.formula_grammar.specs.declared.token.Token.TheVariants as t
 use Rattle.formula_grammar.specs.Operators.{prefix_under, infix_token, postfix_token, prefix_token}
 use Rattle.formula_grammar.specs.Grammar as G
 use Rattle.formula_grammar.specs.Grammar.{Expression, Lambda, expression_tokens, lambda_tokens, arguments_tokens}
-use Rattle.formula_grammar.specs.laws.Reading.{Outcome, Parser, closing, is_separator, is_empty_here, parameter, own, sign_at, signed_step, signed}
+use Rattle.formula_grammar.specs.laws.Reading.{Parser, closing, is_separator, is_empty_here, parameter, own, sign_at, signed_step, signed}
 use Rattle.formula_grammar.proofs.Follow.{known}
 
 -- the level at which a token may stand first, and 11 where it may not

@@ -1,9 +1,9 @@
 -- What steps of reading that did not fail came to.
-use Rattle.std.proofs.Common.{◌≡◌, ℕ, zero, suc, ◌≤◌, List, ◌∷◌, ◌++◌, Option, Some, None, refl, sym, ap, subst, ◌∙◌, append_assoc}
+use Rattle.std.proofs.Common.{◌≡◌, ℕ, zero, suc, ◌≤◌, List, Option, Some, None, refl, ap, subst}
 use Rattle.formula_tree.specs.declared.node.Node.{Node}
 use Rattle.formula_tree.specs.Depth.{depth_of}
 use Rattle.formula_grammar.specs.declared.token.Token.{Token}
-use Rattle.formula_grammar.specs.laws.Reading.{Outcome, Parser, and_then, ◌>>=◌, with_rest, made, make, chain_step, chain_from}
+use Rattle.formula_grammar.specs.laws.Reading.{Outcome, Parser, and_then, with_rest, made, make, chain_step, chain_from}
 use Rattle.formula_grammar.proofs.Depths.{made-is}
 
 abbrev pub found : {A : Type 0} → A → List Token → Outcome A

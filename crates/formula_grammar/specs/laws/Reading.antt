@@ -12,7 +12,6 @@ use Rattle.formula_tree.specs.declared.node.Node.TheVariants as n
 use Rattle.formula_tree.specs.declared.operator.CompareKind.TheVariants as compare_kind
 use Rattle.formula_tree.specs.declared.operator.ProductKind.TheVariants as product_kind
 use Rattle.formula_tree.specs.declared.operator.SumKind.TheVariants as sum_kind
-use Rattle.formula_tree.specs.declared.operator.UnaryKind.TheVariants as unary
 use Rattle.formula_tree.specs.declared.parameter.Parameter.{Parameter}
 use Rattle.formula_tree.specs.Depth.{depth_of}
 use Rattle.formula_grammar.specs.declared.after_item.AfterItem.{AfterItem}

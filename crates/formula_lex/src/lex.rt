@@ -56,7 +56,9 @@ pub fn lex_text(
     profile: Profile,
 ) -> Result<Option<Vec<Token>>, EditError>
     ensures found { IfOk result (λ o. IfSome o (λ tokens. IsTokens profile.locale profile.language (chars text.now) tokens.items)) }
-    ensures only { IfOk result (λ o. (tokens : List AnyToken) → IsTokens profile.locale profile.language (chars text.now) tokens → option_map (λ found. found.items) o ≡ Some tokens) }
+    ensures only { IfOk result (λ o. (tokens : List AnyToken)
+        → IsTokens profile.locale profile.language (chars text.now) tokens
+        → option_map (λ found. found.items) o ≡ Some tokens) }
     ensures memory { IsOkUnless result NoMemory }
 {
     Ok(tokens(alloc, profile, text)?)
@@ -65,7 +67,10 @@ pub fn lex_text(
 /// A text is at most one list of tokens. The definition `tokens_of`, which computes, answers that list.
 #[tactic(auto, using(crate::proofs::Tokens::laws))]
 pub fn text_spells_one_list()
-    ensures one { (locale : AnyLocale) (language : AnyLanguage) (text : List ℕ) (a b : List AnyToken) → IsTokens locale language text a → IsTokens locale language text b → a ≡ b }
-    ensures read { (locale : AnyLocale) (language : AnyLanguage) (text : List ℕ) (tokens : List AnyToken) → tokens_of locale language text ≡ Some tokens → IsTokens locale language text tokens }
-    ensures spelled { (locale : AnyLocale) (language : AnyLanguage) (text : List ℕ) (tokens : List AnyToken) → IsTokens locale language text tokens → tokens_of locale language text ≡ Some tokens }
+    ensures one { (locale : AnyLocale) (language : AnyLanguage) (text : List ℕ) (a b : List AnyToken)
+        → IsTokens locale language text a → IsTokens locale language text b → a ≡ b }
+    ensures read { (locale : AnyLocale) (language : AnyLanguage) (text : List ℕ) (tokens : List AnyToken)
+        → tokens_of locale language text ≡ Some tokens → IsTokens locale language text tokens }
+    ensures spelled { (locale : AnyLocale) (language : AnyLanguage) (text : List ℕ) (tokens : List AnyToken)
+        → IsTokens locale language text tokens → tokens_of locale language text ≡ Some tokens }
 {}

@@ -52,12 +52,12 @@ behind_dollar text (Some rest) = (true, rest)
 abbrev pub dollar_at : Text → Bool × Text
 dollar_at text = behind_dollar text (past 36 text)
 
-abbrev pub with_name : (Text → Option ℤ) → Bool → Text × Text → Option (Line × Text)
-with_name line_of_name absolute name = option_map (λ number. (record { absolute = absolute; number = number }, name.1)) (line_of_name name.0)
-
 -- a column or a row: maybe a dollar, and the longest name
 unfoldable pub line_at : (Text → Option ℤ) → (ℕ → Bool) → Reader Line
-line_at line_of_name p text = with_name line_of_name (dollar_at text).0 (span p (dollar_at text).1)
+line_at line_of_name p text =
+    let d = dollar_at text in
+    let s = span p d.1 in
+    option_map (λ number. (record { absolute = d.0; number = number }, s.1)) (line_of_name s.0)
 
 abbrev pub column_at : Reader Line
 column_at = line_at column_of_name is_letter

@@ -10,7 +10,7 @@ ghost use Rattle.script_lines.specs.Escapes.{escaped};
 ghost use Rattle.script_dump.specs.Text.{hex};
 ghost use Rattle.script_dump.specs.Dump.{flag_text, state_text, color_text, same_style, style_text, content_word, content_text, book_line, sheet_line, cell_line, sheet_lines, dump};
 
-use crate::english::english_text;
+use crate::english::push_english;
 use crate::lines::{push_columns, push_links, push_rows};
 use crate::text::{push_capital_hex, push_hex, push_line, push_signed, push_unsigned, push_word};
 use base_shared::Shared;
@@ -122,9 +122,10 @@ fn content_word(content: &Content) -> &'static str
     }
 }
 
+/// Writes a content, whose text is made in `scratch`.
 fn push_content(
-    alloc: Global,
     out: &mut Vec<u8>,
+    scratch: &mut String,
     place: Position,
     content: &Content,
 ) -> Result<(), EditError>
@@ -135,15 +136,14 @@ fn push_content(
         out.extend_from_slice(b"empty")?;
         return Ok(());
     }
-    let text = english_text(alloc, place, content)?;
     out.extend_from_slice(content_word(content).as_bytes())?;
-    push_escaped(out, text.as_bytes())?;
-    Ok(())
+    push_english(out, scratch, place, content)
 }
 
 fn push_cell_line(
     alloc: Global,
     out: &mut Vec<u8>,
+    scratch: &mut String,
     place: Position,
     cell: &Cell,
 ) -> Result<(), EditError>
@@ -156,7 +156,7 @@ fn push_cell_line(
     out.push(b' ')?;
     push_style(alloc, out, &cell.style)?;
     out.push(b' ')?;
-    push_content(alloc, out, place, &cell.content)?;
+    push_content(out, scratch, place, &cell.content)?;
     out.push(b'\n')?;
     Ok(())
 }
@@ -164,6 +164,7 @@ fn push_cell_line(
 fn push_cell(
     alloc: Global,
     out: &mut Vec<u8>,
+    scratch: &mut String,
     place: Position,
     cell: &Shared<Cell>,
 ) -> Result<(), EditError>
@@ -171,7 +172,7 @@ fn push_cell(
     ensures text { OnOk result (out.new.items ≡ out.old.items ++ cell_line (place, cell.now)) }
     ensures memory { IsOkUnless result NoMemory }
 {
-    push_cell_line(alloc, out, place, cell.get())
+    push_cell_line(alloc, out, scratch, place, cell.get())
 }
 
 /// Writes the front of a sheet's line, up to its grid lines and a space.
@@ -222,8 +223,9 @@ fn push_cells(alloc: Global, out: &mut Vec<u8>, sheet: &Worksheet) -> Result<(),
     ensures text { OnOk result (out.new.items ≡ out.old.items ++ flat_map cell_line (fin.entries sheet.now.cells)) }
     ensures memory { IsOkUnless result NoMemory }
 {
+    let mut scratch = String::new(alloc);
     for (place, cell) in sheet.cells() {
-        push_cell(alloc, out, *place, cell)?;
+        push_cell(alloc, out, &mut scratch, *place, cell)?;
     }
     Ok(())
 }

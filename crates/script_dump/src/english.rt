@@ -1,18 +1,20 @@
 //! Contents in English, as a script reads and prints them.
 
-ghost use Rattle.std.specs.Prelude.{◌≡◌, true, string_bytes, IfOk, IsOkUnless};
+ghost use Rattle.std.specs.Prelude.{◌≡◌, ◌++◌, true, IfOk, OnOk, IsOkUnless};
 ghost use Rattle.base_values.specs.Places.{IsPlace};
 ghost use Rattle.base_values.specs.declared.error.EditError.TheVariants.{NoMemory};
 ghost use Rattle.formula_tree.specs.Context.{context_place};
 ghost use Rattle.formula_content.specs.Fitting.{fits_at};
 ghost use Rattle.formula_content.specs.KeptContent.{IsKeptContent};
 ghost use Rattle.formula_input.specs.Inputs.{input_of, input_text};
+ghost use Rattle.script_lines.specs.Escapes.{escaped};
 ghost use Rattle.script_dump.specs.English.{english};
 
 use base_tables::{Language, Locale};
 use base_values::{EditError, Position, Text};
-use formula_input::{print_content, read_input};
+use formula_input::{push_content, read_input};
 use formula_tree::CellReferenceRC;
+use script_lines::push_escaped;
 use sheet_grid::Content;
 use std::alloc::Global;
 
@@ -27,20 +29,24 @@ fn cell_at(alloc: Global, place: Position) -> CellReferenceRC
     }
 }
 
-/// The text of the content of the cell at a place, in English.
+/// Writes the text of the content of the cell at a place, in English and escaped, at the end. It is
+/// first made in `scratch`, whose room serves again and whose text is lost.
 ///
-/// `NoMemory` alone is an error.
-pub fn english_text(alloc: Global, place: Position, content: &Content) -> Result<String, EditError>
-    ensures text { IfOk result (λ text. string_bytes text ≡ input_text (english place) content.now) }
+/// `NoMemory` alone is an error. A front of the text may then have been written.
+pub fn push_english(
+    out: &mut Vec<u8>,
+    scratch: &mut String,
+    place: Position,
+    content: &Content,
+) -> Result<(), EditError>
+    ensures text { OnOk result (out.new.items ≡ out.old.items ++ escaped (input_text (english place) content.now)) }
     ensures memory { IsOkUnless result NoMemory }
 {
-    print_content(
-        alloc,
-        content,
-        &cell_at(alloc, place),
-        Locale::En,
-        Language::En,
-    )
+    let context = cell_at(*scratch.allocator(), place);
+    scratch.clear();
+    push_content(scratch, content, &context, Locale::En, Language::En)?;
+    push_escaped(out, scratch.as_bytes())?;
+    Ok(())
 }
 
 /// The content that an English text is read as in the cell at a place inside the sheet.

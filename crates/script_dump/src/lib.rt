@@ -3,7 +3,7 @@
 //!
 //! The layer above writes a workbook with `push_dump`, which is `dump`, and lines and bytes of its
 //! own with `push_line` and `push_hex`. It reads and prints contents with `english_input` and
-//! `english_text`.
+//! `push_english`.
 #![tactic(auto)]
 
 mod dump;
@@ -12,5 +12,5 @@ mod lines;
 mod text;
 
 pub use dump::push_dump;
-pub use english::{english_input, english_text};
+pub use english::{english_input, push_english};
 pub use text::{push_hex, push_line};

@@ -5,11 +5,11 @@
 #![tactic(auto)]
 
 pub use formula_content::{Content, fits_at};
-pub use formula_input::{contents_read_again, print_content, read_input};
+pub use formula_input::{contents_read_again, print_content, push_content, read_input};
 pub use formula_move::{DisplaceData, displace_node, to_string_displaced};
 pub use formula_print::{
-    to_english_string, to_excel_array_formula_string, to_excel_string, to_localized_string,
-    to_rc_format,
+    push_localized_string, push_number, to_english_string, to_excel_array_formula_string,
+    to_excel_string, to_localized_string, to_rc_format,
 };
 pub use formula_read::{read_formula, text_has_one_tree};
 pub use formula_tree::{

@@ -24,6 +24,7 @@ pub(crate) fn output_text(alloc: Global, script: &[u8]) -> Result<Vec<u8>, EditE
         editor: _,
         copy: _,
         out,
+        scratch: _,
     } = session;
     Ok(out)
 }

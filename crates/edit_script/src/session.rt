@@ -1,17 +1,18 @@
 ghost use Rattle.std.specs.Prelude.{◌≡◌, ◌≢◌, ◌++◌, [], codes, Ok, OnOk, IfOk, IfErr, IsTrue, IsOkUnless};
-ghost use Rattle.base_values.specs.Answers.{Returns};
+ghost use Rattle.base_values.specs.Answers.{Returns, map_ok};
 ghost use Rattle.base_values.specs.declared.EditError.TheVariants.{NoMemory};
 ghost use Rattle.formula_content.specs.Fitting.{fits_at};
 ghost use Rattle.formula_content.specs.KeptContent.{IsKeptContent};
 ghost use Rattle.script_dump.specs.Text.{line, hex};
-ghost use Rattle.edit_script.specs.Script.{content_at, refusal, outcome, got, typed};
+ghost use Rattle.edit_script.specs.Script.{content_of, content_at, refusal, outcome, got, typed};
 
 use crate::second_copy::SecondCopy;
-use base_values::{EditError, Position, copy_of, place_of};
-use script_dump::{english_input, english_text, push_dump, push_hex, push_line};
+use base_shared::Shared;
+use base_values::{EditError, Position, place_of};
+use script_dump::{english_input, push_dump, push_english, push_hex, push_line};
 use script_editor::Editor;
-use script_lines::{Command, push_escaped, read_command, split_first, without_return};
-use sheet_grid::{Content, Workbook};
+use script_lines::{Command, read_command, split_first, without_return};
+use sheet_grid::{Cell, Content, Workbook};
 use std::alloc::Global;
 
 /// A script's editor, its second copy, and its answers so far.
@@ -21,6 +22,8 @@ pub(crate) struct Session {
     pub(crate) editor: Editor,
     pub(crate) copy: SecondCopy,
     pub(crate) out: Vec<u8>,
+    /// Where texts are made before they are escaped. It is kept for its room.
+    pub(crate) scratch: String,
 }
 
 fn push_refusal(out: &mut Vec<u8>, error: EditError) -> Result<(), EditError>
@@ -51,14 +54,16 @@ fn push_outcome(out: &mut Vec<u8>, done: Result<(), EditError>) -> Result<(), Ed
     }
 }
 
-/// The content at a row and a column of the sheet at an index.
-fn content_at(workbook: &Workbook, sheet: u32, row: i32, column: i32) -> Result<Content, EditError>
-    ensures { Returns result (content_at sheet row column workbook.now) }
+/// The cell at a row and a column of the sheet at an index, held together with the sheet.
+fn found_at(
+    workbook: &Workbook,
+    sheet: u32,
+    row: i32,
+    column: i32,
+) -> Result<Option<Shared<Cell>>, EditError>
+    ensures { Returns (map_ok content_of result) (content_at sheet row column workbook.now) }
 {
-    match workbook.worksheet(sheet)?.shared_cell(row, column)? {
-        Some(cell) => copy_of(&cell.get().content),
-        None => Ok(Content::Empty),
-    }
+    workbook.worksheet(sheet)?.shared_cell(row, column)
 }
 
 /// The place of a row and a column.
@@ -70,34 +75,35 @@ fn position(row: i32, column: i32) -> Position
 
 /// Writes the content at a place.
 fn push_value(
-    alloc: Global,
     out: &mut Vec<u8>,
+    scratch: &mut String,
     place: Position,
     content: &Content,
 ) -> Result<(), EditError>
     ensures text { OnOk result (out.new.items ≡ out.old.items ++ got place (Ok content.now)) }
     ensures only { IsOkUnless result NoMemory }
 {
-    let text = english_text(alloc, place, content)?;
     out.extend_from_slice(b"value ")?;
-    push_escaped(out, text.as_bytes())?;
+    push_english(out, scratch, place, content)?;
     out.push(b'\n')?;
     Ok(())
 }
 
-/// Writes the answer to a question for the content at a place. Being out of memory has none.
-fn push_content(
-    alloc: Global,
+/// Writes the answer to a question for the content at a place, where a cell was found or the question
+/// was refused. Being out of memory has none.
+fn push_found(
     out: &mut Vec<u8>,
+    scratch: &mut String,
     place: Position,
-    found: Result<Content, EditError>,
+    found: Result<Option<Shared<Cell>>, EditError>,
 ) -> Result<(), EditError>
-    ensures text { OnOk result (out.new.items ≡ out.old.items ++ got place found) }
+    ensures text { OnOk result (out.new.items ≡ out.old.items ++ got place (map_ok content_of found)) }
     ensures memory { OnOk result (IfErr found (λ error. error ≢ NoMemory)) }
     ensures only { IsOkUnless result NoMemory }
 {
     match found {
-        Ok(content) => push_value(alloc, out, place, &content),
+        Ok(Some(cell)) => push_value(out, scratch, place, &cell.get().content),
+        Ok(None) => push_value(out, scratch, place, &Content::Empty),
         Err(error) => push_refusal(out, error),
     }
 }
@@ -147,6 +153,7 @@ impl Session {
             editor,
             copy,
             out: Vec::new(alloc),
+            scratch: String::new(alloc),
         })
     }
 
@@ -163,8 +170,9 @@ impl Session {
         ensures { (state : State) → SessionStands self.old state →
             Runs result self.old self.new (reply_to (Get sheet row column) state) (next_of (Get sheet row column) state) }
     {
-        let found = content_at(self.editor.workbook(), sheet, row, column);
-        push_content(self.alloc, &mut self.out, position(row, column), found)
+        let found = found_at(self.editor.workbook(), sheet, row, column);
+        let place = position(row, column);
+        push_found(&mut self.out, &mut self.scratch, place, found)
     }
 
     fn insert_rows(&mut self, sheet: u32, row: i32, count: i32) -> Result<(), EditError>

@@ -1,8 +1,6 @@
 pub mod Edit
+pub mod Moves
+pub mod Way
 pub mod Trial
-pub mod Lists
 pub mod Carried
-pub mod Places
-pub mod Areas
-pub mod Trees
 pub mod laws

@@ -1,4 +1,3 @@
 pub mod Images
-pub mod TreeLaws
-pub mod TreePlaces
+pub mod TrialLaws
 pub mod Equals

@@ -1,0 +1,194 @@
+//! What the lines of an axis have of their own: each entry goes where its line goes.
+
+ghost use Rattle.std.specs.Prelude.{◌≡◌, ◌+ℤ◌, pos, IfOk, IfSome, IsOkUnless, IsTrue, OnOk, Some, All};
+ghost use Rattle.std.specs.Option.{option_copied};
+ghost use Rattle.std.specs.FinMap.{get};
+ghost use Rattle.base_values.specs.Places.{IsLine};
+ghost use Rattle.base_values.specs.declared.EditError.TheVariants.{NoMemory};
+ghost use Rattle.line_map.specs.Attributes.{line_goes_along, heir, block_with, block_heirs, heirs, LinesLie};
+ghost use Rattle.line_map.specs.Carried.{entry_made, lost_map, moved_map, overlaid};
+ghost use Rattle.line_map.specs.Edit.{within};
+ghost use Rattle.line_map.specs.Way.{back, is_along, way};
+
+use crate::edit::Block;
+use crate::follower::Follower;
+use crate::line_map::LineMap;
+use crate::route::Route;
+use base_axis::{Axis, AxisMap};
+use base_maps::NumberMap;
+use base_values::{EditError, Exact, copy_of};
+use std::alloc::Global;
+
+/// Whether the lines of an axis go along a route: those of the edited axis of the edited sheet.
+fn goes_along<A: Axis, B: Axis, M: LineMap<A>>(route: &Route<'_, A, M>) -> bool
+    ensures along { result ≡ line_goes_along B.along (way route.now) }
+    ensures last { IsTrue result → A.along.last ≡ B.along.last }
+{
+    route.is_edited && A::of(B::of(true, false), B::of(false, true))
+}
+
+/// The entries of lines, each where its line goes.
+fn moved_lines<A: Axis, B: Axis, M: LineMap<A>, V: Exact + Drop>(
+    alloc: Global,
+    lines: &M,
+    map: &AxisMap<B, V>,
+) -> Result<AxisMap<B, V>, EditError>
+    requires { A.along.last ≡ B.along.last }
+    ensures map { IfOk result (λ made. made ≡ moved_map (M.moves lines.now).to map.now) }
+    ensures only { IsOkUnless result NoMemory }
+{
+    let mut made = AxisMap::new(alloc);
+    for (line, value) in map.iter() {
+        if let Some(to) = lines.image(*line) {
+            made.insert(to, copy_of(value)?)?;
+        }
+    }
+    Ok(made)
+}
+
+/// The entries of lines that go nowhere.
+pub fn lost_lines<A: Axis, B: Axis, M: LineMap<A>, V: Exact + Drop>(
+    alloc: Global,
+    lines: &M,
+    map: &AxisMap<B, V>,
+) -> Result<NumberMap<V>, EditError>
+    ensures map { IfOk result (λ lost. lost ≡ lost_map (M.moves lines.now).to map.now) }
+    ensures only { IsOkUnless result NoMemory }
+{
+    let mut lost = NumberMap::new(alloc);
+    for (line, value) in map.iter() {
+        if lines.image(*line).is_none() {
+            lost.insert(*line, copy_of(value)?)?;
+        }
+    }
+    Ok(lost)
+}
+
+/// A map with these entries, which are those of lines of the axis, in place of its own.
+pub fn overlaid_lines<B: Axis, V: Exact + Drop>(
+    over: &NumberMap<V>,
+    map: AxisMap<B, V>,
+) -> Result<AxisMap<B, V>, EditError>
+    requires { LinesLie B.along over.now }
+    ensures map { IfOk result (λ made. made ≡ overlaid over.now map) }
+    ensures only { IsOkUnless result NoMemory }
+{
+    let mut made = map;
+    for (line, value) in over.iter() {
+        made.insert(*line, copy_of(value)?)?;
+    }
+    Ok(made)
+}
+
+/// What lines take that come to stand between two others: what both of these have, where that is
+/// the same.
+fn heir<'m, V: Exact>(before: Option<&'m V>, after: Option<&'m V>) -> Option<&'m V>
+    ensures { option_copied result ≡ heir V.eq (option_copied before.entry) (option_copied after.entry) }
+{
+    match (before, after) {
+        (Some(before), Some(after)) if before == after => Some(before),
+        _ => None,
+    }
+}
+
+/// Gives the lines of a block, as far as they are lines of the axis, a copy of a value.
+fn fill_block<B: Axis, V: Exact + Drop>(
+    block: Block,
+    value: &V,
+    map: &mut AxisMap<B, V>,
+) -> Result<(), EditError>
+    ensures map { OnOk result (map.new ≡ overlaid (block_with B.along.last value.now block) map.old) }
+    ensures only { IsOkUnless result NoMemory }
+{
+    let end = (i64::from(block.first) + i64::from(block.count)).min(i64::from(B::LAST) + 1);
+    for line in block.first.max(1)..(end as i32) {
+        map.insert(line, copy_of(value)?)?;
+    }
+    Ok(())
+}
+
+/// What lines have of their own, carried along the edited axis.
+fn carried_lines<A: Axis, B: Axis, M: LineMap<A>, V: Exact + Drop>(
+    alloc: Global,
+    route: &Route<'_, A, M>,
+    map: &AxisMap<B, V>,
+) -> Result<AxisMap<B, V>, EditError>
+    requires { A.along.last ≡ B.along.last }
+    ensures map { IfOk result (λ made. made ≡ overlaid (heirs B.along V.eq (way route.now).moves.inserted map.now) (moved_map (way route.now).moves.to map.now)) }
+    ensures only { IsOkUnless result NoMemory }
+{
+    let mut made = moved_lines(alloc, route.map, map)?;
+    if let Some(block) = route.inserted() {
+        if B::of(false, true) {
+            if let Some(value) = heir(map.get(block.first - 1), map.get(block.first)) {
+                fill_block(block, value, &mut made)?;
+            }
+        }
+    }
+    Ok(made)
+}
+
+/// What lines have of their own goes with them; columns that are brought in take what the columns
+/// before and after them both have, where that is the same.
+impl<A: Axis, B: Axis, V: Exact + Drop> Follower<A> for AxisMap<B, V> {
+    ghost use Rattle.line_map.specs.Attributes.{lines_carried, lines_part, lines_restored, LinesLie};
+    ghost use Rattle.line_map.specs.laws.AttributeLaws.{lines_stay, lines_kept_fit, lines_come_back, lines_restore};
+
+    /// The entries of lines that go nowhere.
+    type Part = NumberMap<V>;
+
+    ghost Lies = { λ _. LinesLie B.along };
+
+    ghost carry_of = { lines_carried B.along V.eq };
+
+    ghost part_of = { lines_part B.along };
+
+    ghost Fits = { λ _. LinesLie B.along };
+
+    ghost restore_of = { lines_restored B.along };
+
+    fn carry<M: LineMap<A>>(
+        &self,
+        alloc: Global,
+        route: &Route<'_, A, M>,
+    ) -> Result<AxisMap<B, V>, EditError> {
+        if goes_along::<A, B, M>(route) {
+            carried_lines(alloc, route, self)
+        } else {
+            copy_of(self)
+        }
+    }
+
+    fn part<M: LineMap<A>>(
+        &self,
+        alloc: Global,
+        route: &Route<'_, A, M>,
+    ) -> Result<Option<NumberMap<V>>, EditError> {
+        if goes_along::<A, B, M>(route) {
+            Ok(Some(lost_lines(alloc, route.map, self)?))
+        } else {
+            Ok(None)
+        }
+    }
+
+    fn restore<M: LineMap<A>>(
+        &self,
+        alloc: Global,
+        route: &Route<'_, A, M>,
+        part: &NumberMap<V>,
+    ) -> Result<AxisMap<B, V>, EditError> {
+        if goes_along::<A, B, M>(route) {
+            overlaid_lines(part, moved_lines(alloc, route.opposite, self)?)
+        } else {
+            copy_of(self)
+        }
+    }
+
+    ghost stays = { λ w is. lines_stay B.along w is V.eq };
+
+    ghost part_fits = { λ w is m lie k h. lines_kept_fit B.along w is m lie k h };
+
+    ghost comes_back = { λ w is m lie h. lines_come_back B.along w is V.eq m lie h };
+
+    ghost restores = { λ w is m lie k h. lines_restore B.along w is V.eq m lie k h };
+}

@@ -1,0 +1,144 @@
+-- What stands at each key of a map that is gathered, and how such a map is made entry by entry.
+use Rattle.std.proofs.Common.{◌≡◌, Bool, true, false, cond, T, List, [], ◌∷◌, ◌++◌, Option, Some, None, refl, ap, sym, subst, ◌∙◌}
+use Rattle.std.specs.Prelude.{is_some, is_none}
+use Rattle.std.specs.List.{filter_map, cons_option}
+use Rattle.std.specs.declared.cmp.Ordering.{Ordering}
+use Rattle.std.specs.declared.cmp.Ordering.TheVariants.{Equal}
+use Rattle.std.specs.Ordering.{eq_by_cmp}
+use Rattle.std.specs.Cmp.{IsTotalOrder}
+use Rattle.std.proofs.lemmas.Map.Lookups.{CmpEqualImpliesEq}
+use Rattle.std.specs.FinMap.Entries.{find, is_sorted}
+use Rattle.std.specs.FinMap.{FinMap, empty, entries, entries_sorted, from_entries, get, get-entries, get-from_entries, get-retain_keys, insert, same_map, from_entries_push}
+use Rattle.line_map.specs.Carried.{if_there, entry_made, gathered, lost_map, overlaid}
+use Rattle.line_map.specs.Moves.{Inverse}
+use Rattle.line_map.specs.laws.Keys.{one_key, own_key, apart_keys, first_once, sorted_rest, sorted_front, not_before}
+
+-- a map with one more entry, if there is one
+abbrev pub with_made : {K Y : Type 0} {R : K → K → Ordering} → Option (K × Y) → FinMap R Y → FinMap R Y
+with_made None m = m
+with_made (Some e) m = insert m e.0 e.1
+
+-- a list with one more entry behind it, if there is one
+abbrev with_last : {E : Type 0} → List E → Option E → List E
+with_last es None = es
+with_last es (Some e) = es ++ e ∷ []
+
+test_of : (b : Bool) → T b → b ≡ true
+test_of true h = refl
+test_of false h = absurd h
+
+nothing_there : {X Y : Type 0} (s : Option X) → None ≡ if_there s (λ (x : X). None {T = Y})
+nothing_there None = refl
+nothing_there (Some x) = refl
+
+module _ {K X Y : Type 0} (R : K → K → Ordering) (total : IsTotalOrder R) (exact : CmpEqualImpliesEq R) (to from : K → Option K) (i : Inverse to from) (make : K → K → X → Option Y) where
+  -- what the entries of a list make at a key
+  abbrev made_at : List (K × X) → K → Option K → Option Y
+  made_at es q s = if_there s (λ p. if_there (find R p es) (make p q))
+
+  -- an entry whose key does not go there makes nothing there
+  elsewhere : (e : K × X) (es : List (K × X)) (q : K) (s : Option K) → from q ≡ s → (to e.0 ≡ Some q → ⊥) → made_at es q s ≡ made_at (e ∷ es) q s
+  elsewhere e es q None g h = refl
+  elsewhere e es q (Some p) g h =
+      ap (λ b. if_there (cond b (Some e.1) (find R p es)) (make p q))
+      (sym (apart_keys R total exact p e.0 (λ same. h (ap to (sym same) ∙ i.forth p q g))))
+
+  find-made : (es : List (K × X)) → is_sorted R es ≡ true → (q : K) → find R q (filter_map (entry_made to make) es) ≡ made_at es q (from q)
+  find-made [] sorted q = none_at (from q)
+    where
+      none_at : (s : Option K) → None ≡ made_at [] q s
+      none_at None = refl
+      none_at (Some p) = refl
+  find-made (e ∷ es) sorted q = by_target (to e.0) refl
+    where
+      rest : find R q (filter_map (entry_made to make) es) ≡ made_at es q (from q)
+      rest = find-made es (sorted_rest R e es sorted) q
+
+      -- nothing is made of an entry that goes there
+      not_made : to e.0 ≡ Some q → make e.0 q e.1 ≡ None → made_at es q (from q) ≡ made_at (e ∷ es) q (from q)
+      not_made there none =
+          ap (made_at es q) (i.back e.0 q there)
+          ∙ ap (λ v. if_there v (make e.0 q)) (first_once R e es sorted)
+          ∙ sym (ap (made_at (e ∷ es) q) (i.back e.0 q there) ∙ ap (λ b. if_there (cond b (Some e.1) (find R e.0 es)) (make e.0 q)) (own_key R total exact e.0) ∙ none)
+
+      -- an entry that goes to a key makes this there
+      by_value : (r : K) → to e.0 ≡ Some r → (y : Option Y) → make e.0 r e.1 ≡ y → (b : Bool) → eq_by_cmp R q r ≡ b →
+          find R q (cons_option (if_there y (λ y. Some (r, y))) (filter_map (entry_made to make) es)) ≡ made_at (e ∷ es) q (from q)
+      by_value r there None is true same = rest ∙ (let one : r ≡ q = sym (one_key R total exact q r same) in not_made (there ∙ ap Some one) (ap (λ k. make e.0 k e.1) (sym one) ∙ is))
+      by_value r there None is false apart = rest ∙ elsewhere e es q (from q) refl (λ h. let one : r ≡ q = cc in absurd (cc))
+      by_value r there (Some y) is true same =
+          let one : r ≡ q = sym (one_key R total exact q r same) in
+          ap (λ b. cond b (Some y) (find R q (filter_map (entry_made to make) es))) same
+          ∙ sym (ap (made_at (e ∷ es) q) (i.back e.0 q (there ∙ ap Some one)) ∙ ap (λ b. if_there (cond b (Some e.1) (find R e.0 es)) (make e.0 q)) (own_key R total exact e.0) ∙ ap (λ k. make e.0 k e.1) (sym one) ∙ is)
+      by_value r there (Some y) is false apart =
+          ap (λ b. cond b (Some y) (find R q (filter_map (entry_made to make) es))) apart
+          ∙ rest ∙ elsewhere e es q (from q) refl (λ h. let one : q ≡ r = cc in let tie : eq_by_cmp R q r ≡ true = ap (eq_by_cmp R q) (sym one) ∙ own_key R total exact q in absurd (cc))
+
+      by_target : (t : Option K) → to e.0 ≡ t → find R q (cons_option (if_there t (λ r. if_there (make e.0 r e.1) (λ y. Some (r, y)))) (filter_map (entry_made to make) es)) ≡ made_at (e ∷ es) q (from q)
+      by_target None there = rest ∙ elsewhere e es q (from q) refl (λ h. absurd (cc))
+      by_target (Some r) there = by_value r there (make e.0 r e.1) refl (eq_by_cmp R q r) refl
+
+  -- a gathered map has at a key what the entry makes whose key goes there
+  pub get-gathered : (m : FinMap R X) (q : K) → get (gathered to make m) q ≡ if_there (from q) (λ p. if_there (get m p) (make p q))
+  unfolding gathered
+  get-gathered m q =
+      get-from_entries total (filter_map (entry_made to make) (entries m)) q
+      ∙ find-made (entries m) (test_of _ (entries_sorted m)) q
+      ∙ at_key (from q)
+    where
+      at_key : (s : Option K) → made_at (entries m) q s ≡ if_there s (λ p. if_there (get m p) (make p q))
+      at_key None = refl
+      at_key (Some p) = ap (λ v. if_there v (make p q)) (sym (get-entries m p))
+
+  append_made : (ys : List (K × X)) (e : K × X) → filter_map (entry_made to make) (ys ++ e ∷ []) ≡ with_last (filter_map (entry_made to make) ys) (entry_made to make e)
+  append_made [] e = last_of (entry_made to make e)
+    where
+      last_of : (o : Option (K × Y)) → cons_option o [] ≡ with_last [] o
+      last_of None = refl
+      last_of (Some f) = refl
+  append_made (y ∷ ys) e = ap (cons_option (entry_made to make y)) (append_made ys e) ∙ first_of (entry_made to make y) (entry_made to make e)
+    where
+      first_of : (f o : Option (K × Y)) → cons_option f (with_last (filter_map (entry_made to make) ys) o) ≡ with_last (cons_option f (filter_map (entry_made to make) ys)) o
+      first_of None o = refl
+      first_of (Some f) None = refl
+      first_of (Some f) (Some g) = refl
+
+  -- the key that an entry goes to has nothing made there by the entries before it
+  free_key : (ys : List (K × X)) (e : K × X) (zs : List (K × X)) → is_sorted R (ys ++ e ∷ zs) ≡ true → (q : K) → to e.0 ≡ Some q → find R q (filter_map (entry_made to make) ys) ≡ None
+  free_key ys e zs sorted q there =
+      find-made ys (sorted_front R ys (e ∷ zs) sorted) q
+      ∙ ap (made_at ys q) (i.back e.0 q there)
+      ∙ ap (λ v. if_there v (make e.0 q)) (not_before R total exact ys e zs sorted)
+
+  -- one more entry of a sorted list
+  pub gathered_more : (ys : List (K × X)) (e : K × X) (zs : List (K × X)) → is_sorted R (ys ++ e ∷ zs) ≡ true →
+      from_entries {R = R} (filter_map (entry_made to make) (ys ++ e ∷ [])) ≡ with_made (entry_made to make e) (from_entries (filter_map (entry_made to make) ys))
+  gathered_more ys e zs sorted = ap from_entries (append_made ys e) ∙ by_target (to e.0) refl
+    where
+      by_value : (r : K) → to e.0 ≡ Some r → (y : Option Y) →
+          from_entries {R = R} (with_last (filter_map (entry_made to make) ys) (if_there y (λ y. Some (r, y)))) ≡ with_made (if_there y (λ y. Some (r, y))) (from_entries (filter_map (entry_made to make) ys))
+      by_value r there None = refl
+      by_value r there (Some y) = from_entries_push total exact (filter_map (entry_made to make) ys) r y (free_key ys e zs sorted r there)
+
+      by_target : (t : Option K) → to e.0 ≡ t →
+          from_entries {R = R} (with_last (filter_map (entry_made to make) ys) (if_there t (λ r. if_there (make e.0 r e.1) (λ y. Some (r, y))))) ≡ with_made (if_there t (λ r. if_there (make e.0 r e.1) (λ y. Some (r, y)))) (from_entries (filter_map (entry_made to make) ys))
+      by_target None there = refl
+      by_target (Some r) there = by_value r there (make e.0 r e.1)
+
+-- the entries that go nowhere are those that are kept
+module _ {K X : Type 0} (R : K → K → Ordering) (total : IsTotalOrder R) (exact : CmpEqualImpliesEq R) where
+  pub get-lost_map : (to : K → Option K) (m : FinMap R X) (p : K) → get (lost_map to m) p ≡ cond (is_none (to p)) (get m p) None
+  unfolding lost_map
+  get-lost_map to m p = get-retain_keys m (λ key. is_none (to key)) p (λ q h. ap (λ k. is_none (to k)) (sym (exact p q h)))
+
+  find-both : (over es : List (K × X)) (q : K) → find R q (over ++ es) ≡ cond (is_some (find R q over)) (find R q over) (find R q es)
+  find-both [] es q = refl
+  find-both (e ∷ over) es q = elim (eq_by_cmp R q e.0) as (λ b. cond b (Some e.1) (find R q (over ++ es)) ≡ cond (is_some (cond b (Some e.1) (find R q over))) (cond b (Some e.1) (find R q over)) (find R q es))
+      [ true ↦ refl | false ↦ find-both over es q ]
+
+  -- a map with entries laid over it has these, and its own elsewhere
+  pub get-overlaid : (over m : FinMap R X) (q : K) → get (overlaid over m) q ≡ cond (is_some (get over q)) (get over q) (get m q)
+  unfolding overlaid
+  get-overlaid over m q =
+      get-from_entries total (entries over ++ entries m) q ∙ find-both (entries over) (entries m) q
+      ∙ (λ j. cond (is_some (sym (get-entries over q) j)) (sym (get-entries over q) j) (sym (get-entries m q) j))

@@ -1,7 +1,6 @@
 -- How a map on the lines of one sheet meets a sheet of the workbook, and what stands there.
 use Rattle.std.specs.Prelude.{◌≡◌, ℕ, ℤ, Bool, true, false, List, [], Option, Some, None, ◌&&◌, if◌then◌else◌}
 use Rattle.base_values.specs.declared.Position.{Position}
-use Rattle.base_values.specs.Places.{IsPlace}
 use Rattle.base_axis.specs.Along.{Along, IsAxis}
 use Rattle.base_axis.specs.declared.axis.Axis as axis
 use Rattle.line_map.specs.declared.line_map.LineMap as line_map
@@ -27,12 +26,10 @@ back w = record w { moves = turned w.moves; from = w.to; to = w.from }
 abbrev pub at : Way → Position → Position → Way
 at w from to = record w { from = from; to = to }
 
--- it is one: the map is one to one along an axis, and what it carries stands inside the sheet
+-- it is one: the map is one to one along an axis
 pub record IsWay (w : Way) : Type 0 where
   pub axis : IsAxis w.along
   pub one_to_one : IsOneToOne w.along.last w.moves
-  pub from_inside : IsPlace w.from
-  pub to_inside : IsPlace w.to
 
 -- where a place of the sheet goes: along the map on the edited sheet. On another one it stays
 unfoldable pub place_goes : Way → Position → Option Position

@@ -103,7 +103,7 @@ module _ {F P : Type 0} (w : Way) (is : IsWay w) where
               let goes : place_goes w p ≡ Some q = inverse.forth p q there in
               let held : get m p ≡ Some x = ap (get m) (sym same) ∙ s.2.1 in
               let value : y ≡ carry (at w p q) x = s.2.2 ∙ ap (λ k. carry (at w k q) x) same in
-              subst (Lies (back (at w p q))) (sym value) (stays (at w p q) (at_is_way w is p q (lie.places p x held) (place_at p q (lie.places p x held) goes)) x (lie.items p q x held goes));
+              subst (Lies (back (at w p q))) (sym value) (stays (at w p q) (at_is_way w is p q) x (lie.items p q x held goes));
         }
 
   module _ (carry : Way → F → F) (part : Way → F → Option P) (restore : Way → F → P → F) (Lies : Way → F → Type 0) where
@@ -114,15 +114,15 @@ module _ {F P : Type 0} (w : Way) (is : IsWay w) where
 
     module _ (comes_back : (v : Way) → IsWay v → (x : F) → Lies v x → part v x ≡ None → carry (back v) (carry v x) ≡ x) (restores : (v : Way) → IsWay v → (x : F) → Lies v x → (k : P) → part v x ≡ Some k → restore v (carry v x) k ≡ x) where
       -- a map goes back with its lost entries, and with parts that are those of its entries
-      pub places_return : (m : FinMap position_cmp F) → AllLie Lies w m → (parts : Position → Option P) → ((p q : Position) (x : F) → place_goes w p ≡ Some q → get m p ≡ Some x → parts p ≡ part (at w p q) x) →
+      pub places_return : (m : FinMap position_cmp F) → ((p q : Position) (x : F) → get m p ≡ Some x → place_goes w p ≡ Some q → Lies (at w p q) x) → (parts : Position → Option P) → ((p q : Position) (x : F) → place_goes w p ≡ Some q → get m p ≡ Some x → parts p ≡ part (at w p q) x) →
           overlaid (lost_map (place_goes w) m) (places_restored carry restore w parts (places_carried carry w m)) ≡ m
       places_return m lie parts kept =
           map_restores position_cmp position_total exact_positions (place_goes w) (place_goes (back w)) inverse
           (λ p q. carry (at w p q)) (λ p q. carry (back (at w p q))) (λ p q. restore (at w p q)) parts m
           (λ p q x there held.
               let v : Way = at w p q in
-              let way : IsWay v = at_is_way w is p q (lie.places p x held) (place_at carry Lies p q (lie.places p x held) there) in
-              let lies = lie.items p q x held there in
+              let way : IsWay v = at_is_way w is p q in
+              let lies = lie p q x held there in
               ap (λ o. settled (carry (back v)) (restore v) o (carry v x)) (kept p q x there held)
               ∙ settles_at v x (part v x) refl (comes_back v way x lies) (restores v way x lies))
 
@@ -134,7 +134,7 @@ module _ {F P : Type 0} (w : Way) (is : IsWay w) where
 
       -- it is restored from what is kept of it
       pub places_restore : (m : FinMap position_cmp F) → AllLie Lies w m → overlaid (lost_map (place_goes w) m) (places_restored carry restore w (get (places_parts part w m)) (places_carried carry w m)) ≡ m
-      places_restore m lie = places_return m lie (get (places_parts part w m)) (kept_at m)
+      places_restore m lie = places_return m lie.items (get (places_parts part w m)) (kept_at m)
 
     module _ (Fits : Way → P → Type 0) (part_fits : (v : Way) → IsWay v → (x : F) → Lies v x → (k : P) → part v x ≡ Some k → Fits v k) where
       part_from : (p q : Position) (v : Option F) (k : P) → if_there v (part (at w p q)) ≡ Some k → (x : F) × (v ≡ Some x) × (part (at w p q) x ≡ Some k)
@@ -156,5 +156,5 @@ module _ {F P : Type 0} (w : Way) (is : IsWay w) where
         parts_fit = λ p q k there h.
             let found = part_from p q (get m p) k (sym (there_at p q (get m p) there) ∙ sym (get-parts_map position_cmp position_total exact_positions (place_goes w) (place_goes (back w)) inverse (λ p q x. part (at w p q) x) m p) ∙ h) in
             let x : F = found.0 in
-            part_fits (at w p q) (at_is_way w is p q (lie.places p x found.1) (place_at carry Lies p q (lie.places p x found.1) there)) x (lie.items p q x found.1 there) k found.2;
+            part_fits (at w p q) (at_is_way w is p q) x (lie.items p q x found.1 there) k found.2;
       }

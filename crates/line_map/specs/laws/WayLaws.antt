@@ -25,10 +25,10 @@ turned_one_to_one last m o = record {
 
 -- the way back is a way, and so is that of what goes from a place to a place
 pub back_is_way : (w : Way) → IsWay w → IsWay (back w)
-back_is_way w is = record { axis = is.axis; one_to_one = turned_one_to_one w.along.last w.moves is.one_to_one; from_inside = is.to_inside; to_inside = is.from_inside }
+back_is_way w is = record { axis = is.axis; one_to_one = turned_one_to_one w.along.last w.moves is.one_to_one }
 
-pub at_is_way : (w : Way) → IsWay w → (p q : Position) → IsPlace p → IsPlace q → IsWay (at w p q)
-at_is_way w is p q h i = record { axis = is.axis; one_to_one = is.one_to_one; from_inside = h; to_inside = i }
+pub at_is_way : (w : Way) → IsWay w → (p q : Position) → IsWay (at w p q)
+at_is_way w is p q = record { axis = is.axis; one_to_one = is.one_to_one }
 
 at_line_inside : (a : Along) → IsAxis a → (p : Position) → IsPlace p → (o : Option ℤ) → IfSome o (IsLine a.last) → IfSome (at_line a p o) IsPlace
 at_line_inside a l p h None i = tt

@@ -29,5 +29,3 @@ pub use place_map::{KeptMap, Parts, kept_parts, lost_places, overlaid_places, re
 pub use route::Route;
 pub use tree_at::TreeAt;
 
-#[cfg(test)]
-mod tests;

@@ -5,6 +5,7 @@ ghost use Rattle.base_tables.specs.Folding.{same_folded};
 use crate::line_map::LineMap;
 use base_axis::Axis;
 use base_values::Position;
+use std::alloc::AllocError;
 use std::marker::PhantomData;
 
 /// How a map on the lines of one sheet meets a sheet of the workbook, and where what it carries
@@ -34,3 +35,13 @@ pub struct Route<'a, A: Axis, M: LineMap<A>> {
     pub ghost from_inside: { IsPlace from },
     pub ghost to_inside: { IsPlace to },
 }
+
+impl<'a, A: Axis, M: LineMap<A>> Clone for Route<'a, A, M> {
+    ghost is_clone = { λ s r. r ≡ s };
+
+    fn clone(&self) -> Result<Route<'a, A, M>, AllocError> {
+        Ok(*self)
+    }
+}
+
+impl<'a, A: Axis, M: LineMap<A>> Copy for Route<'a, A, M> {}

@@ -19,6 +19,7 @@ use formula_tree::{
 use std::alloc::Global;
 
 /// Where the corners go of a formula that is carried along a route.
+#[derive_where(Clone, Copy)]
 pub struct Following<'r, 'a, A: Axis, M: LineMap<A>> {
     pub route: &'r Route<'a, A, M>,
 }

@@ -21,7 +21,7 @@ use crate::dimension::WorksheetDimension;
 use crate::link::Link;
 use crate::row_attr::RowAttr;
 use crate::state::SheetState;
-use base_axis::{ColumnAxis, LineMap, RowAxis};
+use base_axis::{AxisMap, ColumnAxis, RowAxis};
 use base_decimal::Decimal;
 use base_shared::Shared;
 use base_styles::{Color, Style};
@@ -46,8 +46,8 @@ pub struct Worksheet {
     frozen_columns: i32,
     cells: PlaceMap<Shared<Cell>>,
     links: PlaceMap<Link>,
-    rows: LineMap<RowAxis, RowAttr>,
-    columns: LineMap<ColumnAxis, ColumnAttr>,
+    rows: AxisMap<RowAxis, RowAttr>,
+    columns: AxisMap<ColumnAxis, ColumnAttr>,
 }
 
 impl Model for Worksheet {
@@ -115,8 +115,8 @@ impl Worksheet {
             frozen_columns: 0,
             cells: PlaceMap::new(alloc),
             links: PlaceMap::new(alloc),
-            rows: LineMap::new(alloc),
-            columns: LineMap::new(alloc),
+            rows: AxisMap::new(alloc),
+            columns: AxisMap::new(alloc),
         }
     }
 

@@ -1,5 +1,5 @@
 -- How an edit meets what stands on the edited sheet by itself.
-use Rattle.std.specs.Prelude.{pos, true, [], Option, Some, None}
+use Rattle.std.specs.Prelude.{◌≡◌, pos, true, [], Option, Some, None}
 use Rattle.base_axis.specs.Along.{Along}
 use Rattle.line_map.specs.declared.edit.EditKind.{EditKind}
 use Rattle.line_map.specs.Moves.{edit_moves}

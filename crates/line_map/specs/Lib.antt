@@ -1,4 +1,5 @@
 pub mod Edit
+pub mod Lost
 pub mod Moves
 pub mod Way
 pub mod Trial

@@ -5,12 +5,12 @@ ghost use Rattle.std.specs.Option.{option_copied};
 ghost use Rattle.std.specs.FinMap.{get};
 ghost use Rattle.base_values.specs.Places.{IsLine};
 ghost use Rattle.base_values.specs.declared.EditError.TheVariants.{NoMemory};
-ghost use Rattle.line_map.specs.Attributes.{line_goes_along, heir, block_with, block_heirs, heirs, LinesLie};
+ghost use Rattle.line_map.specs.Attributes.{line_goes_along, heir, amount, with_line, filled, block_with, block_heirs, heirs, LinesLie};
 ghost use Rattle.line_map.specs.Carried.{entry_made, lost_map, moved_map, overlaid};
 ghost use Rattle.line_map.specs.Edit.{within};
 ghost use Rattle.line_map.specs.Way.{back, is_along, way};
 
-use crate::edit::Block;
+use crate::edit::{Block, within};
 use crate::follower::Follower;
 use crate::line_map::LineMap;
 use crate::route::Route;
@@ -85,10 +85,30 @@ pub fn overlaid_lines<B: Axis, V: Exact + Drop>(
 fn heir<'m, V: Exact>(before: Option<&'m V>, after: Option<&'m V>) -> Option<&'m V>
     ensures { option_copied result ≡ heir V.eq (option_copied before.entry) (option_copied after.entry) }
 {
-    match (before, after) {
-        (Some(before), Some(after)) if before == after => Some(before),
-        _ => None,
+    let (before, after) = (before?, after?);
+    if *before == *after { Some(before) } else { None }
+}
+
+/// How many: none of a number below 0.
+fn amount(count: i32) -> u32
+    ensures { result ≡ amount count }
+{
+    if count < 0 { 0 } else { count as u32 }
+}
+
+/// Gives a line a copy of a value, if it is one of the axis.
+fn fill_line<B: Axis, V: Exact + Drop>(
+    line: i64,
+    value: &V,
+    map: &mut AxisMap<B, V>,
+) -> Result<(), EditError>
+    ensures map { OnOk result (map.new ≡ with_line (within B.along.last line) value.now map.old) }
+    ensures only { IsOkUnless result NoMemory }
+{
+    if let Some(line) = within(B::LAST, line) {
+        map.insert(line, copy_of(value)?)?;
     }
+    Ok(())
 }
 
 /// Gives the lines of a block, as far as they are lines of the axis, a copy of a value.
@@ -100,9 +120,8 @@ fn fill_block<B: Axis, V: Exact + Drop>(
     ensures map { OnOk result (map.new ≡ overlaid (block_with B.along.last value.now block) map.old) }
     ensures only { IsOkUnless result NoMemory }
 {
-    let end = (i64::from(block.first) + i64::from(block.count)).min(i64::from(B::LAST) + 1);
-    for line in block.first.max(1)..(end as i32) {
-        map.insert(line, copy_of(value)?)?;
+    for i in 0..amount(block.count) {
+        fill_line(i64::from(block.first) + i64::from(i), value, map)?;
     }
     Ok(())
 }
@@ -184,11 +203,11 @@ impl<A: Axis, B: Axis, V: Exact + Drop> Follower<A> for AxisMap<B, V> {
         }
     }
 
-    ghost stays = { λ w is. lines_stay B.along w is V.eq };
+    ghost stays = { λ w is. lines_stay w is B.along B.lawful V.eq };
 
-    ghost part_fits = { λ w is m lie k h. lines_kept_fit B.along w is m lie k h };
+    ghost part_fits = { λ w is m lie k h. lines_kept_fit w is B.along m lie k h };
 
-    ghost comes_back = { λ w is m lie h. lines_come_back B.along w is V.eq m lie h };
+    ghost comes_back = { λ w is m lie h. lines_come_back w is B.along V.eq m h };
 
-    ghost restores = { λ w is m lie k h. lines_restore B.along w is V.eq m lie k h };
+    ghost restores = { λ w is m lie k h. lines_restore w is B.along V.eq m k h };
 }

@@ -2,7 +2,9 @@ ghost use Rattle.std.specs.Prelude.{◌≡◌, ◌&&◌, ◌≤ℤ◌, ◌+ℤ�
 ghost use Rattle.std.specs.Int.{w64};
 ghost use Rattle.base_values.specs.Places.{IsLine, is_line};
 ghost use Rattle.line_map.specs.Edit.{image_at, goes_to, within, is_in_block, opposite_of, is_valid, IsValid};
-ghost use Rattle.line_map.specs.Moves.{IsFirstImage, inserted_by, edit_moves};
+ghost use Rattle.line_map.specs.Lost.{pushed_from, lost_from, lost_to, beside_lost};
+ghost use Rattle.line_map.specs.Moves.{inserted_by, edit_moves};
+ghost use Rattle.line_map.specs.laws.Images.{IsMove};
 
 use crate::line_map::LineMap;
 use base_axis::Axis;
@@ -63,7 +65,7 @@ fn is_line(last: i32, line: i64) -> bool
 
 /// The line, where it is one of the axis.
 #[tactic(auto, unfolding(crate::specs::Edit::within))]
-fn within(last: i32, line: i64) -> Option<i32>
+pub(crate) fn within(last: i32, line: i64) -> Option<i32>
     ensures value { result ≡ within last line }
     ensures inside { IfSome result (IsLine last) }
 {
@@ -159,9 +161,67 @@ fn goes_to(last: i32, kind: EditKind, line: i32) -> Option<i32>
     }
 }
 
+/// The move that takes the lines of a move back.
+#[tactic(auto, unfolding(crate::specs::Edit::opposite_of))]
+fn moved_back(last: i32, first: i32, count: i32, delta: i32) -> EditKind
+    requires last { last ≤ℤ pos 1048576 }
+    requires valid { IsMove last first count delta }
+    ensures { result ≡ opposite_of (EditKind.Move first count delta) }
+{
+    EditKind::Move {
+        first: first + delta,
+        count,
+        delta: 0 - delta,
+    }
+}
+
+/// The first line that an insertion pushes past the end.
+fn pushed_from(last: i32, first: i32, count: i32) -> i64
+    ensures { result ≡ pushed_from last first count }
+{
+    let pushed = i64::from(last) - i64::from(count) + 1;
+    if i64::from(first) < pushed {
+        pushed
+    } else {
+        i64::from(first)
+    }
+}
+
+/// The last of so many lines.
+fn last_of(first: i32, count: i32) -> i64
+    ensures { result ≡ (first +ℤ count) -ℤ pos 1 }
+{
+    i64::from(first) + i64::from(count) - 1
+}
+
+fn widened(line: i32) -> i64
+    ensures { result ≡ line }
+{
+    i64::from(line)
+}
+
+/// Of the lines from one towards another the first that is not one of those lost, which are the
+/// lines from `low` to `high`.
+#[tactic(auto, unfolding(crate::specs::Lost::beside_lost))]
+fn beside_lost(low: i64, high: i64, line: i32, towards: i32) -> Option<i32>
+    ensures { result ≡ beside_lost low high line towards }
+{
+    let (here, there) = (i64::from(line), i64::from(towards));
+    if here < low || high < here {
+        return Some(line);
+    }
+    if high < there {
+        return Some((high + 1) as i32);
+    }
+    if there < low {
+        return Some((low - 1) as i32);
+    }
+    None
+}
+
 impl EditKind {
     /// The edit that takes the lines back, of an edit of an axis.
-    #[tactic(auto, unfolding(crate::specs::Edit::opposite_of))]
+    #[tactic(auto, unfolding(crate::specs::Edit::opposite_of), using(crate::specs::laws::Images::move_parts))]
     fn opposite(self, last: i32) -> EditKind
         requires last { last ≤ℤ pos 1048576 }
         requires valid { IsValid last self }
@@ -174,11 +234,37 @@ impl EditKind {
                 first,
                 count,
                 delta,
-            } => EditKind::Move {
-                first: first + delta,
-                count,
-                delta: 0 - delta,
-            },
+            } => moved_back(last, first, count, delta),
+        }
+    }
+
+    /// The first line of an axis that it loses.
+    fn lost_from(self, last: i32) -> i64
+        ensures { result ≡ lost_from last self }
+    {
+        match self {
+            EditKind::Insert { first, count } => pushed_from(last, first, count),
+            EditKind::Delete { first, count: _ } => widened(first),
+            EditKind::Move {
+                first: _,
+                count: _,
+                delta: _,
+            } => 1,
+        }
+    }
+
+    /// The last line of an axis that it loses.
+    fn lost_to(self, last: i32) -> i64
+        ensures { result ≡ lost_to last self }
+    {
+        match self {
+            EditKind::Insert { first: _, count: _ } => widened(last),
+            EditKind::Delete { first, count } => last_of(first, count),
+            EditKind::Move {
+                first: _,
+                count: _,
+                delta: _,
+            } => 0,
         }
     }
 
@@ -247,8 +333,10 @@ impl<A: Axis> LineMap<A> for LineEdit<A> {
         self.kind.inserted()
     }
 
+    #[tactic(auto, using(crate::specs::laws::FirstImages::first_image_is))]
     fn first_image(&self, line: i32, towards: i32) -> Option<i32> {
-        None
+        let (low, high) = (self.kind.lost_from(A::LAST), self.kind.lost_to(A::LAST));
+        beside_lost(low, high, line, towards)
     }
 
     fn opposite(&self, _alloc: Global) -> Result<LineEdit<A>, EditError> {

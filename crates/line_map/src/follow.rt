@@ -1,6 +1,6 @@
 ghost use Rattle.std.specs.Prelude.{◌≡◌, IfOk, IsOkUnless};
 ghost use Rattle.base_values.specs.declared.EditError.TheVariants.{NoMemory};
-ghost use Rattle.line_map.specs.Edit.{IsValid};
+ghost use Rattle.line_map.specs.Edit.{IsValid, opposite_of};
 ghost use Rattle.line_map.specs.Alone.{edit_way};
 ghost use Rattle.line_map.specs.Way.{way};
 ghost use Rattle.line_map.specs.declared.edit.EditKind.{EditKind};
@@ -131,7 +131,7 @@ impl<A: Axis, F: Follower<A>> Follow<A> for F {
         }
     }
 
-    ghost fits = { λ e valid v lies. kept_fits F.Lies F.Fits F.carry_of F.part_of (edit_way A.along e) (edit_is_way A.along A.lawful e valid) (F.stays) (F.part_fits) v lies };
+    ghost fits = { λ e valid v lies. kept_fits F.Lies F.carry_of F.part_of (edit_way A.along e) (edit_is_way A.along A.lawful e valid) F.Fits F.stays F.part_fits v lies };
 
-    ghost regains = { λ e valid v lies. kept_restores F.Lies F.carry_of F.part_of F.restore_of (edit_way A.along e) (edit_is_way A.along A.lawful e valid) (F.comes_back) (F.restores) v lies };
+    ghost regains = { λ e valid v lies. kept_restores F.Lies F.carry_of F.part_of (edit_way A.along e) (edit_is_way A.along A.lawful e valid) F.restore_of F.comes_back F.restores v lies };
 }

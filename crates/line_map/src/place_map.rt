@@ -231,7 +231,7 @@ impl<A: Axis, F: Follower<A>> Follower<A> for PlaceMap<F> {
     ghost use Rattle.line_map.specs.Carried.{lost_map, overlaid};
     ghost use Rattle.line_map.specs.Maps.{AllLie, KeptFits, places_carried, places_parts, places_restored};
     ghost use Rattle.line_map.specs.Way.{place_goes};
-    ghost use Rattle.line_map.specs.laws.MapLaws.{places_stay, places_kept_fit, places_restore};
+    ghost use Rattle.line_map.specs.laws.MapLaws.{places_stay, kept_map_fits, kept_map_restores};
 
     type Part = KeptMap<F, F::Part>;
 
@@ -273,11 +273,11 @@ impl<A: Axis, F: Follower<A>> Follower<A> for PlaceMap<F> {
         overlaid_places(&part.lost, restored)
     }
 
-    ghost stays = { λ w is. places_stay w is F.carry_of F.Lies (F.stays) };
+    ghost stays = { λ w is. places_stay w is F.carry_of F.Lies F.stays };
 
-    ghost part_fits = { λ w is m lie k h. places_kept_fit w is F.part_of F.Fits F.Lies (F.part_fits) m lie k h };
+    ghost part_fits = { λ w is m lie k h. kept_map_fits w is F.part_of F.Lies F.Fits F.part_fits m lie k h };
 
     ghost comes_back = { λ w is m lie h. absurd (Prim.cc) };
 
-    ghost restores = { λ w is m lie k h. places_restore w is F.carry_of F.part_of F.restore_of F.Lies (F.comes_back) (F.restores) m lie k h };
+    ghost restores = { λ w is m lie k h. kept_map_restores w is F.carry_of F.part_of F.restore_of F.Lies F.comes_back F.restores m lie k h };
 }

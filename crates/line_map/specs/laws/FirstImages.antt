@@ -1,35 +1,96 @@
--- The first line with an image, found by the lines that an edit loses, which stand together.
-use Rattle.std.proofs.Common.{◌≡◌, ◌≢◌, ℤ, pos, ◌+ℤ◌, ◌-ℤ◌, ◌≤ℤ◌, Bool, true, false, Option, Some, None, refl, arith, cond}
-use Rattle.std.specs.Prelude.{int_lt, int_le, ◌&&◌, is_some, not, if◌then◌else◌}
+-- The first line with an image is found beside the lines that an edit loses.
+use Rattle.std.proofs.Common.{◌≡◌, ◌≢◌, ℤ, pos, ◌+ℤ◌, ◌-ℤ◌, ◌≤ℤ◌, Bool, true, false, Option, Some, None, refl, arith, ap, sym, ◌∙◌}
+use Rattle.std.specs.Prelude.{int_lt, int_le, ◌&&◌, is_some, if◌then◌else◌}
 use Rattle.std.proofs.lemmas.Int.{ints}
 use Rattle.base_values.specs.Places.{IsLine}
 use Rattle.line_map.specs.declared.edit.EditKind.{EditKind}
 use Rattle.line_map.specs.declared.edit.EditKind.TheVariants.{Insert, Delete, Move}
-use Rattle.line_map.specs.Edit.{within, moved_line, goes_to, image_at, IsValid}
+use Rattle.line_map.specs.Edit.{within, moved_by, goes_to, image_at, IsValid}
+use Rattle.line_map.specs.Lost.{pushed_from, lost_from, lost_to, is_lost, beside, beside_lost}
 use Rattle.line_map.specs.Moves.{IsFirstImage, is_between}
+use Rattle.line_map.specs.laws.Images.{IsWithin, IsMove, insert_parts, delete_parts, move_parts, moved_inside, image_of_line, is_line-of, within_of}
 
--- the first and the last line that an edit loses
-abbrev pub lost_from : ℤ → EditKind → ℤ
-lost_from last (Insert first count) = if int_lt first ((last -ℤ count) +ℤ pos 1) then (last -ℤ count) +ℤ pos 1 else first
-lost_from last (Delete first count) = first
-lost_from last (Move first count delta) = pos 1
+insert_lost : (last c k n : ℤ) → IsWithin last c k → is_lost (pushed_from last c k) last n ≡ true → goes_to last (Insert c k) n ≡ None
+unfolding goes_to within
+insert_lost last c k n v h = grind (arith, ints)
 
-abbrev pub lost_to : ℤ → EditKind → ℤ
-lost_to last (Insert first count) = last
-lost_to last (Delete first count) = (first +ℤ count) -ℤ pos 1
-lost_to last (Move first count delta) = pos 0
+delete_lost : (last c k n : ℤ) → IsWithin last c k → is_lost c ((c +ℤ k) -ℤ pos 1) n ≡ true → goes_to last (Delete c k) n ≡ None
+unfolding goes_to within
+delete_lost last c k n v h = grind (arith, ints)
 
--- of the lines from one towards another the first that is not one of those lost
-unfoldable pub beside_lost : ℤ → ℤ → ℤ → ℤ → Option ℤ
-beside_lost low high line towards =
-    if not_lost then Some line else if int_lt high towards then Some (high +ℤ pos 1) else if int_lt towards low then Some (low -ℤ pos 1) else None
-  where
-    abbrev not_lost : Bool
-    not_lost = not (int_le low line && int_le line high)
+insert_kept : (last c k n : ℤ) → IsWithin last c k → IsLine last n → is_lost (pushed_from last c k) last n ≡ false → is_some (goes_to last (Insert c k) n) ≡ true
+unfolding goes_to within
+insert_kept last c k n v h i = grind (arith, ints)
+
+delete_kept : (last c k n : ℤ) → IsWithin last c k → IsLine last n → is_lost c ((c +ℤ k) -ℤ pos 1) n ≡ false → is_some (goes_to last (Delete c k) n) ≡ true
+unfolding goes_to within
+delete_kept last c k n v h i = grind (arith, ints)
+
+move_kept : (last c k d n : ℤ) → IsMove last c k d → IsLine last n → is_some (goes_to last (Move c k d) n) ≡ true
+unfolding goes_to
+move_kept last c k d n v h = ap is_some (within_of last (n +ℤ moved_by c k d n) (is_line-of last (n +ℤ moved_by c k d n) (moved_inside last c k d v n h)))
 
 -- exactly the lines from the first to the last lost one have no image
-lost_none : (last : ℤ) (kind : EditKind) → IsValid last kind → (n : ℤ) → lost_from last kind ≤ℤ n → n ≤ℤ lost_to last kind → image_at last kind n ≡ None
-unfolding image_at goes_to within moved_line IsValid
-lost_none last (Insert c k) v n h i = grind (arith, ints)
-lost_none last (Delete c k) v n h i = grind (arith, ints)
-lost_none last (Move c k d) v n h i = absurd (grind (arith, ints))
+lost_none : (last : ℤ) (kind : EditKind) → IsValid last kind → (n : ℤ) → is_lost (lost_from last kind) (lost_to last kind) n ≡ true → goes_to last kind n ≡ None
+lost_none last (Insert c k) v n h = insert_lost last c k n (insert_parts last c k v) h
+lost_none last (Delete c k) v n h = delete_lost last c k n (delete_parts last c k v) h
+lost_none last (Move c k d) v n h = absurd (grind (arith, ints))
+
+kept_some : (last : ℤ) (kind : EditKind) → IsValid last kind → (n : ℤ) → IsLine last n → is_lost (lost_from last kind) (lost_to last kind) n ≡ false → is_some (goes_to last kind n) ≡ true
+kept_some last (Insert c k) v n h i = insert_kept last c k n (insert_parts last c k v) h i
+kept_some last (Delete c k) v n h i = delete_kept last c k n (delete_parts last c k v) h i
+kept_some last (Move c k d) v n h i = move_kept last c k d n (move_parts last c k d v) h
+
+module _ (last low high line towards : ℤ) (to : ℤ → Option ℤ) (on : IsLine last line) (up : IsLine last towards)
+    (lost : (n : ℤ) → IsLine last n → is_lost low high n ≡ true → to n ≡ None) (kept : (n : ℤ) → IsLine last n → is_lost low high n ≡ false → is_some (to n) ≡ true) where
+  -- a line between two lines of the axis is one
+  between_lines : (m n : ℤ) → IsLine last m → is_between line m n ≡ true → IsLine last n
+  between_lines m n h i =
+      let a = on.0 in
+      let b = on.1 in
+      let c = h.0 in
+      let d = h.1 in
+      (grind (arith, ints), grind (arith, ints))
+
+  own : is_lost low high line ≡ false → IsFirstImage to line towards (Some line)
+  own h = (grind (arith, ints), (kept line on h, λ n between apart. absurd (grind (arith, ints))))
+
+  after : is_lost low high line ≡ true → int_lt high towards ≡ true → IsFirstImage to line towards (Some (high +ℤ pos 1))
+  after h g =
+      let a = on.0 in
+      let b = on.1 in
+      let c = up.0 in
+      let d = up.1 in
+      let next : IsLine last (high +ℤ pos 1) = (grind (arith, ints), grind (arith, ints)) in
+      (grind (arith, ints), (kept (high +ℤ pos 1) next (grind (arith, ints)), λ n between apart. lost n (between_lines (high +ℤ pos 1) n next between) (grind (arith, ints))))
+
+  before : is_lost low high line ≡ true → int_lt towards low ≡ true → IsFirstImage to line towards (Some (low -ℤ pos 1))
+  before h g =
+      let a = on.0 in
+      let b = on.1 in
+      let c = up.0 in
+      let d = up.1 in
+      let next : IsLine last (low -ℤ pos 1) = (grind (arith, ints), grind (arith, ints)) in
+      (grind (arith, ints), (kept (low -ℤ pos 1) next (grind (arith, ints)), λ n between apart. lost n (between_lines (low -ℤ pos 1) n next between) (grind (arith, ints))))
+
+  none : is_lost low high line ≡ true → int_lt high towards ≡ false → int_lt towards low ≡ false → IsFirstImage to line towards None
+  none h g f = λ n between. lost n (between_lines towards n up between) (grind (arith, ints))
+
+  beside_is : is_lost low high line ≡ true → (b c : Bool) → int_lt high towards ≡ b → int_lt towards low ≡ c → IsFirstImage to line towards (if b then Some (high +ℤ pos 1) else if c then Some (low -ℤ pos 1) else None)
+  beside_is h true c g f = after h g
+  beside_is h false true g f = before h f
+  beside_is h false false g f = none h g f
+
+  first_is : (b : Bool) → is_lost low high line ≡ b → IsFirstImage to line towards (if b then beside low high towards else Some line)
+  first_is true h = beside_is h _ _ refl refl
+  first_is false h = own h
+
+-- the first line with an image is found beside the lines that are lost
+pub first_image_is : (last : ℤ) (kind : EditKind) → IsValid last kind → (line towards : ℤ) → IsLine last line → IsLine last towards →
+    IsFirstImage (image_at last kind) line towards (beside_lost (lost_from last kind) (lost_to last kind) line towards)
+unfolding beside_lost
+first_image_is last kind v line towards on up =
+    first_is last (lost_from last kind) (lost_to last kind) line towards (image_at last kind) on up
+    (λ n h i. image_of_line last kind n (is_line-of last n h) ∙ lost_none last kind v n i)
+    (λ n h i. ap is_some (image_of_line last kind n (is_line-of last n h)) ∙ kept_some last kind v n h i)
+    _ refl

@@ -27,10 +27,6 @@ test_of : (b : Bool) → T b → b ≡ true
 test_of true h = refl
 test_of false h = absurd h
 
-nothing_there : {X Y : Type 0} (s : Option X) → None ≡ if_there s (λ (x : X). None {T = Y})
-nothing_there None = refl
-nothing_there (Some x) = refl
-
 module _ {K X Y : Type 0} (R : K → K → Ordering) (total : IsTotalOrder R) (exact : CmpEqualImpliesEq R) (to from : K → Option K) (i : Inverse to from) (make : K → K → X → Option Y) where
   -- what the entries of a list make at a key
   abbrev made_at : List (K × X) → K → Option K → Option Y
@@ -43,40 +39,46 @@ module _ {K X Y : Type 0} (R : K → K → Ordering) (total : IsTotalOrder R) (e
       ap (λ b. if_there (cond b (Some e.1) (find R p es)) (make p q))
       (sym (apart_keys R total exact p e.0 (λ same. h (ap to (sym same) ∙ i.forth p q g))))
 
+  -- what is made of an entry that goes to a key, or of none
+  abbrev entry_at : K → Option Y → Option (K × Y)
+  entry_at r y = if_there y (λ y. Some (r, y))
+
+  module _ (e : K × X) (es : List (K × X)) (sorted : is_sorted R (e ∷ es) ≡ true) (q : K) (rest : find R q (filter_map (entry_made to make) es) ≡ made_at es q (from q)) where
+    -- what stands where an entry goes is made of it
+    first_made : (y : Option Y) → to e.0 ≡ Some q → make e.0 q e.1 ≡ y → made_at (e ∷ es) q (from q) ≡ y
+    first_made y there is =
+        ap (made_at (e ∷ es) q) (i.back e.0 q there) ∙ ap (λ b. if_there (cond b (Some e.1) (find R e.0 es)) (make e.0 q)) (own_key R total exact e.0) ∙ is
+
+    -- behind it nothing is made there
+    none_behind : to e.0 ≡ Some q → made_at es q (from q) ≡ None
+    none_behind there = ap (made_at es q) (i.back e.0 q there) ∙ ap (λ v. if_there v (make e.0 q)) (first_once R e es sorted)
+
+    by_value : (r : K) → to e.0 ≡ Some r → (y : Option Y) → make e.0 r e.1 ≡ y → (b : Bool) → eq_by_cmp R q r ≡ b →
+        find R q (cons_option (entry_at r y) (filter_map (entry_made to make) es)) ≡ made_at (e ∷ es) q (from q)
+    by_value r there None is true same =
+        let one : r ≡ q = sym (one_key R total exact q r same) in
+        rest ∙ none_behind (there ∙ ap Some one) ∙ sym (first_made None (there ∙ ap Some one) (ap (λ k. make e.0 k e.1) (sym one) ∙ is))
+    by_value r there None is false apart =
+        rest ∙ elsewhere e es q (from q) refl (λ h. let one : q ≡ r = cc in let tie : eq_by_cmp R q r ≡ true = ap (eq_by_cmp R q) (sym one) ∙ own_key R total exact q in absurd (cc))
+    by_value r there (Some y) is true same =
+        let one : r ≡ q = sym (one_key R total exact q r same) in
+        ap (λ b. cond b (Some y) (find R q (filter_map (entry_made to make) es))) same
+        ∙ sym (first_made (Some y) (there ∙ ap Some one) (ap (λ k. make e.0 k e.1) (sym one) ∙ is))
+    by_value r there (Some y) is false apart =
+        ap (λ b. cond b (Some y) (find R q (filter_map (entry_made to make) es))) apart
+        ∙ rest ∙ elsewhere e es q (from q) refl (λ h. let one : q ≡ r = cc in let tie : eq_by_cmp R q r ≡ true = ap (eq_by_cmp R q) (sym one) ∙ own_key R total exact q in absurd (cc))
+
+    by_target : (t : Option K) → to e.0 ≡ t → find R q (cons_option (if_there t (λ r. entry_at r (make e.0 r e.1))) (filter_map (entry_made to make) es)) ≡ made_at (e ∷ es) q (from q)
+    by_target None there = rest ∙ elsewhere e es q (from q) refl (λ h. absurd (cc))
+    by_target (Some r) there = by_value r there (make e.0 r e.1) refl (eq_by_cmp R q r) refl
+
+  none_made : (q : K) (s : Option K) → None ≡ made_at [] q s
+  none_made q None = refl
+  none_made q (Some p) = refl
+
   find-made : (es : List (K × X)) → is_sorted R es ≡ true → (q : K) → find R q (filter_map (entry_made to make) es) ≡ made_at es q (from q)
-  find-made [] sorted q = none_at (from q)
-    where
-      none_at : (s : Option K) → None ≡ made_at [] q s
-      none_at None = refl
-      none_at (Some p) = refl
-  find-made (e ∷ es) sorted q = by_target (to e.0) refl
-    where
-      rest : find R q (filter_map (entry_made to make) es) ≡ made_at es q (from q)
-      rest = find-made es (sorted_rest R e es sorted) q
-
-      -- nothing is made of an entry that goes there
-      not_made : to e.0 ≡ Some q → make e.0 q e.1 ≡ None → made_at es q (from q) ≡ made_at (e ∷ es) q (from q)
-      not_made there none =
-          ap (made_at es q) (i.back e.0 q there)
-          ∙ ap (λ v. if_there v (make e.0 q)) (first_once R e es sorted)
-          ∙ sym (ap (made_at (e ∷ es) q) (i.back e.0 q there) ∙ ap (λ b. if_there (cond b (Some e.1) (find R e.0 es)) (make e.0 q)) (own_key R total exact e.0) ∙ none)
-
-      -- an entry that goes to a key makes this there
-      by_value : (r : K) → to e.0 ≡ Some r → (y : Option Y) → make e.0 r e.1 ≡ y → (b : Bool) → eq_by_cmp R q r ≡ b →
-          find R q (cons_option (if_there y (λ y. Some (r, y))) (filter_map (entry_made to make) es)) ≡ made_at (e ∷ es) q (from q)
-      by_value r there None is true same = rest ∙ (let one : r ≡ q = sym (one_key R total exact q r same) in not_made (there ∙ ap Some one) (ap (λ k. make e.0 k e.1) (sym one) ∙ is))
-      by_value r there None is false apart = rest ∙ elsewhere e es q (from q) refl (λ h. let one : r ≡ q = cc in absurd (cc))
-      by_value r there (Some y) is true same =
-          let one : r ≡ q = sym (one_key R total exact q r same) in
-          ap (λ b. cond b (Some y) (find R q (filter_map (entry_made to make) es))) same
-          ∙ sym (ap (made_at (e ∷ es) q) (i.back e.0 q (there ∙ ap Some one)) ∙ ap (λ b. if_there (cond b (Some e.1) (find R e.0 es)) (make e.0 q)) (own_key R total exact e.0) ∙ ap (λ k. make e.0 k e.1) (sym one) ∙ is)
-      by_value r there (Some y) is false apart =
-          ap (λ b. cond b (Some y) (find R q (filter_map (entry_made to make) es))) apart
-          ∙ rest ∙ elsewhere e es q (from q) refl (λ h. let one : q ≡ r = cc in let tie : eq_by_cmp R q r ≡ true = ap (eq_by_cmp R q) (sym one) ∙ own_key R total exact q in absurd (cc))
-
-      by_target : (t : Option K) → to e.0 ≡ t → find R q (cons_option (if_there t (λ r. if_there (make e.0 r e.1) (λ y. Some (r, y)))) (filter_map (entry_made to make) es)) ≡ made_at (e ∷ es) q (from q)
-      by_target None there = rest ∙ elsewhere e es q (from q) refl (λ h. absurd (cc))
-      by_target (Some r) there = by_value r there (make e.0 r e.1) refl (eq_by_cmp R q r) refl
+  find-made [] sorted q = none_made q (from q)
+  find-made (e ∷ es) sorted q = by_target e es sorted q (find-made es (sorted_rest R e es sorted) q) (to e.0) refl
 
   -- a gathered map has at a key what the entry makes whose key goes there
   pub get-gathered : (m : FinMap R X) (q : K) → get (gathered to make m) q ≡ if_there (from q) (λ p. if_there (get m p) (make p q))
@@ -90,18 +92,18 @@ module _ {K X Y : Type 0} (R : K → K → Ordering) (total : IsTotalOrder R) (e
       at_key None = refl
       at_key (Some p) = ap (λ v. if_there v (make p q)) (sym (get-entries m p))
 
+  last_made : (o : Option (K × Y)) → cons_option o [] ≡ with_last [] o
+  last_made None = refl
+  last_made (Some f) = refl
+
+  front_made : (f : Option (K × Y)) (fs : List (K × Y)) (o : Option (K × Y)) → cons_option f (with_last fs o) ≡ with_last (cons_option f fs) o
+  front_made None fs o = refl
+  front_made (Some f) fs None = refl
+  front_made (Some f) fs (Some g) = refl
+
   append_made : (ys : List (K × X)) (e : K × X) → filter_map (entry_made to make) (ys ++ e ∷ []) ≡ with_last (filter_map (entry_made to make) ys) (entry_made to make e)
-  append_made [] e = last_of (entry_made to make e)
-    where
-      last_of : (o : Option (K × Y)) → cons_option o [] ≡ with_last [] o
-      last_of None = refl
-      last_of (Some f) = refl
-  append_made (y ∷ ys) e = ap (cons_option (entry_made to make y)) (append_made ys e) ∙ first_of (entry_made to make y) (entry_made to make e)
-    where
-      first_of : (f o : Option (K × Y)) → cons_option f (with_last (filter_map (entry_made to make) ys) o) ≡ with_last (cons_option f (filter_map (entry_made to make) ys)) o
-      first_of None o = refl
-      first_of (Some f) None = refl
-      first_of (Some f) (Some g) = refl
+  append_made [] e = last_made (entry_made to make e)
+  append_made (y ∷ ys) e = ap (cons_option (entry_made to make y)) (append_made ys e) ∙ front_made (entry_made to make y) (filter_map (entry_made to make) ys) (entry_made to make e)
 
   -- the key that an entry goes to has nothing made there by the entries before it
   free_key : (ys : List (K × X)) (e : K × X) (zs : List (K × X)) → is_sorted R (ys ++ e ∷ zs) ≡ true → (q : K) → to e.0 ≡ Some q → find R q (filter_map (entry_made to make) ys) ≡ None

@@ -1,5 +1,5 @@
 -- Laws of the images of lines.
-use Rattle.std.proofs.Common.{◌≡◌, ℤ, pos, ◌+ℤ◌, ◌-ℤ◌, ◌≤ℤ◌, Bool, true, false, Option, Some, None, refl, arith, ap, sym, ◌∙◌}
+use Rattle.std.proofs.Common.{◌≡◌, ℤ, pos, ◌+ℤ◌, ◌-ℤ◌, ◌≤ℤ◌, Bool, true, false, Option, Some, None, refl, arith, ap, sym, subst, ◌∙◌}
 use Rattle.std.specs.Prelude.{IfSome, int_lt, if◌then◌else◌}
 use Rattle.std.proofs.lemmas.Int.{ints}
 use Rattle.base_values.specs.Places.{IsLine, is_line}
@@ -166,6 +166,43 @@ module _ (c k d : ℤ) (some : pos 1 ≤ℤ k) where
       by_block true h = ap (returned n) (of_block c k d n h) ∙ block_back n h
       by_block false h = beside h _ refl
 
+-- where a line goes is a line of the axis
+module _ (last c k d : ℤ) (v : IsMove last c k d) (n : ℤ) (h : IsLine last n) where
+  abbrev MovedInside : ℤ → Type 0
+  MovedInside s = IsLine last (n +ℤ s)
+
+  up_inside : is_in_block (c +ℤ d) (pos 0 -ℤ d) n ≡ true → MovedInside k
+  up_inside e =
+      let low = low_of (c +ℤ d) (pos 0 -ℤ d) n e in
+      let high = high_of (c +ℤ d) (pos 0 -ℤ d) n e in
+      (omega (arith, ints, h.0, v.amount.0), omega (arith, ints, v.ends))
+
+  down_inside : is_in_block (c +ℤ k) d n ≡ true → MovedInside (pos 0 -ℤ k)
+  down_inside e =
+      let low = low_of (c +ℤ k) d n e in
+      (omega (arith, ints, v.begins.0), omega (arith, ints, h.1, v.amount.0))
+
+  block_inside : is_in_block c k n ≡ true → MovedInside d
+  block_inside e =
+      let low = low_of c k n e in
+      let high = high_of c k n e in
+      (omega (arith, ints, v.target_begins), omega (arith, ints, v.target_ends))
+
+  up_or_still : is_in_block c k n ≡ false → is_in_block (c +ℤ k) d n ≡ false → (b : Bool) → is_in_block (c +ℤ d) (pos 0 -ℤ d) n ≡ b → MovedInside (moved_by c k d n)
+  up_or_still f g true e = subst MovedInside (sym (passed_up c k d n f g e)) (up_inside e)
+  up_or_still f g false e = subst MovedInside (sym (not_passed c k d n f g e)) (omega (arith, ints, h.0), omega (arith, ints, h.1))
+
+  not_of_block : is_in_block c k n ≡ false → (b : Bool) → is_in_block (c +ℤ k) d n ≡ b → MovedInside (moved_by c k d n)
+  not_of_block f true e = subst MovedInside (sym (passed_down c k d n f e)) (down_inside e)
+  not_of_block f false e = up_or_still f e _ refl
+
+  moved_inside_at : (b : Bool) → is_in_block c k n ≡ b → MovedInside (moved_by c k d n)
+  moved_inside_at true e = subst MovedInside (sym (of_block c k d n e)) (block_inside e)
+  moved_inside_at false e = not_of_block e _ refl
+
+  pub moved_inside : IsLine last (n +ℤ moved_by c k d n)
+  moved_inside = moved_inside_at _ refl
+
 within_is : (last n m : ℤ) → within last n ≡ Some m → m ≡ n
 unfolding within
 within_is last n m e = grind (arith, ints)
@@ -178,14 +215,14 @@ line_of_image last kind n m e = at_test (is_line last n) e
     at_test true h = refl
     at_test false h = absurd (cc)
 
-image_of_line : (last : ℤ) (kind : EditKind) (n : ℤ) → is_line last n ≡ true → image_at last kind n ≡ goes_to last kind n
+pub image_of_line : (last : ℤ) (kind : EditKind) (n : ℤ) → is_line last n ≡ true → image_at last kind n ≡ goes_to last kind n
 unfolding image_at
 image_of_line last kind n h = rw h refl
 
-is_line-of : (last n : ℤ) → IsLine last n → is_line last n ≡ true
+pub is_line-of : (last n : ℤ) → IsLine last n → is_line last n ≡ true
 is_line-of last n h = let a = h.0 in let b = h.1 in grind (arith, ints)
 
-within_of : (last n : ℤ) → is_line last n ≡ true → within last n ≡ Some n
+pub within_of : (last n : ℤ) → is_line last n ≡ true → within last n ≡ Some n
 unfolding within
 within_of last n h = rw h refl
 

@@ -24,20 +24,24 @@ module _ {K : Type 0} (R : K → K → Ordering) (total : IsTotalOrder R) (exact
   pub apart_keys : (p q : K) → (p ≡ q → ⊥) → eq_by_cmp R p q ≡ false
   apart_keys p q h = elim (eq_by_cmp R p q) as (λ b. eq_by_cmp R p q ≡ b → b ≡ false) [ true ↦ λ e. absurd (h (one_key p q e)) | false ↦ λ e. refl ] refl
 
+lower : (a b : Bool) → (a && b) ≡ true → a ≡ true
+lower true b h = refl
+lower false b h = absurd (cc)
+
+upper : (a b : Bool) → (a && b) ≡ true → b ≡ true
+upper true b h = h
+upper false b h = absurd (cc)
+
+not_tied : (o : Ordering) → is_lt o ≡ true → is_eq o ≡ false
+not_tied Less h = refl
+not_tied Equal h = absurd (cc)
+not_tied Greater h = absurd (cc)
+
+both_true : (a b : Bool) → a ≡ true → b ≡ true → (a && b) ≡ true
+both_true true b h i = i
+both_true false b h i = absurd (cc)
+
 module _ {K X : Type 0} (R : K → K → Ordering) where
-  lower : (a b : Bool) → (a && b) ≡ true → a ≡ true
-  lower true b h = refl
-  lower false b h = absurd (cc)
-
-  upper : (a b : Bool) → (a && b) ≡ true → b ≡ true
-  upper true b h = h
-  upper false b h = absurd (cc)
-
-  not_tied : (o : Ordering) → is_lt o ≡ true → is_eq o ≡ false
-  not_tied Less h = refl
-  not_tied Equal h = absurd (cc)
-  not_tied Greater h = absurd (cc)
-
   -- below all keys of a list nothing is found
   below_none : (p : K) (es : List (K × X)) → below_all R p es ≡ true → find R p es ≡ None
   below_none p [] h = refl
@@ -57,10 +61,6 @@ module _ {K X : Type 0} (R : K → K → Ordering) where
   below_later : (p : K) (ys : List (K × X)) (e : K × X) (zs : List (K × X)) → below_all R p (ys ++ e ∷ zs) ≡ true → is_lt (R p e.0) ≡ true
   below_later p [] e zs h = lower (is_lt (R p e.0)) (below_all R p zs) h
   below_later p (y ∷ ys) e zs h = below_later p ys e zs (upper (is_lt (R p y.0)) (below_all R p (ys ++ e ∷ zs)) h)
-
-  both_true : (a b : Bool) → a ≡ true → b ≡ true → (a && b) ≡ true
-  both_true true b h i = i
-  both_true false b h i = absurd (cc)
 
   below_front : (p : K) (ys zs : List (K × X)) → below_all R p (ys ++ zs) ≡ true → below_all R p ys ≡ true
   below_front p [] zs h = refl

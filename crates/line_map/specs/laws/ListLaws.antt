@@ -6,19 +6,19 @@ use Rattle.std.proofs.lemmas.List.Elements.{recursion_from_All, All-from_recursi
 use Rattle.line_map.specs.Carried.{settled}
 use Rattle.line_map.specs.Lists.{items_restored}
 
-module _ {F : Type 0} {P Q : F → Type 0} where
-  stay : (f : F → F) → ((x : F) → P x → Q (f x)) → (xs : List F) → AllByRecursion P xs → AllByRecursion Q (map f xs)
-  stay f h [] all = tt
-  stay f h (x ∷ xs) all = (h x all.0, stay f h xs all.1)
+module _ {F : Type 0} (P Q : F → Type 0) (f : F → F) (h : (x : F) → P x → Q (f x)) where
+  stay : (xs : List F) → AllByRecursion P xs → AllByRecursion Q (map f xs)
+  stay [] all = tt
+  stay (x ∷ xs) all = (h x all.0, stay xs all.1)
 
-  pub items_stay : (f : F → F) → ((x : F) → P x → Q (f x)) → (xs : List F) → All P xs → All Q (map f xs)
-  items_stay f h xs all = All-from_recursion Q (map f xs) (stay f h xs (recursion_from_All P xs all))
+  pub items_stay : (xs : List F) → All P xs → All Q (map f xs)
+  items_stay xs all = All-from_recursion Q (map f xs) (stay xs (recursion_from_All P xs all))
 
-module _ {F K : Type 0} {P : F → Type 0} where
-  fits_at : (Fits : K → Type 0) (o : Option K) → ((k : K) → o ≡ Some k → Fits k) → IfSome o Fits
-  fits_at Fits None h = tt
-  fits_at Fits (Some k) h = h k refl
+fits_at : {K : Type 0} (Fits : K → Type 0) (o : Option K) → ((k : K) → o ≡ Some k → Fits k) → IfSome o Fits
+fits_at Fits None h = tt
+fits_at Fits (Some k) h = h k refl
 
+module _ {F K : Type 0} (P : F → Type 0) where
   fit : (part : F → Option K) (Fits : K → Type 0) → ((x : F) → P x → (k : K) → part x ≡ Some k → Fits k) → (xs : List F) → AllByRecursion P xs → AllByRecursion (λ o. IfSome o Fits) (map part xs)
   fit part Fits h [] all = tt
   fit part Fits h (x ∷ xs) all = (fits_at Fits (part x) (h x all.0), fit part Fits h xs all.1)

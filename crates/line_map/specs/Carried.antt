@@ -1,6 +1,6 @@
 -- Finite maps whose entries are carried along a partial one-to-one map of their keys.
 use Rattle.std.proofs.Common.{Bool, List, ◌++◌, Option, Some, None}
-use Rattle.std.specs.Prelude.{is_none}
+use Rattle.std.specs.Prelude.{is_none, if◌then◌else◌}
 use Rattle.std.specs.List.{filter_map}
 use Rattle.std.specs.declared.cmp.Ordering.{Ordering}
 use Rattle.std.specs.FinMap.{FinMap, entries, from_entries, get, retain_keys}
@@ -13,6 +13,10 @@ if_there (Some x) f = f x
 -- the entry that an entry makes where its key goes, if it makes one
 abbrev pub entry_made : {K X Y : Type 0} → (K → Option K) → (K → K → X → Option Y) → K × X → Option (K × Y)
 entry_made to make e = if_there (to e.0) (λ q. if_there (make e.0 q e.1) (λ y. Some (q, y)))
+
+-- an entry as it is, where its key goes nowhere
+abbrev pub if_lost : {K X : Type 0} → (K → Option K) → K → K → X → Option X
+if_lost to p q x = if is_none (to p) then Some x else None
 
 module _ {K : Type 0} {R : K → K → Ordering} where
   -- the map of what its entries make, each where its key goes

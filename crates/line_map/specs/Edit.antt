@@ -10,7 +10,7 @@ unfoldable pub within : ℤ → ℤ → Option ℤ
 within last n = if is_line last n then Some n else None
 
 -- whether a line is one of so many from the first of them on
-abbrev pub is_in_block : ℤ → ℤ → ℤ → Bool
+unfoldable pub is_in_block : ℤ → ℤ → ℤ → Bool
 is_in_block first count n = int_le first n && int_lt n (first +ℤ count)
 
 -- how far a line goes when a block of lines moves: the block goes on by delta, and the lines that it passes go by its count the

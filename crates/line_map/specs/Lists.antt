@@ -1,9 +1,13 @@
 -- Lists whose items are carried along.
-use Rattle.std.specs.Prelude.{List, [], ◌∷◌, Option, map}
+use Rattle.std.specs.Prelude.{List, [], ◌∷◌, Option}
 use Rattle.line_map.specs.Carried.{settled}
 
--- item by item, as long as both lists have one: what is restored from the item's part, if it has one, else what is carried back
+-- item by item, as long as both lists have one
+abbrev pub zip_by : {F K G : Type 0} → (F → K → G) → List F → List K → List G
+zip_by f [] ks = []
+zip_by f (x ∷ xs) [] = []
+zip_by f (x ∷ xs) (k ∷ ks) = f x k ∷ zip_by f xs ks
+
+-- each item: what is restored from its part, if it has one, else what is carried back
 abbrev pub items_restored : {F P : Type 0} → (F → F) → (F → P → F) → List F → List (Option P) → List F
-items_restored carry restore [] parts = []
-items_restored carry restore (x ∷ xs) [] = []
-items_restored carry restore (x ∷ xs) (part ∷ parts) = settled carry restore part x ∷ items_restored carry restore xs parts
+items_restored carry restore xs parts = zip_by (λ x part. settled carry restore part x) xs parts

@@ -6,8 +6,9 @@ ghost use Rattle.std.specs.FinMap.{get};
 ghost use Rattle.base_values.specs.Places.{IsLine};
 ghost use Rattle.base_values.specs.declared.EditError.TheVariants.{NoMemory};
 ghost use Rattle.line_map.specs.Attributes.{line_goes_along, heir, amount, with_line, filled, block_with, block_heirs, heirs, LinesLie};
-ghost use Rattle.line_map.specs.Carried.{entry_made, lost_map, moved_map, overlaid};
+ghost use Rattle.line_map.specs.Carried.{entry_made, if_lost, lost_map, moved_map, overlaid};
 ghost use Rattle.line_map.specs.Edit.{within};
+ghost use Rattle.line_map.specs.laws.Gathering.{with_made};
 ghost use Rattle.line_map.specs.Way.{back, is_along, way};
 
 use crate::edit::{Block, within};
@@ -27,23 +28,55 @@ fn goes_along<A: Axis, B: Axis, M: LineMap<A>>(route: &Route<'_, A, M>) -> bool
     route.is_edited && A::of(B::of(true, false), B::of(false, true))
 }
 
+/// Puts one entry where its line goes.
+fn move_entry<A: Axis, B: Axis, M: LineMap<A>, V: Exact + Drop>(
+    lines: &M,
+    line: i32,
+    value: &V,
+    made: &mut AxisMap<B, V>,
+) -> Result<(), EditError>
+    requires { A.along.last ≡ B.along.last }
+    ensures made { OnOk result (made.new ≡ with_made (entry_made (M.moves lines.now).to (λ _ _ x. Some x) (line, value.now)) made.old) }
+    ensures only { IsOkUnless result NoMemory }
+{
+    if let Some(to) = lines.image(line) {
+        made.insert(to, copy_of(value)?)?;
+    }
+    Ok(())
+}
+
 /// The entries of lines, each where its line goes.
 fn moved_lines<A: Axis, B: Axis, M: LineMap<A>, V: Exact + Drop>(
     alloc: Global,
     lines: &M,
     map: &AxisMap<B, V>,
 ) -> Result<AxisMap<B, V>, EditError>
-    requires { A.along.last ≡ B.along.last }
+    requires last { A.along.last ≡ B.along.last }
+    requires valid { M.is_valid lines.now ≡ true }
     ensures map { IfOk result (λ made. made ≡ moved_map (M.moves lines.now).to map.now) }
     ensures only { IsOkUnless result NoMemory }
 {
     let mut made = AxisMap::new(alloc);
     for (line, value) in map.iter() {
-        if let Some(to) = lines.image(*line) {
-            made.insert(to, copy_of(value)?)?;
-        }
+        move_entry(lines, *line, value, &mut made)?;
     }
     Ok(made)
+}
+
+/// Keeps one entry, if its line goes nowhere.
+fn keep_lost<A: Axis, M: LineMap<A>, V: Exact + Drop>(
+    lines: &M,
+    line: i32,
+    value: &V,
+    lost: &mut NumberMap<V>,
+) -> Result<(), EditError>
+    ensures lost { OnOk result (lost.new ≡ with_made (entry_made Some (if_lost (M.moves lines.now).to) (line, value.now)) lost.old) }
+    ensures only { IsOkUnless result NoMemory }
+{
+    if lines.image(line).is_none() {
+        lost.insert(line, copy_of(value)?)?;
+    }
+    Ok(())
 }
 
 /// The entries of lines that go nowhere.
@@ -57,9 +90,7 @@ pub fn lost_lines<A: Axis, B: Axis, M: LineMap<A>, V: Exact + Drop>(
 {
     let mut lost = NumberMap::new(alloc);
     for (line, value) in map.iter() {
-        if lines.image(*line).is_none() {
-            lost.insert(*line, copy_of(value)?)?;
-        }
+        keep_lost(lines, *line, value, &mut lost)?;
     }
     Ok(lost)
 }

@@ -1,7 +1,7 @@
 ghost use Rattle.std.specs.Prelude.{◌≡◌, ◌&&◌, ◌≤ℤ◌, ◌+ℤ◌, ◌-ℤ◌, ℤ, pos, Bool, Some, IfSome, IsTrue, FitsSigned};
 ghost use Rattle.std.specs.Int.{w64};
 ghost use Rattle.base_values.specs.Places.{IsLine, is_line};
-ghost use Rattle.line_map.specs.Edit.{image_at, goes_to, within, is_in_block, opposite_of, is_valid, IsValid};
+ghost use Rattle.line_map.specs.Edit.{image_at, goes_to, within, is_in_block, opposite_of, is_within, is_valid, IsValid};
 ghost use Rattle.line_map.specs.Lost.{pushed_from, lost_from, lost_to, beside_lost};
 ghost use Rattle.line_map.specs.Moves.{inserted_by, edit_moves};
 ghost use Rattle.line_map.specs.laws.Images.{IsMove};
@@ -105,6 +105,7 @@ fn deleted(last: i32, gone: i32, count: i32, line: i32) -> Option<i32>
 }
 
 /// Whether a line is one of so many from the first of them on.
+#[tactic(auto, unfolding(crate::specs::Edit::is_in_block))]
 fn is_in_block(first: i64, count: i64, line: i32) -> bool
     requires { FitsSigned w64 (first +ℤ count) }
     ensures { result ≡ is_in_block first count line }
@@ -127,7 +128,7 @@ fn is_passed_up(first: i32, delta: i32, line: i32) -> bool
 }
 
 /// Where a line of the axis goes when a block of lines moves.
-#[tactic(auto, unfolding(crate::specs::Edit::goes_to), using(crate::specs::laws::Images::of_block, crate::specs::laws::Images::passed_down, crate::specs::laws::Images::passed_up, crate::specs::laws::Images::not_passed))]
+#[tactic(auto, unfolding(crate::specs::Edit::goes_to))]
 fn passed(last: i32, first: i32, count: i32, delta: i32, line: i32) -> Option<i32>
     ensures value { result ≡ goes_to last (EditKind.Move first count delta) line }
     ensures inside { IfSome result (IsLine last) }
@@ -141,7 +142,25 @@ fn passed(last: i32, first: i32, count: i32, delta: i32, line: i32) -> Option<i3
     if is_passed_up(first, delta, line) {
         return within(last, i64::from(line) + i64::from(count));
     }
-    within(last, i64::from(line) + 0)
+    within(last, i64::from(line))
+}
+
+/// Whether lines begin on a line of the axis, and are 1 to all lines.
+fn is_within(last: i32, first: i32, count: i32) -> bool
+    ensures { result ≡ is_within last first count }
+{
+    is_line(last, i64::from(first)) && is_line(last, i64::from(count))
+}
+
+/// Whether a block of lines lies on the axis, and also where it goes.
+#[tactic(auto, unfolding(crate::specs::Edit::is_valid))]
+fn is_valid_move(last: i32, first: i32, count: i32, delta: i32) -> bool
+    ensures { result ≡ is_valid last (EditKind.Move first count delta) }
+{
+    let (start, end) = (i64::from(first), i64::from(first) + i64::from(count));
+    let (last_end, distance) = (i64::from(last) + 1, i64::from(delta));
+    (is_within(last, first, count) && end <= last_end)
+        && (1 <= start + distance && end + distance <= last_end)
 }
 
 /// Where a line of the axis goes.
@@ -179,12 +198,8 @@ fn moved_back(last: i32, first: i32, count: i32, delta: i32) -> EditKind
 fn pushed_from(last: i32, first: i32, count: i32) -> i64
     ensures { result ≡ pushed_from last first count }
 {
-    let pushed = i64::from(last) - i64::from(count) + 1;
-    if i64::from(first) < pushed {
-        pushed
-    } else {
-        i64::from(first)
-    }
+    let (first, pushed) = (i64::from(first), i64::from(last) - i64::from(count) + 1);
+    if first < pushed { pushed } else { first }
 }
 
 /// The last of so many lines.
@@ -221,7 +236,7 @@ fn beside_lost(low: i64, high: i64, line: i32, towards: i32) -> Option<i32>
 
 impl EditKind {
     /// The edit that takes the lines back, of an edit of an axis.
-    #[tactic(auto, unfolding(crate::specs::Edit::opposite_of), using(crate::specs::laws::Images::move_parts))]
+    #[tactic(auto, unfolding(crate::specs::Edit::opposite_of))]
     fn opposite(self, last: i32) -> EditKind
         requires last { last ≤ℤ pos 1048576 }
         requires valid { IsValid last self }
@@ -235,6 +250,22 @@ impl EditKind {
                 count,
                 delta,
             } => moved_back(last, first, count, delta),
+        }
+    }
+
+    /// Whether its numbers are those of an edit of the axis.
+    #[tactic(auto, unfolding(crate::specs::Edit::is_valid))]
+    fn is_valid(self, last: i32) -> bool
+        ensures { result ≡ is_valid last self }
+    {
+        match self {
+            EditKind::Insert { first, count } => is_within(last, first, count),
+            EditKind::Delete { first, count } => is_within(last, first, count),
+            EditKind::Move {
+                first,
+                count,
+                delta,
+            } => is_valid_move(last, first, count, delta),
         }
     }
 
@@ -295,6 +326,14 @@ impl<A: Axis> LineEdit<A> {
         }
     }
 
+    /// Whether it begins on a line of the axis and is of 1 to all lines; a block that moves, and
+    /// where it goes, lie on the axis.
+    pub fn is_valid(&self) -> bool
+        ensures { result ≡ is_valid A.along.last self.now.kind }
+    {
+        self.kind.is_valid(A::LAST)
+    }
+
     /// Where a line goes. `None` for a line that is lost, that is pushed past the end, or that is
     /// not of the axis.
     #[tactic(auto, unfolding(crate::specs::Edit::image_at))]
@@ -333,7 +372,6 @@ impl<A: Axis> LineMap<A> for LineEdit<A> {
         self.kind.inserted()
     }
 
-    #[tactic(auto, using(crate::specs::laws::FirstImages::first_image_is))]
     fn first_image(&self, line: i32, towards: i32) -> Option<i32> {
         let (low, high) = (self.kind.lost_from(A::LAST), self.kind.lost_to(A::LAST));
         beside_lost(low, high, line, towards)

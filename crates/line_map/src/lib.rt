@@ -11,6 +11,7 @@ mod contents;
 mod edit;
 mod follow;
 mod follower;
+mod laws;
 mod line_map;
 mod list;
 mod place_map;
@@ -24,8 +25,8 @@ pub use contents::Nothing;
 pub use edit::{Block, EditKind, LineEdit, image_of_opposite};
 pub use follow::Follow;
 pub use follower::Follower;
+pub use laws::{entries_of_maps, followed_is_placed};
 pub use line_map::LineMap;
 pub use place_map::{KeptMap, Parts, kept_parts, lost_places, overlaid_places, restored_places};
 pub use route::Route;
 pub use tree_at::TreeAt;
-

@@ -6,7 +6,7 @@ ghost use Rattle.std.specs.FinMap.{get, entries};
 ghost use Rattle.base_values.specs.declared.Position.{Position};
 ghost use Rattle.base_values.specs.declared.EditError.TheVariants.{NoMemory};
 ghost use Rattle.base_values.specs.Places.{IsPlace};
-ghost use Rattle.line_map.specs.Carried.{entry_made, if_there, lost_map, overlaid, settled};
+ghost use Rattle.line_map.specs.Carried.{entry_made, if_lost, if_there, lost_map, overlaid, settled};
 ghost use Rattle.line_map.specs.laws.Gathering.{with_made};
 ghost use Rattle.line_map.specs.Maps.{AllLie, KeysInside, PartsFit, places_carried, places_parts, places_restored};
 ghost use Rattle.line_map.specs.Way.{at, back, place_goes, way};
@@ -70,11 +70,29 @@ pub fn carried_places<A: Axis, M: LineMap<A>, F: Follower<A>>(
     ensures map { IfOk result (λ made. made ≡ places_carried F.carry_of (way route.now) map.now) }
     ensures only { IsOkUnless result NoMemory }
 {
+    route.is_way();
     let mut made = PlaceMap::new(alloc);
     for (from, item) in map.iter() {
         carry_entry(alloc, route, *from, item, &mut made)?;
     }
     Ok(made)
+}
+
+/// Keeps one entry, if its place goes nowhere.
+fn keep_lost<A: Axis, M: LineMap<A>, F: Exact + Drop>(
+    route: &Route<'_, A, M>,
+    place: Position,
+    item: &F,
+    lost: &mut PositionMap<F>,
+) -> Result<(), EditError>
+    requires { IsPlace place }
+    ensures lost { OnOk result (lost.new ≡ with_made (entry_made Some (if_lost (place_goes (way route.now))) (place, item.now)) lost.old) }
+    ensures only { IsOkUnless result NoMemory }
+{
+    if route.goes(place).is_none() {
+        lost.insert(place, copy_of(item)?)?;
+    }
+    Ok(())
 }
 
 /// The entries of a map whose places go nowhere.
@@ -88,9 +106,7 @@ pub fn lost_places<A: Axis, M: LineMap<A>, F: Exact + Drop>(
 {
     let mut lost = PositionMap::new(alloc);
     for (place, item) in map.iter() {
-        if route.goes(*place).is_none() {
-            lost.insert(*place, copy_of(item)?)?;
-        }
+        keep_lost(route, *place, item, &mut lost)?;
     }
     Ok(lost)
 }
@@ -172,6 +188,7 @@ pub fn restored_places<A: Axis, M: LineMap<A>, F: Follower<A>, L: Parts<Part = F
     ensures map { IfOk result (λ made. made ≡ places_restored F.carry_of F.restore_of (way route.now) (L.part_at parts.now) map.now) }
     ensures only { IsOkUnless result NoMemory }
 {
+    route.is_way();
     let mut made = PlaceMap::new(alloc);
     for (to, item) in map.iter() {
         restore_entry(alloc, route, parts, *to, item, &mut made)?;

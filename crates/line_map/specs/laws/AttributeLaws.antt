@@ -16,7 +16,7 @@ use Rattle.line_map.specs.Way.{Way, IsWay, back, is_along}
 use Rattle.line_map.specs.laws.Gathering.{get-lost_map, get-overlaid}
 use Rattle.line_map.specs.laws.Keys.{one_key}
 use Rattle.line_map.specs.laws.MapLaws.{get-moved_map, laid_over}
-use Rattle.line_map.specs.laws.WayLaws.{turned_inverse}
+use Rattle.line_map.specs.laws.Inverses.{turned_inverse}
 
 both_of : (a b : Bool) → (a && b) ≡ true → (a ≡ true) × (b ≡ true)
 both_of true true h = (refl, refl)
@@ -45,12 +45,15 @@ unfolding within
 within_both last n k e = (grind (arith, ints), (grind (arith, ints), grind (arith, ints)))
 
 later : (first : ℤ) (i : ℕ) (n : ℤ) → is_in_block first (pos i) n ≡ true → is_in_block first (pos (suc i)) n ≡ true
+unfolding is_in_block
 later first i n h = grind (arith, ints)
 
 last_in : (first : ℤ) (i : ℕ) → is_in_block first (pos (suc i)) (first +ℤ pos i) ≡ true
+unfolding is_in_block
 last_in first i = grind (arith, ints)
 
 counted : (first count n : ℤ) → is_in_block first (pos (amount count)) n ≡ true → is_in_block first count n ≡ true
+unfolding is_in_block
 counted first (pos k) n h = h
 counted first (negsuc k) n h = absurd (grind (arith, ints))
 

@@ -53,7 +53,7 @@ module _ (last low high line towards : ℤ) (to : ℤ → Option ℤ) (on : IsLi
       (grind (arith, ints), grind (arith, ints))
 
   own : is_lost low high line ≡ false → IsFirstImage to line towards (Some line)
-  own h = (grind (arith, ints), (kept line on h, λ n between apart. absurd (grind (arith, ints))))
+  own h = (grind (arith, ints), kept line on h, λ n between apart. absurd (grind (arith, ints)))
 
   after : is_lost low high line ≡ true → int_lt high towards ≡ true → IsFirstImage to line towards (Some (high +ℤ pos 1))
   after h g =
@@ -62,7 +62,7 @@ module _ (last low high line towards : ℤ) (to : ℤ → Option ℤ) (on : IsLi
       let c = up.0 in
       let d = up.1 in
       let next : IsLine last (high +ℤ pos 1) = (grind (arith, ints), grind (arith, ints)) in
-      (grind (arith, ints), (kept (high +ℤ pos 1) next (grind (arith, ints)), λ n between apart. lost n (between_lines (high +ℤ pos 1) n next between) (grind (arith, ints))))
+      (grind (arith, ints), kept (high +ℤ pos 1) next (grind (arith, ints)), λ n between apart. lost n (between_lines (high +ℤ pos 1) n next between) (grind (arith, ints)))
 
   before : is_lost low high line ≡ true → int_lt towards low ≡ true → IsFirstImage to line towards (Some (low -ℤ pos 1))
   before h g =
@@ -71,7 +71,7 @@ module _ (last low high line towards : ℤ) (to : ℤ → Option ℤ) (on : IsLi
       let c = up.0 in
       let d = up.1 in
       let next : IsLine last (low -ℤ pos 1) = (grind (arith, ints), grind (arith, ints)) in
-      (grind (arith, ints), (kept (low -ℤ pos 1) next (grind (arith, ints)), λ n between apart. lost n (between_lines (low -ℤ pos 1) n next between) (grind (arith, ints))))
+      (grind (arith, ints), kept (low -ℤ pos 1) next (grind (arith, ints)), λ n between apart. lost n (between_lines (low -ℤ pos 1) n next between) (grind (arith, ints)))
 
   none : is_lost low high line ≡ true → int_lt high towards ≡ false → int_lt towards low ≡ false → IsFirstImage to line towards None
   none h g f = λ n between. lost n (between_lines towards n up between) (grind (arith, ints))
@@ -94,3 +94,23 @@ first_image_is last kind v line towards on up =
     (λ n h i. image_of_line last kind n (is_line-of last n h) ∙ lost_none last kind v n i)
     (λ n h i. ap is_some (image_of_line last kind n (is_line-of last n h)) ∙ kept_some last kind v n h i)
     _ refl
+
+-- the line that is answered
+pub beside_own : (low high line towards : ℤ) → is_lost low high line ≡ false → beside_lost low high line towards ≡ Some line
+unfolding beside_lost
+beside_own low high line towards h = rw h refl
+
+pub beside_after : (low high line towards : ℤ) → is_lost low high line ≡ true → int_lt high towards ≡ true → beside_lost low high line towards ≡ Some (high +ℤ pos 1)
+unfolding beside_lost
+beside_after low high line towards h g = rw (h, g) refl
+
+pub beside_before : (low high line towards : ℤ) → is_lost low high line ≡ true → int_lt high towards ≡ false → int_lt towards low ≡ true → beside_lost low high line towards ≡ Some (low -ℤ pos 1)
+unfolding beside_lost
+beside_before low high line towards h g f = rw (h, g, f) refl
+
+pub beside_none : (low high line towards : ℤ) → is_lost low high line ≡ true → int_lt high towards ≡ false → int_lt towards low ≡ false → beside_lost low high line towards ≡ None
+unfolding beside_lost
+beside_none low high line towards h g f = rw (h, g, f) refl
+
+pub same_beside : (r : Option ℤ) (a b c d low high line towards : ℤ) → r ≡ beside_lost a b c d → a ≡ low → b ≡ high → c ≡ line → d ≡ towards → r ≡ beside_lost low high line towards
+same_beside r a b c d low high line towards h e f g k = h ∙ (λ i. beside_lost (e i) (f i) (g i) (k i))

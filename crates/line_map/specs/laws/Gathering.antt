@@ -1,6 +1,6 @@
 -- What stands at each key of a map that is gathered, and how such a map is made entry by entry.
 use Rattle.std.proofs.Common.{◌≡◌, Bool, true, false, cond, T, List, [], ◌∷◌, ◌++◌, Option, Some, None, refl, ap, sym, subst, ◌∙◌}
-use Rattle.std.specs.Prelude.{is_some, is_none}
+use Rattle.std.specs.Prelude.{is_some, is_none, if◌then◌else◌}
 use Rattle.std.specs.List.{filter_map, cons_option}
 use Rattle.std.specs.declared.cmp.Ordering.{Ordering}
 use Rattle.std.specs.declared.cmp.Ordering.TheVariants.{Equal}
@@ -8,9 +8,10 @@ use Rattle.std.specs.Ordering.{eq_by_cmp}
 use Rattle.std.specs.Cmp.{IsTotalOrder}
 use Rattle.std.proofs.lemmas.Map.Lookups.{CmpEqualImpliesEq}
 use Rattle.std.specs.FinMap.Entries.{find, is_sorted}
-use Rattle.std.specs.FinMap.{FinMap, empty, entries, entries_sorted, from_entries, get, get-entries, get-from_entries, get-retain_keys, insert, same_map, from_entries_push}
-use Rattle.line_map.specs.Carried.{if_there, entry_made, gathered, lost_map, overlaid}
+use Rattle.std.specs.FinMap.{FinMap, empty, entries, entries_sorted, from_entries, get, get-entries, get-from_entries, get-retain_keys, get-empty, insert, get-insert, same_map, from_entries_push}
+use Rattle.line_map.specs.Carried.{if_there, entry_made, gathered, if_lost, lost_map, overlaid}
 use Rattle.line_map.specs.Moves.{Inverse}
+use Rattle.line_map.specs.laws.Inverses.{own_inverse}
 use Rattle.line_map.specs.laws.Keys.{one_key, own_key, apart_keys, first_once, sorted_rest, sorted_front, not_before}
 
 -- a map with one more entry, if there is one
@@ -127,6 +128,10 @@ module _ {K X Y : Type 0} (R : K → K → Ordering) (total : IsTotalOrder R) (e
       by_target None there = refl
       by_target (Some r) there = by_value r there (make e.0 r e.1)
 
+-- the entries of a map are in order
+pub rises_of : {K X : Type 0} {R : K → K → Ordering} (m : FinMap R X) (ys : List (K × X)) (e : K × X) (zs : List (K × X)) → ys ++ e ∷ zs ≡ entries m → is_sorted R (ys ++ e ∷ zs) ≡ true
+rises_of {R = R} m ys e zs all = ap (is_sorted R) all ∙ test_of _ (entries_sorted m)
+
 -- the entries that go nowhere are those that are kept
 module _ {K X : Type 0} (R : K → K → Ordering) (total : IsTotalOrder R) (exact : CmpEqualImpliesEq R) where
   pub get-lost_map : (to : K → Option K) (m : FinMap R X) (p : K) → get (lost_map to m) p ≡ cond (is_none (to p)) (get m p) None
@@ -144,3 +149,40 @@ module _ {K X : Type 0} (R : K → K → Ordering) (total : IsTotalOrder R) (exa
   get-overlaid over m q =
       get-from_entries total (entries over ++ entries m) q ∙ find-both (entries over) (entries m) q
       ∙ (λ j. cond (is_some (sym (get-entries over q) j)) (sym (get-entries over q) j) (sym (get-entries m q) j))
+
+  -- gathered one by one, the lost entries are those
+  pub lost_gathered : (to : K → Option K) (m : FinMap R X) → gathered Some (if_lost to) m ≡ lost_map to m
+  lost_gathered to m = same_map total exact _ _ (λ p.
+      get-gathered R total exact Some Some own_inverse (if_lost to) m p ∙ at_key (is_none (to p)) (get m p) ∙ sym (get-lost_map to m p))
+    where
+      at_key : (b : Bool) (v : Option X) → if_there v (λ x. if b then Some x else None) ≡ cond b v None
+      at_key true None = refl
+      at_key true (Some x) = refl
+      at_key false None = refl
+      at_key false (Some x) = refl
+
+  -- one more entry that is laid over a map
+  pub overlaid_more : (over m : FinMap R X) (k : K) (x : X) → insert (overlaid over m) k x ≡ overlaid (insert over k x) m
+  overlaid_more over m k x = same_map total exact _ _ (λ q.
+      get-insert total (overlaid over m) k x q ∙ ap (cond (eq_by_cmp R q k) (Some x)) (get-overlaid over m q)
+      ∙ at_key (eq_by_cmp R q k) (get over q) (get m q)
+      ∙ sym (get-overlaid (insert over k x) m q ∙ ap (λ v. cond (is_some v) v (get m q)) (get-insert total over k x q)))
+    where
+      at_key : (b : Bool) (o v : Option X) → cond b (Some x) (cond (is_some o) o v) ≡ cond (is_some (cond b (Some x) o)) (cond b (Some x) o) v
+      at_key true o v = refl
+      at_key false o v = refl
+
+  -- nothing laid over a map is the map
+  pub nothing_overlaid : (m : FinMap R X) → overlaid empty m ≡ m
+  nothing_overlaid m = same_map total exact _ _ (λ q. get-overlaid empty m q ∙ ap (λ v. cond (is_some v) v (get m q)) (get-empty R q))
+
+  -- the map of its own entries
+  pub own_entries : (m : FinMap R X) → from_entries (entries m) ≡ m
+  own_entries m = same_map total exact _ _ (λ q. get-from_entries total (entries m) q ∙ sym (get-entries m q))
+
+  -- an entry that stands between others is what the map has at its key
+  pub held_between : (m : FinMap R X) (ys : List (K × X)) (e : K × X) (zs : List (K × X)) → ys ++ e ∷ zs ≡ entries m → get m e.0 ≡ Some e.1
+  held_between m ys e zs all =
+      get-entries m e.0 ∙ ap (find R e.0) (sym all) ∙ find-both ys (e ∷ zs) e.0
+      ∙ ap (λ v. cond (is_some v) v (find R e.0 (e ∷ zs))) (not_before R total exact ys e zs (rises_of m ys e zs all))
+      ∙ ap (λ b. cond b (Some e.1) (find R e.0 zs)) (own_key R total exact e.0)

@@ -52,18 +52,23 @@ lt_false a b h = grind (arith, ints)
 -- ---- lines that move
 
 low_of : (c k n : ℤ) → is_in_block c k n ≡ true → c ≤ℤ n
+unfolding is_in_block
 low_of c k n h = grind (arith, ints)
 
 high_of : (c k n : ℤ) → is_in_block c k n ≡ true → (n +ℤ pos 1) ≤ℤ (c +ℤ k)
+unfolding is_in_block
 high_of c k n h = grind (arith, ints)
 
 in_block : (c k n : ℤ) → c ≤ℤ n → (n +ℤ pos 1) ≤ℤ (c +ℤ k) → is_in_block c k n ≡ true
+unfolding is_in_block
 in_block c k n h i = grind (arith, ints)
 
 before_block : (c k n : ℤ) → (n +ℤ pos 1) ≤ℤ c → is_in_block c k n ≡ false
+unfolding is_in_block
 before_block c k n h = grind (arith, ints)
 
 after_block : (c k n : ℤ) → (c +ℤ k) ≤ℤ n → is_in_block c k n ≡ false
+unfolding is_in_block
 after_block c k n h = grind (arith, ints)
 
 module _ (c k d : ℤ) where
@@ -145,6 +150,7 @@ module _ (c k d : ℤ) (some : pos 1 ≤ℤ k) where
 
   -- a line that is not of the block, and that the block does not pass
   still_back : (n : ℤ) → is_in_block c k n ≡ false → is_in_block (c +ℤ k) d n ≡ false → is_in_block (c +ℤ d) (pos 0 -ℤ d) n ≡ false → returned n (pos 0) ≡ n
+  unfolding is_in_block
   still_back n h i j =
       ap (λ s. (n +ℤ pos 0) +ℤ s) (not_passed (c +ℤ d) k (pos 0 -ℤ d) (n +ℤ pos 0)
           (grind (arith, ints)) (grind (arith, ints)) (grind (arith, ints)))
@@ -271,7 +277,7 @@ valid_opposite last (Move c k d) v = valid_move last (c +ℤ d) k (pos 0 -ℤ d)
 
 -- lines that are brought in come from nowhere
 brought : (last : ℤ) (kind : EditKind) → IsValid last kind → (n : ℤ) → is_brought (inserted_by kind) n ≡ true → image_at last (opposite_of kind) n ≡ None
-unfolding opposite_of image_at goes_to
+unfolding opposite_of image_at goes_to is_in_block
 brought last (Insert c k) v n h = let w = insert_parts last c k v in grind (arith, ints)
 brought last (Delete c k) v n h = absurd (cc)
 brought last (Move c k d) v n h = absurd (cc)
@@ -296,3 +302,24 @@ delete_after last c k n h i = rw (lt_false n c h, lt_false n (c +ℤ k) i) refl
 -- the line answered, at numbers that are written otherwise
 pub same_within : (r : Option ℤ) (k last m n : ℤ) → r ≡ within k m → k ≡ last → m ≡ n → r ≡ within last n
 same_within r k last m n e p q = rw (← p, ← q) e
+
+-- how far a line goes that moves
+pub goes_by : (last c k d n s : ℤ) → moved_by c k d n ≡ s → goes_to last (Move c k d) n ≡ within last (n +ℤ s)
+unfolding goes_to
+goes_by last c k d n s e = ap (λ t. within last (n +ℤ t)) e
+
+-- the same at numbers that are written otherwise
+pub same_inside : (r : Option ℤ) (k last : ℤ) → IfSome r (IsLine k) → k ≡ last → IfSome r (IsLine last)
+same_inside r k last h e = let P : ℤ → Type 0 = λ l. IfSome r (IsLine l) in subst P e h
+
+pub same_block : (r : Bool) (b c j k m n : ℤ) → r ≡ is_in_block b j m → b ≡ c → j ≡ k → m ≡ n → r ≡ is_in_block c k n
+same_block r b c j k m n h e f g = h ∙ (λ i. is_in_block (e i) (f i) (g i))
+
+pub same_move : (last l b c j k d e : ℤ) → IsMove last b j d → l ≡ last → c ≡ b → k ≡ j → e ≡ d → IsMove l c k e
+same_move last l b c j k d e v p q r s = record {
+  begins = (omega (arith, ints, v.begins.0), omega (arith, ints, v.begins.1));
+  amount = (omega (arith, ints, v.amount.0), omega (arith, ints, v.amount.1));
+  ends = omega (arith, ints, v.ends);
+  target_begins = omega (arith, ints, v.target_begins);
+  target_ends = omega (arith, ints, v.target_ends);
+}

@@ -14,7 +14,8 @@ use Rattle.line_map.specs.declared.place_map.KeptMap.{KeptMap}
 use Rattle.line_map.specs.Moves.{Inverse}
 use Rattle.line_map.specs.Way.{Way, IsWay, at, back, place_goes}
 use Rattle.line_map.specs.laws.Gathering.{get-gathered, get-lost_map, get-overlaid}
-use Rattle.line_map.specs.laws.WayLaws.{own_inverse, turned_inverse, goes_inverse, goes_inside, at_is_way}
+use Rattle.line_map.specs.laws.Inverses.{own_inverse, turned_inverse}
+use Rattle.line_map.specs.laws.WayLaws.{goes_inverse, goes_inside, at_is_way}
 
 lost_or_there : {K X : Type 0} (t : Option K) (v : Option X) → cond (is_some (cond (is_none t) v None)) (cond (is_none t) v None) (cond (is_some t) v None) ≡ v
 lost_or_there None None = refl

@@ -6,13 +6,7 @@ use Rattle.base_values.specs.Places.{IsLine, IsPlace}
 use Rattle.base_axis.specs.Along.{Along, IsAxis}
 use Rattle.line_map.specs.Moves.{LineMoves, Inverse, IsOneToOne, turned, at_line, place_image}
 use Rattle.line_map.specs.Way.{Way, IsWay, at, back, place_goes}
-
--- where nothing goes anywhere
-pub own_inverse : {K : Type 0} → Inverse {K = K} Some Some
-own_inverse = record { back = λ p q e. sym e; forth = λ p q e. sym e }
-
-pub turned_inverse : {K : Type 0} {to from : K → Option K} → Inverse to from → Inverse from to
-turned_inverse i = record { back = λ p q h. i.forth q p h; forth = λ p q h. i.back q p h }
+use Rattle.line_map.specs.laws.Inverses.{own_inverse, turned_inverse}
 
 -- the map that takes the lines back is one to one
 pub turned_one_to_one : (last : ℤ) (m : LineMoves) → IsOneToOne last m → IsOneToOne last (turned m)

@@ -1,9 +1,9 @@
-ghost use Rattle.std.specs.Prelude.{◌≡◌, IfOk, IfSome, IsOkUnless};
+ghost use Rattle.std.specs.Prelude.{◌≡◌, IfOk, IfSome, IsOkUnless, IsTrue};
 ghost use Rattle.base_values.specs.Places.{IsPlace};
 ghost use Rattle.base_values.specs.declared.EditError.TheVariants.{NoMemory};
 ghost use Rattle.formula_tree.specs.OnSheet.{is_on_sheet};
 ghost use Rattle.line_map.specs.Trees.{target, is_exposed, moved_corner, tree_carried, tree_part};
-ghost use Rattle.line_map.specs.Way.{way};
+ghost use Rattle.line_map.specs.Way.{back, way};
 
 use crate::follower::Follower;
 use crate::line_map::LineMap;
@@ -140,9 +140,31 @@ fn carried<A: Axis, M: LineMap<A>>(
     Ok(Shared::new(alloc, carried_node(alloc, route, tree.get())?)?)
 }
 
+/// Whether the corners of a tree tell that the way back gives it.
+#[tactic(auto, unfolding(crate::specs::Trees::tree_carried))]
+fn is_given_back<A: Axis, M: LineMap<A>>(route: &Route<'_, A, M>, tree: &Node) -> bool
+    ensures { IsTrue result → tree_carried (back (way route.now)) (tree_carried (way route.now) tree.now) ≡ tree.now }
+{
+    let back = route.back();
+    let (there, home) = (Following { route }, Following { route: &back });
+    comes_back(tree, route.from, route.to, &there, &home)
+}
+
+/// The tree, carried there and back.
+fn returned<A: Axis, M: LineMap<A>>(
+    alloc: Global,
+    route: &Route<'_, A, M>,
+    tree: &Shared<Node>,
+) -> Result<Shared<Node>, EditError>
+    ensures tree { IfOk result (λ returned. returned ≡ tree_carried (back (way route.now)) (tree_carried (way route.now) tree.now)) }
+    ensures only { IsOkUnless result NoMemory }
+{
+    let there = carried(alloc, route, tree)?;
+    carried(alloc, &route.back(), &there)
+}
+
 /// The tree, where the way back does not give it. Its corners tell of most trees that it does; any
 /// other is carried there and back.
-#[tactic(auto, using(crate::specs::laws::TreeLaws::no_tree_part, crate::specs::laws::TreeLaws::tree_part_at))]
 fn part<A: Axis, M: LineMap<A>>(
     alloc: Global,
     route: &Route<'_, A, M>,
@@ -151,13 +173,10 @@ fn part<A: Axis, M: LineMap<A>>(
     ensures part { IfOk result (λ part. part ≡ tree_part (way route.now) tree.now) }
     ensures only { IsOkUnless result NoMemory }
 {
-    let back = route.back();
-    let (there, home) = (Following { route }, Following { route: &back });
-    if comes_back(tree.get(), route.from, route.to, &there, &home) {
+    if is_given_back(route, tree.get()) {
         return Ok(None);
     }
-    let returned = carried(alloc, &back, &carried(alloc, route, tree)?)?;
-    if returned == *tree {
+    if returned(alloc, route, tree)? == *tree {
         return Ok(None);
     }
     Ok(Some(copy_of(tree)?))

@@ -95,11 +95,11 @@ first_image_is last kind v line towards on up =
     (λ n h i. ap is_some (image_of_line last kind n (is_line-of last n h)) ∙ kept_some last kind v n h i)
     _ refl
 
--- the line that is answered
-pub beside_own : (low high line towards : ℤ) → is_lost low high line ≡ false → beside_lost low high line towards ≡ Some line
-unfolding beside_lost
-beside_own low high line towards h = rw h refl
+-- the first line that an insertion pushes past the end, where that is after it
+pub pushed_late : (last c k : ℤ) → int_lt c ((last -ℤ k) +ℤ pos 1) ≡ true → pushed_from last c k ≡ (last -ℤ k) +ℤ pos 1
+pushed_late last c k h = ap (λ b. if b then (last -ℤ k) +ℤ pos 1 else c) h
 
+-- the line that is answered
 pub beside_after : (low high line towards : ℤ) → is_lost low high line ≡ true → int_lt high towards ≡ true → beside_lost low high line towards ≡ Some (high +ℤ pos 1)
 unfolding beside_lost
 beside_after low high line towards h g = rw (h, g) refl
@@ -107,10 +107,6 @@ beside_after low high line towards h g = rw (h, g) refl
 pub beside_before : (low high line towards : ℤ) → is_lost low high line ≡ true → int_lt high towards ≡ false → int_lt towards low ≡ true → beside_lost low high line towards ≡ Some (low -ℤ pos 1)
 unfolding beside_lost
 beside_before low high line towards h g f = rw (h, g, f) refl
-
-pub beside_none : (low high line towards : ℤ) → is_lost low high line ≡ true → int_lt high towards ≡ false → int_lt towards low ≡ false → beside_lost low high line towards ≡ None
-unfolding beside_lost
-beside_none low high line towards h g f = rw (h, g, f) refl
 
 pub same_beside : (r : Option ℤ) (a b c d low high line towards : ℤ) → r ≡ beside_lost a b c d → a ≡ low → b ≡ high → c ≡ line → d ≡ towards → r ≡ beside_lost low high line towards
 same_beside r a b c d low high line towards h e f g k = h ∙ (λ i. beside_lost (e i) (f i) (g i) (k i))

@@ -10,6 +10,7 @@ pub mod Areas
 pub mod Lists
 pub mod Maps
 pub mod Attributes
+pub mod Singles
 pub mod TreeAt
 pub mod Alone
 pub mod laws

@@ -28,4 +28,3 @@ beside low high towards = if int_lt high towards then Some (high +ℤ pos 1) els
 -- of the lines from one towards another the first that is not lost
 unfoldable pub beside_lost : ℤ → ℤ → ℤ → ℤ → Option ℤ
 beside_lost low high line towards = if is_lost low high line then beside low high towards else Some line
-

@@ -1,6 +1,7 @@
 pub mod Equals
 pub mod Images
 pub mod FirstImages
+pub mod Singles
 pub mod Inverses
 pub mod Keys
 pub mod Gathering

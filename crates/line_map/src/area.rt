@@ -78,10 +78,7 @@ fn carried<A: Axis, M: LineMap<A>>(route: &Route<'_, A, M>, area: Area) -> Area
     ensures value { result ≡ area_carried (way route.now) area }
     ensures inside { IsArea result }
 {
-    match (
-        route.goes(first_place(area)),
-        route.goes(last_place(area)),
-    ) {
+    match (route.goes(first_place(area)), route.goes(last_place(area))) {
         (Some(first), Some(last)) => between(area.sheet, first, last),
         _ => area,
     }

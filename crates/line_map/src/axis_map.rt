@@ -1,15 +1,14 @@
 //! What the lines of an axis have of their own: each entry goes where its line goes.
 
-ghost use Rattle.std.specs.Prelude.{◌≡◌, ◌+ℤ◌, pos, IfOk, IfSome, IsOkUnless, IsTrue, OnOk, Some, All};
+ghost use Rattle.std.specs.Prelude.{◌≡◌, ◌+ℤ◌, ◌-ℤ◌, true, pos, IfOk, IsOkUnless, OnOk, Some};
 ghost use Rattle.std.specs.Option.{option_copied};
 ghost use Rattle.std.specs.FinMap.{get};
-ghost use Rattle.base_values.specs.Places.{IsLine};
 ghost use Rattle.base_values.specs.declared.EditError.TheVariants.{NoMemory};
-ghost use Rattle.line_map.specs.Attributes.{line_goes_along, heir, amount, with_line, filled, block_with, block_heirs, heirs, LinesLie};
+ghost use Rattle.line_map.specs.Attributes.{line_goes_along, heir, amount, with_line, block_with, block_heirs, heirs, LinesLie};
 ghost use Rattle.line_map.specs.Carried.{entry_made, if_lost, lost_map, moved_map, overlaid};
 ghost use Rattle.line_map.specs.Edit.{within};
 ghost use Rattle.line_map.specs.laws.Gathering.{with_made};
-ghost use Rattle.line_map.specs.Way.{back, is_along, way};
+ghost use Rattle.line_map.specs.Way.{way};
 
 use crate::edit::{Block, within};
 use crate::follower::Follower;
@@ -22,8 +21,7 @@ use std::alloc::Global;
 
 /// Whether the lines of an axis go along a route: those of the edited axis of the edited sheet.
 fn goes_along<A: Axis, B: Axis, M: LineMap<A>>(route: &Route<'_, A, M>) -> bool
-    ensures along { result ≡ line_goes_along B.along (way route.now) }
-    ensures last { IsTrue result → A.along.last ≡ B.along.last }
+    ensures { result ≡ line_goes_along B.along (way route.now) }
 {
     route.is_edited && A::of(B::of(true, false), B::of(false, true))
 }
@@ -117,7 +115,11 @@ fn heir<'m, V: Exact>(before: Option<&'m V>, after: Option<&'m V>) -> Option<&'m
     ensures { option_copied result ≡ heir V.eq (option_copied before.entry) (option_copied after.entry) }
 {
     let (before, after) = (before?, after?);
-    if *before == *after { Some(before) } else { None }
+    if *before == *after {
+        Some(before)
+    } else {
+        None
+    }
 }
 
 /// How many: none of a number below 0.
@@ -125,6 +127,13 @@ fn amount(count: i32) -> u32
     ensures { result ≡ amount count }
 {
     if count < 0 { 0 } else { count as u32 }
+}
+
+/// The line that stands so many lines after another one.
+fn line_after(line: i32, distance: u32) -> i64
+    ensures { result ≡ line +ℤ pos distance }
+{
+    i64::from(line) + i64::from(distance)
 }
 
 /// Gives a line a copy of a value, if it is one of the axis.
@@ -151,10 +160,53 @@ fn fill_block<B: Axis, V: Exact + Drop>(
     ensures map { OnOk result (map.new ≡ overlaid (block_with B.along.last value.now block) map.old) }
     ensures only { IsOkUnless result NoMemory }
 {
-    for i in 0..amount(block.count) {
-        fill_line(i64::from(block.first) + i64::from(i), value, map)?;
+    let count = amount(block.count);
+    for i in 0..count {
+        let line = line_after(block.first, i);
+        fill_line(line, value, map)?;
     }
     Ok(())
+}
+
+/// What the line before a line has.
+fn held_before<B: Axis, V: Drop>(map: &AxisMap<B, V>, line: i32) -> Option<&V>
+    requires { LinesLie B.along map.now }
+    ensures { option_copied result ≡ get map.now (line -ℤ pos 1) }
+{
+    if line <= 1 { None } else { map.get(line - 1) }
+}
+
+/// Gives a block of lines that are brought in what they take from the lines around them.
+fn give_block<B: Axis, V: Exact + Drop>(
+    block: Block,
+    map: &AxisMap<B, V>,
+    made: &mut AxisMap<B, V>,
+) -> Result<(), EditError>
+    requires { LinesLie B.along map.now }
+    ensures made { OnOk result (made.new ≡ overlaid (block_heirs B.along.last V.eq map.now block) made.old) }
+    ensures only { IsOkUnless result NoMemory }
+{
+    let (before, after) = (held_before(map, block.first), map.get(block.first));
+    match heir(before, after) {
+        Some(value) => fill_block(block, value, made),
+        None => Ok(()),
+    }
+}
+
+/// Gives the lines that are brought in what they take: columns do, rows take nothing.
+fn give_heirs<B: Axis, V: Exact + Drop>(
+    inserted: Option<Block>,
+    map: &AxisMap<B, V>,
+    made: &mut AxisMap<B, V>,
+) -> Result<(), EditError>
+    requires { LinesLie B.along map.now }
+    ensures made { OnOk result (made.new ≡ overlaid (heirs B.along V.eq inserted map.now) made.old) }
+    ensures only { IsOkUnless result NoMemory }
+{
+    match inserted {
+        Some(block) if B::of(false, true) => give_block(block, map, made),
+        _ => Ok(()),
+    }
 }
 
 /// What lines have of their own, carried along the edited axis.
@@ -163,18 +215,13 @@ fn carried_lines<A: Axis, B: Axis, M: LineMap<A>, V: Exact + Drop>(
     route: &Route<'_, A, M>,
     map: &AxisMap<B, V>,
 ) -> Result<AxisMap<B, V>, EditError>
-    requires { A.along.last ≡ B.along.last }
+    requires last { A.along.last ≡ B.along.last }
+    requires lie { LinesLie B.along map.now }
     ensures map { IfOk result (λ made. made ≡ overlaid (heirs B.along V.eq (way route.now).moves.inserted map.now) (moved_map (way route.now).moves.to map.now)) }
     ensures only { IsOkUnless result NoMemory }
 {
     let mut made = moved_lines(alloc, route.map, map)?;
-    if let Some(block) = route.inserted() {
-        if B::of(false, true) {
-            if let Some(value) = heir(map.get(block.first - 1), map.get(block.first)) {
-                fill_block(block, value, &mut made)?;
-            }
-        }
-    }
+    give_heirs(route.inserted(), map, &mut made)?;
     Ok(made)
 }
 

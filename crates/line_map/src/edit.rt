@@ -124,7 +124,11 @@ fn is_passed_down(first: i32, count: i32, delta: i32, line: i32) -> bool
 fn is_passed_up(first: i32, delta: i32, line: i32) -> bool
     ensures { result ≡ is_in_block (first +ℤ delta) (pos 0 -ℤ delta) line }
 {
-    is_in_block(i64::from(first) + i64::from(delta), 0 - i64::from(delta), line)
+    is_in_block(
+        i64::from(first) + i64::from(delta),
+        0 - i64::from(delta),
+        line,
+    )
 }
 
 /// Where a line of the axis goes when a block of lines moves.

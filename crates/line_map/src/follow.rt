@@ -135,3 +135,20 @@ impl<A: Axis, F: Follower<A>> Follow<A> for F {
 
     ghost regains = { λ e valid v lies. kept_restores F.Lies F.carry_of F.part_of (edit_way A.along e) (edit_is_way A.along A.lawful e valid) F.restore_of F.comes_back F.restores v lies };
 }
+
+/// The law of followers: a value that is carried along and regained is the value.
+pub fn there_and_back<A: Axis, F: Follow<A>>(
+    alloc: Global,
+    value: &F,
+    edit: &LineEdit<A>,
+) -> Result<F, EditError>
+    requires valid { IsValid A.along.last edit.now.kind }
+    requires lies { F.Lies edit.now.kind value.now }
+    ensures value { IfOk result (λ back. back ≡ value.now) }
+    ensures only { IsOkUnless result NoMemory }
+{
+    let there = value.follow(alloc, edit)?;
+    let kept = value.kept(alloc, edit)?;
+    let back = there.regain(alloc, edit, &kept)?;
+    Ok(back)
+}

@@ -23,10 +23,13 @@ mod ways;
 pub use axis_map::{lost_lines, overlaid_lines};
 pub use contents::Nothing;
 pub use edit::{Block, EditKind, LineEdit, image_of_opposite};
-pub use follow::Follow;
+pub use follow::{Follow, there_and_back};
 pub use follower::Follower;
-pub use laws::{entries_of_maps, followed_is_placed};
+pub use laws::{entries_of_maps, followed_is_placed, move_by_single_lines};
 pub use line_map::LineMap;
 pub use place_map::{KeptMap, Parts, kept_parts, lost_places, overlaid_places, restored_places};
 pub use route::Route;
 pub use tree_at::TreeAt;
+
+#[cfg(test)]
+mod tests;

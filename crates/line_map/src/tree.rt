@@ -51,7 +51,12 @@ fn moved_corner<A: Axis, M: LineMap<A>>(
     ensures { result ≡ moved_corner (way route.now) exposed corner }
 {
     let target = target(route, exposed, corner)?;
-    Some(corner_to(route.to, corner.absolute_row, corner.absolute_column, target))
+    Some(corner_to(
+        route.to,
+        corner.absolute_row,
+        corner.absolute_column,
+        target,
+    ))
 }
 
 /// Whether a reference or range with this sheet name stands on the edited sheet.

@@ -87,6 +87,10 @@ impl<'a, A: Axis, M: LineMap<A>> Route<'a, A, M> {
     pub fn inserted(&self) -> Option<Block>
         ensures { result ≡ (way self.now).moves.inserted }
     {
-        if self.brings { self.map.inserted() } else { None }
+        if self.brings {
+            self.map.inserted()
+        } else {
+            None
+        }
     }
 }

@@ -13,12 +13,12 @@ use Rattle.line_map.specs.Carried.{if_there, moved_map, lost_map, overlaid}
 use Rattle.line_map.specs.Edit.{within, is_in_block}
 use Rattle.line_map.specs.Moves.{LineMoves, Inverse, IsOneToOne, is_brought}
 use Rattle.line_map.specs.Way.{Way, IsWay, back, is_along}
-use Rattle.line_map.specs.laws.Gathering.{get-lost_map, get-overlaid}
+use Rattle.line_map.specs.laws.Gathering.{get-lost_map, get-overlaid, nothing_overlaid, overlaid_more}
 use Rattle.line_map.specs.laws.Keys.{one_key}
 use Rattle.line_map.specs.laws.MapLaws.{get-moved_map, laid_over}
 use Rattle.line_map.specs.laws.Inverses.{turned_inverse}
 
-both_of : (a b : Bool) → (a && b) ≡ true → (a ≡ true) × (b ≡ true)
+pub both_of : (a b : Bool) → (a && b) ≡ true → (a ≡ true) × (b ≡ true)
 both_of true true h = (refl, refl)
 both_of true false h = absurd (cc)
 both_of false b h = absurd (cc)
@@ -99,6 +99,29 @@ module _ {X : Type 0} where
   heirs_given b same (Some block) m = elim (b.of false true) as (λ t. KeysAre (IsGiven b.last (Some block)) (if t then block_heirs b.last same m block else empty))
       [ true ↦ given_lines b.last block _ | false ↦ nothing_held (IsGiven b.last (Some block)) ]
 
+  -- one more line that is filled
+  pub filled_more : (last : ℤ) (x : X) (first : ℤ) (i : ℕ) (line : ℤ) (before after m : FinMap int_cmp X) →
+      before ≡ overlaid (filled last x first i) m → after ≡ with_line (within last line) x before → line ≡ first +ℤ pos i → after ≡ overlaid (filled last x first (suc i)) m
+  unfolding filled
+  filled_more last x first i line before after m was now here =
+      now ∙ (λ j. with_line (within last (here j)) x (was j)) ∙ laid_line (within last (first +ℤ pos i)) (filled last x first i)
+    where
+      laid_line : (o : Option ℤ) (f : FinMap int_cmp X) → with_line o x (overlaid f m) ≡ overlaid (with_line o x f) m
+      laid_line None f = refl
+      laid_line (Some n) f = overlaid_more int_cmp int_cmp_total int_cmp-IsAntisymmetric f m n x
+
+  pub filled_none : (last : ℤ) (x : X) (first : ℤ) (m : FinMap int_cmp X) → m ≡ overlaid (filled last x first 0) m
+  unfolding filled
+  filled_none last x first m = sym (nothing_overlaid int_cmp int_cmp_total int_cmp-IsAntisymmetric m)
+
+  -- a line that is not of the axis has nothing
+  pub nothing_outside : (b : Along) (m : FinMap int_cmp X) → LinesLie b m → (n : ℤ) → n ≤ℤ pos 0 → get m n ≡ None
+  nothing_outside b m lie n low = at_key (get m n) refl
+    where
+      at_key : (o : Option X) → get m n ≡ o → o ≡ None
+      at_key None e = refl
+      at_key (Some x) e = absurd (omega (arith, ints, (lie n x e).0))
+
   overlaid_are : (P : ℤ → Type 0) (over m : FinMap int_cmp X) → KeysAre P over → KeysAre P m → KeysAre P (overlaid over m)
   overlaid_are P over m h i n x g = at_key (get over n) refl (sym (get-overlaid int_cmp int_cmp_total int_cmp-IsAntisymmetric over m n) ∙ g)
     where
@@ -126,13 +149,13 @@ module _ {X : Type 0} where
     -- what is carried along lies on the axis
     pub lines_stay : (b : Along) → IsAxis b → (same : X → X → Bool) (m : FinMap int_cmp X) → LinesLie b m → LinesLie b (lines_carried b same w m)
     lines_stay b i same m lie = elim (line_goes_along b w) as (λ t. line_goes_along b w ≡ t → LinesLie b (if t then overlaid (heirs b same w.moves.inserted m) (moved_map w.moves.to m) else m)) [
-        | true ↦ λ along.
-            let last : w.along.last ≡ b.last = same_last w.along b is.axis i (both_of w.is_edited (is_along w.along b) along).1 in
-            overlaid_are (IsLine b.last) (heirs b same w.moves.inserted m) (moved_map w.moves.to m)
-            (λ n y h. (heirs_given b same w.moves.inserted m n y h).0)
-            (λ n y h. let Q : ℤ → Type 0 = λ l. IsLine l n in subst Q last (moved_are m n y h))
-        | false ↦ λ apart. lie
-      ] refl
+      | true ↦ λ along.
+          let last : w.along.last ≡ b.last = same_last w.along b is.axis i (both_of w.is_edited (is_along w.along b) along).1 in
+          overlaid_are (IsLine b.last) (heirs b same w.moves.inserted m) (moved_map w.moves.to m)
+          (λ n y h. (heirs_given b same w.moves.inserted m n y h).0)
+          (λ n y h. let Q : ℤ → Type 0 = λ l. IsLine l n in subst Q last (moved_are m n y h))
+      | false ↦ λ apart. lie
+    ] refl
 
     -- so does what is kept
     pub lines_kept_fit : (b : Along) (m : FinMap int_cmp X) → LinesLie b m → (k : FinMap int_cmp X) → lines_part b w m ≡ Some k → LinesLie b k

@@ -5,10 +5,10 @@ use Rattle.std.proofs.lemmas.Int.{ints}
 use Rattle.base_values.specs.Places.{IsLine}
 use Rattle.line_map.specs.declared.edit.EditKind.{EditKind}
 use Rattle.line_map.specs.declared.edit.EditKind.TheVariants.{Insert, Delete, Move}
-use Rattle.line_map.specs.Edit.{within, moved_by, goes_to, image_at, IsValid}
+use Rattle.line_map.specs.Edit.{within, goes_to, image_at, IsValid}
 use Rattle.line_map.specs.Lost.{pushed_from, lost_from, lost_to, is_lost, beside, beside_lost}
 use Rattle.line_map.specs.Moves.{IsFirstImage, is_between}
-use Rattle.line_map.specs.laws.Images.{IsWithin, IsMove, insert_parts, delete_parts, move_parts, moved_inside, image_of_line, is_line-of, within_of}
+use Rattle.line_map.specs.laws.Images.{IsWithin, insert_parts, delete_parts, move_parts, move_image, image_of_line, is_line-of}
 
 insert_lost : (last c k n : ℤ) → IsWithin last c k → is_lost (pushed_from last c k) last n ≡ true → goes_to last (Insert c k) n ≡ None
 unfolding goes_to within
@@ -26,10 +26,6 @@ delete_kept : (last c k n : ℤ) → IsWithin last c k → IsLine last n → is_
 unfolding goes_to within
 delete_kept last c k n v h i = grind (arith, ints)
 
-move_kept : (last c k d n : ℤ) → IsMove last c k d → IsLine last n → is_some (goes_to last (Move c k d) n) ≡ true
-unfolding goes_to
-move_kept last c k d n v h = ap is_some (within_of last (n +ℤ moved_by c k d n) (is_line-of last (n +ℤ moved_by c k d n) (moved_inside last c k d v n h)))
-
 -- exactly the lines from the first to the last lost one have no image
 lost_none : (last : ℤ) (kind : EditKind) → IsValid last kind → (n : ℤ) → is_lost (lost_from last kind) (lost_to last kind) n ≡ true → goes_to last kind n ≡ None
 lost_none last (Insert c k) v n h = insert_lost last c k n (insert_parts last c k v) h
@@ -39,7 +35,8 @@ lost_none last (Move c k d) v n h = absurd (grind (arith, ints))
 kept_some : (last : ℤ) (kind : EditKind) → IsValid last kind → (n : ℤ) → IsLine last n → is_lost (lost_from last kind) (lost_to last kind) n ≡ false → is_some (goes_to last kind n) ≡ true
 kept_some last (Insert c k) v n h i = insert_kept last c k n (insert_parts last c k v) h i
 kept_some last (Delete c k) v n h i = delete_kept last c k n (delete_parts last c k v) h i
-kept_some last (Move c k d) v n h i = move_kept last c k d n (move_parts last c k d v) h
+kept_some last (Move c k d) v n h i =
+    ap is_some (sym (image_of_line last (Move c k d) n (is_line-of last n h)) ∙ move_image last c k d n (move_parts last c k d v) h)
 
 module _ (last low high line towards : ℤ) (to : ℤ → Option ℤ) (on : IsLine last line) (up : IsLine last towards)
     (lost : (n : ℤ) → IsLine last n → is_lost low high n ≡ true → to n ≡ None) (kept : (n : ℤ) → IsLine last n → is_lost low high n ≡ false → is_some (to n) ≡ true) where

@@ -59,15 +59,15 @@ high_of : (c k n : ℤ) → is_in_block c k n ≡ true → (n +ℤ pos 1) ≤ℤ
 unfolding is_in_block
 high_of c k n h = grind (arith, ints)
 
-in_block : (c k n : ℤ) → c ≤ℤ n → (n +ℤ pos 1) ≤ℤ (c +ℤ k) → is_in_block c k n ≡ true
+pub in_block : (c k n : ℤ) → c ≤ℤ n → (n +ℤ pos 1) ≤ℤ (c +ℤ k) → is_in_block c k n ≡ true
 unfolding is_in_block
 in_block c k n h i = grind (arith, ints)
 
-before_block : (c k n : ℤ) → (n +ℤ pos 1) ≤ℤ c → is_in_block c k n ≡ false
+pub before_block : (c k n : ℤ) → (n +ℤ pos 1) ≤ℤ c → is_in_block c k n ≡ false
 unfolding is_in_block
 before_block c k n h = grind (arith, ints)
 
-after_block : (c k n : ℤ) → (c +ℤ k) ≤ℤ n → is_in_block c k n ≡ false
+pub after_block : (c k n : ℤ) → (c +ℤ k) ≤ℤ n → is_in_block c k n ≡ false
 unfolding is_in_block
 after_block c k n h = grind (arith, ints)
 
@@ -134,9 +134,9 @@ module _ (c k d : ℤ) (some : pos 1 ≤ℤ k) where
       let low = low_of (c +ℤ k) d n h in
       let high = high_of (c +ℤ k) d n h in
       ap (λ s. (n +ℤ (pos 0 -ℤ k)) +ℤ s) (passed_up (c +ℤ d) k (pos 0 -ℤ d) (n +ℤ (pos 0 -ℤ k))
-          (before_block (c +ℤ d) k (n +ℤ (pos 0 -ℤ k)) (omega (arith, ints)))
-          (before_block ((c +ℤ d) +ℤ k) (pos 0 -ℤ d) (n +ℤ (pos 0 -ℤ k)) (omega (arith, ints)))
-          (in_block ((c +ℤ d) +ℤ (pos 0 -ℤ d)) (pos 0 -ℤ (pos 0 -ℤ d)) (n +ℤ (pos 0 -ℤ k)) (omega (arith, ints)) (omega (arith, ints))))
+      (before_block (c +ℤ d) k (n +ℤ (pos 0 -ℤ k)) (omega (arith, ints)))
+      (before_block ((c +ℤ d) +ℤ k) (pos 0 -ℤ d) (n +ℤ (pos 0 -ℤ k)) (omega (arith, ints)))
+      (in_block ((c +ℤ d) +ℤ (pos 0 -ℤ d)) (pos 0 -ℤ (pos 0 -ℤ d)) (n +ℤ (pos 0 -ℤ k)) (omega (arith, ints)) (omega (arith, ints))))
       ∙ difference_back n k
 
   up_back : (n : ℤ) → is_in_block (c +ℤ d) (pos 0 -ℤ d) n ≡ true → returned n k ≡ n
@@ -144,8 +144,8 @@ module _ (c k d : ℤ) (some : pos 1 ≤ℤ k) where
       let low = low_of (c +ℤ d) (pos 0 -ℤ d) n h in
       let high = high_of (c +ℤ d) (pos 0 -ℤ d) n h in
       ap (λ s. (n +ℤ k) +ℤ s) (passed_down (c +ℤ d) k (pos 0 -ℤ d) (n +ℤ k)
-          (after_block (c +ℤ d) k (n +ℤ k) (omega (arith, ints)))
-          (in_block ((c +ℤ d) +ℤ k) (pos 0 -ℤ d) (n +ℤ k) (omega (arith, ints)) (omega (arith, ints))))
+      (after_block (c +ℤ d) k (n +ℤ k) (omega (arith, ints)))
+      (in_block ((c +ℤ d) +ℤ k) (pos 0 -ℤ d) (n +ℤ k) (omega (arith, ints)) (omega (arith, ints))))
       ∙ sum_back n k
 
   -- a line that is not of the block, and that the block does not pass
@@ -153,7 +153,7 @@ module _ (c k d : ℤ) (some : pos 1 ≤ℤ k) where
   unfolding is_in_block
   still_back n h i j =
       ap (λ s. (n +ℤ pos 0) +ℤ s) (not_passed (c +ℤ d) k (pos 0 -ℤ d) (n +ℤ pos 0)
-          (grind (arith, ints)) (grind (arith, ints)) (grind (arith, ints)))
+      (grind (arith, ints)) (grind (arith, ints)) (grind (arith, ints)))
       ∙ nothing_added n
 
   -- a line that goes on by how far it goes comes back
@@ -323,3 +323,15 @@ same_move last l b c j k d e v p q r s = record {
   target_begins = omega (arith, ints, v.target_begins);
   target_ends = omega (arith, ints, v.target_ends);
 }
+
+-- a line of the axis that moves
+pub move_image : (last c k d n : ℤ) → IsMove last c k d → IsLine last n → image_at last (Move c k d) n ≡ Some (n +ℤ moved_by c k d n)
+unfolding goes_to
+move_image last c k d n v h =
+    image_of_line last (Move c k d) n (is_line-of last n h)
+    ∙ within_of last (n +ℤ moved_by c k d n) (is_line-of last (n +ℤ moved_by c k d n) (moved_inside last c k d v n h))
+
+-- a block of no line has none
+pub empty_block : (c n : ℤ) → is_in_block c (pos 0) n ≡ false
+unfolding is_in_block
+empty_block c n = grind (arith, ints)

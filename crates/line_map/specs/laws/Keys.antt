@@ -79,6 +79,6 @@ module _ {K X : Type 0} (R : K → K → Ordering) where
   not_before total exact (y ∷ ys) e zs h =
       let less : is_lt (R y.0 e.0) ≡ true = below_later y.0 ys e zs (lower (below_all R y.0 (ys ++ e ∷ zs)) (is_sorted R (ys ++ e ∷ zs)) h) in
       ap (λ b. cond b (Some y.1) (find R e.0 ys)) (apart_keys R total exact e.0 y.0 (λ same.
-          let tie : is_eq (R y.0 e.0) ≡ true = ap (λ k. is_eq (R y.0 k)) same ∙ own_key R total exact y.0 in
-          let no : is_eq (R y.0 e.0) ≡ false = not_tied (R y.0 e.0) less in absurd (cc)))
+      let tie : is_eq (R y.0 e.0) ≡ true = ap (λ k. is_eq (R y.0 k)) same ∙ own_key R total exact y.0 in
+      let no : is_eq (R y.0 e.0) ≡ false = not_tied (R y.0 e.0) less in absurd (cc)))
       ∙ not_before total exact ys e zs (upper (below_all R y.0 (ys ++ e ∷ zs)) (is_sorted R (ys ++ e ∷ zs)) h)

@@ -69,7 +69,7 @@ module _ {K : Type 0} (R : K → K → Ordering) (total : IsTotalOrder R) (exact
     returned_at each p None h = refl
     returned_at each p (Some q) h =
         ap (λ v. if_there v (λ y. Some (settled (home p q) (restore p q) (parts p) y)))
-            (get-carried_map carry m q ∙ ap (λ s. if_there s (λ p. if_there (get m p) (λ x. Some (carry p q x)))) (i.back p q h))
+        (get-carried_map carry m q ∙ ap (λ s. if_there s (λ p. if_there (get m p) (λ x. Some (carry p q x)))) (i.back p q h))
         ∙ settled_value p q (get m p) refl h each
 
     -- what goes back with what was kept is the map
@@ -145,11 +145,11 @@ module _ (w : Way) (is : IsWay w) where
           map_restores position_cmp position_total exact_positions (place_goes w) (place_goes (back w)) inverse
           (λ p q. carry (at w p q)) (λ p q. carry (back (at w p q))) (λ p q. restore (at w p q)) parts m
           (λ p q x there held.
-              let v : Way = at w p q in
-              let way : IsWay v = at_is_way w is p q in
-              let lies : Lies v x = lie.items p q x held there in
-              ap (λ o. settled (carry (back v)) (restore v) o (carry v x)) (kept p q x there held)
-              ∙ settles_at v x (part v x) refl (comes_back v way x lies) (restores v way x lies))
+          let v : Way = at w p q in
+          let way : IsWay v = at_is_way w is p q in
+          let lies : Lies v x = lie.items p q x held there in
+          ap (λ o. settled (carry (back v)) (restore v) o (carry v x)) (kept p q x there held)
+          ∙ settles_at v x (part v x) refl (comes_back v way x lies) (restores v way x lies))
 
       kept_at : (m : FinMap position_cmp F) (p q : Position) (x : F) → place_goes w p ≡ Some q → get m p ≡ Some x → get (places_parts part w m) p ≡ part (at w p q) x
       kept_at m p q x there held =

@@ -7,4 +7,4 @@ use Rattle.line_map.proofs.axis_map.overlaid_lines.Given as goal
 -- what is left of the entries, and what those so far have made
 abbrev pub invariant-loop-line : goal.invariant-loop-line
 invariant-loop-line g l =
-    (map deref_pair l.yielded ++ l.line-iterator ≡ entries l.over) × (l.made ≡ overlaid (from_entries (map deref_pair l.yielded)) l.fn.map)
+    (map deref_pair l.yielded ++ l.line-iterator ≡ entries l.fn.over) × (l.made ≡ overlaid (from_entries (map deref_pair l.yielded)) l.fn.map)

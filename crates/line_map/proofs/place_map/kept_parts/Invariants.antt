@@ -9,4 +9,4 @@ use Rattle.line_map.proofs.place_map.kept_parts.Given as goal
 -- what is left of the entries, and what those so far have made
 abbrev pub invariant-loop-from : goal.invariant-loop-from
 invariant-loop-from g l =
-    (map deref_pair l.yielded ++ l.from-iterator ≡ entries l.map) × (l.parts ≡ from_entries (filter_map (entry_made Some (λ p _ x. if_there (place_goes (way l.route) p) (λ q. g.F.Follower.part_of (at (way l.route) p q) x))) (map deref_pair l.yielded)))
+    (map deref_pair l.yielded ++ l.from-iterator ≡ entries l.fn.map) × (l.parts ≡ from_entries (filter_map (entry_made Some (λ p _ x. if_there (place_goes (way l.fn.route) p) (λ q. g.F.Follower.part_of (at (way l.fn.route) p q) x))) (map deref_pair l.yielded)))

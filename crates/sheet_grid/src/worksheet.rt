@@ -13,13 +13,13 @@ ghost use Rattle.formula_content.specs.declared.Content.TheVariants.{Empty, Numb
 
 mod entries;
 mod lines;
+mod sizes;
 mod styles;
 
 use crate::cell::Cell;
-use crate::column_attr::ColumnAttr;
 use crate::dimension::WorksheetDimension;
+use crate::line_attr::LineAttr;
 use crate::link::Link;
-use crate::row_attr::RowAttr;
 use crate::state::SheetState;
 use base_axis::{AxisMap, ColumnAxis, RowAxis};
 use base_decimal::Decimal;
@@ -46,8 +46,8 @@ pub struct Worksheet {
     frozen_columns: i32,
     cells: PlaceMap<Shared<Cell>>,
     links: PlaceMap<Link>,
-    rows: AxisMap<RowAxis, RowAttr>,
-    columns: AxisMap<ColumnAxis, ColumnAttr>,
+    rows: AxisMap<RowAxis, LineAttr>,
+    columns: AxisMap<ColumnAxis, LineAttr>,
 }
 
 impl Model for Worksheet {

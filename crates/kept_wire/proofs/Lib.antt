@@ -1,3 +1,4 @@
+mod Known
 pub mod Turns
 pub mod Entries
 pub mod Written

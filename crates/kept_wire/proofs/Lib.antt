@@ -1,7 +1,3 @@
 mod Known
 pub mod Turns
-pub mod Entries
 pub mod Written
-pub mod Reinserted
-pub mod Counts
-mod Known

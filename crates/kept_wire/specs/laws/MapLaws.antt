@@ -8,10 +8,11 @@ use Rattle.std.specs.FinMap.{FinMap, entries, entries_sorted, from_entries, is_s
 use Rattle.std.specs.FinMap.Entries as order
 use Rattle.base_wire.specs.Reading.{Reader, map_at, ◌⊗◌, check_at, list_at}
 use Rattle.base_wire.specs.Spelling.{spell_list, FitsItems}
-use Rattle.base_wire.specs.laws.Again.{ReadsAgain, both_again, map_again, check_again, list_again}
+use Rattle.base_wire.specs.laws.Again.{ReadsAgain, both_again, check_again, list_again}
+use Rattle.base_wire.specs.laws.Format.{Format}
 use Rattle.base_wire.specs.Spelling.{Both, spell_both}
-use Rattle.base_wire.specs.laws.Spelled.{ReadsSpelled, IsSpelled, bind_ok, ok_is, both_spelled, fits_otherwise, check_spelled, list_spelled}
-use Rattle.base_wire.specs.laws.Refusals.{IsPlain, both_plain, map_plain, check_plain, list_plain}
+use Rattle.base_wire.specs.laws.Spelled.{ReadsSpelled, IsSpelled, bind_ok, ok_is, both_spelled, check_spelled, list_spelled}
+use Rattle.base_wire.specs.laws.Refusals.{both_plain, map_plain, check_plain, list_plain}
 use Rattle.kept_wire.specs.MapBytes.{spell_map, map_of_at, FitsMap}
 
 pub holds : (b : Bool) → T b → b ≡ true
@@ -49,15 +50,21 @@ module _ {K X : Type 0} {R : K → K → Ordering} (total : IsTotalOrder R) (exa
       (λ q. sym (get-entries (from_entries es) q) ∙ get-from_entries total es q)
 
   module _ {F : K → Type 0} {G : X → Type 0} {s : K → List ℕ} {t : X → List ℕ} {r : Reader K} {n : Reader X} where
-    pub map_of_again : ((k : K) → 1 ≤ length (s k)) → ReadsAgain F s r → ReadsAgain G t n → ReadsAgain (FitsMap {order = R} F G) (spell_map s t) (map_of_at R r n)
-    map_of_again some key value =
-        made_again (check_again (list_again (both_again key value) (λ e. omega (arith, some e.0, length-append (s e.0) (t e.1)))) (is_sorted R)) from_entries entries
-        (λ m fits. (map_again_made m, (fits, holds (is_sorted R (entries m)) (entries_sorted m))))
+    module _ (key : Format F s r) (value : Format G t n) (some : (k : K) → 1 ≤ length (s k)) where
+      map_of_format : Format (FitsMap {order = R} F G) (spell_map s t) (map_of_at R r n)
+      map_of_format = record {
+        again = made_again (check_again (list_again (both_again key.again value.again) (λ e. omega (arith, some e.0, length-append (s e.0) (t e.1)))) (is_sorted R)) from_entries entries
+        (λ m fits. (map_again_made m, (fits, holds (is_sorted R (entries m)) (entries_sorted m))));
+        spelled = made_spelled (check_spelled (list_spelled (both_spelled key.spelled value.spelled)) (is_sorted R)) from_entries entries
+        (λ es fits. let back = entries_again es fits.1 in (back, subst (FitsItems (Both F G)) (sym back) fits.0));
+        plain = map_plain from_entries (check_plain (is_sorted R) (list_plain (both_plain key.plain value.plain)));
+      }
 
-    pub map_of_spelled : ReadsSpelled F s r → ReadsSpelled G t n → ReadsSpelled (FitsMap {order = R} F G) (spell_map s t) (map_of_at R r n)
-    map_of_spelled key value =
-        made_spelled (check_spelled (list_spelled (both_spelled key value)) (is_sorted R)) from_entries entries
-        (λ es fits. let back = entries_again es fits.1 in (back, subst (FitsItems (Both F G)) (sym back) fits.0))
-
-pub map_of_plain : {K X : Type 0} (R : K → K → Ordering) {r : Reader K} {n : Reader X} → IsPlain r → IsPlain n → IsPlain (map_of_at R r n)
-map_of_plain R key value = map_plain from_entries (check_plain (is_sorted R) (list_plain (both_plain key value)))
+      -- of a type whose values are seen as finite maps
+      pub map_format : {M : Type 0} (seen : M → FinMap R X) (made : FinMap R X → M) → ((m : FinMap R X) → seen (made m) ≡ m) → ((map : M) → made (seen map) ≡ map)
+          → Format (λ map. FitsMap F G (seen map)) (λ map. spell_map s t (seen map)) (map_at made (map_of_at R r n))
+      map_format seen made there back = record {
+        again = made_again map_of_format.again made seen (λ map fits. (back map, fits));
+        spelled = made_spelled map_of_format.spelled made seen (λ m fits. (there m, subst (FitsMap F G) (sym (there m)) fits));
+        plain = map_plain made map_of_format.plain;
+      }

@@ -23,7 +23,7 @@ use Rattle.sheet_grid.specs.declared.link.Link.{Link}
 use Rattle.sheet_grid.specs.declared.line_attr.LineAttr.{LineAttr}
 use Rattle.sheet_grid.specs.declared.row_attr.RowAttr.{RowAttr}
 use Rattle.sheet_grid.specs.declared.column_attr.ColumnAttr.{ColumnAttr}
-use Rattle.sheet_grid.specs.Lines.{line_of_row, row_of_line, line_of_column, column_of_line, kept_line, own_line_style}
+use Rattle.sheet_grid.specs.Lines.{line_of_row, row_of_line, line_of_column, column_of_line, kept_line, own_line_style, line_changed}
 
 pub record Sheet : Type 0 where
   pub id : ℕ
@@ -125,3 +125,11 @@ column_at = of_column (option_map column_of_line)
 -- a column has this of its own, and a plain entry counts as none
 abbrev pub column_put : Sheet → ℤ → Option ColumnAttr → Result Sheet EditError
 column_put sheet column entry = map_ok (λ line. record sheet { columns = with_entry sheet.columns line (kept_line (option_map line_of_column entry)) }) (line_of (pos 16384) column InvalidColumn)
+
+-- what a row has of its own is changed
+abbrev pub row_changed : Sheet → ℤ → Result (LineAttr → LineAttr) EditError → Result Sheet EditError
+row_changed sheet row change = map_ok (λ rows. record sheet { rows = rows }) (line_changed (pos 1048576) InvalidRow sheet.rows row change)
+
+-- what a column has is
+abbrev pub column_changed : Sheet → ℤ → Result (LineAttr → LineAttr) EditError → Result Sheet EditError
+column_changed sheet column change = map_ok (λ columns. record sheet { columns = columns }) (line_changed (pos 16384) InvalidColumn sheet.columns column change)

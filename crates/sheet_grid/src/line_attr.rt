@@ -7,6 +7,12 @@ use base_shared::Shared;
 use base_styles::Style;
 use base_values::Exact;
 
+/// The height of a row that has none of its own, in half pixels.
+pub const USUAL_HEIGHT: i32 = 56;
+
+/// The width of a column that has none of its own, in half pixels.
+pub const USUAL_WIDTH: i32 = 250;
+
 /// What a row or a column of a sheet has of its own, in one type for both. docs/MODEL.md has the
 /// rules.
 #[derive(Clone, Debug, PartialEq, Eq, Drop)]

@@ -13,6 +13,7 @@ ghost use Rattle.formula_content.specs.declared.Content.TheVariants.{Empty, Numb
 
 mod entries;
 mod lines;
+mod sizes;
 mod styles;
 
 use crate::cell::Cell;

@@ -3,8 +3,7 @@ use Rattle.std.specs.Prelude.{List, ℕ, IfSome}
 use Rattle.std.specs.FinMap.{FinMap, entries, from_entries, get, is_sorted}
 use Rattle.std.specs.declared.cmp.Ordering.{Ordering}
 use Rattle.base_wire.specs.Reading.{Reader, map_at, ◌⊗◌, check_at, list_at}
-use Rattle.base_wire.specs.Spelling.{spell_list, FitsItems}
-use Rattle.base_wire.specs.Spelling.{Both, spell_both}
+use Rattle.base_wire.specs.Spelling.{Both, spell_both, spell_list, FitsItems}
 
 -- entries, each a key and its value
 abbrev pub spell_entries : {K X : Type 0} → (K → List ℕ) → (X → List ℕ) → List (K × X) → List ℕ
@@ -31,6 +30,6 @@ module _ {K X : Type 0} {order : K → K → Ordering} where
     pub keys : (key : K) → Key key
     pub values : (key : K) → IfSome (get m key) Value
 
--- the map that such entries make
-abbrev pub map_of_at : {K X : Type 0} (order : K → K → Ordering) → Reader K → Reader X → Reader (FinMap order X)
-map_of_at order key value = map_at from_entries (entries_at order key value)
+-- the map that such entries make, as a value of its type
+abbrev pub map_of_at : {K X M : Type 0} (order : K → K → Ordering) → (FinMap order X → M) → Reader K → Reader X → Reader M
+map_of_at order made key value = map_at (λ es. made (from_entries es)) (entries_at order key value)

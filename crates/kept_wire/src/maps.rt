@@ -18,7 +18,6 @@ pub(crate) struct MapPart<M: Keyed<K::Value, P::Value>, K: Part<Context = ()>, P
 
 impl<M: Keyed<K::Value, P::Value>, K: Part<Context = ()>, P: Part> Part for MapPart<M, K, P> {
     ghost use Rattle.std.proofs.Common.{arith};
-    ghost use Rattle.base_wire.specs.Reading as reading;
     ghost use Rattle.kept_wire.specs.MapBytes.{spell_map, map_of_at, FitsMap, IsKnownMap};
     ghost use Rattle.kept_wire.specs.laws.MapLaws.{map_format};
 
@@ -32,7 +31,7 @@ impl<M: Keyed<K::Value, P::Value>, K: Part<Context = ()>, P: Part> Part for MapP
 
     ghost spelling = { λ map. spell_map K.spelling P.spelling (M.seen map) };
 
-    ghost reading = { reading.map_at M.made (map_of_at M.order K.reading P.reading) };
+    ghost reading = { map_of_at M.order M.made K.reading P.reading };
 
     fn put(out: &mut Vec<u8>, value: &M) -> Result<(), AllocError> {
         put_entries::<K, P>(out, value.entries())?;

@@ -5,7 +5,7 @@ ghost use Rattle.std.specs.Prelude.{◌≡◌, IfOk, IsOkUnless, IsTrue};
 ghost use Rattle.std.specs.FinMap.{from_entries, is_sorted};
 ghost use Rattle.base_values.specs.Answers.{Answers, map_ok};
 ghost use Rattle.base_values.specs.declared.EditError.TheVariants.{NoMemory};
-ghost use Rattle.base_wire.specs.Reading.{◌⊗◌, count_at, many_at, map_at};
+ghost use Rattle.base_wire.specs.Reading.{◌⊗◌, count_at, many_at};
 ghost use Rattle.kept_wire.specs.MapBytes.{entries_at, map_of_at};
 
 use crate::keyed::Keyed;
@@ -119,7 +119,7 @@ pub(crate) fn map_at<'a, M: Keyed<K::Value, P::Value>, K: Part<Context = ()>, P:
     context: &P::Context,
     bytes: &'a [u8],
 ) -> Result<(M, &'a [u8]), EditError>
-    ensures { Answers (map_ok (λ x. (x.0, x.1.now)) result) (map_at M.made (map_of_at M.order K.reading P.reading) bytes.now) }
+    ensures { Answers (map_ok (λ x. (x.0, x.1.now)) result) (map_of_at M.order M.made K.reading P.reading bytes.now) }
 {
     let (entries, rest) = entries_at::<M, K, P>(alloc, context, bytes)?;
     let map = map_of::<M, K::Value, P::Value>(alloc, entries)?;

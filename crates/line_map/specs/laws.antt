@@ -1,4 +1,1 @@
-pub mod Images
-pub mod TreeLaws
-pub mod TreePlaces
 pub mod Equals

@@ -1,7 +1,3 @@
-pub mod LineDiffs
-pub mod Diffs
 pub mod Depth
-pub mod Untested
-pub mod Stacks
-pub mod Records
+pub mod Diffs
 pub mod laws

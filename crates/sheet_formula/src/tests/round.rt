@@ -96,12 +96,25 @@ const OTHERS: [(&str, &str, &str); 12] = [
     ("?1+2", "1+2", "1 2 +"),
 ];
 
+fn has_text(alloc: Global, tree: &Node, text: &str) -> Result<bool, EditError> {
+    let printed = english(alloc, tree)?;
+    Ok(printed.as_str() == text)
+}
+
+/// Whether the text of a tree is read as another, which is not the tree.
+fn is_read_as(alloc: Global, tree: &Node, other: &Node) -> Result<bool, EditError> {
+    let back = read_back(alloc, tree, Locale::En, Language::En)?;
+    Ok(back == *other && back != *tree)
+}
+
 /// Whether the words' tree has this text, and the text is read as these other words' tree.
 fn is_read_otherwise(alloc: Global, words: &str, text: &str, others: &str) -> Result<bool, Fail> {
-    let (tree, other) = (tree(alloc, words)?, tree(alloc, others)?);
-    let back = read_back(alloc, &tree, Locale::En, Language::En)?;
-    let printed = english(alloc, &tree)?;
-    Ok(printed.as_str() == text && back == other && back != tree)
+    let first = tree(alloc, words)?;
+    if !has_text(alloc, &first, text)? {
+        return Ok(false);
+    }
+    let second = tree(alloc, others)?;
+    Ok(is_read_as(alloc, &first, &second)?)
 }
 
 #[test]

@@ -6,6 +6,7 @@ ghost use Rattle.base_values.specs.declared.Position.{Position};
 ghost use Rattle.base_values.specs.Places.{IsLine};
 ghost use Rattle.formula_tree.specs.Placed.{is_placed};
 ghost use Rattle.line_map.specs.Carried.{if_there, lost_map};
+ghost use Rattle.line_map.specs.declared.edit.EditKind.TheVariants.{Move};
 ghost use Rattle.line_map.specs.Edit.{image_at, IsValid};
 ghost use Rattle.line_map.specs.Maps.{places_carried, places_parts};
 ghost use Rattle.line_map.specs.Singles.{line_by_line};
@@ -48,8 +49,8 @@ pub fn followed_is_placed<A: Axis, M: LineMap<A>>(route: &Route<'_, A, M>, tree:
 /// take it: the last of them first where the block goes on, and the first of them first where it
 /// goes back.
 pub fn move_by_single_lines<A: Axis>(first: i32, count: i32, delta: i32)
-    requires { IsValid A.along.last (EditKind.Move first count delta) }
-    ensures { (n : ℤ) → IsLine A.along.last n → image_at A.along.last (EditKind.Move first count delta) n ≡ line_by_line A.along.last first count delta n }
+    requires { IsValid A.along.last (Move first count delta) }
+    ensures { (n : ℤ) → IsLine A.along.last n → image_at A.along.last (Move first count delta) n ≡ line_by_line A.along.last first count delta n }
 {
     let _ = (first, count, delta);
 }

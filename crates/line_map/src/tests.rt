@@ -8,10 +8,10 @@ ghost use Rattle.line_map.specs.TreeAt.{TreeAtLies};
 ghost use Rattle.line_map.specs.Areas.{IsArea};
 
 use crate::{EditKind, Follow, LineEdit, LineMap, TreeAt, there_and_back};
-use base_axis::{Area, Axis, ColumnAxis, RowAxis};
+use base_axis::{Area, Axis, AxisMap, ColumnAxis, RowAxis};
 use base_shared::Shared;
 use base_tables::{Error, Function};
-use base_values::{EditError, Items, Position, Text, line_of, place_of};
+use base_values::{EditError, Items, PlaceMap, Position, Text, copy_of, line_of, place_of};
 use formula_tree::{Corner, Node, SumKind, is_placed};
 use std::alloc::{AllocError, Global};
 use std::test::Fail;
@@ -391,5 +391,108 @@ fn areas_follow(rt: HostRuntime) -> Result<(), Fail> {
     ] {
         assert!(rt; area_goes(rt.alloc(), kind, &whole, &after)?);
     }
+    Ok(())
+}
+
+/// Whether a map with one tree goes there with it, and comes back. `None` where it is lost.
+fn map_goes(
+    alloc: Global,
+    kind: EditKind,
+    tree: &TreeAt,
+    to: Option<Position>,
+) -> Result<bool, EditError>
+    requires { TreeAtLies tree.now }
+{
+    let edit = LineEdit::<RowAxis>::new(kind);
+    if !edit.is_valid() {
+        return Ok(false);
+    }
+    let mut map = PlaceMap::new(alloc);
+    let _before = map.insert(tree.place, copy_of(tree)?)?;
+    let followed = map.follow(alloc, &edit)?;
+    let count = followed.places(alloc)?.len();
+    let is_there = match to {
+        Some(place) => count == 1 && followed.get(place).is_some(),
+        None => count == 0,
+    };
+    Ok(is_there && there_and_back(alloc, &map, &edit)? == map)
+}
+
+/// `A5` in C5 of the edited sheet.
+#[test]
+fn maps_of_formulas_follow(rt: HostRuntime) -> Result<(), Fail> {
+    let alloc = rt.alloc();
+    let place = place_of(5, 3)?;
+    let tree = tree_at(
+        alloc,
+        Formula::Reference(Some(relative(0, -2))),
+        "Sheet1",
+        place,
+    )?;
+    if !is_placed(&tree.node, tree.place) {
+        return Ok(());
+    }
+    for (kind, to) in [
+        (insert(3, 2), Some(Position { row: 7, column: 3 })),
+        (insert(6, 2), Some(place)),
+        (delete(5, 1), None),
+        (shift(4, 2, -2), Some(Position { row: 3, column: 3 })),
+    ] {
+        assert!(rt; map_goes(alloc, kind, &tree, to)?);
+    }
+    Ok(())
+}
+
+/// Whether the values of two columns, both `value`, stand at these columns after an edit, and come
+/// back.
+fn widths_go(
+    alloc: Global,
+    kind: EditKind,
+    (first, second): (i32, i32),
+    value: i32,
+    after: &[i32],
+) -> Result<bool, EditError> {
+    let edit = LineEdit::<ColumnAxis>::new(kind);
+    let first = line_of(ColumnAxis::LAST, first, EditError::InvalidColumn)?;
+    let second = line_of(ColumnAxis::LAST, second, EditError::InvalidColumn)?;
+    if !edit.is_valid() {
+        return Ok(false);
+    }
+    let mut widths: AxisMap<ColumnAxis, i32> = AxisMap::new(alloc);
+    widths.put(first, Some(value))?;
+    widths.put(second, Some(value))?;
+    let followed = widths.follow(alloc, &edit)?;
+    let lines = followed.lines(alloc)?;
+    Ok(lines.as_slice() == after && there_and_back(alloc, &widths, &edit)? == widths)
+}
+
+#[test]
+fn widths_go_with_their_columns(rt: HostRuntime) -> Result<(), Fail> {
+    for (kind, columns, after) in [
+        (insert(3, 2), (2, 3), &[2, 3, 4, 5][..]),
+        (insert(3, 2), (2, 4), &[2, 6][..]),
+        (insert(16_384, 3), (16_383, 16_384), &[16_383, 16_384][..]),
+        (delete(2, 1), (2, 5), &[4][..]),
+        (shift(2, 1, 3), (2, 3), &[2, 5][..]),
+    ] {
+        assert!(rt; widths_go(rt.alloc(), kind, columns, 30, after)?);
+    }
+    Ok(())
+}
+
+/// Each area of a list, once where there is enough memory.
+#[test]
+fn lists_of_areas_follow(rt: HostRuntime) -> Result<(), Fail> {
+    let alloc = rt.alloc();
+    let edit = LineEdit::<RowAxis>::new(delete(3, 1));
+    if !edit.is_valid() {
+        return Ok(());
+    }
+    let mut areas = Items::empty(alloc);
+    areas.push(area(2, 4))?;
+    areas.push(area(4, 2))?;
+    let followed = areas.follow(alloc, &edit)?;
+    assert!(rt; followed.get(0) == Some(&area(2, 3)) && followed.get(1) == Some(&area(3, 2)));
+    assert!(rt; there_and_back(alloc, &areas, &edit)? == areas);
     Ok(())
 }

@@ -1,7 +1,7 @@
 -- The depth of what is read, and the limit.
 use Rattle.std.proofs.Common.{◌≡◌, ℕ, ◌+◌, ◌<◌, ◌≤◌, max, Bool, true, false, cond, List, [], ◌∷◌, ◌++◌, map, Option, Some, None, refl, arith}
 use Rattle.std.proofs.lemmas.Bool.{le-leb, lt-leb, leb-true}
-use lib.Dec.{leb}
+use Rattle.std.proofs.lemmas.Bool.Decides.{nat_tests}
 use Rattle.base_tables.specs.declared.Function.{Function}
 use Rattle.base_tables.specs.declared.Language.{Language}
 use Rattle.base_tables.specs.Function.{function_of_name}
@@ -22,30 +22,25 @@ use Rattle.formula_grammar.specs.Words.{call_node, called, word_node, worded, ra
 use Rattle.formula_grammar.specs.laws.Reading.{made}
 
 depth_call_node : (function : Option Function) (word : List ℕ) (all : List Node) → depth_of (call_node function word all) ≡ greatest (map depth_of all) + 1
-depth_call_node None word all = search tree_depths
-depth_call_node _ word all = search tree_depths
+depth_call_node function word all = grind (arith, tree_depths)
 
 pub depth_called : (language : Language) (word : List ℕ) (all : List Node) → depth_of (called language word all) ≡ greatest (map depth_of all) + 1
 depth_called language word all = depth_call_node (function_of_name language word) word all
 
 depth_word_node : (value : Option Bool) (word : List ℕ) → depth_of (word_node value word) ≡ 1
-depth_word_node None word = search tree_depths
-depth_word_node _ word = search tree_depths
+depth_word_node value word = grind (arith, tree_depths)
 
 pub depth_worded : (language : Language) (word : List ℕ) → depth_of (worded language word) ≡ 1
 depth_worded language word = depth_word_node (boolean_of_text language word) word
 
 pub depth_infix : (op : Infix) (a b : Node) → depth_of (infix_node op a b) ≡ max (depth_of a) (depth_of b) + 1
-depth_infix between.Power a b = search tree_depths
-depth_infix _ a b = search tree_depths
+depth_infix op a b = grind (arith, tree_depths)
 
 pub depth_postfix : (op : Postfix) (a : Node) → depth_of (postfix_node op a) ≡ depth_of a + 1
-depth_postfix postfix.Spill a = search tree_depths
-depth_postfix _ a = search tree_depths
+depth_postfix op a = grind (arith, tree_depths)
 
 pub depth_prefix : (op : Prefix) (a : Node) → depth_of a ≤ depth_of (prefix_node op a)
-depth_prefix prefix.Plus a = omega arith
-depth_prefix _ a = omega (arith, tree_depths)
+depth_prefix op a = grind (arith, tree_depths)
 
 pub depth_range_node : (place : Position) (sheet : Option (List ℕ)) (a b : Corner) → depth_of (range_node place sheet a b) ≡ 2
 depth_range_node place sheet a b = search tree_depths
@@ -56,11 +51,7 @@ made-shallow x h = rw (le-leb (depth_of x) 64 h) refl
 
 pub made-is : (x y : Node) → made x ≡ Some y → (x ≡ y) × (depth_of x ≤ 64)
 unfolding made
-made-is x y e = go (leb (depth_of x) 64) refl e
-  where
-    go : (b : Bool) → leb (depth_of x) 64 ≡ b → cond b (Some x) None ≡ Some y → (x ≡ y) × (depth_of x ≤ 64)
-    go true h f = (cc, leb-true (depth_of x) 64 h)
-    go false h f = absurd cc
+made-is x y e = grind (arith, nat_tests)
 
 pub made-deep : (x : Node) → 64 < depth_of x → made x ≡ None
 unfolding made

@@ -1,6 +1,7 @@
 -- The reading function and the grammar are one.
 use Rattle.std.proofs.Common.{◌≡◌, true, false, ◌≤◌, List, [], ◌∷◌, ◌++◌, Option, Some, None, Result, Ok, Err, sym, ap, ◌∙◌, append-nil, arith}
 use Rattle.std.specs.Prelude.{IfOk, IfSome}
+use Rattle.std.proofs.lemmas.Bool.{not-true}
 use Rattle.formula_tree.specs.declared.node.Node.{Node}
 use Rattle.formula_tree.specs.Depth.{depth_of}
 use Rattle.formula_grammar.specs.declared.profile.Profile.{Profile}
@@ -8,9 +9,9 @@ use Rattle.formula_grammar.specs.declared.token.Token.{Token}
 use Rattle.formula_grammar.specs.Grammar.{expression_tokens, expression_tree, Derives}
 use Rattle.formula_grammar.specs.laws.Reading.{Outcome, expression, whole, if_last, tree_of}
 use Rattle.formula_grammar.proofs.Complete.{completes, expression_reads}
-use Rattle.formula_grammar.proofs.Sound.{whole_sound}
-use Rattle.formula_grammar.proofs.Placing.{expression_formula, expression_placed}
-use Rattle.formula_grammar.proofs.Numbering.{expression_follows}
+use Rattle.formula_grammar.proofs.Sound.{IsExpression, whole_sound}
+use Rattle.formula_grammar.proofs.Steps.{Brings}
+use Rattle.formula_grammar.proofs.Trees.{expression_follows, expression_formula, expression_placed}
 use Rattle.formula_grammar.specs.Numbers.{tokens_follow}
 use Rattle.formula_tree.specs.declared.numbers.NumberRule.{NumberRule}
 use Rattle.formula_tree.specs.Numbers.{numbers_follow}
@@ -26,17 +27,18 @@ derived_is_read p ts tree d =
     completes 10 d.by (expression_reads d.by) 127 64 [] (record { within = d.open_few; nested = omega (arith, shallow, d.open_few); shallow = shallow }) tt in
     ap (λ (l : List Token). if_last (expression p (whole p 127) 64 10 l)) (sym d.spells ∙ sym (append-nil (expression_tokens d.by))) ∙ ap if_last read ∙ ap Some d.gives
 
-if_last_is : (o : Outcome Node) (tree : Node) → if_last o ≡ Some tree → o ≡ Some (tree, [])
-if_last_is None tree e = absurd cc
-if_last_is (Some (x, [])) tree e = let x-is : x ≡ tree = cc in ap (λ (y : Node). let q : Node × List Token = (y, []) in Some q) x-is
-if_last_is (Some (x, y ∷ ts)) tree e = absurd cc
-
 -- what is read is derived
 pub read_is_derived : (p : Profile) (ts : List Token) (tree : Node) → tree_of p ts ≡ Some tree → Derives p ts tree
 unfolding tree_of
-read_is_derived p ts tree e =
-    let d = whole_sound p 128 64 ts [] tree (if_last_is (whole p 128 64 ts) tree e) in
-    record { by = d.by; spells = sym (append-nil (expression_tokens d.by)) ∙ sym d.parts; gives = d.gives; shallow = d.shallow; open_few = d.within }
+read_is_derived p ts tree = go (whole p 128 64 ts) (whole_sound p 128 64 ts)
+  where
+    go : (o : Outcome Node) → Brings (IsExpression p 10 64 ts) o → if_last o ≡ Some tree → Derives p ts tree
+    go None d e = absurd cc
+    go (Some (x, y ∷ rest)) d e = absurd cc
+    go (Some (x, [])) d e =
+        let f = d.read in
+        let is : x ≡ tree = cc in
+        record { by = f.by; spells = rw f.parts (sym (append-nil (expression_tokens f.by))); gives = f.gives ∙ is; shallow = rw (← is) f.shallow; open_few = f.within }
 
 -- tokens have one tree
 pub one_tree : (p : Profile) (ts : List Token) (a b : Node) → Derives p ts a → Derives p ts b → a ≡ b
@@ -59,7 +61,7 @@ derived_placed p ts tree d = ap (is_placed p.place) (sym d.gives) ∙ expression
 
 -- it is no text outside of the grammar
 pub derived_formula : (p : Profile) (ts : List Token) (tree : Node) → Derives p ts tree → is_parse_error tree ≡ false
-derived_formula p ts tree d = ap is_parse_error (sym d.gives) ∙ expression_formula d.by
+derived_formula p ts tree d = ap is_parse_error (sym d.gives) ∙ not-true (is_parse_error (expression_tree d.by)) (expression_formula d.by)
 
 -- its numbers are as those of the tokens
 pub derived_follows : (r : NumberRule) (p : Profile) (ts : List Token) → tokens_follow r ts ≡ true → (tree : Node) → Derives p ts tree → numbers_follow r tree ≡ true

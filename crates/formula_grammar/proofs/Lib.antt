@@ -9,9 +9,7 @@ pub mod Steps
 pub mod Parting
 pub mod Lists
 pub mod Sound
-pub mod Placing
-pub mod Numbering
-pub mod Holding
+pub mod Trees
 pub mod Laws
 pub mod Loops
 pub mod Signed

@@ -44,71 +44,44 @@ continued_none (G.last x) = refl
 continued_none (G.beside x rows) = continued_one (item_value x) (rows_lines rows)
 continued_none (G.above x rows) = refl
 
-abbrev rows_count : {p : Profile} → Rows p → ℕ
-rows_count (G.last x) = 1
-rows_count (G.beside x rows) = suc (rows_count rows)
-rows_count (G.above x rows) = suc (rows_count rows)
-
 item_long : {p : Profile} (x : Item p) → 1 ≤ length (item_tokens x)
 item_long (G.plain number) = omega arith
 item_long _ = omega arith
-
-rows_count-le : {p : Profile} (rows : Rows p) → rows_count rows ≤ length (rows_tokens rows)
-rows_count-le (G.last x) = item_long x
-rows_count-le {p} (G.beside x rows) = omega (arith, rows_count-le rows, item_long x, length-append (item_tokens x) (separator_token p.locale ∷ rows_tokens rows))
-rows_count-le {p} (G.above x rows) = omega (arith, rows_count-le rows, item_long x, length-append (item_tokens x) (row_token p.locale ∷ rows_tokens rows))
-
-abbrev after_line : Profile → ℕ → List (List ArrayItem) → List ArrayItem → Parser (List (List ArrayItem))
-after_line p k lines line = λ ts. and_then (after_item p.locale ts) (rows_next (rows_from p k) lines line)
 
 -- an item and what goes on after it
 item_turn : {p : Profile} (x : Item p) (k : ℕ) (lines : List (List ArrayItem)) (line : List ArrayItem) (ts rest : List Token) (next : AfterItem) → 0 < k → after_item p.locale ts ≡ Some (next, rest)
     → rows_from p k lines line (item_tokens x ++ ts) ≡ rows_next (rows_from p (k - 1)) lines (line ++ item_value x ∷ []) next rest
 unfolding rows_from
-item_turn {p} x k lines line ts rest next h e =
-    deeper (λ j. rows_from p j lines line (item_tokens x ++ ts)) k h
-    ∙ ap (λ (o : Outcome ArrayItem). and_then o (λ y. after_line p (k - 1) lines (line ++ y ∷ []))) (item_reads x ts)
-    ∙ ap (λ (o : Outcome AfterItem). and_then o (rows_next (rows_from p (k - 1)) lines (line ++ item_value x ∷ []))) e
+item_turn {p} x k lines line ts rest next h e = deeper (λ j. rows_from p j lines line (item_tokens x ++ ts)) k h ∙ rw (item_reads x ts, e)
 
-rows_complete : {p : Profile} (rows : Rows p) (k : ℕ) (lines : List (List ArrayItem)) (line : List ArrayItem) (r : List Token) → rows_count rows ≤ k
+rows_complete : {p : Profile} (rows : Rows p) (k : ℕ) (lines : List (List ArrayItem)) (line : List ArrayItem) (r : List Token) → length (rows_tokens rows) ≤ k
     → rows_from p k lines line (rows_tokens rows ++ t.CloseBrace ∷ r) ≡ Some (lines ++ continued line (rows_lines rows), r)
-rows_complete (G.last x) k lines line r enough = item_turn x k lines line (t.CloseBrace ∷ r) r after.End (omega arith) refl
+rows_complete (G.last x) k lines line r enough = item_turn x k lines line (t.CloseBrace ∷ r) r after.End (omega (arith, item_long x)) refl
 rows_complete {p} (G.beside x rows) k lines line r enough =
+    let long = length-append (item_tokens x) (separator_token p.locale ∷ rows_tokens rows) in
     ap (rows_from p k lines line) (append_assoc (item_tokens x) (separator_token p.locale ∷ rows_tokens rows) (t.CloseBrace ∷ r))
-    ∙ item_turn x k lines line (separator_token p.locale ∷ rows_tokens rows ++ t.CloseBrace ∷ r) (rows_tokens rows ++ t.CloseBrace ∷ r) after.Column (omega arith) ((separates p.locale).column _)
-    ∙ rows_complete rows (k - 1) lines (line ++ item_value x ∷ []) r (omega arith)
-    ∙ ap (λ l. Some (lines ++ l, r)) (continued_before line (item_value x) (rows_lines rows))
+    ∙ item_turn x k lines line _ (rows_tokens rows ++ t.CloseBrace ∷ r) after.Column (omega (arith, long)) ((separates p.locale).column _)
+    ∙ rows_complete rows (k - 1) lines (line ++ item_value x ∷ []) r (omega (arith, long, item_long x))
+    ∙ rw (continued_before line (item_value x) (rows_lines rows))
 rows_complete {p} (G.above x rows) k lines line r enough =
+    let long = length-append (item_tokens x) (row_token p.locale ∷ rows_tokens rows) in
     ap (rows_from p k lines line) (append_assoc (item_tokens x) (row_token p.locale ∷ rows_tokens rows) (t.CloseBrace ∷ r))
-    ∙ item_turn x k lines line (row_token p.locale ∷ rows_tokens rows ++ t.CloseBrace ∷ r) (rows_tokens rows ++ t.CloseBrace ∷ r) after.Row (omega arith) ((separates p.locale).row _)
-    ∙ rows_complete rows (k - 1) (lines ++ (line ++ item_value x ∷ []) ∷ []) [] r (omega arith)
-    ∙ ap (λ l. Some ((lines ++ (line ++ item_value x ∷ []) ∷ []) ++ l, r)) (continued_none rows)
-    ∙ ap (λ l. Some (l, r)) (append_assoc lines ((line ++ item_value x ∷ []) ∷ []) (rows_lines rows))
-
-abbrev even_array : List (List ArrayItem) → Parser Node
-even_array lines = cond (are_even lines) (pure (n.Array lines)) (λ (_ : List Token). let none : Outcome Node = None in none)
+    ∙ item_turn x k lines line _ (rows_tokens rows ++ t.CloseBrace ∷ r) after.Row (omega (arith, long)) ((separates p.locale).row _)
+    ∙ rows_complete rows (k - 1) (lines ++ (line ++ item_value x ∷ []) ∷ []) [] r (omega (arith, long, item_long x))
+    ∙ rw (continued_none rows, append_assoc lines ((line ++ item_value x ∷ []) ∷ []) (rows_lines rows))
 
 pub array_complete : {p : Profile} (rows : Rows p) (r : List Token) → are_even (rows_lines rows) ≡ true → array p ((rows_tokens rows ++ t.CloseBrace ∷ []) ++ r) ≡ Some (n.Array (rows_lines rows), r)
 unfolding array
 array_complete {p} rows r even =
-    let long : rows_count rows ≤ length (rows_tokens rows ++ t.CloseBrace ∷ r) = omega (arith, rows_count-le rows, length-append (rows_tokens rows) (t.CloseBrace ∷ r)) in
-    ap (array p) (append_assoc (rows_tokens rows) (t.CloseBrace ∷ []) r)
-    ∙ ap (λ (o : Outcome (List (List ArrayItem))). and_then o even_array)
-    (rows_complete rows (length (rows_tokens rows ++ t.CloseBrace ∷ r)) [] [] r long ∙ ap (λ l. Some (l, r)) (continued_none rows))
-    ∙ ap (λ (b : Bool). cond b (pure (n.Array (rows_lines rows))) (λ (_ : List Token). let none : Outcome Node = None in none) r) even
+    let long = length-append (rows_tokens rows) (t.CloseBrace ∷ r) in
+    rw (append_assoc (rows_tokens rows) (t.CloseBrace ∷ []) r, rows_complete rows (length (rows_tokens rows ++ t.CloseBrace ∷ r)) [] [] r (omega (arith, long)), continued_none rows, even)
 
 -- ---- parameters
 
-abbrev marked : Parameter → List Token → Bool → Outcome Parameter
-marked x ts b = Some (record { name = x.name; optional = b }, ts)
-
-parameter_reads : (locale : Locale) (x : Parameter) (ts : List Token) → parameter locale (parameter_tokens x ++ separator_token locale ∷ ts) ≡ Some (x, ts)
-parameter_reads locale x ts = go x.optional refl
-  where
-    go : (b : Bool) → x.optional ≡ b
-        → parameter locale (cond b (t.OpenBracket ∷ t.Word x.name ∷ t.CloseBracket ∷ []) (t.Word x.name ∷ []) ++ separator_token locale ∷ ts) ≡ Some (x, ts)
-    go true h = rw (separates locale).parts (ap (marked x ts) (sym h))
-    go false h = rw (separates locale).parts (ap (marked x ts) (sym h))
+parameter_reads : (locale : Locale) (name : List ℕ) (optional : Bool) (ts : List Token)
+    → parameter locale (parameter_tokens (record { name = name; optional = optional }) ++ separator_token locale ∷ ts) ≡ Some (record { name = name; optional = optional }, ts)
+parameter_reads locale name true ts = rw (separates locale).parts
+parameter_reads locale name false ts = rw (separates locale).parts
 
 parameters_end : (locale : Locale) (k : ℕ) (found : List Parameter) (ts : List Token) → parameter locale ts ≡ None → parameters_from locale k found ts ≡ Some (found, ts)
 unfolding parameters_from
@@ -119,19 +92,16 @@ parameter_turn : (locale : Locale) (k : ℕ) (found : List Parameter) (ts rest :
 unfolding parameters_from
 parameter_turn locale k found ts rest x h e = deeper (λ j. parameters_from locale j found ts) k h ∙ ap (parameters_step (parameters_from locale (k - 1)) found ts) e
 
-parameters_follow : (p : Profile) (xs : List Parameter) (k : ℕ) (found : List Parameter) (ts : List Token) → length xs ≤ k → parameter p.locale ts ≡ None
+parameters_follow : (p : Profile) (xs : List Parameter) (k : ℕ) (found : List Parameter) (ts : List Token) → length (parameters_tokens p xs) ≤ k → parameter p.locale ts ≡ None
     → parameters_from p.locale k found (parameters_tokens p xs ++ ts) ≡ Some (found ++ xs, ts)
 parameters_follow p [] k found ts enough e = parameters_end p.locale k found ts e ∙ ap (λ l. Some (l, ts)) (sym (append-nil found))
 parameters_follow p (x ∷ xs) k found ts enough e =
+    let long = length-append (parameter_tokens x) (separator_token p.locale ∷ parameters_tokens p xs) in
     ap (parameters_from p.locale k found) (append_assoc (parameter_tokens x) (separator_token p.locale ∷ parameters_tokens p xs) ts)
-    ∙ parameter_turn p.locale k found _ (parameters_tokens p xs ++ ts) x (omega arith) (parameter_reads p.locale x (parameters_tokens p xs ++ ts))
-    ∙ parameters_follow p xs (k - 1) (found ++ x ∷ []) ts (omega arith) e
-    ∙ ap (λ l. Some (l, ts)) (append_assoc found (x ∷ []) xs)
-
-parameters_long : (p : Profile) (xs : List Parameter) → length xs ≤ length (parameters_tokens p xs)
-parameters_long p [] = omega arith
-parameters_long p (x ∷ xs) = omega (arith, parameters_long p xs, length-append (parameter_tokens x) (separator_token p.locale ∷ parameters_tokens p xs))
+    ∙ parameter_turn p.locale k found _ (parameters_tokens p xs ++ ts) x (omega (arith, long)) (parameter_reads p.locale x.name x.optional (parameters_tokens p xs ++ ts))
+    ∙ parameters_follow p xs (k - 1) (found ++ x ∷ []) ts (omega (arith, long)) e
+    ∙ rw (append_assoc found (x ∷ []) xs)
 
 pub parameters_complete : (p : Profile) (xs : List Parameter) (ts : List Token) → parameter p.locale ts ≡ None → parameters p.locale (parameters_tokens p xs ++ ts) ≡ Some (xs, ts)
 unfolding parameters
-parameters_complete p xs ts e = parameters_follow p xs (length (parameters_tokens p xs ++ ts)) [] ts (omega (arith, parameters_long p xs, length-append (parameters_tokens p xs) ts)) e
+parameters_complete p xs ts e = parameters_follow p xs (length (parameters_tokens p xs ++ ts)) [] ts (omega (arith, length-append (parameters_tokens p xs) ts)) e

@@ -1,7 +1,7 @@
 -- What may stand after the tokens of a rule without going on with it.
 use Rattle.std.proofs.Common.{◌≡◌, ℕ, suc, ◌<◌, ◌≤◌, Bool, true, false, cond, List, [], ◌∷◌, Option, Some, None, option_and_then, refl, ap, ◌∙◌, arith}
 use Rattle.std.specs.Prelude.{◌==◌}
-use Rattle.std.proofs.lemmas.Bool.{ne_eqb}
+use Rattle.std.proofs.lemmas.Bool.{eq-eqb, ne_eqb}
 use Rattle.std.proofs.lemmas.Bool.Decides.{nat_tests}
 use Rattle.base_tables.specs.declared.Locale.{Locale}
 use Rattle.base_tables.specs.declared.Locale.TheVariants as locale
@@ -46,9 +46,7 @@ ends_sooner k l (x ∷ ts) h e = omega arith
 -- an operator of a tighter or looser level is not one of this level
 own_none : (under : ℕ) (ts : List Token) (o : Option Operator) → suc under < level_of o → with_rest ts (option_and_then (own operator_under under) o) ≡ None
 own_none under ts None h = refl
-own_none under ts (Some op) h =
-    let apart : (operator_under op == under) ≡ false = ne_eqb (operator_under op) under (λ same. omega arith) in
-    ap (λ (b : Bool). with_rest ts (cond b (Some op) None)) apart
+own_none under ts (Some op) h = rw (ne_eqb (operator_under op) under (λ same. omega arith))
 
 pub ends_operator : (under : ℕ) (ts : List Token) → EndsAt (suc under) ts → operator_at under ts ≡ None
 ends_operator under [] h = refl
@@ -80,18 +78,10 @@ pub record Known (op : Operator) : Type 0 where
   pub parts_none : (locale : Locale) → is_separator locale (operator_token op) ≡ false
 
 pub known : (op : Operator) → Known op
-known (operator.Infix (between.Compare compare_kind.Equal)) = record { is = refl; binds_so = refl; parts_none = λ locale. refl }
-known (operator.Infix (between.Sum sum_kind.Add)) = record { is = refl; binds_so = refl; parts_none = λ locale. refl }
-known (operator.Infix (between.Product product_kind.Multiply)) = record { is = refl; binds_so = refl; parts_none = λ locale. refl }
-known (operator.Infix between.Power) = record { is = refl; binds_so = refl; parts_none = λ locale. refl }
-known (operator.Postfix postfix.Percent) = record { is = refl; binds_so = refl; parts_none = λ locale. refl }
-known _ = record { is = refl; binds_so = refl; parts_none = λ locale. refl }
+known op = record { is = grind arith; binds_so = grind arith; parts_none = λ locale. grind arith }
 
 pub operator_reads : (op : Operator) (ts : List Token) → operator_at (operator_under op) (operator_token op ∷ ts) ≡ Some (op, ts)
-operator_reads op ts =
-    let same : (operator_under op == operator_under op) ≡ true = grind (arith, nat_tests) in
-    ap (λ (o : Option Operator). with_rest ts (option_and_then (own operator_under (operator_under op)) o)) (known op).is
-    ∙ ap (λ (b : Bool). with_rest ts (cond b (Some op) None)) same
+operator_reads op ts = rw ((known op).is, eq-eqb (operator_under op) (operator_under op) refl)
 
 -- an operator does not go on with what is tighter
 pub operator_ends : (op : Operator) (ts : List Token) → EndsAt (operator_under op) (operator_token op ∷ ts)

@@ -41,9 +41,7 @@ starts_later k l (x ∷ ts) h e = omega arith
 
 -- a sign has a level above
 other_sign : (under : ℕ) (op : Prefix) → suc (prefix_under op) ≤ under → own prefix_under under op ≡ None
-other_sign under op h =
-    let apart : (prefix_under op == under) ≡ false = ne_eqb (prefix_under op) under (λ same. omega arith) in
-    ap (λ (b : Bool). cond b (Some op) None) apart
+other_sign under op h = rw (ne_eqb (prefix_under op) under (λ same. omega arith))
 
 no_sign : (under : ℕ) (x : Token) → opens x ≤ under → sign_at under x ≡ None
 no_sign under t.Minus h = other_sign under prefix.Minus h
@@ -58,9 +56,7 @@ unsigned under operand [] h = absurd h
 unsigned under operand (x ∷ ts) h = ap (signed_step under operand (operand (x ∷ ts)) (signed under operand ts)) (no_sign under x h)
 
 sign_opens : (op : Prefix) → opens (prefix_token op) ≤ suc (prefix_under op)
-sign_opens prefix.Minus = omega arith
-sign_opens prefix.Plus = omega arith
-sign_opens prefix.At = omega arith
+sign_opens op = grind arith
 
 -- nor the end of an argument
 pub starts_given : (locale : Locale) (ts : List Token) → StartsAt 10 ts → is_empty_here locale ts ≡ false

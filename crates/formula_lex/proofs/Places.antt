@@ -20,7 +20,7 @@ use Rattle.formula_lex.specs.declared.place.Line.{Line}
 use Rattle.formula_lex.specs.declared.place.Side.{Side}
 use Rattle.formula_lex.specs.declared.place.Spot.{Spot}
 use Rattle.formula_lex.specs.Lexicon.{dollar, row_of_name, IsLine, IsColumn, IsRow, IsPair, IsCell, IsSpan, IsRange, cells, columns, rows}
-use Rattle.formula_lex.proofs.Reading.{past_none, Front, if_each, if_over, if_or, if_map, if_then, if_cond, if_more, past_is}
+use Rattle.formula_lex.proofs.Reading.{Front, Brings, nothing, brings, brings_none, brings_each, brings_over, brings_map, brings_then, brings_or, brings_cond, past_none, past_sound}
 use Rattle.formula_lex.specs.declared.place.Side.TheVariants as side
 use Rattle.formula_lex.specs.declared.place.Spot.TheVariants as spot
 
@@ -97,26 +97,25 @@ all_more p q h [] e = refl
 all_more p q h (c ∷ s) e = let k = and_parts (p c) (list_all p s) e in and_from _ _ (h c k.0) (all_more p q h s k.1)
 
 dollar_parts : (text : Text) → text ≡ dollar (dollar_at text).0 ++ (dollar_at text).1
-dollar_parts text = go (past 36 text) (past_is 36 text)
+dollar_parts text = go (past 36 text) (past_sound 36 text)
   where
-    go : (o : Option Text) → MatchOption o (stops (λ c. c == 36) text ≡ true) (λ z. text ≡ 36 ∷ z) → text ≡ dollar (behind_dollar text o).0 ++ (behind_dollar text o).1
+    go : (o : Option Text) → Brings (λ z. text ≡ 36 ∷ z) o → text ≡ dollar (behind_dollar text o).0 ++ (behind_dollar text o).1
     go None e = refl
-    go (Some z) e = e
+    go (Some z) e = e.read
 
 dollar_none : (text : Text) → stops (λ c. c == 36) text ≡ true → dollar_at text ≡ (false, text)
 dollar_none text e = ap (behind_dollar text) (past_none 36 text e)
 
-line_sound : (line_of_name : Text → Option ℤ) (p : ℕ → Bool) (text : Text) → IfSome (line_at line_of_name p text) (λ r. Front (LineIs line_of_name r.0) text r.1)
+line_sound : (line_of_name : Text → Option ℤ) (p : ℕ → Bool) (text : Text) → Brings (λ r. Front (LineIs line_of_name r.0) text r.1) (line_at line_of_name p text)
 unfolding line_at
 line_sound line_of_name p text =
     let d = dollar_at text in
     let s = span p d.1 in
-    if_map (λ (r : Line × Text). Front (LineIs line_of_name r.0) text r.1) (λ n. (record { absolute = d.0; number = n }, s.1)) (line_of_name s.0)
-    (if_each (λ n. Front (IsLine line_of_name d.0 n) text s.1) (line_of_name s.0) (λ n e. record {
+    brings_map _ (line_of_name s.0) (brings_each (line_of_name s.0) (λ n e. e)) (λ n e. record {
       spelled = dollar d.0 ++ s.0;
       parts = dollar_parts text ∙ ap (λ (x : Text). dollar d.0 ++ x) (span_parts p d.1) ∙ sym (append_assoc (dollar d.0) s.0 s.1);
       is = record { name = s.0; parts = refl; named = e };
-    }))
+    })
 
 module _ (line_of_name : Text → Option ℤ) (p : ℕ → Bool) (names : Names line_of_name p) where
   -- the name, and that it begins with no character that a name can't
@@ -202,19 +201,22 @@ IsSide (side.Row l) = LineIs row_of_name l
 pair_parts : (first middle second rest : Text) → (first ++ (middle ++ second)) ++ rest ≡ first ++ (middle ++ (second ++ rest))
 pair_parts first middle second rest = append_assoc first (middle ++ second) rest ∙ ap (λ (x : Text). first ++ x) (append_assoc middle second rest)
 
-corner_sound : (text : Text) → IfSome (corner_at text) (λ r. Front (IsSide r.0) text r.1)
+corner_sound : (text : Text) → Brings (λ r. Front (IsSide r.0) text r.1) (corner_at text)
 unfolding corner_at
 corner_sound text = go (column_at text) (line_sound column_of_name is_letter text)
   where
-    row : (column : Line) (rest : Text) → Front (LineIs column_of_name column) text rest → (o : Option (Line × Text)) → IfSome o (λ r. Front (LineIs row_of_name r.0) rest r.1)
-        → IfSome (with_row column rest o) (λ r. Front (IsSide r.0) text r.1)
-    row column rest f None g = f
-    row column rest f (Some r) g =
-        record { spelled = f.spelled ++ g.spelled; parts = rw (f.parts, g.parts, append_assoc f.spelled g.spelled r.1); is = record { first = f.spelled; second = g.spelled; parts = refl; is_first = f.is; is_second = g.is } }
+    row : (column : Line) (rest : Text) → Front (LineIs column_of_name column) text rest → (o : Option (Line × Text))
+        → Brings (λ r. Front (LineIs row_of_name r.0) rest r.1) o → Brings (λ r. Front (IsSide r.0) text r.1) (with_row column rest o)
+    row column rest f None g = brings f
+    row column rest f (Some r) g = let h = g.read in brings (record {
+      spelled = f.spelled ++ h.spelled;
+      parts = rw (f.parts, h.parts, append_assoc f.spelled h.spelled r.1);
+      is = record { first = f.spelled; second = h.spelled; parts = refl; is_first = f.is; is_second = h.is };
+    })
 
-    go : (o : Option (Line × Text)) → IfSome o (λ r. Front (LineIs column_of_name r.0) text r.1) → IfSome (with_column text o) (λ r. Front (IsSide r.0) text r.1)
-    go None f = if_map (λ r. Front (IsSide r.0) text r.1) (λ r. (side.Row r.0, r.1)) (row_at text) (line_sound row_of_name is_digit text)
-    go (Some c) f = row c.0 c.1 f (row_at c.1) (line_sound row_of_name is_digit c.1)
+    go : (o : Option (Line × Text)) → Brings (λ r. Front (LineIs column_of_name r.0) text r.1) o → Brings (λ r. Front (IsSide r.0) text r.1) (with_column text o)
+    go None f = brings_map _ (row_at text) (line_sound row_of_name is_digit text) (λ r g. g)
+    go (Some c) f = row c.0 c.1 f.read (row_at c.1) (line_sound row_of_name is_digit c.1)
 
 corner_read : (x : Side) (s rest : Text) → IsSide x s → stops goes_on_place rest ≡ true → corner_at (s ++ rest) ≡ Some (x, rest)
 unfolding corner_at
@@ -256,42 +258,29 @@ pub record Placed (Is : Text → Type 0) (text rest : Text) : Type 0 where
   pub is : Is spelled
   pub ends : stops goes_on_place rest ≡ true
 
-between_sound : (a b : Side) (s t : Text) → IsSide a s → IsSide b t → IfSome (between a b) (λ r. IsRange r.0 r.1 (s ++ (58 ∷ t)))
-between_sound (side.Cell a) (side.Cell b) s t f g = cells (record { first = s; second = t; parts = refl; is_first = f; is_second = g })
-between_sound (side.Column a) (side.Column b) s t f g = columns (record { first = s; second = t; parts = refl; is_first = f; is_second = g }) refl refl
-between_sound (side.Row a) (side.Row b) s t f g = rows (record { first = s; second = t; parts = refl; is_first = f; is_second = g }) refl refl
-between_sound _ _ s t f g = tt
+between_sound : (a b : Side) (s t : Text) → IsSide a s → IsSide b t → Brings (λ r. IsRange r.0 r.1 (s ++ (58 ∷ t))) (between a b)
+between_sound (side.Cell a) (side.Cell b) s t f g = brings (cells (record { first = s; second = t; parts = refl; is_first = f; is_second = g }))
+between_sound (side.Column a) (side.Column b) s t f g =
+    brings (columns (record { first = s; second = t; parts = refl; is_first = f; is_second = g }) refl refl)
+between_sound (side.Row a) (side.Row b) s t f g = brings (rows (record { first = s; second = t; parts = refl; is_first = f; is_second = g }) refl refl)
+between_sound _ _ s t f g = nothing
 
-pub range_sound : (a : Side) (s text : Text) → IsSide a s → IfSome (range_behind a text) (λ r. Placed (IsRange r.0.0 r.0.1) (s ++ text) r.1)
+pub range_sound : (a : Side) (s text : Text) → IsSide a s → Brings (λ r. Placed (IsRange r.0.0 r.0.1) (s ++ text) r.1) (range_behind a text)
 unfolding range_behind
-range_sound a s text is = colon (past 58 text) (past_is 58 text)
-  where
-    to : (z : Text) → text ≡ 58 ∷ z → (b : Side) (rest : Text) → Front (IsSide b) z rest → IfSome (range_to a (b, rest)) (λ r. Placed (IsRange r.0.0 r.0.1) (s ++ text) r.1)
-    to z e b rest f = if_cond (λ (r : Marks × Text). Placed (IsRange r.0.0 r.0.1) (s ++ text) r.1) (stops goes_on_place rest) _ None
-        (λ ends. if_over (λ (r : Marks × Text). Placed (IsRange r.0.0 r.0.1) (s ++ text) r.1) (λ x. (x, rest)) (λ r. IsRange r.0 r.1 (s ++ (58 ∷ f.spelled)))
-        (λ x range. record { spelled = s ++ (58 ∷ f.spelled); parts = rw (e, f.parts, append_assoc s (58 ∷ f.spelled) rest); is = range; ends = ends }) (between a b) (between_sound a b s f.spelled is f.is))
-        (λ h. tt)
+range_sound a s text is = brings_then _ _ (past_sound 58 text) (λ z e. brings_then _ _ (corner_sound z) (λ p f. brings_cond (stops goes_on_place p.1) _ _
+    (λ ends. brings_map _ _ (between_sound a p.0 s f.spelled is f.is) (λ x range.
+    record { spelled = s ++ (58 ∷ f.spelled); parts = rw (e, f.parts, append_assoc s (58 ∷ f.spelled) p.1); is = range; ends = ends }))
+    (λ h. nothing)))
 
-    colon : (o : Option Text) → MatchOption o (stops (λ c. c == 58) text ≡ true) (λ z. text ≡ 58 ∷ z)
-        → IfSome (option_and_then (range_to a) (option_and_then corner_at o)) (λ r. Placed (IsRange r.0.0 r.0.1) (s ++ text) r.1)
-    colon None e = tt
-    colon (Some z) e = if_then (λ (r : Marks × Text). Placed (IsRange r.0.0 r.0.1) (s ++ text) r.1) (range_to a) (corner_at z)
-        (if_more (λ p. IfSome (range_to a p) (λ r. Placed (IsRange r.0.0 r.0.1) (s ++ text) r.1)) (λ p. Front (IsSide p.0) z p.1) (λ p f. to z e p.0 p.1 f) (corner_at z) (corner_sound z))
-
-alone_sound : (a : Side) (s text : Text) → IsSide a s → IfSome (cell_alone a text) (λ r. Placed (IsSpot r.0) (s ++ text) r.1)
+alone_sound : (a : Side) (s text : Text) → IsSide a s → Brings (λ r. Placed (IsSpot r.0) (s ++ text) r.1) (cell_alone a text)
 alone_sound (side.Cell mark) s text is =
-    if_cond (λ (r : Spot × Text). Placed (IsSpot r.0) (s ++ text) r.1) (stops goes_on_place text) (Some (spot.Cell mark, text)) None (λ ends. record { spelled = s; parts = refl; is = is; ends = ends }) (λ h. tt)
-alone_sound _ s text is = tt
+    brings_cond (stops goes_on_place text) _ _ (λ ends. brings (record { spelled = s; parts = refl; is = is; ends = ends })) (λ h. nothing)
+alone_sound _ s text is = nothing
 
-pub spot_sound : (text : Text) → IfSome (spot_at text) (λ r. Placed (IsSpot r.0) text r.1)
+pub spot_sound : (text : Text) → Brings (λ r. Placed (IsSpot r.0) text r.1) (spot_at text)
 unfolding spot_at
-spot_sound text =
-    if_then (λ (r : Spot × Text). Placed (IsSpot r.0) text r.1) behind_corner (corner_at text)
-    (if_more (λ p. IfSome (behind_corner p) (λ r. Placed (IsSpot r.0) text r.1)) (λ p. Front (IsSide p.0) text p.1)
-    (λ p f. subst (λ (x : Text). IfSome (behind_corner p) (λ r. Placed (IsSpot r.0) x r.1)) (sym f.parts)
-    (if_or (λ (r : Spot × Text). Placed (IsSpot r.0) (f.spelled ++ p.1) r.1) (ranged (range_behind p.0 p.1)) (cell_alone p.0 p.1)
-    (if_map (λ (r : Spot × Text). Placed (IsSpot r.0) (f.spelled ++ p.1) r.1) (λ r. (spot.Range r.0.0 r.0.1, r.1)) (range_behind p.0 p.1) (range_sound p.0 f.spelled p.1 f.is)) (alone_sound p.0 f.spelled p.1 f.is)))
-    (corner_at text) (corner_sound text))
+spot_sound text = brings_then _ _ (corner_sound text) (λ p f. rw f.parts
+    (brings_or _ _ _ (range_sound p.0 f.spelled p.1 f.is) (λ r g. g) (λ h. alone_sound p.0 f.spelled p.1 f.is)))
 
 span_read : (a b : Side) (x : Marks) (s rest : Text) → between a b ≡ Some x → IsSpan (IsSide a) (IsSide b) s → stops goes_on_place rest ≡ true → spot_at (s ++ rest) ≡ Some (spot.Range x.0 x.1, rest)
 unfolding spot_at range_behind
@@ -375,8 +364,5 @@ unmarked_goes_on (c ∷ word) tail (d ∷ s) rest w n e ends =
     unmarked_goes_on word tail s rest (and_parts (goes_on_word c) (list_all goes_on_word word) w).1 (and_parts (no_mark d) (list_all no_mark s) n).1 (cc) ends
 
 pub word_no_spot : (word tail : Text) → list_all goes_on_word word ≡ true → spot_at (word ++ (33 ∷ tail)) ≡ None
-word_no_spot word tail w = go (spot_at (word ++ (33 ∷ tail))) (spot_sound (word ++ (33 ∷ tail)))
-  where
-    go : (o : Option (Spot × Text)) → IfSome o (λ r. Placed (IsSpot r.0) (word ++ (33 ∷ tail)) r.1) → o ≡ None
-    go None f = refl
-    go (Some r) f = absurd (unmarked_goes_on word tail f.spelled r.1 w (spot_unmarked r.0 f.spelled f.is) f.parts f.ends)
+word_no_spot word tail w = brings_none _ (spot_sound (word ++ (33 ∷ tail))) (λ r f.
+    unmarked_goes_on word tail f.spelled r.1 w (spot_unmarked r.0 f.spelled f.is) f.parts f.ends)

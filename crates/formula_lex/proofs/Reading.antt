@@ -27,37 +27,50 @@ pub record Front (Is : Text → Type 0) (text rest : Text) : Type 0 where
   pub parts : text ≡ spelled ++ rest
   pub is : Is spelled
 
-module _ {A : Type 0} (P : A → Type 0) where
-  pub if_each : (o : Option A) → ((a : A) → o ≡ Some a → P a) → IfSome o P
-  if_each None h = tt
-  if_each (Some a) h = h a refl
+-- if something is read, it is so
+pub record Brings {A : Type 0} (P : A → Type 0) (o : Option A) : Type 0 where
+  pub read : IfSome o P
 
-  pub if_at : (o : Option A) (a : A) → IfSome o P → o ≡ Some a → P a
-  if_at None a h e = absurd cc
-  if_at (Some b) a h e = let is : b ≡ a = cc in subst P is h
+module _ {A : Type 0} {P : A → Type 0} where
+  pub nothing : Brings P None
+  nothing = record { read = tt }
 
-  pub if_or : (o other : Option A) → IfSome o P → IfSome other P → IfSome (option_or o other) P
-  if_or None other f g = g
-  if_or (Some a) other f g = f
+  pub brings : {a : A} → P a → Brings P (Some a)
+  brings h = record { read = h }
 
-  pub if_map : {B : Type 0} (f : B → A) (o : Option B) → IfSome o (λ b. P (f b)) → IfSome (option_map f o) P
-  if_map f None h = tt
-  if_map f (Some b) h = h
+  pub brings_at : (o : Option A) (a : A) → Brings P o → o ≡ Some a → P a
+  brings_at None a h e = absurd cc
+  brings_at (Some b) a h e = let is : b ≡ a = cc in subst P is h.read
 
-  pub if_then : {B : Type 0} (f : B → Option A) (o : Option B) → IfSome o (λ b. IfSome (f b) P) → IfSome (option_and_then f o) P
-  if_then f None h = tt
-  if_then f (Some b) h = h
+  -- nothing is read where nothing could be
+  pub brings_none : (o : Option A) → Brings P o → ((a : A) → P a → ⊥) → o ≡ None
+  brings_none None h never = refl
+  brings_none (Some a) h never = absurd (never a h.read)
 
-  pub if_cond : (b : Bool) (o other : Option A) → (b ≡ true → IfSome o P) → (b ≡ false → IfSome other P) → IfSome (cond b o other) P
-  if_cond b o other = cond_both b o other (λ x. IfSome x P)
+  pub brings_each : (o : Option A) → ((a : A) → o ≡ Some a → P a) → Brings P o
+  brings_each None k = nothing
+  brings_each (Some a) k = brings (k a refl)
 
-  pub if_over : {B : Type 0} (f : B → A) (Q : B → Type 0) → ((b : B) → Q b → P (f b)) → (o : Option B) → IfSome o Q → IfSome (option_map f o) P
-  if_over f Q h None q = tt
-  if_over f Q h (Some b) q = h b q
+  pub brings_over : {Q : A → Type 0} (o : Option A) → Brings Q o → ((a : A) → Q a → P a) → Brings P o
+  brings_over None h k = nothing
+  brings_over (Some a) h k = brings (k a h.read)
 
-  pub if_more : (Q : A → Type 0) → ((a : A) → Q a → P a) → (o : Option A) → IfSome o Q → IfSome o P
-  if_more Q h None f = tt
-  if_more Q h (Some a) f = h a f
+  pub brings_map : {B : Type 0} {Q : B → Type 0} (f : B → A) (o : Option B) → Brings Q o → ((b : B) → Q b → P (f b)) → Brings P (option_map f o)
+  brings_map f None h k = nothing
+  brings_map f (Some b) h k = brings (k b h.read)
+
+  pub brings_then : {B : Type 0} {Q : B → Type 0} (f : B → Option A) (o : Option B) → Brings Q o → ((b : B) → Q b → Brings P (f b))
+      → Brings P (option_and_then f o)
+  brings_then f None h k = nothing
+  brings_then f (Some b) h k = k b h.read
+
+  pub brings_or : {B : Type 0} {Q : B → Type 0} (f : B → A) (o : Option B) (other : Option A) → Brings Q o → ((b : B) → Q b → P (f b))
+      → (o ≡ None → Brings P other) → Brings P (option_or (option_map f o) other)
+  brings_or f None other h k more = more refl
+  brings_or f (Some b) other h k more = brings (k b h.read)
+
+  pub brings_cond : (b : Bool) (o other : Option A) → (b ≡ true → Brings P o) → (b ≡ false → Brings P other) → Brings P (cond b o other)
+  brings_cond b o other = cond_both b o other (Brings P)
 
 pub cond_some : {A : Type 0} (b : Bool) (o : Option A) (a : A) → cond b o None ≡ Some a → (b ≡ true) × (o ≡ Some a)
 cond_some true o a e = (refl, e)
@@ -71,27 +84,25 @@ same c = grind (arith, nat_tests)
 pub past_read : (mark : ℕ) (text : Text) → past mark (mark ∷ text) ≡ Some text
 past_read mark text = ap (λ (b : Bool). cond b (Some text) None) (same mark)
 
-pub past_is : (mark : ℕ) (text : Text) → MatchOption (past mark text) (stops (λ c. c == mark) text ≡ true) (λ rest. text ≡ mark ∷ rest)
-past_is mark [] = refl
-past_is mark (c ∷ text) =
-    cond_both (c == mark) (Some text) None (λ o. MatchOption o (not (c == mark) ≡ true) (λ rest. c ∷ text ≡ mark ∷ rest)) (λ e. ap (λ (d : ℕ). d ∷ text) (eqb-true c mark e)) (λ e. ap not e)
+pub past_sound : (mark : ℕ) (text : Text) → Brings (λ rest. text ≡ mark ∷ rest) (past mark text)
+past_sound mark [] = nothing
+past_sound mark (c ∷ text) = brings_cond (c == mark) (Some text) None (λ e. brings (rw (eqb-true c mark e))) (λ h. nothing)
 
 pub past_none : (mark : ℕ) (text : Text) → stops (λ c. c == mark) text ≡ true → past mark text ≡ None
 past_none mark [] e = refl
 past_none mark (c ∷ text) e = rw (not_true (c == mark) e)
 
+pub past_stops : (mark : ℕ) (text : Text) → past mark text ≡ None → stops (λ c. c == mark) text ≡ true
+past_stops mark [] e = refl
+past_stops mark (c ∷ text) e = ap not (false_from_ne_true (c == mark) (λ h. (let f = rw h at e in absurd cc)))
+
 pub strip_read : (name rest : Text) → strip name (name ++ rest) ≡ Some rest
 strip_read [] rest = refl
 strip_read (c ∷ name) rest = ap (option_and_then (strip name)) (past_read c (name ++ rest)) ∙ strip_read name rest
 
-strip_by : (c : ℕ) (name text : Text) → ((z : Text) → IfSome (strip name z) (λ rest. z ≡ name ++ rest)) → (o : Option Text) → MatchOption o (stops (λ d. d == c) text ≡ true) (λ z. text ≡ c ∷ z)
-    → IfSome (option_and_then (strip name) o) (λ rest. text ≡ c ∷ (name ++ rest))
-strip_by c name text again None h = tt
-strip_by c name text again (Some z) h = if_more (λ rest. text ≡ c ∷ (name ++ rest)) (λ rest. z ≡ name ++ rest) (λ rest e. h ∙ ap (λ (x : Text). c ∷ x) e) (strip name z) (again z)
-
-pub strip_is : (name text : Text) → IfSome (strip name text) (λ rest. text ≡ name ++ rest)
-strip_is [] text = refl
-strip_is (c ∷ name) text = strip_by c name text (strip_is name) (past c text) (past_is c text)
+pub strip_sound : (name text : Text) → Brings (λ rest. text ≡ name ++ rest) (strip name text)
+strip_sound [] text = brings refl
+strip_sound (c ∷ name) text = brings_then _ _ (past_sound c text) (λ z e. brings_over _ (strip_sound name z) (λ rest f. rw (e, f)))
 
 -- ---- a text is read character by character, and cut between two
 
@@ -143,12 +154,9 @@ pub ruleset encoded = (encodes-chars, chars_past_char)
 -- ---- what the functions on the texts of errors need
 
 pub stripped : (name text : Text) (r : Option (Bor Text)) → IsUtf8 name → IsUtf8 text → MatchOption r (FindsTextPrefix name text None) (λ x. StripsPrefix (FindsTextPrefix name) text x.now) → left r ≡ strip (chars name) (chars text)
-stripped name text None u v h = go (strip (chars name) (chars text)) (strip_is (chars name) (chars text))
-  where
-    go : (o : Option Text) → IfSome o (λ rest. chars text ≡ chars name ++ rest) → None ≡ o
-    go None f = refl
-    go (Some rest) f =
-        absurd (h (encode_utf8_all rest) (sym (encodes-chars text v) ∙ ap encode_utf8_all f ∙ encodes-append (chars name) rest ∙ ap (λ (x : Text). x ++ encode_utf8_all rest) (encodes-chars name u)))
+stripped name text None u v h = sym (brings_none _ (strip_sound (chars name) (chars text)) (λ rest f.
+    h (encode_utf8_all rest) (sym (encodes-chars text v) ∙ ap encode_utf8_all f ∙ encodes-append (chars name) rest
+    ∙ ap (λ (x : Text). x ++ encode_utf8_all rest) (encodes-chars name u))))
 stripped name text (Some x) u v h =
     let e : text ≡ name ++ x.now = h.1.1 ∙ ap (λ (y : Text). name ++ y) (sym h.2) in
     sym (ap (strip (chars name)) (ap chars e ∙ chars-append name x.now u) ∙ strip_read (chars name) (chars x.now))
@@ -186,19 +194,14 @@ abbrev pub after : Text → Option (Text × Text) → Option (Text × Text)
 after front = option_map (λ p. (front ++ p.0, p.1))
 
 pub quoted_start : (quote : ℕ) (z : Text) → quoted_text quote z ≡ after [] (quoted_text quote z)
-quoted_start quote z = go (quoted_text quote z)
-  where
-    go : (o : Option (Text × Text)) → o ≡ after [] o
-    go None = refl
-    go (Some p) = refl
+quoted_start quote z = grind arith
 
 pub quoted_more : (quote : ℕ) (front : Text) (c : ℕ) (z rest : Text) → quoted quote false z ≡ in_front c (quoted quote false rest) → after front (quoted_text quote z) ≡ after (front ++ encode_utf8 c) (quoted_text quote rest)
 unfolding quoted_text
 quoted_more quote front c z rest e = rw e (go (quoted quote false rest))
   where
     go : (o : Option (Text × Text)) → after front (option_map (λ p. (encode_utf8_all p.0, p.1)) (in_front c o)) ≡ after (front ++ encode_utf8 c) (option_map (λ p. (encode_utf8_all p.0, p.1)) o)
-    go None = refl
-    go (Some p) = ap (λ (x : Text). let q : Text × Text = (x, p.1) in Some q) (sym (append_assoc front (encode_utf8 c) (encode_utf8_all p.0)))
+    go o = grind (arith, append_assoc)
 
 pub quoted_end : (quote : ℕ) (front z rest : Text) → quoted quote false z ≡ Some ([], rest) → after front (quoted_text quote z) ≡ Some (front, rest)
 unfolding quoted_text

@@ -4,7 +4,7 @@ use Rattle.std.specs.Prelude.{not, ◌==◌, ◌&&◌, ◌||◌, nat_lt, encode_
 use Rattle.std.specs.List.{list_all}
 use Rattle.std.specs.Option.{option_and_then, option_map}
 use Rattle.std.specs.Str.{IsAscii}
-use Rattle.std.proofs.lemmas.Bool.{and_parts, or_left, or_right, ltb-true, eqb-true}
+use Rattle.std.proofs.lemmas.Bool.{cond_both, and_parts, or_left, or_right, ltb-true, eqb-true}
 use Rattle.std.proofs.lemmas.Bool.Decides.{nat_tests}
 use Rattle.std.proofs.lemmas.Str.{encodes_same, encodes-IsAscii}
 use Rattle.std.proofs.UnicodeAscii.{is_alphabetic_ascii}
@@ -35,8 +35,8 @@ use Rattle.formula_grammar.specs.declared.Token.{Token}
 use Rattle.formula_grammar.specs.declared.Token.TheVariants as t
 use Rattle.formula_lex.specs.Characters.{Text, goes_on_number, twice, doubled}
 use Rattle.formula_lex.specs.Lexicon.{starts_digit, IsNumber}
-use Rattle.formula_lex.specs.laws.Lex.{in_number, number_span, number_of, number_at, past, strip, english_error, own_text, own_error, error_at, quoted, in_front}
-use Rattle.formula_lex.proofs.Reading.{if_over, past_none, quoted_close, cond_some, if_map, if_each, same, Front, if_or, if_more, strip_is, if_cond}
+use Rattle.formula_lex.specs.laws.Lex.{in_number, number_span, number_of, number_at, past, strip, english_error, own_text, own_error, error_at, quoted, quoted_text, in_front}
+use Rattle.formula_lex.proofs.Reading.{Front, Brings, nothing, brings, brings_each, brings_over, brings_map, brings_then, brings_or, brings_cond, past_none, quoted_close, cond_some, same, strip_sound}
 
 -- ---- a number is read just where one is spelled
 
@@ -47,17 +47,13 @@ module _ (locale : Locale) where
   in_number_stops true c e = grind (arith, nat_tests)
   in_number_stops false c e = e
 
-  abbrev span_by : Text × Text → ℕ → Text → Bool → Text × Text
-  span_by s c text b = cond b (c ∷ s.0, s.1) ([], c ∷ text)
-
-  pub number_span_is : (after : Bool) (text : Text) → (text ≡ (number_span locale after text).0 ++ (number_span locale after text).1) × (stops (goes_on_number locale) (number_span locale after text).1 ≡ true)
+  pub number_span_is : (after : Bool) (text : Text)
+      → (text ≡ (number_span locale after text).0 ++ (number_span locale after text).1) × (stops (goes_on_number locale) (number_span locale after text).1 ≡ true)
   number_span_is after [] = (refl, refl)
-  number_span_is after (c ∷ text) = go (number_span locale (is_exponent_letter c) text) (number_span_is (is_exponent_letter c) text) (in_number locale after c) refl
-    where
-      go : (s : Text × Text) → (text ≡ s.0 ++ s.1) × (stops (goes_on_number locale) s.1 ≡ true) → (b : Bool) → in_number locale after c ≡ b
-          → (c ∷ text ≡ (span_by s c text b).0 ++ (span_by s c text b).1) × (stops (goes_on_number locale) (span_by s c text b).1 ≡ true)
-      go s again true e = (ap (λ (x : Text). c ∷ x) again.0, again.1)
-      go s again false e = (refl, ap not (in_number_stops after c e))
+  number_span_is after (c ∷ text) =
+      let again = number_span_is (is_exponent_letter c) text in
+      cond_both (in_number locale after c) _ _ (λ (s : Text × Text). (c ∷ text ≡ s.0 ++ s.1) × (stops (goes_on_number locale) s.1 ≡ true))
+      (λ e. (ap (λ (x : Text). c ∷ x) again.0, again.1)) (λ e. (refl, ap not (in_number_stops after c e)))
 
   digit_goes_on : (c : ℕ) → is_digit c ≡ true → goes_on_number locale c ≡ true
   digit_goes_on c e = or_left (goes_on_word c) (c == decimal_sign locale) (or_right (is_alphabetic c) _ (or_left (is_digit c) (c == 95 || c == 46) e))
@@ -70,15 +66,14 @@ module _ (locale : Locale) where
   abbrev pub FrontNumber : Text → Token × Text → Type 0
   FrontNumber text r = (number : Decimal) × (r.0 ≡ t.Number number) × Front (IsNumber locale number) text r.1 × (stops (goes_on_number locale) r.1 ≡ true)
 
-  pub number_sound : (c : ℕ) (text : Text) → is_digit c ≡ true → IfSome (number_at locale (c ∷ text)) (FrontNumber (c ∷ text))
+  pub number_sound : (c : ℕ) (text : Text) → is_digit c ≡ true → Brings (FrontNumber (c ∷ text)) (number_at locale (c ∷ text))
   unfolding number_at
   number_sound c text digit =
       let s = number_span locale false (c ∷ text) in
       let h = number_span_is false (c ∷ text) in
-      let starts : starts_digit s.0 ≡ true = ap (λ (b : Bool). starts_digit (span_by (number_span locale (is_exponent_letter c) text) c text b).0) (digit_in false c digit) ∙ digit in
-      if_map (FrontNumber (c ∷ text)) (λ number. (t.Number number, s.1)) (decimal_of (decimal_sign locale) (encode_utf8_all s.0))
-      (if_each (λ number. FrontNumber (c ∷ text) (t.Number number, s.1)) (decimal_of (decimal_sign locale) (encode_utf8_all s.0)) (λ number e.
-      (number, refl, record { spelled = s.0; parts = h.0; is = record { starts = starts; reads = reads_found (decimal_sign locale) (encode_utf8_all s.0) number e } }, h.1)))
+      let starts : starts_digit s.0 ≡ true = rw (digit_in false c digit) digit in
+      brings_map _ _ (brings_each (decimal_of (decimal_sign locale) (encode_utf8_all s.0)) (λ number e. e)) (λ number e.
+      (number, refl, record { spelled = s.0; parts = h.0; is = record { starts = starts; reads = reads_found (decimal_sign locale) (encode_utf8_all s.0) number e } }, h.1))
 
   -- ---- what is spelled is read
 
@@ -188,39 +183,24 @@ unfolding encode
 error_encoded Ref = refl
 error_encoded _ = refl
 
--- the error, and what follows its text
-abbrev found : Error → Option Text → Option (Error × Text)
-found error = option_map (λ rest. (error, rest))
+name_sound : (language : Language) (error : Error) (name text : Text) → Is language error name → Brings (Front (Is language error) text) (strip name text)
+name_sound language error name text is = brings_over _ (strip_sound name text) (λ rest e. record { spelled = name; parts = e; is = is })
 
-name_sound : (language : Language) (error : Error) (name text : Text) → Is language error name → IfSome (found error (strip name text)) (λ r. Front (Is language r.0) text r.1)
-name_sound language error name text is =
-    if_over (λ r. Front (Is language r.0) text r.1) (λ rest. (error, rest)) (λ rest. text ≡ name ++ rest) (λ rest e. record { spelled = name; parts = e; is = is }) (strip name text) (strip_is name text)
+english_sound : (language : Language) (errors : List Error) (text : Text) → Brings (λ r. Front (Is language r.0) text r.1) (english_error errors text)
+english_sound language [] text = nothing
+english_sound language (error ∷ errors) text = brings_or _ _ _ (name_sound language error (error_text error) text
+    (ap (error_of_text language) (error_encoded error) ∙ error_of_text-error_text language error)) (λ rest f. f) (λ h. english_sound language errors text)
 
-english_sound : (language : Language) (errors : List Error) (text : Text) → IfSome (english_error errors text) (λ r. Front (Is language r.0) text r.1)
-english_sound language [] text = tt
-english_sound language (error ∷ errors) text =
-    if_or (λ r. Front (Is language r.0) text r.1) (found error (strip (error_text error) text)) (english_error errors text)
-    (name_sound language error (error_text error) text (ap (error_of_text language) (error_encoded error) ∙ error_of_text-error_text language error)) (english_sound language errors text)
-
-own_is : (language : Language) → IfSome (own_text language) (λ name. Is language Ref name)
+own_is : (language : Language) → Brings (λ name. Is language Ref name) (own_text language)
 unfolding encode
-own_is En = tt
-own_is De = refl
-own_is Fr = tt
-own_is Es = refl
+own_is De = brings refl
+own_is Es = brings refl
+own_is _ = nothing
 
-own_sound : (language : Language) (text : Text) → IfSome (found Ref (own_error language text)) (λ r. Front (Is language r.0) text r.1)
-own_sound language text = go (own_text language) (own_is language)
-  where
-    go : (o : Option Text) → IfSome o (λ name. Is language Ref name) → IfSome (found Ref (option_and_then (λ name. strip name text) o)) (λ r. Front (Is language r.0) text r.1)
-    go None e = tt
-    go (Some name) e = name_sound language Ref name text e
-
-pub error_sound : (language : Language) (text : Text) → IfSome (error_at language text) (λ r. Front (Is language r.0) text r.1)
+pub error_sound : (language : Language) (text : Text) → Brings (λ r. Front (Is language r.0) text r.1) (error_at language text)
 unfolding error_at
 error_sound language text =
-    if_or (λ r. Front (Is language r.0) text r.1) (found Ref (own_error language text)) (english_error all_errors text)
-    (own_sound language text) (english_sound language all_errors text)
+    brings_or _ _ _ (brings_then _ _ (own_is language) (λ name is. name_sound language Ref name text is)) (λ rest f. f) (λ h. english_sound language all_errors text)
 
 -- ---- what is spelled is read: no text of an error begins another
 
@@ -234,10 +214,9 @@ english_read _ _ rest = refl
 
 own_read : (language : Language) (s rest : Text) → is_own_reference_error language (encode_utf8_all s) ≡ true → error_at language (s ++ rest) ≡ Some (Ref, rest)
 unfolding error_at encode
-own_read En s rest e = absurd cc
 own_read De s rest e = rw (← encodes_same (codes "#BEZUG!") s ((bytes_decides _ _).0 e))
-own_read Fr s rest e = absurd cc
 own_read Es s rest e = rw (← encodes_same (35 ∷ 161 ∷ codes "REF!") s ((bytes_decides _ _).0 e))
+own_read _ s rest e = absurd cc
 
 named : (language : Language) (s rest : Text) (error : Error) (own : Bool) → is_own_reference_error language (encode_utf8_all s) ≡ own
     → cond own (Some Ref) (entry_named error_text all_errors (encode_utf8_all s)) ≡ Some error → error_at language (s ++ rest) ≡ Some (error, rest)
@@ -262,11 +241,8 @@ error_none _ text e = rw e
 -- ---- what is spelled is read
 
 twice_read : (quote c : ℕ) (z : Text) → quoted quote false (twice quote c ++ z) ≡ in_front c (quoted quote false z)
-twice_read quote c z = go (c == quote) refl
-  where
-    go : (b : Bool) → (c == quote) ≡ b → quoted quote false (cond b (quote ∷ quote ∷ []) (c ∷ []) ++ z) ≡ in_front c (quoted quote false z)
-    go true e = rw (same quote) (ap (λ (d : ℕ). in_front d (quoted quote false z)) (sym (eqb-true c quote e)))
-    go false e = rw e
+twice_read quote c z = cond_both (c == quote) _ _ (λ t. quoted quote false (t ++ z) ≡ in_front c (quoted quote false z))
+    (λ e. rw (same quote, eqb-true c quote e)) (λ e. rw e)
 
 pub quoted_read : (quote : ℕ) (x rest : Text) → stops (λ c. c == quote) rest ≡ true → quoted quote false (doubled quote x ++ (quote ∷ rest)) ≡ Some (x, rest)
 quoted_read quote [] rest e = rw (same quote) (quoted_close quote rest (past_none quote rest e))
@@ -280,21 +256,16 @@ pub record Closes (quote : ℕ) (behind : Bool) (text x rest : Text) : Type 0 wh
   pub parts : cond behind (quote ∷ text) text ≡ doubled quote x ++ (quote ∷ rest)
   pub ends : stops (λ c. c == quote) rest ≡ true
 
-one_more : (quote c : ℕ) (text x rest : Text) (b : Bool) → (c == quote) ≡ b → Closes quote false text x rest → cond b (quote ∷ quote ∷ text) (c ∷ text) ≡ doubled quote (c ∷ x) ++ (quote ∷ rest)
-one_more quote c text x rest true e f = rw e (ap (λ (y : Text). quote ∷ quote ∷ y) f.parts)
-one_more quote c text x rest false e f = rw e (ap (λ (y : Text). c ∷ y) f.parts)
+quoted_sound : (quote : ℕ) (behind : Bool) (text : Text) → Brings (λ r. Closes quote behind text r.0 r.1) (quoted quote behind text)
+quoted_sound quote false [] = nothing
+quoted_sound quote true [] = brings (record { parts = refl; ends = refl })
+quoted_sound quote false (c ∷ text) = brings_cond (c == quote) _ _
+    (λ e. brings_over _ (quoted_sound quote true text) (λ r f. record { parts = rw (eqb-true c quote e) f.parts; ends = f.ends }))
+    (λ e. brings_map _ _ (quoted_sound quote false text) (λ r f. record { parts = rw (e, f.parts); ends = f.ends }))
+quoted_sound quote true (c ∷ text) = brings_cond (c == quote) _ _
+    (λ e. brings_map _ _ (quoted_sound quote false text) (λ r f. record { parts = rw (eqb-true c quote e, same quote, f.parts); ends = f.ends }))
+    (λ e. brings (record { parts = refl; ends = ap not e }))
 
-pub quoted_sound : (quote : ℕ) (behind : Bool) (text : Text) → IfSome (quoted quote behind text) (λ r. Closes quote behind text r.0 r.1)
-quoted_sound quote false [] = tt
-quoted_sound quote true [] = record { parts = refl; ends = refl }
-quoted_sound quote false (c ∷ text) =
-    if_cond (λ r. Closes quote false (c ∷ text) r.0 r.1) (c == quote) (quoted quote true text) (in_front c (quoted quote false text))
-    (λ e. if_more (λ r. Closes quote false (c ∷ text) r.0 r.1) (λ r. Closes quote true text r.0 r.1)
-    (λ r f. record { parts = ap (λ (d : ℕ). d ∷ text) (eqb-true c quote e) ∙ f.parts; ends = f.ends }) (quoted quote true text) (quoted_sound quote true text))
-    (λ e. if_over (λ r. Closes quote false (c ∷ text) r.0 r.1) (λ r. (c ∷ r.0, r.1)) (λ r. Closes quote false text r.0 r.1)
-    (λ r f. record { parts = one_more quote c text r.0 r.1 false e f; ends = f.ends }) (quoted quote false text) (quoted_sound quote false text))
-quoted_sound quote true (c ∷ text) =
-    if_cond (λ r. Closes quote true (c ∷ text) r.0 r.1) (c == quote) (in_front quote (quoted quote false text)) (Some ([], c ∷ text))
-    (λ e. if_over (λ r. Closes quote true (c ∷ text) r.0 r.1) (λ r. (quote ∷ r.0, r.1)) (λ r. Closes quote false text r.0 r.1)
-    (λ r f. record { parts = ap (λ (d : ℕ). quote ∷ d ∷ text) (eqb-true c quote e) ∙ one_more quote quote text r.0 r.1 true (same quote) f; ends = f.ends }) (quoted quote false text) (quoted_sound quote false text))
-    (λ e. record { parts = refl; ends = ap not e })
+pub quoted_text_sound : (quote : ℕ) (text : Text) → Brings (λ r. (x : Text) × (r.0 ≡ encode_utf8_all x) × Closes quote false text x r.1) (quoted_text quote text)
+unfolding quoted_text
+quoted_text_sound quote text = brings_map _ _ (quoted_sound quote false text) (λ r f. (r.0, refl, f))

@@ -27,12 +27,11 @@ use Rattle.formula_grammar.specs.Words.{are_even, separator_token, is_lambda, ca
 use Rattle.formula_grammar.specs.Grammar as G
 use Rattle.formula_grammar.specs.Grammar.{Expression, Lambda, Arguments, Argument, parameters_tokens, rows_tokens, rows_lines, expression_tokens, lambda_tokens, arguments_tokens, argument_tokens, passed, expression_tree, lambda_tree, arguments_trees, argument_tree, expression_open, lambda_open, arguments_open, argument_open}
 use Rattle.formula_grammar.specs.laws.Reading.{Outcome, Parser, and_then, ◌>>=◌, ◌>>◌, pure, with_rest, make, operator_of, operator_under, own, operator_at, sign_at, make_signed, signed_step, signed, opening, closing, separator, is_empty_here, chain_from, parameters, reference_at, range_at, enclosed, argument, arguments_from, arguments_by, arguments, function, lambda_turn, lambda, call, primary, turn, expression, whole}
-use Rattle.formula_grammar.proofs.Depths.{depth_called, depth_infix, depth_postfix, depth_prefix, made-shallow}
-use Rattle.formula_grammar.proofs.Chains.{chain_starts, chain_turns, chain_closes, chain_never}
+use Rattle.formula_grammar.proofs.Depths.{depth_called, depth_infix, depth_postfix, depth_prefix, made-shallow, expression_turns, lambda_turns, expression_turns-lt, lambda_turns-lt}
+use Rattle.formula_grammar.proofs.Steps.{chain_starts, chain_turns, chain_closes, chain_never}
 use Rattle.formula_grammar.proofs.Follow.{EndsAt, ends_sooner, ends_operator, ends_lambda, ends_word, ends_at_separator, operator_reads, operator_ends, separates}
 use Rattle.formula_grammar.proofs.Starts.{unsigned, starts_given, starts_no_close, begins}
-use Rattle.formula_grammar.proofs.Turns.{expression_turns, lambda_turns, expression_turns-lt, lambda_turns-lt}
-use Rattle.formula_grammar.proofs.Constants.{array_complete, parameters_complete}
+use Rattle.formula_grammar.proofs.Lists.{array_complete, parameters_complete}
 use Rattle.formula_grammar.proofs.Loops.{deeper, whole_steps}
 
 -- the limits leave room for what opens so many parentheses, and is so deep
@@ -40,63 +39,6 @@ pub record Fits (nesting room opened depth : ℕ) : Type 0 where
   pub within : opened ≤ room
   pub nested : opened + depth ≤ nesting
   pub shallow : depth ≤ 64
-
--- ---- each rule by itself
-
-enclosed_reads : (p : Profile) (inner : ℕ → Parser Node) (room : ℕ) (ts rest : List Token) (tree : Node) → 0 < room → inner (room - 1) ts ≡ Some (tree, t.CloseParenthesis ∷ rest)
-    → primary p inner room (t.OpenParenthesis ∷ ts) ≡ Some (tree, rest)
-unfolding primary enclosed
-enclosed_reads p inner room ts rest tree h e = rw (ne_eqb room 0 (λ none. omega arith), e)
-
-array_reads : {p : Profile} (inner : ℕ → Parser Node) (room : ℕ) (rows : G.Rows p) (r : List Token) → are_even (rows_lines rows) ≡ true
-    → primary p inner room (t.OpenBrace ∷ (rows_tokens rows ++ t.CloseBrace ∷ []) ++ r) ≡ Some (n.Array (rows_lines rows), r)
-unfolding primary
-array_reads inner room rows r even = array_complete rows r even
-
-call_reads : (p : Profile) (inner : ℕ → Parser Node) (room : ℕ) (word : List ℕ) (ts rest : List Token) (all : List Node) → is_lambda word ≡ false → arguments p inner room ts ≡ Some (all, rest)
-    → depth_of (called p.language word all) ≤ 64 → primary p inner room (t.Word word ∷ t.OpenParenthesis ∷ ts) ≡ Some (called p.language word all, rest)
-unfolding primary call
-call_reads p inner room word ts rest all is e h = rw (is, e, made-shallow (called p.language word all) h)
-
-function_reads : (p : Profile) (inner : ℕ → Parser Node) (room : ℕ) (ts mid rest : List Token) (all : List Parameter) (body : Node) → parameters p.locale ts ≡ Some (all, mid)
-    → inner room mid ≡ Some (body, t.CloseParenthesis ∷ rest) → depth_of (n.Lambda all body) ≤ 64 → function p inner room ts ≡ Some (n.Lambda all body, rest)
-unfolding function
-function_reads p inner room ts mid rest all body e f h = rw (e, f, made-shallow (n.Lambda all body) h)
-
-lambda_reads : (p : Profile) (inner : ℕ → Parser Node) (room k : ℕ) (word : List ℕ) (ts rest : List Token) (tree : Node) → is_lambda word ≡ true → function p inner room ts ≡ Some (tree, rest) → 64 ≡ k
-    → primary p inner room (t.Word word ∷ t.OpenParenthesis ∷ ts) ≡ chain_from opening (lambda_turn p inner room) k tree rest
-unfolding primary call lambda
-lambda_reads p inner room k word ts rest tree is e k-is =
-    rw is (chain_starts opening (lambda_turn p inner room) (function p inner room ts) tree rest k e k-is)
-
-empty_reads : (p : Profile) (inner : ℕ → Parser Node) (room : ℕ) (ts : List Token) → is_empty_here p.locale ts ≡ true → argument p inner room ts ≡ Some (n.EmptyArgument, ts)
-unfolding argument
-empty_reads p inner room ts e = rw e
-
-given_reads : (p : Profile) (inner : ℕ → Parser Node) (room : ℕ) (ts : List Token) (o : Outcome Node) → is_empty_here p.locale ts ≡ false → inner room ts ≡ o → argument p inner room ts ≡ o
-unfolding argument
-given_reads p inner room ts o e f = rw e f
-
--- after an argument
-abbrev tail : Profile → (ℕ → Parser Node) → ℕ → ℕ → List Node → Parser (List Node)
-tail p inner room k found = separator p.locale >>= (λ goes_on. cond goes_on (arguments_from p inner room k found) (pure found))
-
-turn_reads : (p : Profile) (inner : ℕ → Parser Node) (room k : ℕ) (found : List Node) (ts rest : List Token) (x : Node) → 0 < k → argument p inner room ts ≡ Some (x, rest)
-    → arguments_from p inner room k found ts ≡ tail p inner room (k - 1) (found ++ x ∷ []) rest
-unfolding arguments_from
-turn_reads p inner room k found ts rest x h e = deeper (λ j. arguments_from p inner room j found ts) k h ∙ rw e
-
--- at a separator the list goes on
-tail_reads : (p : Profile) (inner : ℕ → Parser Node) (room k : ℕ) (found : List Node) (ts : List Token) → tail p inner room k found (separator_token p.locale ∷ ts) ≡ arguments_from p inner room k found ts
-tail_reads p inner room k found ts = rw ((separates p.locale).reads ts)
-
-arguments_none : (p : Profile) (inner : ℕ → Parser Node) (room : ℕ) (ts : List Token) → arguments p inner room (t.CloseParenthesis ∷ ts) ≡ Some ([], ts)
-unfolding arguments
-arguments_none p inner room ts = refl
-
-arguments_some : (p : Profile) (inner : ℕ → Parser Node) (room : ℕ) (ts : List Token) → closing ts ≡ None → arguments p inner room ts ≡ arguments_from p inner room (length ts) [] ts
-unfolding arguments
-arguments_some p inner room ts e = ap (arguments_by p inner room ts) e
 
 argument_no_close : {p : Profile} (a : Argument p) (r : List Token) → closing (argument_tokens a ++ separator_token p.locale ∷ r) ≡ None
 argument_no_close {p} G.empty r = (separates p.locale).no_end r
@@ -128,9 +70,9 @@ whole_completes {p} d reads nesting room r fits ends =
 
 given_completes : {p : Profile} (d : Expression p 10) → Reads 10 d → (nesting room : ℕ) (r : List Token) → Fits nesting room (expression_open d) (depth_of (expression_tree d)) → is_empty_here p.locale r ≡ true
     → argument p (whole p nesting) room (expression_tokens d ++ r) ≡ Some (expression_tree d, r)
+unfolding argument
 given_completes {p} d reads nesting room r fits ends =
-    given_reads p (whole p nesting) room (expression_tokens d ++ r) _ (starts_given p.locale (expression_tokens d ++ r) (begins d r).starts)
-    (whole_completes d reads nesting room r fits (ends_at_separator p.locale r ends))
+    rw (starts_given p.locale (expression_tokens d ++ r) (begins d r).starts) (whole_completes d reads nesting room r fits (ends_at_separator p.locale r ends))
 
 -- an operand of the level below
 lift_reads : {p : Profile} (under : ℕ) (a : Expression p under) → Reads under a → Reads (suc under) (G.lift a)
@@ -200,19 +142,21 @@ ReadsFrom {p} d = (nesting room k : ℕ) (found : List Node) (r : List Token) �
 
 some_read : {p : Profile} (d : Arguments p) → ReadsFrom d → (nesting room : ℕ) (r : List Token) → Fits nesting room (arguments_open d) (greatest (map depth_of (arguments_trees d)))
     → closing (arguments_tokens d ++ t.CloseParenthesis ∷ r) ≡ None → arguments p (whole p nesting) room (arguments_tokens d ++ t.CloseParenthesis ∷ r) ≡ Some (arguments_trees d, r)
+unfolding arguments
 some_read {p} d reads nesting room r fits starts =
     let ts = arguments_tokens d ++ t.CloseParenthesis ∷ r in
-    arguments_some p (whole p nesting) room ts starts
+    ap (arguments_by p (whole p nesting) room ts) starts
     ∙ reads nesting room (length ts) [] r fits (omega (arith, length-append (arguments_tokens d) (t.CloseParenthesis ∷ r)))
 
 -- a lone one that is empty is none
 passed_read : {p : Profile} (d : Arguments p) → ReadsFrom d → (nesting room : ℕ) (r : List Token) → Fits nesting room (arguments_open d) (greatest (map depth_of (passed d (arguments_trees d))))
     → arguments p (whole p nesting) room ((arguments_tokens d ++ t.CloseParenthesis ∷ []) ++ r) ≡ Some (passed d (arguments_trees d), r)
+unfolding arguments
 passed_read {p} d reads nesting room r fits = ap (arguments p (whole p nesting) room) (append_assoc (arguments_tokens d) (t.CloseParenthesis ∷ []) r) ∙ go d reads fits
   where
     go : (d : Arguments p) → ReadsFrom d → Fits nesting room (arguments_open d) (greatest (map depth_of (passed d (arguments_trees d))))
         → arguments p (whole p nesting) room (arguments_tokens d ++ t.CloseParenthesis ∷ r) ≡ Some (passed d (arguments_trees d), r)
-    go (G.last G.empty) reads fits = arguments_none p (whole p nesting) room r
+    go (G.last G.empty) reads fits = refl
     go (G.last (G.given a)) reads fits =
         some_read (G.last (G.given a)) reads nesting room r fits (starts_no_close (expression_tokens a ++ t.CloseParenthesis ∷ r) (begins a (t.CloseParenthesis ∷ r)).starts)
     go (G.more a all) reads fits =
@@ -222,7 +166,7 @@ passed_read {p} d reads nesting room r fits = ap (arguments p (whole p nesting) 
 -- ---- derivations
 
 mutual
-  unfolding primary
+  unfolding primary enclosed call lambda function argument arguments_from
 
   pub expression_reads : {p : Profile} {level : ℕ} (d : Expression p level) → Reads level d
   expression_reads (G.lift {level = under} a) = lift_reads under a (expression_reads a)
@@ -233,18 +177,16 @@ mutual
   expression_reads {p} (G.range sheet first second start stop is also) = λ nesting room r fits ends.
       ap (λ o. with_rest r (range_at p.place sheet first second o (mark_place second))) is ∙ ap (λ o. with_rest r (range_at p.place sheet first second (Ok start) o)) also
   expression_reads {p} (G.word name) = λ nesting room r fits ends. ends_word p (whole p nesting) room name r ends
-  expression_reads {p} (G.array rows is) = λ nesting room r fits ends. array_reads (whole p nesting) room rows r is
-  expression_reads {p} (G.parentheses a) = λ nesting room r fits ends.
-      enclosed_reads p (whole p nesting) room ((expression_tokens a ++ t.CloseParenthesis ∷ []) ++ r) r (expression_tree a) (omega (arith, fits.within))
-      (ap (whole p nesting (room - 1)) (append_assoc (expression_tokens a) (t.CloseParenthesis ∷ []) r)
-      ∙ whole_completes a (expression_reads a) nesting (room - 1) (t.CloseParenthesis ∷ r) (omega arith) (omega arith))
+  expression_reads {p} (G.array rows is) = λ nesting room r fits ends. array_complete rows r is
+  expression_reads (G.parentheses a) = λ nesting room r fits ends.
+      rw (append_assoc (expression_tokens a) (t.CloseParenthesis ∷ []) r, ne_eqb room 0 (λ none. omega (arith, fits.within)),
+      whole_completes a (expression_reads a) nesting (room - 1) (t.CloseParenthesis ∷ r) (omega arith) (omega arith))
   expression_reads {p} (G.lambda a) = λ nesting room r fits ends.
       chain_closes opening (lambda_turn p (whole p nesting) room) _ (lambda_turns a) (lambda_tree a) r (lambda_turns-lt a) fits.shallow (ends_lambda r ends)
       (λ j is. lambda_before a nesting room j r fits is)
   expression_reads {p} (G.call name is all) = λ nesting room r fits ends.
-      call_reads p (whole p nesting) room name ((arguments_tokens all ++ t.CloseParenthesis ∷ []) ++ r) r (passed all (arguments_trees all)) is
-      (passed_read all (arguments_read all) nesting room r (omega (arith, depth_called p.language name (passed all (arguments_trees all)))))
-      fits.shallow
+      (let tree = called p.language name (passed all (arguments_trees all)) in
+      rw (is, passed_read all (arguments_read all) nesting room r (omega (arith, depth_called p.language name (passed all (arguments_trees all)))), made-shallow tree fits.shallow))
   expression_reads _ = λ nesting room r fits ends. refl
 
   lambda_before : {p : Profile} (d : Lambda p) (nesting room k : ℕ) (r : List Token) → Fits (suc nesting) room (lambda_open d) (depth_of (lambda_tree d)) → k + lambda_turns d ≡ 64
@@ -252,16 +194,15 @@ mutual
   lambda_before {p} (G.function name is all body) nesting room k r fits e =
       let fits_body : Fits nesting room (expression_open body) (depth_of (expression_tree body)) = omega (arith, depth_lambda all (expression_tree body)) in
       let end : List Token = t.CloseParenthesis ∷ r in
-      let regrouped : (parameters_tokens p all ++ (expression_tokens body ++ t.CloseParenthesis ∷ [])) ++ r ≡ parameters_tokens p all ++ (expression_tokens body ++ end) =
-      append_assoc (parameters_tokens p all) (expression_tokens body ++ t.CloseParenthesis ∷ []) r
-      ∙ ap (λ (l : List Token). parameters_tokens p all ++ l) (append_assoc (expression_tokens body) (t.CloseParenthesis ∷ []) r) in
-      lambda_reads p (whole p nesting) room k name _ r (n.Lambda all (expression_tree body)) is
-      (ap (function p (whole p nesting) room) regrouped
-      ∙ function_reads p (whole p nesting) room (parameters_tokens p all ++ (expression_tokens body ++ end)) (expression_tokens body ++ end) r all (expression_tree body)
-      (parameters_complete p all (expression_tokens body ++ end) ((begins body end).no_parameter refl))
-      (whole_completes body (expression_reads body) nesting room end fits_body (omega arith))
-      fits.shallow)
-      (omega (arith, e))
+      let same : 64 ≡ k = omega (arith, e) in
+      rw (
+        is,
+        append_assoc (parameters_tokens p all) (expression_tokens body ++ t.CloseParenthesis ∷ []) r,
+        append_assoc (expression_tokens body) (t.CloseParenthesis ∷ []) r,
+        parameters_complete p all (expression_tokens body ++ end) ((begins body end).no_parameter refl),
+        whole_completes body (expression_reads body) nesting room end fits_body (omega arith),
+        made-shallow (n.Lambda all (expression_tree body)) fits.shallow,
+      ) (ap (λ (j : ℕ). chain_from opening (lambda_turn p (whole p nesting) room) j (n.Lambda all (expression_tree body)) r) same)
   lambda_before {p} (G.applied a all) nesting room k r fits e =
       let given = passed all (arguments_trees all) in
       let deep = depth_lambda_call (lambda_tree a) given in
@@ -276,19 +217,17 @@ mutual
 
   arguments_read : {p : Profile} (d : Arguments p) → ReadsFrom d
   arguments_read {p} (G.last a) nesting room k found r fits enough =
-      turn_reads p (whole p nesting) room k found (argument_tokens a ++ t.CloseParenthesis ∷ r) (t.CloseParenthesis ∷ r) (argument_tree a) (omega arith)
-      (argument_complete a nesting room (t.CloseParenthesis ∷ r) (omega arith) refl)
+      deeper (λ j. arguments_from p (whole p nesting) room j found (argument_tokens a ++ t.CloseParenthesis ∷ r)) k (omega arith)
+      ∙ rw (argument_complete a nesting room (t.CloseParenthesis ∷ r) (omega arith) refl)
   arguments_read {p} (G.more a all) nesting room k found r fits enough =
       let rest : List Token = arguments_tokens all ++ t.CloseParenthesis ∷ r in
+      let long = length-append (argument_tokens a) (separator_token p.locale ∷ arguments_tokens all) in
       ap (arguments_from p (whole p nesting) room k found) (append_assoc (argument_tokens a) (separator_token p.locale ∷ arguments_tokens all) (t.CloseParenthesis ∷ r))
-      ∙ turn_reads p (whole p nesting) room k found (argument_tokens a ++ separator_token p.locale ∷ rest) (separator_token p.locale ∷ rest) (argument_tree a) (omega arith)
-      (argument_complete a nesting room (separator_token p.locale ∷ rest) (omega arith) ((separates p.locale).empty rest))
-      ∙ tail_reads p (whole p nesting) room (k - 1) (found ++ argument_tree a ∷ []) rest
-      ∙ arguments_read all nesting room (k - 1) (found ++ argument_tree a ∷ []) r (omega arith)
-      (omega (arith, length-append (argument_tokens a) (separator_token p.locale ∷ arguments_tokens all)))
-      ∙ ap (λ (l : List Node). Some (l, r)) (append_assoc found (argument_tree a ∷ []) (arguments_trees all))
+      ∙ deeper (λ j. arguments_from p (whole p nesting) room j found (argument_tokens a ++ separator_token p.locale ∷ rest)) k (omega arith)
+      ∙ rw (argument_complete a nesting room (separator_token p.locale ∷ rest) (omega arith) ((separates p.locale).empty rest), (separates p.locale).reads rest,
+      ← append_assoc found (argument_tree a ∷ []) (arguments_trees all)) (arguments_read all nesting room (k - 1) (found ++ argument_tree a ∷ []) r (omega arith) (omega (arith, long)))
 
   argument_complete : {p : Profile} (d : Argument p) (nesting room : ℕ) (r : List Token) → Fits nesting room (argument_open d) (depth_of (argument_tree d)) → is_empty_here p.locale r ≡ true
       → argument p (whole p nesting) room (argument_tokens d ++ r) ≡ Some (argument_tree d, r)
-  argument_complete {p} G.empty nesting room r fits ends = empty_reads p (whole p nesting) room r ends
-  argument_complete {p} (G.given a) nesting room r fits ends = given_completes a (expression_reads a) nesting room r fits ends
+  argument_complete G.empty nesting room r fits ends = rw ends
+  argument_complete (G.given a) nesting room r fits ends = given_completes a (expression_reads a) nesting room r fits ends

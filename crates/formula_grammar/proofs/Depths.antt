@@ -1,5 +1,5 @@
--- The depth of what is read, and the limit.
-use Rattle.std.proofs.Common.{◌≡◌, ℕ, ◌+◌, ◌<◌, ◌≤◌, max, Bool, true, false, cond, List, [], ◌∷◌, ◌++◌, map, Option, Some, None, refl, arith}
+-- The depth of what is read, the limit, and how often a chain goes on below it.
+use Rattle.std.proofs.Common.{◌≡◌, ℕ, ◌+◌, ◌<◌, ◌≤◌, max, Bool, true, false, cond, List, [], ◌∷◌, ◌++◌, map, Option, Some, None, refl, arith, suc}
 use Rattle.std.proofs.lemmas.Bool.{le-leb, lt-leb, leb-true}
 use Rattle.std.proofs.lemmas.Bool.Decides.{nat_tests}
 use Rattle.base_tables.specs.declared.Function.{Function}
@@ -10,16 +10,20 @@ use Rattle.formula_tree.specs.declared.corner.Corner.{Corner}
 use Rattle.formula_tree.specs.declared.node.Node.{Node}
 use Rattle.base_values.specs.declared.Position.{Position}
 use Rattle.formula_tree.specs.Depth.{depth_of, greatest}
-use Rattle.formula_tree.specs.laws.DepthEquations.{depths as tree_depths}
+use Rattle.formula_tree.specs.laws.DepthEquations.{depths as tree_depths, depth_lambda_call}
 use Rattle.formula_levels.specs.declared.infix.Infix.{Infix}
-use Rattle.formula_levels.specs.declared.infix.Infix.TheVariants as between
 use Rattle.formula_levels.specs.declared.postfix.Postfix.{Postfix}
-use Rattle.formula_levels.specs.declared.postfix.Postfix.TheVariants as postfix
 use Rattle.formula_levels.specs.declared.prefix.Prefix.{Prefix}
-use Rattle.formula_levels.specs.declared.prefix.Prefix.TheVariants as prefix
 use Rattle.formula_levels.specs.Levels.{infix_node, prefix_node, postfix_node}
 use Rattle.formula_grammar.specs.Words.{call_node, called, word_node, worded, range_node}
 use Rattle.formula_grammar.specs.laws.Reading.{made}
+use Rattle.formula_tree.specs.laws.DepthLaws.{depth_positive}
+use Rattle.formula_grammar.specs.declared.profile.Profile.{Profile}
+use Rattle.formula_grammar.specs.Grammar.{Expression, Lambda, expression_tree, lambda_tree, arguments_trees, passed}
+use Rattle.formula_levels.specs.declared.infix.Infix.TheVariants as between
+use Rattle.formula_levels.specs.declared.postfix.Postfix.TheVariants as postfix
+use Rattle.formula_levels.specs.declared.prefix.Prefix.TheVariants as prefix
+use Rattle.formula_grammar.specs.Grammar as G
 
 depth_call_node : (function : Option Function) (word : List ℕ) (all : List Node) → depth_of (call_node function word all) ≡ greatest (map depth_of all) + 1
 depth_call_node function word all = grind (arith, tree_depths)
@@ -62,3 +66,21 @@ pub ruleset depths = (tree_depths, depth_called, depth_worded, depth_infix, dept
 pub greatest_push : (xs : List Node) (x : Node) → greatest (map depth_of (xs ++ x ∷ [])) ≡ max (greatest (map depth_of xs)) (depth_of x)
 greatest_push [] x = omega arith
 greatest_push (y ∷ xs) x = omega (arith, greatest_push xs x)
+
+abbrev pub expression_turns : {p : Profile} {level : ℕ} → Expression p level → ℕ
+expression_turns (G.joined op a b) = suc (expression_turns a)
+expression_turns (G.followed op a) = suc (expression_turns a)
+expression_turns _ = 0
+
+abbrev pub lambda_turns : {p : Profile} → Lambda p → ℕ
+lambda_turns (G.function word is parameters body) = 0
+lambda_turns (G.applied a all) = suc (lambda_turns a)
+
+pub expression_turns-lt : {p : Profile} {level : ℕ} (d : Expression p level) → expression_turns d < depth_of (expression_tree d)
+expression_turns-lt (G.joined op a b) = omega (arith, expression_turns-lt a, depth_infix op (expression_tree a) (expression_tree b))
+expression_turns-lt (G.followed op a) = omega (arith, expression_turns-lt a, depth_postfix op (expression_tree a))
+expression_turns-lt d = depth_positive (expression_tree d)
+
+pub lambda_turns-lt : {p : Profile} (d : Lambda p) → lambda_turns d < depth_of (lambda_tree d)
+lambda_turns-lt (G.applied a all) = omega (arith, lambda_turns-lt a, depth_lambda_call (lambda_tree a) (passed all (arguments_trees all)))
+lambda_turns-lt d = depth_positive (lambda_tree d)

@@ -1,5 +1,5 @@
 -- The reading function and the grammar are one.
-use Rattle.std.proofs.Common.{◌≡◌, true, false, ◌≤◌, List, [], ◌∷◌, ◌++◌, Option, Some, None, Result, Ok, Err, sym, ap, ◌∙◌, append-nil, arith}
+use Rattle.std.proofs.Common.{◌≡◌, true, false, ◌≤◌, List, [], ◌∷◌, ◌++◌, Option, Some, None, Result, Ok, Err, refl, sym, ap, ◌∙◌, append-nil, arith}
 use Rattle.std.specs.Prelude.{IfOk, IfSome}
 use Rattle.std.proofs.lemmas.Bool.{not-true}
 use Rattle.formula_tree.specs.declared.node.Node.{Node}
@@ -44,25 +44,25 @@ read_is_derived p ts tree = go (whole p 128 64 ts) (whole_sound p 128 64 ts)
 pub one_tree : (p : Profile) (ts : List Token) (a b : Node) → Derives p ts a → Derives p ts b → a ≡ b
 one_tree p ts a b x y = let e = sym (derived_is_read p ts a x) ∙ derived_is_read p ts b y in cc
 
--- what holds of each tree that the tokens derive holds of the one that was read
-pub found_has : {E : Type 0} (p : Profile) (ts : List Token) (r : Result (Option Node) E) (P : Node → Type 0) → ((tree : Node) → Derives p ts tree → P tree)
-    → IfOk r (λ o. o ≡ tree_of p ts) → IfOk r (λ o. IfSome o P)
-found_has p ts (Ok (Some tree)) P has e = has tree (read_is_derived p ts tree (sym e))
-found_has p ts (Ok None) P has e = tt
-found_has p ts (Err x) P has e = tt
-
 pub only_this : {E : Type 0} (p : Profile) (ts : List Token) (r : Result (Option Node) E) → IfOk r (λ o. o ≡ tree_of p ts) → IfOk r (λ o. (tree : Node) → Derives p ts tree → o ≡ Some tree)
 only_this p ts (Ok o) e = λ tree d. e ∙ derived_is_read p ts tree d
 only_this p ts (Err x) e = tt
 
+-- what holds of each tree that the tokens derive holds of the one that was read
+pub found_has : {E : Type 0} (p : Profile) (ts : List Token) (r : Result (Option Node) E) → IfOk r (λ o. o ≡ tree_of p ts)
+    → (P : Node → Type 0) → ((tree : Node) → Derives p ts tree → P tree) → IfOk r (λ o. IfSome o P)
+found_has p ts (Ok (Some tree)) e P has = has tree (read_is_derived p ts tree (sym e))
+found_has p ts (Ok None) e P has = tt
+found_has p ts (Err x) e P has = tt
+
 -- its corners lie as they should
 pub derived_placed : (p : Profile) (ts : List Token) (tree : Node) → Derives p ts tree → is_placed p.place tree ≡ true
-derived_placed p ts tree d = ap (is_placed p.place) (sym d.gives) ∙ expression_placed d.by
+derived_placed p ts tree d = rw (← d.gives) (expression_placed d.by)
 
 -- it is no text outside of the grammar
 pub derived_formula : (p : Profile) (ts : List Token) (tree : Node) → Derives p ts tree → is_parse_error tree ≡ false
-derived_formula p ts tree d = ap is_parse_error (sym d.gives) ∙ not-true (is_parse_error (expression_tree d.by)) (expression_formula d.by)
+derived_formula p ts tree d = rw (← d.gives) (not-true (is_parse_error (expression_tree d.by)) (expression_formula d.by))
 
 -- its numbers are as those of the tokens
 pub derived_follows : (r : NumberRule) (p : Profile) (ts : List Token) → tokens_follow r ts ≡ true → (tree : Node) → Derives p ts tree → numbers_follow r tree ≡ true
-derived_follows r p ts follow tree d = ap (numbers_follow r) (sym d.gives) ∙ expression_follows r d.by (ap (tokens_follow r) d.spells ∙ follow)
+derived_follows r p ts follow tree d = rw (← d.gives) (expression_follows r d.by (rw d.spells follow))

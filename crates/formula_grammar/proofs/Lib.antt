@@ -1,12 +1,8 @@
 pub mod Depths
-pub mod Chains
-pub mod Turns
 pub mod Follow
 pub mod Starts
-pub mod Constants
 pub mod Complete
 pub mod Steps
-pub mod Parting
 pub mod Lists
 pub mod Sound
 pub mod Trees

@@ -25,8 +25,7 @@ use Rattle.formula_grammar.proofs.Depths.{depth_worded, depth_range_node}
 use Rattle.formula_grammar.proofs.Steps.{Brings, nothing, brings, brings_over, brings_bind, brings_rest, brings_made, brings_if, brings_by, from_sound}
 use Rattle.formula_grammar.proofs.Signed.{own_is, prefix_is}
 use Rattle.formula_grammar.proofs.Follow.{operator_token}
-use Rattle.formula_grammar.proofs.Parting.{separator_of, separator_sound}
-use Rattle.formula_grammar.proofs.Lists.{array_sound, parameters_sound}
+use Rattle.formula_grammar.proofs.Lists.{separator_of, separator_sound, array_sound, parameters_sound}
 
 -- a front of the tokens derives this tree, within the limits
 pub record Derived {D : Type 0} (tokens : D → List Token) (tree : D → Node) (opened : D → ℕ) (room : ℕ) (ts rest : List Token) (out : Node) : Type 0 where

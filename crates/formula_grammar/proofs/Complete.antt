@@ -29,8 +29,7 @@ use Rattle.formula_grammar.specs.Grammar.{Expression, Lambda, Arguments, Argumen
 use Rattle.formula_grammar.specs.laws.Reading.{Outcome, Parser, and_then, ◌>>=◌, ◌>>◌, pure, with_rest, make, operator_of, operator_under, own, operator_at, sign_at, make_signed, signed_step, signed, opening, closing, separator, is_empty_here, chain_from, parameters, reference_at, range_at, enclosed, argument, arguments_from, arguments_by, arguments, function, lambda_turn, lambda, call, primary, turn, expression, whole}
 use Rattle.formula_grammar.proofs.Depths.{depth_called, depth_infix, depth_postfix, depth_prefix, made-shallow, expression_turns, lambda_turns, expression_turns-lt, lambda_turns-lt}
 use Rattle.formula_grammar.proofs.Steps.{chain_starts, chain_turns, chain_closes, chain_never}
-use Rattle.formula_grammar.proofs.Follow.{EndsAt, ends_sooner, ends_operator, ends_lambda, ends_word, ends_at_separator, operator_reads, operator_ends, separates}
-use Rattle.formula_grammar.proofs.Starts.{unsigned, starts_given, starts_no_close, begins}
+use Rattle.formula_grammar.proofs.Edges.{EndsAt, ends_sooner, ends_operator, ends_lambda, ends_word, ends_at_separator, operator_reads, operator_ends, separates, unsigned, starts_given, starts_no_close, begins}
 use Rattle.formula_grammar.proofs.Lists.{array_complete, parameters_complete}
 use Rattle.formula_grammar.proofs.Loops.{deeper, whole_steps}
 

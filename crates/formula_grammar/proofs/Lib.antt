@@ -1,6 +1,5 @@
 pub mod Depths
-pub mod Follow
-pub mod Starts
+pub mod Edges
 pub mod Complete
 pub mod Steps
 pub mod Lists

@@ -11,7 +11,7 @@ use Rattle.formula_tree.specs.declared.node.Node.{Node}
 use Rattle.formula_tree.specs.declared.parameter.Parameter.{Parameter}
 use Rattle.formula_grammar.specs.declared.profile.Profile.{Profile}
 use Rattle.formula_grammar.specs.Grammar.{Item, Rows, item_tokens, item_value, rows_tokens, before_line, rows_lines, parameters_tokens}
-use Rattle.formula_grammar.proofs.Follow.{separates}
+use Rattle.formula_grammar.proofs.Edges.{separates}
 use Rattle.formula_grammar.proofs.Loops.{deeper}
 use Rattle.base_tables.specs.Language.{boolean_of_text}
 use Rattle.base_tables.specs.declared.Locale.TheVariants as locale

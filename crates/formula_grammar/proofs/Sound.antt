@@ -24,7 +24,7 @@ use Rattle.formula_grammar.specs.laws.Reading.{Outcome, Parser, operator_of, ope
 use Rattle.formula_grammar.proofs.Depths.{depth_worded, depth_range_node}
 use Rattle.formula_grammar.proofs.Steps.{Brings, nothing, brings, brings_over, brings_bind, brings_rest, brings_made, brings_if, brings_by, from_sound}
 use Rattle.formula_grammar.proofs.Signed.{own_is, prefix_is}
-use Rattle.formula_grammar.proofs.Follow.{operator_token}
+use Rattle.formula_grammar.proofs.Edges.{operator_token}
 use Rattle.formula_grammar.proofs.Lists.{separator_of, separator_sound, array_sound, parameters_sound}
 
 -- a front of the tokens derives this tree, within the limits

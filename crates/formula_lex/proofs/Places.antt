@@ -1,13 +1,13 @@
 -- Cells and ranges are read just where they are spelled.
-use Rattle.std.proofs.Common.{◌≡◌, ℕ, ◌<◌, Bool, true, false, refl, arith, zero, suc, [], ◌∷◌, sym, ap, ◌∙◌, cond, ◌++◌, Option, Some, None, subst, append_assoc}
-use Rattle.std.specs.Prelude.{◌==◌, ℤ, pos, not, IfSome, MatchOption}
+use Rattle.std.proofs.Common.{◌≡◌, ℕ, ◌<◌, Bool, true, false, refl, arith, zero, suc, [], ◌∷◌, sym, ap, ◌∙◌, cond, ◌++◌, Option, Some, None, append_assoc}
+use Rattle.std.specs.Prelude.{◌==◌, ℤ, pos, not}
 use Rattle.std.proofs.lemmas.Bool.{and_parts, and_from, or_left, or_right, both_ways, false_from_ne_true, not_from_false}
 use Rattle.std.proofs.lemmas.Bool.Decides.{nat_tests}
 use Rattle.std.proofs.UnicodeAscii.{is_alphabetic_ascii}
 use Rattle.std.specs.List.{list_all}
 use Rattle.std.specs.Str.{chars, IsUtf8, IsAscii}
 use Rattle.std.proofs.lemmas.Str.{encodes-IsAscii, encodes-chars}
-use Rattle.std.specs.Option.{option_map, option_and_then, option_or}
+use Rattle.std.specs.Option.{option_map, option_or}
 use Rattle.std.proofs.lemmas.List.Folds.{list_all-append}
 use Rattle.base_tables.specs.Column.{is_letter, letters_number, is_column_name, column_of_name}
 use Rattle.base_tables.specs.Word.{is_digit, starts_word, goes_on_word, digits_number, is_count, is_row_number}
@@ -15,12 +15,12 @@ use Rattle.base_decimal.specs.Digits.{span, stops}
 use Rattle.base_decimal.proofs.Spans.{span_all, not_true, span_at, span_parts, stops_sooner}
 use Rattle.formula_grammar.specs.declared.CellMark.{CellMark}
 use Rattle.formula_lex.specs.Characters.{goes_on_place, Text}
-use Rattle.formula_lex.specs.laws.Lex.{is_sign, past, dollar_at, behind_dollar, line_at, column_at, row_at, with_row, with_column, corner_at, between, range_to, range_behind, cell_alone, behind_corner, spot_at}
+use Rattle.formula_lex.specs.laws.Lex.{is_sign, past, dollar_at, behind_dollar, line_at, column_at, row_at, with_row, with_column, corner_at, between, range_behind, cell_alone, spot_at}
 use Rattle.formula_lex.specs.declared.place.Line.{Line}
 use Rattle.formula_lex.specs.declared.place.Side.{Side}
 use Rattle.formula_lex.specs.declared.place.Spot.{Spot}
 use Rattle.formula_lex.specs.Lexicon.{dollar, row_of_name, IsLine, IsColumn, IsRow, IsPair, IsCell, IsSpan, IsRange, cells, columns, rows}
-use Rattle.formula_lex.proofs.Reading.{Front, Brings, nothing, brings, brings_none, brings_each, brings_over, brings_map, brings_then, brings_or, brings_cond, past_none, past_sound}
+use Rattle.formula_lex.proofs.Reading.{Front, Brings, nothing, brings, brings_none, brings_each, brings_map, brings_then, brings_or, brings_cond, past_none, past_sound}
 use Rattle.formula_lex.specs.declared.place.Side.TheVariants as side
 use Rattle.formula_lex.specs.declared.place.Spot.TheVariants as spot
 
@@ -123,32 +123,22 @@ module _ (line_of_name : Text → Option ℤ) (p : ℕ → Bool) (names : Names 
   name_stops q h [] line rest e = absurd (let f = sym names.some ∙ e in cc)
   name_stops q h (c ∷ name) line rest e = ap not (h c (and_parts (p c) (list_all p name) (names.all (c ∷ name) line e)).0)
 
-  line_dollar : (l : Line) (s rest : Text) → (is : LineIs line_of_name l s) → dollar_at (s ++ rest) ≡ (l.absolute, is.name ++ rest)
-  line_dollar l s rest is = ap dollar_at (ap (λ (x : Text). x ++ rest) is.parts ∙ append_assoc (dollar l.absolute) is.name rest) ∙ go l.absolute
-    where
-      go : (b : Bool) → dollar_at (dollar b ++ (is.name ++ rest)) ≡ (b, is.name ++ rest)
-      go true = refl
-      go false = dollar_none (is.name ++ rest) (name_stops (λ c. c == 36) names.no_dollar is.name l.number rest is.named)
+  line_dollar : (absolute : Bool) (line : ℤ) (s rest : Text) (is : IsLine line_of_name absolute line s) → dollar_at (s ++ rest) ≡ (absolute, is.name ++ rest)
+  line_dollar true line s rest is = rw is.parts
+  line_dollar false line s rest is = rw is.parts (dollar_none (is.name ++ rest) (name_stops (λ c. c == 36) names.no_dollar is.name line rest is.named))
 
   line_read : (l : Line) (s rest : Text) → LineIs line_of_name l s → stops p rest ≡ true → line_at line_of_name p (s ++ rest) ≡ Some (l, rest)
   unfolding line_at
-  line_read l s rest is ends = rw (line_dollar l s rest is, span_at p is.name rest (names.all is.name l.number is.named) ends, is.named)
+  line_read l s rest is ends = rw (line_dollar l.absolute l.number s rest is, span_at p is.name rest (names.all is.name l.number is.named) ends, is.named)
 
-  line_stops : (q : ℕ → Bool) → q 36 ≡ false → ((c : ℕ) → p c ≡ true → q c ≡ false) → (l : Line) (s rest : Text) → LineIs line_of_name l s → stops q (s ++ rest) ≡ true
-  line_stops q d h l s rest is = ap (stops q) (ap (λ (x : Text). x ++ rest) is.parts ∙ append_assoc (dollar l.absolute) is.name rest) ∙ go l.absolute
-    where
-      go : (b : Bool) → stops q (dollar b ++ (is.name ++ rest)) ≡ true
-      go true = ap not d
-      go false = name_stops q h is.name l.number rest is.named
+  line_stops : (q : ℕ → Bool) → q 36 ≡ false → ((c : ℕ) → p c ≡ true → q c ≡ false) → (absolute : Bool) (line : ℤ) (s rest : Text)
+      → IsLine line_of_name absolute line s → stops q (s ++ rest) ≡ true
+  line_stops q d h true line s rest is = rw is.parts (ap not d)
+  line_stops q d h false line s rest is = rw is.parts (name_stops q h is.name line rest is.named)
 
-  line_unmarked : (l : Line) (s : Text) → LineIs line_of_name l s → list_all no_mark s ≡ true
-  line_unmarked l s is =
-      ap (list_all no_mark) is.parts ∙ list_all-append no_mark (dollar l.absolute) is.name
-      ∙ and_from _ _ (go l.absolute) (all_more p no_mark names.unmarked is.name (names.all is.name l.number is.named))
-    where
-      go : (b : Bool) → list_all no_mark (dollar b) ≡ true
-      go true = refl
-      go false = refl
+  line_unmarked : (absolute : Bool) (line : ℤ) (s : Text) → IsLine line_of_name absolute line s → list_all no_mark s ≡ true
+  line_unmarked true line s is = rw is.parts (all_more p no_mark names.unmarked is.name (names.all is.name line is.named))
+  line_unmarked false line s is = rw is.parts (all_more p no_mark names.unmarked is.name (names.all is.name line is.named))
 
 if_name : (b : Bool) (value line : ℤ) → cond b (Some value) None ≡ Some line → b ≡ true
 if_name true value line e = refl
@@ -172,7 +162,7 @@ rows_named = record {
   unmarked = λ c e. grind (arith, nat_tests);
 }
 
-row_no_letter : (l : Line) (s rest : Text) → LineIs row_of_name l s → stops is_letter (s ++ rest) ≡ true
+row_no_letter : (absolute : Bool) (line : ℤ) (s rest : Text) → IsLine row_of_name absolute line s → stops is_letter (s ++ rest) ≡ true
 row_no_letter = line_stops row_of_name is_digit rows_named is_letter refl digit_no_letter
 
 -- where neither stands behind the dollar
@@ -224,7 +214,7 @@ corner_read (side.Cell mark) s rest is ends =
     rw (
       is.parts,
       append_assoc is.first is.second rest,
-      line_read column_of_name is_letter columns_named (column_of mark) is.first (is.second ++ rest) is.is_first (row_no_letter (row_of mark) is.second rest is.is_second),
+      line_read column_of_name is_letter columns_named (column_of mark) is.first (is.second ++ rest) is.is_first (row_no_letter mark.absolute_row mark.row is.second rest is.is_second),
       line_read row_of_name is_digit rows_named (row_of mark) is.second rest is.is_second (stops_sooner is_digit goes_on_place place_no_digit rest ends),
     )
 corner_read (side.Column l) s rest is ends =
@@ -235,7 +225,7 @@ corner_read (side.Column l) s rest is ends =
 corner_read (side.Row l) s rest is ends =
     let letter = name_stops row_of_name is_digit rows_named is_letter digit_no_letter is.name l.number rest is.named in
     rw (
-      no_column (s ++ rest) l.absolute (is.name ++ rest) (line_dollar row_of_name is_digit rows_named l s rest is) letter,
+      no_column (s ++ rest) l.absolute (is.name ++ rest) (line_dollar row_of_name is_digit rows_named l.absolute l.number s rest is) letter,
       line_read row_of_name is_digit rows_named l s rest is (stops_sooner is_digit goes_on_place place_no_digit rest ends),
     )
 
@@ -324,7 +314,7 @@ spot_starts q h (c ∷ text) r e = not_from_false (q c) (false_from_ne_true (q c
 pub cell_no_digit : (mark : CellMark) (s rest : Text) → IsCell mark s → stops is_digit (s ++ rest) ≡ true
 cell_no_digit mark s rest is =
     ap (stops is_digit) (ap (λ (x : Text). x ++ rest) is.parts ∙ append_assoc is.first is.second rest)
-    ∙ line_stops column_of_name is_letter columns_named is_digit refl (λ c h. grind (arith, nat_tests)) (column_of mark) is.first (is.second ++ rest) is.is_first
+    ∙ line_stops column_of_name is_letter columns_named is_digit refl (λ c h. grind (arith, nat_tests)) mark.absolute_column mark.column is.first (is.second ++ rest) is.is_first
 
 -- ---- no place stands before a mark that follows a word
 
@@ -338,9 +328,10 @@ pair_unmarked First Second middle f g h s is =
 
 side_unmarked : (x : Side) (s : Text) → IsSide x s → Unmarked s
 side_unmarked (side.Cell mark) =
-    pair_unmarked (IsColumn mark) (IsRow mark) [] (line_unmarked column_of_name is_letter columns_named (column_of mark)) refl (line_unmarked row_of_name is_digit rows_named (row_of mark))
-side_unmarked (side.Column l) = line_unmarked column_of_name is_letter columns_named l
-side_unmarked (side.Row l) = line_unmarked row_of_name is_digit rows_named l
+    pair_unmarked (IsColumn mark) (IsRow mark) [] (line_unmarked column_of_name is_letter columns_named mark.absolute_column mark.column) refl
+    (line_unmarked row_of_name is_digit rows_named mark.absolute_row mark.row)
+side_unmarked (side.Column l) = line_unmarked column_of_name is_letter columns_named l.absolute l.number
+side_unmarked (side.Row l) = line_unmarked row_of_name is_digit rows_named l.absolute l.number
 
 span_unmarked : (a b : Side) (s : Text) → IsSpan (IsSide a) (IsSide b) s → Unmarked s
 span_unmarked a b = pair_unmarked (IsSide a) (IsSide b) (58 ∷ []) (side_unmarked a) refl (side_unmarked b)

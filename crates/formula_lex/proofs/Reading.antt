@@ -1,27 +1,47 @@
--- What the functions need that read the front of a text.
-use Rattle.std.proofs.Common.{take, drop, ◌≡◌, ℕ, Bool, true, false, cond, [], ◌∷◌, ◌++◌, Option, Some, None, refl, ap, subst, ◌∙◌, arith, ◌-◌, ◌<◌, length, sym, append_assoc, append-nil, length-append, option_map}
-use Rattle.std.specs.Prelude.{not, ◌==◌, IfSome, MatchOption, encode_utf8, encode_utf8_all, codes}
+-- What readers bring, and what the functions need that read the front of a text; numbers, errors and texts between quotes are read just where they are spelled.
+use Rattle.std.proofs.Common.{take, drop, ◌≡◌, ℕ, Bool, true, false, cond, [], ◌∷◌, ◌++◌, Option, Some, None, refl, ap, subst, ◌∙◌, arith, ◌-◌, ◌<◌, length, sym, append_assoc, append-nil, length-append, option_map, zero, suc, List}
+use Rattle.std.specs.Prelude.{not, ◌==◌, IfSome, MatchOption, encode_utf8, encode_utf8_all, codes, ◌&&◌, ◌||◌, nat_lt}
 use Rattle.std.specs.Option.{option_map, option_and_then, option_or}
-use Rattle.std.proofs.lemmas.Bool.{false_from_ne_true, cond_both, eqb-true}
+use Rattle.std.proofs.lemmas.Bool.{false_from_ne_true, cond_both, eqb-true, and_parts, or_left, or_right, ltb-true}
 use Rattle.std.proofs.lemmas.Bool.Decides.{nat_tests}
-use Rattle.std.specs.Str.{chars, IsUtf8}
+use Rattle.std.specs.Str.{chars, IsUtf8, IsAscii}
 use Rattle.std.proofs.lemmas.List.{append_cancel_right}
 use Rattle.std.proofs.Math.Seq.{take-append_seam, drop-append_seam}
-use Rattle.std.proofs.lemmas.Str.{IsUtf8-past_char, IsCharBoundary-at_seam, chars-append, chars-nil, chars_past_char, IsUtf8-take, encodes-chars, length-encode, len_utf8_bounds, encodes-append}
+use Rattle.std.proofs.lemmas.Str.{IsUtf8-past_char, IsCharBoundary-at_seam, chars-append, chars-nil, chars_past_char, IsUtf8-take, encodes-chars, length-encode, len_utf8_bounds, encodes-append, encodes_same, encodes-IsAscii}
 use Rattle.std.specs.Str.Pattern.{FindsTextPrefix, StripsPrefix}
 use denote.Ref.{Bor}
 use Rattle.base_tables.specs.declared.Error.{Error}
 use Rattle.base_tables.specs.declared.Error.TheVariants.{Ref}
-use Rattle.base_tables.specs.Error.{error_text, inverted_exclamation}
+use Rattle.base_tables.specs.Error.{error_text, inverted_exclamation, all_errors, error_of_text, is_own_reference_error}
 use Rattle.base_decimal.specs.Digits.{stops}
 use Rattle.base_decimal.proofs.Spans.{not_true}
-use Rattle.formula_lex.specs.Characters.{Text}
-use Rattle.formula_lex.specs.laws.Lex.{past, strip, first, quoted, quoted_text, in_front}
+use Rattle.formula_lex.specs.Characters.{Text, goes_on_number, twice, doubled}
+use Rattle.formula_lex.specs.laws.Lex.{past, strip, first, quoted, quoted_text, in_front, in_number, number_span, number_of, number_at, english_error, own_text, error_at}
 use Rattle.formula_lex.specs.laws.Outcome.{Cuts, left}
+use Rattle.std.specs.List.{list_all}
+use Rattle.std.proofs.UnicodeAscii.{is_alphabetic_ascii}
+use Rattle.std.specs.Char.Unicode.Alphabetic.{is_alphabetic}
+use Rattle.std.specs.Cmp.Lexicographic.{bytes_decides}
+use lib.Utf8.{encode}
+use Rattle.base_tables.specs.declared.Locale.{Locale}
+use Rattle.base_tables.specs.Locale.{decimal_sign}
+use Rattle.base_tables.specs.Word.{is_digit, goes_on_word}
+use Rattle.base_tables.specs.declared.Language.{Language}
+use Rattle.base_tables.specs.declared.Language.TheVariants.{En, De, Fr, Es}
+use Rattle.base_tables.specs.Tables.{entry_named}
+use Rattle.base_tables.specs.laws.Error.{error_of_text-error_text}
+use Rattle.base_tables.specs.laws.Tables.{found_name}
+use Rattle.base_decimal.specs.declared.Decimal.{Decimal}
+use Rattle.base_decimal.specs.Numeral.{Fraction, NoFraction, Places, Exponent, NoExponent, Power, Numeral, IsNumeral, fraction_text, sign_text, exponent_text, numeral_text, is_numeral_fraction, is_numeral_exponent, is_exponent_len, is_exponent_letter, minus_text}
+use Rattle.base_decimal.specs.laws.Reading.{decimal_of}
+use Rattle.base_decimal.specs.declared.numeral.Sign.{Sign}
+use Rattle.base_decimal.specs.declared.numeral.Sign.TheVariants.{Absent, Plus, Minus}
+use Rattle.base_decimal.proofs.Marks.{sign_is_mark, sign_is_ascii}
+use Rattle.base_decimal.proofs.Numerals.{reads_found, reads_only}
+use Rattle.formula_grammar.specs.declared.Token.{Token}
+use Rattle.formula_lex.specs.Lexicon.{starts_digit, IsNumber}
+use Rattle.formula_grammar.specs.declared.Token.TheVariants as t
 
--- ---- what a reader answers has a property: how readers that are put together keep it
-
--- what stands at the front of the text, before the rest
 pub record Front (Is : Text → Type 0) (text rest : Text) : Type 0 where
   pub spelled : Text
   pub parts : text ≡ spelled ++ rest
@@ -212,3 +232,233 @@ unfolding quoted_text
 quoted_out quote front z e = rw e
 
 pub ruleset quotes = (quoted_start, quoted_out, quoted_more, quoted_end)
+
+module _ (locale : Locale) where
+  -- ---- what is read is spelled
+
+  in_number_stops : (after : Bool) (c : ℕ) → in_number locale after c ≡ false → goes_on_number locale c ≡ false
+  in_number_stops true c e = grind (arith, nat_tests)
+  in_number_stops false c e = e
+
+  pub number_span_is : (after : Bool) (text : Text)
+      → (text ≡ (number_span locale after text).0 ++ (number_span locale after text).1) × (stops (goes_on_number locale) (number_span locale after text).1 ≡ true)
+  number_span_is after [] = (refl, refl)
+  number_span_is after (c ∷ text) =
+      let again = number_span_is (is_exponent_letter c) text in
+      cond_both (in_number locale after c) _ _ (λ (s : Text × Text). (c ∷ text ≡ s.0 ++ s.1) × (stops (goes_on_number locale) s.1 ≡ true))
+      (λ e. (ap (λ (x : Text). c ∷ x) again.0, again.1)) (λ e. (refl, ap not (in_number_stops after c e)))
+
+  digit_goes_on : (c : ℕ) → is_digit c ≡ true → goes_on_number locale c ≡ true
+  digit_goes_on c e = or_left (goes_on_word c) (c == decimal_sign locale) (or_right (is_alphabetic c) _ (or_left (is_digit c) (c == 95 || c == 46) e))
+
+  digit_in : (after : Bool) (c : ℕ) → is_digit c ≡ true → in_number locale after c ≡ true
+  digit_in true c e = or_right (c == 43 || c == 45) _ (digit_goes_on c e)
+  digit_in false c e = digit_goes_on c e
+
+  -- a number that is spelled at the front, where one may end
+  abbrev pub FrontNumber : Text → Token × Text → Type 0
+  FrontNumber text r = (number : Decimal) × (r.0 ≡ t.Number number) × Front (IsNumber locale number) text r.1 × (stops (goes_on_number locale) r.1 ≡ true)
+
+  pub number_sound : (c : ℕ) (text : Text) → is_digit c ≡ true → Brings (FrontNumber (c ∷ text)) (number_at locale (c ∷ text))
+  unfolding number_at
+  number_sound c text digit =
+      let s = number_span locale false (c ∷ text) in
+      let h = number_span_is false (c ∷ text) in
+      let starts : starts_digit s.0 ≡ true = rw (digit_in false c digit) digit in
+      brings_map _ _ (brings_each (decimal_of (decimal_sign locale) (encode_utf8_all s.0)) (λ number e. e)) (λ number e.
+      (number, refl, record { spelled = s.0; parts = h.0; is = record { starts = starts; reads = reads_found (decimal_sign locale) (encode_utf8_all s.0) number e } }, h.1))
+
+  -- ---- what is spelled is read
+
+  -- characters of ASCII that a number may be made of, and whether the last one is the letter of an exponent
+  walk : Bool → Text → Option Bool
+  walk after [] = Some after
+  walk after (c ∷ text) = cond (nat_lt c 128 && in_number locale after c) (walk (is_exponent_letter c) text) None
+
+  walk_turn : (after letter : Bool) (c : ℕ) (text : Text) → nat_lt c 128 ≡ true → in_number locale after c ≡ true → is_exponent_letter c ≡ letter → walk after (c ∷ text) ≡ walk letter text
+  unfolding walk
+  walk_turn after letter c text low e f = rw (low, e, f)
+
+  digit_turn : (after : Bool) (c : ℕ) (text : Text) → is_digit c ≡ true → walk after (c ∷ text) ≡ walk false text
+  digit_turn after c text e = walk_turn after false c text (grind (arith, nat_tests)) (digit_in after c e) (grind (arith, nat_tests))
+
+  walk_digits : (digits text : Text) → list_all is_digit digits ≡ true → walk false (digits ++ text) ≡ walk false text
+  walk_digits [] text e = refl
+  walk_digits (c ∷ digits) text e = let k = and_parts (is_digit c) (list_all is_digit digits) e in digit_turn false c (digits ++ text) k.0 ∙ walk_digits digits text k.1
+
+  walk_all : (digits : Text) → list_all is_digit digits ≡ true → walk false digits ≡ Some false
+  unfolding walk
+  walk_all digits e = ap (walk false) (sym (append-nil digits)) ∙ walk_digits digits [] e
+
+  walk_fraction : (f : Fraction) (text : Text) → is_numeral_fraction f ≡ true → walk false (fraction_text (decimal_sign locale) f ++ text) ≡ walk false text
+  walk_fraction NoFraction text e = refl
+  walk_fraction (Places digits) text e =
+      let mark : ℕ = decimal_sign locale in
+      let low = sign_is_ascii locale in
+      walk_turn false false mark (digits ++ text) (grind (arith, nat_tests, low)) (or_right (goes_on_word mark) _ (same mark)) (sign_is_mark locale).no_letter ∙ walk_digits digits text e
+
+  walk_signed : (sign : Sign) (digits : Text) → list_all is_digit digits ≡ true → is_exponent_len (length digits) ≡ true → walk true (sign_text sign ++ digits) ≡ Some false
+  unfolding walk
+  walk_signed Absent [] e some = absurd cc
+  walk_signed Absent (c ∷ digits) e some = let k = and_parts (is_digit c) (list_all is_digit digits) e in digit_turn true c digits k.0 ∙ walk_all digits k.1
+  walk_signed Plus digits e some = walk_all digits e
+  walk_signed Minus digits e some = walk_all digits e
+
+  letter_goes_on : (c : ℕ) → is_exponent_letter c ≡ true → goes_on_number locale c ≡ true
+  letter_goes_on c e = let low : c < 128 = grind (arith, nat_tests) in let is = is_alphabetic_ascii c low in grind (arith, nat_tests, is)
+
+  walk_exponent : (x : Exponent) → is_numeral_exponent x ≡ true → walk false (exponent_text x) ≡ Some false
+  unfolding walk
+  walk_exponent NoExponent e = refl
+  walk_exponent (Power letter sign digits) e =
+      let k = and_parts (is_exponent_letter letter) (is_exponent_len (length digits) && list_all is_digit digits) e in
+      let m = and_parts (is_exponent_len (length digits)) (list_all is_digit digits) k.1 in
+      walk_turn false true letter (sign_text sign ++ digits) (let h = k.0 in grind (arith, nat_tests, h)) (letter_goes_on letter k.0) k.0 ∙ walk_signed sign digits m.1 m.0
+
+  walk_numeral : (negative : Bool) (n : Numeral) → IsNumeral n → walk negative (minus_text negative ++ numeral_text (decimal_sign locale) n) ≡ Some false
+  unfolding walk
+  walk_numeral negative n is = go negative
+    where
+      plain : walk false (numeral_text (decimal_sign locale) n) ≡ Some false
+      plain = walk_digits n.whole (fraction_text (decimal_sign locale) n.fraction ++ exponent_text n.exponent) is.whole ∙ walk_fraction n.fraction (exponent_text n.exponent) is.fraction ∙ walk_exponent n.exponent is.exponent
+
+      go : (b : Bool) → walk b (minus_text b ++ numeral_text (decimal_sign locale) n) ≡ Some false
+      go true = plain
+      go false = plain
+
+  walk_step : (after last : Bool) (c : ℕ) (text : Text) → walk after (c ∷ text) ≡ Some last → ((nat_lt c 128 ≡ true) × (in_number locale after c ≡ true)) × (walk (is_exponent_letter c) text ≡ Some last)
+  unfolding walk
+  walk_step after last c text e = let k = cond_some (nat_lt c 128 && in_number locale after c) (walk (is_exponent_letter c) text) last e in (and_parts _ _ k.0, k.1)
+
+  walk_ascii : (after last : Bool) (text : Text) → walk after text ≡ Some last → IsAscii text
+  walk_ascii after last [] e i = omega arith
+  walk_ascii after last (c ∷ text) e zero = ltb-true c 128 (walk_step after last c text e).0.0
+  walk_ascii after last (c ∷ text) e (suc i) = walk_ascii (is_exponent_letter c) last text (walk_step after last c text e).1 i
+
+  walk_span : (after : Bool) (s rest : Text) → walk after s ≡ Some false → stops (goes_on_number locale) rest ≡ true → number_span locale after (s ++ rest) ≡ (s, rest)
+  unfolding walk
+  walk_span true [] rest e ends = absurd cc
+  walk_span false [] [] e ends = refl
+  walk_span false [] (c ∷ rest) e ends = rw (not_true (goes_on_number locale c) ends)
+  walk_span after (c ∷ s) rest e ends =
+      let k = walk_step after false c s e in
+      rw (k.0.1, walk_span (is_exponent_letter c) s rest k.1 ends)
+
+  -- the characters of a number are its bytes
+  written : (s : Text) (negative : Bool) (n : Numeral) → IsNumeral n → starts_digit s ≡ true → encode_utf8_all s ≡ minus_text negative ++ numeral_text (decimal_sign locale) n → s ≡ numeral_text (decimal_sign locale) n
+  written s negative n is starts e = go negative (encodes_same s bytes (e ∙ sym (encodes-IsAscii bytes (walk_ascii negative false bytes (walk_numeral negative n is)))))
+    where
+      bytes : Text
+      bytes = minus_text negative ++ numeral_text (decimal_sign locale) n
+
+      go : (b : Bool) → s ≡ minus_text b ++ numeral_text (decimal_sign locale) n → s ≡ numeral_text (decimal_sign locale) n
+      go true f = absurd (let x : false ≡ true = sym (ap starts_digit f) ∙ starts in cc)
+      go false f = f
+
+  pub number_read : (number : Decimal) (s rest : Text) → IsNumber locale number s → stops (goes_on_number locale) rest ≡ true → number_at locale (s ++ rest) ≡ Some (t.Number number, rest)
+  unfolding number_at
+  number_read number s rest is ends =
+      let r = is.reads in
+      let spelled = written s r.negative r.numeral r.is_numeral is.starts r.written in
+      let walks : walk false s ≡ Some false = ap (walk false) spelled ∙ walk_numeral false r.numeral r.is_numeral in
+      ap (number_of locale) (walk_span false s rest walks ends)
+      ∙ ap (option_map (λ d. (let q : Token × Text = (t.Number d, rest) in q))) (reads_only (decimal_sign locale) (sign_is_mark locale) (encode_utf8_all s) number r)
+
+-- ---- the text of an error is read just where one is spelled
+
+abbrev Is : Language → Error → Text → Type 0
+Is language error s = error_of_text language (encode_utf8_all s) ≡ Some error
+
+-- ---- what is read is spelled
+
+error_encoded : (error : Error) → encode_utf8_all (error_text error) ≡ error_text error
+unfolding encode
+error_encoded Ref = refl
+error_encoded _ = refl
+
+name_sound : (language : Language) (error : Error) (name text : Text) → Is language error name → Brings (Front (Is language error) text) (strip name text)
+name_sound language error name text is = brings_over _ (strip_sound name text) (λ rest e. record { spelled = name; parts = e; is = is })
+
+english_sound : (language : Language) (errors : List Error) (text : Text) → Brings (λ r. Front (Is language r.0) text r.1) (english_error errors text)
+english_sound language [] text = nothing
+english_sound language (error ∷ errors) text = brings_or _ _ _ (name_sound language error (error_text error) text
+    (ap (error_of_text language) (error_encoded error) ∙ error_of_text-error_text language error)) (λ rest f. f) (λ h. english_sound language errors text)
+
+own_is : (language : Language) → Brings (λ name. Is language Ref name) (own_text language)
+unfolding encode
+own_is De = brings refl
+own_is Es = brings refl
+own_is _ = nothing
+
+pub error_sound : (language : Language) (text : Text) → Brings (λ r. Front (Is language r.0) text r.1) (error_at language text)
+unfolding error_at
+error_sound language text =
+    brings_or _ _ _ (brings_then _ _ (own_is language) (λ name is. name_sound language Ref name text is)) (λ rest f. f) (λ h. english_sound language all_errors text)
+
+-- ---- what is spelled is read: no text of an error begins another
+
+english_read : (language : Language) (error : Error) (rest : Text) → error_at language (error_text error ++ rest) ≡ Some (error, rest)
+unfolding error_at
+english_read En Ref rest = refl
+english_read De Ref rest = refl
+english_read Fr Ref rest = refl
+english_read Es Ref rest = refl
+english_read _ _ rest = refl
+
+own_read : (language : Language) (s rest : Text) → is_own_reference_error language (encode_utf8_all s) ≡ true → error_at language (s ++ rest) ≡ Some (Ref, rest)
+unfolding error_at encode
+own_read De s rest e = rw (← encodes_same (codes "#BEZUG!") s ((bytes_decides _ _).0 e))
+own_read Es s rest e = rw (← encodes_same (35 ∷ 161 ∷ codes "REF!") s ((bytes_decides _ _).0 e))
+own_read _ s rest e = absurd cc
+
+named : (language : Language) (s rest : Text) (error : Error) (own : Bool) → is_own_reference_error language (encode_utf8_all s) ≡ own
+    → cond own (Some Ref) (entry_named error_text all_errors (encode_utf8_all s)) ≡ Some error → error_at language (s ++ rest) ≡ Some (error, rest)
+named language s rest error true h e =
+    let is : Ref ≡ error = cc in
+    rw (← is) (own_read language s rest h)
+named language s rest error false h e =
+    let is : error_text error ≡ s = encodes_same (error_text error) s (error_encoded error ∙ found_name error_text all_errors (encode_utf8_all s) error e) in
+    subst (λ (x : Text). error_at language (x ++ rest) ≡ Some (error, rest)) is (english_read language error rest)
+
+pub error_read : (language : Language) (s : Text) (error : Error) (rest : Text) → Is language error s → error_at language (s ++ rest) ≡ Some (error, rest)
+error_read language s error rest e = named language s rest error (is_own_reference_error language (encode_utf8_all s)) refl e
+
+-- each begins with a hash
+pub error_none : (language : Language) (text : Text) → past 35 text ≡ None → error_at language text ≡ None
+unfolding error_at
+error_none En text e = rw e
+error_none _ text e = rw e
+
+-- ---- a text between quotes is read just where one is spelled
+
+-- ---- what is spelled is read
+
+twice_read : (quote c : ℕ) (z : Text) → quoted quote false (twice quote c ++ z) ≡ in_front c (quoted quote false z)
+twice_read quote c z = cond_both (c == quote) _ _ (λ t. quoted quote false (t ++ z) ≡ in_front c (quoted quote false z))
+    (λ e. rw (same quote, eqb-true c quote e)) (λ e. rw e)
+
+pub quoted_read : (quote : ℕ) (x rest : Text) → stops (λ c. c == quote) rest ≡ true → quoted quote false (doubled quote x ++ (quote ∷ rest)) ≡ Some (x, rest)
+quoted_read quote [] rest e = rw (same quote) (quoted_close quote rest (past_none quote rest e))
+quoted_read quote (c ∷ x) rest e =
+    ap (quoted quote false) (append_assoc (twice quote c) (doubled quote x) (quote ∷ rest)) ∙ twice_read quote c (doubled quote x ++ (quote ∷ rest)) ∙ ap (in_front c) (quoted_read quote x rest e)
+
+-- ---- what is read is spelled
+
+-- the text up to the closing quote, maybe behind a quote
+pub record Closes (quote : ℕ) (behind : Bool) (text x rest : Text) : Type 0 where
+  pub parts : cond behind (quote ∷ text) text ≡ doubled quote x ++ (quote ∷ rest)
+  pub ends : stops (λ c. c == quote) rest ≡ true
+
+quoted_sound : (quote : ℕ) (behind : Bool) (text : Text) → Brings (λ r. Closes quote behind text r.0 r.1) (quoted quote behind text)
+quoted_sound quote false [] = nothing
+quoted_sound quote true [] = brings (record { parts = refl; ends = refl })
+quoted_sound quote false (c ∷ text) = brings_cond (c == quote) _ _
+    (λ e. brings_over _ (quoted_sound quote true text) (λ r f. record { parts = rw (eqb-true c quote e) f.parts; ends = f.ends }))
+    (λ e. brings_map _ _ (quoted_sound quote false text) (λ r f. record { parts = rw (e, f.parts); ends = f.ends }))
+quoted_sound quote true (c ∷ text) = brings_cond (c == quote) _ _
+    (λ e. brings_map _ _ (quoted_sound quote false text) (λ r f. record { parts = rw (eqb-true c quote e, same quote, f.parts); ends = f.ends }))
+    (λ e. brings (record { parts = refl; ends = ap not e }))
+
+pub quoted_text_sound : (quote : ℕ) (text : Text) → Brings (λ r. (x : Text) × (r.0 ≡ encode_utf8_all x) × Closes quote false text x r.1) (quoted_text quote text)
+unfolding quoted_text
+quoted_text_sound quote text = brings_map _ _ (quoted_sound quote false text) (λ r f. (r.0, refl, f))

@@ -2,7 +2,7 @@
 use Rattle.std.proofs.Common.{◌≡◌, ◌≢◌, ℕ, ◌<◌, true, false, [], ◌∷◌, ◌++◌, length, Option, Some, None, refl, sym, ap, subst, ◌∙◌, append_assoc, arith, Bool, cond, zero, suc, ◌+◌, ◌⊎◌, inl, inr, List, length-append, append-nil, option_map}
 use Rattle.std.specs.Prelude.{not, ◌==◌, ◌||◌, encode_utf8_all, IfSome, MatchOption}
 use Rattle.std.specs.List.{list_all}
-use Rattle.std.specs.Option.{option_or, option_map, option_and_then}
+use Rattle.std.specs.Option.{option_or, option_map}
 use Rattle.std.proofs.lemmas.Bool.{and_parts, or_parts, both_ways, and_from, or_from, eqb-true, or_cases, false_from_ne_true}
 use Rattle.std.proofs.lemmas.Str.{length-le-encodes}
 use Rattle.std.proofs.lemmas.Bool.Decides.{nat_tests}
@@ -14,20 +14,18 @@ use Rattle.base_tables.specs.Error.{error_of_text}
 use Rattle.base_tables.specs.Word.{is_digit, is_word, starts_word, goes_on_word, reads_as_cell, begins_word}
 use Rattle.base_decimal.specs.declared.Decimal.{Decimal}
 use Rattle.base_decimal.specs.Digits.{stops, span}
-use Rattle.base_decimal.proofs.Spans.{span_at, stops_sooner, not_true, span_parts, span_all, span_stops}
+use Rattle.base_decimal.proofs.Spans.{span_at, not_true, span_parts, span_all, span_stops}
 use Rattle.formula_grammar.specs.declared.CellMark.{CellMark}
 use Rattle.formula_grammar.specs.declared.Token.{Token}
 use Rattle.formula_grammar.specs.declared.Token.TheVariants as t
 use Rattle.formula_lex.specs.declared.place.Spot.{Spot}
-use Rattle.formula_lex.specs.Characters.{Text, is_blank, goes_on_place, goes_on_name, doubled}
-use Rattle.formula_lex.specs.Lexicon.{IsCell, IsRange, IsSheetName, plain, quoted, IsSheet, OnSheet, IsNumber, Spells, NoRange, NoError, Ends, NoCell, IsPair, IsTokens}
-use Rattle.formula_lex.specs.laws.Lex.{past, is_sign, on_sheet, behind_word, word_at, behind_quotes, quoted_text, quoted_sheet_at, text_at, plain_at, error_or_hash, error_at, behind_less, behind_greater, by_sign, place_token, place_at, spot_at, range_behind, token_at, number_at, if_next, single, some_text, behind_blanks, with_token, tokens_from, tokens_of}
-use Rattle.formula_lex.proofs.Places.{start_is, Marks, ranged, IsSpot, Placed, range_sound, spot_sound, range_read, cell_read, spot_starts, no_spot, cell_no_digit, word_no_spot}
-use Rattle.formula_lex.proofs.Reading.{Front, Brings, nothing, brings, brings_at, brings_none, brings_each, brings_over, brings_map, brings_then, brings_or, brings_cond, past_none, past_sound, past_stops}
-use Rattle.formula_lex.proofs.Words.{error_sound, error_read, error_none, number_read, FrontNumber, number_sound, quoted_read, quoted_text_sound}
+use Rattle.formula_lex.specs.Characters.{Text, is_blank, goes_on_place, doubled}
+use Rattle.formula_lex.specs.Lexicon.{IsCell, IsRange, IsSheetName, plain, quoted, IsSheet, OnSheet, IsNumber, Spells, NoRange, NoError, Ends, NoCell, IsPair, Begins, IsTokens}
+use Rattle.formula_lex.specs.laws.Lex.{past, is_sign, on_sheet, behind_word, word_at, behind_quotes, quoted_text, quoted_sheet_at, text_at, plain_at, error_or_hash, error_at, behind_less, behind_greater, by_sign, place_token, place_at, spot_at, token_at, if_next, single, some_text, behind_blanks, with_token, tokens_from, tokens_of}
+use Rattle.formula_lex.proofs.Places.{start_is, IsSpot, Placed, range_sound, spot_sound, range_read, cell_read, spot_starts, no_spot, cell_no_digit, word_no_spot}
+use Rattle.formula_lex.proofs.Reading.{Front, Brings, nothing, brings, brings_at, brings_none, brings_each, brings_over, brings_map, brings_then, brings_or, brings_cond, past_none, past_sound, past_stops, error_sound, error_read, error_none, number_read, number_sound, quoted_read, quoted_text_sound}
 use Rattle.formula_lex.specs.declared.place.Side.TheVariants as side
 use Rattle.formula_lex.specs.declared.place.Spot.TheVariants as spot
-use Rattle.formula_lex.specs.laws.Lex as lex
 
 -- ---- a token that is spelled is read
 
@@ -426,18 +424,18 @@ module _ (locale : Locale) (language : Language) where
 
   -- ---- a turn: the bound does not matter where it is large enough
 
+  turn_begins : (text z rest : Text) (x : Token) → behind_blanks text ≡ Some z → token_at locale language z ≡ Some (x, rest) → Begins locale language text x rest
+  turn_begins text z rest x e g =
+      let b = subst (λ o. MatchOption o (list_all is_blank text ≡ true) (Behind text)) e (blanks_sound text) in
+      let f = token_sound locale language z (x, rest) g in
+      record { blanks = b.0; spelled = f.spelled; parts = b.1 ∙ ap (λ (y : Text). b.0 ++ y) f.parts; all_blank = b.2; spells = f.spells; ends = f.ends }
+
   pub turn_shorter : (text z rest : Text) (x : Token) → behind_blanks text ≡ Some z → token_at locale language z ≡ Some (x, rest) → length rest < length text
-  turn_shorter text z rest x e g = go f.spelled f.spells (ap length (b.1 ∙ ap (λ (y : Text). b.0 ++ y) f.parts))
+  turn_shorter text z rest x e g = let b = turn_begins text z rest x e g in go b.blanks b.spelled b.spells b.parts
     where
-      b : Behind text z
-      b = subst (λ o. MatchOption o (list_all is_blank text ≡ true) (Behind text)) e (blanks_sound text)
-
-      f : FrontToken locale language z x rest
-      f = token_sound locale language z (x, rest) g
-
-      go : (s : Text) → Spells locale language x s → length text ≡ length (b.0 ++ (s ++ rest)) → length rest < length text
-      go [] is n = absurd (not_empty x is)
-      go (c ∷ s) is n = omega (arith, length-append b.0 (c ∷ s ++ rest), length-append s rest)
+      go : (blanks s : Text) → Spells locale language x s → text ≡ blanks ++ (s ++ rest) → length rest < length text
+      go blanks [] is parts = absurd (not_empty x is)
+      go blanks (c ∷ s) is parts = omega (arith, ap length parts, length-append blanks (c ∷ s ++ rest), length-append s rest)
 
   turn_same : (f g : Lexer) (text : Text) → ((rest : Text) → length rest < length text → f rest ≡ g rest) → with_token locale language f (behind_blanks text) ≡ with_token locale language g (behind_blanks text)
   turn_same f g text h =
@@ -471,12 +469,14 @@ module _ (locale : Locale) (language : Language) where
 
   with_sound : (f : Lexer) → ((text : Text) → Brings (IsTokens locale language text) (f text)) → (text : Text)
       → Brings (IsTokens locale language text) (with_token locale language f (behind_blanks text))
-  with_sound f again text = go (behind_blanks text) (blanks_sound text)
+  with_sound f again text = go (behind_blanks text) (blanks_sound text) (turn_begins text)
     where
-      go : (o : Option Text) → MatchOption o (list_all is_blank text ≡ true) (Behind text) → Brings (IsTokens locale language text) (with_token locale language f o)
-      go None b = brings b
-      go (Some z) b = brings_then _ _ (brings_each (token_at locale language z) (token_sound locale language z)) (λ p g. brings_map _ _ (again p.1) (λ ts h.
-          (p.1, record { blanks = b.0; spelled = g.spelled; parts = rw (b.1, g.parts); all_blank = b.2; spells = g.spells; ends = g.ends }, h)))
+      go : (o : Option Text) → MatchOption o (list_all is_blank text ≡ true) (Behind text)
+          → ((z rest : Text) (x : Token) → o ≡ Some z → token_at locale language z ≡ Some (x, rest) → Begins locale language text x rest)
+          → Brings (IsTokens locale language text) (with_token locale language f o)
+      go None b begins = brings b
+      go (Some z) b begins = brings_then _ _ (brings_each (token_at locale language z) (λ p e. begins z p.1 p.0 refl e))
+          (λ p g. brings_map _ _ (again p.1) (λ ts h. (p.1, g, h)))
 
   from_sound : (k : ℕ) (text : Text) → Brings (IsTokens locale language text) (tokens_from locale language k text)
   unfolding tokens_from

@@ -1,0 +1,202 @@
+-- What may stand first in a tree, and what may stand after the tokens of a rule without going on with it.
+use Rattle.std.proofs.Common.{◌≡◌, ℕ, suc, ◌<◌, ◌≤◌, Bool, true, false, cond, List, [], ◌∷◌, Option, Some, None, option_and_then, refl, ap, ◌∙◌, arith, ◌++◌, sym, subst, append_assoc}
+use Rattle.std.specs.Prelude.{◌==◌}
+use Rattle.std.proofs.lemmas.Bool.{eq-eqb, ne_eqb}
+use Rattle.std.proofs.lemmas.Bool.Decides.{nat_tests}
+use Rattle.base_tables.specs.declared.Locale.{Locale}
+use Rattle.formula_tree.specs.declared.node.Node.{Node}
+use Rattle.formula_grammar.specs.declared.operator.Operator.{Operator}
+use Rattle.formula_grammar.specs.declared.profile.Profile.{Profile}
+use Rattle.formula_grammar.specs.declared.token.Token.{Token}
+use Rattle.formula_grammar.specs.Operators.{infix_token, postfix_token, prefix_under, prefix_token}
+use Rattle.formula_grammar.specs.Words.{separator_token, row_token, worded}
+use Rattle.formula_grammar.specs.laws.Reading.{Parser, with_rest, operator_of, operator_under, own, operator_at, opening, closing, is_separator, separator, is_empty_here, after_item, named, parameter, sign_at, signed_step, signed}
+use Rattle.formula_levels.specs.declared.prefix.Prefix.{Prefix}
+use Rattle.formula_grammar.specs.Grammar.{Expression, Lambda, expression_tokens, lambda_tokens, arguments_tokens}
+use Rattle.base_tables.specs.declared.Locale.TheVariants as locale
+use Rattle.formula_tree.specs.declared.operator.CompareKind.TheVariants as compare_kind
+use Rattle.formula_tree.specs.declared.operator.ProductKind.TheVariants as product_kind
+use Rattle.formula_tree.specs.declared.operator.SumKind.TheVariants as sum_kind
+use Rattle.formula_levels.specs.declared.infix.Infix.TheVariants as between
+use Rattle.formula_levels.specs.declared.postfix.Postfix.TheVariants as postfix
+use Rattle.formula_grammar.specs.declared.after_item.AfterItem.TheVariants as after
+use Rattle.formula_grammar.specs.declared.operator.Operator.TheVariants as operator
+use Rattle.formula_grammar.specs.declared.token.Token.TheVariants as t
+use Rattle.formula_levels.specs.declared.prefix.Prefix.TheVariants as prefix
+use Rattle.formula_grammar.specs.Grammar as G
+
+abbrev pub operator_token : Operator → Token
+operator_token (operator.Infix op) = infix_token op
+operator_token (operator.Postfix op) = postfix_token op
+
+-- the level at which a token goes on with what stands before it, and 11 where it does not
+abbrev pub level_of : Option Operator → ℕ
+level_of (Some op) = suc (operator_under op)
+level_of None = 11
+
+abbrev pub binds : Token → ℕ
+binds t.OpenParenthesis = 0
+binds x = level_of (operator_of x)
+
+-- what comes does not go on with a tree of this level
+abbrev pub EndsAt : ℕ → List Token → Type 0
+EndsAt level [] = Unit {0}
+EndsAt level (x ∷ ts) = level < binds x
+
+pub ends_sooner : (k l : ℕ) (ts : List Token) → k ≤ l → EndsAt l ts → EndsAt k ts
+ends_sooner k l [] h e = tt
+ends_sooner k l (x ∷ ts) h e = omega arith
+
+-- an operator of a tighter or looser level is not one of this level
+own_none : (under : ℕ) (ts : List Token) (o : Option Operator) → suc under < level_of o → with_rest ts (option_and_then (own operator_under under) o) ≡ None
+own_none under ts None h = refl
+own_none under ts (Some op) h = rw (ne_eqb (operator_under op) under (λ same. omega arith))
+
+pub ends_operator : (under : ℕ) (ts : List Token) → EndsAt (suc under) ts → operator_at under ts ≡ None
+ends_operator under [] h = refl
+ends_operator under (t.OpenParenthesis ∷ ts) h = refl
+ends_operator under (x ∷ ts) h = own_none under ts (operator_of x) h
+
+pub ends_lambda : (ts : List Token) → EndsAt 0 ts → opening ts ≡ None
+ends_lambda [] h = refl
+ends_lambda (t.OpenParenthesis ∷ ts) h = absurd (omega arith)
+ends_lambda (_ ∷ ts) h = refl
+
+pub ends_word : (p : Profile) (inner : ℕ → Parser Node) (room : ℕ) (word : List ℕ) (ts : List Token) → EndsAt 0 ts → named p inner room word ts ≡ Some (worded p.language word, ts)
+ends_word p inner room word [] h = refl
+ends_word p inner room word (t.OpenParenthesis ∷ ts) h = absurd (omega arith)
+ends_word p inner room word (_ ∷ ts) h = refl
+
+pub ends_at_separator : (locale : Locale) (ts : List Token) → is_empty_here locale ts ≡ true → EndsAt 10 ts
+ends_at_separator locale [] h = tt
+ends_at_separator locale (t.CloseParenthesis ∷ ts) h = omega arith
+ends_at_separator locale (t.Comma ∷ ts) h = omega arith
+ends_at_separator locale (t.Semicolon ∷ ts) h = omega arith
+ends_at_separator locale (_ ∷ ts) h = absurd cc
+
+-- ---- the tokens of operators
+
+pub record Known (op : Operator) : Type 0 where
+  pub is : operator_of (operator_token op) ≡ Some op
+  pub binds_so : binds (operator_token op) ≡ suc (operator_under op)
+  pub parts_none : (locale : Locale) → is_separator locale (operator_token op) ≡ false
+
+pub known : (op : Operator) → Known op
+known op = record { is = grind arith; binds_so = grind arith; parts_none = λ locale. grind arith }
+
+pub operator_reads : (op : Operator) (ts : List Token) → operator_at (operator_under op) (operator_token op ∷ ts) ≡ Some (op, ts)
+operator_reads op ts = rw ((known op).is, eq-eqb (operator_under op) (operator_under op) refl)
+
+-- an operator does not go on with what is tighter
+pub operator_ends : (op : Operator) (ts : List Token) → EndsAt (operator_under op) (operator_token op ∷ ts)
+operator_ends op ts = omega (arith, (known op).binds_so)
+
+-- ---- the separators of a locale
+
+pub record Separates (locale : Locale) : Type 0 where
+  pub parts : is_separator locale (separator_token locale) ≡ true
+  pub reads : (ts : List Token) → separator locale (separator_token locale ∷ ts) ≡ Some (true, ts)
+  pub empty : (ts : List Token) → is_empty_here locale (separator_token locale ∷ ts) ≡ true
+  pub no_end : (ts : List Token) → closing (separator_token locale ∷ ts) ≡ None
+  pub column : (ts : List Token) → after_item locale (separator_token locale ∷ ts) ≡ Some (after.Column, ts)
+  pub row : (ts : List Token) → after_item locale (row_token locale ∷ ts) ≡ Some (after.Row, ts)
+
+pub separates : (locale : Locale) → Separates locale
+separates locale.En = record { parts = refl; reads = λ ts. refl; empty = λ ts. refl; no_end = λ ts. refl; column = λ ts. refl; row = λ ts. refl }
+separates _ = record { parts = refl; reads = λ ts. refl; empty = λ ts. refl; no_end = λ ts. refl; column = λ ts. refl; row = λ ts. refl }
+
+abbrev pub opens : Token → ℕ
+opens (t.Number value) = 0
+opens (t.Text value) = 0
+opens (t.Error x) = 0
+opens (t.Word word) = 0
+opens (t.Reference sheet mark) = 0
+opens (t.Range sheet first second) = 0
+opens t.OpenParenthesis = 0
+opens t.OpenBrace = 0
+opens t.At = 3
+opens t.Plus = 5
+opens t.Minus = 5
+opens _ = 11
+
+abbrev pub StartsAt : ℕ → List Token → Type 0
+StartsAt level [] = ⊥
+StartsAt level (x ∷ ts) = opens x ≤ level
+
+starts_later : (k l : ℕ) (ts : List Token) → k ≤ l → StartsAt k ts → StartsAt l ts
+starts_later k l [] h e = absurd e
+starts_later k l (x ∷ ts) h e = omega arith
+
+-- a sign has a level above
+other_sign : (under : ℕ) (op : Prefix) → suc (prefix_under op) ≤ under → own prefix_under under op ≡ None
+other_sign under op h = rw (ne_eqb (prefix_under op) under (λ same. omega arith))
+
+no_sign : (under : ℕ) (x : Token) → opens x ≤ under → sign_at under x ≡ None
+no_sign under t.Minus h = other_sign under prefix.Minus h
+no_sign under t.Plus h = other_sign under prefix.Plus h
+no_sign under t.At h = other_sign under prefix.At h
+no_sign under _ h = refl
+
+-- no sign stands there
+pub unsigned : (under : ℕ) (operand : Parser Node) (ts : List Token) → StartsAt under ts → signed under operand ts ≡ operand ts
+unfolding signed
+unsigned under operand [] h = absurd h
+unsigned under operand (x ∷ ts) h = ap (signed_step under operand (operand (x ∷ ts)) (signed under operand ts)) (no_sign under x h)
+
+sign_opens : (op : Prefix) → opens (prefix_token op) ≤ suc (prefix_under op)
+sign_opens op = grind arith
+
+-- nor the end of an argument
+pub starts_given : (locale : Locale) (ts : List Token) → StartsAt 10 ts → is_empty_here locale ts ≡ false
+starts_given locale [] h = absurd h
+starts_given locale (t.CloseParenthesis ∷ ts) h = absurd (omega arith)
+starts_given locale (t.Comma ∷ ts) h = absurd (omega arith)
+starts_given locale (t.Semicolon ∷ ts) h = absurd (omega arith)
+starts_given locale (_ ∷ ts) h = refl
+
+pub starts_no_close : (ts : List Token) → StartsAt 10 ts → closing ts ≡ None
+starts_no_close [] h = absurd h
+starts_no_close (t.CloseParenthesis ∷ ts) h = absurd (omega arith)
+starts_no_close (_ ∷ ts) h = refl
+
+-- ---- no tree is a parameter with a separator after it
+
+-- no separator stands there
+abbrev pub GoesOn : Locale → List Token → Type 0
+GoesOn locale [] = Unit {0}
+GoesOn locale (x ∷ ts) = is_separator locale x ≡ false
+
+no_word : (locale : Locale) (word : List ℕ) (ts : List Token) → GoesOn locale ts → parameter locale (t.Word word ∷ ts) ≡ None
+no_word locale word [] h = refl
+no_word locale word (x ∷ ts) h = rw h refl
+
+sign_no_parameter : (locale : Locale) (op : Prefix) (ts : List Token) → parameter locale (prefix_token op ∷ ts) ≡ None
+sign_no_parameter locale prefix.Minus ts = refl
+sign_no_parameter locale _ ts = refl
+
+-- ---- the tokens of a tree, before others
+
+pub record Begins (locale : Locale) (level : ℕ) (ts r : List Token) : Type 0 where
+  pub starts : StartsAt level (ts ++ r)
+  pub no_parameter : GoesOn locale r → parameter locale (ts ++ r) ≡ None
+
+regrouped : (locale : Locale) (level : ℕ) (a b r : List Token) → Begins locale level a (b ++ r) → GoesOn locale (b ++ r) → Begins locale level (a ++ b) r
+regrouped locale level a b r h goes_on = record {
+  starts = subst (StartsAt level) (sym (append_assoc a b r)) h.starts;
+  no_parameter = λ _. ap (parameter locale) (append_assoc a b r) ∙ h.no_parameter goes_on;
+}
+
+mutual
+  pub begins : {p : Profile} {level : ℕ} (d : Expression p level) (r : List Token) → Begins p.locale level (expression_tokens d) r
+  begins (G.lift {level = l} a) r = let b = begins a r in record { starts = starts_later l (suc l) (expression_tokens a ++ r) (omega arith) b.starts; no_parameter = b.no_parameter }
+  begins {p} {level} (G.joined op a b) r =
+      regrouped p.locale level (expression_tokens a) (infix_token op ∷ expression_tokens b) r (begins a _) ((known (operator.Infix op)).parts_none p.locale)
+  begins {p} {level} (G.followed op a) r = regrouped p.locale level (expression_tokens a) (postfix_token op ∷ []) r (begins a _) ((known (operator.Postfix op)).parts_none p.locale)
+  begins {p} (G.signed op a) r = record { starts = sign_opens op; no_parameter = λ _. sign_no_parameter p.locale op (expression_tokens a ++ r) }
+  begins {p} (G.word name) r = record { starts = omega arith; no_parameter = no_word p.locale name r }
+  begins (G.lambda a) r = lambda_begins a r
+  begins _ r = record { starts = omega arith; no_parameter = λ _. refl }
+
+  lambda_begins : {p : Profile} (d : Lambda p) (r : List Token) → Begins p.locale 0 (lambda_tokens d) r
+  lambda_begins (G.function name is parameters body) r = record { starts = omega arith; no_parameter = λ _. refl }
+  lambda_begins {p} (G.applied a all) r = regrouped p.locale 0 (lambda_tokens a) (t.OpenParenthesis ∷ arguments_tokens all ++ t.CloseParenthesis ∷ []) r (lambda_begins a _) refl

@@ -49,8 +49,7 @@ ends_sooner k l (x ∷ ts) h e = omega arith
 
 -- an operator of a tighter or looser level is not one of this level
 own_none : (under : ℕ) (ts : List Token) (o : Option Operator) → suc under < level_of o → with_rest ts (option_and_then (own operator_under under) o) ≡ None
-own_none under ts None h = refl
-own_none under ts (Some op) h = rw (ne_eqb (operator_under op) under (λ same. omega arith))
+own_none under ts o h = grind (arith, nat_tests)
 
 pub ends_operator : (under : ℕ) (ts : List Token) → EndsAt (suc under) ts → operator_at under ts ≡ None
 ends_operator under [] h = refl
@@ -105,6 +104,7 @@ pub separates : (locale : Locale) → Separates locale
 separates locale.En = record { parts = refl; reads = λ ts. refl; empty = λ ts. refl; no_end = λ ts. refl; column = λ ts. refl; row = λ ts. refl }
 separates _ = record { parts = refl; reads = λ ts. refl; empty = λ ts. refl; no_end = λ ts. refl; column = λ ts. refl; row = λ ts. refl }
 
+-- the level at which a token may stand first, and 11 where it may not
 abbrev pub opens : Token → ℕ
 opens (t.Number value) = 0
 opens (t.Text value) = 0

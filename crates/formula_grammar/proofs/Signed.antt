@@ -23,13 +23,11 @@ module _ (op : Prefix) where
   unit m = Some m
 
   some_same : (o : Option Node) → option_and_then unit o ≡ o
-  some_same None = refl
-  some_same (Some m) = refl
+  some_same o = grind arith
 
   outer_some : (k : ℕ) → ((tree : Node) → once (wrapped op k tree) ≡ option_and_then (wrapped op k) (made (prefix_node op tree)))
       → (o : Option Node) → once (option_and_then (wrapped op k) o) ≡ option_and_then (wrapped op (suc k)) o
-  outer_some k again None = refl
-  outer_some k again (Some m) = again m
+  outer_some k again o = grind (arith, again)
 
   outer : (k : ℕ) (tree : Node) → once (wrapped op k tree) ≡ option_and_then (wrapped op k) (made (prefix_node op tree))
   outer zero tree = sym (some_same (made (prefix_node op tree)))
@@ -40,33 +38,23 @@ module _ (op : Prefix) where
   one_more_sign k (Some p) = turn (wrapped op k p.0) ∙ ap (with_rest p.1) (outer k p.0)
     where
       turn : (m : Option Node) → and_then (with_rest p.1 m) (λ tree. make (prefix_node op tree)) ≡ with_rest p.1 (once m)
-      turn None = refl
-      turn (Some x) = refl
+      turn m = grind arith
 
   no_sign : (o : Outcome Node) → o ≡ around o 0
-  no_sign None = refl
-  no_sign (Some p) = refl
+  no_sign o = grind arith
 
 -- behind a plus sign nothing is made
 plain : (o : Outcome Node) → and_then o pure ≡ o
-plain None = refl
-plain (Some p) = refl
+plain o = grind arith
 
 -- an operator that has this level under it
 pub own_is : {Op : Type 0} (under_of : Op → ℕ) (under : ℕ) (o : Option Op) (op : Op) → option_and_then (own under_of under) o ≡ Some op → (o ≡ Some op) × (under_of op ≡ under)
-own_is under_of under None op e = absurd cc
-own_is under_of under (Some x) op e = go (under_of x == under) refl e
-  where
-    go : (b : Bool) → (under_of x == under) ≡ b → cond b (Some x) None ≡ Some op → (Some x ≡ Some op) × (under_of op ≡ under)
-    go true h f = let is : under_of x ≡ under = grind (arith, nat_tests) in (f, (let same : x ≡ op = cc in ap under_of (sym same) ∙ is))
-    go false h f = absurd cc
+own_is under_of under o op e = grind (arith, nat_tests)
 
 -- the sign that a token is
 sign_is : (x : Token) (op : Prefix) → sign_of x ≡ Some op → x ≡ prefix_token op
-sign_is t.Minus op e = let same : prefix.Minus ≡ op = cc in ap prefix_token same
-sign_is t.Plus op e = let same : prefix.Plus ≡ op = cc in ap prefix_token same
-sign_is t.At op e = let same : prefix.At ≡ op = cc in ap prefix_token same
-sign_is _ op e = absurd cc
+sign_is t.Minus op e = cc
+sign_is _ op e = cc
 
 pub prefix_is : (under : ℕ) (x : Token) (op : Prefix) → sign_at under x ≡ Some op → (prefix_under op ≡ under) × (x ≡ prefix_token op)
 prefix_is under x op e = let q = own_is prefix_under under (sign_of x) op e in (q.1, sign_is x op q.0)

@@ -25,7 +25,7 @@ use Rattle.formula_tree.specs.Numbers.{constant_follows, lines_follow, numbers_f
 use Rattle.formula_tree.specs.ParseError.{is_parse_error}
 use Rattle.formula_tree.specs.Placed.{is_placed}
 use Rattle.formula_tree.specs.laws.CornerLaws.{corner_row-corner_to, corner_column-corner_to}
-use Rattle.formula_tree.specs.laws.NumbersEquations.{numberings}
+use Rattle.formula_tree.specs.laws.NumbersEquations.{numbers_array, numberings}
 use Rattle.formula_tree.specs.laws.ParseErrorEquations.{parse_errors}
 use Rattle.formula_tree.specs.laws.PlacedEquations.{placed_range, placings}
 use Rattle.formula_tree.specs.laws.PlacedLaws.{ordered_placed}
@@ -160,27 +160,15 @@ rows_follow {p} r (G.above x rows) e =
     and_from _ _ (and_from _ _ (item_follows r x (before (token_follows r) (numbers_follow r) (item_tokens x) _ e)) refl)
     (rows_follow r rows (behind (token_follows r) (numbers_follow r) (item_tokens x) (row_token p.locale) _ e))
 
+array_follows : {p : Profile} (r : NumberRule) (rows : Rows p) → tokens_follow r (rows_tokens rows) ≡ true → numbers_follow r (n.Array (rows_lines rows)) ≡ true
+array_follows r rows e = numbers_array r (rows_lines rows) ∙ rows_follow r rows e
+
 pub expression_follows : {p : Profile} (r : NumberRule) {level : ℕ} (d : Expression p level) → tokens_follow r (expression_tokens d) ≡ true
     → numbers_follow r (expression_tree d) ≡ true
 expression_follows {p} r d = expression_holds (token_follows r) (numbers_follow r) keeps d
   where
     keeps : Keeps p (token_follows r) (numbers_follow r)
-    keeps = record {
-      infixes = λ op a b x y. grind (arith, numberings);
-      postfixes = λ op a x. grind (arith, numberings);
-      prefixes = λ op a x. grind (arith, numberings);
-      number = λ value e. grind (arith, numberings);
-      text = λ value. search numberings;
-      error = λ x. search numberings;
-      reference = λ sheet mark at is. search numberings;
-      range = λ sheet first second start stop is also. search numberings;
-      array = λ rows e. (let f = rows_follow r rows e in grind (arith, numberings));
-      call = λ function word all e. grind (arith, numberings);
-      word = λ value word. grind (arith, numberings);
-      lambda = λ parameters a x. grind (arith, numberings);
-      lambda_call = λ a all x y. grind (arith, numberings);
-      empty = search numberings;
-    }
+    keeps = search (arith, numberings, array_follows)
 
 -- ---- corners
 
@@ -213,23 +201,7 @@ pub expression_placed : {p : Profile} {level : ℕ} (d : Expression p level) →
 expression_placed {p} d = expression_holds any (is_placed p.place) keeps d (any_right (expression_tokens d))
   where
     keeps : Keeps p any (is_placed p.place)
-    keeps = record {
-      infixes = λ op a b x y. grind (arith, placings);
-      postfixes = λ op a x. grind (arith, placings);
-      prefixes = λ op a x. grind (arith, placings);
-      number = λ value e. search placings;
-      text = λ value. search placings;
-      error = λ x. search placings;
-      reference = λ sheet mark at is. (let inside = corner_inside p.place mark at is in grind (arith, placings));
-      range = λ sheet first second start stop is also.
-          range_placed p.place sheet _ _ (corner_inside p.place first start is) (corner_inside p.place second stop also);
-      array = λ rows e. search placings;
-      call = λ function word all e. grind (arith, placings);
-      word = λ value word. grind (arith, placings);
-      lambda = λ parameters a x. grind (arith, placings);
-      lambda_call = λ a all x y. grind (arith, placings);
-      empty = search placings;
-    }
+    keeps = search (arith, placings, corner_inside, range_placed)
 
 -- ---- no text outside of the grammar
 
@@ -237,19 +209,4 @@ pub expression_formula : {p : Profile} {level : ℕ} (d : Expression p level) �
 expression_formula {p} d = expression_holds any (λ tree. not (is_parse_error tree)) keeps d (any_right (expression_tokens d))
   where
     keeps : Keeps p any (λ tree. not (is_parse_error tree))
-    keeps = record {
-      infixes = λ op a b x y. grind (arith, parse_errors);
-      postfixes = λ op a x. grind (arith, parse_errors);
-      prefixes = λ op a x. grind (arith, parse_errors);
-      number = λ value e. search parse_errors;
-      text = λ value. search parse_errors;
-      error = λ x. search parse_errors;
-      reference = λ sheet mark at is. search parse_errors;
-      range = λ sheet first second start stop is also. search parse_errors;
-      array = λ rows e. search parse_errors;
-      call = λ function word all e. grind (arith, parse_errors);
-      word = λ value word. grind (arith, parse_errors);
-      lambda = λ parameters a x. search parse_errors;
-      lambda_call = λ a all x y. search parse_errors;
-      empty = search parse_errors;
-    }
+    keeps = search (arith, parse_errors)

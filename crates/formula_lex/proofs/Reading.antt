@@ -233,6 +233,8 @@ quoted_out quote front z e = rw e
 
 pub ruleset quotes = (quoted_start, quoted_out, quoted_more, quoted_end)
 
+-- ---- a number is read just where one is spelled
+
 module _ (locale : Locale) where
   -- ---- what is read is spelled
 

@@ -111,12 +111,10 @@ never_there op [] = refl
 never_there op (x ∷ ts) = no_operator op (operator_of x) ts
 
 sign_here : (op : Prefix) → sign_at (prefix_under op) (prefix_token op) ≡ Some op
-sign_here prefix.Minus = refl
-sign_here _ = refl
+sign_here op = grind (arith, nat_tests)
 
 sign_makes : (op : Prefix) (tree : Node) (rest : List Token) → depth_of (prefix_node op tree) ≤ 64 → make_signed op tree rest ≡ Some (prefix_node op tree, rest)
-sign_makes prefix.Plus tree rest h = refl
-sign_makes op tree rest h = ap (with_rest rest) (made-shallow (prefix_node op tree) h)
+sign_makes op tree rest h = grind (arith, made-shallow)
 
 signed_reads : {p : Profile} (op : Prefix) (a : Expression p (suc (prefix_under op))) → Reads (suc (prefix_under op)) a → Reads (suc (prefix_under op)) (G.signed op a)
 unfolding expression signed

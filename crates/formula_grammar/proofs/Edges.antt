@@ -44,8 +44,7 @@ EndsAt level [] = Unit {0}
 EndsAt level (x ∷ ts) = level < binds x
 
 pub ends_sooner : (k l : ℕ) (ts : List Token) → k ≤ l → EndsAt l ts → EndsAt k ts
-ends_sooner k l [] h e = tt
-ends_sooner k l (x ∷ ts) h e = omega arith
+ends_sooner k l ts h e = grind arith
 
 -- an operator of a tighter or looser level is not one of this level
 own_none : (under : ℕ) (ts : List Token) (o : Option Operator) → suc under < level_of o → with_rest ts (option_and_then (own operator_under under) o) ≡ None
@@ -57,21 +56,13 @@ ends_operator under (t.OpenParenthesis ∷ ts) h = refl
 ends_operator under (x ∷ ts) h = own_none under ts (operator_of x) h
 
 pub ends_lambda : (ts : List Token) → EndsAt 0 ts → opening ts ≡ None
-ends_lambda [] h = refl
-ends_lambda (t.OpenParenthesis ∷ ts) h = absurd (omega arith)
-ends_lambda (_ ∷ ts) h = refl
+ends_lambda ts h = grind arith
 
 pub ends_word : (p : Profile) (inner : ℕ → Parser Node) (room : ℕ) (word : List ℕ) (ts : List Token) → EndsAt 0 ts → named p inner room word ts ≡ Some (worded p.language word, ts)
-ends_word p inner room word [] h = refl
-ends_word p inner room word (t.OpenParenthesis ∷ ts) h = absurd (omega arith)
-ends_word p inner room word (_ ∷ ts) h = refl
+ends_word p inner room word ts h = grind arith
 
 pub ends_at_separator : (locale : Locale) (ts : List Token) → is_empty_here locale ts ≡ true → EndsAt 10 ts
-ends_at_separator locale [] h = tt
-ends_at_separator locale (t.CloseParenthesis ∷ ts) h = omega arith
-ends_at_separator locale (t.Comma ∷ ts) h = omega arith
-ends_at_separator locale (t.Semicolon ∷ ts) h = omega arith
-ends_at_separator locale (_ ∷ ts) h = absurd cc
+ends_at_separator locale ts h = grind arith
 
 -- ---- the tokens of operators
 
@@ -124,18 +115,14 @@ StartsAt level [] = ⊥
 StartsAt level (x ∷ ts) = opens x ≤ level
 
 starts_later : (k l : ℕ) (ts : List Token) → k ≤ l → StartsAt k ts → StartsAt l ts
-starts_later k l [] h e = absurd e
-starts_later k l (x ∷ ts) h e = omega arith
+starts_later k l ts h e = grind arith
 
 -- a sign has a level above
 other_sign : (under : ℕ) (op : Prefix) → suc (prefix_under op) ≤ under → own prefix_under under op ≡ None
 other_sign under op h = rw (ne_eqb (prefix_under op) under (λ same. omega arith))
 
 no_sign : (under : ℕ) (x : Token) → opens x ≤ under → sign_at under x ≡ None
-no_sign under t.Minus h = other_sign under prefix.Minus h
-no_sign under t.Plus h = other_sign under prefix.Plus h
-no_sign under t.At h = other_sign under prefix.At h
-no_sign under _ h = refl
+no_sign under x h = grind (arith, nat_tests)
 
 -- no sign stands there
 pub unsigned : (under : ℕ) (operand : Parser Node) (ts : List Token) → StartsAt under ts → signed under operand ts ≡ operand ts
@@ -148,16 +135,10 @@ sign_opens op = grind arith
 
 -- nor the end of an argument
 pub starts_given : (locale : Locale) (ts : List Token) → StartsAt 10 ts → is_empty_here locale ts ≡ false
-starts_given locale [] h = absurd h
-starts_given locale (t.CloseParenthesis ∷ ts) h = absurd (omega arith)
-starts_given locale (t.Comma ∷ ts) h = absurd (omega arith)
-starts_given locale (t.Semicolon ∷ ts) h = absurd (omega arith)
-starts_given locale (_ ∷ ts) h = refl
+starts_given locale ts h = grind arith
 
 pub starts_no_close : (ts : List Token) → StartsAt 10 ts → closing ts ≡ None
-starts_no_close [] h = absurd h
-starts_no_close (t.CloseParenthesis ∷ ts) h = absurd (omega arith)
-starts_no_close (_ ∷ ts) h = refl
+starts_no_close ts h = grind arith
 
 -- ---- no tree is a parameter with a separator after it
 
@@ -167,12 +148,10 @@ GoesOn locale [] = Unit {0}
 GoesOn locale (x ∷ ts) = is_separator locale x ≡ false
 
 no_word : (locale : Locale) (word : List ℕ) (ts : List Token) → GoesOn locale ts → parameter locale (t.Word word ∷ ts) ≡ None
-no_word locale word [] h = refl
-no_word locale word (x ∷ ts) h = rw h refl
+no_word locale word ts h = grind arith
 
 sign_no_parameter : (locale : Locale) (op : Prefix) (ts : List Token) → parameter locale (prefix_token op ∷ ts) ≡ None
-sign_no_parameter locale prefix.Minus ts = refl
-sign_no_parameter locale _ ts = refl
+sign_no_parameter locale op ts = grind arith
 
 -- ---- the tokens of a tree, before others
 

@@ -49,11 +49,9 @@ after_item_sound _ (t.CloseBrace ∷ ts) = record { read = refl }
 after_item_sound _ _ = record { read = search rules }
 
 item_reads : {p : Profile} (x : Item p) (ts : List Token) → item p.language (item_tokens x ++ ts) ≡ Some (item_value x, ts)
-item_reads (G.plain number) ts = refl
 item_reads (G.negative number value is) ts = ap (λ o. with_rest ts (option_map entry.Number o)) is
-item_reads (G.quoted text) ts = refl
 item_reads (G.boolean word value is) ts = ap (λ o. with_rest ts (option_map entry.Boolean o)) is
-item_reads (G.failed error) ts = refl
+item_reads _ ts = refl
 
 -- lines that begin with the items of this line
 abbrev pub continued : List ArrayItem → List (List ArrayItem) → List (List ArrayItem)
@@ -61,12 +59,10 @@ continued line [] = line ∷ []
 continued line (first ∷ lines) = (line ++ first) ∷ lines
 
 pub continued_before : (line : List ArrayItem) (x : ArrayItem) (lines : List (List ArrayItem)) → continued (line ++ x ∷ []) lines ≡ continued line (before_line x lines)
-continued_before line x [] = refl
-continued_before line x (first ∷ lines) = ap (λ l. l ∷ lines) (append_assoc line (x ∷ []) first)
+continued_before line x lines = grind (arith, append_assoc)
 
 continued_one : (x : ArrayItem) (lines : List (List ArrayItem)) → continued [] (before_line x lines) ≡ before_line x lines
-continued_one x [] = refl
-continued_one x (first ∷ lines) = refl
+continued_one x lines = grind arith
 
 -- there is a first line
 pub continued_none : {p : Profile} (rows : Rows p) → continued [] (rows_lines rows) ≡ rows_lines rows

@@ -107,13 +107,8 @@ module _ (p : Profile) (room : ℕ) where
 
   signed_made : (op : Prefix) (ts rest : List Token) (x : Node) → IsExpression p (suc (prefix_under op)) room ts rest x
       → Brings (IsExpression p (suc (prefix_under op)) room (prefix_token op ∷ ts)) (make_signed op x rest)
-  signed_made prefix.Plus ts rest x a = brings (record {
-    by = G.signed prefix.Plus a.by;
-    parts = rw a.parts;
-    gives = a.gives;
-    within = a.within;
-    shallow = a.shallow;
-  })
+  signed_made prefix.Plus ts rest x a =
+      brings (record { by = G.signed prefix.Plus a.by; parts = rw a.parts; gives = a.gives; within = a.within; shallow = a.shallow })
   signed_made op ts rest x a =
       brings_made (prefix_node op x) rest (λ h. record { by = G.signed op a.by; parts = rw a.parts; gives = rw a.gives; within = a.within; shallow = h })
 

@@ -130,14 +130,7 @@ same_size (negsuc n) = refl
 -- and is kept where it is
 kept_negated : (number value : Decimal) → negated number ≡ Some value → is_kept number ≡ true → is_kept value ≡ true
 unfolding negated is_kept
-kept_negated number value e kept = go (int_le (pos 0) number.mantissa) e
-  where
-    opposite : Decimal
-    opposite = record number { mantissa = neg_ℤ number.mantissa }
-
-    go : (test : Bool) → cond test (Some opposite) None ≡ Some value → is_kept value ≡ true
-    go true f = let same : opposite ≡ value = cc in rw (← same, same_size number.mantissa) kept
-    go false f = absurd cc
+kept_negated number value e kept = grind (arith, same_size)
 
 item_follows : {p : Profile} (r : NumberRule) (x : Item p) → tokens_follow r (item_tokens x) ≡ true → constant_follows r (item_value x) ≡ true
 item_follows rule.Kept (G.plain number) e = (and_parts _ _ e).0
@@ -147,9 +140,7 @@ item_follows rule.NotNegative x e = refl
 
 before_follows : (r : NumberRule) (x : ArrayItem) (lines : List (List ArrayItem)) → constant_follows r x ≡ true → lines_follow r lines ≡ true
     → lines_follow r (before_line x lines) ≡ true
-before_follows r x [] e rest = and_from _ _ (and_from _ _ e refl) refl
-before_follows r x (line ∷ lines) e rest =
-    let parts = and_parts (list_all (constant_follows r) line) (lines_follow r lines) rest in and_from _ _ (and_from _ _ e parts.0) parts.1
+before_follows r x lines e rest = grind arith
 
 rows_follow : {p : Profile} (r : NumberRule) (rows : Rows p) → tokens_follow r (rows_tokens rows) ≡ true → lines_follow r (rows_lines rows) ≡ true
 rows_follow r (G.last x) e = and_from _ _ (and_from _ _ (item_follows r x e) refl) refl

@@ -1,6 +1,6 @@
 -- The depth of what is read, the limit, and how often a chain goes on below it.
-use Rattle.std.proofs.Common.{◌≡◌, ℕ, ◌+◌, ◌<◌, ◌≤◌, max, Bool, true, false, cond, List, [], ◌∷◌, ◌++◌, map, Option, Some, None, refl, arith, suc}
-use Rattle.std.proofs.lemmas.Bool.{le-leb, lt-leb, leb-true}
+use Rattle.std.proofs.Common.{◌≡◌, ℕ, ◌+◌, ◌<◌, ◌≤◌, max, Bool, List, [], ◌∷◌, ◌++◌, map, Option, Some, None, refl, arith, suc}
+use Rattle.std.proofs.lemmas.Bool.{le-leb, lt-leb}
 use Rattle.std.proofs.lemmas.Bool.Decides.{nat_tests}
 use Rattle.base_tables.specs.declared.Function.{Function}
 use Rattle.base_tables.specs.declared.Language.{Language}
@@ -20,9 +20,6 @@ use Rattle.formula_grammar.specs.laws.Reading.{made}
 use Rattle.formula_tree.specs.laws.DepthLaws.{depth_positive}
 use Rattle.formula_grammar.specs.declared.profile.Profile.{Profile}
 use Rattle.formula_grammar.specs.Grammar.{Expression, Lambda, expression_tree, lambda_tree, arguments_trees, passed}
-use Rattle.formula_levels.specs.declared.infix.Infix.TheVariants as between
-use Rattle.formula_levels.specs.declared.postfix.Postfix.TheVariants as postfix
-use Rattle.formula_levels.specs.declared.prefix.Prefix.TheVariants as prefix
 use Rattle.formula_grammar.specs.Grammar as G
 
 depth_call_node : (function : Option Function) (word : List ℕ) (all : List Node) → depth_of (call_node function word all) ≡ greatest (map depth_of all) + 1

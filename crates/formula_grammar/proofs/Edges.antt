@@ -1,7 +1,6 @@
 -- What may stand first in a tree, and what may stand after the tokens of a rule without going on with it.
-use Rattle.std.proofs.Common.{◌≡◌, ℕ, suc, ◌<◌, ◌≤◌, Bool, true, false, cond, List, [], ◌∷◌, Option, Some, None, option_and_then, refl, ap, ◌∙◌, arith, ◌++◌, sym, subst, append_assoc}
-use Rattle.std.specs.Prelude.{◌==◌}
-use Rattle.std.proofs.lemmas.Bool.{eq-eqb, ne_eqb}
+use Rattle.std.proofs.Common.{◌≡◌, ℕ, suc, ◌<◌, ◌≤◌, true, false, List, [], ◌∷◌, Option, Some, None, refl, ap, ◌∙◌, arith, ◌++◌, sym, subst, append_assoc}
+use Rattle.std.proofs.lemmas.Bool.{eq-eqb}
 use Rattle.std.proofs.lemmas.Bool.Decides.{nat_tests}
 use Rattle.base_tables.specs.declared.Locale.{Locale}
 use Rattle.formula_tree.specs.declared.node.Node.{Node}
@@ -10,19 +9,12 @@ use Rattle.formula_grammar.specs.declared.profile.Profile.{Profile}
 use Rattle.formula_grammar.specs.declared.token.Token.{Token}
 use Rattle.formula_grammar.specs.Operators.{infix_token, postfix_token, prefix_under, prefix_token}
 use Rattle.formula_grammar.specs.Words.{separator_token, row_token, worded}
-use Rattle.formula_grammar.specs.laws.Reading.{Parser, with_rest, operator_of, operator_under, own, operator_at, opening, closing, is_separator, separator, is_empty_here, after_item, named, parameter, sign_at, signed_step, signed}
+use Rattle.formula_grammar.specs.laws.Reading.{Parser, operator_of, operator_under, operator_at, opening, closing, is_separator, separator, is_empty_here, after_item, named, parameter, sign_at, signed}
 use Rattle.formula_levels.specs.declared.prefix.Prefix.{Prefix}
 use Rattle.formula_grammar.specs.Grammar.{Expression, Lambda, expression_tokens, lambda_tokens, arguments_tokens}
-use Rattle.base_tables.specs.declared.Locale.TheVariants as locale
-use Rattle.formula_tree.specs.declared.operator.CompareKind.TheVariants as compare_kind
-use Rattle.formula_tree.specs.declared.operator.ProductKind.TheVariants as product_kind
-use Rattle.formula_tree.specs.declared.operator.SumKind.TheVariants as sum_kind
-use Rattle.formula_levels.specs.declared.infix.Infix.TheVariants as between
-use Rattle.formula_levels.specs.declared.postfix.Postfix.TheVariants as postfix
 use Rattle.formula_grammar.specs.declared.after_item.AfterItem.TheVariants as after
 use Rattle.formula_grammar.specs.declared.operator.Operator.TheVariants as operator
 use Rattle.formula_grammar.specs.declared.token.Token.TheVariants as t
-use Rattle.formula_levels.specs.declared.prefix.Prefix.TheVariants as prefix
 use Rattle.formula_grammar.specs.Grammar as G
 
 abbrev pub operator_token : Operator → Token
@@ -46,14 +38,8 @@ EndsAt level (x ∷ ts) = level < binds x
 pub ends_sooner : (k l : ℕ) (ts : List Token) → k ≤ l → EndsAt l ts → EndsAt k ts
 ends_sooner k l ts h e = grind arith
 
--- an operator of a tighter or looser level is not one of this level
-own_none : (under : ℕ) (ts : List Token) (o : Option Operator) → suc under < level_of o → with_rest ts (option_and_then (own operator_under under) o) ≡ None
-own_none under ts o h = grind (arith, nat_tests)
-
 pub ends_operator : (under : ℕ) (ts : List Token) → EndsAt (suc under) ts → operator_at under ts ≡ None
-ends_operator under [] h = refl
-ends_operator under (t.OpenParenthesis ∷ ts) h = refl
-ends_operator under (x ∷ ts) h = own_none under ts (operator_of x) h
+ends_operator under ts h = grind (arith, nat_tests)
 
 pub ends_lambda : (ts : List Token) → EndsAt 0 ts → opening ts ≡ None
 ends_lambda ts h = grind arith
@@ -92,8 +78,7 @@ pub record Separates (locale : Locale) : Type 0 where
   pub row : (ts : List Token) → after_item locale (row_token locale ∷ ts) ≡ Some (after.Row, ts)
 
 pub separates : (locale : Locale) → Separates locale
-separates locale.En = record { parts = refl; reads = λ ts. refl; empty = λ ts. refl; no_end = λ ts. refl; column = λ ts. refl; row = λ ts. refl }
-separates _ = record { parts = refl; reads = λ ts. refl; empty = λ ts. refl; no_end = λ ts. refl; column = λ ts. refl; row = λ ts. refl }
+separates locale = record { parts = grind arith; reads = λ ts. grind arith; empty = λ ts. grind arith; no_end = λ ts. grind arith; column = λ ts. grind arith; row = λ ts. grind arith }
 
 -- the level at which a token may stand first, and 11 where it may not
 abbrev pub opens : Token → ℕ
@@ -117,18 +102,13 @@ StartsAt level (x ∷ ts) = opens x ≤ level
 starts_later : (k l : ℕ) (ts : List Token) → k ≤ l → StartsAt k ts → StartsAt l ts
 starts_later k l ts h e = grind arith
 
--- a sign has a level above
-other_sign : (under : ℕ) (op : Prefix) → suc (prefix_under op) ≤ under → own prefix_under under op ≡ None
-other_sign under op h = rw (ne_eqb (prefix_under op) under (λ same. omega arith))
-
 no_sign : (under : ℕ) (x : Token) → opens x ≤ under → sign_at under x ≡ None
 no_sign under x h = grind (arith, nat_tests)
 
 -- no sign stands there
 pub unsigned : (under : ℕ) (operand : Parser Node) (ts : List Token) → StartsAt under ts → signed under operand ts ≡ operand ts
 unfolding signed
-unsigned under operand [] h = absurd h
-unsigned under operand (x ∷ ts) h = ap (signed_step under operand (operand (x ∷ ts)) (signed under operand ts)) (no_sign under x h)
+unsigned under operand ts h = grind (arith, no_sign)
 
 sign_opens : (op : Prefix) → opens (prefix_token op) ≤ suc (prefix_under op)
 sign_opens op = grind arith

@@ -7,4 +7,3 @@ pub mod Sound
 pub mod Trees
 pub mod Laws
 pub mod Loops
-pub mod Signed

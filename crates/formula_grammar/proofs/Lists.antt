@@ -1,10 +1,10 @@
 -- Arrays and parameters are read just where the grammar derives them.
-use Rattle.std.proofs.Common.{◌≡◌, Bool, true, false, List, [], ◌∷◌, Some, None, refl, ap, rules, ℕ, zero, suc, ◌-◌, ◌<◌, ◌≤◌, cond, ◌++◌, length, option_map, sym, ◌∙◌, append_assoc, append-nil, length-append, arith, Option}
+use Rattle.std.proofs.Common.{◌≡◌, Bool, true, false, List, [], ◌∷◌, Some, None, refl, ap, rules, ℕ, zero, suc, ◌-◌, ◌<◌, ◌≤◌, ◌++◌, length, option_map, sym, ◌∙◌, append_assoc, append-nil, length-append, arith}
 use Rattle.base_tables.specs.declared.Locale.{Locale}
 use Rattle.formula_grammar.specs.declared.after_item.AfterItem.{AfterItem}
 use Rattle.formula_grammar.specs.declared.token.Token.{Token}
 use Rattle.formula_grammar.specs.Words.{separator_token, row_token, parameter_tokens, are_even, negated}
-use Rattle.formula_grammar.specs.laws.Reading.{is_separator, separator, after_item, Outcome, Parser, and_then, pure, with_rest, item, rows_next, rows_from, array, parameter, parameters_step, parameters_from, parameters}
+use Rattle.formula_grammar.specs.laws.Reading.{is_separator, separator, after_item, Outcome, with_rest, item, rows_next, rows_from, array, parameter, parameters_step, parameters_from, parameters}
 use Rattle.formula_grammar.proofs.Steps.{Brings, nothing, brings, brings_if, brings_over, brings_bind, brings_map, brings_by}
 use Rattle.formula_tree.specs.declared.array_item.ArrayItem.{ArrayItem}
 use Rattle.formula_tree.specs.declared.node.Node.{Node}
@@ -26,9 +26,7 @@ separator_of locale true = separator_token locale
 separator_of locale false = t.CloseParenthesis
 
 pub token_parts : (locale : Locale) (x : Token) → is_separator locale x ≡ true → x ≡ separator_token locale
-token_parts locale.En t.Comma e = cc
-token_parts _ t.Comma e = cc
-token_parts _ _ e = cc
+token_parts locale x e = grind arith
 
 pub separator_sound : (locale : Locale) (ts : List Token) → Brings (λ rest b. ts ≡ separator_of locale b ∷ rest) (separator locale ts)
 separator_sound locale [] = nothing
@@ -71,8 +69,7 @@ continued_none (G.beside x rows) = continued_one (item_value x) (rows_lines rows
 continued_none (G.above x rows) = refl
 
 item_long : {p : Profile} (x : Item p) → 1 ≤ length (item_tokens x)
-item_long (G.plain number) = omega arith
-item_long _ = omega arith
+item_long x = grind arith
 
 -- an item and what goes on after it
 item_turn : {p : Profile} (x : Item p) (k : ℕ) (lines : List (List ArrayItem)) (line : List ArrayItem) (ts rest : List Token) (next : AfterItem) → 0 < k → after_item p.locale ts ≡ Some (next, rest)
@@ -114,17 +111,15 @@ unfolding parameters_from
 parameters_end locale zero found ts e = refl
 parameters_end locale (suc k) found ts e = ap (parameters_step (parameters_from locale k) found ts) e
 
-parameter_turn : (locale : Locale) (k : ℕ) (found : List Parameter) (ts rest : List Token) (x : Parameter) → 0 < k → parameter locale ts ≡ Some (x, rest) → parameters_from locale k found ts ≡ parameters_from locale (k - 1) (found ++ x ∷ []) rest
-unfolding parameters_from
-parameter_turn locale k found ts rest x h e = deeper (λ j. parameters_from locale j found ts) k h ∙ ap (parameters_step (parameters_from locale (k - 1)) found ts) e
-
 parameters_follow : (p : Profile) (xs : List Parameter) (k : ℕ) (found : List Parameter) (ts : List Token) → length (parameters_tokens p xs) ≤ k → parameter p.locale ts ≡ None
     → parameters_from p.locale k found (parameters_tokens p xs ++ ts) ≡ Some (found ++ xs, ts)
+unfolding parameters_from
 parameters_follow p [] k found ts enough e = parameters_end p.locale k found ts e ∙ ap (λ l. Some (l, ts)) (sym (append-nil found))
 parameters_follow p (x ∷ xs) k found ts enough e =
     let long = length-append (parameter_tokens x) (separator_token p.locale ∷ parameters_tokens p xs) in
     ap (parameters_from p.locale k found) (append_assoc (parameter_tokens x) (separator_token p.locale ∷ parameters_tokens p xs) ts)
-    ∙ parameter_turn p.locale k found _ (parameters_tokens p xs ++ ts) x (omega (arith, long)) (parameter_reads p.locale x.name x.optional (parameters_tokens p xs ++ ts))
+    ∙ deeper (λ j. parameters_from p.locale j found (parameter_tokens x ++ separator_token p.locale ∷ (parameters_tokens p xs ++ ts))) k (omega (arith, long))
+    ∙ ap (parameters_step (parameters_from p.locale (k - 1)) found _) (parameter_reads p.locale x.name x.optional (parameters_tokens p xs ++ ts))
     ∙ parameters_follow p xs (k - 1) (found ++ x ∷ []) ts (omega (arith, long)) e
     ∙ rw (append_assoc found (x ∷ []) xs)
 

@@ -1,13 +1,14 @@
 -- What is read is derived by the grammar.
-use Rattle.std.proofs.Common.{◌≡◌, ℕ, zero, suc, ◌-◌, ◌≤◌, Bool, true, false, List, [], ◌∷◌, ◌++◌, length, Option, Some, None, option_and_then, Result, Ok, Err, refl, sym, ap, subst, ◌∙◌, append_assoc, arith, rules}
+use Rattle.std.proofs.Common.{◌≡◌, ℕ, zero, suc, ◌-◌, ◌≤◌, true, List, [], ◌∷◌, ◌++◌, length, Option, Some, None, Result, Ok, Err, refl, sym, ap, subst, ◌∙◌, append_assoc, arith}
 use Rattle.std.specs.Prelude.{IfSome, ◌==◌}
 use Rattle.std.proofs.lemmas.Bool.{eqb-false}
+use Rattle.std.proofs.lemmas.Bool.Decides.{nat_tests}
 use Rattle.base_values.specs.declared.Position.{Position}
 use Rattle.base_values.specs.declared.EditError.{EditError}
 use Rattle.formula_tree.specs.declared.node.Node.{Node}
 use Rattle.formula_tree.specs.declared.node.Node.TheVariants as n
 use Rattle.formula_tree.specs.Depth.{depth_of}
-use Rattle.formula_tree.specs.laws.DepthEquations.{depths as tree_depths, depth_number, depth_text, depth_reference, depth_error, depth_array, depth_empty_argument}
+use Rattle.formula_tree.specs.laws.DepthEquations.{depth_number, depth_text, depth_reference, depth_error, depth_array, depth_empty_argument}
 use Rattle.formula_levels.specs.declared.prefix.Prefix.{Prefix}
 use Rattle.formula_levels.specs.declared.prefix.Prefix.TheVariants as prefix
 use Rattle.formula_levels.specs.Levels.{infix_node, prefix_node, postfix_node}
@@ -20,12 +21,12 @@ use Rattle.formula_grammar.specs.Operators.{prefix_under, infix_token, prefix_to
 use Rattle.formula_grammar.specs.Words.{separator_token, is_lambda, called, mark_place, corner_of}
 use Rattle.formula_grammar.specs.Grammar as G
 use Rattle.formula_grammar.specs.Grammar.{Expression, Lambda, Arguments, Argument, parameters_tokens, rows_tokens, expression_tokens, lambda_tokens, arguments_tokens, argument_tokens, passed, expression_tree, lambda_tree, arguments_trees, argument_tree, expression_open, lambda_open, arguments_open, argument_open}
-use Rattle.formula_grammar.specs.laws.Reading.{Outcome, Parser, operator_of, operator_under, own, operator_at, sign_at, make_signed, signed_step, signed, opening, closing, separator, is_empty_here, parameters, with_rest, reference_at, range_at, enclosed, argument, arguments_from, arguments_by, arguments, function, lambda_turn, lambda, call, primary, turn, expression, whole}
+use Rattle.formula_grammar.specs.laws.Reading.{Outcome, Parser, operator_of, operator_under, operator_at, sign_at, make_signed, signed_step, signed, opening, closing, is_empty_here, with_rest, reference_at, range_at, enclosed, argument, arguments_from, arguments_by, arguments, function, lambda_turn, lambda, call, primary, turn, expression, whole}
 use Rattle.formula_grammar.proofs.Depths.{depth_worded, depth_range_node}
-use Rattle.formula_grammar.proofs.Steps.{Brings, nothing, brings, brings_over, brings_bind, brings_rest, brings_made, brings_if, brings_by, from_sound}
-use Rattle.formula_grammar.proofs.Signed.{own_is, prefix_is}
+use Rattle.formula_grammar.proofs.Steps.{Brings, nothing, brings, brings_over, brings_bind, brings_made, brings_if, brings_by, from_sound}
+use Rattle.formula_grammar.proofs.Loops.{prefix_is}
 use Rattle.formula_grammar.proofs.Edges.{operator_token}
-use Rattle.formula_grammar.proofs.Lists.{separator_of, separator_sound, array_sound, parameters_sound}
+use Rattle.formula_grammar.proofs.Lists.{separator_sound, array_sound, parameters_sound}
 
 -- a front of the tokens derives this tree, within the limits
 pub record Derived {D : Type 0} (tokens : D → List Token) (tree : D → Node) (opened : D → ℕ) (room : ℕ) (ts rest : List Token) (out : Node) : Type 0 where
@@ -62,23 +63,16 @@ GoesOn p room found = AreArguments p room (λ by. found ++ arguments_trees by)
 -- ---- tokens
 
 opening_sound : (ts : List Token) → Brings (λ rest _. ts ≡ t.OpenParenthesis ∷ rest) (opening ts)
-opening_sound (t.OpenParenthesis ∷ ts) = brings refl
-opening_sound _ = nothing
+opening_sound ts = record { read = grind arith }
 
 closing_sound : (ts : List Token) → Brings (λ rest _. ts ≡ t.CloseParenthesis ∷ rest) (closing ts)
-closing_sound (t.CloseParenthesis ∷ ts) = brings refl
-closing_sound _ = nothing
+closing_sound ts = record { read = grind arith }
 
 token_of : (x : Token) → IfSome (operator_of x) (λ op. x ≡ operator_token op)
-token_of t.Equal = refl
-token_of _ = search rules
+token_of x = grind arith
 
 operator_sound : (under : ℕ) (ts : List Token) → Brings (λ rest op. (ts ≡ operator_token op ∷ rest) × (operator_under op ≡ under)) (operator_at under ts)
-operator_sound under [] = nothing
-operator_sound under (x ∷ ts) = brings_rest ts (option_and_then (own operator_under under) (operator_of x)) (λ op e.
-    (let q = own_is operator_under under (operator_of x) op e in
-    let is : x ≡ operator_token op = subst (λ o. IfSome o (λ op. x ≡ operator_token op)) q.0 (token_of x) in
-    (ap (λ (y : Token). y ∷ ts) is, q.1)))
+operator_sound under ts = record { read = grind (arith, nat_tests, token_of) }
 
 -- ---- operators
 
@@ -164,9 +158,7 @@ module _ (p : Profile) (inner : ℕ → Parser Node) (inner_sound : (room : ℕ)
 
   -- where no parenthesis closes, they are no lone one that is empty
   all_passed : (d : Arguments p) (rest : List Token) → closing (arguments_tokens d ++ t.CloseParenthesis ∷ rest) ≡ None → passed d (arguments_trees d) ≡ arguments_trees d
-  all_passed (G.last G.empty) rest e = absurd cc
-  all_passed (G.last (G.given a)) rest e = refl
-  all_passed (G.more a all) rest e = refl
+  all_passed d rest e = grind arith
 
   arguments_sound : (ts : List Token) → Brings (IsArguments p room ts) (arguments p inner room ts)
   unfolding arguments

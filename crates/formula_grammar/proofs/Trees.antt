@@ -1,7 +1,7 @@
 -- What holds of each tree that the grammar derives: its numbers are as those of the tokens, its corners lie inside the sheet and those of ranges in order, and it is
 -- no text outside of the grammar.
-use Rattle.std.proofs.Common.{◌≡◌, ℕ, zero, suc, ℤ, pos, Bool, true, false, cond, List, [], ◌∷◌, ◌++◌, Option, Some, None, Ok, refl, sym, ap, ◌∙◌, arith}
-use Rattle.std.specs.Prelude.{◌+◌, ◌%◌, ◌^◌, ◌==◌, ◌&&◌, nat_lt, nat_le, not, int_le, negsuc, neg_ℤ, unsigned_abs}
+use Rattle.std.proofs.Common.{◌≡◌, ℕ, ℤ, pos, Bool, true, List, [], ◌∷◌, ◌++◌, Option, Some, Ok, refl, sym, ◌∙◌, arith}
+use Rattle.std.specs.Prelude.{◌&&◌, not, neg_ℤ, unsigned_abs}
 use Rattle.std.specs.List.{list_all}
 use Rattle.std.proofs.lemmas.Bool.{and_parts, and_from}
 use Rattle.std.proofs.lemmas.List.Folds.{list_all-append}
@@ -18,9 +18,8 @@ use Rattle.formula_tree.specs.declared.corner.Corner.{Corner}
 use Rattle.formula_tree.specs.declared.node.Node.{Node}
 use Rattle.formula_tree.specs.declared.node.Node.TheVariants as n
 use Rattle.formula_tree.specs.declared.numbers.NumberRule.{NumberRule}
-use Rattle.formula_tree.specs.declared.numbers.NumberRule.TheVariants as rule
 use Rattle.formula_tree.specs.declared.parameter.Parameter.{Parameter}
-use Rattle.formula_tree.specs.Corners.{corner_column, is_inside, lower_corner, higher_corner}
+use Rattle.formula_tree.specs.Corners.{is_inside, lower_corner, higher_corner}
 use Rattle.formula_tree.specs.Numbers.{constant_follows, lines_follow, numbers_follow}
 use Rattle.formula_tree.specs.ParseError.{is_parse_error}
 use Rattle.formula_tree.specs.Placed.{is_placed}
@@ -79,9 +78,7 @@ module _ (is_right : Token → Bool) (test : Node → Bool) where
   behind xs x ys e = after x ys (parted xs (x ∷ ys) e).1
 
   passed_holds : {p : Profile} (d : Arguments p) → list_all test (arguments_trees d) ≡ true → list_all test (passed d (arguments_trees d)) ≡ true
-  passed_holds (G.last G.empty) e = refl
-  passed_holds (G.last (G.given a)) e = e
-  passed_holds (G.more a all) e = e
+  passed_holds d e = grind arith
 
   mutual
     expression_holds : {p : Profile} (k : Keeps p is_right test) {level : ℕ} (d : Expression p level) → Right (expression_tokens d) → test (expression_tree d) ≡ true
@@ -123,9 +120,7 @@ module _ (is_right : Token → Bool) (test : Node → Bool) where
 
 -- a number is as long as its opposite
 same_size : (z : ℤ) → unsigned_abs (neg_ℤ z) ≡ unsigned_abs z
-same_size (pos zero) = refl
-same_size (pos (suc n)) = refl
-same_size (negsuc n) = refl
+same_size z = grind arith
 
 -- and is kept where it is
 kept_negated : (number value : Decimal) → negated number ≡ Some value → is_kept number ≡ true → is_kept value ≡ true
@@ -133,10 +128,7 @@ unfolding negated is_kept
 kept_negated number value e kept = grind (arith, same_size)
 
 item_follows : {p : Profile} (r : NumberRule) (x : Item p) → tokens_follow r (item_tokens x) ≡ true → constant_follows r (item_value x) ≡ true
-item_follows rule.Kept (G.plain number) e = (and_parts _ _ e).0
-item_follows rule.Kept (G.negative number value is) e = kept_negated number value is (and_parts _ _ e).0
-item_follows rule.Kept _ e = refl
-item_follows rule.NotNegative x e = refl
+item_follows r x e = grind (arith, kept_negated)
 
 before_follows : (r : NumberRule) (x : ArrayItem) (lines : List (List ArrayItem)) → constant_follows r x ≡ true → lines_follow r lines ≡ true
     → lines_follow r (before_line x lines) ≡ true

@@ -1,5 +1,5 @@
 -- Cells and ranges are read just where they are spelled.
-use Rattle.std.proofs.Common.{◌≡◌, ℕ, ◌<◌, Bool, true, false, refl, arith, zero, suc, [], ◌∷◌, sym, ap, ◌∙◌, cond, ◌++◌, Option, Some, None, append_assoc}
+use Rattle.std.proofs.Common.{◌≡◌, ℕ, ◌<◌, Bool, true, false, refl, arith, zero, suc, [], ◌∷◌, sym, ap, ◌∙◌, ◌++◌, Option, Some, None, append_assoc}
 use Rattle.std.specs.Prelude.{◌==◌, ℤ, pos, not}
 use Rattle.std.proofs.lemmas.Bool.{and_parts, and_from, or_left, or_right, both_ways, false_from_ne_true, not_from_false}
 use Rattle.std.proofs.lemmas.Bool.Decides.{nat_tests}
@@ -15,12 +15,12 @@ use Rattle.base_decimal.specs.Digits.{span, stops}
 use Rattle.base_decimal.proofs.Spans.{span_all, not_true, span_at, span_parts, stops_sooner}
 use Rattle.formula_grammar.specs.declared.CellMark.{CellMark}
 use Rattle.formula_lex.specs.Characters.{goes_on_place, Text}
-use Rattle.formula_lex.specs.laws.Lex.{is_sign, past, dollar_at, behind_dollar, line_at, column_at, row_at, with_row, with_column, corner_at, between, range_behind, cell_alone, spot_at}
+use Rattle.formula_lex.specs.laws.Lex.{is_sign, dollar_at, behind_dollar, line_at, column_at, row_at, with_row, with_column, corner_at, between, range_behind, cell_alone, spot_at}
 use Rattle.formula_lex.specs.declared.place.Line.{Line}
 use Rattle.formula_lex.specs.declared.place.Side.{Side}
 use Rattle.formula_lex.specs.declared.place.Spot.{Spot}
 use Rattle.formula_lex.specs.Lexicon.{dollar, row_of_name, IsLine, IsColumn, IsRow, IsPair, IsCell, IsSpan, IsRange, cells, columns, rows}
-use Rattle.formula_lex.proofs.Reading.{Front, Brings, nothing, brings, brings_none, brings_each, brings_map, brings_then, brings_or, brings_cond, past_none, past_sound}
+use Rattle.formula_lex.proofs.Reading.{cond_some, Front, Brings, nothing, brings, brings_none, brings_each, brings_map, brings_then, brings_or, brings_cond, past_none, past_sound}
 use Rattle.formula_lex.specs.declared.place.Side.TheVariants as side
 use Rattle.formula_lex.specs.declared.place.Spot.TheVariants as spot
 
@@ -34,9 +34,6 @@ digit_low c e = grind (arith, nat_tests)
 
 digit_no_letter : (c : ℕ) → is_digit c ≡ true → is_letter c ≡ false
 digit_no_letter c e = grind (arith, nat_tests)
-
-place_no_dollar : (c : ℕ) → goes_on_place c ≡ false → (c == 36) ≡ false
-place_no_dollar c e = grind (arith, nat_tests)
 
 place_no_digit : (c : ℕ) → goes_on_place c ≡ false → is_digit c ≡ false
 place_no_digit c e = grind (arith, nat_tests)
@@ -97,11 +94,7 @@ all_more p q h [] e = refl
 all_more p q h (c ∷ s) e = let k = and_parts (p c) (list_all p s) e in and_from _ _ (h c k.0) (all_more p q h s k.1)
 
 dollar_parts : (text : Text) → text ≡ dollar (dollar_at text).0 ++ (dollar_at text).1
-dollar_parts text = go (past 36 text) (past_sound 36 text)
-  where
-    go : (o : Option Text) → Brings (λ z. text ≡ 36 ∷ z) o → text ≡ dollar (behind_dollar text o).0 ++ (behind_dollar text o).1
-    go None e = refl
-    go (Some z) e = e.read
+dollar_parts text = let h = (past_sound 36 text).read in grind arith
 
 dollar_none : (text : Text) → stops (λ c. c == 36) text ≡ true → dollar_at text ≡ (false, text)
 dollar_none text e = ap (behind_dollar text) (past_none 36 text e)
@@ -140,14 +133,10 @@ module _ (line_of_name : Text → Option ℤ) (p : ℕ → Bool) (names : Names 
   line_unmarked true line s is = rw is.parts (all_more p no_mark names.unmarked is.name (names.all is.name line is.named))
   line_unmarked false line s is = rw is.parts (all_more p no_mark names.unmarked is.name (names.all is.name line is.named))
 
-if_name : (b : Bool) (value line : ℤ) → cond b (Some value) None ≡ Some line → b ≡ true
-if_name true value line e = refl
-if_name false value line e = absurd cc
-
 columns_named : Names column_of_name is_letter
 unfolding column_of_name is_column_name
 columns_named = record {
-  all = λ name line e. (and_parts _ _ (if_name (is_column_name name) (pos (letters_number name)) line e)).0;
+  all = λ name line e. (and_parts _ _ (cond_some (is_column_name name) (Some (pos (letters_number name))) line e).0).0;
   some = refl;
   no_dollar = λ c e. grind (arith, nat_tests);
   unmarked = λ c e. grind (arith, nat_tests);
@@ -156,7 +145,7 @@ columns_named = record {
 rows_named : Names row_of_name is_digit
 unfolding is_count
 rows_named = record {
-  all = λ name line e. (and_parts _ _ (if_name (is_row_number name) (pos (digits_number name)) line e)).0;
+  all = λ name line e. (and_parts _ _ (cond_some (is_row_number name) (Some (pos (digits_number name))) line e).0).0;
   some = refl;
   no_dollar = λ c e. grind (arith, nat_tests);
   unmarked = λ c e. grind (arith, nat_tests);
@@ -220,7 +209,7 @@ corner_read (side.Cell mark) s rest is ends =
 corner_read (side.Column l) s rest is ends =
     rw (
       line_read column_of_name is_letter columns_named l s rest is (stops_sooner is_letter goes_on_place place_no_letter rest ends),
-      no_row rest (stops_sooner (λ c. c == 36) goes_on_place place_no_dollar rest ends) (stops_sooner is_digit goes_on_place place_no_digit rest ends),
+      no_row rest (stops_sooner (λ c. c == 36) goes_on_place (λ c e. grind (arith, nat_tests)) rest ends) (stops_sooner is_digit goes_on_place place_no_digit rest ends),
     )
 corner_read (side.Row l) s rest is ends =
     let letter = name_stops row_of_name is_digit rows_named is_letter digit_no_letter is.name l.number rest is.named in
@@ -299,11 +288,7 @@ pub no_spot : spot_at [] ≡ None
 no_spot = no_start [] refl refl refl
 
 sign_no_spot : (c : ℕ) (text : Text) → is_sign c ≡ true → spot_at (c ∷ text) ≡ None
-sign_no_spot c text e =
-    let d : (c == 36) ≡ false = grind (arith, nat_tests) in
-    let l : is_letter c ≡ false = grind (arith, nat_tests) in
-    let n : is_digit c ≡ false = grind (arith, nat_tests) in
-    no_start (c ∷ text) (ap not d) (ap not l) (ap not n)
+sign_no_spot c text e = no_start (c ∷ text) (grind (arith, nat_tests)) (grind (arith, nat_tests)) (grind (arith, nat_tests))
 
 -- no place begins with a sign
 pub spot_starts : (q : ℕ → Bool) → ((c : ℕ) → q c ≡ true → is_sign c ≡ true) → (text : Text) (r : Spot × Text) → spot_at text ≡ Some r → stops q text ≡ true

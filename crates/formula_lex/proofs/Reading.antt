@@ -2,7 +2,7 @@
 use Rattle.std.proofs.Common.{take, drop, ◌≡◌, ℕ, Bool, true, false, cond, [], ◌∷◌, ◌++◌, Option, Some, None, refl, ap, subst, ◌∙◌, arith, ◌-◌, ◌<◌, length, sym, append_assoc, append-nil, length-append, option_map, zero, suc, List}
 use Rattle.std.specs.Prelude.{not, ◌==◌, IfSome, MatchOption, encode_utf8, encode_utf8_all, codes, ◌&&◌, ◌||◌, nat_lt}
 use Rattle.std.specs.Option.{option_map, option_and_then, option_or}
-use Rattle.std.proofs.lemmas.Bool.{false_from_ne_true, cond_both, eqb-true, and_parts, or_left, or_right, ltb-true}
+use Rattle.std.proofs.lemmas.Bool.{cond_both, eqb-true, and_parts, or_left, or_right, ltb-true}
 use Rattle.std.proofs.lemmas.Bool.Decides.{nat_tests}
 use Rattle.std.specs.Str.{chars, IsUtf8, IsAscii}
 use Rattle.std.proofs.lemmas.List.{append_cancel_right}
@@ -27,7 +27,7 @@ use Rattle.base_tables.specs.declared.Locale.{Locale}
 use Rattle.base_tables.specs.Locale.{decimal_sign}
 use Rattle.base_tables.specs.Word.{is_digit, goes_on_word}
 use Rattle.base_tables.specs.declared.Language.{Language}
-use Rattle.base_tables.specs.declared.Language.TheVariants.{En, De, Fr, Es}
+use Rattle.base_tables.specs.declared.Language.TheVariants.{En, De, Es}
 use Rattle.base_tables.specs.Tables.{entry_named}
 use Rattle.base_tables.specs.laws.Error.{error_of_text-error_text}
 use Rattle.base_tables.specs.laws.Tables.{found_name}
@@ -93,8 +93,7 @@ module _ {A : Type 0} {P : A → Type 0} where
   brings_cond b o other = cond_both b o other (Brings P)
 
 pub cond_some : {A : Type 0} (b : Bool) (o : Option A) (a : A) → cond b o None ≡ Some a → (b ≡ true) × (o ≡ Some a)
-cond_some true o a e = (refl, e)
-cond_some false o a e = absurd cc
+cond_some b o a e = grind arith
 
 -- ---- characters at the front
 
@@ -109,12 +108,10 @@ past_sound mark [] = nothing
 past_sound mark (c ∷ text) = brings_cond (c == mark) (Some text) None (λ e. brings (rw (eqb-true c mark e))) (λ h. nothing)
 
 pub past_none : (mark : ℕ) (text : Text) → stops (λ c. c == mark) text ≡ true → past mark text ≡ None
-past_none mark [] e = refl
-past_none mark (c ∷ text) e = rw (not_true (c == mark) e)
+past_none mark text e = grind (arith, nat_tests)
 
 pub past_stops : (mark : ℕ) (text : Text) → past mark text ≡ None → stops (λ c. c == mark) text ≡ true
-past_stops mark [] e = refl
-past_stops mark (c ∷ text) e = ap not (false_from_ne_true (c == mark) (λ h. (let f = rw h at e in absurd cc)))
+past_stops mark text e = grind (arith, nat_tests)
 
 pub strip_read : (name rest : Text) → strip name (name ++ rest) ≡ Some rest
 strip_read [] rest = refl
@@ -200,12 +197,10 @@ pub ruleset own_texts = (german, spanish)
 
 -- behind a quote
 pub quoted_twice : (quote : ℕ) (z rest : Text) → past quote z ≡ Some rest → quoted quote true z ≡ in_front quote (quoted quote false rest)
-quoted_twice quote [] rest e = absurd cc
-quoted_twice quote (c ∷ z) rest e = let k = cond_some (c == quote) (Some z) rest e in let is : z ≡ rest = cc in rw (k.0, is)
+quoted_twice quote z rest e = grind (arith, nat_tests)
 
 pub quoted_close : (quote : ℕ) (z : Text) → past quote z ≡ None → quoted quote true z ≡ Some ([], z)
-quoted_close quote [] e = refl
-quoted_close quote (c ∷ z) e = rw (false_from_ne_true (c == quote) (λ h. (let f = rw h at e in absurd cc)))
+quoted_close quote z e = grind (arith, nat_tests)
 
 pub ruleset quote_behind = (quoted_twice, quoted_close)
 
@@ -239,8 +234,7 @@ module _ (locale : Locale) where
   -- ---- what is read is spelled
 
   in_number_stops : (after : Bool) (c : ℕ) → in_number locale after c ≡ false → goes_on_number locale c ≡ false
-  in_number_stops true c e = grind (arith, nat_tests)
-  in_number_stops false c e = e
+  in_number_stops after c e = grind (arith, nat_tests)
 
   pub number_span_is : (after : Bool) (text : Text)
       → (text ≡ (number_span locale after text).0 ++ (number_span locale after text).1) × (stops (goes_on_number locale) (number_span locale after text).1 ≡ true)
@@ -254,8 +248,7 @@ module _ (locale : Locale) where
   digit_goes_on c e = or_left (goes_on_word c) (c == decimal_sign locale) (or_right (is_alphabetic c) _ (or_left (is_digit c) (c == 95 || c == 46) e))
 
   digit_in : (after : Bool) (c : ℕ) → is_digit c ≡ true → in_number locale after c ≡ true
-  digit_in true c e = or_right (c == 43 || c == 45) _ (digit_goes_on c e)
-  digit_in false c e = digit_goes_on c e
+  digit_in after c e = let h = digit_goes_on c e in grind (arith, nat_tests)
 
   -- a number that is spelled at the front, where one may end
   abbrev pub FrontNumber : Text → Token × Text → Type 0
@@ -272,10 +265,10 @@ module _ (locale : Locale) where
 
   -- ---- what is spelled is read
 
-  -- characters of ASCII that a number may be made of, and whether the last one is the letter of an exponent
-  walk : Bool → Text → Option Bool
-  walk after [] = Some after
-  walk after (c ∷ text) = cond (nat_lt c 128 && in_number locale after c) (walk (is_exponent_letter c) text) None
+  -- characters of ASCII that a number may be made of, the last of which is no letter of an exponent
+  walk : Bool → Text → Bool
+  walk after [] = not after
+  walk after (c ∷ text) = (nat_lt c 128 && in_number locale after c) && walk (is_exponent_letter c) text
 
   walk_turn : (after letter : Bool) (c : ℕ) (text : Text) → nat_lt c 128 ≡ true → in_number locale after c ≡ true → is_exponent_letter c ≡ letter → walk after (c ∷ text) ≡ walk letter text
   unfolding walk
@@ -288,7 +281,7 @@ module _ (locale : Locale) where
   walk_digits [] text e = refl
   walk_digits (c ∷ digits) text e = let k = and_parts (is_digit c) (list_all is_digit digits) e in digit_turn false c (digits ++ text) k.0 ∙ walk_digits digits text k.1
 
-  walk_all : (digits : Text) → list_all is_digit digits ≡ true → walk false digits ≡ Some false
+  walk_all : (digits : Text) → list_all is_digit digits ≡ true → walk false digits ≡ true
   unfolding walk
   walk_all digits e = ap (walk false) (sym (append-nil digits)) ∙ walk_digits digits [] e
 
@@ -299,7 +292,7 @@ module _ (locale : Locale) where
       let low = sign_is_ascii locale in
       walk_turn false false mark (digits ++ text) (grind (arith, nat_tests, low)) (or_right (goes_on_word mark) _ (same mark)) (sign_is_mark locale).no_letter ∙ walk_digits digits text e
 
-  walk_signed : (sign : Sign) (digits : Text) → list_all is_digit digits ≡ true → is_exponent_len (length digits) ≡ true → walk true (sign_text sign ++ digits) ≡ Some false
+  walk_signed : (sign : Sign) (digits : Text) → list_all is_digit digits ≡ true → is_exponent_len (length digits) ≡ true → walk true (sign_text sign ++ digits) ≡ true
   unfolding walk
   walk_signed Absent [] e some = absurd cc
   walk_signed Absent (c ∷ digits) e some = let k = and_parts (is_digit c) (list_all is_digit digits) e in digit_turn true c digits k.0 ∙ walk_all digits k.1
@@ -309,7 +302,7 @@ module _ (locale : Locale) where
   letter_goes_on : (c : ℕ) → is_exponent_letter c ≡ true → goes_on_number locale c ≡ true
   letter_goes_on c e = let low : c < 128 = grind (arith, nat_tests) in let is = is_alphabetic_ascii c low in grind (arith, nat_tests, is)
 
-  walk_exponent : (x : Exponent) → is_numeral_exponent x ≡ true → walk false (exponent_text x) ≡ Some false
+  walk_exponent : (x : Exponent) → is_numeral_exponent x ≡ true → walk false (exponent_text x) ≡ true
   unfolding walk
   walk_exponent NoExponent e = refl
   walk_exponent (Power letter sign digits) e =
@@ -317,38 +310,35 @@ module _ (locale : Locale) where
       let m = and_parts (is_exponent_len (length digits)) (list_all is_digit digits) k.1 in
       walk_turn false true letter (sign_text sign ++ digits) (let h = k.0 in grind (arith, nat_tests, h)) (letter_goes_on letter k.0) k.0 ∙ walk_signed sign digits m.1 m.0
 
-  walk_numeral : (negative : Bool) (n : Numeral) → IsNumeral n → walk negative (minus_text negative ++ numeral_text (decimal_sign locale) n) ≡ Some false
+  walk_numeral : (negative : Bool) (n : Numeral) → IsNumeral n → walk negative (minus_text negative ++ numeral_text (decimal_sign locale) n) ≡ true
   unfolding walk
   walk_numeral negative n is = go negative
     where
-      plain : walk false (numeral_text (decimal_sign locale) n) ≡ Some false
+      plain : walk false (numeral_text (decimal_sign locale) n) ≡ true
       plain = walk_digits n.whole (fraction_text (decimal_sign locale) n.fraction ++ exponent_text n.exponent) is.whole ∙ walk_fraction n.fraction (exponent_text n.exponent) is.fraction ∙ walk_exponent n.exponent is.exponent
 
-      go : (b : Bool) → walk b (minus_text b ++ numeral_text (decimal_sign locale) n) ≡ Some false
+      go : (b : Bool) → walk b (minus_text b ++ numeral_text (decimal_sign locale) n) ≡ true
       go true = plain
       go false = plain
 
-  walk_step : (after last : Bool) (c : ℕ) (text : Text) → walk after (c ∷ text) ≡ Some last → ((nat_lt c 128 ≡ true) × (in_number locale after c ≡ true)) × (walk (is_exponent_letter c) text ≡ Some last)
+  walk_ascii : (after : Bool) (text : Text) → walk after text ≡ true → IsAscii text
   unfolding walk
-  walk_step after last c text e = let k = cond_some (nat_lt c 128 && in_number locale after c) (walk (is_exponent_letter c) text) last e in (and_parts _ _ k.0, k.1)
+  walk_ascii after [] e i = omega arith
+  walk_ascii after (c ∷ text) e zero = ltb-true c 128 (and_parts _ _ (and_parts _ _ e).0).0
+  walk_ascii after (c ∷ text) e (suc i) = walk_ascii (is_exponent_letter c) text (and_parts _ _ e).1 i
 
-  walk_ascii : (after last : Bool) (text : Text) → walk after text ≡ Some last → IsAscii text
-  walk_ascii after last [] e i = omega arith
-  walk_ascii after last (c ∷ text) e zero = ltb-true c 128 (walk_step after last c text e).0.0
-  walk_ascii after last (c ∷ text) e (suc i) = walk_ascii (is_exponent_letter c) last text (walk_step after last c text e).1 i
-
-  walk_span : (after : Bool) (s rest : Text) → walk after s ≡ Some false → stops (goes_on_number locale) rest ≡ true → number_span locale after (s ++ rest) ≡ (s, rest)
+  walk_span : (after : Bool) (s rest : Text) → walk after s ≡ true → stops (goes_on_number locale) rest ≡ true → number_span locale after (s ++ rest) ≡ (s, rest)
   unfolding walk
   walk_span true [] rest e ends = absurd cc
   walk_span false [] [] e ends = refl
   walk_span false [] (c ∷ rest) e ends = rw (not_true (goes_on_number locale c) ends)
   walk_span after (c ∷ s) rest e ends =
-      let k = walk_step after false c s e in
-      rw (k.0.1, walk_span (is_exponent_letter c) s rest k.1 ends)
+      let k = and_parts (nat_lt c 128 && in_number locale after c) (walk (is_exponent_letter c) s) e in
+      rw ((and_parts (nat_lt c 128) (in_number locale after c) k.0).1, walk_span (is_exponent_letter c) s rest k.1 ends)
 
   -- the characters of a number are its bytes
   written : (s : Text) (negative : Bool) (n : Numeral) → IsNumeral n → starts_digit s ≡ true → encode_utf8_all s ≡ minus_text negative ++ numeral_text (decimal_sign locale) n → s ≡ numeral_text (decimal_sign locale) n
-  written s negative n is starts e = go negative (encodes_same s bytes (e ∙ sym (encodes-IsAscii bytes (walk_ascii negative false bytes (walk_numeral negative n is)))))
+  written s negative n is starts e = go negative (encodes_same s bytes (e ∙ sym (encodes-IsAscii bytes (walk_ascii negative bytes (walk_numeral negative n is)))))
     where
       bytes : Text
       bytes = minus_text negative ++ numeral_text (decimal_sign locale) n
@@ -362,7 +352,7 @@ module _ (locale : Locale) where
   number_read number s rest is ends =
       let r = is.reads in
       let spelled = written s r.negative r.numeral r.is_numeral is.starts r.written in
-      let walks : walk false s ≡ Some false = ap (walk false) spelled ∙ walk_numeral false r.numeral r.is_numeral in
+      let walks : walk false s ≡ true = ap (walk false) spelled ∙ walk_numeral false r.numeral r.is_numeral in
       ap (number_of locale) (walk_span false s rest walks ends)
       ∙ ap (option_map (λ d. (let q : Token × Text = (t.Number d, rest) in q))) (reads_only (decimal_sign locale) (sign_is_mark locale) (encode_utf8_all s) number r)
 
@@ -402,9 +392,7 @@ error_sound language text =
 english_read : (language : Language) (error : Error) (rest : Text) → error_at language (error_text error ++ rest) ≡ Some (error, rest)
 unfolding error_at
 english_read En Ref rest = refl
-english_read De Ref rest = refl
-english_read Fr Ref rest = refl
-english_read Es Ref rest = refl
+english_read _ Ref rest = refl
 english_read _ _ rest = refl
 
 own_read : (language : Language) (s rest : Text) → is_own_reference_error language (encode_utf8_all s) ≡ true → error_at language (s ++ rest) ≡ Some (Ref, rest)

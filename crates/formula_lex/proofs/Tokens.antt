@@ -3,7 +3,7 @@ use Rattle.std.proofs.Common.{◌≡◌, ◌≢◌, ℕ, ◌<◌, true, false, [
 use Rattle.std.specs.Prelude.{not, ◌==◌, ◌||◌, encode_utf8_all, IfSome, MatchOption}
 use Rattle.std.specs.List.{list_all}
 use Rattle.std.specs.Option.{option_or, option_map}
-use Rattle.std.proofs.lemmas.Bool.{and_parts, or_parts, both_ways, and_from, or_from, eqb-true, or_cases, false_from_ne_true}
+use Rattle.std.proofs.lemmas.Bool.{and_parts, both_ways, and_from, eqb-true, or_cases, false_from_ne_true}
 use Rattle.std.proofs.lemmas.Str.{length-le-encodes}
 use Rattle.std.proofs.lemmas.Bool.Decides.{nat_tests}
 use Rattle.std.proofs.UnicodeAscii.{is_alphabetic_ascii}
@@ -51,12 +51,10 @@ no_spot_read text no_cell no_range = brings_none _ (spot_sound text) go
 
 -- a text is free of two kinds of characters at its front just where it is free of each
 stops_either : (p q : ℕ → Bool) (text : Text) → stops p text ≡ true → stops q text ≡ true → stops (λ c. p c || q c) text ≡ true
-stops_either p q [] e f = refl
-stops_either p q (c ∷ text) e f = ap not (or_from (p c) (q c) (not_true (p c) e) (not_true (q c) f))
+stops_either p q text e f = grind arith
 
 stops_both : (p q : ℕ → Bool) (text : Text) → stops (λ c. p c || q c) text ≡ true → (stops p text ≡ true) × (stops q text ≡ true)
-stops_both p q [] e = (refl, refl)
-stops_both p q (c ∷ text) e = let k = or_parts (p c) (q c) (not_true (p c || q c) e) in (ap not k.0, ap not k.1)
+stops_both p q text e = grind arith
 
 -- ---- sheets
 
@@ -65,8 +63,7 @@ behind_name [] rest some = absurd (some refl)
 behind_name (c ∷ name) rest some = go (encode_utf8_all (c ∷ name)) (omega (arith, length-le-encodes (c ∷ name)))
   where
     go : (sheet : Text) → 0 < length sheet → behind_quotes (sheet, rest) ≡ on_sheet sheet rest
-    go [] h = absurd (omega arith)
-    go (d ∷ sheet) h = refl
+    go sheet h = grind arith
 
 module _ (locale : Locale) (language : Language) where
   abbrev token : Text → Option (Token × Text)
@@ -94,13 +91,11 @@ module _ (locale : Locale) (language : Language) where
       let mark : goes_on_word 33 ≡ false = let is = is_alphabetic_ascii 33 (omega arith) in grind (arith, nat_tests, is) in
       by_word c (name ++ (33 ∷ tail)) k.0 (word_no_spot (c ∷ name) tail k.1) ∙ ap behind_word (span_at goes_on_word (c ∷ name) (33 ∷ tail) k.1 (ap not mark)) ∙ rw no_cell
 
-  quoted_sheet : (name tail : Text) → name ≢ [] → token (39 ∷ (doubled 39 name ++ (39 ∷ (33 ∷ tail)))) ≡ on_sheet (encode_utf8_all name) (33 ∷ tail)
-  unfolding token_at by_sign quoted_sheet_at quoted_text
-  quoted_sheet name tail some = rw (quoted_read 39 name (33 ∷ tail) refl) (behind_name name (33 ∷ tail) some)
-
   sheet_read : (sheet name tail : Text) → IsSheetName sheet name → token (name ++ (33 ∷ tail)) ≡ on_sheet sheet (33 ∷ tail)
+  unfolding token_at by_sign quoted_sheet_at quoted_text
   sheet_read sheet name tail (plain word no_cell is) = rw is (word_sheet name tail word no_cell)
-  sheet_read sheet name tail (quoted inside spelled some is) = rw (spelled, append_assoc (doubled 39 inside) (39 ∷ []) (33 ∷ tail), is) (quoted_sheet inside tail some)
+  sheet_read sheet name tail (quoted inside spelled some is) =
+      rw (spelled, append_assoc (doubled 39 inside) (39 ∷ []) (33 ∷ tail), is, quoted_read 39 inside (33 ∷ tail) refl) (behind_name inside (33 ∷ tail) some)
 
   -- what stands on a sheet, or on none
   placed_read : (sheet : Option Text) (first place : Text) (x : Spot) (rest : Text) → IsSheet sheet first → spot_at place ≡ Some (x, rest) → token (first ++ place) ≡ Some (place_token sheet x, rest)
@@ -145,10 +140,6 @@ module _ (locale : Locale) (language : Language) where
       let none = no_spot_read (c ∷ s ++ rest) (λ mark more f. (let h : not (is_digit c) ≡ true = ap (stops is_digit) f.parts ∙ cell_no_digit mark f.spelled more f.is in both_ways (is_digit c) (not_true (is_digit c) h) digit)) ends.1 in
       by_plain c (s ++ rest) (grind (arith, nat_tests, digit)) none ∙ rw digit (number_read locale number (c ∷ s) rest is ends.0)
 
-  text_token : (inside rest : Text) → stops (λ c. c == 34) rest ≡ true → token (34 ∷ (doubled 34 inside ++ (34 ∷ rest))) ≡ Some (t.Text (encode_utf8_all inside), rest)
-  unfolding token_at by_sign text_at quoted_text
-  text_token inside rest ends = rw (quoted_read 34 inside rest ends)
-
   hash_at : (text z : Text) → text ≡ 35 ∷ z → token text ≡ error_or_hash z (error_at language text)
   unfolding token_at by_sign
   hash_at text z e = rw e
@@ -167,21 +158,18 @@ module _ (locale : Locale) (language : Language) where
   hash_token rest never = hash_at (35 ∷ rest) rest refl ∙ rw (brings_none _ (error_sound language (35 ∷ rest)) (λ r f. never r.0 f.spelled r.1 f.parts f.is (stops_none r.1)))
     where
       stops_none : (text : Text) → stops (λ c. false) text ≡ true
-      stops_none [] = refl
-      stops_none (c ∷ text) = refl
-
-  less_read : (rest : Text) → stops (λ c. c == 61 || c == 62) rest ≡ true → behind_less rest ≡ Some (t.Less, rest)
-  less_read rest e = let k = stops_both (λ c. c == 61) (λ c. c == 62) rest e in rw (past_none 62 rest k.1, past_none 61 rest k.0)
+      stops_none text = grind arith
 
   pub token_read : (x : Token) (s rest : Text) → Spells locale language x s → Ends locale language x s rest → token (s ++ rest) ≡ Some (x, rest)
-  unfolding token_at by_sign
+  unfolding token_at by_sign text_at quoted_text
   token_read (t.Number number) s rest is ends = number_token number s rest is ends
-  token_read (t.Text text) s rest is ends = rw (is.1, append_assoc (doubled 34 is.0) (34 ∷ []) rest, is.2) (text_token is.0 rest ends)
+  token_read (t.Text text) s rest is ends = rw (is.1, append_assoc (doubled 34 is.0) (34 ∷ []) rest, is.2, quoted_read 34 is.0 rest ends)
   token_read (t.Error error) s rest is ends = error_token error s rest is
   token_read (t.Word word) s rest is ends = subst (λ (y : Text). Ends locale language (t.Word y) s rest → token (s ++ rest) ≡ Some (t.Word y, rest)) (sym is.1) (word_token s rest is.0) ends
   token_read (t.Reference sheet mark) s rest is ends = cell_token sheet mark s rest is ends
   token_read (t.Range sheet a b) s rest is ends = range_token sheet a b s rest is ends
-  token_read t.Less s rest is ends = ap (λ (y : Text). token (y ++ rest)) is ∙ less_read rest ends
+  token_read t.Less s rest is ends =
+      let k = stops_both (λ c. c == 61) (λ c. c == 62) rest ends in ap (λ (y : Text). token (y ++ rest)) is ∙ rw (past_none 62 rest k.1, past_none 61 rest k.0)
   token_read t.Greater s rest is ends = ap (λ (y : Text). token (y ++ rest)) is ∙ rw (past_none 61 rest ends)
   token_read t.Hash s rest is ends = ap (λ (y : Text). token (y ++ rest)) is ∙ hash_token rest (subst (λ (y : Text). NoError language (y ++ rest)) is ends)
   token_read _ s rest is ends = ap (λ (y : Text). token (y ++ rest)) is
@@ -318,19 +306,12 @@ module _ (locale : Locale) (language : Language) where
   greater_sound text = next_sound 62 61 t.GreaterOrEqual (Some (t.Greater, text)) text refl (λ rest. tt)
       (λ k. brings (λ e. record { spelled = 62 ∷ []; parts = refl; spells = refl; ends = k }))
 
-  -- the character that is tested, or the rest of the chain
-  tested : (c : ℕ) (text : Text) (code : ℕ) (x : Token) (more : Option Token) → Spells locale language x (code ∷ []) → Ends locale language x (code ∷ []) text
-      → Brings (λ y. Sound (c ∷ text) (y, text)) more → Brings (λ y. Sound (c ∷ text) (y, text)) (cond (c == code) (Some x) more)
-  tested c text code x more spells ends otherwise = brings_cond (c == code) (Some x) more
-      (λ h. brings (λ e. record { spelled = code ∷ []; parts = rw (eqb-true c code h); spells = spells; ends = ends })) (λ h. otherwise)
+  single_is : (c : ℕ) → IfSome (single c) (λ x. (text : Text) → Spells locale language x (c ∷ []) × Ends locale language x (c ∷ []) text)
+  single_is c = grind (arith, nat_tests)
 
-  single_sound : (c : ℕ) (text : Text) → Brings (λ y. Sound (c ∷ text) (y, text)) (single c)
-  single_sound c text =
-      tested c text 61 t.Equal _ refl tt (tested c text 38 t.Ampersand _ refl tt (tested c text 43 t.Plus _ refl tt (tested c text 45 t.Minus _ refl tt
-      (tested c text 42 t.Times _ refl tt (tested c text 47 t.Divide _ refl tt (tested c text 94 t.Power _ refl tt (tested c text 37 t.Percent _ refl tt
-      (tested c text 64 t.At _ refl tt (tested c text 58 t.Colon _ refl tt (tested c text 40 t.OpenParenthesis _ refl tt (tested c text 41 t.CloseParenthesis _ refl tt
-      (tested c text 123 t.OpenBrace _ refl tt (tested c text 125 t.CloseBrace _ refl tt (tested c text 91 t.OpenBracket _ refl tt (tested c text 93 t.CloseBracket _ refl tt
-      (tested c text 44 t.Comma _ refl tt (tested c text 59 t.Semicolon None refl tt nothing)))))))))))))))))
+  single_sound : (c : ℕ) (text : Text) → Brings (λ x. Sound (c ∷ text) (x, text)) (single c)
+  single_sound c text = brings_over (single c) (record { read = single_is c })
+      (λ x h e. record { spelled = c ∷ []; parts = refl; spells = (h text).0; ends = (h text).1 })
 
   at_code : (c code : ℕ) (text : Text) (o : Option (Token × Text)) → Brings (Sound (code ∷ text)) o → (c == code) ≡ true → Brings (Sound (c ∷ text)) o
   at_code c code text o f h = rw (eqb-true c code h) f
@@ -500,11 +481,6 @@ module _ (locale : Locale) (language : Language) where
   -- a text is at most one list of tokens
   pub tokens_once : (text : Text) (a b : List Token) → IsTokens locale language text a → IsTokens locale language text b → a ≡ b
   tokens_once text a b is at = let e = sym (tokens_complete a text is) ∙ tokens_complete b text at in cc
-
-  -- what a lexer ensures that answers the tokens of the function
-  pub found_tokens : {V : Type 0} (items : V → List Token) (text : Text) (o : Option V) → option_map items o ≡ tokens text → IfSome o (λ v. IsTokens locale language text (items v))
-  found_tokens items text None e = tt
-  found_tokens items text (Some v) e = tokens_sound text (items v) (sym e)
 
 pub ruleset turns = (ahead_none, turn_end, turn_fail, turn_on, turn_shorter)
 

@@ -171,8 +171,9 @@ mutual
   expression_reads {p} (G.word name) = λ nesting room r fits ends. ends_word p (whole p nesting) room name r ends
   expression_reads {p} (G.array rows is) = λ nesting room r fits ends. array_complete rows r is
   expression_reads (G.parentheses a) = λ nesting room r fits ends.
-      rw (append_assoc (expression_tokens a) (t.CloseParenthesis ∷ []) r, ne_eqb room 0 (λ none. omega (arith, fits.within)),
-      whole_completes a (expression_reads a) nesting (room - 1) (t.CloseParenthesis ∷ r) (omega arith) (omega arith))
+      (let some = ne_eqb room 0 (λ none. omega (arith, fits.within)) in
+      let read = whole_completes a (expression_reads a) nesting (room - 1) (t.CloseParenthesis ∷ r) (omega arith) (omega arith) in
+      rw (append_assoc (expression_tokens a) (t.CloseParenthesis ∷ []) r, some, read))
   expression_reads {p} (G.lambda a) = λ nesting room r fits ends.
       chain_closes opening (lambda_turn p (whole p nesting) room) _ (lambda_turns a) (lambda_tree a) r (lambda_turns-lt a) fits.shallow (ends_lambda r ends)
       (λ j is. lambda_before a nesting room j r fits is)
@@ -214,10 +215,11 @@ mutual
   arguments_read {p} (G.more a all) nesting room k found r fits enough =
       let rest : List Token = arguments_tokens all ++ t.CloseParenthesis ∷ r in
       let long = length-append (argument_tokens a) (separator_token p.locale ∷ arguments_tokens all) in
+      let read = argument_complete a nesting room (separator_token p.locale ∷ rest) (omega arith) ((separates p.locale).empty rest) in
+      let again = arguments_read all nesting room (k - 1) (found ++ argument_tree a ∷ []) r (omega arith) (omega (arith, long)) in
       ap (arguments_from p (whole p nesting) room k found) (append_assoc (argument_tokens a) (separator_token p.locale ∷ arguments_tokens all) (t.CloseParenthesis ∷ r))
       ∙ deeper (λ j. arguments_from p (whole p nesting) room j found (argument_tokens a ++ separator_token p.locale ∷ rest)) k (omega arith)
-      ∙ rw (argument_complete a nesting room (separator_token p.locale ∷ rest) (omega arith) ((separates p.locale).empty rest), (separates p.locale).reads rest,
-      ← append_assoc found (argument_tree a ∷ []) (arguments_trees all)) (arguments_read all nesting room (k - 1) (found ++ argument_tree a ∷ []) r (omega arith) (omega (arith, long)))
+      ∙ rw (read, (separates p.locale).reads rest, ← append_assoc found (argument_tree a ∷ []) (arguments_trees all)) again
 
   argument_complete : {p : Profile} (d : Argument p) (nesting room : ℕ) (r : List Token) → Fits nesting room (argument_open d) (depth_of (argument_tree d)) → is_empty_here p.locale r ≡ true
       → argument p (whole p nesting) room (argument_tokens d ++ r) ≡ Some (argument_tree d, r)

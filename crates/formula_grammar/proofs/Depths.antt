@@ -1,7 +1,6 @@
 -- The depth of what is read, the limit, and how often a chain goes on below it.
 use Rattle.std.proofs.Common.{◌≡◌, ℕ, ◌+◌, ◌<◌, ◌≤◌, max, Bool, List, [], ◌∷◌, ◌++◌, map, Option, Some, None, refl, arith, suc}
 use Rattle.std.proofs.lemmas.Bool.{le-leb, lt-leb}
-use Rattle.std.proofs.lemmas.Bool.Decides.{nat_tests}
 use Rattle.base_tables.specs.declared.Function.{Function}
 use Rattle.base_tables.specs.declared.Language.{Language}
 use Rattle.base_tables.specs.Function.{function_of_name}
@@ -49,10 +48,6 @@ depth_range_node place sheet a b = search tree_depths
 pub made-shallow : (x : Node) → depth_of x ≤ 64 → made x ≡ Some x
 unfolding made
 made-shallow x h = rw (le-leb (depth_of x) 64 h) refl
-
-pub made-is : (x y : Node) → made x ≡ Some y → (x ≡ y) × (depth_of x ≤ 64)
-unfolding made
-made-is x y e = grind (arith, nat_tests)
 
 pub made-deep : (x : Node) → 64 < depth_of x → made x ≡ None
 unfolding made

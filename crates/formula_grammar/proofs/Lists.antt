@@ -133,7 +133,7 @@ record IsItem (p : Profile) (ts rest : List Token) (x : ArrayItem) : Type 0 wher
   gives : item_value by ≡ x
 
 item_sound : (p : Profile) (ts : List Token) → Brings (IsItem p ts) (item p.language ts)
-item_sound p (t.Minus ∷ t.Number number ∷ ts) = 
+item_sound p (t.Minus ∷ t.Number number ∷ ts) =
     brings_map entry.Number ts (negated number) (λ value is. record { by = G.negative number value is; parts = refl; gives = refl })
 item_sound p (t.Number number ∷ ts) = brings (record { by = G.plain number; parts = refl; gives = refl })
 item_sound p (t.Text text ∷ ts) = brings (record { by = G.quoted text; parts = refl; gives = refl })

@@ -8,12 +8,11 @@ use Rattle.formula_levels.specs.declared.prefix.Prefix.{Prefix}
 use Rattle.formula_levels.specs.Levels.{prefix_node}
 use Rattle.formula_grammar.specs.declared.profile.Profile.{Profile}
 use Rattle.formula_grammar.specs.declared.token.Token.{Token}
-use Rattle.formula_grammar.specs.laws.Reading.{Parser, and_then, pure, made, item, after_item, rows_next, rows_from, parameter, parameters_step, parameters_from, separator, argument, arguments_from, operator_at, turn, chain_step, chain_from, signed, expression, whole, Outcome, with_rest, make, sign_of, own, sign_at, signed_step}
+use Rattle.formula_grammar.specs.laws.Reading.{Parser, and_then, pure, made, item, after_item, rows_next, rows_from, parameter, parameters_step, parameters_from, separator, argument, arguments_from, operator_at, turn, chain_step, chain_from, signed, expression, whole, Outcome, with_rest, make, sign_at, signed_step}
 use Rattle.formula_grammar.specs.laws.Signs.{wrapped, counted, signs, making}
 use Rattle.std.proofs.lemmas.Bool.Decides.{nat_tests}
 use Rattle.formula_grammar.specs.Operators.{prefix_under, prefix_token}
 use Rattle.formula_levels.specs.declared.prefix.Prefix.TheVariants as prefix
-use Rattle.formula_grammar.specs.declared.token.Token.TheVariants as t
 
 next : {X : Type 0} (f : ℕ → X) (n at : ℕ) → at < n → f (n - at) ≡ f (suc (n - (at + 1)))
 next f n at h = let more : n - at ≡ suc (n - (at + 1)) = omega arith in ap f more
@@ -113,17 +112,8 @@ module _ (op : Prefix) where
 plain : (o : Outcome Node) → and_then o pure ≡ o
 plain o = grind arith
 
--- an operator that has this level under it
-pub own_is : {Op : Type 0} (under_of : Op → ℕ) (under : ℕ) (o : Option Op) (op : Op) → option_and_then (own under_of under) o ≡ Some op → (o ≡ Some op) × (under_of op ≡ under)
-own_is under_of under o op e = grind (arith, nat_tests)
-
--- the sign that a token is
-sign_is : (x : Token) (op : Prefix) → sign_of x ≡ Some op → x ≡ prefix_token op
-sign_is t.Minus op e = cc
-sign_is _ op e = cc
-
 pub prefix_is : (under : ℕ) (x : Token) (op : Prefix) → sign_at under x ≡ Some op → (prefix_under op ≡ under) × (x ≡ prefix_token op)
-prefix_is under x op e = let q = own_is prefix_under under (sign_of x) op e in (q.1, sign_is x op q.0)
+prefix_is under x op e = grind (arith, nat_tests)
 
 module _ (under : ℕ) (operand : Parser Node) where
   abbrev all_around : List Token → Outcome Node

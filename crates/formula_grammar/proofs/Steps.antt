@@ -1,12 +1,12 @@
 -- What steps of reading bring, where they bring something, and what goes on behind a first operand, a turn at a time.
 use Rattle.std.proofs.Common.{◌≡◌, ℕ, zero, suc, ◌≤◌, Bool, true, false, cond, List, Option, Some, None, option_map, refl, ◌+◌, ◌-◌, ◌<◌, ap, ◌∙◌, arith}
 use Rattle.std.specs.Prelude.{IfSome}
-use Rattle.std.proofs.lemmas.Bool.{cond_both}
+use Rattle.std.proofs.lemmas.Bool.{cond_both, leb-true}
 use Rattle.formula_tree.specs.declared.node.Node.{Node}
 use Rattle.formula_tree.specs.Depth.{depth_of}
 use Rattle.formula_grammar.specs.declared.token.Token.{Token}
 use Rattle.formula_grammar.specs.laws.Reading.{Outcome, Parser, and_then, with_rest, made, make, chain_step, chain_from}
-use Rattle.formula_grammar.proofs.Depths.{made-is}
+use lib.Dec.{leb}
 
 pub record Brings {A : Type 0} (P : List Token → A → Type 0) (o : Outcome A) : Type 0 where
   pub read : IfSome o (λ r. P r.1 r.0)
@@ -27,10 +27,6 @@ module _ {A : Type 0} {P : List Token → A → Type 0} where
   brings_bind None f h k = nothing
   brings_bind (Some (b, mid)) f h k = k mid b h.read
 
-  pub brings_rest : (ts : List Token) (o : Option A) → ((a : A) → o ≡ Some a → P ts a) → Brings P (with_rest ts o)
-  brings_rest ts None k = nothing
-  brings_rest ts (Some a) k = brings (k a refl)
-
   pub brings_map : {B : Type 0} (f : B → A) (ts : List Token) (o : Option B) → ((b : B) → o ≡ Some b → P ts (f b)) → Brings P (with_rest ts (option_map f o))
   brings_map f ts None k = nothing
   brings_map f ts (Some b) k = brings (k b refl)
@@ -43,7 +39,9 @@ module _ {A : Type 0} {P : List Token → A → Type 0} where
   brings_by test f g ts = cond_both test f g (λ (h : Parser A). Brings P (h ts))
 
 pub brings_made : {P : List Token → Node → Type 0} (tree : Node) (ts : List Token) → (depth_of tree ≤ 64 → P ts tree) → Brings P (make tree ts)
-brings_made {P} tree ts k = brings_rest ts (made tree) (λ out e. (let q = made-is tree out e in rw (← q.0) (k q.1)))
+unfolding made
+brings_made {P} tree ts k = cond_both (leb (depth_of tree) 64) (Some tree) None (λ (o : Option Node). Brings P (with_rest ts o))
+    (λ h. brings (k (leb-true (depth_of tree) 64 h))) (λ h. nothing)
 
 -- ---- chains: what holds of what was read, and of the tokens after it
 

@@ -147,12 +147,9 @@ module _ (locale : Locale) (language : Language) where
   error_token : (error : Error) (s rest : Text) → error_of_text language (encode_utf8_all s) ≡ Some error → token (s ++ rest) ≡ Some (t.Error error, rest)
   error_token error s rest is = go (past 35 (s ++ rest)) refl (past_sound 35 (s ++ rest))
     where
-      read : error_at language (s ++ rest) ≡ Some (error, rest)
-      read = error_read language s error rest is
-
       go : (o : Option Text) → past 35 (s ++ rest) ≡ o → Brings (λ z. s ++ rest ≡ 35 ∷ z) o → token (s ++ rest) ≡ Some (t.Error error, rest)
-      go None h f = absurd (let x = sym (error_none language (s ++ rest) h) ∙ read in cc)
-      go (Some z) h f = hash_at (s ++ rest) z f.read ∙ ap (error_or_hash z) read
+      go None h f = absurd (let x = sym (error_none language (s ++ rest) h) ∙ error_read language s error rest is in cc)
+      go (Some z) h f = hash_at (s ++ rest) z f.read ∙ ap (error_or_hash z) (error_read language s error rest is)
 
   hash_token : (rest : Text) → NoError language (35 ∷ rest) → token (35 ∷ rest) ≡ Some (t.Hash, rest)
   hash_token rest never = hash_at (35 ∷ rest) rest refl ∙ rw (brings_none _ (error_sound language (35 ∷ rest)) (λ r f. never r.0 f.spelled r.1 f.parts f.is (stops_none r.1)))
@@ -180,6 +177,9 @@ module _ (locale : Locale) (language : Language) where
 
 pub no_range_spelled : (text : Text) → spot_at text ≡ None → NoRange None text
 no_range_spelled text e a b s rest parts is ends = let f = sym (range_read a b s rest (none_on (IsRange a b) s is) ends) ∙ ap spot_at (sym parts) ∙ e in absurd cc
+
+no_error_spelled : (language : Language) (text : Text) → error_at language text ≡ None → NoError language text
+no_error_spelled language text h error s rest parts is ends = let g = sym (error_read language s error rest is) ∙ ap (error_at language) (sym parts) ∙ h in absurd cc
 
 pub no_cell_spelled : (text : Text) → spot_at text ≡ None → NoCell None text
 no_cell_spelled text e mark s rest parts is ends =
@@ -219,13 +219,11 @@ module _ (locale : Locale) (language : Language) where
       go : (r : Spot × Text) → Placed (IsSpot r.0) place r.1 → Sound text (place_token sheet r.0, r.1)
       go (spot.Range a b, rest) f e =
           record { spelled = first ++ f.spelled; parts = whole f.spelled rest f.parts; spells = on_it (IsRange a b) f.spelled f.is; ends = f.ends }
-      go (spot.Cell mark, rest) f e = record {
-        spelled = first ++ f.spelled;
-        parts = whole f.spelled rest f.parts;
-        spells = on_it (IsCell mark) f.spelled f.is;
-        ends = (f.ends, λ a b z more there at ends. (let h = ap (option_map (λ (q : Token × Text). q.0))
-            (sym (range_token locale language sheet a b z more at ends) ∙ ap (token_at locale language) (sym (whole f.spelled rest f.parts ∙ there)) ∙ e) in absurd cc));
-      }
+      go (spot.Cell mark, rest) f e =
+          let never : NoRange sheet ((first ++ f.spelled) ++ rest) = λ a b z more there at ends.
+          (let here = ap (token_at locale language) (sym (whole f.spelled rest f.parts ∙ there)) in
+          let h = ap (option_map (λ (q : Token × Text). q.0)) (sym (range_token locale language sheet a b z more at ends) ∙ here ∙ e) in absurd cc) in
+          record { spelled = first ++ f.spelled; parts = whole f.spelled rest f.parts; spells = on_it (IsCell mark) f.spelled f.is; ends = (f.ends, never) }
 
   on_sheet_sound : (text sheet name behind : Text) → text ≡ name ++ behind → IsSheetName sheet name → Brings (Sound text) (on_sheet sheet behind)
   on_sheet_sound text sheet name behind parts named = brings_then _ _ (past_sound 33 behind) (λ z e.
@@ -289,8 +287,7 @@ module _ (locale : Locale) (language : Language) where
       go : (o : Option (Error × Text)) → error_at language (35 ∷ text) ≡ o → Brings (λ r. Front (λ s. error_of_text language (encode_utf8_all s) ≡ Some r.0) (35 ∷ text) r.1) o
           → Brings (Sound (35 ∷ text)) (error_or_hash text o)
       go (Some r) h f = brings (λ e. record { spelled = f.read.spelled; parts = f.read.parts; spells = f.read.is; ends = tt })
-      go None h f = brings (λ e. record { spelled = 35 ∷ []; parts = refl; spells = refl; ends = λ error s more parts is ends.
-          (let g = sym (error_read language s error more is) ∙ ap (error_at language) (sym parts) ∙ h in absurd cc) })
+      go None h f = brings (λ e. record { spelled = 35 ∷ []; parts = refl; spells = refl; ends = no_error_spelled language (35 ∷ text) h })
 
   -- a character that may stand behind a sign
   next_sound : (c mark : ℕ) (x : Token) (other : Option (Token × Text)) (text : Text) → Spells locale language x (c ∷ mark ∷ []) → ((rest : Text) → Ends locale language x (c ∷ mark ∷ []) rest)

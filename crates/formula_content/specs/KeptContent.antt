@@ -1,16 +1,12 @@
 -- Which contents a workbook keeps.
-use Rattle.std.specs.Prelude.{IsTrue}
+use Rattle.std.specs.Prelude.{IsTrue, IfSome}
 use Rattle.base_decimal.specs.Kept.{IsKept}
 use Rattle.formula_tree.specs.Numbers.{has_kept_numbers}
 use Rattle.formula_content.specs.declared.content.Content.{Content}
-use Rattle.formula_content.specs.declared.content.Content.TheVariants.{Empty, Number, Boolean, Error, Text, Formula, Dynamic}
+use Rattle.formula_content.specs.declared.content.Content.TheVariants.{Number}
+use Rattle.formula_content.specs.Lens.{tree_of}
 
 -- each of its numbers has at most 15 digits on each side of the point, and no zero digit at the end of its places
 abbrev pub IsKeptContent : Content → Type 0
-IsKeptContent Empty = Unit {0}
 IsKeptContent (Number number) = IsKept number
-IsKeptContent (Boolean _) = Unit {0}
-IsKeptContent (Error _) = Unit {0}
-IsKeptContent (Text _) = Unit {0}
-IsKeptContent (Formula tree) = IsTrue (has_kept_numbers tree)
-IsKeptContent (Dynamic tree) = IsTrue (has_kept_numbers tree)
+IsKeptContent content = IfSome (tree_of content) (λ tree. IsTrue (has_kept_numbers tree))

@@ -3,6 +3,7 @@ ghost use Rattle.formula_tree.specs.Depth.{is_within};
 ghost use Rattle.formula_content.specs.Fitting.{fits_at, tree_fits_at};
 
 use crate::content::Content;
+use crate::lens::tree_of;
 use base_values::Position;
 use formula_tree::{MAX_DEPTH, Node, has_no_negative_number, is_at_most_deep, is_placed};
 
@@ -26,9 +27,8 @@ fn tree_fits_at(place: Position, tree: &Node) -> bool
 pub fn fits_at(place: Position, content: &Content) -> bool
     ensures { result ≡ fits_at place content.now }
 {
-    match content {
-        Content::Empty | Content::Number(_) => true,
-        Content::Boolean(_) | Content::Error(_) | Content::Text(_) => true,
-        Content::Formula(tree) | Content::Dynamic(tree) => tree_fits_at(place, tree.get()),
+    match tree_of(content) {
+        Some(tree) => tree_fits_at(place, tree.get()),
+        None => true,
     }
 }

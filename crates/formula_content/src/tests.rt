@@ -1,8 +1,8 @@
-// Which formulas fit a place, at the borders of each rule.
-use crate::{Content, fits_at};
+// Which formulas fit a place, at the borders of each rule, and what a tree is put into.
+use crate::{Content, fits_at, with_tree};
 use base_decimal::Decimal;
 use base_shared::Shared;
-use base_values::Position;
+use base_values::{EditError, Position};
 use formula_tree::{Corner, Node, UnaryKind};
 use std::alloc::{AllocError, Global};
 use std::test::Fail;
@@ -73,5 +73,22 @@ fn minus_signs_fit(alloc: Global, count: u64) -> Result<bool, AllocError> {
 fn depth(rt: HostRuntime) -> Result<(), Fail> {
     assert!(rt; minus_signs_fit(rt.alloc(), 63)?);
     assert!(rt; !minus_signs_fit(rt.alloc(), 64)?);
+    Ok(())
+}
+
+/// What a content is once the number 2 is put in as its tree.
+fn with_two(alloc: Global, content: &Content) -> Result<Content, EditError> {
+    with_tree(content, Shared::new(alloc, number(2))?)
+}
+
+#[test]
+fn trees_are_put_in(rt: HostRuntime) -> Result<(), Fail> {
+    let alloc = rt.alloc();
+    let (one, two) = (
+        Shared::new(alloc, number(1))?,
+        Shared::new(alloc, number(2))?,
+    );
+    assert!(rt; with_two(alloc, &Content::Dynamic(one))? == Content::Dynamic(two));
+    assert!(rt; with_two(alloc, &Content::Boolean(true))? == Content::Boolean(true));
     Ok(())
 }

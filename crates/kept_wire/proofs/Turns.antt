@@ -1,8 +1,7 @@
 -- A turn of a loop that makes a map of entries.
-use Rattle.std.proofs.Common.{◌≡◌, ℕ, suc, Bool, true, List, [], ◌∷◌, ◌++◌, ap, sym, subst, ◌∙◌, append_assoc, arith}
+use Rattle.std.proofs.Common.{◌≡◌, true, List, [], ◌∷◌, ◌++◌, ap, sym, ◌∙◌, append_assoc}
 use Rattle.std.proofs.lemmas.Map.Lookups.{CmpEqualImpliesEq}
 use Rattle.std.specs.Cmp.{IsTotalOrder}
-use Rattle.std.specs.List.{All}
 use Rattle.std.specs.declared.cmp.Ordering.{Ordering}
 use Rattle.std.specs.FinMap.{FinMap, from_entries, insert, is_sorted}
 use Rattle.kept_wire.specs.laws.Ascending.{made_more}
@@ -14,14 +13,6 @@ taken seen rest left whole e step all = ap (λ es. seen ++ es) (sym step) ∙ al
 -- it is seen now
 pub seen_now : {X : Type 0} (seen rest whole : List X) (e : X) → seen ++ e ∷ rest ≡ whole → (seen ++ e ∷ []) ++ rest ≡ whole
 seen_now seen rest whole e all = append_assoc seen (e ∷ []) rest ∙ all
-
-middle : {X : Type 0} (P : X → Type 0) (xs ys : List X) (y : X) → All P (xs ++ y ∷ ys) → P y
-middle P [] ys y all = all 0 y (omega arith)
-middle P (x ∷ xs) ys y all = middle P xs ys y (λ k d lt. all (suc k) d (omega arith))
-
--- what holds of each entry holds of it
-pub holds_now : {X : Type 0} (P : X → Type 0) (seen rest whole : List X) (e : X) → seen ++ e ∷ rest ≡ whole → All P whole → P e
-holds_now P seen rest whole e all each = middle P seen rest e (subst (All P) (sym all) each)
 
 -- the map of what is seen goes on with it
 pub made_now : {K X : Type 0} {R : K → K → Ordering} → IsTotalOrder R → CmpEqualImpliesEq R → (seen rest whole : List (K × X)) (e : K × X) (before after : FinMap R X) → seen ++ e ∷ rest ≡ whole → is_sorted R whole ≡ true → before ≡ from_entries seen → after ≡ insert before e.0 e.1 → after ≡ from_entries (seen ++ e ∷ [])

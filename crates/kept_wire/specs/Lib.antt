@@ -1,7 +1,5 @@
 pub mod MapBytes
-pub mod KeyBytes
-pub mod Nested
-pub mod LineBytes
-pub mod FormulaBytes
+pub mod PartBytes
+pub mod EditBytes
 pub mod KeptBytes
 pub mod laws

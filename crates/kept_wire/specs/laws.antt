@@ -1,9 +1,7 @@
+pub mod Ascending
+pub mod EditLaws
 pub mod FitsLaws
-pub mod MapLaws
-pub mod FormulaLaws
 pub mod KeptFits
 pub mod KeptLaws
-pub mod LineLaws
-pub mod NestedLaws
-pub mod Ascending
-pub mod KeyBytes
+pub mod MapLaws
+pub mod PartLaws

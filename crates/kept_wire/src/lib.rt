@@ -5,16 +5,16 @@
 //! `ParseDiffs`. A map is spelled in the one order of its keys.
 #![tactic(auto)]
 
-mod formulas;
-mod kept_rows;
-mod key_kinds;
-mod keys;
+mod edits;
+mod kept_lines;
+mod keyed;
 mod maps;
 mod reading;
 mod values;
 mod writing;
 
-pub use kept_rows::KeptRowsPart;
+pub use edits::EditPart;
+pub use kept_lines::KeptLinesPart;
 
 #[cfg(test)]
 mod tests;

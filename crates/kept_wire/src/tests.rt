@@ -3,10 +3,11 @@ use base_shared::Shared;
 use base_styles::Style;
 use base_values::EditError;
 use base_wire::Part;
+use line_map::EditKind;
 use std::test::*;
 
 /// Each map with one entry: the number 1 in the default style at row 2 and column 3, a link to `a`
-/// there, row 2 that is 40 high and hidden, and on the sheet of id 7 the tree `TRUE` of row 1 and
+/// there, line 2 of size 40 that is hidden, and on the sheet of id 7 the tree `TRUE` of row 1 and
 /// column 1.
 const ONE_OF_EACH: [u8; 139] = [
     0, 0, 0, 0, 0, 0, 0, 1, 0, 0, 0, 2, 0, 0, 0, 3, 1, 0, 0, 0, 0, 0, 0, 0, 0, 0, 0, 0, 0, 0, 0, 0,
@@ -16,21 +17,19 @@ const ONE_OF_EACH: [u8; 139] = [
     0, 0, 1, 0, 0, 0, 1, 0, 1, 0, 0, 0, 0, 0, 0, 0, 0, 0,
 ];
 
-/// Nothing but two rows, 2 and 3, that are hidden.
-const TWO_ROWS: [u8; 55] = [
+/// Nothing but two lines, 2 and 3, that are hidden.
+const TWO_LINES: [u8; 55] = [
     0, 0, 0, 0, 0, 0, 0, 0, 0, 0, 0, 0, 0, 0, 0, 0, 0, 0, 0, 0, 0, 0, 0, 2, 0, 0, 0, 2, 0, 0, 1, 0,
     0, 0, 3, 0, 0, 1, 0, 0, 0, 0, 0, 0, 0, 0, 0, 0, 0, 0, 0, 0, 0, 0, 0,
 ];
 
-/// Bytes that are put in the place of those of `TWO_ROWS`, where they stand.
-const DAMAGES: [(usize, u8); 6] = [
-    // Row 2 twice.
+/// Bytes that are put in the place of those of `TWO_LINES`, where they stand.
+const DAMAGES: [(usize, u8); 5] = [
+    // Line 2 twice.
     (34, 2),
-    // Row 1 behind row 2.
+    // Line 1 behind line 2.
     (34, 1),
-    // Row 0.
-    (27, 0),
-    // A row that has nothing of its own.
+    // A line that has nothing of its own.
     (30, 0),
     // Merged cells, and a rule.
     (46, 1),
@@ -39,7 +38,7 @@ const DAMAGES: [(usize, u8); 6] = [
 
 fn is_refused(rt: HostRuntime, plain: &Shared<Style>, bytes: &[u8]) -> bool {
     matches!(
-        KeptRowsPart::take(rt.alloc(), plain, bytes),
+        KeptLinesPart::take(rt.alloc(), plain, bytes),
         Err(EditError::ParseDiffs)
     )
 }
@@ -50,37 +49,78 @@ fn plain_style(rt: HostRuntime) -> Result<Shared<Style>, Fail> {
 }
 
 #[test]
-fn damaged_rows_are_refused(rt: HostRuntime) -> Result<(), Fail> {
+fn damaged_lines_are_refused(rt: HostRuntime) -> Result<(), Fail> {
     let plain = plain_style(rt)?;
     for (at, byte) in DAMAGES {
-        let mut bytes = TWO_ROWS;
+        let mut bytes = TWO_LINES;
         if let Some(place) = bytes.get_mut(at) {
             *place = byte;
         }
         assert!(rt; is_refused(rt, &plain, &bytes));
     }
-    for length in 0..TWO_ROWS.len() {
-        assert!(rt; is_refused(rt, &plain, &TWO_ROWS[..length]));
+    for length in 0..TWO_LINES.len() {
+        assert!(rt; is_refused(rt, &plain, &TWO_LINES[..length]));
     }
     Ok(())
 }
 
 #[test]
-fn kept_rows_are_read_and_written(rt: HostRuntime) -> Result<(), Fail> {
+fn kept_lines_are_read_and_written(rt: HostRuntime) -> Result<(), Fail> {
     let plain = plain_style(rt)?;
     let nothing = [0; 41];
+    // A line below 0 is read too: it is refused when its diff is made.
+    let mut below = TWO_LINES;
+    below[24] = 255;
     for bytes in [
         ONE_OF_EACH.as_slice(),
-        TWO_ROWS.as_slice(),
+        TWO_LINES.as_slice(),
+        below.as_slice(),
         nothing.as_slice(),
     ] {
-        let (kept, rest) = KeptRowsPart::take(rt.alloc(), &plain, bytes)
+        let (kept, rest) = KeptLinesPart::take(rt.alloc(), &plain, bytes)
             .ok()
             .ok_or("the bytes are a kept part")?;
         assert!(rt; rest.is_empty());
         let mut out = Vec::new(rt.alloc());
-        KeptRowsPart::put(&mut out, &kept)?;
+        KeptLinesPart::put(&mut out, &kept)?;
         assert_eq!(rt; out.as_slice(), bytes);
     }
+    Ok(())
+}
+
+/// Each kind of edit, of line 3 and two lines, and a move back by one line.
+const EDITS: [(EditKind, &[u8]); 3] = [
+    (
+        EditKind::Insert { first: 3, count: 2 },
+        &[0, 0, 0, 0, 3, 0, 0, 0, 2],
+    ),
+    (
+        EditKind::Delete { first: 3, count: 2 },
+        &[1, 0, 0, 0, 3, 0, 0, 0, 2],
+    ),
+    (
+        EditKind::Move {
+            first: 3,
+            count: 2,
+            delta: -1,
+        },
+        &[2, 0, 0, 0, 3, 0, 0, 0, 2, 255, 255, 255, 255],
+    ),
+];
+
+#[test]
+fn edits_are_read_and_written(rt: HostRuntime) -> Result<(), Fail> {
+    for (edit, bytes) in EDITS {
+        let (read, rest) = EditPart::take(rt.alloc(), &(), bytes)
+            .ok()
+            .ok_or("the bytes are an edit")?;
+        assert!(rt; read == edit);
+        assert!(rt; rest.is_empty());
+        let mut out = Vec::new(rt.alloc());
+        EditPart::put(&mut out, &edit)?;
+        assert_eq!(rt; out.as_slice(), bytes);
+    }
+    let none = EditPart::take(rt.alloc(), &(), &[3, 0, 0, 0, 3, 0, 0, 0, 2]);
+    assert!(rt; matches!(none, Err(EditError::ParseDiffs)));
     Ok(())
 }

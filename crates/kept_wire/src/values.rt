@@ -1,18 +1,28 @@
-//! The values of the maps that are kept, beside cells and trees: links, and what rows have of their own.
+//! Places of a workbook, links, and what lines have of their own, as parts of formats.
 
 ghost use Rattle.base_values.specs.Answers.{Answers, map_ok};
-ghost use Rattle.kept_wire.specs.LineBytes.{link_at, row_at};
+ghost use Rattle.kept_wire.specs.PartBytes.{line_at, link_at, sheet_place_at};
 
 use crate::reading::read;
+use base_maps::SheetPlace;
 use base_shared::Shared;
 use base_styles::Style;
 use base_values::{EditError, Text};
 use base_wire::Part;
-use cell_wire::StylePart;
-use sheet_grid::{Link, RowAttr};
+use cell_wire::{PositionPart, StylePart};
+use sheet_grid::{LineAttr, Link};
 use std::alloc::{AllocError, Global};
 
-#[tactic(auto, unfolding(crate::specs::LineBytes::link_at))]
+#[tactic(auto, unfolding(crate::specs::PartBytes::sheet_place_at))]
+fn sheet_place_at(alloc: Global, bytes: &[u8]) -> Result<(SheetPlace, &[u8]), EditError>
+    ensures { Answers (map_ok (λ x. (x.0, x.1.now)) result) (sheet_place_at bytes.now) }
+{
+    let (sheet, rest) = read::<u32>(alloc, &(), bytes)?;
+    let (place, rest) = read::<PositionPart>(alloc, &(), rest)?;
+    Ok((SheetPlace { sheet, place }, rest))
+}
+
+#[tactic(auto, unfolding(crate::specs::PartBytes::link_at))]
 fn link_at(alloc: Global, bytes: &[u8]) -> Result<(Link, &[u8]), EditError>
     ensures { Answers (map_ok (λ x. (x.0, x.1.now)) result) (link_at bytes.now) }
 {
@@ -20,20 +30,20 @@ fn link_at(alloc: Global, bytes: &[u8]) -> Result<(Link, &[u8]), EditError>
     Ok((Link { target }, rest))
 }
 
-/// A row that has something of its own.
-#[tactic(auto, unfolding(crate::specs::LineBytes::row_at, crate::specs::LineBytes::own_at, crate::specs::LineBytes::size_at, crate::specs::LineBytes::own_style_at))]
-fn row_at<'a>(
+/// A line that has something of its own.
+#[tactic(auto, unfolding(crate::specs::PartBytes::line_at, crate::specs::PartBytes::size_at, crate::specs::PartBytes::own_style_at))]
+fn line_at<'a>(
     alloc: Global,
     plain: &Shared<Style>,
     bytes: &'a [u8],
-) -> Result<(RowAttr, &'a [u8]), EditError>
-    ensures { Answers (map_ok (λ x. (x.0, x.1.now)) result) (row_at bytes.now) }
+) -> Result<(LineAttr, &'a [u8]), EditError>
+    ensures { Answers (map_ok (λ x. (x.0, x.1.now)) result) (line_at bytes.now) }
 {
-    let (height, rest) = read::<Option<i32>>(alloc, &(), bytes)?;
+    let (size, rest) = read::<Option<i32>>(alloc, &(), bytes)?;
     let (style, rest) = read::<Option<StylePart>>(alloc, plain, rest)?;
     let (hidden, rest) = read::<bool>(alloc, &(), rest)?;
-    let attr = RowAttr {
-        height,
+    let attr = LineAttr {
+        size,
         style,
         hidden,
     };
@@ -43,17 +53,56 @@ fn row_at<'a>(
     Ok((attr, rest))
 }
 
+/// The id of a sheet, and a position, inside the sheet or not.
+pub(crate) struct SheetPlacePart;
+
 /// A link: where it leads.
 pub(crate) struct LinkPart;
 
-/// What a row has of its own.
-pub(crate) struct RowPart;
+/// What a line has of its own.
+pub(crate) struct LinePart;
+
+impl Part for SheetPlacePart {
+    ghost use Rattle.base_wire.specs.Spelling.{Any};
+    ghost use Rattle.kept_wire.specs.PartBytes.{spell_sheet_place, sheet_place_at, FitsSheetPlace};
+    ghost use Rattle.kept_wire.specs.laws.PartLaws.{sheet_place_format, sheet_place_some};
+
+    type Value = SheetPlace;
+
+    type Context = ();
+
+    ghost Known = { Any };
+
+    ghost Fits = { FitsSheetPlace };
+
+    ghost spelling = { spell_sheet_place };
+
+    ghost reading = { sheet_place_at };
+
+    fn put(out: &mut Vec<u8>, value: &SheetPlace) -> Result<(), AllocError> {
+        out.extend_from_slice(&value.sheet.to_be_bytes())?;
+        PositionPart::put(out, &value.place)?;
+        Ok(())
+    }
+
+    fn take<'a>(
+        alloc: Global,
+        _context: &(),
+        bytes: &'a [u8],
+    ) -> Result<(SheetPlace, &'a [u8]), EditError> {
+        sheet_place_at(alloc, bytes)
+    }
+
+    ghost format = { sheet_place_format };
+
+    ghost some = { sheet_place_some };
+}
 
 impl Part for LinkPart {
     ghost use Rattle.std.proofs.Common.{arith};
     ghost use Rattle.base_wire.specs.Spelling.{Any};
-    ghost use Rattle.kept_wire.specs.LineBytes.{spell_link, link_at, FitsLink};
-    ghost use Rattle.kept_wire.specs.laws.LineLaws.{link_format};
+    ghost use Rattle.kept_wire.specs.PartBytes.{spell_link, link_at, FitsLink};
+    ghost use Rattle.kept_wire.specs.laws.PartLaws.{link_format};
 
     type Value = Link;
 
@@ -84,27 +133,27 @@ impl Part for LinkPart {
     ghost some = { λ x. Prim.omega arith };
 }
 
-impl Part for RowPart {
+impl Part for LinePart {
     ghost use Rattle.std.specs.Prelude.{◌≡◌, false};
-    ghost use Rattle.sheet_grid.specs.Lines.{is_plain_row};
-    ghost use Rattle.kept_wire.specs.LineBytes.{spell_row, row_at, FitsRow};
-    ghost use Rattle.kept_wire.specs.laws.LineLaws.{row_format, row_some};
+    ghost use Rattle.sheet_grid.specs.Lines.{is_plain};
+    ghost use Rattle.kept_wire.specs.PartBytes.{spell_line, line_at, FitsLine};
+    ghost use Rattle.kept_wire.specs.laws.PartLaws.{line_format, line_some};
 
-    type Value = RowAttr;
+    type Value = LineAttr;
 
     type Context = Shared<Style>;
 
-    ghost Known = { λ attr. is_plain_row attr ≡ false };
+    ghost Known = { λ attr. is_plain attr ≡ false };
 
-    ghost Fits = { FitsRow };
+    ghost Fits = { FitsLine };
 
-    ghost spelling = { spell_row };
+    ghost spelling = { spell_line };
 
-    ghost reading = { row_at };
+    ghost reading = { line_at };
 
     #[tactic(auto, using(crate::proofs::Known::any_option))]
-    fn put(out: &mut Vec<u8>, value: &RowAttr) -> Result<(), AllocError> {
-        Option::<i32>::put(out, &value.height)?;
+    fn put(out: &mut Vec<u8>, value: &LineAttr) -> Result<(), AllocError> {
+        Option::<i32>::put(out, &value.size)?;
         Option::<StylePart>::put(out, &value.style)?;
         bool::put(out, &value.hidden)?;
         Ok(())
@@ -114,11 +163,11 @@ impl Part for RowPart {
         alloc: Global,
         plain: &Shared<Style>,
         bytes: &'a [u8],
-    ) -> Result<(RowAttr, &'a [u8]), EditError> {
-        row_at(alloc, plain, bytes)
+    ) -> Result<(LineAttr, &'a [u8]), EditError> {
+        line_at(alloc, plain, bytes)
     }
 
-    ghost format = { row_format };
+    ghost format = { line_format };
 
-    ghost some = { row_some };
+    ghost some = { line_some };
 }

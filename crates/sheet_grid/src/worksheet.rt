@@ -13,15 +13,15 @@ ghost use Rattle.formula_content.specs.declared.Content.TheVariants.{Empty, Numb
 
 mod entries;
 mod lines;
+mod sizes;
 mod styles;
 
 use crate::cell::Cell;
-use crate::column_attr::ColumnAttr;
 use crate::dimension::WorksheetDimension;
+use crate::line_attr::LineAttr;
 use crate::link::Link;
-use crate::row_attr::RowAttr;
 use crate::state::SheetState;
-use base_axis::{ColumnAxis, LineMap, RowAxis};
+use base_axis::{AxisMap, ColumnAxis, RowAxis};
 use base_decimal::Decimal;
 use base_shared::Shared;
 use base_styles::{Color, Style};
@@ -46,8 +46,8 @@ pub struct Worksheet {
     frozen_columns: i32,
     cells: PlaceMap<Shared<Cell>>,
     links: PlaceMap<Link>,
-    rows: LineMap<RowAxis, RowAttr>,
-    columns: LineMap<ColumnAxis, ColumnAttr>,
+    rows: AxisMap<RowAxis, LineAttr>,
+    columns: AxisMap<ColumnAxis, LineAttr>,
 }
 
 impl Model for Worksheet {
@@ -115,8 +115,8 @@ impl Worksheet {
             frozen_columns: 0,
             cells: PlaceMap::new(alloc),
             links: PlaceMap::new(alloc),
-            rows: LineMap::new(alloc),
-            columns: LineMap::new(alloc),
+            rows: AxisMap::new(alloc),
+            columns: AxisMap::new(alloc),
         }
     }
 

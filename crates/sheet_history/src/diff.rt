@@ -14,13 +14,21 @@ pub enum Diff {
         old: Option<Shared<Cell>>,
         new: Option<Shared<Cell>>,
     },
-    /// Rows that were inserted in the sheet with that id or deleted from it, and what the opposite
-    /// edit does not give back.
-    Rows {
+    /// Rows or columns that were inserted in the sheet with that id, deleted from it or moved in it,
+    /// and what the opposite edit does not give back.
+    Lines {
         sheet: u32,
+        axis: LineAxis,
         edit: EditKind,
         kept: Shared<KeptLines>,
     },
+}
+
+/// Along which axis lines are edited.
+#[derive(Clone, Copy, Debug, PartialEq, Eq)]
+pub enum LineAxis {
+    Rows,
+    Columns,
 }
 
 /// The record of one edit: the changes that it made. A copy takes no memory.
@@ -49,6 +57,15 @@ impl Exact for Diff {
     ghost copies = { λ a b h. Prim.search rules };
 
     ghost equals = { diff_equals };
+}
+
+impl Exact for LineAxis {
+    ghost use Rattle.std.proofs.Common.{rules};
+    ghost use Rattle.sheet_history.specs.laws.DiffEquals.{line_axis_equals};
+
+    ghost copies = { λ a b h. Prim.search rules };
+
+    ghost equals = { line_axis_equals };
 }
 
 impl Exact for DiffType {

@@ -1,197 +1,134 @@
-ghost use Rattle.std.specs.Prelude.{◌≡◌, IfOk, IsOkUnless, IsTrue, is_some, map};
-ghost use Rattle.std.specs.FinMap.{empty, get};
+ghost use Rattle.std.specs.Prelude.{◌≡◌, None, map, IfOk, IsOkUnless, IsTrue, is_some};
+ghost use Rattle.std.specs.List.{AllByRecursion};
+ghost use Rattle.std.specs.FinMap.{get};
+ghost use Rattle.base_axis.specs.Along.{Along};
 ghost use Rattle.base_values.specs.declared.EditError.TheVariants.{NoMemory};
 ghost use Rattle.line_map.specs.Edit.{IsValid};
-ghost use Rattle.sheet_grid.specs.KeptCell.{KeptCells};
-ghost use Rattle.sheet_lines.specs.Way.{way, back, place_goes, line_goes};
-ghost use Rattle.sheet_lines.specs.Followed.{sheet_of};
-ghost use Rattle.sheet_lines.specs.KeptNumbers.{AreKeptTrees, AreKeptLines};
-ghost use Rattle.sheet_lines.specs.Back.{cells_back, moved_back, lost_of, or_empty, sheet_back, book_back};
+ghost use Rattle.sheet_lines.specs.Back.{LieInside, sheet_back, book_back};
+ghost use Rattle.sheet_lines.specs.Followed.{way_on};
+ghost use Rattle.sheet_lines.specs.Kept.{place_on};
+ghost use Rattle.sheet_lines.specs.KeptNumbers.{AreKeptLines};
+ghost use Rattle.sheet_lines.specs.Sheets.{sheet_of, IsPlacedSheet, IsPlacedBook};
 
-use crate::entries::{moved_entries, overlaid_entries};
-use crate::following::followed_cells;
+use crate::edited_sheet::EditedSheet;
+use crate::followed::edited_by;
+use crate::inside::{lines_inside, places_inside};
 use crate::kept::KeptLines;
-use crate::lines::{are_columns, are_rows, moved_lines, overlaid_lines};
-use crate::overlays::RegainedCells;
-use crate::sheet_edit::{SheetEdit, back};
-use crate::sheets::{meeting, name_of};
-use base_axis::{Axis, LineMap};
+use crate::sheets::route_on;
+use base_axis::{Axis, AxisMap};
+use base_maps::{NumberMap, PositionMap, SheetPlace, SheetPlaceMap};
 use base_shared::Shared;
-use base_values::{EditError, Exact, Items, PlaceMap};
+use base_values::{EditError, Items, PlaceMap, Position};
 use formula_tree::Node;
-use line_map::{Copied, LineEdit, lay};
-use sheet_grid::{Cell, Link, Workbook, Worksheet};
+use line_map::{
+    Follower, LineEdit, LineMap, Nothing, Parts, Route, overlaid_places, restored_places,
+};
+use sheet_grid::{Cell, LineAttr, Link, Workbook, Worksheet};
 use std::alloc::Global;
 
-/// The cells of a sheet taken back, with the kept trees and the lost cells.
-#[tactic(auto, unfolding(crate::specs::Back::cells_back, line_map::specs::Carried::regain_map))]
-fn cells_back<A: Axis>(
-    alloc: Global,
-    by: &SheetEdit<'_, A>,
-    lost: &PlaceMap<Shared<Cell>>,
-    trees: &PlaceMap<Shared<Node>>,
-    cells: &PlaceMap<Shared<Cell>>,
-) -> Result<PlaceMap<Shared<Cell>>, EditError>
-    requires { IsValid A.along.last by.now.edit.kind }
-    ensures cells { IfOk result (λ made. made ≡ cells_back (way A.along by.now.edit.kind by.now.own.now by.now.edited.now by.now.is_edited) lost.now trees.now cells.now) }
-    ensures only { IsOkUnless result NoMemory }
-{
-    let made = followed_cells(alloc, &back(by), cells)?;
-    let (by, followed) = (*by, cells);
-    let places = trees.places(alloc)?;
-    let regained = RegainedCells {
-        by,
-        followed,
-        trees,
-    };
-    let made = lay(&regained, alloc, places.as_slice(), made)?;
-    let places = lost.places(alloc)?;
-    lay(&Copied { map: lost }, alloc, places.as_slice(), made)
+/// The kept trees of the sheet of an id.
+struct SheetTrees<'k> {
+    formulas: &'k SheetPlaceMap<Shared<Node>>,
+    id: u32,
 }
 
-/// The trees kept of a sheet, or none.
-fn trees_of<'a>(
-    kept: &'a KeptLines,
-    none: &'a PlaceMap<Shared<Node>>,
-    id: u32,
-) -> &'a PlaceMap<Shared<Node>>
-    requires none { none.now ≡ empty }
-    requires numbers { AreKeptLines kept.now }
-    ensures trees { result.now ≡ or_empty (get kept.now.formulas id) }
-    ensures numbers { AreKeptTrees result.now }
-{
-    match kept.formulas.get(id) {
-        Some(trees) => trees,
-        None => none,
+impl<'k> Parts for SheetTrees<'k> {
+    ghost use Rattle.std.specs.FinMap.{get};
+    ghost use Rattle.sheet_lines.specs.Kept.{place_on};
+
+    type Part = Shared<Node>;
+
+    ghost part_at = { λ s place. get s.formulas.now (place_on s.id place) };
+
+    fn part(&self, place: Position) -> Option<&Shared<Node>> {
+        let sheet = self.id;
+        self.formulas.get(SheetPlace { sheet, place })
     }
 }
 
-/// The lost cells, if the sheet is the edited one.
-fn lost_of<'a>(
-    kept: &'a KeptLines,
-    none: &'a PlaceMap<Shared<Cell>>,
-    is_edited: bool,
-) -> &'a PlaceMap<Shared<Cell>>
-    requires none { none.now ≡ empty }
-    requires numbers { AreKeptLines kept.now }
-    ensures cells { result.now ≡ lost_of is_edited kept.now.cells }
-    ensures numbers { KeptCells result.now }
-{
-    if is_edited { &kept.cells } else { none }
-}
-
-/// The cells of a sheet taken back with what was kept.
-fn sheet_cells_back<A: Axis>(
+/// The cells of a sheet taken back, with the kept trees and, on the edited sheet, the lost cells.
+fn cells_back<A: Axis, M: LineMap<A>>(
     alloc: Global,
-    by: &SheetEdit<'_, A>,
+    route: &Route<'_, A, M>,
     kept: &KeptLines,
     sheet: &Worksheet,
-) -> Result<PlaceMap<Shared<Cell>>, EditError>
-    requires valid { IsValid A.along.last by.now.edit.kind }
-    requires numbers { AreKeptLines kept.now }
-    ensures cells { IfOk result (λ made. made ≡ cells_back (way A.along by.now.edit.kind by.now.own.now by.now.edited.now by.now.is_edited) (lost_of by.now.is_edited kept.now.cells) (or_empty (get kept.now.formulas sheet.now.id)) sheet.now.cells) }
-    ensures numbers { IfOk result KeptCells }
-    ensures only { IsOkUnless result NoMemory }
-{
-    let (no_cells, no_trees) = (PlaceMap::new(alloc), PlaceMap::new(alloc));
-    let lost = lost_of(kept, &no_cells, by.is_edited);
-    let trees = trees_of(kept, &no_trees, sheet.get_sheet_id());
-    cells_back(alloc, by, lost, trees, sheet.cell_map())
-}
-
-/// Links that go back, on the edited sheet with the lost ones.
-#[tactic(auto, unfolding(crate::specs::Back::moved_back))]
-fn links_back<A: Axis>(
-    alloc: Global,
-    by: &SheetEdit<'_, A>,
-    lost: &PlaceMap<Link>,
-    links: &PlaceMap<Link>,
-) -> Result<PlaceMap<Link>, EditError>
-    requires { IsValid A.along.last by.now.edit.kind }
-    ensures links { IfOk result (λ made. made ≡ moved_back (place_goes (back (way A.along by.now.edit.kind by.now.own.now by.now.edited.now by.now.is_edited))) by.now.is_edited lost.now links.now) }
-    ensures only { IsOkUnless result NoMemory }
-{
-    let moved = moved_entries(alloc, &back(by), links)?;
-    if by.is_edited {
-        overlaid_entries(alloc, lost, moved)
+) -> Result<PlaceMap<Shared<Cell>>, EditError> {
+    places_inside(sheet.cell_map());
+    let trees = SheetTrees {
+        formulas: &kept.formulas,
+        id: sheet.get_sheet_id(),
+    };
+    let cells = restored_places(alloc, route, &trees, sheet.cell_map())?;
+    if route.is_edited {
+        overlaid_places(&kept.cells, cells)
     } else {
-        Ok(moved)
+        Ok(cells)
     }
 }
 
-/// What lines have goes back, on the edited sheet with what the lost ones had.
-#[tactic(auto, unfolding(crate::specs::Back::moved_back))]
-fn lines_back<A: Axis, B: Axis, V: Exact + Drop>(
+/// The links of a sheet taken back, on the edited sheet with the lost ones.
+fn links_back<A: Axis, M: LineMap<A>>(
     alloc: Global,
-    by: &SheetEdit<'_, A>,
-    is_along: bool,
-    lost: &LineMap<B, V>,
-    lines: &LineMap<B, V>,
-) -> Result<LineMap<B, V>, EditError>
-    requires valid { IsValid A.along.last by.now.edit.kind }
-    requires same { IsTrue is_along → A.along.last ≡ B.along.last }
-    ensures lines { IfOk result (λ made. made ≡ moved_back (line_goes (back (way A.along by.now.edit.kind by.now.own.now by.now.edited.now by.now.is_edited)) is_along) by.now.is_edited lost.now lines.now) }
-    ensures only { IsOkUnless result NoMemory }
-{
-    let moved = moved_lines(alloc, &back(by), is_along, lines)?;
-    if by.is_edited {
-        overlaid_lines(alloc, lost, moved)
+    route: &Route<'_, A, M>,
+    kept: &KeptLines,
+    sheet: &Worksheet,
+) -> Result<PlaceMap<Link>, EditError> {
+    places_inside(sheet.link_map());
+    let no_parts: PositionMap<Nothing> = PositionMap::new(alloc);
+    let links = restored_places(alloc, route, &no_parts, sheet.link_map())?;
+    if route.is_edited {
+        overlaid_places(&kept.links, links)
     } else {
-        Ok(moved)
+        Ok(links)
     }
 }
 
-/// A sheet taken back, where an edit of the sheet of an id, which has that name, was made.
-fn sheet_back<A: Axis>(
+/// A sheet taken back: each part of it is restored.
+fn sheet_back<A: Axis, M: LineMap<A>>(
     alloc: Global,
-    edit: &LineEdit<A>,
-    id: u32,
-    edited: &str,
+    edited: &EditedSheet<'_, A, M>,
     kept: &KeptLines,
     sheet: &Worksheet,
 ) -> Result<Worksheet, EditError>
-    requires valid { IsValid A.along.last edit.now.kind }
+    requires placed { IsPlacedSheet sheet.now }
     requires numbers { AreKeptLines kept.now }
-    ensures sheet { IfOk result (λ made. made ≡ sheet_back A.along edit.now.kind id edited.now kept.now sheet.now) }
+    requires inside { LieInside A.along kept.now }
+    ensures sheet { IfOk result (λ made. made ≡ sheet_back (way_on edited.now sheet.now) kept.now sheet.now) }
     ensures only { IsOkUnless result NoMemory }
 {
-    let by = meeting(edit, id, edited, sheet);
-    let cells = sheet_cells_back(alloc, &by, kept, sheet)?;
-    let links = links_back(alloc, &by, &kept.links, sheet.link_map())?;
-    let rows = lines_back(alloc, &by, are_rows::<A>(), &kept.rows, sheet.row_map())?;
-    let columns = lines_back(
-        alloc,
-        &by,
-        are_columns::<A>(),
-        &kept.columns,
-        sheet.column_map(),
-    )?;
+    let route = route_on(edited, sheet);
+    lines_inside(sheet.row_map());
+    lines_inside(sheet.column_map());
+    let cells = cells_back(alloc, &route, kept, sheet)?;
+    let links = links_back(alloc, &route, kept, sheet)?;
+    let rows = sheet.row_map().restore(alloc, &route, &kept.lines)?;
+    let columns = sheet.column_map().restore(alloc, &route, &kept.lines)?;
     sheet.with_entries(cells, links, rows, columns)
 }
 
-fn sheets_back<A: Axis>(
+fn sheets_back<A: Axis, M: LineMap<A>>(
     alloc: Global,
-    edit: &LineEdit<A>,
-    id: u32,
-    edited: &str,
+    edited: &EditedSheet<'_, A, M>,
     kept: &KeptLines,
     sheets: &[Worksheet],
 ) -> Result<Items<Worksheet>, EditError>
-    requires valid { IsValid A.along.last edit.now.kind }
+    requires placed { AllByRecursion IsPlacedSheet sheets.now }
     requires numbers { AreKeptLines kept.now }
-    ensures sheets { IfOk result (λ made. made ≡ map (sheet_back A.along edit.now.kind id edited.now kept.now) sheets.now) }
+    requires inside { LieInside A.along kept.now }
+    ensures sheets { IfOk result (λ made. made ≡ map (λ sheet. sheet_back (way_on edited.now sheet) kept.now sheet) sheets.now) }
     ensures only { IsOkUnless result NoMemory }
 {
     let mut made = Items::empty(alloc);
     for sheet in sheets {
-        made.push(sheet_back(alloc, edit, id, edited, kept, sheet)?)?;
+        made.push(sheet_back(alloc, edited, kept, sheet)?)?;
     }
     Ok(made)
 }
 
-/// Takes back the lines that `line_edit` inserted or deleted in the sheet of an id: each place of
-/// the sheet goes back, each formula follows or is the kept one, and the kept cells are put back.
-/// Only want of memory is refused. docs/MODEL.md has the rules.
+/// Takes back what `line_edit` did to the lines of the sheet of an id: each place of the sheet goes
+/// back, each formula follows or is the kept one, and the lost cells, links and attributes are put
+/// back. The keys of what is kept, and the corners of the workbook's formulas, lie inside the
+/// sheet. `NoMemory` is the only error. docs/MODEL.md has the rules.
 pub fn line_back<A: Axis>(
     alloc: Global,
     workbook: &Workbook,
@@ -201,12 +138,14 @@ pub fn line_back<A: Axis>(
 ) -> Result<Workbook, EditError>
     requires valid { IsValid A.along.last edit.now.kind }
     requires there { IsTrue (is_some (sheet_of workbook.now sheet_id)) }
+    requires placed { IsPlacedBook workbook.now }
     requires numbers { AreKeptLines kept.now }
+    requires inside { LieInside A.along kept.now }
     ensures workbook { IfOk result (λ made. made ≡ book_back A.along edit.now.kind sheet_id kept.now workbook.now) }
     ensures only { IsOkUnless result NoMemory }
 {
-    let edited = name_of(workbook, sheet_id);
-    let sheets = workbook.worksheets();
-    let made = sheets_back(alloc, edit, sheet_id, edited, kept, sheets)?;
+    let opposite = edit.opposite();
+    let edited = edited_by(workbook, sheet_id, edit, &opposite);
+    let made = sheets_back(alloc, &edited, kept, workbook.worksheets())?;
     workbook.with_worksheets(made)
 }

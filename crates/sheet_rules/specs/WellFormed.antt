@@ -12,9 +12,8 @@ use Rattle.base_styles.specs.contracts.style.Style as style
 use Rattle.base_styles.specs.DefaultStyle.{default_style}
 use Rattle.formula_content.specs.Fitting.{fits_at}
 use Rattle.sheet_grid.specs.declared.Cell.{Cell}
-use Rattle.sheet_grid.specs.declared.RowAttr.{RowAttr}
-use Rattle.sheet_grid.specs.declared.ColumnAttr.{ColumnAttr}
-use Rattle.sheet_grid.specs.Lines.{is_plain_row, is_plain_column}
+use Rattle.sheet_grid.specs.declared.LineAttr.{LineAttr}
+use Rattle.sheet_grid.specs.Lines.{is_plain, usual_width}
 use Rattle.sheet_grid.specs.Sheet.{Sheet}
 use Rattle.sheet_grid.specs.Book.{Book}
 use Rattle.sheet_rules.specs.SheetNames.{is_sheet_name}
@@ -62,13 +61,13 @@ is_row_style None = true
 is_row_style (Some given) = has_font given && not (is_default given)
 
 -- what a row may have of its own
-abbrev pub is_row : RowAttr → Bool
-is_row attr = not (is_plain_row attr) && is_size attr.height && is_row_style attr.style
+abbrev pub is_row : LineAttr → Bool
+is_row attr = not (is_plain attr) && is_size attr.size && is_row_style attr.style
 
--- a column's own width is none, or a size but not the usual 250
+-- a column's own width is none, or a size but not the usual one
 abbrev pub is_width : Option ℤ → Bool
 is_width None = true
-is_width (Some width) = int_le (pos 0) width && not (int_eq width (pos 250))
+is_width (Some width) = int_le (pos 0) width && not (int_eq width usual_width)
 
 -- a column's own style may be the default one
 abbrev pub is_column_style : Option Style → Bool
@@ -76,13 +75,13 @@ is_column_style None = true
 is_column_style (Some given) = has_font given
 
 -- what a column may have of its own
-abbrev pub is_column : ColumnAttr → Bool
-is_column attr = not (is_plain_column attr) && is_width attr.width && is_column_style attr.style
+abbrev pub is_column : LineAttr → Bool
+is_column attr = not (is_plain attr) && is_width attr.size && is_column_style attr.style
 
 -- rule 7: what rows and columns have of their own, and the fonts of cells
 unfoldable pub have_attributes : Sheet → Bool
 have_attributes sheet =
-    list_all (λ (entry : ℤ × RowAttr). is_row entry.1) (entries sheet.rows) && list_all (λ (entry : ℤ × ColumnAttr). is_column entry.1) (entries sheet.columns)
+    list_all (λ (entry : ℤ × LineAttr). is_row entry.1) (entries sheet.rows) && list_all (λ (entry : ℤ × LineAttr). is_column entry.1) (entries sheet.columns)
     && list_all (λ (entry : Position × Cell). has_font entry.1.style) (entries sheet.cells)
 
 -- rule 9: fewer lines than the sheet has stay at its top and at its left

@@ -14,8 +14,7 @@ use Rattle.base_tables.specs.declared.Locale.{Locale}
 use Rattle.base_tables.specs.declared.Zone.{Zone}
 use Rattle.formula_content.specs.Fitting.{fits_at}
 use Rattle.sheet_grid.specs.declared.Cell.{Cell}
-use Rattle.sheet_grid.specs.declared.RowAttr.{RowAttr}
-use Rattle.sheet_grid.specs.declared.ColumnAttr.{ColumnAttr}
+use Rattle.sheet_grid.specs.declared.LineAttr.{LineAttr}
 use Rattle.sheet_grid.specs.Sheet.{Sheet, new_sheet}
 use Rattle.sheet_grid.specs.Book.{Book, new_book}
 use Rattle.sheet_grid.specs.FittingCells.{entry_fits_at, CellsFit, SheetsFit}
@@ -115,7 +114,7 @@ new_trees name = ap (list_all (λ (entry : Position × Cell). fits_at entry.0 en
 new_attributes : (name : List ℕ) → have_attributes (new_sheet 1 name) ≡ true
 unfolding have_attributes
 new_attributes name =
-    λ i. list_all (λ (entry : ℤ × RowAttr). is_row entry.1) (entries-empty int_cmp i) && list_all (λ (entry : ℤ × ColumnAttr). is_column entry.1) (entries-empty int_cmp i)
+    λ i. list_all (λ (entry : ℤ × LineAttr). is_row entry.1) (entries-empty int_cmp i) && list_all (λ (entry : ℤ × LineAttr). is_column entry.1) (entries-empty int_cmp i)
     && list_all (λ (entry : Position × Cell). has_font entry.1.style) (entries-empty position_cmp i)
 
 -- a new workbook is well-formed

@@ -1,6 +1,6 @@
 use Rattle.std.proofs.Common.{arith}
 use Rattle.base_wire.specs.laws.Format.{reads}
-use Rattle.kept_wire.specs.laws.LineLaws.{link_format}
+use Rattle.kept_wire.specs.laws.PartLaws.{link_format}
 use Rattle.kept_wire.proofs.values.LinkPartPart.take.Goals as goal
 
 pub returns : goal.returns

@@ -1,0 +1,17 @@
+-- What is kept holds numbers as a workbook keeps them.
+use Rattle.std.specs.Prelude.{IsTrue, IfSome}
+use Rattle.std.specs.FinMap.{FinMap, get}
+use Rattle.base_maps.specs.SheetPlaces.{sheet_place_cmp}
+use Rattle.base_maps.specs.declared.SheetPlace.{SheetPlace}
+use Rattle.formula_tree.specs.declared.Node.{Node}
+use Rattle.formula_tree.specs.Numbers.{has_kept_numbers}
+use Rattle.sheet_grid.specs.KeptCell.{KeptCells}
+use Rattle.sheet_lines.specs.declared.kept.KeptLines.{KeptLines}
+
+-- every number of the trees is so
+abbrev pub AreKeptTrees : FinMap sheet_place_cmp Node → Type 0
+AreKeptTrees trees = (place : SheetPlace) → IfSome (get trees place) (λ tree. IsTrue (has_kept_numbers tree))
+
+pub record AreKeptLines (kept : KeptLines) : Type 0 where
+  pub cells : KeptCells kept.cells
+  pub formulas : AreKeptTrees kept.formulas

@@ -1,0 +1,43 @@
+use base_maps::{NumberMap, PositionMap, SheetPlaceMap};
+use base_shared::Shared;
+use base_values::Exact;
+use formula_tree::Node;
+use sheet_grid::{Cell, LineAttr, Link};
+use std::alloc::AllocError;
+
+/// What taking a line edit back does not give of a workbook. docs/MODEL.md has the rules.
+#[derive(PartialEq, Eq, Drop)]
+pub struct KeptLines {
+    /// The cells of the edited sheet that are lost, by their positions before the edit.
+    pub cells: PositionMap<Shared<Cell>>,
+    /// Its links that are lost, by their positions before the edit.
+    pub links: PositionMap<Link>,
+    /// What its lost lines of the edited axis had of their own, by their numbers before the edit.
+    pub lines: NumberMap<LineAttr>,
+    /// The trees of the other formulas that do not come back, by the ids of their sheets and their
+    /// positions before the edit.
+    pub formulas: SheetPlaceMap<Shared<Node>>,
+}
+
+impl Clone for KeptLines {
+    ghost use Rattle.std.specs.Prelude.{◌≡◌};
+
+    ghost is_clone = { λ kept copy. copy ≡ kept };
+
+    fn clone(&self) -> Result<KeptLines, AllocError> {
+        Ok(KeptLines {
+            cells: self.cells.clone()?,
+            links: self.links.clone()?,
+            lines: self.lines.clone()?,
+            formulas: self.formulas.clone()?,
+        })
+    }
+}
+
+impl Exact for KeptLines {
+    ghost use Rattle.sheet_lines.specs.laws.KeptEquals.{kept_equals};
+
+    ghost copies = { λ a b h. h };
+
+    ghost equals = { kept_equals };
+}

@@ -1,0 +1,2 @@
+mod DiffLemmas
+mod ReplayLemmas

@@ -1,0 +1,124 @@
+-- What diffs do to a workbook, forward and back.
+use Rattle.std.proofs.Common.{◌≡◌, ◌≢◌, ℕ, ◌+◌, List, [], ◌∷◌, length, take, Option, Some, None, Result, Ok, Err}
+use Rattle.std.specs.Prelude.{IfSome, IfErr, OnOk, All, if◌then◌else◌}
+use Rattle.base_values.specs.declared.EditError.{EditError}
+use Rattle.base_values.specs.declared.EditError.TheVariants.{DiffRefused, NoMemory}
+use Rattle.base_values.specs.declared.Position.{Position}
+use Rattle.base_values.specs.Answers.{and_then, ok_or, value_of}
+use Rattle.sheet_grid.specs.declared.Cell.{Cell}
+use Rattle.sheet_grid.specs.Book.{Book, edit_by_id}
+use Rattle.sheet_grid.specs.FittingCells.{entry_fits_at}
+use Rattle.sheet_grid.specs.KeptCell.{IsKeptCell}
+use Rattle.sheet_grid.specs.Sheet.{cell_put}
+use Rattle.sheet_rules.specs.WellFormed.{broken_rule}
+use Rattle.sheet_lines.specs.KeptNumbers.{AreKeptLines}
+use Rattle.sheet_history.specs.declared.diff.Diff.{Diff}
+use Rattle.sheet_history.specs.declared.diff.Diff.TheVariants.{Cell as CellDiff, Lines as LinesDiff}
+use Rattle.sheet_history.specs.declared.diff.DiffType.{DiffType}
+use Rattle.sheet_history.specs.declared.diff.DiffType.TheVariants.{Undo, Redo}
+use Rattle.sheet_history.specs.declared.diff.QueueDiffs.{QueueDiffs}
+use Rattle.sheet_history.specs.LineDiffs.{along_of, lines_forward, lines_back}
+
+-- the workbook with this cell at a place of the sheet of an id, or with none. Where no sheet has the id, the place is outside or
+-- the cell may not stand there, the diff of that number is refused
+unfoldable pub put_in : ℕ → Book → ℕ → Position → Option Cell → Result Book EditError
+put_in at book id place entry =
+    if entry_fits_at place entry
+    then ok_or (DiffRefused 0 at) (value_of (edit_by_id book id (λ sheet. cell_put sheet place.row place.column entry)))
+    else Err (DiffRefused 0 at)
+
+-- forward puts the new value, or edits the lines
+abbrev pub step_forward : ℕ → Book → Diff → Result Book EditError
+step_forward at book (CellDiff sheet place old new) = put_in at book sheet place new
+step_forward at book (LinesDiff sheet axis edit kept) = lines_forward at (along_of axis) sheet edit kept book
+
+-- back puts the old value, or takes the lines back
+abbrev pub step_back : ℕ → Book → Diff → Result Book EditError
+step_back at book (CellDiff sheet place old new) = put_in at book sheet place old
+step_back at book (LinesDiff sheet axis edit kept) = lines_back at (along_of axis) sheet edit kept book
+
+-- the diffs in order, where the first has the number at
+abbrev pub forward_from : ℕ → Book → List Diff → Result Book EditError
+forward_from at book [] = Ok book
+forward_from at book (diff ∷ diffs) = and_then (step_forward at book diff) (λ next. forward_from (at + 1) next diffs)
+
+-- the diffs in reverse order, where the first has the number at
+abbrev pub back_from : ℕ → Book → List Diff → Result Book EditError
+back_from at book [] = Ok book
+back_from at book (diff ∷ diffs) = and_then (back_from (at + 1) book diffs) (λ next. step_back at next diff)
+
+-- the workbook with the changes of a list made in order, whether or not it is well-formed
+abbrev pub made : Book → List Diff → Result Book EditError
+made book diffs = forward_from 0 book diffs
+
+-- the workbook with the changes of a list taken back, the last one first, whether or not it is well-formed
+abbrev pub taken_back : Book → List Diff → Result Book EditError
+taken_back book diffs = back_from 0 book diffs
+
+-- a workbook that breaks no rule. Of one that breaks some the diff of that number is refused
+unfoldable pub by_rule : ℕ → Book → Option ℕ → Result Book EditError
+by_rule at book None = Ok book
+by_rule at book (Some rule) = Err (DiffRefused 0 at)
+
+-- an answer whose workbook has to break no rule
+abbrev pub tested : ℕ → Result Book EditError → Result Book EditError
+tested at answer = and_then answer (λ book. by_rule at book (broken_rule book))
+
+-- the same of a well-formed workbook: else the diff behind the last one is refused
+abbrev pub forwarded : Book → List Diff → Result Book EditError
+forwarded book diffs = tested (length diffs) (made book diffs)
+
+abbrev pub backed : Book → List Diff → Result Book EditError
+backed book diffs = tested (length diffs) (taken_back book diffs)
+
+-- a sent list followed in its direction
+abbrev pub follow : DiffType → Book → List Diff → Result Book EditError
+follow Undo book diffs = backed book diffs
+follow Redo book diffs = forwarded book diffs
+
+-- a refusal of a diff names the entry that it comes from
+abbrev pub of_entry : ℕ → EditError → EditError
+of_entry at (DiffRefused entry diff) = DiffRefused at diff
+of_entry at error = error
+
+abbrev pub in_entry : ℕ → Result Book EditError → Result Book EditError
+in_entry at (Err error) = Err (of_entry at error)
+in_entry at (Ok book) = Ok book
+
+-- sent lists followed one after another, where the first has the number at
+abbrev pub replayed_from : ℕ → Book → List QueueDiffs → Result Book EditError
+replayed_from at book [] = Ok book
+replayed_from at book (entry ∷ entries) = and_then (in_entry at (follow entry.kind book entry.list)) (λ next. replayed_from (at + 1) next entries)
+
+-- the workbook after all entries of a queue
+abbrev pub replayed : Book → List QueueDiffs → Result Book EditError
+replayed book entries = replayed_from 0 book entries
+
+-- some first entries of a queue lead from one workbook to the other
+pub record IsFrontOf (entries : List QueueDiffs) (old new : Book) : Type 0 where
+  pub count : ℕ
+  pub led : replayed old (take count entries) ≡ Ok new
+
+-- what stands after an error: before a refused diff of an entry exactly the entries before that one, and after another error some
+-- first entries
+abbrev pub StandsAfter : EditError → (entries : List QueueDiffs) (old new : Book) → Type 0
+StandsAfter (DiffRefused entry diff) entries old new = replayed old (take entry entries) ≡ Ok new
+StandsAfter _ entries old new = IsFrontOf entries old new
+
+-- a queue is followed to its end, or to the first entry that is refused. Where there is no memory some first entries stand
+pub record Replays (result : Result (Unit {0}) EditError) (old new : Book) (entries : List QueueDiffs) : Type 0 where
+  pub done : OnOk result (replayed old entries ≡ Ok new)
+  pub refused : IfErr result (λ error. error ≢ NoMemory → replayed old entries ≡ Err error)
+  pub stands : IfErr result (λ error. StandsAfter error entries old new)
+
+-- every number of what a diff holds is as a sheet keeps it
+abbrev pub IsKeptDiff : Diff → Type 0
+IsKeptDiff (CellDiff sheet place old new) = IfSome old IsKeptCell × IfSome new IsKeptCell
+IsKeptDiff (LinesDiff sheet axis edit kept) = AreKeptLines kept
+
+abbrev pub IsKeptList : List Diff → Type 0
+IsKeptList diffs = All IsKeptDiff diffs
+
+-- so are those of every list of a queue
+abbrev pub IsKeptQueue : List QueueDiffs → Type 0
+IsKeptQueue entries = All (λ entry. IsKeptList entry.list) entries

@@ -1,0 +1,10 @@
+pub mod DiffEquals
+pub mod Entries
+pub mod KeptTrees
+pub mod LineLaws
+pub mod LineRecords
+pub mod RecordLaws
+pub mod ReplayLaws
+pub mod RuleLaws
+pub mod TestedLaws
+pub mod HistoryEquals

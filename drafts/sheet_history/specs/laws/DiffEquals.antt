@@ -1,0 +1,60 @@
+-- `==` of diffs is equality of their values.
+use Rattle.std.proofs.Common.{◌≡◌, refl, ap}
+use Rattle.std.specs.Bool.{Decides}
+use Rattle.std.specs.Cmp.{unsigned_Decides}
+use Rattle.std.specs.Cmp.Lexicographic.{pointwise_decides}
+use Rattle.std.proofs.lemmas.Bool.Decides.{Decides-like, Decides-and}
+use Rattle.base_values.specs.laws.Decided.{option_equals}
+use Rattle.base_values.specs.laws.PositionEquals.{position_equals}
+use Rattle.sheet_grid.specs.laws.CellEquals.{cell_equals}
+use Rattle.line_map.specs.laws.Equals.{kind_equals}
+use Rattle.sheet_lines.specs.laws.KeptEquals.{kept_equals}
+use Rattle.sheet_history.specs.declared.diff.Diff.{Diff}
+use Rattle.sheet_history.specs.declared.diff.Diff.TheVariants.{Cell as CellDiff, Lines as LinesDiff}
+use Rattle.sheet_history.specs.declared.diff.DiffType.{DiffType}
+use Rattle.sheet_history.specs.declared.diff.DiffType.TheVariants.{Undo, Redo}
+use Rattle.sheet_history.specs.declared.diff.QueueDiffs.{QueueDiffs}
+use Rattle.sheet_history.specs.contracts.diff.DiffPartialEq.TheImpl as diff
+use Rattle.sheet_history.specs.contracts.diff.DiffTypePartialEq.TheImpl as diff_type
+use Rattle.sheet_history.specs.contracts.diff.QueueDiffsPartialEq.TheImpl as queue_diffs
+
+pub diff_equals : (a b : Diff) → Decides (diff.ghosts.eq a b) (a ≡ b)
+diff_equals (CellDiff s p o n) (CellDiff t q u v) =
+    Decides-like _ (λ h i. CellDiff (h.0 i) (h.1.0 i) (h.1.1.0 i) (h.1.1.1 i)) (λ e. (sheet_of e, (place_of e, (old_of e, new_of e))))
+    (Decides-and _ _ (unsigned_Decides _ _) (Decides-and _ _ (position_equals _ _) (Decides-and _ _ (option_equals cell_equals _ _) (option_equals cell_equals _ _))))
+  where
+    sheet_of : CellDiff s p o n ≡ CellDiff t q u v → s ≡ t
+    sheet_of e = cc
+
+    place_of : CellDiff s p o n ≡ CellDiff t q u v → p ≡ q
+    place_of e = cc
+
+    old_of : CellDiff s p o n ≡ CellDiff t q u v → o ≡ u
+    old_of e = cc
+
+    new_of : CellDiff s p o n ≡ CellDiff t q u v → n ≡ v
+    new_of e = cc
+diff_equals (RowsDiff s e k) (RowsDiff t f l) =
+    Decides-like _ (λ h i. RowsDiff (h.0 i) (h.1.0 i) (h.1.1 i)) (λ e. (sheet_of e, (edit_of e, kept_of e)))
+    (Decides-and _ _ (unsigned_Decides _ _) (Decides-and _ _ (kind_equals _ _) (kept_equals _ _)))
+  where
+    sheet_of : RowsDiff s e k ≡ RowsDiff t f l → s ≡ t
+    sheet_of e = cc
+
+    edit_of : RowsDiff s e k ≡ RowsDiff t f l → e ≡ f
+    edit_of e = cc
+
+    kept_of : RowsDiff s e k ≡ RowsDiff t f l → k ≡ l
+    kept_of e = cc
+diff_equals (CellDiff _ _ _ _) (LinesDiff _ _ _ _) = (λ e. cc, λ e. cc)
+diff_equals (LinesDiff _ _ _ _) (CellDiff _ _ _ _) = (λ e. cc, λ e. cc)
+
+pub diff_type_equals : (a b : DiffType) → Decides (diff_type.ghosts.eq a b) (a ≡ b)
+diff_type_equals Undo Undo = (λ _. refl, λ _. refl)
+diff_type_equals Redo Redo = (λ _. refl, λ _. refl)
+diff_type_equals _ _ = (λ e. cc, λ e. cc)
+
+pub queue_diffs_equals : (a b : QueueDiffs) → Decides (queue_diffs.ghosts.eq a b) (a ≡ b)
+queue_diffs_equals a b =
+    Decides-like _ (λ p i. record { kind = p.0 i; list = p.1 i }) (λ e. (ap (λ x. x.kind) e, ap (λ x. x.list) e))
+    (Decides-and _ _ (diff_type_equals _ _) (pointwise_decides diff_equals _ _))

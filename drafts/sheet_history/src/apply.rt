@@ -1,0 +1,252 @@
+ghost use Rattle.std.specs.Prelude.{◌≡◌, IfSome};
+ghost use Rattle.base_values.specs.Answers.{Answers, Edits};
+ghost use Rattle.sheet_grid.specs.FittingCells.{entry_fits_at};
+ghost use Rattle.sheet_grid.specs.KeptCell.{IsKeptCell};
+ghost use Rattle.sheet_rules.specs.WellFormed.{broken_rule};
+ghost use Rattle.sheet_history.specs.Diffs.{IsKeptDiff, IsKeptList, backed, by_rule, forwarded, made, put_in, step_back, step_forward, taken_back};
+
+use crate::diff::{Diff, DiffList};
+use crate::line_diffs::{lines_back, lines_forward};
+use base_axis::RowAxis;
+use base_shared::Shared;
+use base_values::{EditError, Position, copy_of};
+use formula_content::fits_at;
+use line_map::{EditKind, LineEdit};
+use sheet_grid::{Cell, Workbook};
+use sheet_rules::is_well_formed;
+use std::alloc::Global;
+
+/// Whether what is put at a place, a cell or none, may stand there.
+fn entry_fits_at(place: Position, entry: &Option<Shared<Cell>>) -> bool
+    ensures { result ≡ entry_fits_at place entry.now }
+{
+    match entry {
+        Some(cell) => fits_at(place, &cell.get().content),
+        None => true,
+    }
+}
+
+/// Puts an entry at a place of the sheet of an id, where it may stand there.
+#[tactic(auto, unfolding(crate::specs::Diffs::put_in))]
+fn put_in(
+    workbook: &mut Workbook,
+    id: u32,
+    place: Position,
+    entry: &Option<Shared<Cell>>,
+    at: u64,
+) -> Result<(), EditError>
+    requires { IfSome entry.now IsKeptCell }
+    ensures { Edits result workbook.old workbook.new (put_in at workbook.old id place entry.now) }
+{
+    let refused = EditError::DiffRefused { entry: 0, diff: at };
+    if !entry_fits_at(place, entry) {
+        return Err(refused);
+    }
+    let entry = copy_of(entry)?;
+    match workbook.put_shared_cell_by_id(id, place.row, place.column, entry) {
+        Ok(()) => Ok(()),
+        Err(EditError::NoMemory) => Err(EditError::NoMemory),
+        Err(_) => Err(refused),
+    }
+}
+
+/// Makes an edit of lines along an axis, where it can be made.
+fn edit_forward(
+    alloc: Global,
+    workbook: &mut Workbook,
+    id: u32,
+    axis: LineAxis,
+    kind: EditKind,
+    kept: &KeptLines,
+    at: u64,
+) -> Result<(), EditError>
+    requires { IsPlacedBook workbook.old }
+    ensures { Edits result workbook.old workbook.new (lines_forward at (along_of axis) id kind kept.now workbook.old) }
+{
+    match axis {
+        LineAxis::Rows => {
+            let edit: LineEdit<RowAxis> = LineEdit::new(kind);
+            lines_forward(alloc, workbook, id, &edit, kept, at)
+        }
+        LineAxis::Columns => {
+            let edit: LineEdit<ColumnAxis> = LineEdit::new(kind);
+            lines_forward(alloc, workbook, id, &edit, kept, at)
+        }
+    }
+}
+
+/// Takes an edit of lines along an axis back, where it can be.
+fn edit_back(
+    alloc: Global,
+    workbook: &mut Workbook,
+    id: u32,
+    axis: LineAxis,
+    kind: EditKind,
+    kept: &KeptLines,
+    at: u64,
+) -> Result<(), EditError>
+    requires placed { IsPlacedBook workbook.old }
+    requires kept { AreKeptLines kept.now }
+    ensures { Edits result workbook.old workbook.new (lines_back at (along_of axis) id kind kept.now workbook.old) }
+{
+    match axis {
+        LineAxis::Rows => {
+            let edit: LineEdit<RowAxis> = LineEdit::new(kind);
+            lines_back(alloc, workbook, id, &edit, kept, at)
+        }
+        LineAxis::Columns => {
+            let edit: LineEdit<ColumnAxis> = LineEdit::new(kind);
+            lines_back(alloc, workbook, id, &edit, kept, at)
+        }
+    }
+}
+
+/// Makes a diff's change. `at` is its number in its list.
+fn apply_forward(
+    alloc: Global,
+    workbook: &mut Workbook,
+    diff: &Diff,
+    at: u64,
+) -> Result<(), EditError>
+    requires { IsKeptDiff diff.now }
+    ensures { Edits result workbook.old workbook.new (step_forward at workbook.old diff.now) }
+{
+    match diff {
+        Diff::Cell {
+            sheet,
+            position,
+            old: _,
+            new,
+        } => put_in(workbook, *sheet, *position, new, at),
+        Diff::Lines {
+            sheet,
+            axis,
+            edit,
+            kept,
+        } => edit_forward(alloc, workbook, *sheet, *axis, *edit, kept.get(), at),
+    }
+}
+
+/// Takes a diff's change back. `at` is its number in its list.
+fn apply_back(alloc: Global, workbook: &mut Workbook, diff: &Diff, at: u64) -> Result<(), EditError>
+    requires { IsKeptDiff diff.now }
+    ensures { Edits result workbook.old workbook.new (step_back at workbook.old diff.now) }
+{
+    match diff {
+        Diff::Cell {
+            sheet,
+            position,
+            old,
+            new: _,
+        } => put_in(workbook, *sheet, *position, old, at),
+        Diff::Lines {
+            sheet,
+            axis,
+            edit,
+            kept,
+        } => edit_back(alloc, workbook, *sheet, *axis, *edit, kept.get(), at),
+    }
+}
+
+/// The workbook with the changes of a list made in order.
+fn made(alloc: Global, workbook: &Workbook, list: &DiffList) -> Result<Workbook, EditError>
+    requires { IsKeptList list.now }
+    ensures { Answers result (made workbook.now list.now) }
+{
+    let mut next = copy_of(workbook)?;
+    for (index, diff) in list.get().as_slice().iter().enumerate() {
+        apply_forward(alloc, &mut next, diff, index as u64)?;
+    }
+    Ok(next)
+}
+
+/// The workbook with the changes of a list taken back, the last one first.
+fn taken_back(alloc: Global, workbook: &Workbook, list: &DiffList) -> Result<Workbook, EditError>
+    requires { IsKeptList list.now }
+    ensures { Answers result (taken_back workbook.now list.now) }
+{
+    let diffs = list.get().as_slice();
+    let mut next = copy_of(workbook)?;
+    for index in (0..diffs.len()).rev() {
+        apply_back(alloc, &mut next, &diffs[index], index as u64)?;
+    }
+    Ok(next)
+}
+
+/// A workbook that breaks no rule. Where it breaks one, the diff of that number is refused.
+#[tactic(auto, unfolding(crate::specs::Diffs::by_rule))]
+fn by_rule(workbook: Workbook, at: u64) -> Result<Workbook, EditError>
+    ensures { result ≡ by_rule at workbook (broken_rule workbook) }
+{
+    if is_well_formed(&workbook) {
+        Ok(workbook)
+    } else {
+        Err(EditError::DiffRefused { entry: 0, diff: at })
+    }
+}
+
+/// The well-formed workbook with the changes of a list made in order.
+///
+/// `DiffRefused` with entry 0 and the number of the first diff that cannot be made; where each can,
+/// but the result breaks a rule, with the number of diffs. A cell cannot be put where its sheet is
+/// not there, its position is outside, or it may not stand there. docs/MODEL.md says when lines can
+/// be inserted and deleted.
+pub fn forward(alloc: Global, workbook: &Workbook, list: &DiffList) -> Result<Workbook, EditError>
+    requires { IsKeptList list.now }
+    ensures { Answers result (forwarded workbook.now list.now) }
+{
+    let next = made(alloc, workbook, list)?;
+    by_rule(next, list.get().as_slice().len() as u64)
+}
+
+/// The well-formed workbook with the changes of a list taken back, the last one first.
+///
+/// `DiffRefused` as `forward` answers it, of the old cells and of lines that cannot be taken back,
+/// with the number of the first diff that it comes to.
+pub fn back(alloc: Global, workbook: &Workbook, list: &DiffList) -> Result<Workbook, EditError>
+    requires { IsKeptList list.now }
+    ensures { Answers result (backed workbook.now list.now) }
+{
+    let before = taken_back(alloc, workbook, list)?;
+    by_rule(before, list.get().as_slice().len() as u64)
+}
+
+/// Makes the changes of a list as `forward` does, in the workbook itself, and does not test the
+/// result. A refusal leaves it as it was. A list of one cell costs no copy of the workbook.
+pub fn forward_in_place(
+    alloc: Global,
+    workbook: &mut Workbook,
+    list: &DiffList,
+) -> Result<(), EditError>
+    requires { IsKeptList list.now }
+    ensures { Edits result workbook.old workbook.new (made workbook.old list.now) }
+{
+    match list.get().as_slice() {
+        [] => Ok(()),
+        [diff] => apply_forward(alloc, workbook, diff, 0),
+        _ => {
+            *workbook = made(alloc, workbook, list)?;
+            Ok(())
+        }
+    }
+}
+
+/// Takes the changes of a list back as `back` does, in the workbook itself, and does not test the
+/// result. A refusal leaves it as it was. A list of one cell costs no copy of the workbook.
+pub fn back_in_place(
+    alloc: Global,
+    workbook: &mut Workbook,
+    list: &DiffList,
+) -> Result<(), EditError>
+    requires { IsKeptList list.now }
+    ensures { Edits result workbook.old workbook.new (taken_back workbook.old list.now) }
+{
+    match list.get().as_slice() {
+        [] => Ok(()),
+        [diff] => apply_back(alloc, workbook, diff, 0),
+        _ => {
+            *workbook = taken_back(alloc, workbook, list)?;
+            Ok(())
+        }
+    }
+}

@@ -1,0 +1,87 @@
+use base_shared::Shared;
+use base_values::{Exact, Items, Position};
+use line_map::EditKind;
+use sheet_grid::Cell;
+use sheet_lines::KeptLines;
+
+/// The direction of a sheet whose lines are edited.
+#[derive(Clone, Copy, Debug, PartialEq, Eq)]
+pub enum LineAxis {
+    Rows,
+    Columns,
+}
+
+/// One change of a workbook, which can be made again and taken back.
+#[derive(Clone, PartialEq, Eq, Drop)]
+pub enum Diff {
+    /// The cell at a position of the sheet with that id. None stands for no cell.
+    Cell {
+        sheet: u32,
+        position: Position,
+        old: Option<Shared<Cell>>,
+        new: Option<Shared<Cell>>,
+    },
+    /// Lines along an axis that were inserted in the sheet with that id, deleted from it or moved,
+    /// and what the opposite edit does not give back.
+    Lines {
+        sheet: u32,
+        axis: LineAxis,
+        edit: EditKind,
+        kept: Shared<KeptLines>,
+    },
+}
+
+/// The record of one edit: the changes that it made. A copy takes no memory.
+pub type DiffList = Shared<Items<Diff>>;
+
+/// In which direction a sent list of diffs is to be followed.
+#[derive(Clone, Copy, Debug, PartialEq, Eq)]
+pub enum DiffType {
+    /// The old values are put back, from the last diff to the first.
+    Undo,
+    /// The new values are put, from the first diff to the last.
+    Redo,
+}
+
+/// A list of diffs as it is sent to other copies.
+#[derive(Clone, PartialEq, Eq, Drop)]
+pub struct QueueDiffs {
+    pub kind: DiffType,
+    pub list: DiffList,
+}
+
+impl Exact for Diff {
+    ghost use Rattle.std.proofs.Common.{rules};
+    ghost use Rattle.sheet_history.specs.laws.DiffEquals.{diff_equals};
+
+    ghost copies = { λ a b h. Prim.search rules };
+
+    ghost equals = { diff_equals };
+}
+
+impl Exact for LineAxis {
+    ghost use Rattle.std.proofs.Common.{rules};
+    ghost use Rattle.sheet_history.specs.laws.DiffEquals.{line_axis_equals};
+
+    ghost copies = { λ a b h. Prim.search rules };
+
+    ghost equals = { line_axis_equals };
+}
+
+impl Exact for DiffType {
+    ghost use Rattle.std.proofs.Common.{rules};
+    ghost use Rattle.sheet_history.specs.laws.DiffEquals.{diff_type_equals};
+
+    ghost copies = { λ a b h. Prim.search rules };
+
+    ghost equals = { diff_type_equals };
+}
+
+impl Exact for QueueDiffs {
+    ghost use Rattle.std.proofs.Common.{rules};
+    ghost use Rattle.sheet_history.specs.laws.DiffEquals.{queue_diffs_equals};
+
+    ghost copies = { λ a b h. Prim.search rules };
+
+    ghost equals = { queue_diffs_equals };
+}

@@ -1,0 +1,21 @@
+//! Diffs of a workbook, what they do forward and back, and the stacks of undo and redo.
+//!
+//! The layers above see a list of diffs as a function on workbooks in either direction, and a
+//! history as two lists of lists of diffs, the newest first.
+#![tactic(auto)]
+
+mod apply;
+mod diff;
+mod history;
+mod laws;
+mod line_diffs;
+mod replay;
+
+pub use apply::{back, back_in_place, forward, forward_in_place};
+pub use diff::{Diff, DiffList, DiffType, QueueDiffs};
+pub use history::History;
+pub use laws::{line_records_go_both_ways, records_are_unique};
+pub use replay::replay_in_place;
+
+#[cfg(test)]
+mod tests;

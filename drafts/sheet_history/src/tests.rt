@@ -1,0 +1,3 @@
+// The tests of sheets stand here, since each crate is checked once more with its tests.
+mod grid;
+mod history;

@@ -1,11 +1,11 @@
--- When a workbook is well-formed. Its types keep some of the rules: places and lines lie inside the sheet (2), and there are no
--- arrays (3), merges (4), covered places (5), defined names (8) and conditional rules yet.
+-- When a workbook is well-formed. There are no arrays (3), merges (4), covered places (5), defined names (8) and conditional rules yet.
 use Rattle.std.specs.Prelude.{◌≡◌, ℕ, ℤ, pos, Bool, true, ◌&&◌, ◌==◌, not, nat_lt, List, [], ◌∷◌, length, map, Option, Some, None, int_le, if◌then◌else◌}
 use Rattle.std.specs.List.{list_all, list_any}
 use Rattle.std.specs.Ordering.{int_eq}
 use Rattle.std.specs.FinMap.{entries}
 use Rattle.base_values.specs.CodedEq.{same_value}
 use Rattle.base_values.specs.declared.Position.{Position}
+use Rattle.base_values.specs.Places.{is_line}
 use Rattle.base_tables.specs.Folding.{same_folded}
 use Rattle.base_styles.specs.declared.style.Style.{Style}
 use Rattle.base_styles.specs.contracts.style.Style as style
@@ -13,6 +13,7 @@ use Rattle.base_styles.specs.DefaultStyle.{default_style}
 use Rattle.formula_content.specs.Fitting.{fits_at}
 use Rattle.sheet_grid.specs.declared.Cell.{Cell}
 use Rattle.sheet_grid.specs.declared.LineAttr.{LineAttr}
+use Rattle.sheet_grid.specs.declared.Link.{Link}
 use Rattle.sheet_grid.specs.Lines.{is_plain, usual_width}
 use Rattle.sheet_grid.specs.Sheet.{Sheet}
 use Rattle.sheet_grid.specs.Book.{Book}
@@ -34,6 +35,16 @@ names_of sheets = map (λ (sheet : Sheet). sheet.name) sheets
 unfoldable pub are_sheets : List Sheet → Bool
 are_sheets sheets =
     nat_lt 0 (length sheets) && are_distinct (λ a b. a == b) (ids_of sheets) && list_all is_sheet_name (names_of sheets) && are_distinct same_folded (names_of sheets)
+
+-- whether a position is a place of the sheet
+abbrev pub is_place : Position → Bool
+is_place place = is_line (pos 1048576) place.row && is_line (pos 16384) place.column
+
+-- rule 2: cells, links, rows and columns stand inside the sheet
+unfoldable pub stands_inside : Sheet → Bool
+stands_inside sheet =
+    list_all (λ (entry : Position × Cell). is_place entry.0) (entries sheet.cells) && list_all (λ (entry : Position × Link). is_place entry.0) (entries sheet.links)
+    && list_all (λ (entry : ℤ × LineAttr). is_line (pos 1048576) entry.0) (entries sheet.rows) && list_all (λ (entry : ℤ × LineAttr). is_line (pos 16384) entry.0) (entries sheet.columns)
 
 -- rule 6: each formula of a sheet may stand at its place
 unfoldable pub have_trees : Sheet → Bool
@@ -92,6 +103,7 @@ are_frozen sheet = is_count (pos 1048575) sheet.frozen_rows && is_count (pos 163
 abbrev pub broken_rule : Book → Option ℕ
 broken_rule book =
     if not (are_sheets book.worksheets) then Some 1
+    else if not (list_all stands_inside book.worksheets) then Some 2
     else if not (list_all have_trees book.worksheets) then Some 6
     else if not (list_all have_attributes book.worksheets) then Some 7
     else if not (list_all are_frozen book.worksheets) then Some 9

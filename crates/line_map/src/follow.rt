@@ -89,7 +89,7 @@ fn route_of<'e, A: Axis>(
     }
 }
 
-impl<A: Axis, F: Follower<A>> Follow<A> for F {
+impl<A: Axis, F: Follower<A> + Exact> Follow<A> for F {
     ghost use Rattle.std.specs.Prelude.{IfSome};
     ghost use Rattle.line_map.specs.Alone.{edit_way, regained, Restores};
     ghost use Rattle.line_map.specs.Way.{back};

@@ -5,14 +5,14 @@ ghost use Rattle.line_map.specs.Way.{Way, IsWay, back, way};
 use crate::line_map::LineMap;
 use crate::route::Route;
 use base_axis::Axis;
-use base_values::{EditError, Exact};
+use base_values::EditError;
 use std::alloc::Global;
 
 /// What is carried along a map on lines. Each call asks that the value lies inside the sheet, and
 /// `NoMemory` is its only error. docs/MODEL.md has the rules.
-pub trait Follower<A: Axis>: Exact + Drop {
+pub trait Follower<A: Axis>: Drop {
     /// What is kept of a value that the way back does not give.
-    type Part: Exact + Drop;
+    type Part: Drop;
 
     /// It lies inside the sheet.
     ghost Lies: { Way → Self → Type 0 };

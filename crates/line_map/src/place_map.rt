@@ -21,7 +21,7 @@ use std::alloc::{AllocError, Global};
 
 /// Parts that are kept under places.
 pub trait Parts {
-    type Part: Exact + Drop;
+    type Part: Drop;
 
     ghost part_at: { Self → Position → Option Self.Part };
 
@@ -30,7 +30,7 @@ pub trait Parts {
         ensures { option_copied result ≡ part_at self.now place };
 }
 
-impl<P: Exact + Drop> Parts for PositionMap<P> {
+impl<P: Drop> Parts for PositionMap<P> {
     type Part = P;
 
     ghost part_at = { get };
@@ -242,7 +242,7 @@ impl<F: Exact, P: Exact> Exact for KeptMap<F, P> {
     ghost equals = { kept_map_equals (same_entries_decides position_equals F.equals) (same_entries_decides position_equals P.equals) };
 }
 
-impl<A: Axis, F: Follower<A>> Follower<A> for PlaceMap<F> {
+impl<A: Axis, F: Follower<A> + Exact> Follower<A> for PlaceMap<F> {
     ghost use Rattle.std.specs.Prelude.{Some};
     ghost use Rattle.std.specs.FinMap.{get};
     ghost use Rattle.line_map.specs.Carried.{lost_map, overlaid};

@@ -1,12 +1,8 @@
 -- A workbook taken back along a map on the lines of one of its sheets.
-use Rattle.std.specs.Prelude.{ℕ, ℤ, Bool, List, map, None, Some, ◌≡◌, if◌then◌else◌}
+use Rattle.std.specs.Prelude.{◌≡◌, ℕ, true, List, map, Some, None, if◌then◌else◌}
 use Rattle.std.specs.declared.cmp.Ordering.{Ordering}
 use Rattle.std.specs.FinMap.{FinMap, empty, get}
-use Rattle.base_values.specs.declared.Position.{Position}
-use Rattle.base_values.specs.Places.{IsPlace, IsLine}
 use Rattle.base_axis.specs.Along.{Along, rows, columns}
-use Rattle.base_maps.specs.declared.SheetPlace.{SheetPlace}
-use Rattle.formula_tree.specs.declared.Node.{Node}
 use Rattle.line_map.specs.declared.EditKind.{EditKind}
 use Rattle.line_map.specs.Attributes.{lines_restored, LinesLie}
 use Rattle.line_map.specs.Carried.{overlaid}
@@ -14,13 +10,17 @@ use Rattle.line_map.specs.Contents.{cell_carried, cell_restored}
 use Rattle.line_map.specs.Maps.{places_restored, KeysInside}
 use Rattle.line_map.specs.Moves.{LineMoves, edit_moves}
 use Rattle.line_map.specs.Way.{Way}
-use Rattle.sheet_grid.specs.declared.Link.{Link}
+use Rattle.formula_tree.specs.declared.Node.{Node}
+use Rattle.formula_tree.specs.Placed.{is_placed}
+use Rattle.base_maps.specs.declared.SheetPlace.{SheetPlace}
+use Rattle.base_values.specs.declared.Position.{Position}
+use Rattle.sheet_grid.specs.declared.Cell.{Cell}
 use Rattle.sheet_grid.specs.Sheet.{Sheet}
 use Rattle.sheet_grid.specs.Book.{Book}
-use Rattle.sheet_lines.specs.declared.KeptLines.{KeptLines}
+use Rattle.sheet_lines.specs.declared.kept.KeptLines.{KeptLines}
 use Rattle.sheet_lines.specs.Followed.{way_of}
 use Rattle.sheet_lines.specs.Kept.{place_on}
-use Rattle.sheet_lines.specs.Sheets.{sheet_of, name_of}
+use Rattle.sheet_lines.specs.Sheets.{IsPlacedCell, sheet_of, name_of}
 
 -- what is kept of the edited sheet; nothing of another one
 abbrev pub if_edited : {K X : Type 0} {R : K → K → Ordering} → Way → FinMap R X → FinMap R X
@@ -52,3 +52,8 @@ pub record LieInside (a : Along) (kept : KeptLines) : Type 0 where
   pub cells : KeysInside kept.cells
   pub links : KeysInside kept.links
   pub lines : LinesLie a kept.lines
+
+-- the trees of what is kept may stand where they stood
+pub record ArePlacedLines (kept : KeptLines) : Type 0 where
+  pub cells : (place : Position) (cell : Cell) → get kept.cells place ≡ Some cell → IsPlacedCell place cell
+  pub formulas : (key : SheetPlace) (tree : Node) → get kept.formulas key ≡ Some tree → is_placed key.place tree ≡ true

@@ -9,7 +9,7 @@ use Rattle.line_map.specs.Contents.{cell_carried}
 use Rattle.line_map.specs.Maps.{places_carried}
 use Rattle.line_map.specs.Moves.{LineMoves, edit_moves}
 use Rattle.line_map.specs.Way.{Way}
-use Rattle.sheet_grid.specs.contracts.LineAttrPartialEq.TheImpl as attribute
+use Rattle.sheet_grid.specs.contracts.line_attr.LineAttrPartialEq.TheImpl as attribute
 use Rattle.sheet_grid.specs.Sheet.{Sheet}
 use Rattle.sheet_grid.specs.Book.{Book}
 use Rattle.sheet_lines.specs.declared.edited_sheet.EditedSheet.{EditedSheet}

@@ -6,7 +6,7 @@ use Rattle.base_maps.specs.SheetPlaces.{sheet_place_cmp}
 use Rattle.formula_tree.specs.declared.Node.{Node}
 use Rattle.formula_tree.specs.Numbers.{has_kept_numbers}
 use Rattle.sheet_grid.specs.KeptCell.{KeptCells}
-use Rattle.sheet_lines.specs.declared.KeptLines.{KeptLines}
+use Rattle.sheet_lines.specs.declared.kept.KeptLines.{KeptLines}
 
 -- every number of the trees is so
 abbrev pub AreKeptFormulas : FinMap sheet_place_cmp Node → Type 0

@@ -8,6 +8,7 @@ ghost use Rattle.sheet_lines.specs.Back.{LieInside, sheet_back, book_back};
 ghost use Rattle.sheet_lines.specs.Followed.{way_on};
 ghost use Rattle.sheet_lines.specs.Kept.{place_on};
 ghost use Rattle.sheet_lines.specs.KeptNumbers.{AreKeptLines};
+ghost use Rattle.sheet_lines.specs.Back.{ArePlacedLines};
 ghost use Rattle.sheet_lines.specs.Sheets.{sheet_of, IsPlacedSheet, IsPlacedBook};
 
 use crate::edited_sheet::EditedSheet;
@@ -142,6 +143,7 @@ pub fn line_back<A: Axis>(
     requires numbers { AreKeptLines kept.now }
     requires inside { LieInside A.along kept.now }
     ensures workbook { IfOk result (λ made. made ≡ book_back A.along edit.now.kind sheet_id kept.now workbook.now) }
+    ensures placed { ArePlacedLines kept.now → IfOk result IsPlacedBook }
     ensures only { IsOkUnless result NoMemory }
 {
     let opposite = edit.opposite();

@@ -87,6 +87,7 @@ pub fn followed_book<A: Axis>(
     requires valid { IsValid A.along.last edit.now.kind }
     requires placed { IsPlacedBook workbook.now }
     ensures book { IfOk result (λ followed. followed ≡ book_followed A.along edit.now.kind sheet_id workbook.now) }
+    ensures placed { IfOk result IsPlacedBook }
     ensures only { IsOkUnless result NoMemory }
 {
     let opposite = edit.opposite();

@@ -22,6 +22,7 @@ use Rattle.sheet_grid.specs.declared.Cell.{Cell}
 use Rattle.sheet_grid.specs.declared.LineAttr.{LineAttr}
 use Rattle.sheet_grid.specs.Sheet.{Sheet}
 use Rattle.sheet_grid.specs.Book.{Book}
+use Rattle.sheet_rules.specs.WellFormed.{is_place}
 use Rattle.sheet_lines.specs.declared.KeptLines.{KeptLines}
 use Rattle.sheet_lines.specs.Sheets.{sheet_of}
 use Rattle.sheet_lines.specs.Followed.{book_followed}
@@ -49,9 +50,7 @@ abbrev pub is_there_inside : Along → EditKind → Option Sheet → Bool
 is_there_inside a e None = false
 is_there_inside a e (Some sheet) = stays_inside a e sheet
 
--- whether a position is a place of the sheet
-abbrev pub is_place : Position → Bool
-is_place place = is_line (pos 1048576) place.row && is_line (pos 16384) place.column
+
 
 -- a place of the sheet, or a line of the axis, that has no image
 abbrev pub is_lost_place : Along → EditKind → Position → Bool

@@ -1,0 +1,2 @@
+pub mod KeptEquals
+pub mod MovedNumbers

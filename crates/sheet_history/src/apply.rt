@@ -50,10 +50,55 @@ fn put_in(
     }
 }
 
-fn rows_edit(kind: EditKind) -> LineEdit<RowAxis>
-    ensures { result.kind ≡ kind }
+/// Makes an edit of lines along an axis, where it can be made.
+fn edit_forward(
+    alloc: Global,
+    workbook: &mut Workbook,
+    id: u32,
+    axis: LineAxis,
+    kind: EditKind,
+    kept: &KeptLines,
+    at: u64,
+) -> Result<(), EditError>
+    requires { IsPlacedBook workbook.old }
+    ensures { Edits result workbook.old workbook.new (lines_forward at (along_of axis) id kind kept.now workbook.old) }
 {
-    LineEdit::new(kind)
+    match axis {
+        LineAxis::Rows => {
+            let edit: LineEdit<RowAxis> = LineEdit::new(kind);
+            lines_forward(alloc, workbook, id, &edit, kept, at)
+        }
+        LineAxis::Columns => {
+            let edit: LineEdit<ColumnAxis> = LineEdit::new(kind);
+            lines_forward(alloc, workbook, id, &edit, kept, at)
+        }
+    }
+}
+
+/// Takes an edit of lines along an axis back, where it can be.
+fn edit_back(
+    alloc: Global,
+    workbook: &mut Workbook,
+    id: u32,
+    axis: LineAxis,
+    kind: EditKind,
+    kept: &KeptLines,
+    at: u64,
+) -> Result<(), EditError>
+    requires placed { IsPlacedBook workbook.old }
+    requires kept { AreKeptLines kept.now }
+    ensures { Edits result workbook.old workbook.new (lines_back at (along_of axis) id kind kept.now workbook.old) }
+{
+    match axis {
+        LineAxis::Rows => {
+            let edit: LineEdit<RowAxis> = LineEdit::new(kind);
+            lines_back(alloc, workbook, id, &edit, kept, at)
+        }
+        LineAxis::Columns => {
+            let edit: LineEdit<ColumnAxis> = LineEdit::new(kind);
+            lines_back(alloc, workbook, id, &edit, kept, at)
+        }
+    }
 }
 
 /// Makes a diff's change. `at` is its number in its list.
@@ -73,9 +118,12 @@ fn apply_forward(
             old: _,
             new,
         } => put_in(workbook, *sheet, *position, new, at),
-        Diff::Rows { sheet, edit, kept } => {
-            lines_forward(alloc, workbook, *sheet, &rows_edit(*edit), kept.get(), at)
-        }
+        Diff::Lines {
+            sheet,
+            axis,
+            edit,
+            kept,
+        } => edit_forward(alloc, workbook, *sheet, *axis, *edit, kept.get(), at),
     }
 }
 
@@ -91,9 +139,12 @@ fn apply_back(alloc: Global, workbook: &mut Workbook, diff: &Diff, at: u64) -> R
             old,
             new: _,
         } => put_in(workbook, *sheet, *position, old, at),
-        Diff::Rows { sheet, edit, kept } => {
-            lines_back(alloc, workbook, *sheet, &rows_edit(*edit), kept.get(), at)
-        }
+        Diff::Lines {
+            sheet,
+            axis,
+            edit,
+            kept,
+        } => edit_back(alloc, workbook, *sheet, *axis, *edit, kept.get(), at),
     }
 }
 

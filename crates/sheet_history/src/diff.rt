@@ -4,6 +4,13 @@ use line_map::EditKind;
 use sheet_grid::Cell;
 use sheet_lines::KeptLines;
 
+/// The direction of a sheet whose lines are edited.
+#[derive(Clone, Copy, Debug, PartialEq, Eq)]
+pub enum LineAxis {
+    Rows,
+    Columns,
+}
+
 /// One change of a workbook, which can be made again and taken back.
 #[derive(Clone, PartialEq, Eq, Drop)]
 pub enum Diff {
@@ -14,7 +21,7 @@ pub enum Diff {
         old: Option<Shared<Cell>>,
         new: Option<Shared<Cell>>,
     },
-    /// Rows or columns that were inserted in the sheet with that id, deleted from it or moved in it,
+    /// Lines along an axis that were inserted in the sheet with that id, deleted from it or moved,
     /// and what the opposite edit does not give back.
     Lines {
         sheet: u32,
@@ -22,13 +29,6 @@ pub enum Diff {
         edit: EditKind,
         kept: Shared<KeptLines>,
     },
-}
-
-/// Along which axis lines are edited.
-#[derive(Clone, Copy, Debug, PartialEq, Eq)]
-pub enum LineAxis {
-    Rows,
-    Columns,
 }
 
 /// The record of one edit: the changes that it made. A copy takes no memory.

@@ -14,7 +14,7 @@ use Rattle.sheet_rules.specs.WellFormed.{broken_rule, IsWellFormed}
 use Rattle.sheet_history.specs.Untested.{entry_has_font, keeps_rules, keeps_rules_back}
 use Rattle.sheet_history.specs.laws.RuleLaws.{well_formed-by_id}
 use Rattle.sheet_history.specs.declared.diff.Diff.{Diff}
-use Rattle.sheet_history.specs.declared.diff.Diff.TheVariants.{Cell as CellDiff, Rows as RowsDiff}
+use Rattle.sheet_history.specs.declared.diff.Diff.TheVariants.{Cell as CellDiff, Lines as LinesDiff}
 use Rattle.sheet_history.specs.declared.diff.DiffType.{DiffType}
 use Rattle.sheet_history.specs.declared.diff.DiffType.TheVariants.{Undo, Redo}
 use Rattle.sheet_history.specs.Diffs.{put_in, by_rule, tested, made, taken_back, forwarded, backed, follow, of_entry, in_entry}
@@ -68,13 +68,13 @@ made_rules : (book : Book) (diffs : List Diff) → keeps_rules diffs ≡ true �
 made_rules book [] keeps rules next is = absurd (cc)
 made_rules book (CellDiff sheet place old new ∷ []) font rules next is = put_in-rules 0 book sheet place new next font rules (sym (and_then-Ok _) ∙ is)
 made_rules book (CellDiff sheet place old new ∷ second ∷ rest) keeps rules next is = absurd (cc)
-made_rules book (RowsDiff sheet edit kept ∷ rest) keeps rules next is = absurd (cc)
+made_rules book (LinesDiff sheet axis edit kept ∷ rest) keeps rules next is = absurd (cc)
 
 taken_back_rules : (book : Book) (diffs : List Diff) → keeps_rules_back diffs ≡ true → IsWellFormed book → (next : Book) → taken_back book diffs ≡ Ok next → IsWellFormed next
 taken_back_rules book [] keeps rules next is = absurd (cc)
 taken_back_rules book (CellDiff sheet place old new ∷ []) font rules next is = put_in-rules 0 book sheet place old next font rules is
 taken_back_rules book (CellDiff sheet place old new ∷ second ∷ rest) keeps rules next is = absurd (cc)
-taken_back_rules book (RowsDiff sheet edit kept ∷ rest) keeps rules next is = absurd (cc)
+taken_back_rules book (LinesDiff sheet axis edit kept ∷ rest) keeps rules next is = absurd (cc)
 
 -- the result of such a list needs no test
 pub forwarded-made : (book : Book) (diffs : List Diff) → keeps_rules diffs ≡ true → IsWellFormed book → forwarded book diffs ≡ made book diffs

@@ -1,2 +1,0 @@
-mod DiffLemmas
-mod ReplayLemmas

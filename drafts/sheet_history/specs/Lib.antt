@@ -1,7 +1,0 @@
-pub mod LineDiffs
-pub mod Diffs
-pub mod Depth
-pub mod Untested
-pub mod Stacks
-pub mod Records
-pub mod laws

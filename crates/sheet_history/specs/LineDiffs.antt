@@ -102,7 +102,7 @@ goes_forward a id e kept book = is_valid a.last e && is_there_inside a e (sheet_
 -- whether it can be taken back
 abbrev pub goes_back : Along → ℕ → EditKind → KeptLines → Book → Bool
 goes_back a id e kept book =
-    is_valid a.last e && is_there_inside a (opposite_of e) (sheet_of book id) && stand_on_lost a e kept && cells_fit kept.cells && formulas_stand a e id kept.formulas book
+    is_valid a.last e && is_there_inside a (opposite_of e) (sheet_of book id) && stand_on_lost a e kept && (cells_fit kept.cells && formulas_stand a e id kept.formulas book)
 
 -- the workbook with the edit made, or the diff of that number is refused
 unfoldable pub lines_forward : ℕ → Along → ℕ → EditKind → KeptLines → Book → Result Book EditError

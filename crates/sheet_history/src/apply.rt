@@ -1,18 +1,23 @@
-ghost use Rattle.std.specs.Prelude.{◌≡◌, IfSome};
+ghost use Rattle.std.specs.Prelude.{◌≡◌, IfOk, IfSome, OnOk};
 ghost use Rattle.base_values.specs.Answers.{Answers, Edits};
 ghost use Rattle.sheet_grid.specs.FittingCells.{entry_fits_at};
 ghost use Rattle.sheet_grid.specs.KeptCell.{IsKeptCell};
-ghost use Rattle.sheet_rules.specs.WellFormed.{broken_rule};
+ghost use Rattle.line_map.specs.declared.EditKind.{EditKind};
+ghost use Rattle.sheet_rules.specs.WellFormed.{IsWellFormed, broken_rule};
+ghost use Rattle.sheet_lines.specs.KeptNumbers.{AreKeptLines};
+ghost use Rattle.sheet_lines.specs.Sheets.{IsPlacedBook};
+ghost use Rattle.sheet_history.specs.LineDiffs.{along_of, lines_back, lines_forward};
 ghost use Rattle.sheet_history.specs.Diffs.{IsKeptDiff, IsKeptList, backed, by_rule, forwarded, made, put_in, step_back, step_forward, taken_back};
 
-use crate::diff::{Diff, DiffList};
+use crate::diff::{Diff, DiffList, LineAxis};
 use crate::line_diffs::{lines_back, lines_forward};
-use base_axis::RowAxis;
+use base_axis::{ColumnAxis, RowAxis};
 use base_shared::Shared;
 use base_values::{EditError, Position, copy_of};
 use formula_content::fits_at;
 use line_map::{EditKind, LineEdit};
 use sheet_grid::{Cell, Workbook};
+use sheet_lines::KeptLines;
 use sheet_rules::is_well_formed;
 use std::alloc::Global;
 
@@ -35,8 +40,10 @@ fn put_in(
     entry: &Option<Shared<Cell>>,
     at: u64,
 ) -> Result<(), EditError>
-    requires { IfSome entry.now IsKeptCell }
-    ensures { Edits result workbook.old workbook.new (put_in at workbook.old id place entry.now) }
+    requires kept { IfSome entry.now IsKeptCell }
+    requires placed { IsPlacedBook workbook.old }
+    ensures edits { Edits result workbook.old workbook.new (put_in at workbook.old id place entry.now) }
+    ensures placed { OnOk result (IsPlacedBook workbook.new) }
 {
     let refused = EditError::DiffRefused { entry: 0, diff: at };
     if !entry_fits_at(place, entry) {
@@ -61,7 +68,8 @@ fn edit_forward(
     at: u64,
 ) -> Result<(), EditError>
     requires { IsPlacedBook workbook.old }
-    ensures { Edits result workbook.old workbook.new (lines_forward at (along_of axis) id kind kept.now workbook.old) }
+    ensures edits { Edits result workbook.old workbook.new (lines_forward at (along_of axis) id kind kept.now workbook.old) }
+    ensures placed { OnOk result (IsPlacedBook workbook.new) }
 {
     match axis {
         LineAxis::Rows => {
@@ -87,7 +95,8 @@ fn edit_back(
 ) -> Result<(), EditError>
     requires placed { IsPlacedBook workbook.old }
     requires kept { AreKeptLines kept.now }
-    ensures { Edits result workbook.old workbook.new (lines_back at (along_of axis) id kind kept.now workbook.old) }
+    ensures edits { Edits result workbook.old workbook.new (lines_back at (along_of axis) id kind kept.now workbook.old) }
+    ensures placed { OnOk result (IsPlacedBook workbook.new) }
 {
     match axis {
         LineAxis::Rows => {
@@ -108,8 +117,10 @@ fn apply_forward(
     diff: &Diff,
     at: u64,
 ) -> Result<(), EditError>
-    requires { IsKeptDiff diff.now }
-    ensures { Edits result workbook.old workbook.new (step_forward at workbook.old diff.now) }
+    requires kept { IsKeptDiff diff.now }
+    requires placed { IsPlacedBook workbook.old }
+    ensures edits { Edits result workbook.old workbook.new (step_forward at workbook.old diff.now) }
+    ensures placed { OnOk result (IsPlacedBook workbook.new) }
 {
     match diff {
         Diff::Cell {
@@ -129,8 +140,10 @@ fn apply_forward(
 
 /// Takes a diff's change back. `at` is its number in its list.
 fn apply_back(alloc: Global, workbook: &mut Workbook, diff: &Diff, at: u64) -> Result<(), EditError>
-    requires { IsKeptDiff diff.now }
-    ensures { Edits result workbook.old workbook.new (step_back at workbook.old diff.now) }
+    requires kept { IsKeptDiff diff.now }
+    requires placed { IsPlacedBook workbook.old }
+    ensures edits { Edits result workbook.old workbook.new (step_back at workbook.old diff.now) }
+    ensures placed { OnOk result (IsPlacedBook workbook.new) }
 {
     match diff {
         Diff::Cell {
@@ -150,7 +163,8 @@ fn apply_back(alloc: Global, workbook: &mut Workbook, diff: &Diff, at: u64) -> R
 
 /// The workbook with the changes of a list made in order.
 fn made(alloc: Global, workbook: &Workbook, list: &DiffList) -> Result<Workbook, EditError>
-    requires { IsKeptList list.now }
+    requires kept { IsKeptList list.now }
+    requires placed { IsPlacedBook workbook.now }
     ensures { Answers result (made workbook.now list.now) }
 {
     let mut next = copy_of(workbook)?;
@@ -162,7 +176,8 @@ fn made(alloc: Global, workbook: &Workbook, list: &DiffList) -> Result<Workbook,
 
 /// The workbook with the changes of a list taken back, the last one first.
 fn taken_back(alloc: Global, workbook: &Workbook, list: &DiffList) -> Result<Workbook, EditError>
-    requires { IsKeptList list.now }
+    requires kept { IsKeptList list.now }
+    requires placed { IsPlacedBook workbook.now }
     ensures { Answers result (taken_back workbook.now list.now) }
 {
     let diffs = list.get().as_slice();
@@ -192,7 +207,8 @@ fn by_rule(workbook: Workbook, at: u64) -> Result<Workbook, EditError>
 /// not there, its position is outside, or it may not stand there. docs/MODEL.md says when lines can
 /// be inserted and deleted.
 pub fn forward(alloc: Global, workbook: &Workbook, list: &DiffList) -> Result<Workbook, EditError>
-    requires { IsKeptList list.now }
+    requires kept { IsKeptList list.now }
+    requires rules { IsWellFormed workbook.now }
     ensures { Answers result (forwarded workbook.now list.now) }
 {
     let next = made(alloc, workbook, list)?;
@@ -204,7 +220,8 @@ pub fn forward(alloc: Global, workbook: &Workbook, list: &DiffList) -> Result<Wo
 /// `DiffRefused` as `forward` answers it, of the old cells and of lines that cannot be taken back,
 /// with the number of the first diff that it comes to.
 pub fn back(alloc: Global, workbook: &Workbook, list: &DiffList) -> Result<Workbook, EditError>
-    requires { IsKeptList list.now }
+    requires kept { IsKeptList list.now }
+    requires rules { IsWellFormed workbook.now }
     ensures { Answers result (backed workbook.now list.now) }
 {
     let before = taken_back(alloc, workbook, list)?;
@@ -218,7 +235,8 @@ pub fn forward_in_place(
     workbook: &mut Workbook,
     list: &DiffList,
 ) -> Result<(), EditError>
-    requires { IsKeptList list.now }
+    requires kept { IsKeptList list.now }
+    requires rules { IsWellFormed workbook.old }
     ensures { Edits result workbook.old workbook.new (made workbook.old list.now) }
 {
     match list.get().as_slice() {
@@ -238,7 +256,8 @@ pub fn back_in_place(
     workbook: &mut Workbook,
     list: &DiffList,
 ) -> Result<(), EditError>
-    requires { IsKeptList list.now }
+    requires kept { IsKeptList list.now }
+    requires rules { IsWellFormed workbook.old }
     ensures { Edits result workbook.old workbook.new (taken_back workbook.old list.now) }
 {
     match list.get().as_slice() {

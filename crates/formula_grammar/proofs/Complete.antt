@@ -1,20 +1,16 @@
 -- What the grammar derives is read as that tree, whatever comes after it that does not go on with it.
-use Rattle.std.proofs.Common.{◌≡◌, ℕ, zero, suc, ◌+◌, ◌-◌, ◌<◌, ◌≤◌, max, Bool, true, false, cond, List, [], ◌∷◌, ◌++◌, length, map, Option, Some, None, option_and_then, Ok, refl, sym, ap, ◌∙◌, append_assoc, length-append, arith}
+use Rattle.std.proofs.Common.{◌≡◌, ℕ, zero, suc, ◌+◌, ◌-◌, ◌<◌, ◌≤◌, true, false, List, [], ◌∷◌, ◌++◌, length, map, Option, Some, None, option_and_then, Ok, refl, sym, ap, ◌∙◌, append_assoc, length-append, arith}
 use Rattle.std.specs.Prelude.{◌==◌}
 use Rattle.std.proofs.lemmas.Bool.{ne_eqb}
-use lib.Dec.{eqb}
+use Rattle.std.proofs.lemmas.Bool.Decides.{nat_tests}
 use Rattle.formula_tree.specs.declared.node.Node.{Node}
 use Rattle.formula_tree.specs.declared.node.Node.TheVariants as n
-use Rattle.formula_tree.specs.declared.parameter.Parameter.{Parameter}
 use Rattle.formula_tree.specs.Depth.{depth_of, greatest}
 use Rattle.formula_tree.specs.laws.DepthEquations.{depth_lambda, depth_lambda_call}
 use Rattle.formula_tree.specs.laws.DepthLaws.{depth_positive}
 use Rattle.formula_levels.specs.declared.infix.Infix.{Infix}
-use Rattle.formula_levels.specs.declared.infix.Infix.TheVariants as between
 use Rattle.formula_levels.specs.declared.postfix.Postfix.{Postfix}
-use Rattle.formula_levels.specs.declared.postfix.Postfix.TheVariants as postfix
 use Rattle.formula_levels.specs.declared.prefix.Prefix.{Prefix}
-use Rattle.formula_levels.specs.declared.prefix.Prefix.TheVariants as prefix
 use Rattle.formula_levels.specs.Levels.{infix_node, prefix_node, postfix_node}
 use Rattle.formula_grammar.specs.declared.operator.Operator.{Operator}
 use Rattle.formula_grammar.specs.declared.operator.Operator.TheVariants as operator
@@ -22,16 +18,14 @@ use Rattle.formula_grammar.specs.declared.profile.Profile.{Profile}
 use Rattle.formula_grammar.specs.declared.token.Token.{Token}
 use Rattle.formula_grammar.specs.declared.token.Token.TheVariants as t
 use Rattle.formula_grammar.specs.Operators.{infix_under, prefix_under, postfix_under, infix_token, prefix_token, postfix_token}
-use Rattle.formula_grammar.specs.Words.{are_even, separator_token, is_lambda, called, mark_place}
+use Rattle.formula_grammar.specs.Words.{separator_token, called, mark_place}
 use Rattle.formula_grammar.specs.Grammar as G
 use Rattle.formula_grammar.specs.Grammar.{Expression, Lambda, Arguments, Argument, parameters_tokens, rows_tokens, rows_lines, expression_tokens, lambda_tokens, arguments_tokens, argument_tokens, passed, expression_tree, lambda_tree, arguments_trees, argument_tree, expression_open, lambda_open, arguments_open, argument_open}
-use Rattle.formula_grammar.specs.laws.Reading.{Outcome, Parser, and_then, ◌>>=◌, ◌>>◌, pure, with_rest, make, operator_of, operator_under, own, operator_at, sign_at, make_signed, signed_step, signed, opening, closing, separator, is_empty_here, chain_from, parameters, reference_at, range_at, enclosed, argument, arguments_from, arguments_by, arguments, function, lambda_turn, lambda, call, primary, turn, expression, whole}
-use Rattle.formula_grammar.proofs.Depths.{depth_called, depth_infix, depth_postfix, depth_prefix, made-shallow}
-use Rattle.formula_grammar.proofs.Chains.{chain_starts, chain_turns, chain_closes, chain_never}
-use Rattle.formula_grammar.proofs.Follow.{EndsAt, ends_sooner, ends_operator, ends_lambda, ends_word, ends_at_separator, operator_reads, operator_ends, separates}
-use Rattle.formula_grammar.proofs.Starts.{unsigned, starts_given, starts_no_close, begins}
-use Rattle.formula_grammar.proofs.Turns.{expression_turns, lambda_turns, expression_turns-lt, lambda_turns-lt}
-use Rattle.formula_grammar.proofs.Constants.{array_complete, parameters_complete}
+use Rattle.formula_grammar.specs.laws.Reading.{Outcome, and_then, with_rest, make, operator_of, operator_under, own, operator_at, sign_at, make_signed, signed_step, signed, opening, closing, is_empty_here, chain_from, reference_at, range_at, enclosed, argument, arguments_from, arguments_by, arguments, function, lambda_turn, lambda, call, primary, turn, expression, whole}
+use Rattle.formula_grammar.proofs.Depths.{depth_called, depth_infix, depth_postfix, depth_prefix, made-shallow, expression_turns, lambda_turns, expression_turns-lt, lambda_turns-lt}
+use Rattle.formula_grammar.proofs.Steps.{chain_starts, chain_turns, chain_closes, chain_never}
+use Rattle.formula_grammar.proofs.Edges.{EndsAt, ends_sooner, ends_operator, ends_lambda, ends_word, ends_at_separator, operator_reads, operator_ends, separates, unsigned, starts_given, starts_no_close, begins}
+use Rattle.formula_grammar.proofs.Lists.{array_complete, parameters_complete}
 use Rattle.formula_grammar.proofs.Loops.{deeper, whole_steps}
 
 -- the limits leave room for what opens so many parentheses, and is so deep
@@ -39,100 +33,6 @@ pub record Fits (nesting room opened depth : ℕ) : Type 0 where
   pub within : opened ≤ room
   pub nested : opened + depth ≤ nesting
   pub shallow : depth ≤ 64
-
--- for the parts of what fits
-fits_left : {nesting room d : ℕ} (a b x y : ℕ) → Fits nesting room (max a b) d → d ≡ max x y + 1 → Fits nesting room a x
-fits_left a b x y fits deep = record { within = omega (arith, fits.within); nested = omega (arith, fits.nested, deep); shallow = omega (arith, fits.shallow, deep) }
-
-fits_right : {nesting room d : ℕ} (a b x y : ℕ) → Fits nesting room (max a b) d → d ≡ max x y + 1 → Fits nesting room b y
-fits_right a b x y fits deep = record { within = omega (arith, fits.within); nested = omega (arith, fits.nested, deep); shallow = omega (arith, fits.shallow, deep) }
-
-fits_under : {nesting room a x d : ℕ} → Fits nesting room a d → d ≡ x + 1 → Fits nesting room a x
-fits_under fits deep = record { within = fits.within; nested = omega (arith, fits.nested, deep); shallow = omega (arith, fits.shallow, deep) }
-
--- one nest further in
-fits_inner : {nesting room a x d : ℕ} → Fits (suc nesting) room a d → d ≡ x + 1 → Fits nesting room a x
-fits_inner fits deep = record { within = fits.within; nested = omega (arith, fits.nested, deep); shallow = omega (arith, fits.shallow, deep) }
-
--- ---- each rule by itself
-
-enclosed_reads : (p : Profile) (inner : ℕ → Parser Node) (room : ℕ) (ts rest : List Token) (tree : Node) → 0 < room → inner (room - 1) ts ≡ Some (tree, t.CloseParenthesis ∷ rest)
-    → primary p inner room (t.OpenParenthesis ∷ ts) ≡ Some (tree, rest)
-unfolding primary enclosed
-enclosed_reads p inner room ts rest tree h e =
-    let some : eqb room 0 ≡ false = ne_eqb room 0 (λ none. omega arith) in
-    let P : Parser Node = inner (room - 1) >>= (λ x. closing >> pure x) in
-    ap (λ (b : Bool). cond b (λ (_ : List Token). let none : Outcome Node = None in none) P ts) some
-    ∙ ap (λ (o : Outcome Node). and_then o (λ x. closing >> pure x)) e
-
-array_reads : {p : Profile} (inner : ℕ → Parser Node) (room : ℕ) (rows : G.Rows p) (r : List Token) → are_even (rows_lines rows) ≡ true
-    → primary p inner room (t.OpenBrace ∷ (rows_tokens rows ++ t.CloseBrace ∷ []) ++ r) ≡ Some (n.Array (rows_lines rows), r)
-unfolding primary
-array_reads inner room rows r even = array_complete rows r even
-
-abbrev called_with : Profile → List ℕ → List Node → Parser Node
-called_with p word all = make (called p.language word all)
-
-call_reads : (p : Profile) (inner : ℕ → Parser Node) (room : ℕ) (word : List ℕ) (ts rest : List Token) (all : List Node) → is_lambda word ≡ false → arguments p inner room ts ≡ Some (all, rest)
-    → depth_of (called p.language word all) ≤ 64 → primary p inner room (t.Word word ∷ t.OpenParenthesis ∷ ts) ≡ Some (called p.language word all, rest)
-unfolding primary call
-call_reads p inner room word ts rest all is e h =
-    ap (λ (b : Bool). cond b (lambda p inner room) (arguments p inner room >>= called_with p word) ts) is
-    ∙ ap (λ (o : Outcome (List Node)). and_then o (called_with p word)) e ∙ ap (with_rest rest) (made-shallow (called p.language word all) h)
-
-function_reads : (p : Profile) (inner : ℕ → Parser Node) (room : ℕ) (ts mid rest : List Token) (all : List Parameter) (body : Node) → parameters p.locale ts ≡ Some (all, mid)
-    → inner room mid ≡ Some (body, t.CloseParenthesis ∷ rest) → depth_of (n.Lambda all body) ≤ 64 → function p inner room ts ≡ Some (n.Lambda all body, rest)
-unfolding function
-function_reads p inner room ts mid rest all body e f h =
-    ap (λ (o : Outcome (List Parameter)). and_then o (λ xs. inner room >>= (λ x. closing >> make (n.Lambda xs x)))) e
-    ∙ ap (λ (o : Outcome Node). and_then o (λ x. closing >> make (n.Lambda all x))) f
-    ∙ ap (with_rest rest) (made-shallow (n.Lambda all body) h)
-
-lambda_reads : (p : Profile) (inner : ℕ → Parser Node) (room k : ℕ) (word : List ℕ) (ts rest : List Token) (tree : Node) → is_lambda word ≡ true → function p inner room ts ≡ Some (tree, rest) → 64 ≡ k
-    → primary p inner room (t.Word word ∷ t.OpenParenthesis ∷ ts) ≡ chain_from opening (lambda_turn p inner room) k tree rest
-unfolding primary call lambda
-lambda_reads p inner room k word ts rest tree is e k-is =
-    ap (λ (b : Bool). cond b (lambda p inner room) (arguments p inner room >>= called_with p word) ts) is
-    ∙ chain_starts opening (lambda_turn p inner room) (function p inner room ts) tree rest k e k-is
-
-empty_reads : (p : Profile) (inner : ℕ → Parser Node) (room : ℕ) (ts : List Token) → is_empty_here p.locale ts ≡ true → argument p inner room ts ≡ Some (n.EmptyArgument, ts)
-unfolding argument
-empty_reads p inner room ts e = ap (λ (b : Bool). cond b (Some (n.EmptyArgument, ts)) (inner room ts)) e
-
-given_reads : (p : Profile) (inner : ℕ → Parser Node) (room : ℕ) (ts : List Token) (o : Outcome Node) → is_empty_here p.locale ts ≡ false → inner room ts ≡ o → argument p inner room ts ≡ o
-unfolding argument
-given_reads p inner room ts o e f = ap (λ (b : Bool). cond b (Some (n.EmptyArgument, ts)) (inner room ts)) e ∙ f
-
--- after an argument
-abbrev tail : Profile → (ℕ → Parser Node) → ℕ → ℕ → List Node → Parser (List Node)
-tail p inner room k found = separator p.locale >>= (λ goes_on. cond goes_on (arguments_from p inner room k found) (pure found))
-
-turn_reads : (p : Profile) (inner : ℕ → Parser Node) (room k : ℕ) (found : List Node) (ts rest : List Token) (x : Node) → 0 < k → argument p inner room ts ≡ Some (x, rest)
-    → arguments_from p inner room k found ts ≡ tail p inner room (k - 1) (found ++ x ∷ []) rest
-unfolding arguments_from
-turn_reads p inner room k found ts rest x h e =
-    deeper (λ j. arguments_from p inner room j found ts) k h ∙ ap (λ (o : Outcome Node). and_then o (λ y. tail p inner room (k - 1) (found ++ y ∷ []))) e
-
--- at a separator the list goes on
-tail_reads : (p : Profile) (inner : ℕ → Parser Node) (room k : ℕ) (found : List Node) (ts : List Token) → tail p inner room k found (separator_token p.locale ∷ ts) ≡ arguments_from p inner room k found ts
-tail_reads p inner room k found ts =
-    ap (λ (o : Outcome Bool). and_then o (λ goes_on. cond goes_on (arguments_from p inner room k found) (pure found))) ((separates p.locale).reads ts)
-
-arguments_none : (p : Profile) (inner : ℕ → Parser Node) (room : ℕ) (ts : List Token) → arguments p inner room (t.CloseParenthesis ∷ ts) ≡ Some ([], ts)
-unfolding arguments
-arguments_none p inner room ts = refl
-
-arguments_some : (p : Profile) (inner : ℕ → Parser Node) (room : ℕ) (ts : List Token) → closing ts ≡ None → arguments p inner room ts ≡ arguments_from p inner room (length ts) [] ts
-unfolding arguments
-arguments_some p inner room ts e = ap (arguments_by p inner room ts) e
-
-abbrev arguments_count : {p : Profile} → Arguments p → ℕ
-arguments_count (G.last a) = 1
-arguments_count (G.more a all) = suc (arguments_count all)
-
-arguments_count-le : {p : Profile} (d : Arguments p) → arguments_count d ≤ suc (length (arguments_tokens d))
-arguments_count-le (G.last a) = omega arith
-arguments_count-le {p} (G.more a all) = omega (arith, arguments_count-le all, length-append (argument_tokens a) (separator_token p.locale ∷ arguments_tokens all))
 
 argument_no_close : {p : Profile} (a : Argument p) (r : List Token) → closing (argument_tokens a ++ separator_token p.locale ∷ r) ≡ None
 argument_no_close {p} G.empty r = (separates p.locale).no_end r
@@ -160,13 +60,13 @@ whole_completes : {p : Profile} (d : Expression p 10) → Reads 10 d → (nestin
     → whole p nesting room (expression_tokens d ++ r) ≡ Some (expression_tree d, r)
 whole_completes {p} d reads nesting room r fits ends =
     whole_steps p nesting room (expression_tokens d ++ r) (omega (arith, fits.nested, depth_positive (expression_tree d)))
-    ∙ completes 10 d reads (nesting - 1) room r (record { within = fits.within; nested = omega (arith, fits.nested); shallow = fits.shallow }) ends
+    ∙ completes 10 d reads (nesting - 1) room r (omega arith) ends
 
 given_completes : {p : Profile} (d : Expression p 10) → Reads 10 d → (nesting room : ℕ) (r : List Token) → Fits nesting room (expression_open d) (depth_of (expression_tree d)) → is_empty_here p.locale r ≡ true
     → argument p (whole p nesting) room (expression_tokens d ++ r) ≡ Some (expression_tree d, r)
+unfolding argument
 given_completes {p} d reads nesting room r fits ends =
-    given_reads p (whole p nesting) room (expression_tokens d ++ r) _ (starts_given p.locale (expression_tokens d ++ r) (begins d r).starts)
-    (whole_completes d reads nesting room r fits (ends_at_separator p.locale r ends))
+    rw (starts_given p.locale (expression_tokens d ++ r) (begins d r).starts) (whole_completes d reads nesting room r fits (ends_at_separator p.locale r ends))
 
 -- an operand of the level below
 lift_reads : {p : Profile} (under : ℕ) (a : Expression p under) → Reads under a → Reads (suc under) (G.lift a)
@@ -175,63 +75,41 @@ lift_reads {p} under a reads = λ nesting room k r fits ends is.
     chain_starts (operator_at under) (turn (expression p (whole p nesting) room under)) (signed under (expression p (whole p nesting) room under) (expression_tokens a ++ r)) (expression_tree a) r k
     (unsigned under (expression p (whole p nesting) room under) (expression_tokens a ++ r) (begins a r).starts ∙ completes under a reads nesting room r fits ends) (omega (arith, is))
 
--- behind an operator, its right operand
-infix_turn : (operand : Parser Node) (op : Infix) (left right : Node) (ts rest : List Token) → operand ts ≡ Some (right, rest) → depth_of (infix_node op left right) ≤ 64
-    → turn operand (operator.Infix op) left ts ≡ Some (infix_node op left right, rest)
-infix_turn operand op left right ts rest e h = ap (λ (o : Outcome Node). and_then o (λ b. make (infix_node op left b))) e ∙ ap (with_rest rest) (made-shallow (infix_node op left right) h)
-
 joined_reads : {p : Profile} (op : Infix) (a : Expression p (suc (infix_under op))) (b : Expression p (infix_under op)) → Reads (suc (infix_under op)) a → Reads (infix_under op) b
     → Reads (suc (infix_under op)) (G.joined op a b)
 joined_reads {p} op a b reads_a reads_b = λ nesting room k r fits ends is.
     let under = infix_under op in
-    let deep = depth_infix op (expression_tree a) (expression_tree b) in
-    let fits_a : Fits (suc nesting) room (expression_open a) (depth_of (expression_tree a)) = fits_left _ _ _ _ fits deep in
-    let fits_b : Fits (suc nesting) room (expression_open b) (depth_of (expression_tree b)) = fits_right _ _ _ _ fits deep in
     let operand = expression p (whole p nesting) room under in
+    let deep = depth_infix op (expression_tree a) (expression_tree b) in
     ap (expression p (whole p nesting) room (suc under)) (append_assoc (expression_tokens a) (infix_token op ∷ expression_tokens b) r)
-    ∙ reads_a nesting room (suc k) (infix_token op ∷ expression_tokens b ++ r) fits_a (operator_ends (operator.Infix op) (expression_tokens b ++ r)) (omega (arith, is))
-    ∙ chain_turns (operator_at under) (turn operand) k (operator.Infix op) (expression_tree a) (infix_node op (expression_tree a) (expression_tree b)) (infix_token op ∷ expression_tokens b ++ r) (expression_tokens b ++ r) r
-    (operator_reads (operator.Infix op) (expression_tokens b ++ r))
-    (infix_turn operand op (expression_tree a) (expression_tree b) (expression_tokens b ++ r) r (completes under b reads_b nesting room r fits_b ends) fits.shallow)
+    ∙ reads_a nesting room (suc k) (infix_token op ∷ expression_tokens b ++ r) (omega (arith, deep)) (operator_ends (operator.Infix op) (expression_tokens b ++ r)) (omega arith)
+    ∙ chain_turns (operator_at under) (turn operand) k (operator.Infix op) (expression_tree a) _ _ _ r (operator_reads (operator.Infix op) (expression_tokens b ++ r))
+    (rw (completes under b reads_b nesting room r (omega (arith, deep)) ends, made-shallow (infix_node op (expression_tree a) (expression_tree b)) fits.shallow))
 
 followed_reads : {p : Profile} (op : Postfix) (a : Expression p (suc (postfix_under op))) → Reads (suc (postfix_under op)) a → Reads (suc (postfix_under op)) (G.followed op a)
 followed_reads {p} op a reads_a = λ nesting room k r fits ends is.
     let under = postfix_under op in
-    let fits_a : Fits (suc nesting) room (expression_open a) (depth_of (expression_tree a)) = fits_under fits (depth_postfix op (expression_tree a)) in
-    let operand = expression p (whole p nesting) room under in
     ap (expression p (whole p nesting) room (suc under)) (append_assoc (expression_tokens a) (postfix_token op ∷ []) r)
-    ∙ reads_a nesting room (suc k) (postfix_token op ∷ r) fits_a (operator_ends (operator.Postfix op) r) (omega (arith, is))
-    ∙ chain_turns (operator_at under) (turn operand) k (operator.Postfix op) (expression_tree a) (postfix_node op (expression_tree a)) (postfix_token op ∷ r) r r
-    (operator_reads (operator.Postfix op) r) (ap (with_rest r) (made-shallow (postfix_node op (expression_tree a)) fits.shallow))
+    ∙ reads_a nesting room (suc k) (postfix_token op ∷ r) (omega (arith, depth_postfix op (expression_tree a))) (operator_ends (operator.Postfix op) r) (omega arith)
+    ∙ chain_turns (operator_at under) (turn (expression p (whole p nesting) room under)) k (operator.Postfix op) (expression_tree a) _ _ r r
+    (operator_reads (operator.Postfix op) r) (rw (made-shallow (postfix_node op (expression_tree a)) fits.shallow))
 
 -- no operator has the level of a sign
 levels_apart : (op : Prefix) (x : Operator) → (operator_under x == prefix_under op) ≡ false
-levels_apart prefix.Minus (operator.Infix between.Power) = refl
-levels_apart prefix.Minus (operator.Postfix postfix.Percent) = refl
-levels_apart prefix.Plus (operator.Infix between.Power) = refl
-levels_apart prefix.Plus (operator.Postfix postfix.Percent) = refl
-levels_apart prefix.At (operator.Infix between.Power) = refl
-levels_apart prefix.At (operator.Postfix postfix.Percent) = refl
-levels_apart _ _ = refl
+levels_apart op x = grind (arith, nat_tests)
 
 no_operator : (op : Prefix) (o : Option Operator) (ts : List Token) → with_rest ts (option_and_then (own operator_under (prefix_under op)) o) ≡ None
-no_operator op None ts = refl
-no_operator op (Some x) ts = ap (λ (b : Bool). with_rest ts (cond b (Some x) None)) (levels_apart op x)
+no_operator op o ts = grind (arith, levels_apart)
 
 never_there : (op : Prefix) (ts : List Token) → operator_at (prefix_under op) ts ≡ None
 never_there op [] = refl
 never_there op (x ∷ ts) = no_operator op (operator_of x) ts
 
 sign_here : (op : Prefix) → sign_at (prefix_under op) (prefix_token op) ≡ Some op
-sign_here prefix.Minus = refl
-sign_here _ = refl
+sign_here op = grind (arith, nat_tests)
 
 sign_makes : (op : Prefix) (tree : Node) (rest : List Token) → depth_of (prefix_node op tree) ≤ 64 → make_signed op tree rest ≡ Some (prefix_node op tree, rest)
-sign_makes prefix.Plus tree rest h = refl
-sign_makes op tree rest h = ap (with_rest rest) (made-shallow (prefix_node op tree) h)
-
-fits_signed : {nesting room a : ℕ} (op : Prefix) (x : Node) → Fits nesting room a (depth_of (prefix_node op x)) → Fits nesting room a (depth_of x)
-fits_signed op x fits = record { within = fits.within; nested = omega (arith, fits.nested, depth_prefix op x); shallow = omega (arith, fits.shallow, depth_prefix op x) }
+sign_makes op tree rest h = grind (arith, made-shallow)
 
 signed_reads : {p : Profile} (op : Prefix) (a : Expression p (suc (prefix_under op))) → Reads (suc (prefix_under op)) a → Reads (suc (prefix_under op)) (G.signed op a)
 unfolding expression signed
@@ -239,7 +117,7 @@ signed_reads {p} op a reads_a = λ nesting room k r fits ends is.
     let under = prefix_under op in
     let operand = expression p (whole p nesting) room under in
     let ts = expression_tokens a ++ r in
-    let fits_a : Fits (suc nesting) room (expression_open a) (depth_of (expression_tree a)) = fits_signed op (expression_tree a) fits in
+    let fits_a : Fits (suc nesting) room (expression_open a) (depth_of (expression_tree a)) = omega (arith, depth_prefix op (expression_tree a)) in
     let inner : expression p (whole p nesting) room (suc under) ts ≡ Some (expression_tree a, r) =
     chain_closes (operator_at under) (turn operand) _ (expression_turns a) (expression_tree a) r (expression_turns-lt a) fits_a.shallow (never_there op r) (λ j so. reads_a nesting room j r fits_a ends so) in
     let one : signed under operand ts ≡ Some (expression_tree a, r) = sym (chain_never (operator_at under) (turn operand) (never_there op) (signed under operand ts)) ∙ inner in
@@ -251,24 +129,26 @@ signed_reads {p} op a reads_a = λ nesting room k r fits ends is.
 
 -- read from the first of them, after those found
 abbrev ReadsFrom : {p : Profile} → Arguments p → Type 0
-ReadsFrom {p} d = (nesting room k : ℕ) (found : List Node) (r : List Token) → Fits nesting room (arguments_open d) (greatest (map depth_of (arguments_trees d))) → arguments_count d ≤ k
+ReadsFrom {p} d = (nesting room k : ℕ) (found : List Node) (r : List Token) → Fits nesting room (arguments_open d) (greatest (map depth_of (arguments_trees d))) → length (arguments_tokens d) < k
     → arguments_from p (whole p nesting) room k found (arguments_tokens d ++ t.CloseParenthesis ∷ r) ≡ Some (found ++ arguments_trees d, r)
 
 some_read : {p : Profile} (d : Arguments p) → ReadsFrom d → (nesting room : ℕ) (r : List Token) → Fits nesting room (arguments_open d) (greatest (map depth_of (arguments_trees d)))
     → closing (arguments_tokens d ++ t.CloseParenthesis ∷ r) ≡ None → arguments p (whole p nesting) room (arguments_tokens d ++ t.CloseParenthesis ∷ r) ≡ Some (arguments_trees d, r)
+unfolding arguments
 some_read {p} d reads nesting room r fits starts =
     let ts = arguments_tokens d ++ t.CloseParenthesis ∷ r in
-    arguments_some p (whole p nesting) room ts starts
-    ∙ reads nesting room (length ts) [] r fits (omega (arith, arguments_count-le d, length-append (arguments_tokens d) (t.CloseParenthesis ∷ r)))
+    ap (arguments_by p (whole p nesting) room ts) starts
+    ∙ reads nesting room (length ts) [] r fits (omega (arith, length-append (arguments_tokens d) (t.CloseParenthesis ∷ r)))
 
 -- a lone one that is empty is none
 passed_read : {p : Profile} (d : Arguments p) → ReadsFrom d → (nesting room : ℕ) (r : List Token) → Fits nesting room (arguments_open d) (greatest (map depth_of (passed d (arguments_trees d))))
     → arguments p (whole p nesting) room ((arguments_tokens d ++ t.CloseParenthesis ∷ []) ++ r) ≡ Some (passed d (arguments_trees d), r)
+unfolding arguments
 passed_read {p} d reads nesting room r fits = ap (arguments p (whole p nesting) room) (append_assoc (arguments_tokens d) (t.CloseParenthesis ∷ []) r) ∙ go d reads fits
   where
     go : (d : Arguments p) → ReadsFrom d → Fits nesting room (arguments_open d) (greatest (map depth_of (passed d (arguments_trees d))))
         → arguments p (whole p nesting) room (arguments_tokens d ++ t.CloseParenthesis ∷ r) ≡ Some (passed d (arguments_trees d), r)
-    go (G.last G.empty) reads fits = arguments_none p (whole p nesting) room r
+    go (G.last G.empty) reads fits = refl
     go (G.last (G.given a)) reads fits =
         some_read (G.last (G.given a)) reads nesting room r fits (starts_no_close (expression_tokens a ++ t.CloseParenthesis ∷ r) (begins a (t.CloseParenthesis ∷ r)).starts)
     go (G.more a all) reads fits =
@@ -278,7 +158,7 @@ passed_read {p} d reads nesting room r fits = ap (arguments p (whole p nesting) 
 -- ---- derivations
 
 mutual
-  unfolding primary
+  unfolding primary enclosed call lambda function argument arguments_from
 
   pub expression_reads : {p : Profile} {level : ℕ} (d : Expression p level) → Reads level d
   expression_reads (G.lift {level = under} a) = lift_reads under a (expression_reads a)
@@ -289,40 +169,38 @@ mutual
   expression_reads {p} (G.range sheet first second start stop is also) = λ nesting room r fits ends.
       ap (λ o. with_rest r (range_at p.place sheet first second o (mark_place second))) is ∙ ap (λ o. with_rest r (range_at p.place sheet first second (Ok start) o)) also
   expression_reads {p} (G.word name) = λ nesting room r fits ends. ends_word p (whole p nesting) room name r ends
-  expression_reads {p} (G.array rows is) = λ nesting room r fits ends. array_reads (whole p nesting) room rows r is
-  expression_reads {p} (G.parentheses a) = λ nesting room r fits ends.
-      enclosed_reads p (whole p nesting) room ((expression_tokens a ++ t.CloseParenthesis ∷ []) ++ r) r (expression_tree a) (omega (arith, fits.within))
-      (ap (whole p nesting (room - 1)) (append_assoc (expression_tokens a) (t.CloseParenthesis ∷ []) r)
-      ∙ whole_completes a (expression_reads a) nesting (room - 1) (t.CloseParenthesis ∷ r) (record { within = omega (arith, fits.within); nested = omega (arith, fits.nested); shallow = fits.shallow }) (omega arith))
+  expression_reads {p} (G.array rows is) = λ nesting room r fits ends. array_complete rows r is
+  expression_reads (G.parentheses a) = λ nesting room r fits ends.
+      (let some = ne_eqb room 0 (λ none. omega (arith, fits.within)) in
+      let read = whole_completes a (expression_reads a) nesting (room - 1) (t.CloseParenthesis ∷ r) (omega arith) (omega arith) in
+      rw (append_assoc (expression_tokens a) (t.CloseParenthesis ∷ []) r, some, read))
   expression_reads {p} (G.lambda a) = λ nesting room r fits ends.
       chain_closes opening (lambda_turn p (whole p nesting) room) _ (lambda_turns a) (lambda_tree a) r (lambda_turns-lt a) fits.shallow (ends_lambda r ends)
       (λ j is. lambda_before a nesting room j r fits is)
   expression_reads {p} (G.call name is all) = λ nesting room r fits ends.
-      call_reads p (whole p nesting) room name ((arguments_tokens all ++ t.CloseParenthesis ∷ []) ++ r) r (passed all (arguments_trees all)) is
-      (passed_read all (arguments_read all) nesting room r (fits_inner fits (depth_called p.language name (passed all (arguments_trees all)))))
-      fits.shallow
+      (let tree = called p.language name (passed all (arguments_trees all)) in
+      rw (is, passed_read all (arguments_read all) nesting room r (omega (arith, depth_called p.language name (passed all (arguments_trees all)))), made-shallow tree fits.shallow))
   expression_reads _ = λ nesting room r fits ends. refl
 
   lambda_before : {p : Profile} (d : Lambda p) (nesting room k : ℕ) (r : List Token) → Fits (suc nesting) room (lambda_open d) (depth_of (lambda_tree d)) → k + lambda_turns d ≡ 64
       → primary p (whole p nesting) room (lambda_tokens d ++ r) ≡ chain_from opening (lambda_turn p (whole p nesting) room) k (lambda_tree d) r
   lambda_before {p} (G.function name is all body) nesting room k r fits e =
-      let fits_body : Fits nesting room (expression_open body) (depth_of (expression_tree body)) = fits_inner fits (depth_lambda all (expression_tree body)) in
+      let fits_body : Fits nesting room (expression_open body) (depth_of (expression_tree body)) = omega (arith, depth_lambda all (expression_tree body)) in
       let end : List Token = t.CloseParenthesis ∷ r in
-      let regrouped : (parameters_tokens p all ++ (expression_tokens body ++ t.CloseParenthesis ∷ [])) ++ r ≡ parameters_tokens p all ++ (expression_tokens body ++ end) =
-      append_assoc (parameters_tokens p all) (expression_tokens body ++ t.CloseParenthesis ∷ []) r
-      ∙ ap (λ (l : List Token). parameters_tokens p all ++ l) (append_assoc (expression_tokens body) (t.CloseParenthesis ∷ []) r) in
-      lambda_reads p (whole p nesting) room k name _ r (n.Lambda all (expression_tree body)) is
-      (ap (function p (whole p nesting) room) regrouped
-      ∙ function_reads p (whole p nesting) room (parameters_tokens p all ++ (expression_tokens body ++ end)) (expression_tokens body ++ end) r all (expression_tree body)
-      (parameters_complete p all (expression_tokens body ++ end) ((begins body end).no_parameter refl))
-      (whole_completes body (expression_reads body) nesting room end fits_body (omega arith))
-      fits.shallow)
-      (omega (arith, e))
+      let same : 64 ≡ k = omega (arith, e) in
+      rw (
+        is,
+        append_assoc (parameters_tokens p all) (expression_tokens body ++ t.CloseParenthesis ∷ []) r,
+        append_assoc (expression_tokens body) (t.CloseParenthesis ∷ []) r,
+        parameters_complete p all (expression_tokens body ++ end) ((begins body end).no_parameter refl),
+        whole_completes body (expression_reads body) nesting room end fits_body (omega arith),
+        made-shallow (n.Lambda all (expression_tree body)) fits.shallow,
+      ) (ap (λ (j : ℕ). chain_from opening (lambda_turn p (whole p nesting) room) j (n.Lambda all (expression_tree body)) r) same)
   lambda_before {p} (G.applied a all) nesting room k r fits e =
       let given = passed all (arguments_trees all) in
       let deep = depth_lambda_call (lambda_tree a) given in
-      let fits_a : Fits (suc nesting) room (lambda_open a) (depth_of (lambda_tree a)) = fits_left _ _ _ _ fits deep in
-      let fits_all : Fits nesting room (arguments_open all) (greatest (map depth_of given)) = record { within = omega (arith, fits.within); nested = omega (arith, fits.nested, deep); shallow = omega (arith, fits.shallow, deep) } in
+      let fits_a : Fits (suc nesting) room (lambda_open a) (depth_of (lambda_tree a)) = omega (arith, deep) in
+      let fits_all : Fits nesting room (arguments_open all) (greatest (map depth_of given)) = omega (arith, deep) in
       let rest : List Token = (arguments_tokens all ++ t.CloseParenthesis ∷ []) ++ r in
       ap (primary p (whole p nesting) room) (append_assoc (lambda_tokens a) (t.OpenParenthesis ∷ arguments_tokens all ++ t.CloseParenthesis ∷ []) r)
       ∙ lambda_before a nesting room (suc k) (t.OpenParenthesis ∷ rest) fits_a (omega (arith, e))
@@ -332,18 +210,18 @@ mutual
 
   arguments_read : {p : Profile} (d : Arguments p) → ReadsFrom d
   arguments_read {p} (G.last a) nesting room k found r fits enough =
-      turn_reads p (whole p nesting) room k found (argument_tokens a ++ t.CloseParenthesis ∷ r) (t.CloseParenthesis ∷ r) (argument_tree a) (omega arith)
-      (argument_complete a nesting room (t.CloseParenthesis ∷ r) (record { within = fits.within; nested = omega (arith, fits.nested); shallow = omega (arith, fits.shallow) }) refl)
+      deeper (λ j. arguments_from p (whole p nesting) room j found (argument_tokens a ++ t.CloseParenthesis ∷ r)) k (omega arith)
+      ∙ rw (argument_complete a nesting room (t.CloseParenthesis ∷ r) (omega arith) refl)
   arguments_read {p} (G.more a all) nesting room k found r fits enough =
       let rest : List Token = arguments_tokens all ++ t.CloseParenthesis ∷ r in
+      let long = length-append (argument_tokens a) (separator_token p.locale ∷ arguments_tokens all) in
+      let read = argument_complete a nesting room (separator_token p.locale ∷ rest) (omega arith) ((separates p.locale).empty rest) in
+      let again = arguments_read all nesting room (k - 1) (found ++ argument_tree a ∷ []) r (omega arith) (omega (arith, long)) in
       ap (arguments_from p (whole p nesting) room k found) (append_assoc (argument_tokens a) (separator_token p.locale ∷ arguments_tokens all) (t.CloseParenthesis ∷ r))
-      ∙ turn_reads p (whole p nesting) room k found (argument_tokens a ++ separator_token p.locale ∷ rest) (separator_token p.locale ∷ rest) (argument_tree a) (omega arith)
-      (argument_complete a nesting room (separator_token p.locale ∷ rest) (record { within = omega (arith, fits.within); nested = omega (arith, fits.nested); shallow = omega (arith, fits.shallow) }) ((separates p.locale).empty rest))
-      ∙ tail_reads p (whole p nesting) room (k - 1) (found ++ argument_tree a ∷ []) rest
-      ∙ arguments_read all nesting room (k - 1) (found ++ argument_tree a ∷ []) r (record { within = omega (arith, fits.within); nested = omega (arith, fits.nested); shallow = omega (arith, fits.shallow) }) (omega arith)
-      ∙ ap (λ (l : List Node). Some (l, r)) (append_assoc found (argument_tree a ∷ []) (arguments_trees all))
+      ∙ deeper (λ j. arguments_from p (whole p nesting) room j found (argument_tokens a ++ separator_token p.locale ∷ rest)) k (omega arith)
+      ∙ rw (read, (separates p.locale).reads rest, ← append_assoc found (argument_tree a ∷ []) (arguments_trees all)) again
 
   argument_complete : {p : Profile} (d : Argument p) (nesting room : ℕ) (r : List Token) → Fits nesting room (argument_open d) (depth_of (argument_tree d)) → is_empty_here p.locale r ≡ true
       → argument p (whole p nesting) room (argument_tokens d ++ r) ≡ Some (argument_tree d, r)
-  argument_complete {p} G.empty nesting room r fits ends = empty_reads p (whole p nesting) room r ends
-  argument_complete {p} (G.given a) nesting room r fits ends = given_completes a (expression_reads a) nesting room r fits ends
+  argument_complete G.empty nesting room r fits ends = rw ends
+  argument_complete (G.given a) nesting room r fits ends = given_completes a (expression_reads a) nesting room r fits ends

@@ -87,7 +87,7 @@ impl<F: Fn(Global, Profile, &mut Cursor<'_>, u64, u64) -> Result<Found, Fault>> 
 
     /// An operand with the signs of a level before it.
     #[cycle(expression)]
-    #[tactic(auto, using(crate::proofs::Signed::signed_counted))]
+    #[tactic(auto, using(crate::proofs::Loops::signed_counted))]
     fn signed(&self, tokens: &mut Cursor<'_>, under: u8) -> Result<Found, Fault>
         requires { Nests self.now.profile self.now.nesting (F.pre self.now.whole) (F.post self.now.whole) }
         ensures { let operand = spec.expression self.now.profile (spec.whole self.now.profile self.now.nesting) self.now.room under in

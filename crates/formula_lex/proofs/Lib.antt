@@ -1,4 +1,3 @@
 pub mod Reading
 pub mod Places
-pub mod Words
 pub mod Tokens

@@ -1,13 +1,13 @@
 -- Cells and ranges are read just where they are spelled.
-use Rattle.std.proofs.Common.{◌≡◌, ℕ, ◌<◌, Bool, true, false, refl, arith, zero, suc, [], ◌∷◌, sym, ap, ◌∙◌, cond, ◌++◌, Option, Some, None, subst, append_assoc}
-use Rattle.std.specs.Prelude.{◌==◌, ℤ, pos, not, IfSome, MatchOption}
+use Rattle.std.proofs.Common.{◌≡◌, ℕ, ◌<◌, Bool, true, false, refl, arith, zero, suc, [], ◌∷◌, sym, ap, ◌∙◌, ◌++◌, Option, Some, None, append_assoc}
+use Rattle.std.specs.Prelude.{◌==◌, ℤ, pos, not}
 use Rattle.std.proofs.lemmas.Bool.{and_parts, and_from, or_left, or_right, both_ways, false_from_ne_true, not_from_false}
 use Rattle.std.proofs.lemmas.Bool.Decides.{nat_tests}
 use Rattle.std.proofs.UnicodeAscii.{is_alphabetic_ascii}
 use Rattle.std.specs.List.{list_all}
 use Rattle.std.specs.Str.{chars, IsUtf8, IsAscii}
 use Rattle.std.proofs.lemmas.Str.{encodes-IsAscii, encodes-chars}
-use Rattle.std.specs.Option.{option_map, option_and_then, option_or}
+use Rattle.std.specs.Option.{option_map, option_or}
 use Rattle.std.proofs.lemmas.List.Folds.{list_all-append}
 use Rattle.base_tables.specs.Column.{is_letter, letters_number, is_column_name, column_of_name}
 use Rattle.base_tables.specs.Word.{is_digit, starts_word, goes_on_word, digits_number, is_count, is_row_number}
@@ -15,12 +15,12 @@ use Rattle.base_decimal.specs.Digits.{span, stops}
 use Rattle.base_decimal.proofs.Spans.{span_all, not_true, span_at, span_parts, stops_sooner}
 use Rattle.formula_grammar.specs.declared.CellMark.{CellMark}
 use Rattle.formula_lex.specs.Characters.{goes_on_place, Text}
-use Rattle.formula_lex.specs.laws.Lex.{is_sign, past, dollar_at, behind_dollar, line_at, column_at, row_at, with_row, with_column, corner_at, between, range_to, range_behind, cell_alone, behind_corner, spot_at}
+use Rattle.formula_lex.specs.laws.Lex.{is_sign, dollar_at, behind_dollar, line_at, column_at, row_at, with_row, with_column, corner_at, between, range_behind, cell_alone, spot_at}
 use Rattle.formula_lex.specs.declared.place.Line.{Line}
 use Rattle.formula_lex.specs.declared.place.Side.{Side}
 use Rattle.formula_lex.specs.declared.place.Spot.{Spot}
 use Rattle.formula_lex.specs.Lexicon.{dollar, row_of_name, IsLine, IsColumn, IsRow, IsPair, IsCell, IsSpan, IsRange, cells, columns, rows}
-use Rattle.formula_lex.proofs.Reading.{past_none, Front, if_each, if_over, if_or, if_map, if_then, if_cond, if_more, past_is}
+use Rattle.formula_lex.proofs.Reading.{cond_some, Front, Brings, nothing, brings, brings_none, brings_each, brings_map, brings_then, brings_or, brings_cond, past_none, past_sound}
 use Rattle.formula_lex.specs.declared.place.Side.TheVariants as side
 use Rattle.formula_lex.specs.declared.place.Spot.TheVariants as spot
 
@@ -34,9 +34,6 @@ digit_low c e = grind (arith, nat_tests)
 
 digit_no_letter : (c : ℕ) → is_digit c ≡ true → is_letter c ≡ false
 digit_no_letter c e = grind (arith, nat_tests)
-
-place_no_dollar : (c : ℕ) → goes_on_place c ≡ false → (c == 36) ≡ false
-place_no_dollar c e = grind (arith, nat_tests)
 
 place_no_digit : (c : ℕ) → goes_on_place c ≡ false → is_digit c ≡ false
 place_no_digit c e = grind (arith, nat_tests)
@@ -97,26 +94,21 @@ all_more p q h [] e = refl
 all_more p q h (c ∷ s) e = let k = and_parts (p c) (list_all p s) e in and_from _ _ (h c k.0) (all_more p q h s k.1)
 
 dollar_parts : (text : Text) → text ≡ dollar (dollar_at text).0 ++ (dollar_at text).1
-dollar_parts text = go (past 36 text) (past_is 36 text)
-  where
-    go : (o : Option Text) → MatchOption o (stops (λ c. c == 36) text ≡ true) (λ z. text ≡ 36 ∷ z) → text ≡ dollar (behind_dollar text o).0 ++ (behind_dollar text o).1
-    go None e = refl
-    go (Some z) e = e
+dollar_parts text = let h = (past_sound 36 text).read in grind arith
 
 dollar_none : (text : Text) → stops (λ c. c == 36) text ≡ true → dollar_at text ≡ (false, text)
 dollar_none text e = ap (behind_dollar text) (past_none 36 text e)
 
-line_sound : (line_of_name : Text → Option ℤ) (p : ℕ → Bool) (text : Text) → IfSome (line_at line_of_name p text) (λ r. Front (LineIs line_of_name r.0) text r.1)
+line_sound : (line_of_name : Text → Option ℤ) (p : ℕ → Bool) (text : Text) → Brings (λ r. Front (LineIs line_of_name r.0) text r.1) (line_at line_of_name p text)
 unfolding line_at
 line_sound line_of_name p text =
     let d = dollar_at text in
     let s = span p d.1 in
-    if_map (λ (r : Line × Text). Front (LineIs line_of_name r.0) text r.1) (λ n. (record { absolute = d.0; number = n }, s.1)) (line_of_name s.0)
-    (if_each (λ n. Front (IsLine line_of_name d.0 n) text s.1) (line_of_name s.0) (λ n e. record {
+    brings_map _ (line_of_name s.0) (brings_each (line_of_name s.0) (λ n e. e)) (λ n e. record {
       spelled = dollar d.0 ++ s.0;
       parts = dollar_parts text ∙ ap (λ (x : Text). dollar d.0 ++ x) (span_parts p d.1) ∙ sym (append_assoc (dollar d.0) s.0 s.1);
       is = record { name = s.0; parts = refl; named = e };
-    }))
+    })
 
 module _ (line_of_name : Text → Option ℤ) (p : ℕ → Bool) (names : Names line_of_name p) where
   -- the name, and that it begins with no character that a name can't
@@ -124,41 +116,27 @@ module _ (line_of_name : Text → Option ℤ) (p : ℕ → Bool) (names : Names 
   name_stops q h [] line rest e = absurd (let f = sym names.some ∙ e in cc)
   name_stops q h (c ∷ name) line rest e = ap not (h c (and_parts (p c) (list_all p name) (names.all (c ∷ name) line e)).0)
 
-  line_dollar : (l : Line) (s rest : Text) → (is : LineIs line_of_name l s) → dollar_at (s ++ rest) ≡ (l.absolute, is.name ++ rest)
-  line_dollar l s rest is = ap dollar_at (ap (λ (x : Text). x ++ rest) is.parts ∙ append_assoc (dollar l.absolute) is.name rest) ∙ go l.absolute
-    where
-      go : (b : Bool) → dollar_at (dollar b ++ (is.name ++ rest)) ≡ (b, is.name ++ rest)
-      go true = refl
-      go false = dollar_none (is.name ++ rest) (name_stops (λ c. c == 36) names.no_dollar is.name l.number rest is.named)
+  line_dollar : (absolute : Bool) (line : ℤ) (s rest : Text) (is : IsLine line_of_name absolute line s) → dollar_at (s ++ rest) ≡ (absolute, is.name ++ rest)
+  line_dollar true line s rest is = rw is.parts
+  line_dollar false line s rest is = rw is.parts (dollar_none (is.name ++ rest) (name_stops (λ c. c == 36) names.no_dollar is.name line rest is.named))
 
   line_read : (l : Line) (s rest : Text) → LineIs line_of_name l s → stops p rest ≡ true → line_at line_of_name p (s ++ rest) ≡ Some (l, rest)
   unfolding line_at
-  line_read l s rest is ends = rw (line_dollar l s rest is, span_at p is.name rest (names.all is.name l.number is.named) ends, is.named)
+  line_read l s rest is ends = rw (line_dollar l.absolute l.number s rest is, span_at p is.name rest (names.all is.name l.number is.named) ends, is.named)
 
-  line_stops : (q : ℕ → Bool) → q 36 ≡ false → ((c : ℕ) → p c ≡ true → q c ≡ false) → (l : Line) (s rest : Text) → LineIs line_of_name l s → stops q (s ++ rest) ≡ true
-  line_stops q d h l s rest is = ap (stops q) (ap (λ (x : Text). x ++ rest) is.parts ∙ append_assoc (dollar l.absolute) is.name rest) ∙ go l.absolute
-    where
-      go : (b : Bool) → stops q (dollar b ++ (is.name ++ rest)) ≡ true
-      go true = ap not d
-      go false = name_stops q h is.name l.number rest is.named
+  line_stops : (q : ℕ → Bool) → q 36 ≡ false → ((c : ℕ) → p c ≡ true → q c ≡ false) → (absolute : Bool) (line : ℤ) (s rest : Text)
+      → IsLine line_of_name absolute line s → stops q (s ++ rest) ≡ true
+  line_stops q d h true line s rest is = rw is.parts (ap not d)
+  line_stops q d h false line s rest is = rw is.parts (name_stops q h is.name line rest is.named)
 
-  line_unmarked : (l : Line) (s : Text) → LineIs line_of_name l s → list_all no_mark s ≡ true
-  line_unmarked l s is =
-      ap (list_all no_mark) is.parts ∙ list_all-append no_mark (dollar l.absolute) is.name
-      ∙ and_from _ _ (go l.absolute) (all_more p no_mark names.unmarked is.name (names.all is.name l.number is.named))
-    where
-      go : (b : Bool) → list_all no_mark (dollar b) ≡ true
-      go true = refl
-      go false = refl
-
-if_name : (b : Bool) (value line : ℤ) → cond b (Some value) None ≡ Some line → b ≡ true
-if_name true value line e = refl
-if_name false value line e = absurd cc
+  line_unmarked : (absolute : Bool) (line : ℤ) (s : Text) → IsLine line_of_name absolute line s → list_all no_mark s ≡ true
+  line_unmarked true line s is = rw is.parts (all_more p no_mark names.unmarked is.name (names.all is.name line is.named))
+  line_unmarked false line s is = rw is.parts (all_more p no_mark names.unmarked is.name (names.all is.name line is.named))
 
 columns_named : Names column_of_name is_letter
 unfolding column_of_name is_column_name
 columns_named = record {
-  all = λ name line e. (and_parts _ _ (if_name (is_column_name name) (pos (letters_number name)) line e)).0;
+  all = λ name line e. (and_parts _ _ (cond_some (is_column_name name) (Some (pos (letters_number name))) line e).0).0;
   some = refl;
   no_dollar = λ c e. grind (arith, nat_tests);
   unmarked = λ c e. grind (arith, nat_tests);
@@ -167,13 +145,13 @@ columns_named = record {
 rows_named : Names row_of_name is_digit
 unfolding is_count
 rows_named = record {
-  all = λ name line e. (and_parts _ _ (if_name (is_row_number name) (pos (digits_number name)) line e)).0;
+  all = λ name line e. (and_parts _ _ (cond_some (is_row_number name) (Some (pos (digits_number name))) line e).0).0;
   some = refl;
   no_dollar = λ c e. grind (arith, nat_tests);
   unmarked = λ c e. grind (arith, nat_tests);
 }
 
-row_no_letter : (l : Line) (s rest : Text) → LineIs row_of_name l s → stops is_letter (s ++ rest) ≡ true
+row_no_letter : (absolute : Bool) (line : ℤ) (s rest : Text) → IsLine row_of_name absolute line s → stops is_letter (s ++ rest) ≡ true
 row_no_letter = line_stops row_of_name is_digit rows_named is_letter refl digit_no_letter
 
 -- where neither stands behind the dollar
@@ -202,19 +180,22 @@ IsSide (side.Row l) = LineIs row_of_name l
 pair_parts : (first middle second rest : Text) → (first ++ (middle ++ second)) ++ rest ≡ first ++ (middle ++ (second ++ rest))
 pair_parts first middle second rest = append_assoc first (middle ++ second) rest ∙ ap (λ (x : Text). first ++ x) (append_assoc middle second rest)
 
-corner_sound : (text : Text) → IfSome (corner_at text) (λ r. Front (IsSide r.0) text r.1)
+corner_sound : (text : Text) → Brings (λ r. Front (IsSide r.0) text r.1) (corner_at text)
 unfolding corner_at
 corner_sound text = go (column_at text) (line_sound column_of_name is_letter text)
   where
-    row : (column : Line) (rest : Text) → Front (LineIs column_of_name column) text rest → (o : Option (Line × Text)) → IfSome o (λ r. Front (LineIs row_of_name r.0) rest r.1)
-        → IfSome (with_row column rest o) (λ r. Front (IsSide r.0) text r.1)
-    row column rest f None g = f
-    row column rest f (Some r) g =
-        record { spelled = f.spelled ++ g.spelled; parts = rw (f.parts, g.parts, append_assoc f.spelled g.spelled r.1); is = record { first = f.spelled; second = g.spelled; parts = refl; is_first = f.is; is_second = g.is } }
+    row : (column : Line) (rest : Text) → Front (LineIs column_of_name column) text rest → (o : Option (Line × Text))
+        → Brings (λ r. Front (LineIs row_of_name r.0) rest r.1) o → Brings (λ r. Front (IsSide r.0) text r.1) (with_row column rest o)
+    row column rest f None g = brings f
+    row column rest f (Some r) g = let h = g.read in brings (record {
+      spelled = f.spelled ++ h.spelled;
+      parts = rw (f.parts, h.parts, append_assoc f.spelled h.spelled r.1);
+      is = record { first = f.spelled; second = h.spelled; parts = refl; is_first = f.is; is_second = h.is };
+    })
 
-    go : (o : Option (Line × Text)) → IfSome o (λ r. Front (LineIs column_of_name r.0) text r.1) → IfSome (with_column text o) (λ r. Front (IsSide r.0) text r.1)
-    go None f = if_map (λ r. Front (IsSide r.0) text r.1) (λ r. (side.Row r.0, r.1)) (row_at text) (line_sound row_of_name is_digit text)
-    go (Some c) f = row c.0 c.1 f (row_at c.1) (line_sound row_of_name is_digit c.1)
+    go : (o : Option (Line × Text)) → Brings (λ r. Front (LineIs column_of_name r.0) text r.1) o → Brings (λ r. Front (IsSide r.0) text r.1) (with_column text o)
+    go None f = brings_map _ (row_at text) (line_sound row_of_name is_digit text) (λ r g. g)
+    go (Some c) f = row c.0 c.1 f.read (row_at c.1) (line_sound row_of_name is_digit c.1)
 
 corner_read : (x : Side) (s rest : Text) → IsSide x s → stops goes_on_place rest ≡ true → corner_at (s ++ rest) ≡ Some (x, rest)
 unfolding corner_at
@@ -222,18 +203,18 @@ corner_read (side.Cell mark) s rest is ends =
     rw (
       is.parts,
       append_assoc is.first is.second rest,
-      line_read column_of_name is_letter columns_named (column_of mark) is.first (is.second ++ rest) is.is_first (row_no_letter (row_of mark) is.second rest is.is_second),
+      line_read column_of_name is_letter columns_named (column_of mark) is.first (is.second ++ rest) is.is_first (row_no_letter mark.absolute_row mark.row is.second rest is.is_second),
       line_read row_of_name is_digit rows_named (row_of mark) is.second rest is.is_second (stops_sooner is_digit goes_on_place place_no_digit rest ends),
     )
 corner_read (side.Column l) s rest is ends =
     rw (
       line_read column_of_name is_letter columns_named l s rest is (stops_sooner is_letter goes_on_place place_no_letter rest ends),
-      no_row rest (stops_sooner (λ c. c == 36) goes_on_place place_no_dollar rest ends) (stops_sooner is_digit goes_on_place place_no_digit rest ends),
+      no_row rest (stops_sooner (λ c. c == 36) goes_on_place (λ c e. grind (arith, nat_tests)) rest ends) (stops_sooner is_digit goes_on_place place_no_digit rest ends),
     )
 corner_read (side.Row l) s rest is ends =
     let letter = name_stops row_of_name is_digit rows_named is_letter digit_no_letter is.name l.number rest is.named in
     rw (
-      no_column (s ++ rest) l.absolute (is.name ++ rest) (line_dollar row_of_name is_digit rows_named l s rest is) letter,
+      no_column (s ++ rest) l.absolute (is.name ++ rest) (line_dollar row_of_name is_digit rows_named l.absolute l.number s rest is) letter,
       line_read row_of_name is_digit rows_named l s rest is (stops_sooner is_digit goes_on_place place_no_digit rest ends),
     )
 
@@ -256,42 +237,29 @@ pub record Placed (Is : Text → Type 0) (text rest : Text) : Type 0 where
   pub is : Is spelled
   pub ends : stops goes_on_place rest ≡ true
 
-between_sound : (a b : Side) (s t : Text) → IsSide a s → IsSide b t → IfSome (between a b) (λ r. IsRange r.0 r.1 (s ++ (58 ∷ t)))
-between_sound (side.Cell a) (side.Cell b) s t f g = cells (record { first = s; second = t; parts = refl; is_first = f; is_second = g })
-between_sound (side.Column a) (side.Column b) s t f g = columns (record { first = s; second = t; parts = refl; is_first = f; is_second = g }) refl refl
-between_sound (side.Row a) (side.Row b) s t f g = rows (record { first = s; second = t; parts = refl; is_first = f; is_second = g }) refl refl
-between_sound _ _ s t f g = tt
+between_sound : (a b : Side) (s t : Text) → IsSide a s → IsSide b t → Brings (λ r. IsRange r.0 r.1 (s ++ (58 ∷ t))) (between a b)
+between_sound (side.Cell a) (side.Cell b) s t f g = brings (cells (record { first = s; second = t; parts = refl; is_first = f; is_second = g }))
+between_sound (side.Column a) (side.Column b) s t f g =
+    brings (columns (record { first = s; second = t; parts = refl; is_first = f; is_second = g }) refl refl)
+between_sound (side.Row a) (side.Row b) s t f g = brings (rows (record { first = s; second = t; parts = refl; is_first = f; is_second = g }) refl refl)
+between_sound _ _ s t f g = nothing
 
-pub range_sound : (a : Side) (s text : Text) → IsSide a s → IfSome (range_behind a text) (λ r. Placed (IsRange r.0.0 r.0.1) (s ++ text) r.1)
+pub range_sound : (a : Side) (s text : Text) → IsSide a s → Brings (λ r. Placed (IsRange r.0.0 r.0.1) (s ++ text) r.1) (range_behind a text)
 unfolding range_behind
-range_sound a s text is = colon (past 58 text) (past_is 58 text)
-  where
-    to : (z : Text) → text ≡ 58 ∷ z → (b : Side) (rest : Text) → Front (IsSide b) z rest → IfSome (range_to a (b, rest)) (λ r. Placed (IsRange r.0.0 r.0.1) (s ++ text) r.1)
-    to z e b rest f = if_cond (λ (r : Marks × Text). Placed (IsRange r.0.0 r.0.1) (s ++ text) r.1) (stops goes_on_place rest) _ None
-        (λ ends. if_over (λ (r : Marks × Text). Placed (IsRange r.0.0 r.0.1) (s ++ text) r.1) (λ x. (x, rest)) (λ r. IsRange r.0 r.1 (s ++ (58 ∷ f.spelled)))
-        (λ x range. record { spelled = s ++ (58 ∷ f.spelled); parts = rw (e, f.parts, append_assoc s (58 ∷ f.spelled) rest); is = range; ends = ends }) (between a b) (between_sound a b s f.spelled is f.is))
-        (λ h. tt)
+range_sound a s text is = brings_then _ _ (past_sound 58 text) (λ z e. brings_then _ _ (corner_sound z) (λ p f. brings_cond (stops goes_on_place p.1) _ _
+    (λ ends. brings_map _ _ (between_sound a p.0 s f.spelled is f.is) (λ x range.
+    record { spelled = s ++ (58 ∷ f.spelled); parts = rw (e, f.parts, append_assoc s (58 ∷ f.spelled) p.1); is = range; ends = ends }))
+    (λ h. nothing)))
 
-    colon : (o : Option Text) → MatchOption o (stops (λ c. c == 58) text ≡ true) (λ z. text ≡ 58 ∷ z)
-        → IfSome (option_and_then (range_to a) (option_and_then corner_at o)) (λ r. Placed (IsRange r.0.0 r.0.1) (s ++ text) r.1)
-    colon None e = tt
-    colon (Some z) e = if_then (λ (r : Marks × Text). Placed (IsRange r.0.0 r.0.1) (s ++ text) r.1) (range_to a) (corner_at z)
-        (if_more (λ p. IfSome (range_to a p) (λ r. Placed (IsRange r.0.0 r.0.1) (s ++ text) r.1)) (λ p. Front (IsSide p.0) z p.1) (λ p f. to z e p.0 p.1 f) (corner_at z) (corner_sound z))
-
-alone_sound : (a : Side) (s text : Text) → IsSide a s → IfSome (cell_alone a text) (λ r. Placed (IsSpot r.0) (s ++ text) r.1)
+alone_sound : (a : Side) (s text : Text) → IsSide a s → Brings (λ r. Placed (IsSpot r.0) (s ++ text) r.1) (cell_alone a text)
 alone_sound (side.Cell mark) s text is =
-    if_cond (λ (r : Spot × Text). Placed (IsSpot r.0) (s ++ text) r.1) (stops goes_on_place text) (Some (spot.Cell mark, text)) None (λ ends. record { spelled = s; parts = refl; is = is; ends = ends }) (λ h. tt)
-alone_sound _ s text is = tt
+    brings_cond (stops goes_on_place text) _ _ (λ ends. brings (record { spelled = s; parts = refl; is = is; ends = ends })) (λ h. nothing)
+alone_sound _ s text is = nothing
 
-pub spot_sound : (text : Text) → IfSome (spot_at text) (λ r. Placed (IsSpot r.0) text r.1)
+pub spot_sound : (text : Text) → Brings (λ r. Placed (IsSpot r.0) text r.1) (spot_at text)
 unfolding spot_at
-spot_sound text =
-    if_then (λ (r : Spot × Text). Placed (IsSpot r.0) text r.1) behind_corner (corner_at text)
-    (if_more (λ p. IfSome (behind_corner p) (λ r. Placed (IsSpot r.0) text r.1)) (λ p. Front (IsSide p.0) text p.1)
-    (λ p f. subst (λ (x : Text). IfSome (behind_corner p) (λ r. Placed (IsSpot r.0) x r.1)) (sym f.parts)
-    (if_or (λ (r : Spot × Text). Placed (IsSpot r.0) (f.spelled ++ p.1) r.1) (ranged (range_behind p.0 p.1)) (cell_alone p.0 p.1)
-    (if_map (λ (r : Spot × Text). Placed (IsSpot r.0) (f.spelled ++ p.1) r.1) (λ r. (spot.Range r.0.0 r.0.1, r.1)) (range_behind p.0 p.1) (range_sound p.0 f.spelled p.1 f.is)) (alone_sound p.0 f.spelled p.1 f.is)))
-    (corner_at text) (corner_sound text))
+spot_sound text = brings_then _ _ (corner_sound text) (λ p f. rw f.parts
+    (brings_or _ _ _ (range_sound p.0 f.spelled p.1 f.is) (λ r g. g) (λ h. alone_sound p.0 f.spelled p.1 f.is)))
 
 span_read : (a b : Side) (x : Marks) (s rest : Text) → between a b ≡ Some x → IsSpan (IsSide a) (IsSide b) s → stops goes_on_place rest ≡ true → spot_at (s ++ rest) ≡ Some (spot.Range x.0 x.1, rest)
 unfolding spot_at range_behind
@@ -320,11 +288,7 @@ pub no_spot : spot_at [] ≡ None
 no_spot = no_start [] refl refl refl
 
 sign_no_spot : (c : ℕ) (text : Text) → is_sign c ≡ true → spot_at (c ∷ text) ≡ None
-sign_no_spot c text e =
-    let d : (c == 36) ≡ false = grind (arith, nat_tests) in
-    let l : is_letter c ≡ false = grind (arith, nat_tests) in
-    let n : is_digit c ≡ false = grind (arith, nat_tests) in
-    no_start (c ∷ text) (ap not d) (ap not l) (ap not n)
+sign_no_spot c text e = no_start (c ∷ text) (grind (arith, nat_tests)) (grind (arith, nat_tests)) (grind (arith, nat_tests))
 
 -- no place begins with a sign
 pub spot_starts : (q : ℕ → Bool) → ((c : ℕ) → q c ≡ true → is_sign c ≡ true) → (text : Text) (r : Spot × Text) → spot_at text ≡ Some r → stops q text ≡ true
@@ -335,7 +299,7 @@ spot_starts q h (c ∷ text) r e = not_from_false (q c) (false_from_ne_true (q c
 pub cell_no_digit : (mark : CellMark) (s rest : Text) → IsCell mark s → stops is_digit (s ++ rest) ≡ true
 cell_no_digit mark s rest is =
     ap (stops is_digit) (ap (λ (x : Text). x ++ rest) is.parts ∙ append_assoc is.first is.second rest)
-    ∙ line_stops column_of_name is_letter columns_named is_digit refl (λ c h. grind (arith, nat_tests)) (column_of mark) is.first (is.second ++ rest) is.is_first
+    ∙ line_stops column_of_name is_letter columns_named is_digit refl (λ c h. grind (arith, nat_tests)) mark.absolute_column mark.column is.first (is.second ++ rest) is.is_first
 
 -- ---- no place stands before a mark that follows a word
 
@@ -349,9 +313,10 @@ pair_unmarked First Second middle f g h s is =
 
 side_unmarked : (x : Side) (s : Text) → IsSide x s → Unmarked s
 side_unmarked (side.Cell mark) =
-    pair_unmarked (IsColumn mark) (IsRow mark) [] (line_unmarked column_of_name is_letter columns_named (column_of mark)) refl (line_unmarked row_of_name is_digit rows_named (row_of mark))
-side_unmarked (side.Column l) = line_unmarked column_of_name is_letter columns_named l
-side_unmarked (side.Row l) = line_unmarked row_of_name is_digit rows_named l
+    pair_unmarked (IsColumn mark) (IsRow mark) [] (line_unmarked column_of_name is_letter columns_named mark.absolute_column mark.column) refl
+    (line_unmarked row_of_name is_digit rows_named mark.absolute_row mark.row)
+side_unmarked (side.Column l) = line_unmarked column_of_name is_letter columns_named l.absolute l.number
+side_unmarked (side.Row l) = line_unmarked row_of_name is_digit rows_named l.absolute l.number
 
 span_unmarked : (a b : Side) (s : Text) → IsSpan (IsSide a) (IsSide b) s → Unmarked s
 span_unmarked a b = pair_unmarked (IsSide a) (IsSide b) (58 ∷ []) (side_unmarked a) refl (side_unmarked b)
@@ -375,8 +340,5 @@ unmarked_goes_on (c ∷ word) tail (d ∷ s) rest w n e ends =
     unmarked_goes_on word tail s rest (and_parts (goes_on_word c) (list_all goes_on_word word) w).1 (and_parts (no_mark d) (list_all no_mark s) n).1 (cc) ends
 
 pub word_no_spot : (word tail : Text) → list_all goes_on_word word ≡ true → spot_at (word ++ (33 ∷ tail)) ≡ None
-word_no_spot word tail w = go (spot_at (word ++ (33 ∷ tail))) (spot_sound (word ++ (33 ∷ tail)))
-  where
-    go : (o : Option (Spot × Text)) → IfSome o (λ r. Placed (IsSpot r.0) (word ++ (33 ∷ tail)) r.1) → o ≡ None
-    go None f = refl
-    go (Some r) f = absurd (unmarked_goes_on word tail f.spelled r.1 w (spot_unmarked r.0 f.spelled f.is) f.parts f.ends)
+word_no_spot word tail w = brings_none _ (spot_sound (word ++ (33 ∷ tail))) (λ r f.
+    unmarked_goes_on word tail f.spelled r.1 w (spot_unmarked r.0 f.spelled f.is) f.parts f.ends)

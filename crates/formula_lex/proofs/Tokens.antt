@@ -2,8 +2,8 @@
 use Rattle.std.proofs.Common.{◌≡◌, ◌≢◌, ℕ, ◌<◌, true, false, [], ◌∷◌, ◌++◌, length, Option, Some, None, refl, sym, ap, subst, ◌∙◌, append_assoc, arith, Bool, cond, zero, suc, ◌+◌, ◌⊎◌, inl, inr, List, length-append, append-nil, option_map}
 use Rattle.std.specs.Prelude.{not, ◌==◌, ◌||◌, encode_utf8_all, IfSome, MatchOption}
 use Rattle.std.specs.List.{list_all}
-use Rattle.std.specs.Option.{option_or, option_map, option_and_then}
-use Rattle.std.proofs.lemmas.Bool.{and_parts, or_parts, both_ways, and_from, or_from, eqb-true, or_cases, false_from_ne_true}
+use Rattle.std.specs.Option.{option_or, option_map}
+use Rattle.std.proofs.lemmas.Bool.{and_parts, both_ways, and_from, eqb-true, or_cases, false_from_ne_true}
 use Rattle.std.proofs.lemmas.Str.{length-le-encodes}
 use Rattle.std.proofs.lemmas.Bool.Decides.{nat_tests}
 use Rattle.std.proofs.UnicodeAscii.{is_alphabetic_ascii}
@@ -14,20 +14,18 @@ use Rattle.base_tables.specs.Error.{error_of_text}
 use Rattle.base_tables.specs.Word.{is_digit, is_word, starts_word, goes_on_word, reads_as_cell, begins_word}
 use Rattle.base_decimal.specs.declared.Decimal.{Decimal}
 use Rattle.base_decimal.specs.Digits.{stops, span}
-use Rattle.base_decimal.proofs.Spans.{span_at, stops_sooner, not_true, span_parts, span_all, span_stops}
+use Rattle.base_decimal.proofs.Spans.{span_at, not_true, span_parts, span_all, span_stops}
 use Rattle.formula_grammar.specs.declared.CellMark.{CellMark}
 use Rattle.formula_grammar.specs.declared.Token.{Token}
 use Rattle.formula_grammar.specs.declared.Token.TheVariants as t
 use Rattle.formula_lex.specs.declared.place.Spot.{Spot}
-use Rattle.formula_lex.specs.Characters.{Text, is_blank, goes_on_place, goes_on_name, doubled}
-use Rattle.formula_lex.specs.Lexicon.{IsCell, IsRange, IsSheetName, plain, quoted, IsSheet, OnSheet, IsNumber, Spells, NoRange, NoError, Ends, NoCell, IsPair, IsTokens}
-use Rattle.formula_lex.specs.laws.Lex.{past, is_sign, on_sheet, behind_word, word_at, behind_quotes, quoted_text, quoted_sheet_at, text_at, plain_at, error_or_hash, error_at, behind_less, behind_greater, by_sign, place_token, place_at, spot_at, range_behind, token_at, number_at, if_next, single, some_text, behind_blanks, with_token, tokens_from, tokens_of}
-use Rattle.formula_lex.proofs.Places.{start_is, Marks, ranged, IsSpot, Placed, range_sound, spot_sound, range_read, cell_read, spot_starts, no_spot, cell_no_digit, word_no_spot}
-use Rattle.formula_lex.proofs.Reading.{past_none, Front, past_is, if_at, if_over, if_map, if_cond, if_more}
-use Rattle.formula_lex.proofs.Words.{error_sound, error_read, error_none, number_read, FrontNumber, number_sound, quoted_read, Closes, quoted_sound}
+use Rattle.formula_lex.specs.Characters.{Text, is_blank, goes_on_place, doubled}
+use Rattle.formula_lex.specs.Lexicon.{IsCell, IsRange, IsSheetName, plain, quoted, IsSheet, OnSheet, IsNumber, Spells, NoRange, NoError, Ends, NoCell, IsPair, Begins, IsTokens}
+use Rattle.formula_lex.specs.laws.Lex.{past, is_sign, on_sheet, behind_word, word_at, behind_quotes, quoted_text, quoted_sheet_at, text_at, plain_at, error_or_hash, error_at, behind_less, behind_greater, by_sign, place_token, place_at, spot_at, token_at, if_next, single, some_text, behind_blanks, with_token, tokens_from, tokens_of}
+use Rattle.formula_lex.proofs.Places.{start_is, IsSpot, Placed, range_sound, spot_sound, range_read, cell_read, spot_starts, no_spot, cell_no_digit, word_no_spot}
+use Rattle.formula_lex.proofs.Reading.{Front, Brings, nothing, brings, brings_at, brings_none, brings_each, brings_over, brings_map, brings_then, brings_or, brings_cond, past_none, past_sound, past_stops, error_sound, error_read, error_none, number_read, number_sound, quoted_read, quoted_text_sound}
 use Rattle.formula_lex.specs.declared.place.Side.TheVariants as side
 use Rattle.formula_lex.specs.declared.place.Spot.TheVariants as spot
-use Rattle.formula_lex.specs.laws.Lex as lex
 
 -- ---- a token that is spelled is read
 
@@ -41,19 +39,22 @@ none_on Is s is = subst Is (sym (is.parts ∙ ap (λ (x : Text). x ++ is.second)
 
 -- a cell is read where no range is spelled
 cell_spot : (mark : CellMark) (s rest : Text) → IsCell mark s → stops goes_on_place rest ≡ true → NoRange None (s ++ rest) → spot_at (s ++ rest) ≡ Some (spot.Cell mark, rest)
-cell_spot mark s rest is ends never = cell_read mark s rest is ends ∙ go (range_behind (side.Cell mark) rest) (range_sound (side.Cell mark) s rest is)
-  where
-    go : (o : Option (Marks × Text)) → IfSome o (λ r. Placed (IsRange r.0.0 r.0.1) (s ++ rest) r.1) → option_or (ranged o) (Some (spot.Cell mark, rest)) ≡ Some (spot.Cell mark, rest)
-    go None f = refl
-    go (Some r) f = absurd (never r.0.0 r.0.1 f.spelled r.1 f.parts (on_none (IsRange r.0.0 r.0.1) f.spelled f.is) f.ends)
+cell_spot mark s rest is ends never = cell_read mark s rest is ends ∙ rw (brings_none _ (range_sound (side.Cell mark) s rest is)
+    (λ r f. never r.0.0 r.0.1 f.spelled r.1 f.parts (on_none (IsRange r.0.0 r.0.1) f.spelled f.is) f.ends))
 
 no_spot_read : (text : Text) → ((mark : CellMark) (rest : Text) → Placed (IsCell mark) text rest → ⊥) → NoRange None text → spot_at text ≡ None
-no_spot_read text no_cell no_range = go (spot_at text) (spot_sound text)
+no_spot_read text no_cell no_range = brings_none _ (spot_sound text) go
   where
-    go : (o : Option (Spot × Text)) → IfSome o (λ r. Placed (IsSpot r.0) text r.1) → o ≡ None
-    go None f = refl
-    go (Some (spot.Cell mark, rest)) f = absurd (no_cell mark rest f)
-    go (Some (spot.Range a b, rest)) f = absurd (no_range a b f.spelled rest f.parts (on_none (IsRange a b) f.spelled f.is) f.ends)
+    go : (r : Spot × Text) → Placed (IsSpot r.0) text r.1 → ⊥
+    go (spot.Cell mark, rest) f = no_cell mark rest f
+    go (spot.Range a b, rest) f = no_range a b f.spelled rest f.parts (on_none (IsRange a b) f.spelled f.is) f.ends
+
+-- a text is free of two kinds of characters at its front just where it is free of each
+stops_either : (p q : ℕ → Bool) (text : Text) → stops p text ≡ true → stops q text ≡ true → stops (λ c. p c || q c) text ≡ true
+stops_either p q text e f = grind arith
+
+stops_both : (p q : ℕ → Bool) (text : Text) → stops (λ c. p c || q c) text ≡ true → (stops p text ≡ true) × (stops q text ≡ true)
+stops_both p q text e = grind arith
 
 -- ---- sheets
 
@@ -62,8 +63,7 @@ behind_name [] rest some = absurd (some refl)
 behind_name (c ∷ name) rest some = go (encode_utf8_all (c ∷ name)) (omega (arith, length-le-encodes (c ∷ name)))
   where
     go : (sheet : Text) → 0 < length sheet → behind_quotes (sheet, rest) ≡ on_sheet sheet rest
-    go [] h = absurd (omega arith)
-    go (d ∷ sheet) h = refl
+    go sheet h = grind arith
 
 module _ (locale : Locale) (language : Language) where
   abbrev token : Text → Option (Token × Text)
@@ -91,13 +91,11 @@ module _ (locale : Locale) (language : Language) where
       let mark : goes_on_word 33 ≡ false = let is = is_alphabetic_ascii 33 (omega arith) in grind (arith, nat_tests, is) in
       by_word c (name ++ (33 ∷ tail)) k.0 (word_no_spot (c ∷ name) tail k.1) ∙ ap behind_word (span_at goes_on_word (c ∷ name) (33 ∷ tail) k.1 (ap not mark)) ∙ rw no_cell
 
-  quoted_sheet : (name tail : Text) → name ≢ [] → token (39 ∷ (doubled 39 name ++ (39 ∷ (33 ∷ tail)))) ≡ on_sheet (encode_utf8_all name) (33 ∷ tail)
-  unfolding token_at by_sign quoted_sheet_at quoted_text
-  quoted_sheet name tail some = rw (quoted_read 39 name (33 ∷ tail) refl) (behind_name name (33 ∷ tail) some)
-
   sheet_read : (sheet name tail : Text) → IsSheetName sheet name → token (name ++ (33 ∷ tail)) ≡ on_sheet sheet (33 ∷ tail)
+  unfolding token_at by_sign quoted_sheet_at quoted_text
   sheet_read sheet name tail (plain word no_cell is) = rw is (word_sheet name tail word no_cell)
-  sheet_read sheet name tail (quoted inside spelled some is) = rw (spelled, append_assoc (doubled 39 inside) (39 ∷ []) (33 ∷ tail), is) (quoted_sheet inside tail some)
+  sheet_read sheet name tail (quoted inside spelled some is) =
+      rw (spelled, append_assoc (doubled 39 inside) (39 ∷ []) (33 ∷ tail), is, quoted_read 39 inside (33 ∷ tail) refl) (behind_name inside (33 ∷ tail) some)
 
   -- what stands on a sheet, or on none
   placed_read : (sheet : Option Text) (first place : Text) (x : Spot) (rest : Text) → IsSheet sheet first → spot_at place ≡ Some (x, rest) → token (first ++ place) ≡ Some (place_token sheet x, rest)
@@ -132,8 +130,8 @@ module _ (locale : Locale) (language : Language) where
   word_token (c ∷ s) rest word ends =
       let k = and_parts (starts_word c) (list_all goes_on_word (c ∷ s)) word in
       let none = no_spot_read (c ∷ s ++ rest) (λ mark more f. ends.1 mark f.spelled more f.parts (on_none (IsCell mark) f.spelled f.is) f.ends) ends.2 in
-      by_word c (s ++ rest) k.0 none ∙ ap behind_word (span_at goes_on_word (c ∷ s) rest k.1 (stops_sooner goes_on_word goes_on_name (λ d h. (or_parts (goes_on_word d) (d == 33) h).0) rest ends.0))
-      ∙ rw (stops_sooner (λ d. d == 33) goes_on_name (λ d h. (or_parts (goes_on_word d) (d == 33) h).1) rest ends.0)
+      let ends_so = stops_both goes_on_word (λ d. d == 33) rest ends.0 in
+      by_word c (s ++ rest) k.0 none ∙ ap behind_word (span_at goes_on_word (c ∷ s) rest k.1 ends_so.0) ∙ rw ends_so.1
 
   number_token : (number : Decimal) (s rest : Text) → IsNumber locale number s → Ends locale language (t.Number number) s rest → token (s ++ rest) ≡ Some (t.Number number, rest)
   number_token number [] rest is ends = let h = is.starts in absurd cc
@@ -142,51 +140,33 @@ module _ (locale : Locale) (language : Language) where
       let none = no_spot_read (c ∷ s ++ rest) (λ mark more f. (let h : not (is_digit c) ≡ true = ap (stops is_digit) f.parts ∙ cell_no_digit mark f.spelled more f.is in both_ways (is_digit c) (not_true (is_digit c) h) digit)) ends.1 in
       by_plain c (s ++ rest) (grind (arith, nat_tests, digit)) none ∙ rw digit (number_read locale number (c ∷ s) rest is ends.0)
 
-  text_token : (inside rest : Text) → stops (λ c. c == 34) rest ≡ true → token (34 ∷ (doubled 34 inside ++ (34 ∷ rest))) ≡ Some (t.Text (encode_utf8_all inside), rest)
-  unfolding token_at by_sign text_at quoted_text
-  text_token inside rest ends = rw (quoted_read 34 inside rest ends)
-
   hash_at : (text z : Text) → text ≡ 35 ∷ z → token text ≡ error_or_hash z (error_at language text)
   unfolding token_at by_sign
   hash_at text z e = rw e
 
   error_token : (error : Error) (s rest : Text) → error_of_text language (encode_utf8_all s) ≡ Some error → token (s ++ rest) ≡ Some (t.Error error, rest)
-  error_token error s rest is = go (past 35 (s ++ rest)) refl (past_is 35 (s ++ rest))
+  error_token error s rest is = go (past 35 (s ++ rest)) refl (past_sound 35 (s ++ rest))
     where
-      read : error_at language (s ++ rest) ≡ Some (error, rest)
-      read = error_read language s error rest is
-
-      go : (o : Option Text) → past 35 (s ++ rest) ≡ o → MatchOption o (stops (λ c. c == 35) (s ++ rest) ≡ true) (λ z. s ++ rest ≡ 35 ∷ z) → token (s ++ rest) ≡ Some (t.Error error, rest)
-      go None h f = absurd (let x = sym (error_none language (s ++ rest) h) ∙ read in cc)
-      go (Some z) h f = hash_at (s ++ rest) z f ∙ ap (error_or_hash z) read
+      go : (o : Option Text) → past 35 (s ++ rest) ≡ o → Brings (λ z. s ++ rest ≡ 35 ∷ z) o → token (s ++ rest) ≡ Some (t.Error error, rest)
+      go None h f = absurd (let x = sym (error_none language (s ++ rest) h) ∙ error_read language s error rest is in cc)
+      go (Some z) h f = hash_at (s ++ rest) z f.read ∙ ap (error_or_hash z) (error_read language s error rest is)
 
   hash_token : (rest : Text) → NoError language (35 ∷ rest) → token (35 ∷ rest) ≡ Some (t.Hash, rest)
-  hash_token rest never = hash_at (35 ∷ rest) rest refl ∙ ap (error_or_hash rest) (go (error_at language (35 ∷ rest)) (error_sound language (35 ∷ rest)))
+  hash_token rest never = hash_at (35 ∷ rest) rest refl ∙ rw (brings_none _ (error_sound language (35 ∷ rest)) (λ r f. never r.0 f.spelled r.1 f.parts f.is (stops_none r.1)))
     where
       stops_none : (text : Text) → stops (λ c. false) text ≡ true
-      stops_none [] = refl
-      stops_none (c ∷ text) = refl
-
-      go : (o : Option (Error × Text)) → IfSome o (λ r. Front (λ s. error_of_text language (encode_utf8_all s) ≡ Some r.0) (35 ∷ rest) r.1) → o ≡ None
-      go None f = refl
-      go (Some r) f = absurd (never r.0 f.spelled r.1 f.parts f.is (stops_none r.1))
-
-  less_read : (rest : Text) → stops (λ c. c == 61 || c == 62) rest ≡ true → behind_less rest ≡ Some (t.Less, rest)
-  less_read rest e =
-      rw (
-        past_none 62 rest (stops_sooner (λ c. c == 62) (λ c. c == 61 || c == 62) (λ c h. (or_parts (c == 61) (c == 62) h).1) rest e),
-        past_none 61 rest (stops_sooner (λ c. c == 61) (λ c. c == 61 || c == 62) (λ c h. (or_parts (c == 61) (c == 62) h).0) rest e),
-      )
+      stops_none text = grind arith
 
   pub token_read : (x : Token) (s rest : Text) → Spells locale language x s → Ends locale language x s rest → token (s ++ rest) ≡ Some (x, rest)
-  unfolding token_at by_sign
+  unfolding token_at by_sign text_at quoted_text
   token_read (t.Number number) s rest is ends = number_token number s rest is ends
-  token_read (t.Text text) s rest is ends = rw (is.1, append_assoc (doubled 34 is.0) (34 ∷ []) rest, is.2) (text_token is.0 rest ends)
+  token_read (t.Text text) s rest is ends = rw (is.1, append_assoc (doubled 34 is.0) (34 ∷ []) rest, is.2, quoted_read 34 is.0 rest ends)
   token_read (t.Error error) s rest is ends = error_token error s rest is
   token_read (t.Word word) s rest is ends = subst (λ (y : Text). Ends locale language (t.Word y) s rest → token (s ++ rest) ≡ Some (t.Word y, rest)) (sym is.1) (word_token s rest is.0) ends
   token_read (t.Reference sheet mark) s rest is ends = cell_token sheet mark s rest is ends
   token_read (t.Range sheet a b) s rest is ends = range_token sheet a b s rest is ends
-  token_read t.Less s rest is ends = ap (λ (y : Text). token (y ++ rest)) is ∙ less_read rest ends
+  token_read t.Less s rest is ends =
+      let k = stops_both (λ c. c == 61) (λ c. c == 62) rest ends in ap (λ (y : Text). token (y ++ rest)) is ∙ rw (past_none 62 rest k.1, past_none 61 rest k.0)
   token_read t.Greater s rest is ends = ap (λ (y : Text). token (y ++ rest)) is ∙ rw (past_none 61 rest ends)
   token_read t.Hash s rest is ends = ap (λ (y : Text). token (y ++ rest)) is ∙ hash_token rest (subst (λ (y : Text). NoError language (y ++ rest)) is ends)
   token_read _ s rest is ends = ap (λ (y : Text). token (y ++ rest)) is
@@ -198,22 +178,12 @@ module _ (locale : Locale) (language : Language) where
 pub no_range_spelled : (text : Text) → spot_at text ≡ None → NoRange None text
 no_range_spelled text e a b s rest parts is ends = let f = sym (range_read a b s rest (none_on (IsRange a b) s is) ends) ∙ ap spot_at (sym parts) ∙ e in absurd cc
 
+no_error_spelled : (language : Language) (text : Text) → error_at language text ≡ None → NoError language text
+no_error_spelled language text h error s rest parts is ends = let g = sym (error_read language s error rest is) ∙ ap (error_at language) (sym parts) ∙ h in absurd cc
+
 pub no_cell_spelled : (text : Text) → spot_at text ≡ None → NoCell None text
-no_cell_spelled text e mark s rest parts is ends = go _ (sym (cell_read mark s rest (none_on (IsCell mark) s is) ends) ∙ ap spot_at (sym parts) ∙ e)
-  where
-    go : (o : Option (Spot × Text)) → option_or o (Some (spot.Cell mark, rest)) ≡ None → ⊥
-    go None f = absurd cc
-    go (Some r) f = absurd cc
-
-apart : (sheet : Option Text) (a b mark : CellMark) (more rest : Text) → ◌≡◌ {A = Option (Token × Text)} (Some (t.Range sheet a b, more)) (Some (t.Reference sheet mark, rest)) → ⊥
-apart sheet a b mark more rest e =
-    let p : ◌≡◌ {A = Token × Text} (t.Range sheet a b, more) (t.Reference sheet mark, rest) = cc in
-    let x : t.Range sheet a b ≡ t.Reference sheet mark = ap (λ (q : Token × Text). q.0) p in
-    absurd cc
-
-stops_either : (p q : ℕ → Bool) (text : Text) → stops p text ≡ true → stops q text ≡ true → stops (λ c. p c || q c) text ≡ true
-stops_either p q [] e f = refl
-stops_either p q (c ∷ text) e f = ap not (or_from (p c) (q c) (not_true (p c) e) (not_true (q c) f))
+no_cell_spelled text e mark s rest parts is ends =
+    let h = sym (cell_read mark s rest (none_on (IsCell mark) s is) ends) ∙ ap spot_at (sym parts) ∙ e in grind arith
 
 abbrev span_by : ℕ → Text → Text × Text → Bool → Text × Text
 span_by c z s passes = cond passes (c ∷ s.0, s.1) ([], c ∷ z)
@@ -237,147 +207,131 @@ module _ (locale : Locale) (language : Language) where
 
   -- ---- places
 
-  place_sound : (sheet : Option Text) (text first place : Text) → text ≡ first ++ place → IsSheet sheet first → IfSome (place_at sheet place) (Sound text)
-  place_sound sheet text first place parts is = if_over (Sound text) (λ r. (place_token sheet r.0, r.1)) (λ r. Placed (IsSpot r.0) place r.1) go (spot_at place) (spot_sound place)
+  place_sound : (sheet : Option Text) (text first place : Text) → text ≡ first ++ place → IsSheet sheet first → Brings (Sound text) (place_at sheet place)
+  place_sound sheet text first place parts is = brings_map _ _ (spot_sound place) go
     where
       whole : (s rest : Text) → place ≡ s ++ rest → text ≡ (first ++ s) ++ rest
       whole s rest e = rw (parts, e, append_assoc first s rest)
 
+      on_it : (Is : Text → Type 0) (s : Text) → Is s → OnSheet sheet Is (first ++ s)
+      on_it Is s at = record { first = first; second = s; parts = refl; is_first = is; is_second = at }
+
       go : (r : Spot × Text) → Placed (IsSpot r.0) place r.1 → Sound text (place_token sheet r.0, r.1)
       go (spot.Range a b, rest) f e =
-          record { spelled = first ++ f.spelled; parts = whole f.spelled rest f.parts; spells = record { first = first; second = f.spelled; parts = refl; is_first = is; is_second = f.is }; ends = f.ends }
+          record { spelled = first ++ f.spelled; parts = whole f.spelled rest f.parts; spells = on_it (IsRange a b) f.spelled f.is; ends = f.ends }
       go (spot.Cell mark, rest) f e =
-          let never : NoRange sheet ((first ++ f.spelled) ++ rest) = λ a b z more there at ends. apart sheet a b mark more rest (sym (range_token locale language sheet a b z more at ends) ∙ ap (token_at locale language) (sym (whole f.spelled rest f.parts ∙ there)) ∙ e) in
-          record { spelled = first ++ f.spelled; parts = whole f.spelled rest f.parts; spells = record { first = first; second = f.spelled; parts = refl; is_first = is; is_second = f.is }; ends = (f.ends, never) }
+          let never : NoRange sheet ((first ++ f.spelled) ++ rest) = λ a b z more there at ends.
+          (let here = ap (token_at locale language) (sym (whole f.spelled rest f.parts ∙ there)) in
+          let h = ap (option_map (λ (q : Token × Text). q.0)) (sym (range_token locale language sheet a b z more at ends) ∙ here ∙ e) in absurd cc) in
+          record { spelled = first ++ f.spelled; parts = whole f.spelled rest f.parts; spells = on_it (IsCell mark) f.spelled f.is; ends = (f.ends, never) }
 
-  on_sheet_sound : (text sheet name behind : Text) → text ≡ name ++ behind → IsSheetName sheet name → IfSome (on_sheet sheet behind) (Sound text)
-  on_sheet_sound text sheet name behind parts named = go (past 33 behind) (past_is 33 behind)
-    where
-      go : (o : Option Text) → MatchOption o (stops (λ c. c == 33) behind ≡ true) (λ z. behind ≡ 33 ∷ z) → IfSome (option_and_then (λ place. place_at (Some sheet) (span is_blank place).1) o) (Sound text)
-      go None e = tt
-      go (Some z) e =
-          let s = span is_blank z in
-          place_sound (Some sheet) text (name ++ (33 ∷ s.0)) s.1 (rw (parts, e, append_assoc name (33 ∷ s.0) s.1) (ap (λ (y : Text). name ++ (33 ∷ y)) (span_parts is_blank z)))
-          (record { first = name; second = 33 ∷ s.0; parts = refl; is_first = named; is_second = record { blanks = s.0; parts = refl; all_blank = span_all is_blank z } })
+  on_sheet_sound : (text sheet name behind : Text) → text ≡ name ++ behind → IsSheetName sheet name → Brings (Sound text) (on_sheet sheet behind)
+  on_sheet_sound text sheet name behind parts named = brings_then _ _ (past_sound 33 behind) (λ z e.
+      (let s = span is_blank z in
+      place_sound (Some sheet) text (name ++ (33 ∷ s.0)) s.1 (rw (parts, e, append_assoc name (33 ∷ s.0) s.1) (ap (λ (y : Text). name ++ (33 ∷ y)) (span_parts is_blank z)))
+      (record { first = name; second = 33 ∷ s.0; parts = refl; is_first = named; is_second = record { blanks = s.0; parts = refl; all_blank = span_all is_blank z } })))
 
   -- ---- words, numbers and texts
 
-  word_sound : (c : ℕ) (text : Text) → starts_word c ≡ true → spot_at (c ∷ text) ≡ None → IfSome (word_at (c ∷ text)) (Sound (c ∷ text))
+  word_sound : (c : ℕ) (text : Text) → starts_word c ≡ true → spot_at (c ∷ text) ≡ None → Brings (Sound (c ∷ text)) (word_at (c ∷ text))
   unfolding word_at
   word_sound c text start none =
       let s = span goes_on_word (c ∷ text) in
       let parts : c ∷ text ≡ s.0 ++ s.1 = span_parts goes_on_word (c ∷ text) in
-      if_cond (Sound (c ∷ text)) (stops (λ d. d == 33) s.1) (Some (t.Word (encode_utf8_all s.0), s.1)) (cond (reads_as_cell s.0) None (on_sheet (encode_utf8_all s.0) s.1))
-      (λ h e. record {
+      brings_cond (stops (λ d. d == 33) s.1) _ _
+      (λ h. brings (λ e. record {
         spelled = s.0;
         parts = parts;
         spells = (word_front c text start, refl);
         ends = (stops_either goes_on_word (λ d. d == 33) s.1 (span_stops goes_on_word (c ∷ text)) h, subst (NoCell None) parts (no_cell_spelled (c ∷ text) none), subst (NoRange None) parts (no_range_spelled (c ∷ text) none));
-      })
-      (λ h. if_cond (Sound (c ∷ text)) (reads_as_cell s.0) None (on_sheet (encode_utf8_all s.0) s.1) (λ k. tt)
+      }))
+      (λ h. brings_cond (reads_as_cell s.0) _ _ (λ k. nothing)
       (λ k. on_sheet_sound (c ∷ text) (encode_utf8_all s.0) s.0 s.1 parts (plain (word_front c text start) k refl)))
 
-  plain_sound : (c : ℕ) (text : Text) → spot_at (c ∷ text) ≡ None → IfSome (plain_at locale c (c ∷ text)) (Sound (c ∷ text))
-  plain_sound c text none =
-      if_cond (Sound (c ∷ text)) (is_digit c) (number_at locale (c ∷ text)) (cond (starts_word c) (word_at (c ∷ text)) None)
-      (λ digit. if_more (Sound (c ∷ text)) (FrontNumber locale (c ∷ text))
-      (λ r f e. subst (λ (x : Token). FrontToken (c ∷ text) x r.1) (sym f.1) (record { spelled = f.2.spelled; parts = f.2.parts; spells = f.2.is; ends = (f.3, subst (NoRange None) f.2.parts (no_range_spelled (c ∷ text) none)) }))
-      (number_at locale (c ∷ text)) (number_sound locale c text digit))
-      (λ h. if_cond (Sound (c ∷ text)) (starts_word c) (word_at (c ∷ text)) None (λ start. word_sound c text start none) (λ k. tt))
+  plain_sound : (c : ℕ) (text : Text) → spot_at (c ∷ text) ≡ None → Brings (Sound (c ∷ text)) (plain_at locale c (c ∷ text))
+  plain_sound c text none = brings_cond (is_digit c) _ _
+      (λ digit. brings_over _ (number_sound locale c text digit) (λ r f e. rw f.1 (record {
+        spelled = f.2.spelled;
+        parts = f.2.parts;
+        spells = f.2.is;
+        ends = (f.3, subst (NoRange None) f.2.parts (no_range_spelled (c ∷ text) none));
+      })))
+      (λ h. brings_cond (starts_word c) _ _ (λ start. word_sound c text start none) (λ k. nothing))
 
-  text_sound : (text : Text) → IfSome (text_at text) (Sound (34 ∷ text))
-  unfolding text_at quoted_text
-  text_sound text = go (lex.quoted 34 false text) (quoted_sound 34 false text)
-    where
-      go : (o : Option (Text × Text)) → IfSome o (λ r. Closes 34 false text r.0 r.1) → IfSome (option_map (λ (p : Text × Text). (t.Text p.0, p.1)) (option_map (λ (p : Text × Text). (encode_utf8_all p.0, p.1)) o)) (Sound (34 ∷ text))
-      go None f = tt
-      go (Some r) f = λ e. record { spelled = 34 ∷ doubled 34 r.0 ++ 34 ∷ []; parts = rw (f.parts, append_assoc (doubled 34 r.0) (34 ∷ []) r.1); spells = (r.0, refl, refl); ends = f.ends }
+  text_sound : (text : Text) → Brings (Sound (34 ∷ text)) (text_at text)
+  unfolding text_at
+  text_sound text = brings_map _ _ (quoted_text_sound 34 text) (λ r f e. record {
+    spelled = 34 ∷ doubled 34 f.0 ++ 34 ∷ [];
+    parts = rw (f.2.parts, append_assoc (doubled 34 f.0) (34 ∷ []) r.1);
+    spells = (f.0, refl, f.1);
+    ends = f.2.ends;
+  })
 
-  quoted_sheet_sound : (text : Text) → IfSome (quoted_sheet_at text) (Sound (39 ∷ text))
-  unfolding quoted_sheet_at quoted_text
-  quoted_sheet_sound text = go (lex.quoted 39 false text) (quoted_sound 39 false text)
+  quoted_sheet_sound : (text : Text) → Brings (Sound (39 ∷ text)) (quoted_sheet_at text)
+  unfolding quoted_sheet_at
+  quoted_sheet_sound text = brings_then _ _ (quoted_text_sound 39 text)
+      (λ r f. subst (λ (sheet : Text). Brings (Sound (39 ∷ text)) (behind_quotes (sheet, r.1))) (sym f.1) (named f.0 r.1 f.2.parts))
     where
-      named : (name rest : Text) → text ≡ doubled 39 name ++ (39 ∷ rest) → IfSome (behind_quotes (encode_utf8_all name, rest)) (Sound (39 ∷ text))
-      named [] rest parts = tt
+      named : (name rest : Text) → text ≡ doubled 39 name ++ (39 ∷ rest) → Brings (Sound (39 ∷ text)) (behind_quotes (encode_utf8_all name, rest))
+      named [] rest parts = nothing
       named (d ∷ name) rest parts =
           let some : (let q : Text = d ∷ name in q) ≢ [] = λ g. absurd cc in
-          subst (λ o. IfSome o (Sound (39 ∷ text))) (sym (behind_name (d ∷ name) rest some))
-          (on_sheet_sound (39 ∷ text) (encode_utf8_all (d ∷ name)) (39 ∷ doubled 39 (d ∷ name) ++ 39 ∷ []) rest
+          rw (behind_name (d ∷ name) rest some) (on_sheet_sound (39 ∷ text) (encode_utf8_all (d ∷ name)) (39 ∷ doubled 39 (d ∷ name) ++ 39 ∷ []) rest
           (rw (parts, append_assoc (doubled 39 (d ∷ name)) (39 ∷ []) rest)) (quoted (d ∷ name) refl some refl))
-
-      go : (o : Option (Text × Text)) → IfSome o (λ r. Closes 39 false text r.0 r.1) → IfSome (option_and_then behind_quotes (option_map (λ (p : Text × Text). (encode_utf8_all p.0, p.1)) o)) (Sound (39 ∷ text))
-      go None f = tt
-      go (Some r) f = named r.0 r.1 f.parts
 
   -- ---- signs
 
-  hash_sound : (text : Text) → IfSome (error_or_hash text (error_at language (35 ∷ text))) (Sound (35 ∷ text))
+  hash_sound : (text : Text) → Brings (Sound (35 ∷ text)) (error_or_hash text (error_at language (35 ∷ text)))
   hash_sound text = go (error_at language (35 ∷ text)) refl (error_sound language (35 ∷ text))
     where
-      go : (o : Option (Error × Text)) → error_at language (35 ∷ text) ≡ o → IfSome o (λ r. Front (λ s. error_of_text language (encode_utf8_all s) ≡ Some r.0) (35 ∷ text) r.1)
-          → IfSome (error_or_hash text o) (Sound (35 ∷ text))
-      go (Some r) h f = λ e. record { spelled = f.spelled; parts = f.parts; spells = f.is; ends = tt }
-      go None h f = λ e.
-          record { spelled = 35 ∷ []; parts = refl; spells = refl; ends = λ error s more parts is ends. let g = sym (error_read language s error more is) ∙ ap (error_at language) (sym parts) ∙ h in absurd cc }
+      go : (o : Option (Error × Text)) → error_at language (35 ∷ text) ≡ o → Brings (λ r. Front (λ s. error_of_text language (encode_utf8_all s) ≡ Some r.0) (35 ∷ text) r.1) o
+          → Brings (Sound (35 ∷ text)) (error_or_hash text o)
+      go (Some r) h f = brings (λ e. record { spelled = f.read.spelled; parts = f.read.parts; spells = f.read.is; ends = tt })
+      go None h f = brings (λ e. record { spelled = 35 ∷ []; parts = refl; spells = refl; ends = no_error_spelled language (35 ∷ text) h })
 
   -- a character that may stand behind a sign
   next_sound : (c mark : ℕ) (x : Token) (other : Option (Token × Text)) (text : Text) → Spells locale language x (c ∷ mark ∷ []) → ((rest : Text) → Ends locale language x (c ∷ mark ∷ []) rest)
-      → (stops (λ d. d == mark) text ≡ true → IfSome other (Sound (c ∷ text))) → IfSome (if_next mark x other text) (Sound (c ∷ text))
-  next_sound c mark x other text spells ends more = go (past mark text) (past_is mark text)
-    where
-      go : (o : Option Text) → MatchOption o (stops (λ d. d == mark) text ≡ true) (λ z. text ≡ mark ∷ z) → IfSome (option_or (option_map (λ rest. (x, rest)) o) other) (Sound (c ∷ text))
-      go None h = more h
-      go (Some z) h = λ e. record { spelled = c ∷ mark ∷ []; parts = ap (λ (y : Text). c ∷ y) h; spells = spells; ends = ends z }
+      → (stops (λ d. d == mark) text ≡ true → Brings (Sound (c ∷ text)) other) → Brings (Sound (c ∷ text)) (if_next mark x other text)
+  next_sound c mark x other text spells ends more = brings_or _ _ _ (past_sound mark text)
+      (λ z h e. record { spelled = c ∷ mark ∷ []; parts = rw h; spells = spells; ends = ends z }) (λ none. more (past_stops mark text none))
 
-  less_sound : (text : Text) → IfSome (behind_less text) (Sound (60 ∷ text))
+  less_sound : (text : Text) → Brings (Sound (60 ∷ text)) (behind_less text)
   less_sound text = next_sound 60 62 t.NotEqual _ text refl (λ rest. tt) (λ h. next_sound 60 61 t.LessOrEqual (Some (t.Less, text)) text refl (λ rest. tt)
-      (λ k e. record { spelled = 60 ∷ []; parts = refl; spells = refl; ends = stops_either (λ c. c == 61) (λ c. c == 62) text k h }))
+      (λ k. brings (λ e. record { spelled = 60 ∷ []; parts = refl; spells = refl; ends = stops_either (λ c. c == 61) (λ c. c == 62) text k h })))
 
-  greater_sound : (text : Text) → IfSome (behind_greater text) (Sound (62 ∷ text))
-  greater_sound text = next_sound 62 61 t.GreaterOrEqual (Some (t.Greater, text)) text refl (λ rest. tt) (λ k e. record { spelled = 62 ∷ []; parts = refl; spells = refl; ends = k })
+  greater_sound : (text : Text) → Brings (Sound (62 ∷ text)) (behind_greater text)
+  greater_sound text = next_sound 62 61 t.GreaterOrEqual (Some (t.Greater, text)) text refl (λ rest. tt)
+      (λ k. brings (λ e. record { spelled = 62 ∷ []; parts = refl; spells = refl; ends = k }))
 
-  -- the character that is tested, or the rest of the chain
-  tested : (c : ℕ) (text : Text) (code : ℕ) (x : Token) (more : Option Token) → Spells locale language x (code ∷ []) → Ends locale language x (code ∷ []) text
-      → IfSome more (λ y. Sound (c ∷ text) (y, text)) → IfSome (cond (c == code) (Some x) more) (λ y. Sound (c ∷ text) (y, text))
-  tested c text code x more spells ends otherwise = if_cond (λ y. Sound (c ∷ text) (y, text)) (c == code) (Some x) more
-      (λ h e. record { spelled = code ∷ []; parts = ap (λ (d : ℕ). d ∷ text) (eqb-true c code h); spells = spells; ends = ends }) (λ h. otherwise)
+  single_is : (c : ℕ) → IfSome (single c) (λ x. (text : Text) → Spells locale language x (c ∷ []) × Ends locale language x (c ∷ []) text)
+  single_is c = grind (arith, nat_tests)
 
-  single_sound : (c : ℕ) (text : Text) → IfSome (single c) (λ y. Sound (c ∷ text) (y, text))
-  single_sound c text =
-      tested c text 61 t.Equal _ refl tt (tested c text 38 t.Ampersand _ refl tt (tested c text 43 t.Plus _ refl tt (tested c text 45 t.Minus _ refl tt
-      (tested c text 42 t.Times _ refl tt (tested c text 47 t.Divide _ refl tt (tested c text 94 t.Power _ refl tt (tested c text 37 t.Percent _ refl tt
-      (tested c text 64 t.At _ refl tt (tested c text 58 t.Colon _ refl tt (tested c text 40 t.OpenParenthesis _ refl tt (tested c text 41 t.CloseParenthesis _ refl tt
-      (tested c text 123 t.OpenBrace _ refl tt (tested c text 125 t.CloseBrace _ refl tt (tested c text 91 t.OpenBracket _ refl tt (tested c text 93 t.CloseBracket _ refl tt
-      (tested c text 44 t.Comma _ refl tt (tested c text 59 t.Semicolon None refl tt tt)))))))))))))))))
+  single_sound : (c : ℕ) (text : Text) → Brings (λ x. Sound (c ∷ text) (x, text)) (single c)
+  single_sound c text = brings_over (single c) (record { read = single_is c })
+      (λ x h e. record { spelled = c ∷ []; parts = refl; spells = (h text).0; ends = (h text).1 })
 
-  at_code : (c code : ℕ) (text : Text) (o : Option (Token × Text)) → IfSome o (Sound (code ∷ text)) → (c == code) ≡ true → IfSome o (Sound (c ∷ text))
-  at_code c code text o f h = subst (λ (d : ℕ). IfSome o (Sound (d ∷ text))) (sym (eqb-true c code h)) f
+  at_code : (c code : ℕ) (text : Text) (o : Option (Token × Text)) → Brings (Sound (code ∷ text)) o → (c == code) ≡ true → Brings (Sound (c ∷ text)) o
+  at_code c code text o f h = rw (eqb-true c code h) f
 
-  sign_sound : (c : ℕ) (text : Text) → IfSome (by_sign language c text) (Sound (c ∷ text))
+  sign_sound : (c : ℕ) (text : Text) → Brings (Sound (c ∷ text)) (by_sign language c text)
   unfolding by_sign
   sign_sound c text =
-      if_cond (Sound (c ∷ text)) (c == 34) _ _ (at_code c 34 text _ (text_sound text)) (λ h.
-      if_cond (Sound (c ∷ text)) (c == 39) _ _ (at_code c 39 text _ (quoted_sheet_sound text)) (λ h.
-      if_cond (Sound (c ∷ text)) (c == 35) _ _ (at_code c 35 text _ (hash_sound text)) (λ h.
-      if_cond (Sound (c ∷ text)) (c == 60) _ _ (at_code c 60 text _ (less_sound text)) (λ h.
-      if_cond (Sound (c ∷ text)) (c == 62) _ _ (at_code c 62 text _ (greater_sound text)) (λ h.
-      if_map (Sound (c ∷ text)) (λ x. (x, text)) (single c) (single_sound c text))))))
+      brings_cond (c == 34) _ _ (at_code c 34 text _ (text_sound text)) (λ h.
+      brings_cond (c == 39) _ _ (at_code c 39 text _ (quoted_sheet_sound text)) (λ h.
+      brings_cond (c == 35) _ _ (at_code c 35 text _ (hash_sound text)) (λ h.
+      brings_cond (c == 60) _ _ (at_code c 60 text _ (less_sound text)) (λ h.
+      brings_cond (c == 62) _ _ (at_code c 62 text _ (greater_sound text)) (λ h.
+      brings_map _ _ (single_sound c text) (λ x f. f))))))
 
-  start_sound : (c : ℕ) (text : Text) → IfSome (option_or (place_at None (c ∷ text)) (plain_at locale c (c ∷ text))) (Sound (c ∷ text))
-  start_sound c text = go (spot_at (c ∷ text)) refl (place_sound None (c ∷ text) [] (c ∷ text) refl refl)
-    where
-      go : (o : Option (Spot × Text)) → spot_at (c ∷ text) ≡ o → IfSome (option_map (λ r. (place_token None r.0, r.1)) o) (Sound (c ∷ text))
-          → IfSome (option_or (option_map (λ r. (place_token None r.0, r.1)) o) (plain_at locale c (c ∷ text))) (Sound (c ∷ text))
-      go None e f = plain_sound c text e
-      go (Some r) e f = f
-
-  all_sound : (text : Text) → IfSome (token_at locale language text) (Sound text)
+  all_sound : (text : Text) → Brings (Sound text) (token_at locale language text)
   unfolding token_at
-  all_sound [] = tt
-  all_sound (c ∷ text) = if_cond (Sound (c ∷ text)) (is_sign c) (by_sign language c text) _ (λ h. sign_sound c text) (λ h. start_sound c text)
+  all_sound [] = nothing
+  all_sound (c ∷ text) = brings_cond (is_sign c) _ _ (λ h. sign_sound c text)
+      (λ h. brings_or _ _ _ (brings_each (spot_at (c ∷ text)) (λ r e. e)) (λ r e. brings_at (place_at None (c ∷ text)) (place_token None r.0, r.1)
+      (place_sound None (c ∷ text) [] (c ∷ text) refl refl) (rw e)) (λ none. plain_sound c text none))
 
   pub token_sound : (text : Text) (p : Token × Text) → token_at locale language text ≡ Some p → FrontToken text p.0 p.1
-  token_sound text p e = if_at (Sound text) (token_at locale language text) p (all_sound text) e e
+  token_sound text p e = brings_at (token_at locale language text) p (all_sound text) e e
 
 -- ---- the tokens of a text are read just where they are spelled
 
@@ -410,12 +364,10 @@ abbrev pub ahead : List Token → Option (List Token) → Option (List Token)
 ahead front = option_map (λ tokens. front ++ tokens)
 
 pub ahead_none : (o : Option (List Token)) → o ≡ ahead [] o
-ahead_none None = refl
-ahead_none (Some tokens) = refl
+ahead_none o = grind arith
 
 ahead_one : (front : List Token) (x : Token) (o : Option (List Token)) → ahead front (option_map (λ tokens. x ∷ tokens) o) ≡ ahead (front ++ x ∷ []) o
-ahead_one front x None = refl
-ahead_one front x (Some tokens) = ap (λ (us : List Token). Some us) (sym (append_assoc front (x ∷ []) tokens))
+ahead_one front x o = grind (arith, append_assoc)
 
 module _ (locale : Locale) (language : Language) where
   abbrev Lexer : Type 0
@@ -450,30 +402,24 @@ module _ (locale : Locale) (language : Language) where
 
   -- ---- a turn: the bound does not matter where it is large enough
 
+  turn_begins : (text z rest : Text) (x : Token) → behind_blanks text ≡ Some z → token_at locale language z ≡ Some (x, rest) → Begins locale language text x rest
+  turn_begins text z rest x e g =
+      let b = subst (λ o. MatchOption o (list_all is_blank text ≡ true) (Behind text)) e (blanks_sound text) in
+      let f = token_sound locale language z (x, rest) g in
+      record { blanks = b.0; spelled = f.spelled; parts = b.1 ∙ ap (λ (y : Text). b.0 ++ y) f.parts; all_blank = b.2; spells = f.spells; ends = f.ends }
+
   pub turn_shorter : (text z rest : Text) (x : Token) → behind_blanks text ≡ Some z → token_at locale language z ≡ Some (x, rest) → length rest < length text
-  turn_shorter text z rest x e g = go f.spelled f.spells (ap length (b.1 ∙ ap (λ (y : Text). b.0 ++ y) f.parts))
+  turn_shorter text z rest x e g = let b = turn_begins text z rest x e g in go b.blanks b.spelled b.spells b.parts
     where
-      b : Behind text z
-      b = subst (λ o. MatchOption o (list_all is_blank text ≡ true) (Behind text)) e (blanks_sound text)
-
-      f : FrontToken locale language z x rest
-      f = token_sound locale language z (x, rest) g
-
-      go : (s : Text) → Spells locale language x s → length text ≡ length (b.0 ++ (s ++ rest)) → length rest < length text
-      go [] is n = absurd (not_empty x is)
-      go (c ∷ s) is n = omega (arith, length-append b.0 (c ∷ s ++ rest), length-append s rest)
+      go : (blanks s : Text) → Spells locale language x s → text ≡ blanks ++ (s ++ rest) → length rest < length text
+      go blanks [] is parts = absurd (not_empty x is)
+      go blanks (c ∷ s) is parts = omega (arith, ap length parts, length-append blanks (c ∷ s ++ rest), length-append s rest)
 
   turn_same : (f g : Lexer) (text : Text) → ((rest : Text) → length rest < length text → f rest ≡ g rest) → with_token locale language f (behind_blanks text) ≡ with_token locale language g (behind_blanks text)
-  turn_same f g text h = go (behind_blanks text) (turn_shorter text)
-    where
-      more : (o : Option (Token × Text)) → ((rest : Text) (x : Token) → o ≡ Some (x, rest) → length rest < length text)
-          → option_and_then (λ p. option_map (λ us. p.0 ∷ us) (f p.1)) o ≡ option_and_then (λ p. option_map (λ us. p.0 ∷ us) (g p.1)) o
-      more None k = refl
-      more (Some p) k = ap (option_map (λ us. p.0 ∷ us)) (h p.1 (k p.1 p.0 refl))
-
-      go : (o : Option Text) → ((z rest : Text) (x : Token) → o ≡ Some z → token_at locale language z ≡ Some (x, rest) → length rest < length text) → with_token locale language f o ≡ with_token locale language g o
-      go None k = refl
-      go (Some z) k = more (token_at locale language z) (λ rest x. k z rest x refl)
+  turn_same f g text h =
+      let same : (z : Text) (p : Token × Text) → behind_blanks text ≡ Some z → token_at locale language z ≡ Some p → f p.1 ≡ g p.1 =
+      λ z p a b. h p.1 (turn_shorter text z p.1 p.0 a b) in
+      grind (arith, same)
 
   from_same : (k m : ℕ) (text : Text) → length text < k → length text < m → tokens_from locale language k text ≡ tokens_from locale language m text
   unfolding tokens_from
@@ -499,32 +445,25 @@ module _ (locale : Locale) (language : Language) where
 
   -- ---- what is read is spelled
 
-  with_sound : (f : Lexer) → ((text : Text) → IfSome (f text) (IsTokens locale language text)) → (text : Text) → IfSome (with_token locale language f (behind_blanks text)) (IsTokens locale language text)
-  with_sound f again text = go (behind_blanks text) (blanks_sound text)
+  with_sound : (f : Lexer) → ((text : Text) → Brings (IsTokens locale language text) (f text)) → (text : Text)
+      → Brings (IsTokens locale language text) (with_token locale language f (behind_blanks text))
+  with_sound f again text = go (behind_blanks text) (blanks_sound text) (turn_begins text)
     where
-      rest : (z : Text) → Behind text z → (p : Token × Text) → FrontToken locale language z p.0 p.1 → (o : Option (List Token)) → IfSome o (IsTokens locale language p.1)
-          → IfSome (option_map (λ us. p.0 ∷ us) o) (IsTokens locale language text)
-      rest z b p g None h = tt
-      rest z b p g (Some ts) h =
-          (p.1, record { blanks = b.0; spelled = g.spelled; parts = b.1 ∙ ap (λ (y : Text). b.0 ++ y) g.parts; all_blank = b.2; spells = g.spells; ends = g.ends }, h)
+      go : (o : Option Text) → MatchOption o (list_all is_blank text ≡ true) (Behind text)
+          → ((z rest : Text) (x : Token) → o ≡ Some z → token_at locale language z ≡ Some (x, rest) → Begins locale language text x rest)
+          → Brings (IsTokens locale language text) (with_token locale language f o)
+      go None b begins = brings b
+      go (Some z) b begins = brings_then _ _ (brings_each (token_at locale language z) (λ p e. begins z p.1 p.0 refl e))
+          (λ p g. brings_map _ _ (again p.1) (λ ts h. (p.1, g, h)))
 
-      more : (z : Text) → Behind text z → (o : Option (Token × Text)) → ((p : Token × Text) → o ≡ Some p → FrontToken locale language z p.0 p.1)
-          → IfSome (option_and_then (λ p. option_map (λ us. p.0 ∷ us) (f p.1)) o) (IsTokens locale language text)
-      more z b None g = tt
-      more z b (Some p) g = rest z b p (g p refl) (f p.1) (again p.1)
-
-      go : (o : Option Text) → MatchOption o (list_all is_blank text ≡ true) (Behind text) → IfSome (with_token locale language f o) (IsTokens locale language text)
-      go None b = b
-      go (Some z) b = more z b (token_at locale language z) (token_sound locale language z)
-
-  from_sound : (k : ℕ) (text : Text) → IfSome (tokens_from locale language k text) (IsTokens locale language text)
+  from_sound : (k : ℕ) (text : Text) → Brings (IsTokens locale language text) (tokens_from locale language k text)
   unfolding tokens_from
-  from_sound zero text = tt
+  from_sound zero text = nothing
   from_sound (suc k) text = with_sound (tokens_from locale language k) (from_sound k) text
 
   pub tokens_sound : (text : Text) (ts : List Token) → tokens text ≡ Some ts → IsTokens locale language text ts
   unfolding tokens_of
-  tokens_sound text ts = if_at (IsTokens locale language text) (tokens text) ts (from_sound (length text + 1) text)
+  tokens_sound text ts = brings_at (tokens text) ts (from_sound (length text + 1) text)
 
   -- ---- what is spelled is read
 
@@ -539,11 +478,6 @@ module _ (locale : Locale) (language : Language) where
   -- a text is at most one list of tokens
   pub tokens_once : (text : Text) (a b : List Token) → IsTokens locale language text a → IsTokens locale language text b → a ≡ b
   tokens_once text a b is at = let e = sym (tokens_complete a text is) ∙ tokens_complete b text at in cc
-
-  -- what a lexer ensures that answers the tokens of the function
-  pub found_tokens : {V : Type 0} (items : V → List Token) (text : Text) (o : Option V) → option_map items o ≡ tokens text → IfSome o (λ v. IsTokens locale language text (items v))
-  found_tokens items text None e = tt
-  found_tokens items text (Some v) e = tokens_sound text (items v) (sym e)
 
 pub ruleset turns = (ahead_none, turn_end, turn_fail, turn_on, turn_shorter)
 

@@ -49,7 +49,7 @@ fn tokens(alloc: Global, profile: Profile, text: &str) -> Result<Option<Vec<Toke
 /// after tokens.
 ///
 /// `NoMemory` where memory runs out.
-#[tactic(auto, using(crate::proofs::Tokens::tokens_complete))]
+#[tactic(auto, using(crate::proofs::Tokens::laws))]
 pub fn lex_text(
     alloc: Global,
     text: &str,

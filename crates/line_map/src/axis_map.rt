@@ -2,7 +2,8 @@
 
 ghost use Rattle.std.specs.Prelude.{◌≡◌, ◌+ℤ◌, ◌-ℤ◌, true, pos, IfOk, IsOkUnless, OnOk, Some};
 ghost use Rattle.std.specs.Option.{option_copied};
-ghost use Rattle.std.specs.FinMap.{get};
+ghost use Rattle.std.specs.FinMap.{get, insert};
+ghost use Rattle.base_values.specs.Places.{IsLine};
 ghost use Rattle.base_values.specs.declared.EditError.TheVariants.{NoMemory};
 ghost use Rattle.line_map.specs.Attributes.{line_goes_along, heir, amount, with_line, block_with, block_heirs, heirs, LinesLie};
 ghost use Rattle.line_map.specs.Carried.{entry_made, if_lost, lost_map, moved_map, overlaid};
@@ -93,6 +94,20 @@ pub fn lost_lines<A: Axis, B: Axis, M: LineMap<A>, V: Exact + Drop>(
     Ok(lost)
 }
 
+/// Gives a line of the axis a copy of a value.
+fn put_line<B: Axis, V: Exact + Drop>(
+    line: i32,
+    value: &V,
+    map: &mut AxisMap<B, V>,
+) -> Result<(), EditError>
+    requires { IsLine B.along.last line }
+    ensures map { OnOk result (map.new ≡ insert map.old line value.now) }
+    ensures only { IsOkUnless result NoMemory }
+{
+    map.insert(line, copy_of(value)?)?;
+    Ok(())
+}
+
 /// A map with these entries, which are those of lines of the axis, in place of its own.
 pub fn overlaid_lines<B: Axis, V: Exact + Drop>(
     over: &NumberMap<V>,
@@ -104,7 +119,7 @@ pub fn overlaid_lines<B: Axis, V: Exact + Drop>(
 {
     let mut made = map;
     for (line, value) in over.iter() {
-        made.insert(*line, copy_of(value)?)?;
+        put_line(*line, value, &mut made)?;
     }
     Ok(made)
 }
@@ -145,10 +160,10 @@ fn fill_line<B: Axis, V: Exact + Drop>(
     ensures map { OnOk result (map.new ≡ with_line (within B.along.last line) value.now map.old) }
     ensures only { IsOkUnless result NoMemory }
 {
-    if let Some(line) = within(B::LAST, line) {
-        map.insert(line, copy_of(value)?)?;
+    match within(B::LAST, line) {
+        Some(line) => put_line(line, value, map),
+        None => Ok(()),
     }
-    Ok(())
 }
 
 /// Gives the lines of a block, as far as they are lines of the axis, a copy of a value.
@@ -203,9 +218,12 @@ fn give_heirs<B: Axis, V: Exact + Drop>(
     ensures made { OnOk result (made.new ≡ overlaid (heirs B.along V.eq inserted map.now) made.old) }
     ensures only { IsOkUnless result NoMemory }
 {
+    if !B::of(false, true) {
+        return Ok(());
+    }
     match inserted {
-        Some(block) if B::of(false, true) => give_block(block, map, made),
-        _ => Ok(()),
+        Some(block) => give_block(block, map, made),
+        None => Ok(()),
     }
 }
 

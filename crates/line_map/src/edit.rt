@@ -156,15 +156,25 @@ fn is_within(last: i32, first: i32, count: i32) -> bool
     is_line(last, i64::from(first)) && is_line(last, i64::from(count))
 }
 
+fn are_all(a: bool, b: bool, c: bool, d: bool) -> bool
+    ensures { result ≡ ((a && b) && (c && d)) }
+{
+    (a && b) && (c && d)
+}
+
 /// Whether a block of lines lies on the axis, and also where it goes.
-#[tactic(auto, unfolding(crate::specs::Edit::is_valid))]
 fn is_valid_move(last: i32, first: i32, count: i32, delta: i32) -> bool
     ensures { result ≡ is_valid last (EditKind.Move first count delta) }
 {
     let (start, end) = (i64::from(first), i64::from(first) + i64::from(count));
     let (last_end, distance) = (i64::from(last) + 1, i64::from(delta));
-    (is_within(last, first, count) && end <= last_end)
-        && (1 <= start + distance && end + distance <= last_end)
+    let target_ends = end + distance <= last_end;
+    are_all(
+        is_within(last, first, count),
+        end <= last_end,
+        1 <= start + distance,
+        target_ends,
+    )
 }
 
 /// Where a line of the axis goes.

@@ -2,7 +2,7 @@
 
 ghost use Rattle.std.specs.Prelude.{◌≡◌, IfOk, IsOkUnless, IsTrue, OnOk, Option, All, Some};
 ghost use Rattle.std.specs.Option.{option_copied};
-ghost use Rattle.std.specs.FinMap.{get, entries};
+ghost use Rattle.std.specs.FinMap.{get, entries, insert};
 ghost use Rattle.base_values.specs.declared.Position.{Position};
 ghost use Rattle.base_values.specs.declared.EditError.TheVariants.{NoMemory};
 ghost use Rattle.base_values.specs.Places.{IsPlace};
@@ -164,6 +164,7 @@ fn restore_entry<A: Axis, M: LineMap<A>, F: Follower<A>, L: Parts<Part = F::Part
     ensures made { OnOk result (made.new ≡ with_made (entry_made (place_goes (back (way route.now))) (λ q p x. Some (settled (F.carry_of (back (at (way route.now) p q))) (F.restore_of (at (way route.now) p q)) (L.part_at parts.now p) x)) (to, item.now)) made.old) }
     ensures only { IsOkUnless result NoMemory }
 {
+    route.is_way();
     if let Some(from) = route.back().goes(to) {
         let route = route.at(from, to);
         let restored = match parts.part(from) {
@@ -196,6 +197,20 @@ pub fn restored_places<A: Axis, M: LineMap<A>, F: Follower<A>, L: Parts<Part = F
     Ok(made)
 }
 
+/// Puts a copy of an item at a place.
+fn put_entry<F: Exact + Drop>(
+    place: Position,
+    item: &F,
+    map: &mut PlaceMap<F>,
+) -> Result<(), EditError>
+    requires { IsPlace place }
+    ensures map { OnOk result (map.new ≡ insert map.old place item.now) }
+    ensures only { IsOkUnless result NoMemory }
+{
+    map.insert(place, copy_of(item)?)?;
+    Ok(())
+}
+
 /// A map with these entries, whose places lie inside the sheet, in place of its own.
 pub fn overlaid_places<F: Exact + Drop>(
     over: &PositionMap<F>,
@@ -207,7 +222,7 @@ pub fn overlaid_places<F: Exact + Drop>(
 {
     let mut made = map;
     for (place, item) in over.iter() {
-        made.insert(*place, copy_of(item)?)?;
+        put_entry(*place, item, &mut made)?;
     }
     Ok(made)
 }

@@ -95,6 +95,7 @@ fn carried<A: Axis, M: LineMap<A>>(
 ) -> Result<TreeAt, EditError>
     requires { IsPlace tree.now.place }
     ensures tree { IfOk result (λ there. there ≡ tree_at_carried (way route.now) tree.now) }
+    ensures inside { IfOk result (λ there. IsPlace there.place) }
     ensures only { IsOkUnless result NoMemory }
 {
     match goes(route, tree) {

@@ -97,7 +97,7 @@ range_to a p = if stops goes_on_place p.1 then option_map (λ range. (range, p.1
 
 -- behind the first side of a range: a colon and the second one
 unfoldable pub range_behind : Side → Reader (CellMark × CellMark)
-range_behind a text = option_and_then (range_to a) (option_and_then corner_at (past 58 text))
+range_behind a text = option_and_then (λ rest. option_and_then (range_to a) (corner_at rest)) (past 58 text)
 
 -- a side that is a cell by itself, where one may end
 abbrev pub cell_alone : Side → Reader Spot

@@ -1,5 +1,5 @@
 -- The law of followers for what lines have of their own.
-use Rattle.std.proofs.Common.{◌≡◌, ◌⊎◌, inl, inr, ℕ, zero, suc, ℤ, pos, negsuc, ◌+ℤ◌, ◌≤ℤ◌, Bool, true, false, cond, Option, Some, None, refl, ap, sym, subst, ◌∙◌, arith}
+use Rattle.std.proofs.Common.{◌≡◌, ◌⊎◌, inl, inr, ℕ, zero, suc, ℤ, pos, negsuc, ◌+ℤ◌, ◌-ℤ◌, ◌≤ℤ◌, Bool, true, false, cond, Option, Some, None, refl, ap, sym, subst, ◌∙◌, arith}
 use Rattle.std.specs.Prelude.{IfSome, is_some, is_none, ◌&&◌, if◌then◌else◌}
 use Rattle.std.proofs.lemmas.Int.{ints}
 use Rattle.std.specs.Ordering.{int_cmp, eq_by_cmp}
@@ -110,9 +110,23 @@ module _ {X : Type 0} where
       laid_line None f = refl
       laid_line (Some n) f = overlaid_more int_cmp int_cmp_total int_cmp-IsAntisymmetric f m n x
 
+  -- nothing is laid over a map
+  pub still : (m : FinMap int_cmp X) → m ≡ overlaid empty m
+  still m = sym (nothing_overlaid int_cmp int_cmp_total int_cmp-IsAntisymmetric m)
+
   pub filled_none : (last : ℤ) (x : X) (first : ℤ) (m : FinMap int_cmp X) → m ≡ overlaid (filled last x first 0) m
   unfolding filled
-  filled_none last x first m = sym (nothing_overlaid int_cmp int_cmp_total int_cmp-IsAntisymmetric m)
+  filled_none last x first m = still m
+
+  -- a block that takes nothing
+  pub none_taken : (last : ℤ) (same : X → X → Bool) (block : Block) (m made : FinMap int_cmp X) (before after : ℤ) → before ≡ block.first -ℤ pos 1 → after ≡ block.first → heir same (get m before) (get m after) ≡ None → made ≡ overlaid (block_heirs last same m block) made
+  none_taken last same block m made before after p q h = still made ∙ ap (λ o. overlaid (block_given last block o) made) (sym h) ∙ (λ i. overlaid (block_given last block (heir same (get m (p i)) (get m (q i)))) made)
+
+  -- lines that are no columns, or none that are brought in
+  pub none_brought : (b : Along) (same : X → X → Bool) (o : Option Block) (m made : FinMap int_cmp X) → (o ≡ None) ⊎ (b.of false true ≡ false) → made ≡ overlaid (heirs b same o m) made
+  none_brought b same None m made h = still made
+  none_brought b same (Some block) m made (inl h) = absurd (cc)
+  none_brought b same (Some block) m made (inr h) = still made ∙ ap (λ t. overlaid (if t then block_heirs b.last same m block else empty) made) (sym h)
 
   -- a line that is not of the axis has nothing
   pub nothing_outside : (b : Along) (m : FinMap int_cmp X) → LinesLie b m → (n : ℤ) → n ≤ℤ pos 0 → get m n ≡ None

@@ -93,8 +93,8 @@ first_image_is last kind v line towards on up =
     _ refl
 
 -- the first line that an insertion pushes past the end, where that is after it
-pub pushed_late : (last c k : ℤ) → int_lt c ((last -ℤ k) +ℤ pos 1) ≡ true → pushed_from last c k ≡ (last -ℤ k) +ℤ pos 1
-pushed_late last c k h = ap (λ b. if b then (last -ℤ k) +ℤ pos 1 else c) h
+pub pushed_late : (last c k : ℤ) → c ≤ℤ (last -ℤ k) → pushed_from last c k ≡ (last -ℤ k) +ℤ pos 1
+pushed_late last c k h = let late : int_lt c ((last -ℤ k) +ℤ pos 1) ≡ true = grind (arith, ints) in ap (λ b. if b then (last -ℤ k) +ℤ pos 1 else c) late
 
 -- the line that is answered
 pub beside_after : (low high line towards : ℤ) → is_lost low high line ≡ true → int_lt high towards ≡ true → beside_lost low high line towards ≡ Some (high +ℤ pos 1)

@@ -1,6 +1,6 @@
 -- Laws of the images of lines.
 use Rattle.std.proofs.Common.{◌≡◌, ℤ, pos, ◌+ℤ◌, ◌-ℤ◌, ◌≤ℤ◌, Bool, true, false, Option, Some, None, refl, arith, ap, sym, subst, ◌∙◌}
-use Rattle.std.specs.Prelude.{IfSome, int_lt, if◌then◌else◌}
+use Rattle.std.specs.Prelude.{IfSome, int_le, int_lt, ◌&&◌, if◌then◌else◌}
 use Rattle.std.proofs.lemmas.Int.{ints}
 use Rattle.base_values.specs.Places.{IsLine, is_line}
 use Rattle.line_map.specs.declared.edit.EditKind.{EditKind}
@@ -45,6 +45,12 @@ move_parts last first count delta h = record {
 pub valid_move : (last first count delta : ℤ) → IsMove last first count delta → IsValid last (Move first count delta)
 unfolding is_valid
 valid_move last first count delta v = grind (arith, ints)
+
+-- the tests of a move, of numbers that are written otherwise
+pub move_tests : (last c k d : ℤ) (within : Bool) (end ends start target : ℤ) → within ≡ is_within last c k → end ≡ c +ℤ k → ends ≡ last +ℤ pos 1 → start ≡ c +ℤ d → target ≡ (c +ℤ k) +ℤ d →
+    ((within && int_le end ends) && (int_le (pos 1) start && int_le target ends)) ≡ is_valid last (Move c k d)
+unfolding is_valid
+move_tests last c k d within end ends start target w e f g h = λ i. (w i && int_le (e i) (f i)) && (int_le (pos 1) (g i) && int_le (h i) (f i))
 
 lt_false : (a b : ℤ) → b ≤ℤ a → int_lt a b ≡ false
 lt_false a b h = grind (arith, ints)

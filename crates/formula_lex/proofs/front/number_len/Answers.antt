@@ -2,8 +2,7 @@ use Rattle.std.proofs.Common.{sym, ◌∙◌, false}
 use Rattle.std.specs.Str.{chars}
 use Rattle.std.proofs.lemmas.Str.{chars_past_char}
 use Rattle.formula_lex.specs.laws.Lex.{number_span}
-use Rattle.formula_lex.proofs.Reading.{went_start, went_turn, went_end, last_read}
-use Rattle.formula_lex.proofs.Words.{number_span_is}
+use Rattle.formula_lex.proofs.Reading.{went_start, went_turn, went_end, last_read, number_span_is}
 use Rattle.formula_lex.proofs.front.number_len.Goals as goal
 
 pub loop-c-init : goal.loop-c-init

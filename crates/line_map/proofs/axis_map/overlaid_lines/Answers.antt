@@ -11,8 +11,8 @@ use Rattle.line_map.specs.laws.Gathering.{nothing_overlaid}
 use Rattle.line_map.proofs.Turns.{turn_seen, turn_held, turn_laid, end_laid}
 use Rattle.line_map.proofs.axis_map.overlaid_lines.Goals as goal
 
-pub insert-requires : goal.insert-requires
-insert-requires g c =
+pub put_line-requires : goal.put_line-requires
+put_line-requires g c =
     let on : IsLine g.B.Axis.along.last c.in-Some.line.now = c.requires c.in-Some.line.now c.in-Some.value.now (turn_held int_cmp int_cmp_total int_cmp-IsAntisymmetric deref_pair c.args.over.now c.loop-line.yielded (c.in-Some.line, c.in-Some.value) c.loop-line.line-iterator c.next.new.self c.loop-line.invariant.0 (rest_more deref_pair c.loop-line.line-iterator c.next.new.self c.next.result (c.in-Some.line, c.in-Some.value) c.in-Some.is c.next.ensures.steps)) in
     let last = g.met.B.Axis.lawful.last_high in
     let key : to_z w32 (of_z w32 c.in-Some.line.now) ≡ c.in-Some.line.now = omega (arith, ints, on.0, on.1, last) in
@@ -30,7 +30,7 @@ loop-line-preserved g c =
       turn_seen int_cmp int_cmp_total int_cmp-IsAntisymmetric deref_pair c.args.over.now c.loop-line.yielded (c.in-Some.line, c.in-Some.value) c.loop-line.line-iterator c.next.new.self c.loop-line.invariant.0 (rest_more deref_pair c.loop-line.line-iterator c.next.new.self c.next.result (c.in-Some.line, c.in-Some.value) c.in-Some.is c.next.ensures.steps),
       turn_laid int_cmp int_cmp_total int_cmp-IsAntisymmetric deref_pair c.args.over.now c.loop-line.yielded (c.in-Some.line, c.in-Some.value) c.loop-line.line-iterator c.next.new.self c.loop-line.invariant.0 (rest_more deref_pair c.loop-line.line-iterator c.next.new.self c.next.result (c.in-Some.line, c.in-Some.value) c.in-Some.is c.next.ensures.steps)
           c.args.map _ _ c.loop-line.invariant.1
-          (c.in_ok-insert.ensures.ok ∙ ap (λ (n : ℤ). insert c.loop-line.made n c.in_ok-copy_of.field-0) key ∙ ap (insert c.loop-line.made c.in-Some.line.now) c.in_ok-copy_of.ensures.copy),
+          (c.in_ok-put_line.ensures.map ∙ ap (λ (n : ℤ). insert c.loop-line.made n c.in-Some.value.now) key),
     )
 
 pub returns-clause-map : goal.returns-clause-map

@@ -1,7 +1,7 @@
 use Rattle.std.proofs.Common.{Some, ◌∙◌}
 use Rattle.std.proofs.lemmas.Map.Iter.{rest_more, rest_all}
 use Rattle.std.specs.Map.Iter.{deref_pair}
-use Rattle.base_values.specs.Places.{position_cmp}
+use Rattle.base_values.specs.Places.{IsPlace, position_cmp}
 use Rattle.base_values.specs.laws.Places.{position_total, exact_positions}
 use Rattle.line_map.specs.Carried.{if_lost}
 use Rattle.line_map.specs.Way.{place_goes, way}
@@ -11,7 +11,7 @@ use Rattle.line_map.proofs.Turns.{turn_seen, turn_made, end_made, first_holds, r
 use Rattle.line_map.proofs.place_map.lost_places.Goals as goal
 
 pub keep_lost-requires : goal.keep_lost-requires
-keep_lost-requires g c = first_holds _ c.loop-place.invariant.2 (rest_more deref_pair c.loop-place.place-iterator c.next.new.self c.next.result (c.in-Some.place, c.in-Some.item) c.in-Some.is c.next.ensures.steps)
+keep_lost-requires g c = first_holds (λ e. IsPlace e.0) c.loop-place.invariant.2 (rest_more deref_pair c.loop-place.place-iterator c.next.new.self c.next.result (c.in-Some.place, c.in-Some.item) c.in-Some.is c.next.ensures.steps)
 
 pub loop-place-preserved : goal.loop-place-preserved
 loop-place-preserved g c =
@@ -19,7 +19,7 @@ loop-place-preserved g c =
       turn_seen position_cmp position_total exact_positions deref_pair c.args.map.now c.loop-place.yielded (c.in-Some.place, c.in-Some.item) c.loop-place.place-iterator c.next.new.self c.loop-place.invariant.0 (rest_more deref_pair c.loop-place.place-iterator c.next.new.self c.next.result (c.in-Some.place, c.in-Some.item) c.in-Some.is c.next.ensures.steps),
       turn_made position_cmp position_total exact_positions deref_pair c.args.map.now c.loop-place.yielded (c.in-Some.place, c.in-Some.item) c.loop-place.place-iterator c.next.new.self c.loop-place.invariant.0 (rest_more deref_pair c.loop-place.place-iterator c.next.new.self c.next.result (c.in-Some.place, c.in-Some.item) c.in-Some.is c.next.ensures.steps)
           Some Some own_inverse (if_lost (place_goes w)) _ _ c.loop-place.invariant.1 c.in_ok-keep_lost.ensures.lost,
-      rest_hold _ c.loop-place.invariant.2 (rest_more deref_pair c.loop-place.place-iterator c.next.new.self c.next.result (c.in-Some.place, c.in-Some.item) c.in-Some.is c.next.ensures.steps),
+      rest_hold (λ e. IsPlace e.0) c.loop-place.invariant.2 (rest_more deref_pair c.loop-place.place-iterator c.next.new.self c.next.result (c.in-Some.place, c.in-Some.item) c.in-Some.is c.next.ensures.steps),
     )
 
 pub returns-clause-map : goal.returns-clause-map

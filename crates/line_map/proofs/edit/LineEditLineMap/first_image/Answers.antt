@@ -1,4 +1,4 @@
-use Rattle.std.proofs.Common.{◌≡◌, ℤ, Option, ap, sym, subst, ◌∙◌, arith, w32, to_z, of_z}
+use Rattle.std.proofs.Common.{◌≡◌, ℤ, Option, ap, sym, subst, ◌∙◌, arith}
 use Rattle.std.proofs.lemmas.Int.{ints}
 use Rattle.line_map.specs.Edit.{image_at}
 use Rattle.line_map.specs.Lost.{lost_from, lost_to, beside_lost}

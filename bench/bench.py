@@ -1,7 +1,7 @@
 #!/usr/bin/env python3
 """Times the built programs on inputs of two sizes, and prints how the times grow.
 
-Run ./run once before, and `rt run <stdin` in crates/formula_bench and crates/lines_bench, so that the
+Run ./run once before, and `rt run <stdin` in crates/bench_formulas and crates/bench_lines, so that the
 programs are built. The second input of each pair is ten times as long; the aim is that it takes at
 most 25 times as long, and 30 times where lines are inserted and taken back.
 The memory is the greatest resident set of the run.
@@ -15,8 +15,8 @@ import time
 
 TOP = os.path.dirname(os.path.dirname(os.path.abspath(__file__)))
 EDITOR = os.path.join(TOP, "crates", "edit_script", "out", "edit_script")
-PRINTER = os.path.join(TOP, "crates", "formula_bench", "out", "formula_bench")
-LINES = os.path.join(TOP, "crates", "lines_bench", "out", "lines_bench")
+PRINTER = os.path.join(TOP, "crates", "bench_formulas", "out", "bench_formulas")
+LINES = os.path.join(TOP, "crates", "bench_lines", "out", "bench_lines")
 SMALL, LARGE = 10_000, 100_000
 FEW, MANY = 1_000, 10_000
 ROUNDS = 200
@@ -149,9 +149,9 @@ def main():
     if not os.path.exists(EDITOR):
         sys.exit("bench: build the program first, by ./run examples/first.script")
     if not os.path.exists(PRINTER):
-        sys.exit("bench: build the printing program first, by `rt run <stdin` in crates/formula_bench")
+        sys.exit("bench: build the printing program first, by `rt run <stdin` in crates/bench_formulas")
     if not os.path.exists(LINES):
-        sys.exit("bench: build the program of line edits first, by `rt run <stdin` in crates/lines_bench")
+        sys.exit("bench: build the program of line edits first, by `rt run <stdin` in crates/bench_lines")
     fast_lines = line_edits()
     seconds, _, memory, fast = pair("sets", sets)
     print(f"  {seconds / LARGE * 1e9:.0f} ns an edit, at most {memory / LARGE:.0f} bytes a set cell in all")

@@ -8,8 +8,8 @@ use Rattle.base_values.specs.declared.Position.{Position}
 use Rattle.base_values.specs.Places.{place_of}
 use Rattle.line_map.specs.declared.EditKind.TheVariants.{Insert, Delete}
 use Rattle.sheet_grid.specs.declared.Cell.{Cell}
-use Rattle.formula_content.specs.declared.Content.{Content}
-use Rattle.formula_content.specs.declared.Content.TheVariants.{Empty}
+use Rattle.cell_content.specs.declared.Content.{Content}
+use Rattle.cell_content.specs.declared.Content.TheVariants.{Empty}
 use Rattle.sheet_grid.specs.Sheet.{cell_at}
 use Rattle.sheet_grid.specs.Book.{Book, sheet_at}
 use Rattle.script_lines.specs.Parts.{parts_at, without_return}
@@ -17,7 +17,7 @@ use Rattle.script_lines.specs.Escapes.{escaped}
 use Rattle.script_lines.specs.Commands.{command_of}
 use Rattle.script_lines.specs.declared.Command.{Command}
 use Rattle.script_lines.specs.declared.Command.TheVariants.{Set, Get, InsertRows, DeleteRows, Undo, Redo, Sync, Show}
-use Rattle.formula_input.specs.Inputs.{input_of, input_text}
+use Rattle.cell_input.specs.Inputs.{input_of, input_text}
 use Rattle.script_dump.specs.English.{english}
 use Rattle.script_dump.specs.Text.{line, hex}
 use Rattle.script_dump.specs.Dump.{dump}

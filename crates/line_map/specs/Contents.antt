@@ -1,8 +1,8 @@
 -- What cells hold, carried along with them: a formula's tree follows, all else stays.
 use Rattle.std.specs.Prelude.{Option, Some, None, IfSome}
 use Rattle.formula_tree.specs.declared.Node.{Node}
-use Rattle.formula_content.specs.declared.Content.{Content}
-use Rattle.formula_content.specs.Lens.{tree_of, with_tree}
+use Rattle.cell_content.specs.declared.Content.{Content}
+use Rattle.cell_content.specs.Lens.{tree_of, with_tree}
 use Rattle.sheet_grid.specs.declared.Cell.{Cell}
 use Rattle.line_map.specs.Carried.{if_there}
 use Rattle.line_map.specs.Trees.{tree_carried, tree_part, TreeLies}

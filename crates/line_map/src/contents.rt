@@ -7,7 +7,7 @@ use crate::route::Route;
 use base_axis::Axis;
 use base_shared::Shared;
 use base_values::{EditError, Exact, copy_of};
-use formula_content::{Content, tree_of, with_tree};
+use cell_content::{Content, tree_of, with_tree};
 use formula_tree::Node;
 use sheet_grid::{Cell, Link};
 use std::alloc::Global;
@@ -15,7 +15,7 @@ use std::alloc::Global;
 /// Of a content the tree follows; one without a tree stays.
 impl<A: Axis> Follower<A> for Content {
     ghost use Rattle.std.specs.Prelude.{⊤};
-    ghost use Rattle.formula_content.specs.Lens.{with_tree};
+    ghost use Rattle.cell_content.specs.Lens.{with_tree};
     ghost use Rattle.line_map.specs.Contents.{ContentLies, content_carried, content_part};
     ghost use Rattle.line_map.specs.laws.ContentLaws.{content_stays, content_comes_back, content_restores};
 

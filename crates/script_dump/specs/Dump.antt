@@ -16,14 +16,14 @@ use Rattle.sheet_grid.specs.Sheet.{Sheet}
 use Rattle.sheet_grid.specs.declared.Cell.{Cell}
 use Rattle.sheet_grid.specs.declared.LineAttr.{LineAttr}
 use Rattle.sheet_grid.specs.declared.Link.{Link}
-use Rattle.formula_content.specs.declared.Content.{Content}
-use Rattle.formula_content.specs.declared.Content.TheVariants.{Empty, Formula, Dynamic}
+use Rattle.cell_content.specs.declared.Content.{Content}
+use Rattle.cell_content.specs.declared.Content.TheVariants.{Empty, Formula, Dynamic}
 use Rattle.sheet_grid.specs.declared.SheetState.{SheetState}
 use Rattle.sheet_grid.specs.declared.SheetState.TheVariants.{Visible, Hidden, VeryHidden}
 use Rattle.cell_wire.specs.StyleBytes.{theme_code, spell_style}
 use Rattle.script_lines.specs.Escapes.{escaped}
 use Rattle.script_lines.specs.References.{reference_text}
-use Rattle.formula_input.specs.Inputs.{input_text}
+use Rattle.cell_input.specs.Inputs.{input_text}
 use Rattle.script_dump.specs.English.{english}
 use Rattle.script_dump.specs.Text.{line, words, hex, capital_hex}
 

@@ -8,8 +8,8 @@ use Rattle.base_values.specs.declared.EditError.TheVariants.{InvalidSheet}
 use Rattle.base_values.specs.declared.Position.{Position}
 use Rattle.base_values.specs.Places.{place_of}
 use Rattle.sheet_grid.specs.declared.Cell.{Cell}
-use Rattle.formula_content.specs.declared.Content.{Content}
-use Rattle.formula_content.specs.Fitting.{fits_at}
+use Rattle.cell_content.specs.declared.Content.{Content}
+use Rattle.cell_content.specs.Fitting.{fits_at}
 use Rattle.sheet_grid.specs.FittingCells.{entry_fits_at}
 use Rattle.sheet_grid.specs.laws.FittingLaws.{place_is, cells_fit-at}
 use Rattle.sheet_grid.specs.Sheet.{Sheet, shown_style}

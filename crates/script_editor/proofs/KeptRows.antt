@@ -31,7 +31,7 @@ use Rattle.sheet_lines.specs.Followed.{sheet_of, name_of}
 use Rattle.sheet_lines.specs.Kept.{is_empty, if_any, sheet_kept, kept_formulas, lost_rows, lost_columns, kept_lines}
 use Rattle.sheet_history.specs.laws.Entries.{entry_holds}
 use Rattle.sheet_history.specs.Records.{IsRowEdit}
-use Rattle.kept_wire.specs.Nested.{HasSome, EachHasSome}
+use Rattle.lines_wire.specs.Nested.{HasSome, EachHasSome}
 use Rattle.sheet_wire.specs.RowsBytes.{IsKeptOfRows}
 
 -- ---- rows

@@ -1,7 +1,7 @@
 ghost use Rattle.std.specs.Prelude.{◌≡◌, Ok, IfOk, OnOk, IsTrue, IsOkUnless};
 ghost use Rattle.base_values.specs.declared.EditError.TheVariants.{NoMemory};
-ghost use Rattle.formula_content.specs.Fitting.{fits_at};
-ghost use Rattle.formula_content.specs.KeptContent.{IsKeptContent};
+ghost use Rattle.cell_content.specs.Fitting.{fits_at};
+ghost use Rattle.cell_content.specs.KeptContent.{IsKeptContent};
 ghost use Rattle.line_map.specs.declared.EditKind.TheVariants.{Insert, Delete};
 ghost use Rattle.sheet_rules.specs.WellFormed.{IsWellFormed};
 ghost use Rattle.sheet_wire.specs.QueueBytes.{FitsQueue};

@@ -7,7 +7,7 @@ use base_shared::Shared;
 use base_styles::Style;
 use base_tables::{Error, Locale, Zone};
 use base_values::{EditError, Items, LAST_COLUMN, LAST_ROW, Text, same};
-use formula_content::Content;
+use cell_content::Content;
 use formula_tree::{Corner, Node, has_kept_numbers};
 use line_map::EditKind;
 use sheet_grid::{Cell, DefaultStyle, Link, RowAttr, Workbook, Worksheet};

@@ -16,8 +16,8 @@ use Rattle.base_styles.specs.declared.Style.{Style}
 use Rattle.base_styles.specs.DefaultStyle.{default_style}
 use Rattle.sheet_grid.specs.declared.state.SheetState.{SheetState}
 use Rattle.sheet_grid.specs.declared.state.SheetState.TheVariants.{Visible}
-use Rattle.formula_content.specs.declared.Content.{Content}
-use Rattle.formula_content.specs.declared.Content.TheVariants.{Empty}
+use Rattle.cell_content.specs.declared.Content.{Content}
+use Rattle.cell_content.specs.declared.Content.TheVariants.{Empty}
 use Rattle.sheet_grid.specs.declared.cell.Cell.{Cell}
 use Rattle.sheet_grid.specs.declared.link.Link.{Link}
 use Rattle.sheet_grid.specs.declared.line_attr.LineAttr.{LineAttr}

@@ -20,7 +20,7 @@ pub use cell::Cell;
 pub use column_attr::ColumnAttr;
 pub use default_style::DefaultStyle;
 pub use dimension::WorksheetDimension;
-pub use formula_content::Content;
+pub use cell_content::Content;
 pub use line_attr::{LineAttr, USUAL_HEIGHT, USUAL_WIDTH};
 pub use link::Link;
 pub use row_attr::RowAttr;

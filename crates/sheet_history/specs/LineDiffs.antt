@@ -12,8 +12,8 @@ use Rattle.base_axis.specs.Along.{Along, rows, columns}
 use Rattle.base_maps.specs.declared.SheetPlace.{SheetPlace}
 use Rattle.base_maps.specs.SheetPlaces.{sheet_place_cmp}
 use Rattle.formula_tree.specs.declared.Node.{Node}
-use Rattle.formula_content.specs.Fitting.{fits_at, tree_fits_at}
-use Rattle.formula_content.specs.Lens.{tree_of}
+use Rattle.cell_content.specs.Fitting.{fits_at, tree_fits_at}
+use Rattle.cell_content.specs.Lens.{tree_of}
 use Rattle.line_map.specs.declared.EditKind.{EditKind}
 use Rattle.line_map.specs.declared.EditKind.TheVariants.{Insert, Delete, Move}
 use Rattle.line_map.specs.Edit.{image_at, is_valid, opposite_of}

@@ -14,7 +14,7 @@ use crate::line_diffs::{lines_back, lines_forward};
 use base_axis::{ColumnAxis, RowAxis};
 use base_shared::Shared;
 use base_values::{EditError, Position, copy_of};
-use formula_content::fits_at;
+use cell_content::fits_at;
 use line_map::{EditKind, LineEdit};
 use sheet_grid::{Cell, Workbook};
 use sheet_lines::KeptLines;

@@ -4,7 +4,7 @@ use Rattle.std.specs.List.{AllByRecursion, IsDistinct, find}
 use Rattle.std.specs.FinMap.{get}
 use Rattle.base_values.specs.declared.Position.{Position}
 use Rattle.formula_tree.specs.Placed.{is_placed}
-use Rattle.formula_content.specs.Lens.{tree_of}
+use Rattle.cell_content.specs.Lens.{tree_of}
 use Rattle.sheet_grid.specs.declared.Cell.{Cell}
 use Rattle.sheet_grid.specs.Sheet.{Sheet}
 use Rattle.sheet_grid.specs.Book.{Book}

@@ -10,7 +10,7 @@ use Rattle.base_tables.specs.Folding.{same_folded}
 use Rattle.base_styles.specs.declared.style.Style.{Style}
 use Rattle.base_styles.specs.contracts.style.Style as style
 use Rattle.base_styles.specs.DefaultStyle.{default_style}
-use Rattle.formula_content.specs.Fitting.{fits_at}
+use Rattle.cell_content.specs.Fitting.{fits_at}
 use Rattle.sheet_grid.specs.declared.Cell.{Cell}
 use Rattle.sheet_grid.specs.declared.LineAttr.{LineAttr}
 use Rattle.sheet_grid.specs.declared.Link.{Link}

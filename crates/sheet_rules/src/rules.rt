@@ -9,7 +9,7 @@ use crate::ids::have_distinct_ids;
 use crate::names::{have_distinct_names, have_names};
 use base_axis::{Axis, AxisMap};
 use base_values::{LAST_COLUMN, LAST_ROW, PlaceMap};
-use formula_content::fits_at;
+use cell_content::fits_at;
 use sheet_grid::{Workbook, Worksheet};
 
 /// Rule 1: there is a sheet, ids are distinct, names are legal and distinct by case folding.

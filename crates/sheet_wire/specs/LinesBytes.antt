@@ -9,8 +9,8 @@ use Rattle.sheet_history.specs.declared.LineAxis.{LineAxis}
 use Rattle.sheet_history.specs.declared.LineAxis.TheVariants.{Rows, Columns}
 use Rattle.base_wire.specs.Reading.{Reader, ◌⊗◌, code_at, number_at}
 use Rattle.base_wire.specs.Spelling.{spell_code}
-use Rattle.kept_wire.specs.EditBytes.{spell_edit, edit_at, FitsEdit}
-use Rattle.kept_wire.specs.KeptBytes.{spell_kept, kept_at, FitsKept}
+use Rattle.lines_wire.specs.EditBytes.{spell_edit, edit_at, FitsEdit}
+use Rattle.lines_wire.specs.KeptBytes.{spell_kept, kept_at, FitsKept}
 
 -- rows or columns
 abbrev pub axis_code : LineAxis → ℕ

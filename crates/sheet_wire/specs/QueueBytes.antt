@@ -16,7 +16,7 @@ use Rattle.sheet_history.specs.declared.QueueDiffs.{QueueDiffs}
 use Rattle.base_wire.specs.Reading.{Reader, refused, map_at, ◌⊗◌, tagged_at, code_at, number_at, option_at, list_at, after, whole}
 use Rattle.base_wire.specs.Spelling.{spell_code, spell_option, spell_list, FitsItems}
 use Rattle.cell_wire.specs.CellBytes.{spell_position, position_at, FitsPosition, spell_cell, cell_at, FitsCell, IsKnownCell}
-use Rattle.kept_wire.specs.KeptBytes.{IsKnownKept}
+use Rattle.lines_wire.specs.KeptBytes.{IsKnownKept}
 use Rattle.sheet_wire.specs.LinesBytes.{spell_lines, lines_parts_at, FitsLines, IsKeptOfLines}
 
 -- ---- diffs

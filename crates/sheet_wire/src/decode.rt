@@ -15,7 +15,7 @@ use base_styles::Style;
 use base_values::{EditError, Items};
 use base_wire::Part;
 use cell_wire::{CellPart, PositionPart};
-use kept_wire::{EditPart, KeptLinesPart};
+use lines_wire::{EditPart, KeptLinesPart};
 use sheet_history::{Diff, DiffType, LineAxis, QueueDiffs};
 use std::alloc::Global;
 

@@ -2,7 +2,7 @@
 
 ghost use Rattle.std.specs.Prelude.{◌≡◌, ◌++◌, OnOk, IfOk, IsOkUnless};
 ghost use Rattle.base_values.specs.declared.EditError.TheVariants.{NoMemory};
-ghost use Rattle.kept_wire.specs.KeptBytes.{IsKnownKept};
+ghost use Rattle.lines_wire.specs.KeptBytes.{IsKnownKept};
 ghost use Rattle.sheet_wire.specs.LinesBytes.{spell_lines, FitsLines};
 ghost use Rattle.sheet_wire.specs.QueueBytes.{spell_diff, spell_entry, spell_queue, FitsDiff, FitsEntry, FitsQueue, IsKnownDiff, IsKnownEntry, IsKnownQueue};
 
@@ -12,7 +12,7 @@ use base_shared::Shared;
 use base_values::{EditError, Items};
 use base_wire::{Part, put_items};
 use cell_wire::{CellPart, PositionPart};
-use kept_wire::{EditPart, KeptLinesPart};
+use lines_wire::{EditPart, KeptLinesPart};
 use line_map::EditKind;
 use sheet_history::{Diff, LineAxis, QueueDiffs};
 use sheet_lines::KeptLines;

@@ -3,9 +3,9 @@ use Rattle.std.proofs.Common.{◌≡◌, Option, Some, None, refl, ap, sym, subs
 use Rattle.std.specs.Prelude.{IfSome}
 use Rattle.std.specs.Option.{option_map}
 use Rattle.formula_tree.specs.declared.Node.{Node}
-use Rattle.formula_content.specs.declared.Content.{Content}
-use Rattle.formula_content.specs.Lens.{tree_of, with_tree}
-use Rattle.formula_content.specs.laws.LensLaws.{tree_of-with_tree, with_own_tree, with_tree-with_tree}
+use Rattle.cell_content.specs.declared.Content.{Content}
+use Rattle.cell_content.specs.Lens.{tree_of, with_tree}
+use Rattle.cell_content.specs.laws.LensLaws.{tree_of-with_tree, with_own_tree, with_tree-with_tree}
 use Rattle.sheet_grid.specs.declared.Cell.{Cell}
 use Rattle.line_map.specs.Carried.{if_there}
 use Rattle.line_map.specs.Contents.{with_new_tree, content_carried, content_part, ContentLies, cell_carried, cell_part, cell_restored, CellLies}

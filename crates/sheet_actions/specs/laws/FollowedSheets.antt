@@ -12,9 +12,9 @@ use Rattle.formula_tree.specs.Depth.{is_within}
 use Rattle.formula_tree.specs.Numbers.{has_no_negative_number}
 use Rattle.formula_tree.specs.Placed.{is_placed}
 use Rattle.formula_tree.specs.laws.MovedLaws.{depth-moved}
-use Rattle.formula_content.specs.Fitting.{tree_fits_at, fits_at}
-use Rattle.formula_content.specs.declared.Content.{Content}
-use Rattle.formula_content.specs.declared.Content.TheVariants.{Empty, Number, Boolean, Error, Text, Formula, Dynamic}
+use Rattle.cell_content.specs.Fitting.{tree_fits_at, fits_at}
+use Rattle.cell_content.specs.declared.Content.{Content}
+use Rattle.cell_content.specs.declared.Content.TheVariants.{Empty, Number, Boolean, Error, Text, Formula, Dynamic}
 use Rattle.line_map.specs.Attributes.{lines_carried}
 use Rattle.line_map.specs.Contents.{content_carried, cell_carried}
 use Rattle.line_map.specs.Trees.{following, tree_carried}

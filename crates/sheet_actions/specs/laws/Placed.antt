@@ -6,8 +6,8 @@ use Rattle.std.specs.Option.{option_map_or}
 use Rattle.base_values.specs.declared.Position.{Position}
 use Rattle.formula_tree.specs.declared.Node.{Node}
 use Rattle.formula_tree.specs.Placed.{is_placed}
-use Rattle.formula_content.specs.Fitting.{tree_fits_at}
-use Rattle.formula_content.specs.Lens.{tree_of}
+use Rattle.cell_content.specs.Fitting.{tree_fits_at}
+use Rattle.cell_content.specs.Lens.{tree_of}
 use Rattle.sheet_grid.specs.FittingCells.{entry_fits_at}
 use Rattle.sheet_grid.specs.Sheet.{Sheet}
 use Rattle.sheet_grid.specs.Book.{Book}

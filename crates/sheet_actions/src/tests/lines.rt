@@ -2,7 +2,7 @@
 use super::{edit, empty_book};
 use crate::Model;
 use base_values::EditError;
-use formula_content::Content;
+use cell_content::Content;
 use line_map::EditKind;
 use sheet_grid::{DefaultStyle, Worksheet};
 use std::alloc::Global;

@@ -7,9 +7,9 @@ use Rattle.base_values.specs.Places.{position_cmp}
 use Rattle.base_values.specs.laws.Places.{position_total, exact_positions}
 use Rattle.base_axis.specs.Along.{IsAxis}
 use Rattle.formula_tree.specs.declared.Node.{Node}
-use Rattle.formula_content.specs.declared.Content.{Content}
-use Rattle.formula_content.specs.declared.Content.TheVariants.{Empty, Number, Boolean, Error, Text, Formula, Dynamic}
-use Rattle.formula_content.specs.Fitting.{fits_at, tree_fits_at}
+use Rattle.cell_content.specs.declared.Content.{Content}
+use Rattle.cell_content.specs.declared.Content.TheVariants.{Empty, Number, Boolean, Error, Text, Formula, Dynamic}
+use Rattle.cell_content.specs.Fitting.{fits_at, tree_fits_at}
 use Rattle.line_map.specs.Edit.{IsValid}
 use Rattle.line_map.specs.Carried.{if_there, if_goes, get-parts_map, get-follow_map}
 use Rattle.sheet_grid.specs.declared.Cell.{Cell}

@@ -15,10 +15,10 @@ use Rattle.base_values.specs.Places.{position_cmp}
 use Rattle.base_values.specs.laws.Places.{position_total, exact_positions}
 use Rattle.base_axis.specs.Along.{Along, IsAxis}
 use Rattle.formula_tree.specs.declared.Node.{Node}
-use Rattle.formula_content.specs.declared.Content.TheVariants.{Formula}
+use Rattle.cell_content.specs.declared.Content.TheVariants.{Formula}
 use Rattle.formula_tree.specs.Depth.{is_within}
-use Rattle.formula_content.specs.Fitting.{fits_at, tree_fits_at}
-use Rattle.formula_content.specs.laws.FittingLaws.{shallow_where_fits}
+use Rattle.cell_content.specs.Fitting.{fits_at, tree_fits_at}
+use Rattle.cell_content.specs.laws.FittingLaws.{shallow_where_fits}
 use Rattle.line_map.specs.declared.EditKind.{EditKind}
 use Rattle.line_map.specs.declared.EditKind.TheVariants.{Insert, Delete}
 use Rattle.line_map.specs.Edit.{image_at, goes_to, within, opposite_of, IsValid, IsWithin}

@@ -13,9 +13,9 @@ use Rattle.base_values.specs.laws.Places.{position_total}
 use Rattle.formula_tree.specs.declared.Node.{Node}
 use Rattle.formula_tree.specs.contracts.node.Node.{the_row}
 use Rattle.formula_tree.specs.Numbers.{has_kept_numbers}
-use Rattle.formula_content.specs.KeptContent.{IsKeptContent}
-use Rattle.formula_content.specs.declared.Content.{Content}
-use Rattle.formula_content.specs.declared.Content.TheVariants.{Empty, Number, Boolean, Error, Text, Formula, Dynamic}
+use Rattle.cell_content.specs.KeptContent.{IsKeptContent}
+use Rattle.cell_content.specs.declared.Content.{Content}
+use Rattle.cell_content.specs.declared.Content.TheVariants.{Empty, Number, Boolean, Error, Text, Formula, Dynamic}
 use Rattle.base_values.specs.CodedEq.{same_value}
 use Rattle.sheet_grid.specs.declared.Cell.{Cell}
 use Rattle.sheet_grid.specs.KeptCell.{IsKeptCell, KeptCells}

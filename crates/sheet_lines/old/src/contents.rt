@@ -11,7 +11,7 @@ use crate::sheet_edit::{SheetEdit, followed_tree, place_goes};
 use base_axis::Axis;
 use base_shared::Shared;
 use base_values::{EditError, Position, copy_of};
-use formula_content::Content;
+use cell_content::Content;
 use formula_tree::Node;
 use sheet_grid::Cell;
 use std::alloc::Global;

@@ -18,7 +18,7 @@ use Rattle.sheet_history.specs.Diffs.{IsKeptDiff, IsKeptList, IsKeptQueue}
 use Rattle.formula_wire.specs.Carried.{IsKnownNode}
 use Rattle.cell_wire.specs.CellBytes.{FitsCell, IsKnownCell}
 use Rattle.cell_wire.specs.laws.Fitting.{kept_cell_from_fits}
-use Rattle.kept_wire.specs.laws.KeptFits.{kept_lines_from_fits}
+use Rattle.lines_wire.specs.laws.KeptFits.{kept_lines_from_fits}
 use Rattle.sheet_wire.specs.QueueBytes.{FitsDiff, FitsList, FitsEntry, FitsQueue, IsKeptOfDiff, IsKnownDiff}
 
 -- ---- what fits is kept

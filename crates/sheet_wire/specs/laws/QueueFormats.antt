@@ -21,10 +21,10 @@ use Rattle.base_wire.specs.laws.Refusals.{IsPlain, code_plain, if_plain, map_pla
 use Rattle.base_wire.specs.laws.Spelled.{ReadsSpelled, code_spelled, tag_if, tag_map, tag_refused, tagged_spelled}
 use Rattle.cell_wire.specs.CellBytes.{spell_position, FitsPosition, spell_cell, FitsCell}
 use Rattle.cell_wire.specs.laws.Formats.{position_format, cell_format}
-use Rattle.kept_wire.specs.EditBytes.{spell_edit, FitsEdit}
-use Rattle.kept_wire.specs.KeptBytes.{spell_kept, FitsKept}
-use Rattle.kept_wire.specs.laws.EditLaws.{edit_format}
-use Rattle.kept_wire.specs.laws.KeptLaws.{kept_format}
+use Rattle.lines_wire.specs.EditBytes.{spell_edit, FitsEdit}
+use Rattle.lines_wire.specs.KeptBytes.{spell_kept, FitsKept}
+use Rattle.lines_wire.specs.laws.EditLaws.{edit_format}
+use Rattle.lines_wire.specs.laws.KeptLaws.{kept_format}
 use Rattle.sheet_wire.specs.LinesBytes.{axis_code, axes, spell_lines, lines_parts_at}
 use Rattle.sheet_wire.specs.QueueBytes.{spell_diff, cell_diff_made, entry_of_cell_at, cell_parts_at, cell_diff_at, lines_diff_made, lines_diff_at, diff_of, diff_at, FitsDiff, FitsList, direction_code, directions, spell_entry, entry_made, list_of_diffs_at, entry_at, FitsEntry, magic, FitsQueue}
 

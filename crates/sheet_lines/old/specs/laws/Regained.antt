@@ -17,8 +17,8 @@ use Rattle.base_values.specs.laws.Places.{position_total, exact_positions}
 use Rattle.base_axis.specs.Along.{Along, IsAxis}
 use Rattle.formula_tree.specs.declared.Node.{Node}
 use Rattle.formula_tree.specs.contracts.node.Node.{the_row}
-use Rattle.formula_content.specs.declared.Content.{Content}
-use Rattle.formula_content.specs.declared.Content.TheVariants.{Empty, Number, Boolean, Error, Text, Formula, Dynamic}
+use Rattle.cell_content.specs.declared.Content.{Content}
+use Rattle.cell_content.specs.declared.Content.TheVariants.{Empty, Number, Boolean, Error, Text, Formula, Dynamic}
 use Rattle.sheet_grid.specs.declared.Cell.{Cell}
 use Rattle.sheet_grid.specs.Sheet.{Sheet}
 use Rattle.sheet_grid.specs.Book.{Book}

@@ -99,9 +99,19 @@ fn refuses_along(
         (0, last + 1, most, outside, outside),
         (1, 0, 0, missing, missing),
     ] {
-        let insertion = edit(&mut model, is_rows, sheet, EditKind::Insert { first, count });
+        let insertion = edit(
+            &mut model,
+            is_rows,
+            sheet,
+            EditKind::Insert { first, count },
+        );
         assert_eq!(rt; insertion, inserted);
-        let deletion = edit(&mut model, is_rows, sheet, EditKind::Delete { first, count });
+        let deletion = edit(
+            &mut model,
+            is_rows,
+            sheet,
+            EditKind::Delete { first, count },
+        );
         assert_eq!(rt; deletion, deleted);
     }
     Ok(())
@@ -114,14 +124,23 @@ fn refusals_of_rows(rt: HostRuntime) -> Result<(), Fail> {
 
 #[test]
 fn refusals_of_columns(rt: HostRuntime) -> Result<(), Fail> {
-    refuses_along(&rt, rt.alloc(), false, LAST_COLUMN, EditError::InvalidColumn)
+    refuses_along(
+        &rt,
+        rt.alloc(),
+        false,
+        LAST_COLUMN,
+        EditError::InvalidColumn,
+    )
 }
 
 /// Moves of an empty sheet's lines. Where none moves, or by none, nothing else is tested.
 #[test]
 fn refusals_of_moves(rt: HostRuntime) -> Result<(), Fail> {
     let mut model = empty_model(rt.alloc())?;
-    let (missing, past) = (Err(EditError::InvalidSheet), Err(EditError::TargetOutOfBounds));
+    let (missing, past) = (
+        Err(EditError::InvalidSheet),
+        Err(EditError::TargetOutOfBounds),
+    );
     for (is_rows, sheet, first, count, delta, answer) in [
         (false, 0, 16_383, 1, 1, Ok(())),
         (false, 0, 16_383, 1, 2, past),
@@ -144,7 +163,11 @@ fn refusals_of_moves(rt: HostRuntime) -> Result<(), Fail> {
             count,
             delta,
         };
-        assert_eq!(rt; edit(&mut model, is_rows, sheet, kind), answer, "at {first}, {count}, {delta}");
+        assert_eq!(rt;
+            edit(&mut model, is_rows, sheet, kind),
+            answer,
+            "at {first}, {count}, {delta}"
+        );
     }
     Ok(())
 }

@@ -17,10 +17,10 @@ mod workbook;
 mod worksheet;
 
 pub use cell::Cell;
+pub use cell_content::Content;
 pub use column_attr::ColumnAttr;
 pub use default_style::DefaultStyle;
 pub use dimension::WorksheetDimension;
-pub use cell_content::Content;
 pub use line_attr::{LineAttr, USUAL_HEIGHT, USUAL_WIDTH};
 pub use link::Link;
 pub use row_attr::RowAttr;

@@ -50,8 +50,6 @@ abbrev pub is_there_inside : Along → EditKind → Option Sheet → Bool
 is_there_inside a e None = false
 is_there_inside a e (Some sheet) = stays_inside a e sheet
 
-
-
 -- a place of the sheet, or a line of the axis, that has no image
 abbrev pub is_lost_place : Along → EditKind → Position → Bool
 is_lost_place a e place = is_place place && is_none (place_image a (image_at a.last e) place)

@@ -57,9 +57,7 @@ fn is_pushed_past<A: Axis>(first: i32, count: i32, place: Position) -> bool
 fn none_pushed<A: Axis>(first: i32, count: i32, sheet: &Worksheet) -> bool
     ensures { result ≡ list_all (λ (entry : Position × Cell). not (is_pushed_past A.along first count entry.0)) (entries sheet.now.cells) }
 {
-    sheet
-        .cells()
-        .all(|(place, _cell)| !is_pushed_past::<A>(first, count, *place))
+    sheet.cells().all(|(place, _cell)| !is_pushed_past::<A>(first, count, *place))
 }
 
 /// Whether no cell of a sheet is pushed past the last line.
@@ -222,7 +220,13 @@ fn formulas_stand<A: Axis>(
     ensures { result ≡ formulas_stand A.along edit.now.kind id formulas.now workbook.now }
 {
     formulas.iter().all(|(key, tree)| {
-        tree_stands(edit, id, sheet_of(workbook, key.sheet), key.place, tree.get())
+        tree_stands(
+            edit,
+            id,
+            sheet_of(workbook, key.sheet),
+            key.place,
+            tree.get(),
+        )
     })
 }
 

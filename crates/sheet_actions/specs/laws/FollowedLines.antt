@@ -70,9 +70,9 @@ module _ {X : Type 0} (P : X → Bool) where
   carried_passes : (w : Way) → IsWay w → (b : Along) (same : X → X → Bool) (m : FinMap int_cmp X) → Passes m → Passes (lines_carried b same w m)
   carried_passes w is b same m all =
       elim (line_goes_along b w) as (λ t. Passes (if t then overlaid (heirs b same w.moves.inserted m) (moved_map w.moves.to m) else m)) [
-      | true ↦ overlaid_passes (heirs b same w.moves.inserted m) (moved_map w.moves.to m) (heirs_pass b same w.moves.inserted m all) (moved_passes w is m all)
-      | false ↦ all
-    ]
+        | true ↦ overlaid_passes (heirs b same w.moves.inserted m) (moved_map w.moves.to m) (heirs_pass b same w.moves.inserted m all) (moved_passes w is m all)
+        | false ↦ all
+      ]
 
   -- a test of all that lines have
   pub values_follow : (w : Way) → IsWay w → (b : Along) (same : X → X → Bool) (m : FinMap int_cmp X) → list_all (λ e. P e.1) (entries m) ≡ true → list_all (λ e. P e.1) (entries (lines_carried b same w m)) ≡ true

@@ -8,14 +8,7 @@ use sheet_grid::{DefaultStyle, Worksheet};
 use std::alloc::Global;
 use std::test::Fail;
 
-const LETTERS: [(i32, &str); 6] = [
-    (1, "a"),
-    (2, "b"),
-    (3, "c"),
-    (4, "d"),
-    (5, "e"),
-    (6, "f"),
-];
+const LETTERS: [(i32, &str); 6] = [(1, "a"), (2, "b"), (3, "c"), (4, "d"), (5, "e"), (6, "f")];
 
 fn inserted(first: i32, count: i32) -> EditKind {
     EditKind::Insert { first, count }

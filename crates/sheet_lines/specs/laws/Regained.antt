@@ -59,8 +59,8 @@ module _ (w : Way) (is : IsWay w) where
   cells_regained cells given trees lost kept =
       ap (λ m. overlaid m (places_restored cell_carried (λ _ cell tree. cell_restored cell tree) w trees (places_carried cell_carried w cells))) (lost_of w given cells lost)
       ∙ places_return w is cell_carried cell_part (λ _ cell tree. cell_restored cell tree) (λ _ _. Unit {0})
-        (λ v _ x _ h. cell_comes_back v x h) (λ v _ x _ k h. cell_restores v x k h) cells (λ p q x _ _. tt) trees
-        (λ p q x there held. kept p ∙ ap (λ v. if_there v (λ cell. if_there (place_goes w p) (λ q. cell_part (at w p q) cell))) held ∙ ap (λ t. if_there t (λ q. cell_part (at w p q) x)) there)
+      (λ v _ x _ h. cell_comes_back v x h) (λ v _ x _ k h. cell_restores v x k h) cells (λ p q x _ _. tt) trees
+      (λ p q x there held. kept p ∙ ap (λ v. if_there v (λ cell. if_there (place_goes w p) (λ q. cell_part (at w p q) cell))) held ∙ ap (λ t. if_there t (λ q. cell_part (at w p q) x)) there)
 
   -- its links
   links_regained : (links given : FinMap position_cmp Link) → (w.is_edited ≡ true → given ≡ lost_map (place_image w.along w.moves.to) links) →

@@ -10,8 +10,6 @@ use sheet_grid::{Cell, ColumnAttr, DefaultStyle, RowAttr, Workbook, Worksheet};
 use std::alloc::Global;
 use std::test::Fail;
 
-mod sizes;
-
 fn broken(alloc: Global, sheets: Items<Worksheet>) -> Result<Option<u8>, EditError> {
     let empty = Workbook::new_empty(alloc, "book", Locale::En, Zone::Utc)?;
     let book = empty.with_worksheets(sheets)?;

@@ -2,10 +2,8 @@
 // after it goes on by as many lines, a deleted one is lost, one after a deletion goes back, a block
 // that moves passes lines, which go the other way. How formulas follow is shown by the scripts of
 // edit_script.
-ghost use Rattle.std.specs.Prelude.{pos};
-
 use crate::{EditKind, LineEdit, LineMap};
-use base_axis::{ColumnAxis, RowAxis};
+use base_axis::{Axis, ColumnAxis, RowAxis};
 use base_values::{EditError, line_of};
 use std::test::Fail;
 

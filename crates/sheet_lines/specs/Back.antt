@@ -1,15 +1,15 @@
 -- A workbook taken back along a map on the lines of one of its sheets.
-use Rattle.std.specs.Prelude.{◌≡◌, ℕ, true, List, map, Some, None, if◌then◌else◌}
+use Rattle.std.specs.Prelude.{◌≡◌, ℕ, true, List, map, Some, if◌then◌else◌}
 use Rattle.std.specs.declared.cmp.Ordering.{Ordering}
-use Rattle.std.specs.FinMap.{FinMap, empty, get}
+use Rattle.std.specs.FinMap.{FinMap, get}
 use Rattle.base_axis.specs.Along.{Along, rows, columns}
 use Rattle.line_map.specs.declared.EditKind.{EditKind}
 use Rattle.line_map.specs.Attributes.{lines_restored, LinesLie}
 use Rattle.line_map.specs.Carried.{overlaid}
 use Rattle.line_map.specs.Contents.{cell_carried, cell_restored}
-use Rattle.line_map.specs.Maps.{places_restored, KeysInside}
+use Rattle.line_map.specs.Maps.{places_carried, places_restored, KeysInside}
 use Rattle.line_map.specs.Moves.{LineMoves, edit_moves}
-use Rattle.line_map.specs.Way.{Way}
+use Rattle.line_map.specs.Way.{Way, back}
 use Rattle.formula_tree.specs.declared.Node.{Node}
 use Rattle.formula_tree.specs.Placed.{is_placed}
 use Rattle.base_maps.specs.declared.SheetPlace.{SheetPlace}
@@ -22,16 +22,16 @@ use Rattle.sheet_lines.specs.Followed.{way_of}
 use Rattle.sheet_lines.specs.Kept.{place_on}
 use Rattle.sheet_lines.specs.Sheets.{IsPlacedCell, sheet_of, name_of}
 
--- what is kept of the edited sheet; nothing of another one
-abbrev pub if_edited : {K X : Type 0} {R : K → K → Ordering} → Way → FinMap R X → FinMap R X
-if_edited w m = if w.is_edited then m else empty
+-- what came back, on the edited sheet with the lost entries in place of its own
+abbrev pub with_lost : {K X : Type 0} {R : K → K → Ordering} → Way → FinMap R X → FinMap R X → FinMap R X
+with_lost w lost m = if w.is_edited then overlaid lost m else m
 
 -- a sheet taken back: its cells with the kept trees and the lost cells, its links with the lost ones, and its rows and columns with what
 -- the lost ones had
 abbrev pub sheet_back : Way → KeptLines → Sheet → Sheet
 sheet_back w kept sheet = record sheet {
-  cells = overlaid (if_edited w kept.cells) (places_restored cell_carried (λ _ cell tree. cell_restored cell tree) w (λ place. get kept.formulas (place_on sheet.id place)) sheet.cells);
-  links = overlaid (if_edited w kept.links) (places_restored {P = Unit {0}} (λ _ link. link) (λ _ link _. link) w (λ _. None) sheet.links);
+  cells = with_lost w kept.cells (places_restored cell_carried (λ _ cell tree. cell_restored cell tree) w (λ place. get kept.formulas (place_on sheet.id place)) sheet.cells);
+  links = with_lost w kept.links (places_carried (λ _ link. link) (back w) sheet.links);
   rows = lines_restored rows w sheet.rows kept.lines;
   columns = lines_restored columns w sheet.columns kept.lines;
 }

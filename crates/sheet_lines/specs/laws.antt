@@ -1,2 +1,5 @@
 pub mod KeptEquals
 pub mod MovedNumbers
+pub mod Each
+pub mod Stays
+pub mod Under

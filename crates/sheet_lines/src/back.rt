@@ -3,7 +3,10 @@ ghost use Rattle.std.specs.List.{AllByRecursion};
 ghost use Rattle.std.specs.FinMap.{get};
 ghost use Rattle.base_axis.specs.Along.{Along};
 ghost use Rattle.base_values.specs.declared.EditError.TheVariants.{NoMemory};
+ghost use Rattle.line_map.specs.Attributes.{LinesLie, lines_restored};
 ghost use Rattle.line_map.specs.Edit.{IsValid};
+ghost use Rattle.line_map.specs.Maps.{KeysInside};
+ghost use Rattle.line_map.specs.Way.{way};
 ghost use Rattle.sheet_lines.specs.Back.{LieInside, sheet_back, book_back};
 ghost use Rattle.sheet_lines.specs.Followed.{way_on};
 ghost use Rattle.sheet_lines.specs.Kept.{place_on};
@@ -17,17 +20,16 @@ use crate::inside::{lines_inside, places_inside};
 use crate::kept::KeptLines;
 use crate::sheets::route_on;
 use base_axis::{Axis, AxisMap};
-use base_maps::{NumberMap, PositionMap, SheetPlace, SheetPlaceMap};
+use base_maps::{SheetPlace, SheetPlaceMap};
 use base_shared::Shared;
-use base_values::{EditError, Items, PlaceMap, Position};
+use base_values::{EditError, Items, PlaceMap, Position, copy_of};
 use formula_tree::Node;
-use line_map::{
-    Follower, LineEdit, LineMap, Nothing, Parts, Route, overlaid_places, restored_places,
-};
+use line_map::{Follower, LineEdit, LineMap, Parts, Route, overlaid_places, restored_places};
 use sheet_grid::{Cell, LineAttr, Link, Workbook, Worksheet};
 use std::alloc::Global;
 
 /// The kept trees of the sheet of an id.
+#[derive(Drop)]
 struct SheetTrees<'k> {
     formulas: &'k SheetPlaceMap<Shared<Node>>,
     id: u32,
@@ -53,13 +55,16 @@ fn cells_back<A: Axis, M: LineMap<A>>(
     route: &Route<'_, A, M>,
     kept: &KeptLines,
     sheet: &Worksheet,
-) -> Result<PlaceMap<Shared<Cell>>, EditError> {
-    places_inside(sheet.cell_map());
-    let trees = SheetTrees {
-        formulas: &kept.formulas,
-        id: sheet.get_sheet_id(),
-    };
-    let cells = restored_places(alloc, route, &trees, sheet.cell_map())?;
+) -> Result<PlaceMap<Shared<Cell>>, EditError>
+    requires placed { IsPlacedSheet sheet.now }
+    requires inside { KeysInside kept.now.cells }
+    ensures cells { IfOk result (λ made. made ≡ (sheet_back (way route.now) kept.now sheet.now).cells) }
+    ensures only { IsOkUnless result NoMemory }
+{
+    let (cells, id) = (sheet.cell_map(), sheet.get_sheet_id());
+    places_inside(cells);
+    let formulas = &kept.formulas;
+    let cells = restored_places(alloc, route, &SheetTrees { formulas, id }, cells)?;
     if route.is_edited {
         overlaid_places(&kept.cells, cells)
     } else {
@@ -73,15 +78,37 @@ fn links_back<A: Axis, M: LineMap<A>>(
     route: &Route<'_, A, M>,
     kept: &KeptLines,
     sheet: &Worksheet,
-) -> Result<PlaceMap<Link>, EditError> {
-    places_inside(sheet.link_map());
-    let no_parts: PositionMap<Nothing> = PositionMap::new(alloc);
-    let links = restored_places(alloc, route, &no_parts, sheet.link_map())?;
+) -> Result<PlaceMap<Link>, EditError>
+    requires { KeysInside kept.now.links }
+    ensures links { IfOk result (λ made. made ≡ (sheet_back (way route.now) kept.now sheet.now).links) }
+    ensures only { IsOkUnless result NoMemory }
+{
+    let links = sheet.link_map();
+    places_inside(links);
+    let links = links.carry(alloc, &route.back())?;
     if route.is_edited {
         overlaid_places(&kept.links, links)
     } else {
         Ok(links)
     }
+}
+
+/// What the lines of an axis have, taken back on the edited axis of the edited sheet.
+fn lines_back<A: Axis, B: Axis, M: LineMap<A>>(
+    alloc: Global,
+    route: &Route<'_, A, M>,
+    kept: &KeptLines,
+    lines: &AxisMap<B, LineAttr>,
+) -> Result<AxisMap<B, LineAttr>, EditError>
+    requires { LinesLie A.along kept.now.lines }
+    ensures lines { IfOk result (λ made. made ≡ lines_restored B.along (way route.now) lines.now kept.now.lines) }
+    ensures only { IsOkUnless result NoMemory }
+{
+    if !route.is_edited || !A::of(B::of(true, false), B::of(false, true)) {
+        return copy_of(lines);
+    }
+    lines_inside(lines);
+    lines.restore(alloc, route, &kept.lines)
 }
 
 /// A sheet taken back: each part of it is restored.
@@ -98,12 +125,11 @@ fn sheet_back<A: Axis, M: LineMap<A>>(
     ensures only { IsOkUnless result NoMemory }
 {
     let route = route_on(edited, sheet);
-    lines_inside(sheet.row_map());
-    lines_inside(sheet.column_map());
+    let _ = sheet.cell_map(); // for the proof: its numbers are kept
     let cells = cells_back(alloc, &route, kept, sheet)?;
     let links = links_back(alloc, &route, kept, sheet)?;
-    let rows = sheet.row_map().restore(alloc, &route, &kept.lines)?;
-    let columns = sheet.column_map().restore(alloc, &route, &kept.lines)?;
+    let rows = lines_back(alloc, &route, kept, sheet.row_map())?;
+    let columns = lines_back(alloc, &route, kept, sheet.column_map())?;
     sheet.with_entries(cells, links, rows, columns)
 }
 

@@ -9,12 +9,11 @@ ghost use Rattle.sheet_lines.specs.Sheets.{sheet_of, name_of, IsPlacedBook};
 
 use crate::edited_sheet::EditedSheet;
 use crate::followed::{edited_by, followed_book};
-use crate::inside::places_inside;
+use crate::inside::{lines_inside, places_inside};
 use crate::keeping::{kept_formulas, lost_attributes};
 use crate::kept::KeptLines;
 use crate::sheets::{route_on, sheet_of};
 use base_axis::Axis;
-use base_maps::{NumberMap, PositionMap};
 use base_values::EditError;
 use line_map::{LineEdit, LineMap, lost_places};
 use sheet_grid::Workbook;
@@ -36,19 +35,17 @@ fn kept_lines<A: Axis, M: LineMap<A>>(
 {
     let formulas = kept_formulas(alloc, edited, workbook.worksheets())?;
     let Some(sheet) = sheet_of(workbook, edited.id) else {
-        return Ok(KeptLines {
-            cells: PositionMap::new(alloc),
-            links: PositionMap::new(alloc),
-            lines: NumberMap::new(alloc),
-            formulas,
-        });
+        unreachable!()
     };
     let route = route_on(edited, sheet);
-    places_inside(sheet.cell_map());
-    places_inside(sheet.link_map());
+    let (cells, links) = (sheet.cell_map(), sheet.link_map());
+    places_inside(cells);
+    places_inside(links);
+    lines_inside(sheet.row_map());
+    lines_inside(sheet.column_map());
     Ok(KeptLines {
-        cells: lost_places(alloc, &route, sheet.cell_map())?,
-        links: lost_places(alloc, &route, sheet.link_map())?,
+        cells: lost_places(alloc, &route, cells)?,
+        links: lost_places(alloc, &route, links)?,
         lines: lost_attributes(alloc, edited, sheet)?,
         formulas,
     })

@@ -5,6 +5,7 @@ use line_map::LineMap;
 use std::marker::PhantomData;
 
 /// A map on the lines of the sheet of an id, with the name of that sheet.
+#[derive(Drop)]
 pub struct EditedSheet<'a, A: Axis, M: LineMap<A>> {
     pub map: &'a M,
     /// The map that takes the lines back.

@@ -47,8 +47,11 @@ fn keep_trees(
     ensures only { IsOkUnless result NoMemory }
 {
     for (place, tree) in trees.iter() {
-        let place = *place;
-        kept.insert(SheetPlace { sheet: id, place }, copy_of(tree)?)?;
+        let key = SheetPlace {
+            sheet: id,
+            place: *place,
+        };
+        kept.put(key, Some(copy_of(tree)?))?;
     }
     Ok(())
 }
@@ -62,10 +65,12 @@ fn sheet_trees<A: Axis, M: LineMap<A>>(
 ) -> Result<PositionMap<Shared<Node>>, EditError>
     requires { IsPlacedSheet sheet.now }
     ensures trees { IfOk result (λ trees. trees ≡ trees_kept A.along (M.moves edited.now.map.now) edited.now.id edited.now.name.now sheet.now) }
+    ensures numbers { IfOk result AreKeptFormulas }
     ensures only { IsOkUnless result NoMemory }
 {
-    places_inside(sheet.cell_map());
-    kept_parts(alloc, &route_on(edited, sheet), sheet.cell_map())
+    let cells = sheet.cell_map();
+    places_inside(cells);
+    kept_parts(alloc, &route_on(edited, sheet), cells)
 }
 
 /// Those of each sheet, under its id.

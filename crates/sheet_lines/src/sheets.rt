@@ -1,6 +1,6 @@
 ghost use Rattle.std.specs.Prelude.{◌≡◌, IsTrue, is_some};
 ghost use Rattle.std.specs.Option.{option_copied};
-ghost use Rattle.line_map.specs.Way.{way};
+ghost use Rattle.line_map.specs.Way.{IsWay, way};
 ghost use Rattle.sheet_lines.specs.Followed.{way_on};
 ghost use Rattle.sheet_lines.specs.Sheets.{sheet_of, name_of};
 
@@ -44,10 +44,11 @@ pub(crate) fn route_on<'s, 'a: 's, A: Axis, M: LineMap<A>>(
     edited: &EditedSheet<'a, A, M>,
     sheet: &'s Worksheet,
 ) -> Route<'s, A, M>
-    ensures { way result ≡ way_on edited.now sheet.now }
+    ensures way { way result ≡ way_on edited.now sheet.now }
+    ensures is { IsWay (way result) }
 {
     let (own, first) = (sheet.get_name(), Position { row: 1, column: 1 });
-    Route {
+    let route = Route {
         map: edited.map,
         opposite: edited.opposite,
         brings: true,
@@ -58,5 +59,7 @@ pub(crate) fn route_on<'s, 'a: 's, A: Axis, M: LineMap<A>>(
         from: first,
         to: first,
         axis: PhantomData,
-    }
+    };
+    route.is_way(); // for the proof
+    route
 }

@@ -1,5 +1,0 @@
-pub mod KeptEquals
-pub mod MovedNumbers
-pub mod Regained
-pub mod Kept
-pub mod Way

@@ -1,5 +1,5 @@
 -- The bytes of what an edit does to lines.
-use Rattle.std.specs.Prelude.{ℤ, List, ◌∷◌, ◌++◌, ℕ, ◌==◌, if◌then◌else◌, FitsSigned}
+use Rattle.std.specs.Prelude.{ℤ, List, ◌∷◌, ℕ, ◌==◌, if◌then◌else◌, FitsSigned}
 use Rattle.std.specs.Int.{w32}
 use Rattle.line_map.specs.declared.EditKind.{EditKind}
 use Rattle.line_map.specs.declared.EditKind.TheVariants.{Insert, Delete, Move}

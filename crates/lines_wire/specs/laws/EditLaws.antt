@@ -1,5 +1,5 @@
 -- The laws of the bytes of edits.
-use Rattle.std.proofs.Common.{◌≡◌, ◌≤◌, ℤ, List, ◌∷◌, ◌++◌, ℕ, length, Ok, refl, arith, eqb}
+use Rattle.std.proofs.Common.{◌≡◌, ◌≤◌, List, ◌++◌, ℕ, length, Ok, refl, arith, eqb}
 use Rattle.std.specs.Prelude.{FitsSigned}
 use Rattle.std.specs.Int.{w32}
 use Rattle.line_map.specs.declared.EditKind.{EditKind}

@@ -1,5 +1,5 @@
 -- What is known of kept parts that bytes can carry.
-use Rattle.std.proofs.Common.{List, [], ◌∷◌, Option, Some, None}
+use Rattle.std.proofs.Common.{List, [], ◌∷◌}
 use Rattle.std.specs.Prelude.{IfSome}
 use Rattle.std.specs.List.{AllByRecursion}
 use Rattle.std.specs.FinMap.{FinMap, entries, get}

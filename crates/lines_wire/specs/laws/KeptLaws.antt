@@ -1,5 +1,5 @@
 -- The laws of the bytes of what line edits keep.
-use Rattle.std.proofs.Common.{◌≡◌, ◌≤◌, [], ◌++◌, length, refl, subst, arith, ℕ, List}
+use Rattle.std.proofs.Common.{◌≤◌, [], length, refl, subst, arith, ℕ, List}
 use Rattle.std.specs.Prelude.{FitsSigned}
 use Rattle.std.specs.Cmp.{int_cmp_total}
 use Rattle.std.specs.Int.{w32}

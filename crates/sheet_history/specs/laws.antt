@@ -1,5 +1,6 @@
 pub mod DiffEquals
 pub mod Entries
+pub mod FromLines
 pub mod KeptTrees
 pub mod LineLaws
 pub mod LineRecords

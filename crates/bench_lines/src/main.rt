@@ -1,22 +1,24 @@
-//! Inserts rows in a workbook of many formulas, and takes them back, again and again, to be timed
-//! from outside.
+//! Edits lines of a workbook of many formulas, and takes them back, again and again, to be timed from
+//! outside.
 //!
-//! The lines of the input tell how many formulas there are, how often the rows are inserted, and
-//! how often they are taken back. How many formulas there are afterwards is written, and how many
-//! after going back.
+//! The lines of the input tell which edit it is (`insert-rows`, `insert-columns`, `move-rows` or
+//! `move-columns`), how many formulas there are, how often the lines are edited, and how often they
+//! are taken back. How many cells there are afterwards is written, and how many after going back.
 #![tactic(auto)]
 
 ghost use Rattle.std.specs.Prelude.{IfOk};
-ghost use Rattle.line_map.specs.Edit.{IsValid, IsWithin};
+ghost use Rattle.line_map.specs.Edit.{IsValid};
+ghost use Rattle.sheet_lines.specs.Sheets.{IsPlacedBook};
 
 use anyhow::{Context, Result};
-use base_axis::{Axis, RowAxis};
+use base_axis::{Axis, ColumnAxis, RowAxis};
 use base_shared::Shared;
 use base_styles::Style;
 use base_tables::{Locale, Zone};
-use base_values::{EditError, LAST_ROW, line_of};
+use base_values::{EditError, LAST_ROW};
 use formula_tree::{Corner, Node, SumKind, has_kept_numbers};
 use line_map::{EditKind, LineEdit};
+use sheet_actions::Model;
 use sheet_grid::{Workbook, Worksheet};
 use sheet_lines::{has_sheet, line_back, line_edit};
 use std::alloc::{AllocError, Global};
@@ -62,23 +64,52 @@ fn workbook_of(alloc: Global, count: i32) -> Result<Workbook, EditError> {
     Ok(book)
 }
 
-/// Two rows come before a row.
-#[tactic(auto, unfolding(line_map::specs::Edit::IsValid))]
-fn insertion<A: Axis>(row: i32) -> Result<LineEdit<A>, EditError>
+/// Two lines come before the second.
+const INSERTION: EditKind = EditKind::Insert { first: 2, count: 2 };
+
+/// The second line and the third go on by three.
+const MOVE: EditKind = EditKind::Move {
+    first: 2,
+    count: 2,
+    delta: 3,
+};
+
+/// Whether rows are edited, and how, by the word for it.
+fn edit_named(word: &str) -> Option<(bool, EditKind)> {
+    match word {
+        "insert-rows" => Some((true, INSERTION)),
+        "insert-columns" => Some((false, INSERTION)),
+        "move-rows" => Some((true, MOVE)),
+        "move-columns" => Some((false, MOVE)),
+        _ => None,
+    }
+}
+
+fn edit_of<A: Axis>(kind: EditKind) -> Result<LineEdit<A>, EditError>
     ensures { IfOk result (λ edit. IsValid A.along.last edit.kind) }
 {
-    let first = line_of(A::LAST, row, EditError::InvalidRow)?;
-    let count = line_of(A::LAST, 2, EditError::BadCount)?;
-    Ok(LineEdit::new(EditKind::Insert { first, count }))
+    let edit = LineEdit::new(kind);
+    if edit.is_valid() {
+        Ok(edit)
+    } else {
+        Err(EditError::TargetOutOfBounds)
+    }
 }
 
 fn cells_of(book: &Workbook) -> Result<usize, EditError> {
     Ok(book.worksheet(0)?.cells().count())
 }
 
-/// How many cells there are after the last of these insertions.
-fn inserted(alloc: Global, book: &Workbook, rounds: usize) -> Result<usize, EditError> {
-    let edit = insertion::<RowAxis>(2)?;
+/// How many cells there are after the last of these edits.
+fn edited<A: Axis>(
+    alloc: Global,
+    book: &Workbook,
+    kind: EditKind,
+    rounds: usize,
+) -> Result<usize, EditError>
+    requires { IsPlacedBook book.now }
+{
+    let edit = edit_of::<A>(kind)?;
     let mut cells = 0;
     for _ in 0..rounds {
         if has_sheet(book, 1) {
@@ -89,9 +120,16 @@ fn inserted(alloc: Global, book: &Workbook, rounds: usize) -> Result<usize, Edit
     Ok(cells)
 }
 
-/// How many cells there are after the last time that an insertion was taken back.
-fn taken_back(alloc: Global, book: &Workbook, rounds: usize) -> Result<usize, EditError> {
-    let edit = insertion::<RowAxis>(2)?;
+/// How many cells there are after the last time that an edit was taken back.
+fn taken_back<A: Axis>(
+    alloc: Global,
+    book: &Workbook,
+    kind: EditKind,
+    rounds: usize,
+) -> Result<usize, EditError>
+    requires { IsPlacedBook book.now }
+{
+    let edit = edit_of::<A>(kind)?;
     if !has_sheet(book, 1) {
         return Ok(0);
     }
@@ -106,23 +144,51 @@ fn taken_back(alloc: Global, book: &Workbook, rounds: usize) -> Result<usize, Ed
     Ok(cells)
 }
 
-fn read_number(rt: &HostRuntime) -> Result<usize> {
+/// How many cells there are after so many edits, and after so many ways back.
+fn counts<A: Axis>(
+    alloc: Global,
+    book: &Workbook,
+    kind: EditKind,
+    edits: usize,
+    returns: usize,
+) -> Result<(usize, usize), EditError>
+    requires { IsPlacedBook book.now }
+{
+    Ok((
+        edited::<A>(alloc, book, kind, edits)?,
+        taken_back::<A>(alloc, book, kind, returns)?,
+    ))
+}
+
+fn read_word(rt: &HostRuntime) -> Result<String> {
     let mut line = String::new(rt.alloc());
     rt.read_line(&mut line)?;
-    line.as_str()
+    Ok(line)
+}
+
+fn read_number(rt: &HostRuntime) -> Result<usize> {
+    read_word(rt)?
+        .as_str()
         .trim()
         .parse::<usize>()
         .context("a line of digits is wanted")
 }
 
 fn main(rt: HostRuntime) -> Result<()> {
+    let word = read_word(&rt)?;
+    let (is_rows, kind) = edit_named(word.as_str().trim()).context(
+        "the first line is no edit's name",
+    )?;
     let count = read_number(&rt)?.min(LAST_ROW as usize) as i32;
-    let book = workbook_of(rt.alloc(), count)?;
-    let insertions = read_number(&rt)?;
-    let cells = inserted(rt.alloc(), &book, insertions)?;
-    println!(rt; "{cells}")?;
-    let returns = read_number(&rt)?;
-    let cells = taken_back(rt.alloc(), &book, returns)?;
-    println!(rt; "{cells}")?;
+    let model = Model::from_workbook(rt.alloc(), workbook_of(rt.alloc(), count)?)?;
+    let (edits, returns) = (read_number(&rt)?, read_number(&rt)?);
+    let book = model.workbook();
+    let (after, before) = if is_rows {
+        counts::<RowAxis>(rt.alloc(), book, kind, edits, returns)?
+    } else {
+        counts::<ColumnAxis>(rt.alloc(), book, kind, edits, returns)?
+    };
+    println!(rt; "{after}")?;
+    println!(rt; "{before}")?;
     Ok(())
 }

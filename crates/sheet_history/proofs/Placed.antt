@@ -1,13 +1,11 @@
 -- Corners of formulas lie inside the sheet: in a well-formed workbook, and where a cell that fits is put.
-use Rattle.std.proofs.Common.{◌≡◌, ℕ, zero, suc, Bool, true, false, cond, List, [], ◌∷◌, Option, Some, None, Ok, Result, refl, ap, sym, subst, ◌∙◌}
-use Rattle.std.specs.Prelude.{IsTrue, IfSome, ◌&&◌, slice_set, slice_get}
+use Rattle.std.proofs.Common.{◌≡◌, ℕ, zero, suc, Bool, true, false, cond, List, [], ◌∷◌, Option, Some, None, Ok, refl, ap, sym, subst, ◌∙◌}
+use Rattle.std.specs.Prelude.{IsTrue, IfSome, slice_set, slice_get}
 use Rattle.std.specs.List.{AllByRecursion, list_all}
 use Rattle.std.specs.Option.{option_map_or}
 use Rattle.std.specs.Ordering.{eq_by_cmp}
 use Rattle.std.specs.FinMap.{get}
-use Rattle.base_values.specs.declared.EditError.{EditError}
 use Rattle.base_values.specs.declared.Position.{Position}
-use Rattle.base_values.specs.Answers.{Edits}
 use Rattle.base_values.specs.Places.{position_cmp}
 use Rattle.base_values.specs.laws.KeyMap.{get-with_entry}
 use Rattle.base_values.specs.laws.Places.{position_total, exact_positions}
@@ -19,7 +17,7 @@ use Rattle.line_map.specs.laws.Keys.{one_key}
 use Rattle.sheet_grid.specs.declared.Cell.{Cell}
 use Rattle.sheet_grid.specs.FittingCells.{entry_fits_at}
 use Rattle.sheet_grid.specs.Sheet.{Sheet, with_cell}
-use Rattle.sheet_grid.specs.Book.{Book, with_sheet}
+use Rattle.sheet_grid.specs.Book.{Book}
 use Rattle.sheet_rules.specs.laws.EntryLaws.{both}
 use Rattle.sheet_rules.specs.laws.WellFormedLaws.{well_formed_parts, cells_fit_from_trees}
 use Rattle.sheet_rules.specs.WellFormed.{have_trees, IsWellFormed}

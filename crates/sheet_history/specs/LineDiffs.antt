@@ -1,5 +1,5 @@
 -- When a diff of lines is made, and when it is taken back.
-use Rattle.std.proofs.Common.{ℕ, ℤ, pos, ◌+ℤ◌, Bool, true, false, Option, Some, None, Result, Ok, Err}
+use Rattle.std.proofs.Common.{ℕ, ℤ, ◌+ℤ◌, Bool, true, false, Option, Some, None, Result, Ok, Err}
 use Rattle.std.specs.Prelude.{not, ◌&&◌, ◌==◌, is_some, is_none, int_le, int_lt, if◌then◌else◌}
 use Rattle.std.specs.List.{list_all}
 use Rattle.std.specs.declared.cmp.Ordering.{Ordering}
@@ -19,7 +19,6 @@ use Rattle.line_map.specs.declared.EditKind.TheVariants.{Insert, Delete, Move}
 use Rattle.line_map.specs.Edit.{image_at, is_valid, opposite_of}
 use Rattle.line_map.specs.Moves.{place_image}
 use Rattle.sheet_grid.specs.declared.Cell.{Cell}
-use Rattle.sheet_grid.specs.declared.LineAttr.{LineAttr}
 use Rattle.sheet_grid.specs.Sheet.{Sheet}
 use Rattle.sheet_grid.specs.Book.{Book}
 use Rattle.sheet_rules.specs.WellFormed.{is_place}

@@ -1,6 +1,5 @@
 pub mod DiffEquals
 pub mod Entries
-pub mod FromLines
 pub mod KeptTrees
 pub mod LineLaws
 pub mod LineRecords

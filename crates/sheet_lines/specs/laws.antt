@@ -3,3 +3,4 @@ pub mod MovedNumbers
 pub mod Each
 pub mod Stays
 pub mod Under
+pub mod Regained

@@ -1,17 +1,15 @@
-ghost use Rattle.std.specs.Prelude.{◌≡◌, None, map, IfOk, IsOkUnless, IsTrue, is_some};
+ghost use Rattle.std.specs.Prelude.{◌≡◌, map, IfOk, IsOkUnless, IsTrue, is_some};
 ghost use Rattle.std.specs.List.{AllByRecursion};
 ghost use Rattle.std.specs.FinMap.{get};
-ghost use Rattle.base_axis.specs.Along.{Along};
 ghost use Rattle.base_values.specs.declared.EditError.TheVariants.{NoMemory};
 ghost use Rattle.line_map.specs.Attributes.{LinesLie, lines_restored};
 ghost use Rattle.line_map.specs.Edit.{IsValid};
 ghost use Rattle.line_map.specs.Maps.{KeysInside};
 ghost use Rattle.line_map.specs.Way.{way};
-ghost use Rattle.sheet_lines.specs.Back.{LieInside, sheet_back, book_back};
+ghost use Rattle.sheet_lines.specs.Back.{LieInside, ArePlacedLines, sheet_back, book_back};
 ghost use Rattle.sheet_lines.specs.Followed.{way_on};
 ghost use Rattle.sheet_lines.specs.Kept.{place_on};
 ghost use Rattle.sheet_lines.specs.KeptNumbers.{AreKeptLines};
-ghost use Rattle.sheet_lines.specs.Back.{ArePlacedLines};
 ghost use Rattle.sheet_lines.specs.Sheets.{sheet_of, IsPlacedSheet, IsPlacedBook};
 
 use crate::edited_sheet::EditedSheet;

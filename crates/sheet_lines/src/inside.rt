@@ -1,10 +1,7 @@
 //! What lies inside a sheet, as followers ask it.
 
-ghost use Rattle.std.specs.Prelude.{◌≡◌};
 ghost use Rattle.line_map.specs.Attributes.{LinesLie};
-ghost use Rattle.line_map.specs.Contents.{CellLies};
-ghost use Rattle.line_map.specs.Maps.{AllLie, KeysInside};
-ghost use Rattle.sheet_lines.specs.Sheets.{IsPlacedSheet};
+ghost use Rattle.line_map.specs.Maps.{KeysInside};
 
 use base_axis::{Axis, AxisMap};
 use base_values::PlaceMap;

@@ -1,4 +1,4 @@
-ghost use Rattle.std.specs.Prelude.{◌≡◌, ◌==◌, None, Some, ℕ, ℤ, List, true, cond, is_none};
+ghost use Rattle.std.specs.Prelude.{◌≡◌, None, Some, ℕ, ℤ, List, cond, is_none};
 ghost use Rattle.std.specs.List.{AllByRecursion};
 ghost use Rattle.std.specs.FinMap.{get};
 ghost use Rattle.base_values.specs.declared.Position.{Position};

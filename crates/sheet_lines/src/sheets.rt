@@ -1,4 +1,4 @@
-ghost use Rattle.std.specs.Prelude.{◌≡◌, IsTrue, is_some};
+ghost use Rattle.std.specs.Prelude.{◌≡◌, is_some};
 ghost use Rattle.std.specs.Option.{option_copied};
 ghost use Rattle.line_map.specs.Way.{IsWay, way};
 ghost use Rattle.sheet_lines.specs.Followed.{way_on};

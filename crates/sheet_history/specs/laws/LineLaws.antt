@@ -28,7 +28,7 @@ use Rattle.line_map.specs.Carried.{if_there, lost_map}
 use Rattle.line_map.specs.Contents.{cell_carried, cell_part}
 use Rattle.line_map.specs.Maps.{places_carried}
 use Rattle.line_map.specs.Moves.{at_line, edit_moves, place_image}
-use Rattle.line_map.specs.Way.{Way, IsWay, at, back, place_goes}
+use Rattle.line_map.specs.Way.{Way, at, back, place_goes}
 use Rattle.line_map.specs.laws.Gathering.{get-lost_map}
 use Rattle.line_map.specs.laws.Images.{edit_one_to_one}
 use Rattle.line_map.specs.laws.MapLaws.{get-carried_map}
@@ -42,28 +42,22 @@ use Rattle.sheet_grid.specs.FittingCells.{entry_fits_at, is_shallow_entry, Cells
 use Rattle.sheet_grid.specs.laws.FittingLaws.{shallow_entry}
 use Rattle.sheet_rules.specs.laws.EntryLaws.{both}
 use Rattle.sheet_rules.specs.WellFormed.{is_place, stands_inside, have_trees, IsWellFormed}
-use Rattle.sheet_rules.specs.laws.WellFormedLaws.{well_formed_parts, cells_fit_from_trees}
+use Rattle.sheet_rules.specs.laws.WellFormedLaws.{well_formed_parts, cells_fit_from_trees, distinct_ids_from_well_formed}
 use Rattle.sheet_lines.specs.declared.KeptLines.{KeptLines}
 use Rattle.sheet_lines.specs.Sheets.{sheet_of, name_of}
 use Rattle.sheet_lines.specs.Followed.{way_of, sheet_followed, book_followed}
 use Rattle.sheet_lines.specs.Kept.{lines_of, of_sheet, place_on, kept_lines}
 use Rattle.sheet_lines.specs.Back.{book_back}
+use Rattle.sheet_lines.specs.laws.Regained.{book_regained, formulas_under, kept_elsewhere}
+use Rattle.sheet_lines.specs.laws.Stays.{way_is}
+use Rattle.sheet_lines.specs.laws.Under.{found_passes}
 use Rattle.sheet_history.specs.Depth.{AreShallowLines}
 use Rattle.sheet_history.specs.LineDiffs.{is_pushed_past, stays_inside, is_there_inside, is_lost_place, is_lost_line, all_keys, stand_on_lost, cells_fit, tree_stands, formulas_stand, goes_on, goes_forward, goes_back, lines_forward, lines_back}
 use Rattle.sheet_history.specs.laws.Entries.{all_entries, entry_holds}
-use Rattle.sheet_history.specs.laws.FromLines.{book_regained, kept_under, kept_elsewhere}
 use Rattle.sheet_history.specs.laws.KeptTrees.{IsTreeThere, tree_there, kept_fits, formula_there}
 
--- what is found passes the test, and what holds of all holds of it
+-- what holds of all holds of what is found
 module _ {X : Type 0} (p : X → Bool) where
-  found_passes : (xs : List X) (x : X) → find p xs ≡ Some x → p x ≡ true
-  found_passes [] x h = absurd (cc)
-  found_passes (y ∷ ys) x h = go (found_passes ys x) (p y) refl h
-    where
-      go : (find p ys ≡ Some x → p x ≡ true) → (b : Bool) → p y ≡ b → cond b (Some y) (find p ys) ≡ Some x → p x ≡ true
-      go rest true is it = let same : y ≡ x = cc in ap p (sym same) ∙ is
-      go rest false is it = rest it
-
   found_of_each : (P : X → Type 0) (xs : List X) (x : X) → find p xs ≡ Some x → AllByRecursion P xs → P x
   found_of_each P [] x h all = absurd (cc)
   found_of_each P (y ∷ ys) x h all = go (λ it. found_of_each P ys x it all.1) (p y) h
@@ -128,13 +122,14 @@ place_inside a first count q p h = go (image_at a.last (Insert first count) (a.l
     go None is h = absurd (cc)
     go (Some m) is h = not_pushed a.last first count (a.line q) m is
 
+-- the trees that are kept of a sheet's formulas
+abbrev HasTrees : Way → FinMap sheet_place_cmp Node → Sheet → Type 0
+HasTrees w formulas sheet = (p : Position) → get formulas (place_on sheet.id p) ≡ if_there (get sheet.cells p) (λ cell. if_there (place_goes w p) (λ q. cell_part (at w p q) cell))
+
 module _ (a : Along) (l : IsAxis a) (e : EditKind) (valid : IsValid a.last e) (id : ℕ) where
   -- how the edit meets a sheet
   abbrev way_on : List ℕ → Sheet → Way
   way_on edited sheet = way_of a (edit_moves a.last e) id edited sheet
-
-  is_way : (edited : List ℕ) (sheet : Sheet) → IsWay (way_on edited sheet)
-  is_way edited sheet = record { axis = l; one_to_one = edit_one_to_one a.last e valid }
 
   -- no cell of the later sheet is pushed past the end when the lines come back
   back_inside : (edited : List ℕ) (sheet : Sheet) → (sheet.id == id) ≡ true → (kind : EditKind) → e ≡ kind → stays_inside a (opposite_of kind) (sheet_followed (way_on edited sheet) sheet) ≡ true
@@ -146,7 +141,7 @@ module _ (a : Along) (l : IsAxis a) (e : EditKind) (valid : IsValid a.last e) (i
       let came : Position → Option Position = place_image a (image_at a.last (opposite_of e)) in
       all_entries position_cmp position_total exact_positions (λ (entry : Position × Cell). not (is_pushed_past a first count entry.0)) (places_carried cell_carried w sheet.cells) (λ q cell found.
       let from = comes_from q cell sheet.cells (place_goes (back w) q)
-      (sym (get-carried_map position_cmp position_total exact_positions (place_goes w) (place_goes (back w)) (goes_inverse w (is_way edited sheet)) (λ p q x. cell_carried (at w p q) x) sheet.cells q) ∙ found) in
+      (sym (get-carried_map position_cmp position_total exact_positions (place_goes w) (place_goes (back w)) (goes_inverse w (way_is a l e valid id edited sheet)) (λ p q x. cell_carried (at w p q) x) sheet.cells q) ∙ found) in
       let there : came q ≡ Some from.0 = sym (ap (λ b. if b then came q else Some q) it) ∙ from.1 in
       place_inside a first count q from.0 (sym (ap (λ k. place_image a (image_at a.last (opposite_of k)) q) is) ∙ there))
     where
@@ -200,12 +195,11 @@ module _ (a : Along) (l : IsAxis a) (e : EditKind) (valid : IsValid a.last e) (i
       it : IsTreeThere (way_in sheet) sheet.cells key.place tree
 
     of_sheet_at : (key : SheetPlace) (tree : Node) (o : Option Sheet) → sheet_of book key.sheet ≡ o → get kept.formulas key ≡ Some tree → IsOfSheet key tree
-    of_sheet_at key tree None none h = absurd (let nothing : get kept.formulas key ≡ None = kept_elsewhere a l e valid id book rules key.sheet key.place none in cc)
+    of_sheet_at key tree None none h = absurd (let nothing : get kept.formulas key ≡ None = kept_elsewhere a l (edit_moves a.last e) (edit_one_to_one a.last e valid) id (name_of (sheet_of book id)) book.worksheets key.sheet none key.place in cc)
     of_sheet_at key tree (Some s) there h =
         let ids : s.id ≡ key.sheet = (unsigned_Decides s.id key.sheet).0 (found_passes (λ s. s.id == key.sheet) book.worksheets s there) in
-        let under : (p : Position) → get kept.formulas (place_on s.id p) ≡ if_there (get s.cells p) (λ cell. if_there (place_goes (way_in s) p) (λ q. cell_part (at (way_in s) p q) cell)) =
-        found_of_each (λ s. s.id == key.sheet) (λ s. (p : Position) → get kept.formulas (place_on s.id p) ≡ if_there (get s.cells p) (λ cell. if_there (place_goes (way_in s) p) (λ q. cell_part (at (way_in s) p q) cell)))
-        book.worksheets s there (kept_under a l e valid id book rules) in
+        let under : HasTrees (way_in s) kept.formulas s = found_of_each (λ s. s.id == key.sheet) (λ s. HasTrees (way_in s) kept.formulas s) book.worksheets s there
+        (formulas_under a l (edit_moves a.last e) (edit_one_to_one a.last e valid) id (name_of (sheet_of book id)) book.worksheets (distinct_ids_from_well_formed book rules)) in
         record {
           sheet = s;
           found = there;
@@ -231,7 +225,7 @@ module _ (a : Along) (l : IsAxis a) (e : EditKind) (valid : IsValid a.last e) (i
     unfolding tree_stands goes_on place_goes
     tree_stands_later key tree of fits =
         ap (λ o. tree_stands a e id o key.place tree) (later_found key.sheet of.sheet of.found)
-        ∙ (λ i. fits i && formula_there (way_in of.sheet) of.sheet.cells key.place tree (is_way (name_of (sheet_of book id)) of.sheet) of.it i)
+        ∙ (λ i. fits i && formula_there (way_in of.sheet) of.sheet.cells key.place tree (way_is a l e valid id (name_of (sheet_of book id)) of.sheet) of.it i)
 
     -- each kept formula stands in the later workbook
     kept_formulas_stand : formulas_stand a e id kept.formulas later ≡ true
@@ -291,4 +285,4 @@ module _ (a : Along) (l : IsAxis a) (e : EditKind) (valid : IsValid a.last e) (i
           let fit : cells_fit kept.cells ≡ true =
           ap (λ o. cells_fit (of_sheet (λ (s : Sheet). lost_map (place_image a (image_at a.last e)) s.cells) o)) found ∙ kept_fit sheet (sheet_fits id sheet found) in
           let goes : goes_back a id e kept later ≡ true = λ i. valid i && inside i && kept_on_lost i && (fit i && kept_formulas_stand i) in
-          ap (λ b. if b then Ok (book_back a e id kept later) else Err (DiffRefused 0 at)) goes ∙ ap Ok (book_regained a l e valid id book rules)
+          ap (λ b. if b then Ok (book_back a e id kept later) else Err (DiffRefused 0 at)) goes ∙ ap Ok (book_regained a l e valid id book (distinct_ids_from_well_formed book rules))

@@ -55,9 +55,21 @@ fn only(alloc: Global, diff: Diff) -> Result<DiffList, EditError>
     Ok(Shared::new(alloc, list)?)
 }
 
+/// A workbook of one empty sheet.
+fn empty_book(alloc: Global) -> Result<Workbook, EditError>
+    ensures { IfOk result IsWellFormed }
+{
+    let book = Workbook::new_empty(alloc, "book", Locale::En, Zone::Utc)?;
+    if is_well_formed(&book) {
+        Ok(book)
+    } else {
+        Err(EditError::InvalidSheet)
+    }
+}
+
 /// A workbook with the cell B2, whose font has that size.
 fn with_cell(alloc: Global, size: i32) -> Result<Workbook, EditError> {
-    let start = Workbook::new_empty(alloc, "book", Locale::En, Zone::Utc)?;
+    let start = empty_book(alloc)?;
     forward(alloc, &start, &only(alloc, new_cell(alloc, size)?)?)
 }
 
@@ -193,7 +205,7 @@ fn rows_and_columns_go_and_return(rt: HostRuntime) -> Result<(), Fail> {
 #[test]
 fn diffs_are_refused_by_number(rt: HostRuntime) -> Result<(), Fail> {
     let alloc = rt.alloc();
-    let start = Workbook::new_empty(alloc, "book", Locale::En, Zone::Utc)?;
+    let start = empty_book(alloc)?;
     assert!(rt; is_refused(with_cell(alloc, 0), 1));
     let list = cell_and_row(alloc)?;
     assert!(rt; is_refused(forward(alloc, &start, &list), 1));

@@ -1,5 +1,5 @@
 -- Going back with what was kept gives the workbook.
-use Rattle.std.proofs.Common.{◌≡◌, ◌⊎◌, inl, inr, ℕ, ℤ, Bool, true, false, cond, List, [], ◌∷◌, map, Option, Some, None, refl, ap, sym, ◌∙◌}
+use Rattle.std.proofs.Common.{◌≡◌, ◌⊎◌, inl, inr, ℕ, Bool, true, false, cond, List, [], ◌∷◌, map, Option, Some, None, refl, ap, sym, ◌∙◌}
 use Rattle.std.specs.Prelude.{◌==◌, is_some, if◌then◌else◌}
 use Rattle.std.specs.List.{find, fold, AllByRecursion, IsDistinct}
 use Rattle.std.specs.Ordering.{int_cmp}
@@ -75,8 +75,8 @@ module _ (w : Way) (is : IsWay w) where
       with_lost w given (places_carried (λ _ link. link) (back w) (places_carried (λ _ link. link) w links)) ≡ links
   links_regained links given lost =
       laid_lost given links _ lost
-      ∙ map_restores {P = Unit {0}} position_cmp position_total exact_positions (place_goes w) (place_goes (back w)) (goes_inverse w is)
-      (λ _ _ link. link) (λ _ _ link. link) (λ _ _ link _. link) (λ _. None) links (λ p q x there held. refl)
+      ∙ map_restores position_cmp position_total exact_positions (place_goes w) (place_goes (back w)) (goes_inverse w is)
+      {P = Unit {0}} (λ _ _ link. link) (λ _ _ link. link) (λ _ _ link _. link) (λ _. None) links (λ p q x there held. refl)
 
   -- what the lines of an axis have
   attributes_regained : (b : Along) (m given : FinMap int_cmp LineAttr) → (line_goes_along b w ≡ true → given ≡ lost_map w.moves.to m) → lines_restored b w (lines_carried b attribute.ghosts.eq w m) given ≡ m
@@ -84,8 +84,7 @@ module _ (w : Way) (is : IsWay w) where
     where
       by_axis : (along : Bool) → line_goes_along b w ≡ along → lines_restored b w (lines_carried b attribute.ghosts.eq w m) given ≡ m
       by_axis true h = lines_restore w is b attribute.ghosts.eq m given (ap (λ t. if t then Some (lost_map w.moves.to m) else None) h ∙ ap Some (sym (lost h)))
-      by_axis false h = ap (λ t. if t then overlaid given (moved_map w.moves.from (if t then overlaid (heirs b attribute.ghosts.eq w.moves.inserted m) (moved_map w.moves.to m) else m))
-      else (if t then overlaid (heirs b attribute.ghosts.eq w.moves.inserted m) (moved_map w.moves.to m) else m)) h
+      by_axis false h = ap (λ t. if t then overlaid given (moved_map w.moves.from (if t then overlaid (heirs b attribute.ghosts.eq w.moves.inserted m) (moved_map w.moves.to m) else m)) else (if t then overlaid (heirs b attribute.ghosts.eq w.moves.inserted m) (moved_map w.moves.to m) else m)) h
 
 columns_alone : (a : Along) → IsAxis a → a.of false true ≡ true → a.of true false ≡ false
 columns_alone a l h = by_axis l.one_of

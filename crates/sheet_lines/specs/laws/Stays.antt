@@ -1,5 +1,5 @@
 -- What holds of a workbook that follows, and of one that is taken back.
-use Rattle.std.proofs.Common.{◌≡◌, ◌⊎◌, inl, inr, ℕ, ℤ, Bool, true, false, List, [], ◌∷◌, map, Option, Some, None, refl, ap, sym, subst, ◌∙◌}
+use Rattle.std.proofs.Common.{◌≡◌, ◌⊎◌, inl, inr, ℕ, ℤ, true, false, List, [], ◌∷◌, map, Option, Some, None, refl, ap, sym, subst, ◌∙◌}
 use Rattle.std.specs.Prelude.{IfSome, IsTrue, if◌then◌else◌}
 use Rattle.std.specs.Option.{option_map}
 use Rattle.std.specs.List.{AllByRecursion}
@@ -19,7 +19,7 @@ use Rattle.formula_tree.specs.Numbers.{has_kept_numbers}
 use Rattle.formula_tree.specs.Placed.{is_placed}
 use Rattle.cell_content.specs.declared.Content.{Content}
 use Rattle.cell_content.specs.KeptContent.{IsKeptContent}
-use Rattle.cell_content.specs.Lens.{tree_of, with_tree}
+use Rattle.cell_content.specs.Lens.{tree_of}
 use Rattle.cell_content.specs.laws.LensLaws.{tree_of-with_tree, tree_of-kept, with_tree-kept}
 use Rattle.sheet_grid.specs.declared.Cell.{Cell}
 use Rattle.sheet_grid.specs.declared.LineAttr.{LineAttr}
@@ -33,7 +33,7 @@ use Rattle.line_map.specs.Carried.{if_there, lost_map, moved_map, overlaid, sett
 use Rattle.line_map.specs.Contents.{with_new_tree, cell_carried, cell_part, cell_restored}
 use Rattle.line_map.specs.Edit.{IsValid}
 use Rattle.line_map.specs.Maps.{places_carried, places_parts, places_restored, KeysInside}
-use Rattle.line_map.specs.Moves.{LineMoves, IsOneToOne, edit_moves, place_image}
+use Rattle.line_map.specs.Moves.{edit_moves, place_image}
 use Rattle.line_map.specs.Trees.{following, tree_carried, tree_part}
 use Rattle.line_map.specs.Way.{Way, IsWay, at, back, place_goes, is_along}
 use Rattle.line_map.specs.laws.AttributeLaws.{both_of, same_last, lines_stay}
@@ -43,8 +43,8 @@ use Rattle.line_map.specs.laws.Inverses.{own_inverse, turned_inverse}
 use Rattle.line_map.specs.laws.TreeLaws.{tree_restores}
 use Rattle.line_map.specs.laws.WayLaws.{at_is_way, back_is_way, goes_inside, goes_inverse}
 use Rattle.sheet_lines.specs.declared.kept.KeptLines.{KeptLines}
-use Rattle.sheet_lines.specs.Back.{with_lost, sheet_back, sheets_back, book_back, LieInside, ArePlacedLines}
-use Rattle.sheet_lines.specs.Followed.{way_of, sheet_followed, sheets_followed, book_followed}
+use Rattle.sheet_lines.specs.Back.{with_lost, sheet_back, book_back, LieInside, ArePlacedLines}
+use Rattle.sheet_lines.specs.Followed.{way_of, sheet_followed, book_followed}
 use Rattle.sheet_lines.specs.Kept.{place_on, lines_of}
 use Rattle.sheet_lines.specs.KeptNumbers.{AreKeptFormulas, AreKeptLines}
 use Rattle.sheet_lines.specs.Sheets.{IsPlacedCell, IsPlacedBook, sheet_of, name_of}

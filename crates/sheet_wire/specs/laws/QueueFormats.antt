@@ -1,17 +1,15 @@
 -- The three laws of diffs, of entries and of queues.
-use Rattle.std.proofs.Common.{◌≡◌, ℕ, ◌^◌, ◌<◌, ◌≤◌, eqb, List, ◌∷◌, ◌++◌, length, Option, Some, Ok, refl, arith}
+use Rattle.std.proofs.Common.{◌≡◌, ℕ, ◌^◌, ◌<◌, ◌≤◌, eqb, List, ◌++◌, length, Option, Some, Ok, refl, arith}
 use Rattle.std.specs.Prelude.{IfSome}
 use Rattle.std.specs.Int.{w32, to_be_bytes}
-use Rattle.line_map.specs.declared.EditKind.{EditKind}
 use Rattle.sheet_grid.specs.declared.Cell.{Cell}
-use Rattle.sheet_lines.specs.declared.KeptLines.{KeptLines}
 use Rattle.sheet_history.specs.declared.Diff.{Diff}
 use Rattle.sheet_history.specs.declared.Diff.TheVariants.{Cell as CellDiff, Lines as LinesDiff}
 use Rattle.sheet_history.specs.declared.DiffType.{DiffType}
 use Rattle.sheet_history.specs.declared.DiffType.TheVariants.{Undo, Redo}
 use Rattle.sheet_history.specs.declared.LineAxis.{LineAxis}
 use Rattle.sheet_history.specs.declared.LineAxis.TheVariants.{Rows, Columns}
-use Rattle.base_wire.specs.Reading.{Reader, map_at, ◌⊗◌, after, code_at, decoded, list_at}
+use Rattle.base_wire.specs.Reading.{Reader, map_at, after, code_at, decoded, list_at}
 use Rattle.base_wire.specs.Spelling.{Any, Both, spell_both, spell_code, spell_list, spell_option}
 use Rattle.base_wire.specs.laws.Again.{ReadsAgain, code_again}
 use Rattle.base_wire.specs.laws.Format.{Format, list_format, option_format}

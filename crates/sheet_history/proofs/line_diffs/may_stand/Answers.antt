@@ -1,4 +1,4 @@
-use Rattle.std.proofs.Common.{◌≡◌, true, ◌∙◌, sym}
+use Rattle.std.proofs.Common.{◌∙◌, sym}
 use Rattle.sheet_history.proofs.Standing.{placed_where_stands}
 use Rattle.sheet_history.proofs.line_diffs.may_stand.Goals as goal
 

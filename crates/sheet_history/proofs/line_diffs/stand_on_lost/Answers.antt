@@ -1,4 +1,4 @@
-use Rattle.std.proofs.Common.{◌≡◌, true, ◌∙◌, sym, rules}
+use Rattle.std.proofs.Common.{◌≡◌, true, rules}
 use Rattle.sheet_history.specs.LineDiffs.{stand_on_lost}
 use Rattle.sheet_history.proofs.Standing.{inside_of_lost}
 use Rattle.sheet_history.proofs.line_diffs.stand_on_lost.Goals as goal

@@ -1,7 +1,7 @@
-use Rattle.std.proofs.Common.{◌≡◌, map, subst, sym, ◌∙◌}
+use Rattle.std.proofs.Common.{map, subst, sym, ◌∙◌}
 use Rattle.std.proofs.lemmas.Result.{IfOk-weaker}
 use Rattle.line_map.specs.Moves.{edit_moves}
-use Rattle.sheet_lines.specs.Back.{sheet_back, book_back}
+use Rattle.sheet_lines.specs.Back.{sheet_back}
 use Rattle.sheet_lines.specs.Followed.{way_of}
 use Rattle.sheet_lines.specs.Sheets.{IsPlacedBook}
 use Rattle.sheet_lines.specs.laws.Stays.{back_placed}

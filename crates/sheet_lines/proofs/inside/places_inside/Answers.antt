@@ -1,4 +1,4 @@
-use Rattle.std.proofs.Common.{ap, sym, subst}
+use Rattle.std.proofs.Common.{subst}
 use Rattle.std.specs.Prelude.{All}
 use Rattle.base_values.specs.Places.{IsPlace, position_cmp}
 use Rattle.base_values.specs.laws.Places.{position_total, exact_positions}

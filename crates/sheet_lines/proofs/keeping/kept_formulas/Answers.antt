@@ -1,7 +1,6 @@
 use Rattle.std.proofs.Common.{◌≡◌, ◌<◌, length, ap, sym, subst, ◌∙◌, arith}
 use Rattle.std.specs.Prelude.{IsTrue}
 use Rattle.base_maps.specs.SheetPlaces.{sheet_place_cmp}
-use Rattle.formula_tree.specs.declared.Node.{Node}
 use Rattle.formula_tree.specs.Numbers.{has_kept_numbers}
 use Rattle.line_map.specs.Carried.{overlaid}
 use Rattle.sheet_lines.specs.Kept.{trees_under}

@@ -1,7 +1,8 @@
 //! The lines of a sheet's rows, columns and links.
 
-ghost use Rattle.std.specs.Prelude.{◌≡◌, ◌++◌, codes, OnOk, IsOkUnless};
+ghost use Rattle.std.specs.Prelude.{◌≡◌, ◌++◌, ◌∷◌, [], codes, OnOk, IsOkUnless};
 ghost use Rattle.std.specs.FinMap as fin;
+ghost use Rattle.std.specs.Fmt.{signed_decimal};
 ghost use Rattle.std.specs.List.{flat_map};
 ghost use Rattle.base_values.specs.Places.{IsPlace};
 ghost use Rattle.base_values.specs.declared.error.EditError.TheVariants.{NoMemory};
@@ -42,6 +43,24 @@ fn push_own_style(
     }
 }
 
+/// Writes the word for a row or a column, its number and its size, each with a blank behind it.
+fn push_sized(
+    alloc: Global,
+    out: &mut Vec<u8>,
+    word: &str,
+    number: i32,
+    size: Option<i32>,
+) -> Result<(), AllocError>
+    ensures { OnOk result (out.new.items ≡ out.old.items ++ (word.now ++ 32 ∷ (signed_decimal number ++ 32 ∷ (size_text size ++ 32 ∷ [])))) }
+{
+    push_word(out, word.as_bytes())?;
+    push_signed(alloc, out, number)?;
+    out.push(b' ')?;
+    push_size(alloc, out, size)?;
+    out.push(b' ')?;
+    Ok(())
+}
+
 /// Writes the line of a row or a column, behind the word for the two.
 fn push_attr(
     alloc: Global,
@@ -53,11 +72,7 @@ fn push_attr(
     ensures text { OnOk result (out.new.items ≡ out.old.items ++ attr_line word.now (number, attr.now)) }
     ensures memory { IsOkUnless result NoMemory }
 {
-    push_word(out, word.as_bytes())?;
-    push_signed(alloc, out, number)?;
-    out.push(b' ')?;
-    push_size(alloc, out, attr.size)?;
-    out.push(b' ')?;
+    push_sized(alloc, out, word, number, attr.size)?;
     push_word(out, flag_text(attr.hidden).as_bytes())?;
     push_own_style(alloc, out, &attr.style)?;
     out.push(b'\n')?;

@@ -28,7 +28,7 @@ use Rattle.script_editor.specs.Sound.{IsSendable, IsSoundStep, IsSound}
 use Rattle.script_editor.specs.BothWays.{GoesBothWays}
 use Rattle.script_editor.specs.Stands.{StandsFor, Moves}
 use Rattle.script_editor.proofs.LinePlans.{IsPlanned, lines_plan}
-use Rattle.script_editor.proofs.Sounds.{sound_edit, step_of, edit_moves, on_ok_map, sendable_in}
+use Rattle.script_editor.proofs.Sounds.{sound_edit, edit_moves, on_ok_map, sendable_in}
 use Rattle.script_editor.proofs.Tested.{passes}
 
 -- ---- what a plan leads to

@@ -20,7 +20,7 @@ use Rattle.sheet_history.specs.declared.DiffType.{DiffType}
 use Rattle.sheet_history.specs.declared.DiffType.TheVariants.{Undo, Redo}
 use Rattle.sheet_history.specs.declared.QueueDiffs.{QueueDiffs}
 use Rattle.sheet_history.specs.LineDiffs.{along_of, goes_forward, goes_back, lines_forward, lines_back}
-use Rattle.sheet_history.specs.Diffs.{put_in, step_forward, step_back, forward_from, back_from, by_rule, tested, follow, of_entry, in_entry, replayed_from, replayed}
+use Rattle.sheet_history.specs.Diffs.{put_in, step_forward, step_back, forward_from, back_from, by_rule, tested, follow, in_entry, replayed_from, replayed}
 
 abbrev IsOfDiff : EditError → Type 0
 IsOfDiff (DiffRefused entry diff) = Unit {0}

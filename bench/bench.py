@@ -1,9 +1,9 @@
 #!/usr/bin/env python3
 """Times the built programs on inputs of two sizes, and prints how the times grow.
 
-Run ./run once before, and `rt run <stdin` in crates/formula_bench and crates/lines_bench, so that the
+Run ./run once before, and `rt run <stdin` in crates/bench_formulas and crates/bench_lines, so that the
 programs are built. The second input of each pair is ten times as long; the aim is that it takes at
-most 25 times as long, and 30 times where lines are inserted and taken back.
+most 25 times as long, and 30 times where lines are edited and taken back.
 The memory is the greatest resident set of the run.
 """
 
@@ -15,8 +15,8 @@ import time
 
 TOP = os.path.dirname(os.path.dirname(os.path.abspath(__file__)))
 EDITOR = os.path.join(TOP, "crates", "edit_script", "out", "edit_script")
-PRINTER = os.path.join(TOP, "crates", "formula_bench", "out", "formula_bench")
-LINES = os.path.join(TOP, "crates", "lines_bench", "out", "lines_bench")
+PRINTER = os.path.join(TOP, "crates", "bench_formulas", "out", "bench_formulas")
+LINES = os.path.join(TOP, "crates", "bench_lines", "out", "bench_lines")
 SMALL, LARGE = 10_000, 100_000
 FEW, MANY = 1_000, 10_000
 ROUNDS = 200
@@ -24,6 +24,7 @@ READS = 20
 AIM = 25
 LINE_ROUNDS = 5
 LINE_AIM = 30
+LINE_EDITS = ("insert-rows", "insert-columns", "move-rows", "move-columns")
 
 
 FORMULA = "=A1+$B$2*SUM(C3:D9)"
@@ -109,27 +110,30 @@ def pair(name, script, program=EDITOR, sizes=(SMALL, LARGE)):
     return large, output, memory, ratio <= AIM
 
 
-def line_seconds(count, insertions, returns):
-    """The seconds of so many insertions in a workbook of so many formulas, or of so many ways back."""
-    seconds, _, _ = run(LINES, [str(count), str(insertions), str(returns)])
+def line_seconds(edit, count, edits, returns):
+    """The seconds of so many edits of lines of a workbook of so many formulas, or of so many ways back."""
+    seconds, _, _ = run(LINES, [edit, str(count), str(edits), str(returns)])
     return seconds
 
 
+def edit_times(edit, count):
+    """The seconds of an edit, and of going back, each by itself."""
+    built = line_seconds(edit, count, 0, 0)
+    edited = line_seconds(edit, count, LINE_ROUNDS, 0) - built
+    back = line_seconds(edit, count, 0, LINE_ROUNDS) - built - edited / LINE_ROUNDS
+    return edited, back
+
+
 def line_edits():
-    """How the time of an insertion of rows grows, and of going back, each by itself."""
+    """How the time of each edit of lines grows, and of going back."""
     fast = True
-    times = {}
-    for count in (SMALL, LARGE):
-        built = line_seconds(count, 0, 0)
-        edited = line_seconds(count, LINE_ROUNDS, 0) - built
-        back = line_seconds(count, 0, LINE_ROUNDS) - built - edited / LINE_ROUNDS
-        times[count] = (edited, back)
-    for name, small, large in zip(("rows inserted", "rows taken back"), times[SMALL], times[LARGE]):
-        ratio = large / small
-        state = "ok" if ratio <= LINE_AIM else "TOO SLOW"
-        print(f"{name}: {SMALL} and {LARGE} formulas, ratio {ratio:.1f} (at most {LINE_AIM}: {state})")
-        print(f"  {large / LINE_ROUNDS / LARGE * 1e9:.0f} ns a formula")
-        fast = fast and ratio <= LINE_AIM
+    for edit in LINE_EDITS:
+        for name, small, large in zip((edit, f"{edit}, taken back"), edit_times(edit, SMALL), edit_times(edit, LARGE)):
+            ratio = large / small
+            state = "ok" if ratio <= LINE_AIM else "TOO SLOW"
+            print(f"{name}: {SMALL} and {LARGE} formulas, ratio {ratio:.1f} (at most {LINE_AIM}: {state})")
+            print(f"  {large / LINE_ROUNDS / LARGE * 1e9:.0f} ns a formula")
+            fast = fast and ratio <= LINE_AIM
     return fast
 
 
@@ -149,9 +153,9 @@ def main():
     if not os.path.exists(EDITOR):
         sys.exit("bench: build the program first, by ./run examples/first.script")
     if not os.path.exists(PRINTER):
-        sys.exit("bench: build the printing program first, by `rt run <stdin` in crates/formula_bench")
+        sys.exit("bench: build the printing program first, by `rt run <stdin` in crates/bench_formulas")
     if not os.path.exists(LINES):
-        sys.exit("bench: build the program of line edits first, by `rt run <stdin` in crates/lines_bench")
+        sys.exit("bench: build the program of line edits first, by `rt run <stdin` in crates/bench_lines")
     fast_lines = line_edits()
     seconds, _, memory, fast = pair("sets", sets)
     print(f"  {seconds / LARGE * 1e9:.0f} ns an edit, at most {memory / LARGE:.0f} bytes a set cell in all")

@@ -4,11 +4,11 @@
 
 mod area;
 mod axis;
-mod line_map;
+mod axis_map;
 
 pub use area::Area;
 pub use axis::{Axis, ColumnAxis, RowAxis};
-pub use line_map::LineMap;
+pub use axis_map::AxisMap;
 
 #[cfg(test)]
 mod tests;

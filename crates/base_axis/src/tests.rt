@@ -1,4 +1,4 @@
-use crate::{Axis, ColumnAxis, LineMap, RowAxis};
+use crate::{Axis, AxisMap, ColumnAxis, RowAxis};
 use base_values::{Position, copy_of, same};
 use std::test::Fail;
 
@@ -26,7 +26,7 @@ fn along_both_axes(rt: HostRuntime) -> Result<(), Fail> {
 #[test]
 fn with_ample_memory(rt: HostRuntime) -> Result<(), Fail> {
     let alloc = rt.alloc();
-    let mut map: LineMap<ColumnAxis, bool> = LineMap::new(alloc);
+    let mut map: AxisMap<ColumnAxis, bool> = AxisMap::new(alloc);
     assert!(rt; map.insert(2, true)?.is_none());
     map.put(3, Some(false))?;
     assert_eq!(rt; map.lines(alloc)?.len(), 2);

@@ -5,4 +5,5 @@ pub mod Refusals
 pub mod Parts
 pub mod Form
 pub mod Format
+pub mod Formats
 pub mod Many

@@ -5,11 +5,11 @@ use Rattle.base_values.specs.declared.Position.{Position}
 use Rattle.base_tables.specs.Error.{error_code}
 use Rattle.base_decimal.specs.Kept.{IsKept}
 use Rattle.base_styles.specs.declared.Style.{Style}
-use Rattle.formula_content.specs.declared.Content.{Content}
-use Rattle.formula_content.specs.declared.Content.TheVariants.{Empty, Number, Boolean, Error as ErrorValue, Text, Formula, Dynamic}
+use Rattle.cell_content.specs.declared.Content.{Content}
+use Rattle.cell_content.specs.declared.Content.TheVariants.{Empty, Number, Boolean, Error as ErrorValue, Text, Formula, Dynamic}
 use Rattle.sheet_grid.specs.declared.Cell.{Cell}
 use Rattle.sheet_grid.specs.KeptCell.{IsKeptCell}
-use Rattle.formula_content.specs.Fitting.{is_shallow}
+use Rattle.cell_content.specs.Fitting.{is_shallow}
 use Rattle.base_wire.specs.Reading.{Reader, plain, refused, map_at, ◌⊗◌, tagged_at, signed_at, text_at}
 use Rattle.base_wire.specs.Spelling.{spell_signed, spell_code, boolean_code, spell_text, FitsText}
 use Rattle.base_wire.specs.Parts.{boolean_at, error_at, spell_decimal, decimal_at}

@@ -2,8 +2,8 @@
 //! canonical and their trees are at most 64 deep. Out of memory may leave some of their bytes there.
 
 ghost use Rattle.std.specs.Prelude.{◌≡◌, ◌++◌, IsTrue, OnOk};
-ghost use Rattle.formula_content.specs.Fitting.{is_shallow};
-ghost use Rattle.formula_content.specs.KeptContent.{IsKeptContent};
+ghost use Rattle.cell_content.specs.Fitting.{is_shallow};
+ghost use Rattle.cell_content.specs.KeptContent.{IsKeptContent};
 ghost use Rattle.cell_wire.specs.StyleBytes.{spell_alignment, spell_border, spell_border_item, spell_color, spell_font, spell_style, FitsBorder, FitsBorderItem, FitsColor, FitsFont, FitsStyle};
 ghost use Rattle.cell_wire.specs.CellBytes.{spell_cell, spell_content, spell_position, FitsCell, FitsContent, FitsPosition, IsKnownCell};
 

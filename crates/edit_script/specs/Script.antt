@@ -8,21 +8,22 @@ use Rattle.base_values.specs.declared.Position.{Position}
 use Rattle.base_values.specs.Places.{place_of}
 use Rattle.line_map.specs.declared.EditKind.TheVariants.{Insert, Delete}
 use Rattle.sheet_grid.specs.declared.Cell.{Cell}
-use Rattle.formula_content.specs.declared.Content.{Content}
-use Rattle.formula_content.specs.declared.Content.TheVariants.{Empty}
+use Rattle.cell_content.specs.declared.Content.{Content}
+use Rattle.cell_content.specs.declared.Content.TheVariants.{Empty}
 use Rattle.sheet_grid.specs.Sheet.{cell_at}
 use Rattle.sheet_grid.specs.Book.{Book, sheet_at}
+use Rattle.sheet_history.specs.declared.LineAxis.TheVariants.{Rows}
 use Rattle.script_lines.specs.Parts.{parts_at, without_return}
 use Rattle.script_lines.specs.Escapes.{escaped}
 use Rattle.script_lines.specs.Commands.{command_of}
 use Rattle.script_lines.specs.declared.Command.{Command}
 use Rattle.script_lines.specs.declared.Command.TheVariants.{Set, Get, InsertRows, DeleteRows, Undo, Redo, Sync, Show}
-use Rattle.formula_input.specs.Inputs.{input_of, input_text}
+use Rattle.cell_input.specs.Inputs.{input_of, input_text}
 use Rattle.script_dump.specs.English.{english}
 use Rattle.script_dump.specs.Text.{line, hex}
 use Rattle.script_dump.specs.Dump.{dump}
 use Rattle.script_editor.specs.Machine.{State, start, edit_of, undo_of, redo_of, synced_of, sync_bytes}
-use Rattle.script_editor.specs.Machine.Edit.{Input, Rows}
+use Rattle.script_editor.specs.Machine.Edit.{Input, Lines}
 
 -- ---- answers
 
@@ -61,8 +62,8 @@ typed row column text = read_at (place_of row column) text
 abbrev pub reply_to : Command → State → List ℕ
 reply_to (Set sheet row column text) s = outcome (edit_of (Input sheet row column (typed row column text)) s)
 reply_to (Get sheet row column) s = got (record { row = row; column = column }) (content_at sheet row column s.present)
-reply_to (InsertRows sheet row count) s = outcome (edit_of (Rows sheet (Insert row count)) s)
-reply_to (DeleteRows sheet row count) s = outcome (edit_of (Rows sheet (Delete row count)) s)
+reply_to (InsertRows sheet row count) s = outcome (edit_of (Lines sheet Rows (Insert row count)) s)
+reply_to (DeleteRows sheet row count) s = outcome (edit_of (Lines sheet Rows (Delete row count)) s)
 reply_to Undo s = line (codes "ok")
 reply_to Redo s = line (codes "ok")
 reply_to Sync s = line (codes "sync " ++ hex (sync_bytes s))
@@ -77,8 +78,8 @@ state_after (Err error) s = s
 abbrev pub next_of : Command → State → State
 next_of (Set sheet row column text) s = state_after (edit_of (Input sheet row column (typed row column text)) s) s
 next_of (Get sheet row column) s = s
-next_of (InsertRows sheet row count) s = state_after (edit_of (Rows sheet (Insert row count)) s) s
-next_of (DeleteRows sheet row count) s = state_after (edit_of (Rows sheet (Delete row count)) s) s
+next_of (InsertRows sheet row count) s = state_after (edit_of (Lines sheet Rows (Insert row count)) s) s
+next_of (DeleteRows sheet row count) s = state_after (edit_of (Lines sheet Rows (Delete row count)) s) s
 next_of Undo s = undo_of s
 next_of Redo s = redo_of s
 next_of Sync s = synced_of s

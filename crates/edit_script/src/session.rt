@@ -1,8 +1,8 @@
 ghost use Rattle.std.specs.Prelude.{◌≡◌, ◌≢◌, ◌++◌, [], codes, Ok, OnOk, IfOk, IfErr, IsTrue, IsOkUnless};
 ghost use Rattle.base_values.specs.Answers.{Returns, map_ok};
 ghost use Rattle.base_values.specs.declared.EditError.TheVariants.{NoMemory};
-ghost use Rattle.formula_content.specs.Fitting.{fits_at};
-ghost use Rattle.formula_content.specs.KeptContent.{IsKeptContent};
+ghost use Rattle.cell_content.specs.Fitting.{fits_at};
+ghost use Rattle.cell_content.specs.KeptContent.{IsKeptContent};
 ghost use Rattle.script_dump.specs.Text.{line, hex};
 ghost use Rattle.edit_script.specs.Script.{content_of, content_at, refusal, outcome, got, typed};
 

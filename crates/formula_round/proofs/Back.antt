@@ -3,13 +3,13 @@ use Rattle.std.specs.Prelude.{◌≡◌, true}
 use Rattle.std.specs.Str.{chars}
 use Rattle.std.proofs.Common.{refl, ap}
 use Rattle.formula_tree.specs.declared.Node.{Node}
-use Rattle.formula_content.specs.declared.Content.{Content}
-use Rattle.formula_content.specs.declared.Content.TheVariants.{Empty, Number, Boolean, Error, Text, Formula, Dynamic}
-use Rattle.formula_content.specs.KeptContent.{IsKeptContent}
+use Rattle.cell_content.specs.declared.Content.{Content}
+use Rattle.cell_content.specs.declared.Content.TheVariants.{Empty, Number, Boolean, Error, Text, Formula, Dynamic}
+use Rattle.cell_content.specs.KeptContent.{IsKeptContent}
 use Rattle.formula_grammar.specs.declared.Profile.{Profile}
 use Rattle.formula_lex.specs.Lexicon.{IsTokens}
 use Rattle.formula_read.specs.Formula.{IsFormula, IsRead, formula_of}
-use Rattle.formula_input.specs.Inputs.{input_of, input_text, IsReadAgain}
+use Rattle.cell_input.specs.Inputs.{input_of, input_text, IsReadAgain}
 use Rattle.formula_round.specs.Back.{IsKeptNormal, is_normal_content, text_at}
 use Rattle.formula_round.specs.Tokens.{tokens_of}
 use Rattle.formula_round.proofs.Derived.{tokens_derive}

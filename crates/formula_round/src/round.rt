@@ -1,18 +1,18 @@
 ghost use Rattle.std.specs.Prelude.{◌≡◌, true};
 ghost use Rattle.std.specs.Str.{chars};
 ghost use Rattle.formula_tree.specs.declared.Node.{Node as Tree};
-ghost use Rattle.formula_content.specs.declared.Content.{Content as AnyContent};
-ghost use Rattle.formula_content.specs.KeptContent.{IsKeptContent};
+ghost use Rattle.cell_content.specs.declared.Content.{Content as AnyContent};
+ghost use Rattle.cell_content.specs.KeptContent.{IsKeptContent};
 ghost use Rattle.formula_grammar.specs.declared.Profile.{Profile as AnyProfile};
 ghost use Rattle.formula_grammar.specs.Grammar.{Derives};
 ghost use Rattle.formula_grammar.specs.Normal.{is_normal};
 ghost use Rattle.formula_lex.specs.Lexicon.{IsTokens};
 ghost use Rattle.formula_read.specs.Formula.{IsFormula, formula_of};
-ghost use Rattle.formula_input.specs.Inputs.{input_of, input_text};
+ghost use Rattle.cell_input.specs.Inputs.{input_of, input_text};
 ghost use Rattle.formula_round.specs.Back.{IsKeptNormal, is_normal_content, text_at};
 ghost use Rattle.formula_round.specs.Tokens.{tokens_of};
 
-use formula_input::contents_read_again;
+use cell_input::contents_read_again;
 use formula_read::text_has_one_tree;
 
 /// The law of formulas: the text that is printed of a normal tree whose numbers a workbook keeps is

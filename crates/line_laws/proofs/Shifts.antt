@@ -2,20 +2,18 @@
 use Rattle.std.proofs.Common.{◌≡◌, ℤ, pos, ◌-ℤ◌, arith}
 use Rattle.std.proofs.lemmas.Int.{ints}
 use Rattle.formula_move.specs.Lines as displacing
-use Rattle.line_map.specs.Edit.{within, goes_to, image_at, IsValid, IsWithin}
-use Rattle.line_map.specs.declared.edit.EditKind.{EditKind}
-use Rattle.line_map.specs.declared.edit.EditKind.TheVariants.{Insert, Delete}
-use Rattle.line_laws.specs.Shift.{first_of, delta_of}
+use Rattle.line_map.specs.Edit.{within, is_in_block, moved_by, goes_to, image_at, IsValid}
+use Rattle.line_map.specs.declared.EditKind.TheVariants.{Insert, Delete, Move}
+use Rattle.line_map.specs.laws.Images.{insert_parts, delete_parts, move_parts}
 
-inserted : (last c k n : ℤ) → IsWithin last c k → displacing.shifted last c k n ≡ image_at last (Insert c k) n
+pub inserted : (last first count n : ℤ) → IsValid last (Insert first count) → displacing.shifted last first count n ≡ image_at last (Insert first count) n
 unfolding displacing.goes_on displacing.within image_at goes_to within
-inserted last c k n v = let a = v.amount.0 in let b = v.begins.0 in grind (arith, ints)
+inserted last first count n valid = let v = insert_parts last first count valid in let a = v.amount.0 in let b = v.begins.0 in grind (arith, ints)
 
-deleted : (last c k n : ℤ) → IsWithin last c k → displacing.shifted last c (pos 0 -ℤ k) n ≡ image_at last (Delete c k) n
+pub deleted : (last first count n : ℤ) → IsValid last (Delete first count) → displacing.shifted last first (pos 0 -ℤ count) n ≡ image_at last (Delete first count) n
 unfolding displacing.goes_on displacing.within image_at goes_to within
-deleted last c k n v = let a = v.amount.0 in let b = v.begins.0 in grind (arith, ints)
+deleted last first count n valid = let v = delete_parts last first count valid in let a = v.amount.0 in let b = v.begins.0 in grind (arith, ints)
 
-pub same_image : (last : ℤ) (e : EditKind) → IsValid last e → (n : ℤ) → displacing.shifted last (first_of e) (delta_of e) n ≡ image_at last e n
-unfolding IsValid
-same_image last (Insert c k) v n = inserted last c k n v
-same_image last (Delete c k) v n = deleted last c k n v
+pub stepped : (last line delta n : ℤ) → IsValid last (Move line (pos 1) delta) → displacing.stepped last line delta n ≡ image_at last (Move line (pos 1) delta) n
+unfolding displacing.steps displacing.within image_at goes_to within moved_by is_in_block
+stepped last line delta n valid = let v = move_parts last line (pos 1) delta valid in grind (arith, ints)

@@ -1,1 +1,2 @@
-mod Zips
+pub mod Turns
+pub mod Zips

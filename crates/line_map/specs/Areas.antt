@@ -1,13 +1,12 @@
--- Areas along an edit.
-use Rattle.std.proofs.Common.{ℤ, pos, ◌+ℤ◌, ◌-ℤ◌, ◌≤ℤ◌, Option, Some, None, arith}
-use Rattle.std.specs.Prelude.{ℕ, IfSome, int_lt, if◌then◌else◌}
-use Rattle.std.proofs.lemmas.Int.{ints}
+-- Areas, carried along.
+use Rattle.std.proofs.Common.{ℤ, pos, ◌+ℤ◌, ◌-ℤ◌, ◌≤ℤ◌, Option, Some, None}
+use Rattle.std.specs.Prelude.{ℕ, int_lt, if◌then◌else◌}
 use Rattle.base_values.specs.declared.Position.{Position}
 use Rattle.base_values.specs.Places.{IsPlace}
 use Rattle.base_axis.specs.declared.Area.{Area}
-use Rattle.base_axis.specs.Along.{Along, IsAxis}
-use Rattle.line_map.specs.declared.edit.EditKind.{EditKind}
-use Rattle.line_map.specs.Places.{place_image, place_inside}
+use Rattle.base_axis.specs.contracts.area.AreaPartialEq.TheImpl as equality
+use Rattle.line_map.specs.Trial.{part_by_trial}
+use Rattle.line_map.specs.Way.{Way, place_goes}
 
 -- its first place
 abbrev pub first_place : Area → Position
@@ -48,34 +47,9 @@ moved_to area (Some first) (Some last) = between area.sheet first last
 moved_to area (Some first) None = area
 moved_to area None last = area
 
-unfoldable pub followed : Along → EditKind → Area → Area
-followed a e area = moved_to area (place_image a e (first_place area)) (place_image a e (last_place area))
+unfoldable pub area_carried : Way → Area → Area
+area_carried w area = moved_to area (place_goes w (first_place area)) (place_goes w (last_place area))
 
--- the corners are its first and its last place, in either order
-pub between_inside : (sheet : ℕ) (p q : Position) → IsPlace p → IsPlace q → IsArea (between sheet p q)
-unfolding between
-between_inside sheet p q h i =
-    let a = h.0.0 in
-    let b = h.0.1 in
-    let c = h.1.0 in
-    let d = h.1.1 in
-    let f = i.0.0 in
-    let g = i.0.1 in
-    let j = i.1.0 in
-    let k = i.1.1 in
-    record {
-      wide = grind (arith, ints);
-      high = grind (arith, ints);
-      first = ((grind (arith, ints), grind (arith, ints)), (grind (arith, ints), grind (arith, ints)));
-      last = ((grind (arith, ints), grind (arith, ints)), (grind (arith, ints), grind (arith, ints)));
-    }
-
-moved_inside : (area : Area) → IsArea area → (o w : Option Position) → IfSome o IsPlace → IfSome w IsPlace → IsArea (moved_to area o w)
-moved_inside area h (Some p) (Some q) i j = between_inside area.sheet p q i j
-moved_inside area h (Some p) None i j = h
-moved_inside area h None w i j = h
-
--- an area that is carried along lies inside
-pub area_stays : (a : Along) → IsAxis a → (e : EditKind) (area : Area) → IsArea area → IsArea (followed a e area)
-unfolding followed
-area_stays a l e area h = moved_inside area h _ _ (place_inside a l e _ h.first) (place_inside a l e _ h.last)
+-- the area, where the way back does not give it
+abbrev pub area_part : Way → Area → Option Area
+area_part w area = part_by_trial equality.ghosts.eq area_carried w area

@@ -1,11 +1,11 @@
 ghost use Rattle.std.specs.Prelude.{◌≡◌, ◌≤ℤ◌, pos};
 ghost use Rattle.base_values.specs.Places.{IsLine, IsPlace};
-ghost use Rattle.line_map.specs.Edit.{IsValid, opposite_of};
-ghost use Rattle.line_map.specs.Areas.{IsArea, first_place, last_line, last_place, lesser, span, between, followed};
+ghost use Rattle.line_map.specs.Areas.{IsArea, first_place, last_line, last_place, lesser, span, between, area_carried};
+ghost use Rattle.line_map.specs.Way.{way};
 
-use crate::edit::LineEdit;
-use crate::follow::Follow;
-use crate::places::place_image;
+use crate::follower::Follower;
+use crate::line_map::LineMap;
+use crate::route::Route;
 use base_axis::{Area, Axis};
 use base_values::{EditError, Position};
 use std::alloc::Global;
@@ -72,73 +72,71 @@ fn between(sheet: u32, p: Position, q: Position) -> Area
 }
 
 /// The area between where its corners go. It stays where one of them goes nowhere.
-#[tactic(auto, unfolding(crate::specs::Areas::followed))]
-fn followed<A: Axis>(edit: &LineEdit<A>, area: Area) -> Area
+#[tactic(auto, unfolding(crate::specs::Areas::area_carried))]
+fn carried<A: Axis, M: LineMap<A>>(route: &Route<'_, A, M>, area: Area) -> Area
     requires { IsArea area }
-    ensures value { result ≡ followed A.along edit.now.kind area }
+    ensures value { result ≡ area_carried (way route.now) area }
     ensures inside { IsArea result }
 {
-    match (
-        place_image(edit, first_place(area)),
-        place_image(edit, last_place(area)),
-    ) {
+    match (route.goes(first_place(area)), route.goes(last_place(area))) {
         (Some(first), Some(last)) => between(area.sheet, first, last),
         _ => area,
     }
 }
 
-/// The area carried along, and then along the opposite.
-fn there_and_back<A: Axis>(edit: &LineEdit<A>, area: Area) -> Area
-    requires valid { IsValid A.along.last edit.now.kind }
-    requires lies { IsArea area }
-    ensures { result ≡ followed A.along (opposite_of edit.now.kind) (followed A.along edit.now.kind area) }
-{
-    let there = followed(edit, area);
-    followed(&edit.opposite(), there)
-}
+/// An area is carried along by its corners.
+impl<A: Axis> Follower<A> for Area {
+    ghost use Rattle.std.specs.Prelude.{⊤};
+    ghost use Rattle.line_map.specs.Areas.{IsArea, area_carried, area_part};
+    ghost use Rattle.line_map.specs.laws.AreaLaws.{area_stays, area_comes_back, area_restores};
 
-impl<A: Axis> Follow<A> for Area {
-    ghost use Rattle.base_axis.specs.contracts.area.AreaPartialEq.TheImpl as area;
-    ghost use Rattle.base_axis.specs.laws.AreaEquals.{area_equals};
-    ghost use Rattle.line_map.specs.Areas.{IsArea, followed, area_stays};
-    ghost use Rattle.line_map.specs.Trial.{kept_by_trial, regained, trial_regains};
+    /// The area, where the way back does not give it.
+    type Part = Area;
 
-    /// The area, where the opposite does not give it back.
-    type Kept = Option<Area>;
+    ghost Lies = { λ _. IsArea };
 
-    ghost Lies = { IsArea };
+    ghost carry_of = { area_carried };
 
-    ghost follow_of = { followed A.along };
+    ghost part_of = { area_part };
 
-    ghost kept_of = { kept_by_trial area.ghosts.eq (followed A.along) };
+    ghost Fits = { λ _ _. ⊤ };
 
-    ghost regain_of = { regained area.ghosts.eq (followed A.along) };
+    ghost restore_of = { λ _ _ part. part };
 
-    fn follow(&self, _alloc: Global, edit: &LineEdit<A>) -> Result<Area, EditError> {
-        Ok(followed(edit, *self))
+    fn carry<M: LineMap<A>>(
+        &self,
+        _alloc: Global,
+        route: &Route<'_, A, M>,
+    ) -> Result<Area, EditError> {
+        Ok(carried(route, *self))
     }
 
-    #[tactic(auto, unfolding(crate::specs::Trial::kept_by_trial, crate::specs::Trial::comes_back))]
-    fn kept(&self, _alloc: Global, edit: &LineEdit<A>) -> Result<Option<Area>, EditError> {
-        if there_and_back(edit, *self) == *self {
+    #[tactic(auto, unfolding(crate::specs::Trial::part_by_trial))]
+    fn part<M: LineMap<A>>(
+        &self,
+        _alloc: Global,
+        route: &Route<'_, A, M>,
+    ) -> Result<Option<Area>, EditError> {
+        if carried(&route.back(), carried(route, *self)) == *self {
             return Ok(None);
         }
         Ok(Some(*self))
     }
 
-    fn regain(
+    fn restore<M: LineMap<A>>(
         &self,
         _alloc: Global,
-        edit: &LineEdit<A>,
-        kept: &Option<Area>,
+        _route: &Route<'_, A, M>,
+        part: &Area,
     ) -> Result<Area, EditError> {
-        match kept {
-            Some(area) => Ok(*area),
-            None => Ok(followed(&edit.opposite(), *self)),
-        }
+        Ok(*part)
     }
 
-    ghost stays_inside = { λ e valid. area_stays A.along A.lawful e };
+    ghost stays = { area_stays };
 
-    ghost regains = { λ e valid v lies. trial_regains area.ghosts.eq (followed A.along) area_equals e v };
+    ghost part_fits = { λ w is v lies k kept. tt };
+
+    ghost comes_back = { λ w is v lies h. area_comes_back w v h };
+
+    ghost restores = { λ w is v lies k h. area_restores w v k h };
 }

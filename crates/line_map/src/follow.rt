@@ -1,22 +1,30 @@
 ghost use Rattle.std.specs.Prelude.{◌≡◌, IfOk, IsOkUnless};
 ghost use Rattle.base_values.specs.declared.EditError.TheVariants.{NoMemory};
-ghost use Rattle.line_map.specs.Edit.{IsValid};
-ghost use Rattle.line_map.specs.Trial.{comes_back};
+ghost use Rattle.line_map.specs.Edit.{IsValid, opposite_of};
+ghost use Rattle.line_map.specs.Alone.{edit_way};
+ghost use Rattle.line_map.specs.Way.{way};
 ghost use Rattle.line_map.specs.declared.edit.EditKind.{EditKind};
 
 use crate::edit::LineEdit;
+use crate::follower::Follower;
+use crate::route::Route;
 use base_axis::Axis;
-use base_values::{EditError, Exact};
+use base_values::{EditError, Exact, Position};
 use std::alloc::Global;
+use std::marker::PhantomData;
 
-/// What line edits along an axis carry along. Each call asks that the edit is valid and that the
-/// value lies inside the sheet, and refuses `NoMemory` alone. docs/MODEL.md has the rules.
+/// What line edits along an axis carry along, by itself: it stands on the edited sheet, or names
+/// its own sheet. Each call asks that the edit is valid and that the value lies inside the sheet,
+/// and `NoMemory` is its only error. docs/MODEL.md has the rules.
 pub trait Follow<A: Axis>: Exact + Drop {
     /// What an edit's opposite does not give back.
     type Kept: Drop;
 
     /// It lies inside the sheet.
-    ghost Lies: { Self → Type 0 };
+    ghost Lies: { EditKind → Self → Type 0 };
+
+    /// It is what was kept of a value that is carried along.
+    ghost Restores: { EditKind → Self → Self.Kept → Type 0 };
 
     ghost follow_of: { EditKind → Self → Self };
 
@@ -27,14 +35,14 @@ pub trait Follow<A: Axis>: Exact + Drop {
     /// The value carried along.
     fn follow(&self, alloc: Global, edit: &LineEdit<A>) -> Result<Self, EditError>
         requires valid { IsValid A.along.last edit.now.kind }
-        requires lies { Lies self.now }
+        requires lies { Lies edit.now.kind self.now }
         ensures value { IfOk result (λ value. value ≡ follow_of edit.now.kind self.now) }
         ensures only { IsOkUnless result NoMemory };
 
     /// What has to be kept of the value, so that it can be regained.
     fn kept(&self, alloc: Global, edit: &LineEdit<A>) -> Result<Self::Kept, EditError>
         requires valid { IsValid A.along.last edit.now.kind }
-        requires lies { Lies self.now }
+        requires lies { Lies edit.now.kind self.now }
         ensures kept { IfOk result (λ kept. kept ≡ kept_of edit.now.kind self.now) }
         ensures only { IsOkUnless result NoMemory };
 
@@ -46,46 +54,101 @@ pub trait Follow<A: Axis>: Exact + Drop {
         kept: &Self::Kept,
     ) -> Result<Self, EditError>
         requires valid { IsValid A.along.last edit.now.kind }
-        requires lies { Lies self.now }
+        requires restores { Restores edit.now.kind self.now kept.now }
         ensures value { IfOk result (λ value. value ≡ regain_of edit.now.kind self.now kept.now) }
         ensures only { IsOkUnless result NoMemory };
 
-    /// What lies inside the sheet lies inside afterwards.
-    ghost stays_inside: { (e : EditKind) → IsValid A.along.last e → (v : Self) → Lies v → Lies (follow_of e v) };
+    /// What is kept of a value can be laid over the value carried along.
+    ghost fits: { (e : EditKind) → IsValid A.along.last e → (v : Self) → Lies e v → Restores e (follow_of e v) (kept_of e v) };
 
     /// The law of followers: what is regained is the value that was carried along.
-    ghost regains: { (e : EditKind) → IsValid A.along.last e → (v : Self) → Lies v → regain_of e (follow_of e v) (kept_of e v) ≡ v };
+    ghost regains: { (e : EditKind) → IsValid A.along.last e → (v : Self) → Lies e v → regain_of e (follow_of e v) (kept_of e v) ≡ v };
 }
 
-/// Whether the opposite of an edit gives a value back that was carried along.
-#[tactic(auto, unfolding(crate::specs::Trial::comes_back))]
-pub fn comes_back<A: Axis, F: Follow<A>>(
-    alloc: Global,
-    value: &F,
-    edit: &LineEdit<A>,
-) -> Result<bool, EditError>
+/// The route of an edit on the edited sheet, whose name is left open.
+fn route_of<'e, A: Axis>(
+    edit: &'e LineEdit<A>,
+    opposite: &'e LineEdit<A>,
+) -> Route<'e, A, LineEdit<A>>
     requires valid { IsValid A.along.last edit.now.kind }
-    requires lies { F.Lies value.now }
-    ensures back { IfOk result (λ back. back ≡ comes_back F.eq F.follow_of edit.now.kind value.now) }
-    ensures only { IsOkUnless result NoMemory }
+    requires opposite { opposite.now.kind ≡ opposite_of edit.now.kind }
+    ensures { way result ≡ edit_way A.along edit.now.kind }
 {
-    let there = value.follow(alloc, edit)?;
-    let back = there.follow(alloc, &edit.opposite())?;
-    Ok(back == *value)
+    let first = Position { row: 1, column: 1 };
+    Route {
+        map: edit,
+        opposite,
+        brings: true,
+        own: "",
+        edited: "",
+        is_own: true,
+        is_edited: true,
+        from: first,
+        to: first,
+        axis: PhantomData,
+    }
 }
 
-/// The law of followers, for each of them: a value that is carried along and regained is the value.
+impl<A: Axis, F: Follower<A> + Exact> Follow<A> for F {
+    ghost use Rattle.std.specs.Prelude.{IfSome};
+    ghost use Rattle.line_map.specs.Alone.{edit_way, regained, Restores};
+    ghost use Rattle.line_map.specs.Way.{back};
+    ghost use Rattle.line_map.specs.laws.AloneLaws.{edit_is_way, kept_restores, kept_fits};
+
+    type Kept = Option<F::Part>;
+
+    ghost Lies = { λ e. F.Lies (edit_way A.along e) };
+
+    ghost Restores = { λ e. Restores F.Lies F.Fits (edit_way A.along e) };
+
+    ghost follow_of = { λ e. F.carry_of (edit_way A.along e) };
+
+    ghost kept_of = { λ e. F.part_of (edit_way A.along e) };
+
+    ghost regain_of = { λ e. regained F.carry_of F.restore_of (edit_way A.along e) };
+
+    fn follow(&self, alloc: Global, edit: &LineEdit<A>) -> Result<F, EditError> {
+        let opposite = edit.opposite();
+        self.carry(alloc, &route_of(edit, &opposite))
+    }
+
+    fn kept(&self, alloc: Global, edit: &LineEdit<A>) -> Result<Option<F::Part>, EditError> {
+        let opposite = edit.opposite();
+        self.part(alloc, &route_of(edit, &opposite))
+    }
+
+    fn regain(
+        &self,
+        alloc: Global,
+        edit: &LineEdit<A>,
+        kept: &Option<F::Part>,
+    ) -> Result<F, EditError> {
+        let opposite = edit.opposite();
+        let route = route_of(edit, &opposite);
+        match kept {
+            Some(part) => self.restore(alloc, &route, part),
+            None => self.carry(alloc, &route.back()),
+        }
+    }
+
+    ghost fits = { λ e valid v lies. kept_fits F.Lies F.carry_of F.part_of (edit_way A.along e) (edit_is_way A.along A.lawful e valid) F.Fits F.stays F.part_fits v lies };
+
+    ghost regains = { λ e valid v lies. kept_restores F.Lies F.carry_of F.part_of (edit_way A.along e) (edit_is_way A.along A.lawful e valid) F.restore_of F.comes_back F.restores v lies };
+}
+
+/// The law of followers: a value that is carried along and regained is the value.
 pub fn there_and_back<A: Axis, F: Follow<A>>(
     alloc: Global,
     value: &F,
     edit: &LineEdit<A>,
 ) -> Result<F, EditError>
     requires valid { IsValid A.along.last edit.now.kind }
-    requires lies { F.Lies value.now }
-    ensures value { IfOk result (λ regained. regained ≡ value.now) }
+    requires lies { F.Lies edit.now.kind value.now }
+    ensures value { IfOk result (λ back. back ≡ value.now) }
     ensures only { IsOkUnless result NoMemory }
 {
+    let there = value.follow(alloc, edit)?;
     let kept = value.kept(alloc, edit)?;
-    let followed = value.follow(alloc, edit)?;
-    followed.regain(alloc, edit, &kept)
+    let back = there.regain(alloc, edit, &kept)?;
+    Ok(back)
 }

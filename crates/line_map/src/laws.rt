@@ -1,36 +1,56 @@
-ghost use Rattle.std.specs.Prelude.{◌≡◌, true, Some};
+//! What the maps and trees are that a route carries along.
+
+ghost use Rattle.std.specs.Prelude.{◌≡◌, ℤ, true, Some, None, is_none, if◌then◌else◌};
 ghost use Rattle.std.specs.FinMap.{get};
 ghost use Rattle.base_values.specs.declared.Position.{Position};
+ghost use Rattle.base_values.specs.Places.{IsLine};
 ghost use Rattle.formula_tree.specs.Placed.{is_placed};
-ghost use Rattle.line_map.specs.Edit.{IsValid, opposite_of};
-ghost use Rattle.line_map.specs.Carried.{if_there, if_lost, if_goes, follow_map, lost_map, parts_map};
-ghost use Rattle.line_map.specs.Places.{place_image, part_of};
-ghost use Rattle.line_map.specs.Trees.{goes, followed};
+ghost use Rattle.line_map.specs.Carried.{if_there, lost_map};
+ghost use Rattle.line_map.specs.declared.edit.EditKind.TheVariants.{Move};
+ghost use Rattle.line_map.specs.Edit.{image_at, IsValid};
+ghost use Rattle.line_map.specs.Maps.{places_carried, places_parts};
+ghost use Rattle.line_map.specs.Singles.{line_by_line};
+ghost use Rattle.line_map.specs.Trees.{tree_carried};
+ghost use Rattle.line_map.specs.Way.{at, back, place_goes, way};
 
-use crate::edit::LineEdit;
-use crate::follow::Follow;
-use crate::tree_at::TreeAt;
+use crate::follower::Follower;
+use crate::line_map::LineMap;
+use crate::route::Route;
 use base_axis::Axis;
+use base_shared::Shared;
 use base_values::PlaceMap;
+use formula_tree::Node;
 
-/// What a followed map holds at a place is what the map held where the opposite takes the place,
-/// carried along. Of a map is kept: each entry whose place goes nowhere; and of each other entry
-/// that does not come back its kept part, and of no other one.
-pub fn entries_of_maps<A: Axis, F: Follow<A>>(edit: &LineEdit<A>, map: &PlaceMap<F>)
-    requires { IsValid A.along.last edit.now.kind }
-    ensures followed { (q : Position) → get (follow_map (place_image A.along edit.now.kind) (λ _. F.follow_of edit.now.kind) map.now) q ≡ if_there (place_image A.along (opposite_of edit.now.kind) q) (λ p. if_there (get map.now p) (λ x. Some (F.follow_of edit.now.kind x))) }
-    ensures lost { (p : Position) → get (lost_map (place_image A.along edit.now.kind) map.now) p ≡ if_there (if_lost (place_image A.along edit.now.kind p) p) (λ p. if_there (get map.now p) Some) }
-    ensures parts { (p : Position) → get (parts_map (place_image A.along edit.now.kind) (λ _. part_of F.eq F.follow_of F.kept_of edit.now.kind) map.now) p ≡ if_there (if_goes (place_image A.along edit.now.kind p) p) (λ p. if_there (get map.now p) (part_of F.eq F.follow_of F.kept_of edit.now.kind)) }
+/// A carried map has at a place what the map had where the place came from, carried along. Of a map
+/// is kept: each entry whose place goes nowhere; and of each other entry the part that the way back
+/// does not give, if there is one.
+pub fn entries_of_maps<A: Axis, M: LineMap<A>, F: Follower<A>>(
+    route: &Route<'_, A, M>,
+    map: &PlaceMap<F>,
+)
+    ensures carried { (q : Position) → get (places_carried F.carry_of (way route.now) map.now) q ≡ if_there (place_goes (back (way route.now)) q) (λ p. if_there (get map.now p) (λ x. Some (F.carry_of (at (way route.now) p q) x))) }
+    ensures lost { (p : Position) → get (lost_map (place_goes (way route.now)) map.now) p ≡ (if is_none (place_goes (way route.now) p) then get map.now p else None) }
+    ensures parts { (p : Position) → get (places_parts F.part_of (way route.now) map.now) p ≡ if_there (get map.now p) (λ x. if_there (place_goes (way route.now) p) (λ q. F.part_of (at (way route.now) p q) x)) }
 {
-    let _ = edit;
+    route.is_way();
     let _ = map;
 }
 
-/// The corners of a tree that is carried to a place lie inside the sheet, and those of each range
-/// are in order.
-pub fn followed_is_placed<A: Axis>(edit: &LineEdit<A>, tree: &TreeAt)
-    ensures { (to : Position) → goes A.along edit.now.kind tree.now ≡ Some to → is_placed to (followed A.along edit.now.kind tree.now).node ≡ true }
+/// The corners of a tree that is carried along lie inside the sheet, and those of each range are
+/// in order.
+pub fn followed_is_placed<A: Axis, M: LineMap<A>>(route: &Route<'_, A, M>, tree: &Shared<Node>)
+    ensures { is_placed (way route.now).to (tree_carried (way route.now) tree.now) ≡ true }
 {
-    let _ = edit;
+    route.is_way();
     let _ = tree;
+}
+
+/// A move of a block of lines takes each line of the axis where the moves of its lines one by one
+/// take it: the last of them first where the block goes on, and the first of them first where it
+/// goes back.
+pub fn move_by_single_lines<A: Axis>(first: i32, count: i32, delta: i32)
+    requires { IsValid A.along.last (Move first count delta) }
+    ensures { (n : ℤ) → IsLine A.along.last n → image_at A.along.last (Move first count delta) n ≡ line_by_line A.along.last first count delta n }
+{
+    let _ = (first, count, delta);
 }

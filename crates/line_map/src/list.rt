@@ -1,57 +1,98 @@
-use crate::edit::LineEdit;
-use crate::follow::Follow;
+ghost use Rattle.std.specs.Prelude.{◌≡◌, IfOk, IfSome, IsOkUnless};
+ghost use Rattle.base_values.specs.declared.EditError.TheVariants.{NoMemory};
+ghost use Rattle.line_map.specs.Carried.{settled};
+ghost use Rattle.line_map.specs.Way.{back, way};
+
+use crate::follower::Follower;
+use crate::line_map::LineMap;
+use crate::route::Route;
 use base_axis::Axis;
 use base_values::{EditError, Items};
 use std::alloc::Global;
 
-impl<A: Axis, F: Follow<A>> Follow<A> for Items<F> {
-    ghost use Rattle.std.specs.Prelude.{map};
+/// What an item is restored from its part to, if it has one, else what is carried back.
+fn settled<A: Axis, M: LineMap<A>, F: Follower<A>>(
+    alloc: Global,
+    item: &F,
+    route: &Route<'_, A, M>,
+    part: &Option<F::Part>,
+) -> Result<F, EditError>
+    requires lies { F.Lies (back (way route.now)) item.now }
+    requires fits { IfSome part.now (F.Fits (way route.now)) }
+    ensures item { IfOk result (λ settled_item. settled_item ≡ settled (F.carry_of (back (way route.now))) (F.restore_of (way route.now)) part.now item.now) }
+    ensures only { IsOkUnless result NoMemory }
+{
+    match part {
+        Some(part) => item.restore(alloc, route, part),
+        None => item.carry(alloc, &route.back()),
+    }
+}
+
+/// Each item of a list is carried along.
+impl<A: Axis, F: Follower<A>> Follower<A> for Items<F> {
+    ghost use Rattle.std.specs.Prelude.{map, Some, IfSome};
     ghost use Rattle.std.specs.List.{All};
-    ghost use Rattle.line_map.specs.Lists.{zip_by, all_stay, all_regain};
+    ghost use Rattle.line_map.specs.Lists.{items_restored};
+    ghost use Rattle.line_map.specs.Way.{back};
+    ghost use Rattle.line_map.specs.laws.ListLaws.{items_stay, parts_fit, items_restore};
 
-    /// The kept part of each item.
-    type Kept = Items<F::Kept>;
+    /// The part of each item.
+    type Part = Items<Option<F::Part>>;
 
-    ghost Lies = { All F.Lies };
+    ghost Lies = { λ w. All (F.Lies w) };
 
-    ghost follow_of = { λ e. map (F.follow_of e) };
+    ghost carry_of = { λ w. map (F.carry_of w) };
 
-    ghost kept_of = { λ e. map (F.kept_of e) };
+    ghost part_of = { λ w xs. Some (map (F.part_of w) xs) };
 
-    ghost regain_of = { λ e. zip_by (F.regain_of e) };
+    ghost Fits = { λ w. All (λ part. IfSome part (F.Fits w)) };
 
-    fn follow(&self, alloc: Global, edit: &LineEdit<A>) -> Result<Items<F>, EditError> {
-        let mut made = Items::empty(alloc);
-        for item in self.as_slice() {
-            made.push(item.follow(alloc, edit)?)?;
-        }
-        Ok(made)
-    }
+    ghost restore_of = { λ w. items_restored (F.carry_of (back w)) (F.restore_of w) };
 
-    fn kept(&self, alloc: Global, edit: &LineEdit<A>) -> Result<Items<F::Kept>, EditError> {
-        let mut made = Items::empty(alloc);
-        for item in self.as_slice() {
-            made.push(item.kept(alloc, edit)?)?;
-        }
-        Ok(made)
-    }
-
-    fn regain(
+    fn carry<M: LineMap<A>>(
         &self,
         alloc: Global,
-        edit: &LineEdit<A>,
-        kept: &Items<F::Kept>,
+        route: &Route<'_, A, M>,
     ) -> Result<Items<F>, EditError> {
         let mut made = Items::empty(alloc);
-        let (items, kept) = (self.as_slice(), kept.as_slice());
-        let both = items.len().min(kept.len());
-        for i in 0..both {
-            made.push(items[i].regain(alloc, edit, &kept[i])?)?;
+        for item in self.as_slice() {
+            made.push(item.carry(alloc, route)?)?;
         }
         Ok(made)
     }
 
-    ghost stays_inside = { λ e valid. all_stay (F.follow_of e) (F.stays_inside e valid) };
+    fn part<M: LineMap<A>>(
+        &self,
+        alloc: Global,
+        route: &Route<'_, A, M>,
+    ) -> Result<Option<Items<Option<F::Part>>>, EditError> {
+        let mut made = Items::empty(alloc);
+        for item in self.as_slice() {
+            made.push(item.part(alloc, route)?)?;
+        }
+        Ok(Some(made))
+    }
 
-    ghost regains = { λ e valid. all_regain (F.follow_of e) (F.kept_of e) (F.regain_of e) (F.regains e valid) };
+    fn restore<M: LineMap<A>>(
+        &self,
+        alloc: Global,
+        route: &Route<'_, A, M>,
+        part: &Items<Option<F::Part>>,
+    ) -> Result<Items<F>, EditError> {
+        let mut made = Items::empty(alloc);
+        let (items, parts) = (self.as_slice(), part.as_slice());
+        let both = items.len().min(parts.len());
+        for i in 0..both {
+            made.push(settled(alloc, &items[i], route, &parts[i])?)?;
+        }
+        Ok(made)
+    }
+
+    ghost stays = { λ w is. items_stay (F.Lies w) (F.Lies (back w)) (F.carry_of w) (F.stays w is) };
+
+    ghost part_fits = { λ w is xs lie ks h. parts_fit (F.Lies w) (F.part_of w) (F.Fits w) (F.part_fits w is) xs lie ks h };
+
+    ghost comes_back = { λ w is xs lie h. absurd (Prim.cc) };
+
+    ghost restores = { λ w is xs lie ks h. items_restore (F.Lies w) (F.carry_of w) (F.carry_of (back w)) (F.restore_of w) (F.part_of w) (F.comes_back w is) (F.restores w is) xs lie ks h };
 }

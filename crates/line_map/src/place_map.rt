@@ -1,27 +1,245 @@
-ghost use Rattle.std.specs.Prelude.{◌≡◌};
+//! Maps by place: each entry goes where its place goes.
 
-use crate::edit::LineEdit;
-use crate::follow::Follow;
-use crate::laying::lay;
-use crate::overlays::{Carried, Copied, Lost, Parts, Regained};
+ghost use Rattle.std.specs.Prelude.{◌≡◌, IfOk, IsOkUnless, IsTrue, OnOk, Option, All, Some};
+ghost use Rattle.std.specs.Option.{option_copied};
+ghost use Rattle.std.specs.FinMap.{get, entries, insert};
+ghost use Rattle.base_values.specs.declared.Position.{Position};
+ghost use Rattle.base_values.specs.declared.EditError.TheVariants.{NoMemory};
+ghost use Rattle.base_values.specs.Places.{IsPlace};
+ghost use Rattle.line_map.specs.Carried.{entry_made, if_lost, if_there, lost_map, overlaid, settled};
+ghost use Rattle.line_map.specs.laws.Gathering.{with_made};
+ghost use Rattle.line_map.specs.Maps.{AllLie, KeysInside, PartsFit, places_carried, places_parts, places_restored};
+ghost use Rattle.line_map.specs.Way.{at, back, place_goes, way};
+
+use crate::follower::Follower;
+use crate::line_map::LineMap;
+use crate::route::Route;
 use base_axis::Axis;
-use base_values::{EditError, Exact, PlaceMap};
+use base_maps::PositionMap;
+use base_values::{EditError, Exact, PlaceMap, Position, copy_of};
 use std::alloc::{AllocError, Global};
 
-/// What an edit's opposite does not give back of a map.
-#[derive(PartialEq, Eq, Drop)]
-pub struct KeptMap<F, K> {
-    /// The entries whose lines are lost.
-    pub lost: PlaceMap<F>,
-    /// The kept parts of the other entries that do not come back, by their places before the
-    /// edit.
-    pub parts: PlaceMap<K>,
+/// Parts that are kept under places.
+pub trait Parts {
+    type Part: Drop;
+
+    ghost part_at: { Self → Position → Option Self.Part };
+
+    /// The part that is kept under a place, if there is one.
+    fn part(&self, place: Position) -> Option<&Self::Part>
+        ensures { option_copied result ≡ part_at self.now place };
 }
 
-impl<F: Exact, K: Exact> Clone for KeptMap<F, K> {
+impl<P: Drop> Parts for PositionMap<P> {
+    type Part = P;
+
+    ghost part_at = { get };
+
+    fn part(&self, place: Position) -> Option<&P> {
+        self.get(place)
+    }
+}
+
+/// Carries one entry along, to where its place goes.
+fn carry_entry<A: Axis, M: LineMap<A>, F: Follower<A>>(
+    alloc: Global,
+    route: &Route<'_, A, M>,
+    from: Position,
+    item: &F,
+    made: &mut PlaceMap<F>,
+) -> Result<(), EditError>
+    requires inside { IsPlace from }
+    requires lies { (to : Position) → place_goes (way route.now) from ≡ Some to → F.Lies (at (way route.now) from to) item.now }
+    ensures made { OnOk result (made.new ≡ with_made (entry_made (place_goes (way route.now)) (λ p q x. Some (F.carry_of (at (way route.now) p q) x)) (from, item.now)) made.old) }
+    ensures only { IsOkUnless result NoMemory }
+{
+    if let Some(to) = route.goes(from) {
+        let carried = item.carry(alloc, &route.at(from, to))?;
+        made.insert(to, carried)?;
+    }
+    Ok(())
+}
+
+/// The entries of a map, each carried along to where its place goes.
+pub fn carried_places<A: Axis, M: LineMap<A>, F: Follower<A>>(
+    alloc: Global,
+    route: &Route<'_, A, M>,
+    map: &PlaceMap<F>,
+) -> Result<PlaceMap<F>, EditError>
+    requires { AllLie F.Lies (way route.now) map.now }
+    ensures map { IfOk result (λ made. made ≡ places_carried F.carry_of (way route.now) map.now) }
+    ensures only { IsOkUnless result NoMemory }
+{
+    route.is_way();
+    let mut made = PlaceMap::new(alloc);
+    for (from, item) in map.iter() {
+        carry_entry(alloc, route, *from, item, &mut made)?;
+    }
+    Ok(made)
+}
+
+/// Keeps one entry, if its place goes nowhere.
+fn keep_lost<A: Axis, M: LineMap<A>, F: Exact + Drop>(
+    route: &Route<'_, A, M>,
+    place: Position,
+    item: &F,
+    lost: &mut PositionMap<F>,
+) -> Result<(), EditError>
+    requires { IsPlace place }
+    ensures lost { OnOk result (lost.new ≡ with_made (entry_made Some (if_lost (place_goes (way route.now))) (place, item.now)) lost.old) }
+    ensures only { IsOkUnless result NoMemory }
+{
+    if route.goes(place).is_none() {
+        lost.insert(place, copy_of(item)?)?;
+    }
+    Ok(())
+}
+
+/// The entries of a map whose places go nowhere.
+pub fn lost_places<A: Axis, M: LineMap<A>, F: Exact + Drop>(
+    alloc: Global,
+    route: &Route<'_, A, M>,
+    map: &PlaceMap<F>,
+) -> Result<PositionMap<F>, EditError>
+    ensures map { IfOk result (λ lost. lost ≡ lost_map (place_goes (way route.now)) map.now) }
+    ensures only { IsOkUnless result NoMemory }
+{
+    let mut lost = PositionMap::new(alloc);
+    for (place, item) in map.iter() {
+        keep_lost(route, *place, item, &mut lost)?;
+    }
+    Ok(lost)
+}
+
+/// Keeps the part of one entry whose place goes somewhere, if it has one.
+fn keep_part<A: Axis, M: LineMap<A>, F: Follower<A>>(
+    alloc: Global,
+    route: &Route<'_, A, M>,
+    from: Position,
+    item: &F,
+    parts: &mut PositionMap<F::Part>,
+) -> Result<(), EditError>
+    requires inside { IsPlace from }
+    requires lies { (to : Position) → place_goes (way route.now) from ≡ Some to → F.Lies (at (way route.now) from to) item.now }
+    ensures parts { OnOk result (parts.new ≡ with_made (entry_made Some (λ p _ x. if_there (place_goes (way route.now) p) (λ q. F.part_of (at (way route.now) p q) x)) (from, item.now)) parts.old) }
+    ensures only { IsOkUnless result NoMemory }
+{
+    if let Some(to) = route.goes(from) {
+        if let Some(part) = item.part(alloc, &route.at(from, to))? {
+            parts.insert(from, part)?;
+        }
+    }
+    Ok(())
+}
+
+/// The parts of the entries of a map whose places go somewhere, under these places.
+pub fn kept_parts<A: Axis, M: LineMap<A>, F: Follower<A>>(
+    alloc: Global,
+    route: &Route<'_, A, M>,
+    map: &PlaceMap<F>,
+) -> Result<PositionMap<F::Part>, EditError>
+    requires { AllLie F.Lies (way route.now) map.now }
+    ensures map { IfOk result (λ parts. parts ≡ places_parts F.part_of (way route.now) map.now) }
+    ensures only { IsOkUnless result NoMemory }
+{
+    let mut parts = PositionMap::new(alloc);
+    for (from, item) in map.iter() {
+        keep_part(alloc, route, *from, item, &mut parts)?;
+    }
+    Ok(parts)
+}
+
+/// Brings one entry back to where its place came from: restored from its part, or carried back.
+fn restore_entry<A: Axis, M: LineMap<A>, F: Follower<A>, L: Parts<Part = F::Part>>(
+    alloc: Global,
+    route: &Route<'_, A, M>,
+    parts: &L,
+    to: Position,
+    item: &F,
+    made: &mut PlaceMap<F>,
+) -> Result<(), EditError>
+    requires inside { IsPlace to }
+    requires lies { (from : Position) → place_goes (back (way route.now)) to ≡ Some from → F.Lies (at (back (way route.now)) to from) item.now }
+    requires fit { PartsFit F.Fits (way route.now) (L.part_at parts.now) }
+    ensures made { OnOk result (made.new ≡ with_made (entry_made (place_goes (back (way route.now))) (λ q p x. Some (settled (F.carry_of (back (at (way route.now) p q))) (F.restore_of (at (way route.now) p q)) (L.part_at parts.now p) x)) (to, item.now)) made.old) }
+    ensures only { IsOkUnless result NoMemory }
+{
+    route.is_way();
+    if let Some(from) = route.back().goes(to) {
+        let route = route.at(from, to);
+        let restored = match parts.part(from) {
+            Some(part) => item.restore(alloc, &route, part)?,
+            None => item.carry(alloc, &route.back())?,
+        };
+        made.insert(from, restored)?;
+    }
+    Ok(())
+}
+
+/// The entries of a map that was carried along, each where its place came from: restored from the
+/// part that is kept under that place, if there is one, else carried back.
+pub fn restored_places<A: Axis, M: LineMap<A>, F: Follower<A>, L: Parts<Part = F::Part>>(
+    alloc: Global,
+    route: &Route<'_, A, M>,
+    parts: &L,
+    map: &PlaceMap<F>,
+) -> Result<PlaceMap<F>, EditError>
+    requires lie { AllLie F.Lies (back (way route.now)) map.now }
+    requires fit { PartsFit F.Fits (way route.now) (L.part_at parts.now) }
+    ensures map { IfOk result (λ made. made ≡ places_restored F.carry_of F.restore_of (way route.now) (L.part_at parts.now) map.now) }
+    ensures only { IsOkUnless result NoMemory }
+{
+    route.is_way();
+    let mut made = PlaceMap::new(alloc);
+    for (to, item) in map.iter() {
+        restore_entry(alloc, route, parts, *to, item, &mut made)?;
+    }
+    Ok(made)
+}
+
+/// Puts a copy of an item at a place.
+fn put_entry<F: Exact + Drop>(
+    place: Position,
+    item: &F,
+    map: &mut PlaceMap<F>,
+) -> Result<(), EditError>
+    requires { IsPlace place }
+    ensures map { OnOk result (map.new ≡ insert map.old place item.now) }
+    ensures only { IsOkUnless result NoMemory }
+{
+    map.insert(place, copy_of(item)?)?;
+    Ok(())
+}
+
+/// A map with these entries, whose places lie inside the sheet, in place of its own.
+pub fn overlaid_places<F: Exact + Drop>(
+    over: &PositionMap<F>,
+    map: PlaceMap<F>,
+) -> Result<PlaceMap<F>, EditError>
+    requires { KeysInside over.now }
+    ensures map { IfOk result (λ made. made ≡ overlaid over.now map) }
+    ensures only { IsOkUnless result NoMemory }
+{
+    let mut made = map;
+    for (place, item) in over.iter() {
+        put_entry(*place, item, &mut made)?;
+    }
+    Ok(made)
+}
+
+/// What is kept of a map of followers.
+#[derive(PartialEq, Eq, Drop)]
+pub struct KeptMap<F, P> {
+    /// The entries whose places go nowhere.
+    pub lost: PositionMap<F>,
+    /// The parts of the other entries that the way back does not give, by their places before.
+    pub parts: PositionMap<P>,
+}
+
+impl<F: Exact, P: Exact> Clone for KeptMap<F, P> {
     ghost is_clone = { λ s r. r ≡ s };
 
-    fn clone(&self) -> Result<KeptMap<F, K>, AllocError> {
+    fn clone(&self) -> Result<KeptMap<F, P>, AllocError> {
         Ok(KeptMap {
             lost: self.lost.clone()?,
             parts: self.parts.clone()?,
@@ -29,72 +247,69 @@ impl<F: Exact, K: Exact> Clone for KeptMap<F, K> {
     }
 }
 
-impl<F: Exact, K: Exact> Exact for KeptMap<F, K> {
+impl<F: Exact, P: Exact> Exact for KeptMap<F, P> {
     ghost use Rattle.base_values.specs.laws.PositionEquals.{position_equals};
     ghost use Rattle.base_values.specs.laws.KeyMap.{same_entries_decides};
     ghost use Rattle.line_map.specs.laws.Equals.{kept_map_equals};
 
     ghost copies = { λ a b h. h };
 
-    ghost equals = { kept_map_equals (same_entries_decides position_equals F.equals) (same_entries_decides position_equals K.equals) };
+    ghost equals = { kept_map_equals (same_entries_decides position_equals F.equals) (same_entries_decides position_equals P.equals) };
 }
 
-impl<A: Axis, F: Follow<A>> Follow<A> for PlaceMap<F> {
-    ghost use Rattle.line_map.specs.Edit.{opposite_of};
-    ghost use Rattle.line_map.specs.Carried.{follow_map, lost_map, parts_map, regain_map};
-    ghost use Rattle.line_map.specs.Places.{place_image, part_of, AllLie, map_stays, places_regain};
+impl<A: Axis, F: Follower<A> + Exact> Follower<A> for PlaceMap<F> {
+    ghost use Rattle.std.specs.Prelude.{Some};
+    ghost use Rattle.std.specs.FinMap.{get};
+    ghost use Rattle.line_map.specs.Carried.{lost_map, overlaid};
+    ghost use Rattle.line_map.specs.Maps.{AllLie, KeptFits, places_carried, places_parts, places_restored};
+    ghost use Rattle.line_map.specs.Way.{place_goes};
+    ghost use Rattle.line_map.specs.laws.MapLaws.{places_stay, kept_map_fits, kept_map_restores};
 
-    type Kept = KeptMap<F, F::Kept>;
+    type Part = KeptMap<F, F::Part>;
 
     ghost Lies = { AllLie F.Lies };
 
-    ghost follow_of = { λ e. follow_map (place_image A.along e) (λ _. F.follow_of e) };
+    ghost carry_of = { places_carried F.carry_of };
 
-    ghost kept_of = { λ e m. record { lost = lost_map (place_image A.along e) m; parts = parts_map (place_image A.along e) (λ _. part_of F.eq F.follow_of F.kept_of e) m } };
+    ghost part_of = { λ w m. Some (record { lost = lost_map (place_goes w) m; parts = places_parts F.part_of w m }) };
 
-    ghost regain_of = { λ e m k. regain_map (place_image A.along e) (F.regain_of e) (follow_map (place_image A.along (opposite_of e)) (λ _. F.follow_of (opposite_of e)) m) k.lost k.parts m };
+    ghost Fits = { λ w k. KeptFits F.Fits w k.lost k.parts };
 
-    #[tactic(auto, unfolding(crate::specs::Carried::follow_map))]
-    fn follow(&self, alloc: Global, edit: &LineEdit<A>) -> Result<PlaceMap<F>, EditError> {
-        let carried = Carried {
-            edit: *edit,
-            map: self,
-        };
-        let places = self.places(alloc)?;
-        lay(&carried, alloc, places.as_slice(), PlaceMap::new(alloc))
-    }
+    ghost restore_of = { λ w m k. overlaid k.lost (places_restored F.carry_of F.restore_of w (get k.parts) m) };
 
-    #[tactic(auto, unfolding(crate::specs::Carried::lost_map, crate::specs::Carried::parts_map))]
-    fn kept(&self, alloc: Global, edit: &LineEdit<A>) -> Result<KeptMap<F, F::Kept>, EditError> {
-        let (edit, map) = (*edit, self);
-        let places = self.places(alloc)?;
-        let empty = PlaceMap::new(alloc);
-        let lost = lay(&Lost { edit, map }, alloc, places.as_slice(), empty)?;
-        let empty = PlaceMap::new(alloc);
-        let parts = lay(&Parts { edit, map }, alloc, places.as_slice(), empty)?;
-        Ok(KeptMap { lost, parts })
-    }
-
-    #[tactic(auto, unfolding(crate::specs::Carried::regain_map))]
-    fn regain(
+    fn carry<M: LineMap<A>>(
         &self,
         alloc: Global,
-        edit: &LineEdit<A>,
-        kept: &KeptMap<F, F::Kept>,
+        route: &Route<'_, A, M>,
     ) -> Result<PlaceMap<F>, EditError> {
-        let back = self.follow(alloc, &edit.opposite())?;
-        let regained = Regained {
-            edit: *edit,
-            followed: self,
-            parts: &kept.parts,
-        };
-        let places = kept.parts.places(alloc)?;
-        let back = lay(&regained, alloc, places.as_slice(), back)?;
-        let places = kept.lost.places(alloc)?;
-        lay(&Copied { map: &kept.lost }, alloc, places.as_slice(), back)
+        carried_places(alloc, route, self)
     }
 
-    ghost stays_inside = { λ e valid. map_stays A.along A.lawful e valid F.Lies (F.follow_of e) (F.stays_inside e valid) };
+    fn part<M: LineMap<A>>(
+        &self,
+        alloc: Global,
+        route: &Route<'_, A, M>,
+    ) -> Result<Option<KeptMap<F, F::Part>>, EditError> {
+        let lost = lost_places(alloc, route, self)?;
+        let parts = kept_parts(alloc, route, self)?;
+        Ok(Some(KeptMap { lost, parts }))
+    }
 
-    ghost regains = { λ e valid m lie. places_regain A.along A.lawful e valid F.eq F.equals F.follow_of F.kept_of (F.regain_of e) m (λ p x h. F.regains e valid x (lie.items p x h)) };
+    fn restore<M: LineMap<A>>(
+        &self,
+        alloc: Global,
+        route: &Route<'_, A, M>,
+        part: &KeptMap<F, F::Part>,
+    ) -> Result<PlaceMap<F>, EditError> {
+        let restored = restored_places(alloc, route, &part.parts, self)?;
+        overlaid_places(&part.lost, restored)
+    }
+
+    ghost stays = { λ w is. places_stay w is F.carry_of F.Lies F.stays };
+
+    ghost part_fits = { λ w is m lie k h. kept_map_fits w is F.part_of F.Lies F.Fits F.part_fits m lie k h };
+
+    ghost comes_back = { λ w is m lie h. absurd (Prim.cc) };
+
+    ghost restores = { λ w is m lie k h. kept_map_restores w is F.carry_of F.part_of F.restore_of F.Lies F.comes_back F.restores m lie k h };
 }

@@ -1,97 +1,105 @@
-ghost use Rattle.std.specs.Prelude.{◌≡◌, IfSome};
+ghost use Rattle.std.specs.Prelude.{◌≡◌, IfOk, IfSome, IsOkUnless, IsTrue};
 ghost use Rattle.base_values.specs.Places.{IsPlace};
-ghost use Rattle.base_tables.specs.Folding.{same_folded};
+ghost use Rattle.base_values.specs.declared.EditError.TheVariants.{NoMemory};
 ghost use Rattle.formula_tree.specs.OnSheet.{is_on_sheet};
-ghost use Rattle.line_map.specs.Trees.{target, is_exposed, moved_corner};
+ghost use Rattle.line_map.specs.Trees.{target, is_exposed, moved_corner, tree_carried, tree_part};
+ghost use Rattle.line_map.specs.Way.{back, way};
 
-use crate::edit::LineEdit;
-use crate::places::place_image;
+use crate::follower::Follower;
+use crate::line_map::LineMap;
+use crate::route::Route;
 use base_axis::Axis;
 use base_shared::Shared;
 use base_tables::same_by_folding;
-use base_values::{Position, Text};
-use formula_tree::{Corner, CornerMap, corner_at, corner_to, is_whole_columns, is_whole_rows};
+use base_values::{EditError, Position, Text, copy_of};
+use formula_back::{comes_back, is_still};
+use formula_tree::{
+    Corner, CornerMap, Node, corner_at, corner_to, is_whole_columns, is_whole_rows, move_node,
+};
+use std::alloc::Global;
+
+/// Where the corners go of a formula that is carried along a route.
+#[derive_where(Clone, Copy)]
+pub struct Following<'r, 'a, A: Axis, M: LineMap<A>> {
+    pub route: &'r Route<'a, A, M>,
+}
 
 /// Where a corner comes to stand: an exposed one where its line goes, and any other where it
 /// stands. `None` where that is outside the sheet.
 #[tactic(auto, unfolding(crate::specs::Trees::target))]
-fn target<A: Axis>(
-    edit: &LineEdit<A>,
-    from: Position,
+fn target<A: Axis, M: LineMap<A>>(
+    route: &Route<'_, A, M>,
     exposed: bool,
     corner: Corner,
 ) -> Option<Position>
-    ensures at { result ≡ target A.along edit.now.kind from exposed corner }
+    ensures at { result ≡ target (way route.now) exposed corner }
     ensures inside { IfSome result IsPlace }
 {
-    let place = corner_at(from, corner)?;
+    let place = corner_at(route.from, corner)?;
     if !exposed {
         return Some(place);
     }
-    place_image(edit, place)
+    route.image(place)
+}
+
+/// Where a corner of the formula goes with its marks, seen from the formula's new place.
+fn moved_corner<A: Axis, M: LineMap<A>>(
+    route: &Route<'_, A, M>,
+    exposed: bool,
+    corner: Corner,
+) -> Option<Corner>
+    ensures { result ≡ moved_corner (way route.now) exposed corner }
+{
+    let target = target(route, exposed, corner)?;
+    Some(corner_to(
+        route.to,
+        corner.absolute_row,
+        corner.absolute_column,
+        target,
+    ))
 }
 
 /// Whether a reference or range with this sheet name stands on the edited sheet.
 #[tactic(auto, unfolding(formula_tree::specs::OnSheet::is_on_sheet))]
-fn is_on_edited<A: Axis>(map: &Following<'_, A>, sheet: &Option<Shared<Text>>) -> bool
-    ensures { result ≡ is_on_sheet map.now.own.now map.now.edited.now sheet.now }
+fn is_on_edited<A: Axis, M: LineMap<A>>(
+    route: &Route<'_, A, M>,
+    sheet: &Option<Shared<Text>>,
+) -> bool
+    ensures { result ≡ is_on_sheet (way route.now).own (way route.now).edited sheet.now }
 {
     match sheet {
-        Some(name) => same_by_folding(name.get().as_str(), map.edited),
-        None => map.is_own,
+        Some(name) => same_by_folding(name.get().as_str(), route.edited),
+        None => route.is_own,
     }
 }
 
 /// Whether the corners of a range are exposed: on the edited sheet, and not of a range that is
 /// whole along the axis.
 #[tactic(auto, unfolding(crate::specs::Trees::is_exposed))]
-fn is_exposed<A: Axis>(
-    map: &Following<'_, A>,
+fn is_exposed<A: Axis, M: LineMap<A>>(
+    route: &Route<'_, A, M>,
     sheet: &Option<Shared<Text>>,
     first: Corner,
     second: Corner,
 ) -> bool
-    ensures { result ≡ is_exposed A.along map.now.own.now map.now.edited.now sheet.now first second }
+    ensures { result ≡ is_exposed (way route.now) sheet.now first second }
 {
     let (rows, columns) = (
         is_whole_rows(first, second),
         is_whole_columns(first, second),
     );
-    is_on_edited(map, sheet) && !A::of(rows, columns)
+    is_on_edited(route, sheet) && !A::of(rows, columns)
 }
 
-/// Where the corners go of a formula that is carried along an edit.
-#[derive(Drop)]
-pub struct Following<'a, A: Axis> {
-    pub edit: LineEdit<A>,
-    /// The formula's place, before and afterwards.
-    pub from: Position,
-    pub to: Position,
-    /// The names of the formula's own sheet and of the edited one.
-    pub own: &'a str,
-    pub edited: &'a str,
-    /// Whether these two are equal by folding.
-    pub is_own: bool,
-    pub ghost inside: { IsPlace to },
-    pub ghost is_named: { is_own ≡ same_folded own.now edited.now },
-}
-
-/// Where a corner of the formula goes with its marks, seen from the formula's new place.
-fn moved_corner<A: Axis>(map: &Following<'_, A>, exposed: bool, corner: Corner) -> Option<Corner>
-    ensures { result ≡ moved_corner A.along map.now.edit.kind map.now.from map.now.to exposed corner }
-{
-    let target = target(&map.edit, map.from, exposed, corner)?;
-    Some(corner_to(map.to, corner.absolute_row, corner.absolute_column, target))
-}
-
-impl<'a, A: Axis> CornerMap for Following<'a, A> {
+impl<'r, 'a, A: Axis, M: LineMap<A>> CornerMap for Following<'r, 'a, A, M> {
     ghost use Rattle.line_map.specs.Trees.{following};
+    ghost use Rattle.line_map.specs.Way.{way};
 
-    ghost mapping = { λ self. following A.along self.edit.kind self.from self.to self.own.now self.edited.now };
+    ghost mapping = { λ self. following (way self.route.now) };
 
     fn reference(&self, sheet: &Option<Shared<Text>>, corner: Corner) -> Option<Corner> {
-        let exposed = is_on_edited(self, sheet);
-        moved_corner(self, exposed, corner)
+        let exposed = is_on_edited(self.route, sheet);
+        moved_corner(self.route, exposed, corner)
     }
 
     fn range(
@@ -100,10 +108,133 @@ impl<'a, A: Axis> CornerMap for Following<'a, A> {
         first: Corner,
         second: Corner,
     ) -> (Option<Corner>, Option<Corner>) {
-        let exposed = is_exposed(self, sheet, first, second);
+        let exposed = is_exposed(self.route, sheet, first, second);
         (
-            moved_corner(self, exposed, first),
-            moved_corner(self, exposed, second),
+            moved_corner(self.route, exposed, first),
+            moved_corner(self.route, exposed, second),
         )
     }
+}
+
+/// The tree of a formula, carried along.
+#[tactic(auto, unfolding(crate::specs::Trees::tree_carried))]
+pub(crate) fn carried_node<A: Axis, M: LineMap<A>>(
+    alloc: Global,
+    route: &Route<'_, A, M>,
+    node: &Node,
+) -> Result<Node, EditError>
+    ensures node { IfOk result (λ carried. carried ≡ tree_carried (way route.now) node.now) }
+    ensures only { IsOkUnless result NoMemory }
+{
+    Ok(move_node(alloc, node, route.to, &Following { route })?)
+}
+
+/// The tree of a formula, carried along. One that stays the same is shared.
+#[tactic(auto, unfolding(crate::specs::Trees::tree_carried))]
+fn carried<A: Axis, M: LineMap<A>>(
+    alloc: Global,
+    route: &Route<'_, A, M>,
+    tree: &Shared<Node>,
+) -> Result<Shared<Node>, EditError>
+    ensures tree { IfOk result (λ carried. carried ≡ tree_carried (way route.now) tree.now) }
+    ensures only { IsOkUnless result NoMemory }
+{
+    if is_still(tree.get(), route.to, &Following { route }) {
+        return copy_of(tree);
+    }
+    Ok(Shared::new(alloc, carried_node(alloc, route, tree.get())?)?)
+}
+
+/// Whether the corners of a tree tell that the way back gives it.
+#[tactic(auto, unfolding(crate::specs::Trees::tree_carried))]
+fn is_given_back<A: Axis, M: LineMap<A>>(route: &Route<'_, A, M>, tree: &Node) -> bool
+    ensures { IsTrue result → tree_carried (back (way route.now)) (tree_carried (way route.now) tree.now) ≡ tree.now }
+{
+    let back = route.back();
+    let (there, home) = (Following { route }, Following { route: &back });
+    comes_back(tree, route.from, route.to, &there, &home)
+}
+
+/// The tree, carried there and back.
+fn returned<A: Axis, M: LineMap<A>>(
+    alloc: Global,
+    route: &Route<'_, A, M>,
+    tree: &Shared<Node>,
+) -> Result<Shared<Node>, EditError>
+    ensures tree { IfOk result (λ returned. returned ≡ tree_carried (back (way route.now)) (tree_carried (way route.now) tree.now)) }
+    ensures only { IsOkUnless result NoMemory }
+{
+    let there = carried(alloc, route, tree)?;
+    carried(alloc, &route.back(), &there)
+}
+
+/// The tree, where the way back does not give it. Its corners tell of most trees that it does; any
+/// other is carried there and back.
+fn part<A: Axis, M: LineMap<A>>(
+    alloc: Global,
+    route: &Route<'_, A, M>,
+    tree: &Shared<Node>,
+) -> Result<Option<Shared<Node>>, EditError>
+    ensures part { IfOk result (λ part. part ≡ tree_part (way route.now) tree.now) }
+    ensures only { IsOkUnless result NoMemory }
+{
+    if is_given_back(route, tree.get()) {
+        return Ok(None);
+    }
+    if returned(alloc, route, tree)? == *tree {
+        return Ok(None);
+    }
+    Ok(Some(copy_of(tree)?))
+}
+
+/// A formula's tree follows with its cell.
+impl<A: Axis> Follower<A> for Shared<Node> {
+    ghost use Rattle.std.specs.Prelude.{⊤};
+    ghost use Rattle.line_map.specs.Trees.{TreeLies, tree_carried, tree_part};
+    ghost use Rattle.line_map.specs.laws.TreeLaws.{tree_stays, tree_comes_back, tree_restores};
+
+    type Part = Shared<Node>;
+
+    ghost Lies = { TreeLies };
+
+    ghost carry_of = { tree_carried };
+
+    ghost part_of = { tree_part };
+
+    ghost Fits = { λ _ _. ⊤ };
+
+    ghost restore_of = { λ _ _ part. part };
+
+    fn carry<M: LineMap<A>>(
+        &self,
+        alloc: Global,
+        route: &Route<'_, A, M>,
+    ) -> Result<Shared<Node>, EditError> {
+        carried(alloc, route, self)
+    }
+
+    fn part<M: LineMap<A>>(
+        &self,
+        alloc: Global,
+        route: &Route<'_, A, M>,
+    ) -> Result<Option<Shared<Node>>, EditError> {
+        part(alloc, route, self)
+    }
+
+    fn restore<M: LineMap<A>>(
+        &self,
+        _alloc: Global,
+        _route: &Route<'_, A, M>,
+        part: &Shared<Node>,
+    ) -> Result<Shared<Node>, EditError> {
+        copy_of(part)
+    }
+
+    ghost stays = { λ w is v lies. tree_stays w is v };
+
+    ghost part_fits = { λ w is v lies k kept. tt };
+
+    ghost comes_back = { λ w is v lies h. tree_comes_back w v h };
+
+    ghost restores = { λ w is v lies k h. tree_restores w v k h };
 }

@@ -14,17 +14,16 @@ use Rattle.base_styles.specs.DefaultStyle.{default_style}
 use Rattle.sheet_grid.specs.Book.{Book}
 use Rattle.sheet_grid.specs.Sheet.{Sheet}
 use Rattle.sheet_grid.specs.declared.Cell.{Cell}
-use Rattle.sheet_grid.specs.declared.ColumnAttr.{ColumnAttr}
+use Rattle.sheet_grid.specs.declared.LineAttr.{LineAttr}
 use Rattle.sheet_grid.specs.declared.Link.{Link}
-use Rattle.sheet_grid.specs.declared.RowAttr.{RowAttr}
-use Rattle.formula_content.specs.declared.Content.{Content}
-use Rattle.formula_content.specs.declared.Content.TheVariants.{Empty, Formula, Dynamic}
+use Rattle.cell_content.specs.declared.Content.{Content}
+use Rattle.cell_content.specs.declared.Content.TheVariants.{Empty, Formula, Dynamic}
 use Rattle.sheet_grid.specs.declared.SheetState.{SheetState}
 use Rattle.sheet_grid.specs.declared.SheetState.TheVariants.{Visible, Hidden, VeryHidden}
 use Rattle.cell_wire.specs.StyleBytes.{theme_code, spell_style}
 use Rattle.script_lines.specs.Escapes.{escaped}
 use Rattle.script_lines.specs.References.{reference_text}
-use Rattle.formula_input.specs.Inputs.{input_text}
+use Rattle.cell_input.specs.Inputs.{input_text}
 use Rattle.script_dump.specs.English.{english}
 use Rattle.script_dump.specs.Text.{line, words, hex, capital_hex}
 
@@ -87,14 +86,12 @@ abbrev pub cell_line : Position × Cell → List ℕ
 cell_line (place, cell) = line (words (codes "cell" ∷ reference_text place ∷ style_text cell.style ∷ content_text place cell.content ∷ []))
 
 -- what a row or a column has of its own
-abbrev pub attr_words : Option ℤ → Bool → Option Style → List (List ℕ)
-attr_words size hidden style = size_text size ∷ flag_text hidden ∷ own_style_text style ∷ []
+abbrev pub attr_words : LineAttr → List (List ℕ)
+attr_words attr = size_text attr.size ∷ flag_text attr.hidden ∷ own_style_text attr.style ∷ []
 
-abbrev pub row_line : ℤ × RowAttr → List ℕ
-row_line (row, attr) = line (words (codes "row" ∷ signed_decimal row ∷ attr_words attr.height attr.hidden attr.style))
-
-abbrev pub column_line : ℤ × ColumnAttr → List ℕ
-column_line (column, attr) = line (words (codes "column" ∷ signed_decimal column ∷ attr_words attr.width attr.hidden attr.style))
+-- its line, behind the word for the two
+abbrev pub attr_line : List ℕ → ℤ × LineAttr → List ℕ
+attr_line word (number, attr) = line (words (word ∷ signed_decimal number ∷ attr_words attr))
 
 abbrev pub link_line : Position × Link → List ℕ
 link_line (place, link) = line (words (codes "link" ∷ reference_text place ∷ escaped link.target ∷ []))
@@ -103,8 +100,8 @@ link_line (place, link) = line (words (codes "link" ∷ reference_text place ∷
 abbrev pub sheet_lines : Sheet → List ℕ
 sheet_lines sheet =
     sheet_line sheet
-    ++ (flat_map row_line (fin.entries sheet.rows)
-    ++ (flat_map column_line (fin.entries sheet.columns)
+    ++ (flat_map (attr_line (codes "row")) (fin.entries sheet.rows)
+    ++ (flat_map (attr_line (codes "column")) (fin.entries sheet.columns)
     ++ (flat_map cell_line (fin.entries sheet.cells)
     ++ flat_map link_line (fin.entries sheet.links))))
 

@@ -4,15 +4,15 @@ ghost use Rattle.std.specs.Prelude.{◌≡◌, ◌++◌, true, IfOk, OnOk, IsOkU
 ghost use Rattle.base_values.specs.Places.{IsPlace};
 ghost use Rattle.base_values.specs.declared.error.EditError.TheVariants.{NoMemory};
 ghost use Rattle.formula_tree.specs.Context.{context_place};
-ghost use Rattle.formula_content.specs.Fitting.{fits_at};
-ghost use Rattle.formula_content.specs.KeptContent.{IsKeptContent};
-ghost use Rattle.formula_input.specs.Inputs.{input_of, input_text};
+ghost use Rattle.cell_content.specs.Fitting.{fits_at};
+ghost use Rattle.cell_content.specs.KeptContent.{IsKeptContent};
+ghost use Rattle.cell_input.specs.Inputs.{input_of, input_text};
 ghost use Rattle.script_lines.specs.Escapes.{escaped};
 ghost use Rattle.script_dump.specs.English.{english};
 
 use base_tables::{Language, Locale};
 use base_values::{EditError, Position, Text};
-use formula_input::{push_content, read_input};
+use cell_input::{push_content, read_input};
 use formula_tree::CellReferenceRC;
 use script_lines::push_escaped;
 use sheet_grid::Content;

@@ -1,12 +1,12 @@
 //! The lines of a sheet's rows, columns and links.
 
-ghost use Rattle.std.specs.Prelude.{◌≡◌, ◌++◌, ◌∷◌, OnOk, IsOkUnless};
+ghost use Rattle.std.specs.Prelude.{◌≡◌, ◌++◌, ◌∷◌, [], codes, OnOk, IsOkUnless};
 ghost use Rattle.std.specs.FinMap as fin;
+ghost use Rattle.std.specs.Fmt.{signed_decimal};
 ghost use Rattle.std.specs.List.{flat_map};
 ghost use Rattle.base_values.specs.Places.{IsPlace};
 ghost use Rattle.base_values.specs.declared.error.EditError.TheVariants.{NoMemory};
-ghost use Rattle.script_dump.specs.Dump.{size_text, own_style_text, attr_words, row_line, column_line, link_line};
-ghost use Rattle.script_dump.specs.Text.{line, words};
+ghost use Rattle.script_dump.specs.Dump.{size_text, own_style_text, attr_line, link_line};
 
 use crate::dump::{flag_text, push_style_bytes};
 use crate::text::{push_signed, push_word};
@@ -14,8 +14,9 @@ use base_shared::Shared;
 use base_styles::Style;
 use base_values::{EditError, Position};
 use script_lines::{push_escaped, push_reference};
-use sheet_grid::{ColumnAttr, Link, RowAttr, Worksheet};
+use sheet_grid::{LineAttr, Link, Worksheet};
 use std::alloc::{AllocError, Global};
+use std::collections::btree_map::Iter;
 
 /// Writes a size in half pixels, and a dash where there is none.
 fn push_size(alloc: Global, out: &mut Vec<u8>, size: Option<i32>) -> Result<(), AllocError>
@@ -42,47 +43,40 @@ fn push_own_style(
     }
 }
 
-/// Writes the end of the line of a row or a column, behind its number.
-fn push_attr(
+/// Writes the word for a row or a column, its number and its size, each with a blank behind it.
+fn push_sized(
     alloc: Global,
     out: &mut Vec<u8>,
+    word: &str,
+    number: i32,
     size: Option<i32>,
-    hidden: bool,
-    style: &Option<Shared<Style>>,
-) -> Result<(), EditError>
-    ensures text { OnOk result (out.new.items ≡ out.old.items ++ 32 ∷ line (words (attr_words size hidden style.now))) }
-    ensures memory { IsOkUnless result NoMemory }
+) -> Result<(), AllocError>
+    ensures { OnOk result (out.new.items ≡ out.old.items ++ (word.now ++ 32 ∷ (signed_decimal number ++ 32 ∷ (size_text size ++ 32 ∷ [])))) }
 {
+    push_word(out, word.as_bytes())?;
+    push_signed(alloc, out, number)?;
     out.push(b' ')?;
     push_size(alloc, out, size)?;
     out.push(b' ')?;
-    push_word(out, flag_text(hidden).as_bytes())?;
-    push_own_style(alloc, out, style)?;
-    out.push(b'\n')?;
     Ok(())
 }
 
-fn push_row(alloc: Global, out: &mut Vec<u8>, row: i32, attr: &RowAttr) -> Result<(), EditError>
-    ensures text { OnOk result (out.new.items ≡ out.old.items ++ row_line (row, attr.now)) }
-    ensures memory { IsOkUnless result NoMemory }
-{
-    out.extend_from_slice(b"row ")?;
-    push_signed(alloc, out, row)?;
-    push_attr(alloc, out, attr.height, attr.hidden, &attr.style)
-}
-
-fn push_column(
+/// Writes the line of a row or a column, behind the word for the two.
+fn push_attr(
     alloc: Global,
     out: &mut Vec<u8>,
-    column: i32,
-    attr: &ColumnAttr,
+    word: &str,
+    number: i32,
+    attr: &LineAttr,
 ) -> Result<(), EditError>
-    ensures text { OnOk result (out.new.items ≡ out.old.items ++ column_line (column, attr.now)) }
+    ensures text { OnOk result (out.new.items ≡ out.old.items ++ attr_line word.now (number, attr.now)) }
     ensures memory { IsOkUnless result NoMemory }
 {
-    out.extend_from_slice(b"column ")?;
-    push_signed(alloc, out, column)?;
-    push_attr(alloc, out, attr.width, attr.hidden, &attr.style)
+    push_sized(alloc, out, word, number, attr.size)?;
+    push_word(out, flag_text(attr.hidden).as_bytes())?;
+    push_own_style(alloc, out, &attr.style)?;
+    out.push(b'\n')?;
+    Ok(())
 }
 
 fn push_link(
@@ -102,19 +96,32 @@ fn push_link(
     Ok(())
 }
 
+/// Writes the lines of a sheet's rows or columns, behind the word for the two.
+fn push_attrs(
+    alloc: Global,
+    out: &mut Vec<u8>,
+    word: &str,
+    attrs: Iter<'_, i32, LineAttr>,
+) -> Result<(), EditError>
+    ensures text { OnOk result (out.new.items ≡ out.old.items ++ flat_map (attr_line word.now) attrs.entry) }
+    ensures memory { IsOkUnless result NoMemory }
+{
+    for (number, attr) in attrs {
+        push_attr(alloc, out, word, *number, attr)?;
+    }
+    Ok(())
+}
+
 /// Writes the lines of a sheet's rows.
 pub(crate) fn push_rows(
     alloc: Global,
     out: &mut Vec<u8>,
     sheet: &Worksheet,
 ) -> Result<(), EditError>
-    ensures text { OnOk result (out.new.items ≡ out.old.items ++ flat_map row_line (fin.entries sheet.now.rows)) }
+    ensures text { OnOk result (out.new.items ≡ out.old.items ++ flat_map (attr_line (codes "row")) (fin.entries sheet.now.rows)) }
     ensures memory { IsOkUnless result NoMemory }
 {
-    for (row, attr) in sheet.rows() {
-        push_row(alloc, out, *row, attr)?;
-    }
-    Ok(())
+    push_attrs(alloc, out, "row", sheet.rows())
 }
 
 /// Writes the lines of a sheet's columns.
@@ -123,13 +130,10 @@ pub(crate) fn push_columns(
     out: &mut Vec<u8>,
     sheet: &Worksheet,
 ) -> Result<(), EditError>
-    ensures text { OnOk result (out.new.items ≡ out.old.items ++ flat_map column_line (fin.entries sheet.now.columns)) }
+    ensures text { OnOk result (out.new.items ≡ out.old.items ++ flat_map (attr_line (codes "column")) (fin.entries sheet.now.columns)) }
     ensures memory { IsOkUnless result NoMemory }
 {
-    for (column, attr) in sheet.columns() {
-        push_column(alloc, out, *column, attr)?;
-    }
-    Ok(())
+    push_attrs(alloc, out, "column", sheet.columns())
 }
 
 /// Writes the lines of a sheet's links.

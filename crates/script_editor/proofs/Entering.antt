@@ -11,7 +11,7 @@ use Rattle.base_values.specs.laws.KeyMap.{get-with_entry}
 use Rattle.base_values.specs.Places.{place_of}
 use Rattle.base_values.specs.laws.Places.{position_total}
 use Rattle.sheet_grid.specs.declared.Cell.{Cell}
-use Rattle.formula_content.specs.declared.Content.{Content}
+use Rattle.cell_content.specs.declared.Content.{Content}
 use Rattle.sheet_grid.specs.laws.FittingLaws.{place_is}
 use Rattle.sheet_grid.specs.Sheet.{Sheet, with_cell, shown_style, cell_put}
 use Rattle.sheet_grid.specs.Book.{Book, sheet_at, sheet_edit, with_sheet}

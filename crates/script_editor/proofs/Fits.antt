@@ -13,15 +13,14 @@ use Rattle.base_styles.specs.DefaultStyle.{default_style}
 use Rattle.base_values.specs.declared.Position.{Position}
 use Rattle.base_values.specs.Places.{position_cmp}
 use Rattle.base_values.specs.laws.Places.{position_total, exact_positions}
-use Rattle.formula_content.specs.declared.Content.{Content}
-use Rattle.formula_content.specs.declared.Content.TheVariants.{Empty, Number, Boolean, Error, Text, Formula, Dynamic}
-use Rattle.formula_content.specs.Fitting.{fits_at}
+use Rattle.cell_content.specs.declared.Content.{Content}
+use Rattle.cell_content.specs.declared.Content.TheVariants.{Empty, Number, Boolean, Error, Text, Formula, Dynamic}
+use Rattle.cell_content.specs.Fitting.{fits_at}
 use Rattle.sheet_grid.specs.declared.Cell.{Cell}
-use Rattle.sheet_grid.specs.declared.RowAttr.{RowAttr}
-use Rattle.sheet_grid.specs.declared.ColumnAttr.{ColumnAttr}
+use Rattle.sheet_grid.specs.declared.LineAttr.{LineAttr}
 use Rattle.sheet_grid.specs.FittingCells.{entry_fits_at}
-use Rattle.sheet_grid.specs.Lines.{is_plain_row, is_plain_column}
-use Rattle.sheet_grid.specs.Sheet.{Sheet, cell_style, row_style, column_style, line_style, own_style, shown_style}
+use Rattle.sheet_grid.specs.Lines.{is_plain, own_line_style}
+use Rattle.sheet_grid.specs.Sheet.{Sheet, cell_style, line_style, own_style, shown_style}
 use Rattle.sheet_grid.specs.Book.{Book}
 use Rattle.sheet_rules.specs.laws.EntryLaws.{both}
 use Rattle.sheet_rules.specs.WellFormed.{have_attributes, is_size, is_width, is_default, is_row, is_row_style, is_column, is_column_style, has_font, IsWellFormed}
@@ -68,16 +67,16 @@ list_at (s ∷ sheets) zero sheet found all = let same : s ≡ sheet = cc in ap 
 list_at (s ∷ sheets) (suc index) sheet found all = list_at sheets index sheet found (both _ _ all).1
 
 -- what rows, columns and cells have of their own
-record Fonts (sheet : Sheet) : Type 0 where
-  rows : list_all (λ (entry : ℤ × RowAttr). is_row entry.1) (entries sheet.rows) ≡ true
-  columns : list_all (λ (entry : ℤ × ColumnAttr). is_column entry.1) (entries sheet.columns) ≡ true
-  cells : list_all (λ (entry : Position × Cell). has_font entry.1.style) (entries sheet.cells) ≡ true
+pub record Attributes (sheet : Sheet) : Type 0 where
+  pub rows : list_all (λ (entry : ℤ × LineAttr). is_row entry.1) (entries sheet.rows) ≡ true
+  pub columns : list_all (λ (entry : ℤ × LineAttr). is_column entry.1) (entries sheet.columns) ≡ true
+  pub cells : list_all (λ (entry : Position × Cell). has_font entry.1.style) (entries sheet.cells) ≡ true
 
-fonts_of : (sheet : Sheet) → have_attributes sheet ≡ true → Fonts sheet
+pub attributes_of : (sheet : Sheet) → have_attributes sheet ≡ true → Attributes sheet
 unfolding have_attributes
-fonts_of sheet all =
-    let row_test : Bool = list_all (λ (entry : ℤ × RowAttr). is_row entry.1) (entries sheet.rows) in
-    let column_test : Bool = list_all (λ (entry : ℤ × ColumnAttr). is_column entry.1) (entries sheet.columns) in
+attributes_of sheet all =
+    let row_test : Bool = list_all (λ (entry : ℤ × LineAttr). is_row entry.1) (entries sheet.rows) in
+    let column_test : Bool = list_all (λ (entry : ℤ × LineAttr). is_column entry.1) (entries sheet.columns) in
     let font_test : Bool = list_all (λ (entry : Position × Cell). has_font entry.1.style) (entries sheet.cells) in
     let one = both (row_test && column_test) font_test all in
     let two = both row_test column_test one.0 in
@@ -94,15 +93,15 @@ shown : (given : Option Style) → HasFont given → IsTrue (has_font (unwrap_or
 shown None font = refl
 shown (Some style) font = font
 
-row_font : (attr : RowAttr) → is_row attr ≡ true → HasFont attr.style
-row_font attr all = go attr.style (both (not (is_plain_row attr) && is_size attr.height) (is_row_style attr.style) all).1
+row_font : (attr : LineAttr) → is_row attr ≡ true → HasFont attr.style
+row_font attr all = go attr.style (both (not (is_plain attr) && is_size attr.size) (is_row_style attr.style) all).1
   where
     go : (given : Option Style) → is_row_style given ≡ true → HasFont given
     go None is = tt
     go (Some style) is = (both (has_font style) (not (is_default style)) is).0
 
-column_font : (attr : ColumnAttr) → is_column attr ≡ true → HasFont attr.style
-column_font attr all = go attr.style (both (not (is_plain_column attr) && is_width attr.width) (is_column_style attr.style) all).1
+column_font : (attr : LineAttr) → is_column attr ≡ true → HasFont attr.style
+column_font attr all = go attr.style (both (not (is_plain attr) && is_width attr.size) (is_column_style attr.style) all).1
   where
     go : (given : Option Style) → is_column_style given ≡ true → HasFont given
     go None is = tt
@@ -113,19 +112,19 @@ pub shown_font : (book : Book) → IsWellFormed book → (index : ℕ) (sheet : 
 shown_font book rules index sheet found place =
     shown (own_style sheet place)
     (either_font (cell_style (fin.get sheet.cells place)) (line_style sheet place) (of_cell (fin.get sheet.cells place) refl)
-    (either_font (row_style (fin.get sheet.rows place.row)) (column_style (fin.get sheet.columns place.column)) (of_row (fin.get sheet.rows place.row) refl) (of_column (fin.get sheet.columns place.column) refl)))
+    (either_font (own_line_style (fin.get sheet.rows place.row)) (own_line_style (fin.get sheet.columns place.column)) (of_row (fin.get sheet.rows place.row) refl) (of_column (fin.get sheet.columns place.column) refl)))
   where
-    fonts : Fonts sheet
-    fonts = fonts_of sheet (list_at book.worksheets index sheet found (well_formed_parts book rules).2)
+    fonts : Attributes sheet
+    fonts = attributes_of sheet (list_at book.worksheets index sheet found (well_formed_parts book rules).attributes)
 
     of_cell : (o : Option Cell) → fin.get sheet.cells place ≡ o → HasFont (cell_style o)
     of_cell None is = tt
     of_cell (Some cell) is = entry_holds position_cmp position_total exact_positions (λ (entry : Position × Cell). has_font entry.1.style) sheet.cells fonts.cells place cell is
 
-    of_row : (o : Option RowAttr) → fin.get sheet.rows place.row ≡ o → HasFont (row_style o)
+    of_row : (o : Option LineAttr) → fin.get sheet.rows place.row ≡ o → HasFont (own_line_style o)
     of_row None is = tt
-    of_row (Some attr) is = row_font attr (entry_holds int_cmp int_cmp_total exact_signed (λ (entry : ℤ × RowAttr). is_row entry.1) sheet.rows fonts.rows place.row attr is)
+    of_row (Some attr) is = row_font attr (entry_holds int_cmp int_cmp_total exact_signed (λ (entry : ℤ × LineAttr). is_row entry.1) sheet.rows fonts.rows place.row attr is)
 
-    of_column : (o : Option ColumnAttr) → fin.get sheet.columns place.column ≡ o → HasFont (column_style o)
+    of_column : (o : Option LineAttr) → fin.get sheet.columns place.column ≡ o → HasFont (own_line_style o)
     of_column None is = tt
-    of_column (Some attr) is = column_font attr (entry_holds int_cmp int_cmp_total exact_signed (λ (entry : ℤ × ColumnAttr). is_column entry.1) sheet.columns fonts.columns place.column attr is)
+    of_column (Some attr) is = column_font attr (entry_holds int_cmp int_cmp_total exact_signed (λ (entry : ℤ × LineAttr). is_column entry.1) sheet.columns fonts.columns place.column attr is)

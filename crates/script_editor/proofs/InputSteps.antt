@@ -2,24 +2,24 @@
 use Rattle.std.proofs.Common.{◌≡◌, ℕ, ℤ, List, Option, Some, Result, Ok, ap, sym, subst, ◌∙◌}
 use Rattle.std.specs.Prelude.{IsTrue, OnOk, slice_get, length}
 use Rattle.std.specs.FinMap as fin
-use Rattle.base_values.specs.Answers.{Changes}
+use Rattle.base_values.specs.Answers.{Changes, and_then, map_ok, ok_or}
 use Rattle.base_values.specs.declared.EditError.{EditError}
 use Rattle.base_values.specs.declared.EditError.TheVariants.{InvalidSheet}
 use Rattle.base_values.specs.declared.Position.{Position}
 use Rattle.base_values.specs.Places.{place_of}
 use Rattle.sheet_grid.specs.declared.Cell.{Cell}
-use Rattle.formula_content.specs.declared.Content.{Content}
-use Rattle.formula_content.specs.Fitting.{fits_at}
+use Rattle.cell_content.specs.declared.Content.{Content}
+use Rattle.cell_content.specs.Fitting.{fits_at}
 use Rattle.sheet_grid.specs.FittingCells.{entry_fits_at}
 use Rattle.sheet_grid.specs.laws.FittingLaws.{place_is, cells_fit-at}
-use Rattle.sheet_grid.specs.Sheet.{Sheet, shown_style}
-use Rattle.sheet_grid.specs.Book.{Book, sheet_at, index_of}
+use Rattle.sheet_grid.specs.Sheet.{Sheet, shown_style, with_cell, cell_put}
+use Rattle.sheet_grid.specs.Book.{Book, sheet_at, index_of, sheet_edit, edit_by_id, with_sheet}
 use Rattle.sheet_rules.specs.WellFormed.{IsWellFormed}
 use Rattle.sheet_rules.specs.laws.WellFormedLaws.{sheets_fit_from_well_formed}
 use Rattle.sheet_history.specs.declared.Diff.{Diff}
 use Rattle.sheet_history.specs.Diffs.{made, taken_back}
 use Rattle.sheet_history.specs.Records.{IsRecord}
-use Rattle.sheet_history.specs.laws.RuleLaws.{well_formed-set}
+use Rattle.sheet_history.specs.laws.RuleLaws.{well_formed-by_id}
 use Rattle.script_editor.specs.Document.{Document, document_edit}
 use Rattle.script_editor.specs.Inputs.{cell_change, place_change}
 use Rattle.script_editor.specs.Machine.{State, changed, record_of, edit_of}
@@ -64,8 +64,20 @@ module _ (w : Book) (index : ℕ) (row column : ℤ) (content : Content) (rules 
   new_placed : IsTrue (entry_fits_at place new)
   new_placed = entered_placed place (fin.get sheet.cells place) content (shown_style sheet place) (subst (λ p. IsTrue (fits_at p content)) (place_is row column place named) may_stand)
 
+  put_by_id : edit_by_id w sheet.id (λ s. cell_put s row column new) ≡ Ok after
+  put_by_id =
+      ap (λ o. and_then (ok_or InvalidSheet o) (λ i. sheet_edit w i (λ s. cell_put s row column new))) own
+      ∙ (λ i. and_then (at i) (λ s. map_ok (with_sheet w index) (map_ok (λ p. with_cell s p new) (named i))))
+
+  fits_there : (p : Position) → place_of row column ≡ Ok p → IsTrue (entry_fits_at p new)
+  fits_there p it =
+      let both : ◌≡◌ {A = Result Position EditError} (Ok place) (Ok p) = sym named ∙ it in
+      let same : place ≡ p = cc in
+      subst (λ q. IsTrue (entry_fits_at q new)) same new_placed
+
   later_rules : IsWellFormed after
-  later_rules = well_formed-set w index sheet place new new_placed (entered_font (fin.get sheet.cells place) content (shown_style sheet place) (shown_font w rules index sheet found place)) found rules
+  later_rules =
+      well_formed-by_id w row column new fits_there (entered_font (fin.get sheet.cells place) content (shown_style sheet place) (shown_font w rules index sheet found place)) rules after sheet.id put_by_id
 
   input_both : GoesBothWays (Input index row column content) w after
   input_both = record {

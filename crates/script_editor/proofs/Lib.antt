@@ -3,12 +3,12 @@ mod Fits
 mod InputLaws
 mod InputRecord
 mod InputSteps
-mod KeptRows
+mod KeptLines
+mod LinePlans
+mod LineSteps
 mod Own
 mod Recording
 mod Refusals
 mod Replaying
-mod RowPlans
-mod RowSteps
 mod Sounds
 mod Tested

@@ -4,7 +4,7 @@ use Rattle.base_values.specs.declared.EditError.{EditError}
 use Rattle.base_values.specs.declared.EditError.TheVariants.{DiffRefused, ParseDiffs}
 use Rattle.base_values.specs.declared.Position.{Position}
 use Rattle.base_values.specs.Answers.{and_then, ok_or, value_of}
-use Rattle.base_axis.specs.Along.{Along, rows}
+use Rattle.base_axis.specs.Along.{Along}
 use Rattle.line_map.specs.declared.EditKind.{EditKind}
 use Rattle.sheet_grid.specs.declared.Cell.{Cell}
 use Rattle.sheet_grid.specs.Book.{Book, edit_by_id}
@@ -15,12 +15,12 @@ use Rattle.sheet_lines.specs.declared.KeptLines.{KeptLines}
 use Rattle.sheet_lines.specs.Followed.{book_followed}
 use Rattle.sheet_lines.specs.Back.{book_back}
 use Rattle.sheet_history.specs.declared.Diff.{Diff}
-use Rattle.sheet_history.specs.declared.Diff.TheVariants.{Cell as CellDiff, Rows as RowsDiff}
+use Rattle.sheet_history.specs.declared.Diff.TheVariants.{Cell as CellDiff, Lines as LinesDiff}
 use Rattle.sheet_history.specs.declared.DiffType.{DiffType}
 use Rattle.sheet_history.specs.declared.DiffType.TheVariants.{Undo, Redo}
 use Rattle.sheet_history.specs.declared.QueueDiffs.{QueueDiffs}
-use Rattle.sheet_history.specs.LineDiffs.{goes_forward, goes_back, lines_forward, lines_back}
-use Rattle.sheet_history.specs.Diffs.{put_in, step_forward, step_back, forward_from, back_from, by_rule, tested, follow, of_entry, in_entry, replayed_from, replayed}
+use Rattle.sheet_history.specs.LineDiffs.{along_of, goes_forward, goes_back, lines_forward, lines_back}
+use Rattle.sheet_history.specs.Diffs.{put_in, step_forward, step_back, forward_from, back_from, by_rule, tested, follow, in_entry, replayed_from, replayed}
 
 abbrev IsOfDiff : EditError → Type 0
 IsOfDiff (DiffRefused entry diff) = Unit {0}
@@ -58,11 +58,11 @@ back_only at a id e kept book = either_only (goes_back a id e kept book) (Ok (bo
 
 step_only : (at : ℕ) (book : Book) (diff : Diff) → Only (step_forward at book diff)
 step_only at book (CellDiff sheet place old new) = put_only at book sheet place new
-step_only at book (RowsDiff sheet edit kept) = forward_only at rows sheet edit kept book
+step_only at book (LinesDiff sheet axis edit kept) = forward_only at (along_of axis) sheet edit kept book
 
 step_back_only : (at : ℕ) (book : Book) (diff : Diff) → Only (step_back at book diff)
 step_back_only at book (CellDiff sheet place old new) = put_only at book sheet place old
-step_back_only at book (RowsDiff sheet edit kept) = back_only at rows sheet edit kept book
+step_back_only at book (LinesDiff sheet axis edit kept) = back_only at (along_of axis) sheet edit kept book
 
 made_only : (at : ℕ) (book : Book) (diffs : List Diff) → Only (forward_from at book diffs)
 made_only at book [] = tt

@@ -6,7 +6,6 @@ use Rattle.base_values.specs.Answers.{Answers, Edits}
 use Rattle.sheet_grid.specs.Book.{Book}
 use Rattle.sheet_history.specs.declared.QueueDiffs.{QueueDiffs}
 use Rattle.sheet_history.specs.Diffs.{Replays}
-use Rattle.sheet_wire.specs.QueueBytes.{FitsQueue, spell_queue}
 use Rattle.sheet_wire.specs.QueueBytes.{IsNoQueue}
 use Rattle.script_editor.proofs.Refusals.{never_unread}
 

@@ -2,7 +2,6 @@
 use Rattle.std.proofs.Common.{ℕ, ℤ, List, [], ◌∷◌, ◌++◌, map, Option, Result, Ok}
 use Rattle.base_values.specs.declared.EditError.{EditError}
 use Rattle.base_values.specs.Answers.{map_ok}
-use Rattle.base_axis.specs.Along.{rows}
 use Rattle.line_map.specs.declared.EditKind.{EditKind}
 use Rattle.sheet_grid.specs.declared.Cell.{Cell}
 use Rattle.sheet_grid.specs.Sheet.{cell_put}
@@ -11,8 +10,10 @@ use Rattle.sheet_lines.specs.Followed.{book_followed}
 use Rattle.sheet_history.specs.declared.Diff.{Diff}
 use Rattle.sheet_history.specs.declared.DiffType.{DiffType}
 use Rattle.sheet_history.specs.declared.DiffType.TheVariants.{Undo, Redo}
+use Rattle.sheet_history.specs.declared.LineAxis.{LineAxis}
 use Rattle.sheet_history.specs.declared.QueueDiffs.{QueueDiffs}
 use Rattle.sheet_history.specs.Diffs.{made, taken_back}
+use Rattle.sheet_history.specs.LineDiffs.{along_of}
 use Rattle.sheet_history.specs.Records.{line_record}
 use Rattle.script_editor.specs.Machine.{Edit, State, changed, record_of, step_record, entry_of}
 
@@ -40,9 +41,9 @@ recorded list doc later = record { book = later; undo = list ∷ doc.undo; redo 
 abbrev pub cell_recorded : ℕ → ℤ → ℤ → Option Cell → List Diff → Document → Result Document EditError
 cell_recorded index row column entry list doc = map_ok (recorded list doc) (sheet_edit doc.book index (λ sheet. cell_put sheet row column entry))
 
--- rows of the sheet of an id inserted or deleted, and their record
-abbrev pub rows_recorded : EditKind → ℕ → Document → Document
-rows_recorded kind id doc = recorded (line_record kind id doc.book) doc (book_followed rows kind id doc.book)
+-- lines of the sheet of an id inserted, deleted or moved, and their record
+abbrev pub lines_recorded : LineAxis → EditKind → ℕ → Document → Document
+lines_recorded axis kind id doc = recorded (line_record axis kind id doc.book) doc (book_followed (along_of axis) kind id doc.book)
 
 -- an edit of a document
 abbrev pub document_edit : Edit → Document → Result Document EditError

@@ -8,8 +8,8 @@ use Rattle.base_values.specs.Answers.{and_then, map_ok}
 use Rattle.base_values.specs.Places.{place_of}
 use Rattle.base_styles.specs.declared.Style.{Style}
 use Rattle.sheet_grid.specs.declared.Cell.{Cell}
-use Rattle.formula_content.specs.declared.Content.{Content}
-use Rattle.formula_content.specs.declared.Content.TheVariants.{Empty}
+use Rattle.cell_content.specs.declared.Content.{Content}
+use Rattle.cell_content.specs.declared.Content.TheVariants.{Empty}
 use Rattle.sheet_grid.specs.SameEntry.{same_entry}
 use Rattle.sheet_grid.specs.Sheet.{Sheet, with_cell, shown_style}
 use Rattle.sheet_grid.specs.Book.{Book, sheet_at, sheet_edit}

@@ -1,5 +1,4 @@
 pub mod Inputs
-pub mod RowEdits
 pub mod Spellable
 pub mod Machine
 pub mod Document

@@ -1,38 +1,47 @@
 -- The machine that keeps whole earlier and later workbooks.
-use Rattle.std.proofs.Common.{ℕ, ℤ, List, [], ◌∷◌, ◌++◌, map, Result}
+use Rattle.std.proofs.Common.{ℕ, ℤ, List, [], ◌∷◌, ◌++◌, map, Result, Ok, Err}
 use Rattle.std.specs.Prelude.{codes}
 use Rattle.base_values.specs.declared.EditError.{EditError}
 use Rattle.base_values.specs.Answers.{map_ok}
 use Rattle.base_values.specs.Places.{place_of}
 use Rattle.base_tables.specs.declared.Locale.TheVariants.{En}
 use Rattle.base_tables.specs.declared.Zone.TheVariants.{Utc}
-use Rattle.formula_content.specs.declared.Content.{Content}
+use Rattle.cell_content.specs.declared.Content.{Content}
 use Rattle.line_map.specs.declared.EditKind.{EditKind}
+use Rattle.sheet_grid.specs.Sheet.{Sheet}
 use Rattle.sheet_grid.specs.Book.{Book, new_book, sheet_at}
 use Rattle.sheet_history.specs.declared.Diff.{Diff}
 use Rattle.sheet_history.specs.declared.DiffType.{DiffType}
 use Rattle.sheet_history.specs.declared.DiffType.TheVariants.{Undo, Redo}
+use Rattle.sheet_history.specs.declared.LineAxis.{LineAxis}
 use Rattle.sheet_history.specs.declared.QueueDiffs.{QueueDiffs}
+use Rattle.sheet_history.specs.LineDiffs.{along_of}
+use Rattle.sheet_history.specs.Records.{line_record}
+use Rattle.sheet_actions.specs.Edited.{lines_edited}
 use Rattle.sheet_wire.specs.QueueBytes.{spell_queue}
 use Rattle.script_editor.specs.Inputs.{input_put, place_change}
-use Rattle.script_editor.specs.RowEdits.{rows_edited, rows_record}
 
 -- an edit with its arguments
 pub data Edit : Type 0 where
   -- the content that goes to a row and a column of the sheet at an index
   Input : ℕ → ℤ → ℤ → Content → Edit
-  -- the rows that are inserted in the sheet at an index, or deleted from it
-  Rows : ℕ → EditKind → Edit
+  -- the rows or columns that are inserted in the sheet at an index, deleted from it or moved
+  Lines : ℕ → LineAxis → EditKind → Edit
 
 -- the workbook after an edit, or the edit's first refusal
 abbrev pub changed : Edit → Book → Result Book EditError
 changed (Input index row column content) book = input_put index row column content book
-changed (Rows index kind) book = rows_edited index kind book
+changed (Lines index axis kind) book = lines_edited (along_of axis) kind index book
+
+-- the record of an edit of lines of a sheet, if it is there
+abbrev pub lines_record : LineAxis → EditKind → Book → Result Sheet EditError → List Diff
+lines_record axis kind book (Ok sheet) = line_record axis kind sheet.id book
+lines_record axis kind book (Err error) = []
 
 -- the record of an edit that led from one workbook to another
 abbrev pub record_of : Edit → Book → Book → List Diff
 record_of (Input index row column content) earlier later = place_change (sheet_at earlier index) (sheet_at later index) (place_of row column)
-record_of (Rows index kind) earlier later = rows_record kind earlier (sheet_at earlier index)
+record_of (Lines index axis kind) earlier later = lines_record axis kind earlier (sheet_at earlier index)
 
 -- an accepted edit, with the whole workbook before it and the whole workbook after it
 pub record Step : Type 0 where

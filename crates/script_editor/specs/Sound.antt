@@ -1,31 +1,32 @@
 -- What holds of every state that the machine reaches.
 use Rattle.std.proofs.Common.{◌≡◌, ℕ, List, [], ◌∷◌, Ok}
-use Rattle.base_axis.specs.Along.{rows}
 use Rattle.line_map.specs.declared.EditKind.{EditKind}
 use Rattle.sheet_grid.specs.Sheet.{Sheet}
 use Rattle.sheet_grid.specs.Book.{Book, sheet_at}
 use Rattle.sheet_rules.specs.WellFormed.{IsWellFormed}
 use Rattle.sheet_lines.specs.Followed.{book_followed}
 use Rattle.sheet_history.specs.declared.Diff.{Diff}
+use Rattle.sheet_history.specs.declared.LineAxis.{LineAxis}
 use Rattle.sheet_history.specs.declared.QueueDiffs.{QueueDiffs}
+use Rattle.sheet_history.specs.LineDiffs.{along_of}
 use Rattle.sheet_history.specs.Diffs.{forwarded, backed, replayed}
 use Rattle.sheet_history.specs.Records.{IsRecord, line_record}
 use Rattle.sheet_wire.specs.QueueBytes.{IsKnownQueue, spell_queue}
 use Rattle.script_editor.specs.Spellable.{AreSpellable}
 use Rattle.script_editor.specs.Machine.{Edit, Step, State, changed, record_of, step_record, entries_of, sync_bytes}
-use Rattle.script_editor.specs.Machine.Edit.{Input, Rows}
+use Rattle.script_editor.specs.Machine.Edit.{Input, Lines}
 
--- every sheet follows an edit of rows of the sheet at an index, and a list has that edit, with what taking it back does not give
-pub record IsRowsRecord (index : ℕ) (kind : EditKind) (earlier later : Book) (list : List Diff) : Type 0 where
+-- every sheet follows an edit of lines of the sheet at an index, and a list has that edit, with what taking it back does not give
+pub record IsLinesRecord (index : ℕ) (axis : LineAxis) (kind : EditKind) (earlier later : Book) (list : List Diff) : Type 0 where
   pub sheet : Sheet
   pub there : sheet_at earlier index ≡ Ok sheet
-  pub followed : book_followed rows kind sheet.id earlier ≡ later
-  pub recorded : list ≡ line_record kind sheet.id earlier
+  pub followed : book_followed (along_of axis) kind sheet.id earlier ≡ later
+  pub recorded : list ≡ line_record axis kind sheet.id earlier
 
--- the record of an input has exactly the entries that changed, and that of an edit of rows is the edit itself
+-- the record of an input has exactly the entries that changed, and that of an edit of lines is the edit itself
 abbrev pub IsExact : Edit → Book → Book → List Diff → Type 0
 IsExact (Input index row column content) earlier later list = IsRecord earlier later list
-IsExact (Rows index kind) earlier later list = IsRowsRecord index kind earlier later list
+IsExact (Lines index axis kind) earlier later list = IsLinesRecord index axis kind earlier later list
 
 -- the record of an edit of a workbook can be spelled, if it is accepted
 abbrev pub IsSendable : Edit → Book → Type 0

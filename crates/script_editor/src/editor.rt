@@ -1,21 +1,24 @@
 ghost use Rattle.std.specs.Prelude.{◌≡◌, Ok, IfOk, OnOk, IsTrue, IsOkUnless};
 ghost use Rattle.base_values.specs.declared.EditError.TheVariants.{NoMemory};
-ghost use Rattle.formula_content.specs.Fitting.{fits_at};
-ghost use Rattle.formula_content.specs.KeptContent.{IsKeptContent};
+ghost use Rattle.cell_content.specs.Fitting.{fits_at};
+ghost use Rattle.cell_content.specs.KeptContent.{IsKeptContent};
 ghost use Rattle.line_map.specs.declared.EditKind.TheVariants.{Insert, Delete};
+ghost use Rattle.sheet_history.specs.LineDiffs.{along_of};
+ghost use Rattle.sheet_history.specs.declared.LineAxis.TheVariants.{Rows};
 ghost use Rattle.sheet_rules.specs.WellFormed.{IsWellFormed};
 ghost use Rattle.sheet_wire.specs.QueueBytes.{FitsQueue};
 ghost use Rattle.script_editor.specs.Machine.{State, start, edit_of, undo_of, redo_of, synced_of, entries_of, sync_bytes};
-ghost use Rattle.script_editor.specs.Machine.Edit.{Input, Rows};
+ghost use Rattle.script_editor.specs.Machine.Edit.{Input, Lines};
 ghost use Rattle.script_editor.specs.Sound.{Carries};
 ghost use Rattle.script_editor.specs.Stands.{StandsFor, IsReached, Moves};
 
 use crate::open_book::OpenBook;
+use base_axis::{Axis, RowAxis};
 use base_tables::{Locale, Zone};
 use base_values::{EditError, Items};
 use line_map::EditKind;
 use sheet_grid::{Content, DefaultStyle, Workbook};
-use sheet_history::History;
+use sheet_history::{History, LineAxis};
 use sheet_wire::encode_queue;
 use std::alloc::Global;
 use std::marker::Model;
@@ -92,10 +95,17 @@ impl Editor {
         self.book.enter(sheet, row, column, content)
     }
 
-    fn edit_rows(&mut self, sheet: u32, kind: EditKind) -> Result<(), EditError>
-        ensures next { (state : State) → StandsFor self.old state → Moves result self.old self.new state (edit_of (Rows sheet kind) state) }
+    /// Edits lines along an axis, which is `A`.
+    fn edit_lines<A: Axis>(
+        &mut self,
+        sheet: u32,
+        axis: LineAxis,
+        kind: EditKind,
+    ) -> Result<(), EditError>
+        requires { A.along ≡ along_of axis }
+        ensures next { (state : State) → StandsFor self.old state → Moves result self.old self.new state (edit_of (Lines sheet axis kind) state) }
     {
-        self.book.edit_rows(sheet, kind)
+        self.book.edit_lines::<A>(sheet, axis, kind)
     }
 
     /// Inserts empty rows in the sheet at an index, as many as the count, before a row. Its cells
@@ -106,9 +116,13 @@ impl Editor {
     /// cell and the count together exceed the last row of the sheet, else `NoMemory` where there is
     /// not enough. An error changes nothing. docs/MODEL.md has the rules.
     pub fn insert_rows(&mut self, sheet: u32, row: i32, count: i32) -> Result<(), EditError>
-        ensures next { (state : State) → StandsFor self.old state → Moves result self.old self.new state (edit_of (Rows sheet (Insert row count)) state) }
+        ensures next { (state : State) → StandsFor self.old state → Moves result self.old self.new state (edit_of (Lines sheet Rows (Insert row count)) state) }
     {
-        self.edit_rows(sheet, EditKind::Insert { first: row, count })
+        self.edit_lines::<RowAxis>(
+            sheet,
+            LineAxis::Rows,
+            EditKind::Insert { first: row, count },
+        )
     }
 
     /// Deletes rows of the sheet at an index, as many as the count, from a row on. What stood there
@@ -118,9 +132,13 @@ impl Editor {
     /// `TargetOutOfBounds` where the last row to delete is outside the sheet, else `NoMemory` where
     /// there is not enough. An error changes nothing. docs/MODEL.md has the rules.
     pub fn delete_rows(&mut self, sheet: u32, row: i32, count: i32) -> Result<(), EditError>
-        ensures next { (state : State) → StandsFor self.old state → Moves result self.old self.new state (edit_of (Rows sheet (Delete row count)) state) }
+        ensures next { (state : State) → StandsFor self.old state → Moves result self.old self.new state (edit_of (Lines sheet Rows (Delete row count)) state) }
     {
-        self.edit_rows(sheet, EditKind::Delete { first: row, count })
+        self.edit_lines::<RowAxis>(
+            sheet,
+            LineAxis::Rows,
+            EditKind::Delete { first: row, count },
+        )
     }
 
     /// Takes the newest step back. Without one nothing is done. The only error is `NoMemory`, and

@@ -1,12 +1,13 @@
 ghost use Rattle.std.specs.Prelude.{◌≡◌, ℕ, ℤ, Ok, IsTrue};
-ghost use Rattle.formula_content.specs.declared.Content.{Content};
-ghost use Rattle.formula_content.specs.Fitting.{fits_at};
+ghost use Rattle.cell_content.specs.declared.Content.{Content};
+ghost use Rattle.cell_content.specs.Fitting.{fits_at};
 ghost use Rattle.line_map.specs.declared.EditKind.{EditKind};
 ghost use Rattle.sheet_grid.specs.Book.{Book};
+ghost use Rattle.sheet_history.specs.declared.LineAxis.{LineAxis};
 ghost use Rattle.sheet_rules.specs.WellFormed.{IsWellFormed};
 ghost use Rattle.script_editor.specs.BothWays.{GoesBothWays};
 ghost use Rattle.script_editor.specs.Machine.{changed};
-ghost use Rattle.script_editor.specs.Machine.Edit.{Input, Rows};
+ghost use Rattle.script_editor.specs.Machine.Edit.{Input, Lines};
 
 /// A law about accepted edits of a well-formed workbook, with no work at run time: they lead to a
 /// well-formed workbook, and the record of each takes the earlier workbook to the later one and the
@@ -14,6 +15,6 @@ ghost use Rattle.script_editor.specs.Machine.Edit.{Input, Rows};
 pub fn edits_go_both_ways()
     ensures inputs { (index : ℕ) (row column : ℤ) (content : Content) (earlier later : Book) → IsWellFormed earlier → IsTrue (fits_at (record { row = row; column = column }) content) →
         changed (Input index row column content) earlier ≡ Ok later → GoesBothWays (Input index row column content) earlier later }
-    ensures rows { (index : ℕ) (kind : EditKind) (earlier later : Book) → IsWellFormed earlier →
-        changed (Rows index kind) earlier ≡ Ok later → GoesBothWays (Rows index kind) earlier later }
+    ensures lines { (index : ℕ) (axis : LineAxis) (kind : EditKind) (earlier later : Book) → IsWellFormed earlier →
+        changed (Lines index axis kind) earlier ≡ Ok later → GoesBothWays (Lines index axis kind) earlier later }
 {}

@@ -1,10 +1,9 @@
-ghost use Rattle.std.specs.Prelude.{◌≡◌, Ok, Some, [], ◌∷◌, take, IfOk, IfSome, IsTrue, OnOk, OnErr, IsOkUnless};
+ghost use Rattle.std.specs.Prelude.{◌≡◌, ◌≢◌, Ok, Err, Some, [], ◌∷◌, take, IfOk, IfSome, IsTrue, OnOk, OnErr, IsOkUnless};
 ghost use Rattle.base_values.specs.Answers.{Returns, Changes, Edits, map_ok};
-ghost use Rattle.base_values.specs.declared.EditError.TheVariants.{InvalidRow, NoMemory};
+ghost use Rattle.base_values.specs.declared.EditError.TheVariants.{NoMemory};
 ghost use Rattle.base_values.specs.declared.Position.{Position as Place};
-ghost use Rattle.base_axis.specs.Along.{rows};
-ghost use Rattle.formula_content.specs.Fitting.{fits_at};
-ghost use Rattle.formula_content.specs.KeptContent.{IsKeptContent};
+ghost use Rattle.cell_content.specs.Fitting.{fits_at};
+ghost use Rattle.cell_content.specs.KeptContent.{IsKeptContent};
 ghost use Rattle.sheet_grid.specs.Book.{sheet_edit};
 ghost use Rattle.sheet_grid.specs.FittingCells.{entry_fits_at, is_shallow_entry};
 ghost use Rattle.sheet_grid.specs.KeptCell.{IsKeptCell};
@@ -12,23 +11,24 @@ ghost use Rattle.sheet_grid.specs.Sheet.{cell_put};
 ghost use Rattle.sheet_rules.specs.WellFormed.{IsWellFormed};
 ghost use Rattle.sheet_actions.specs.Planned.{lines_planned};
 ghost use Rattle.sheet_history.specs.Diffs.{IsKeptDiff, IsKeptList};
-ghost use Rattle.sheet_history.specs.declared.Diff.TheVariants.{Rows as RowsDiff};
+ghost use Rattle.sheet_history.specs.LineDiffs.{along_of};
+ghost use Rattle.sheet_history.specs.declared.Diff.TheVariants.{Lines as LinesDiff};
 ghost use Rattle.sheet_history.specs.declared.DiffType.TheVariants.{Redo};
 ghost use Rattle.sheet_wire.specs.QueueBytes.{IsKnownDiff};
 ghost use Rattle.script_editor.specs.Document.{recorded, sending};
 ghost use Rattle.script_editor.specs.Inputs.{cell_change, entered, input_plan};
-ghost use Rattle.script_editor.specs.Machine.Edit.{Input, Rows};
+ghost use Rattle.script_editor.specs.Machine.Edit.{Input, Lines};
 ghost use Rattle.script_editor.specs.Spellable.{AreSpellable};
 
-use base_axis::RowAxis;
+use base_axis::Axis;
 use base_shared::Shared;
 use base_styles::Style;
 use base_values::{EditError, Items, Position, copy_of, place_of};
 use line_map::{EditKind, LineEdit};
-use sheet_actions::{plan_delete, plan_insert};
+use sheet_actions::{plan_delete, plan_insert, plan_move};
 use sheet_grid::{Cell, Content, DefaultStyle, Workbook};
 use sheet_history::{
-    Diff, DiffList, DiffType, History, QueueDiffs, back_in_place, forward_in_place,
+    Diff, DiffList, DiffType, History, LineAxis, QueueDiffs, back_in_place, forward_in_place,
 };
 use sheet_lines::{KeptLines, line_edit};
 use std::alloc::Global;
@@ -109,34 +109,49 @@ fn cell_change(
     )
 }
 
-/// The record of an edit of rows: the edit, and what taking it back does not give.
-fn rows_change(
+/// The record of an edit of lines: the edit, and what taking it back does not give.
+fn lines_change(
     alloc: Global,
     sheet: u32,
+    axis: LineAxis,
     edit: EditKind,
     kept: KeptLines,
 ) -> Result<DiffList, EditError>
-    requires kept { IsKeptDiff (RowsDiff sheet edit kept) }
-    requires known { IsKnownDiff (RowsDiff sheet edit kept) }
-    ensures made { Returns result (Ok (RowsDiff sheet edit kept ∷ [])) }
+    requires kept { IsKeptDiff (LinesDiff sheet axis edit kept) }
+    requires known { IsKnownDiff (LinesDiff sheet axis edit kept) }
+    ensures made { Returns result (Ok (LinesDiff sheet axis edit kept ∷ [])) }
     ensures kept { IfOk result IsKeptList }
     ensures spellable { IfOk result AreSpellable }
 {
     let kept = Shared::new(alloc, kept)?;
-    list_of(alloc, Diff::Rows { sheet, edit, kept })
+    list_of(
+        alloc,
+        Diff::Lines {
+            sheet,
+            axis,
+            edit,
+            kept,
+        },
+    )
 }
 
-/// The edit of the rows of the sheet at an index, and the id of that sheet.
-fn plan_rows(
+/// The edit of the lines of the sheet at an index, and the id of that sheet. It takes no memory.
+fn plan_lines<A: Axis>(
     workbook: &Workbook,
     sheet: u32,
     kind: EditKind,
-) -> Result<(u32, LineEdit<RowAxis>), EditError>
-    ensures { map_ok (λ plan. (plan.0, plan.1.kind)) result ≡ lines_planned rows InvalidRow kind sheet workbook.now }
+) -> Result<(u32, LineEdit<A>), EditError>
+    ensures planned { map_ok (λ plan. (plan.0, plan.1.kind)) result ≡ lines_planned A.along kind sheet workbook.now }
+    ensures sure { result ≢ Err NoMemory }
 {
     match kind {
         EditKind::Insert { first, count } => plan_insert(workbook, sheet, first, count),
         EditKind::Delete { first, count } => plan_delete(workbook, sheet, first, count),
+        EditKind::Move {
+            first,
+            count,
+            delta,
+        } => plan_move(workbook, sheet, first, count, delta),
     }
 }
 
@@ -177,8 +192,8 @@ fn send(
 }
 
 impl OpenBook {
-    ghost use Rattle.sheet_history.specs.Records.{IsRowEdit, line_record};
-    ghost use Rattle.script_editor.specs.Document.{cell_recorded, rows_recorded, document_edit, document_undo, document_redo};
+    ghost use Rattle.sheet_history.specs.Records.{IsLineEdit, line_record};
+    ghost use Rattle.script_editor.specs.Document.{cell_recorded, lines_recorded, document_edit, document_undo, document_redo};
     ghost use Rattle.script_editor.specs.Opened.{document_in};
     ghost use Rattle.script_editor.specs.Sound.{IsSendable};
 
@@ -265,31 +280,44 @@ impl OpenBook {
         }
     }
 
-    /// Inserts rows in the sheet of an id, or deletes them, and puts the record on the undo stack
-    /// and in the queue. Only `NoMemory` is refused.
-    fn make_rows(&mut self, id: u32, edit: &LineEdit<RowAxis>) -> Result<(), EditError>
-        requires { IsRowEdit edit.now.kind id self.now.workbook }
-        ensures document { Edits result (document_in self.old) (document_in self.new) (Ok (rows_recorded edit.now.kind id (document_in self.old))) }
-        ensures spellable { OnOk result (AreSpellable (line_record edit.now.kind id self.old.workbook)) }
+    /// Inserts lines in the sheet of an id, deletes them or moves them, and puts the record on the
+    /// undo stack and in the queue. `NoMemory` is the only error.
+    fn make_lines<A: Axis>(
+        &mut self,
+        axis: LineAxis,
+        id: u32,
+        edit: &LineEdit<A>,
+    ) -> Result<(), EditError>
+        requires along { A.along ≡ along_of axis }
+        requires edit { IsLineEdit axis edit.now.kind id self.now.workbook }
+        ensures document { Edits result (document_in self.old) (document_in self.new) (Ok (lines_recorded axis edit.now.kind id (document_in self.old))) }
+        ensures spellable { OnOk result (AreSpellable (line_record axis edit.now.kind id self.old.workbook)) }
     {
         let (later, kept) = line_edit(self.alloc, &self.workbook, id, edit)?;
-        let list = rows_change(self.alloc, id, edit.kind, kept)?;
+        let list = lines_change(self.alloc, id, axis, edit.kind, kept)?;
         self.install(later, list)
     }
 
-    /// Inserts rows in the sheet at an index, or deletes them, and puts the record on the undo stack
-    /// and in the queue. The refusals are those of `Editor::insert_rows` and `Editor::delete_rows`.
-    pub(crate) fn edit_rows(&mut self, sheet: u32, kind: EditKind) -> Result<(), EditError>
-        requires { IsWellFormed self.now.workbook }
-        ensures document { Changes result (document_in self.old) (document_in self.new) (document_edit (Rows sheet kind) (document_in self.old)) }
-        ensures sendable { OnOk result (IsSendable (Rows sheet kind) self.old.workbook) }
+    /// Inserts lines in the sheet at an index, deletes them or moves them, and puts the record on
+    /// the undo stack and in the queue. The refusals are those of the plan.
+    pub(crate) fn edit_lines<A: Axis>(
+        &mut self,
+        sheet: u32,
+        axis: LineAxis,
+        kind: EditKind,
+    ) -> Result<(), EditError>
+        requires along { A.along ≡ along_of axis }
+        requires rules { IsWellFormed self.now.workbook }
+        ensures document { Changes result (document_in self.old) (document_in self.new) (document_edit (Lines sheet axis kind) (document_in self.old)) }
+        ensures sendable { OnOk result (IsSendable (Lines sheet axis kind) self.old.workbook) }
     {
-        let (id, edit) = plan_rows(&self.workbook, sheet, kind)?;
-        self.make_rows(id, &edit)
+        let (id, edit) = plan_lines::<A>(&self.workbook, sheet, kind)?;
+        self.make_lines(axis, id, &edit)
     }
 
     /// Takes the newest list of the undo stack back in the workbook, and sends it.
     pub(crate) fn take_back(&mut self) -> Result<(), EditError>
+        requires { IsWellFormed self.now.workbook }
         ensures document { Edits result (document_in self.old) (document_in self.new) (document_undo (document_in self.old)) }
     {
         self.history.reserve()?;
@@ -313,6 +341,7 @@ impl OpenBook {
 
     /// Makes the changes of the newest list of the redo stack again, and sends it.
     pub(crate) fn make_again(&mut self) -> Result<(), EditError>
+        requires { IsWellFormed self.now.workbook }
         ensures document { Edits result (document_in self.old) (document_in self.new) (document_redo (document_in self.old)) }
     {
         self.history.reserve()?;

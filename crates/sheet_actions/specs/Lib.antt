@@ -1,6 +1,5 @@
 pub mod Checked
 pub mod Edited
-pub mod FollowedPlaced
 pub mod GreatestLine
 pub mod Planned
 pub mod Shown

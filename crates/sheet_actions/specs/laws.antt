@@ -1,6 +1,8 @@
-pub mod FollowedTrees
-pub mod FollowedWellFormed
-pub mod FollowedSheets
 pub mod PlannedLaws
 pub mod GreatestLaws
+pub mod FollowedEntries
+pub mod FollowedLines
+pub mod FollowedSheets
+pub mod FollowedWellFormed
+pub mod Placed
 pub mod WellFormedProp

@@ -8,6 +8,7 @@ ghost use Rattle.sheet_rules.specs.WellFormed.{IsWellFormed};
 use base_axis::Axis;
 use line_map::LineEdit;
 use sheet_grid::Workbook;
+use sheet_lines::edit_and_back;
 
 /// The law of line edits: a well-formed workbook stays well-formed, and going back with what was
 /// kept gives it, no matter what lies on lines that are lost.
@@ -17,7 +18,5 @@ pub fn edit_keeps_rules<A: Axis>(workbook: &Workbook, sheet_id: u32, edit: &Line
     ensures rules { IsWellFormed (book_followed A.along edit.now.kind sheet_id workbook.now) }
     ensures back { book_back A.along edit.now.kind sheet_id (kept_lines A.along edit.now.kind sheet_id workbook.now) (book_followed A.along edit.now.kind sheet_id workbook.now) ≡ workbook.now }
 {
-    let _ = workbook;
-    let _ = sheet_id;
-    let _ = edit;
+    edit_and_back(workbook, sheet_id, edit);
 }

@@ -1,17 +1,16 @@
 ghost use Rattle.std.specs.Prelude.{◌≡◌, ◌≢◌, Err, ◌+ℤ◌, int_lt, IfOk, IsTrue, is_some};
 ghost use Rattle.base_values.specs.Answers.{map_ok};
-ghost use Rattle.base_values.specs.declared.EditError.TheVariants.{InvalidRow, NoMemory};
-ghost use Rattle.base_values.specs.Places.{line_of};
-ghost use Rattle.base_axis.specs.Along.{rows};
+ghost use Rattle.base_values.specs.declared.EditError.TheVariants.{NoMemory};
+ghost use Rattle.base_values.specs.Places.{is_line};
 ghost use Rattle.line_map.specs.Areas.{last_line};
 ghost use Rattle.line_map.specs.Edit.{IsValid};
-ghost use Rattle.line_map.specs.declared.EditKind.TheVariants.{Insert, Delete};
-ghost use Rattle.sheet_lines.specs.Followed.{sheet_of};
+ghost use Rattle.line_map.specs.declared.EditKind.TheVariants.{Insert, Delete, Move};
+ghost use Rattle.sheet_lines.specs.Sheets.{sheet_of};
 ghost use Rattle.sheet_actions.specs.GreatestLine.{greatest_line};
-ghost use Rattle.sheet_actions.specs.Planned.{first_of, count_of, within_edge, edit_allowed, lines_planned};
+ghost use Rattle.sheet_actions.specs.Planned.{outside, refusal_from, refusal_of, lines_planned};
 
-use base_axis::{Axis, RowAxis};
-use base_values::{EditError, Position, line_of};
+use base_axis::Axis;
+use base_values::{EditError, Position};
 use line_map::{EditKind, LineEdit};
 use sheet_grid::{Workbook, Worksheet};
 
@@ -58,121 +57,141 @@ fn reaches_past<A: Axis>(first: i32, count: i32) -> bool
     is_past(A::LAST, last_line(first, count))
 }
 
-/// The edit, unless it reaches past the last line.
-fn within_edge<A: Axis>(kind: EditKind, sheet: &Worksheet) -> Result<EditKind, EditError>
-    ensures { result ≡ within_edge A.along kind sheet.now }
+fn is_line<A: Axis>(line: i32) -> bool
+    ensures { result ≡ is_line A.along.last line }
 {
-    match kind {
-        EditKind::Insert { count, .. } if pushes_past::<A>(sheet, count) => {
-            Err(EditError::OverEdge)
-        }
-        EditKind::Delete { first, count } if reaches_past::<A>(first, count) => {
-            Err(EditError::TargetOutOfBounds)
-        }
-        _ => Ok(kind),
+    1 <= line && line <= A::LAST
+}
+
+/// The refusal of a line that is not one of the axis.
+fn outside<A: Axis>() -> EditError
+    ensures { result ≡ outside A.along }
+{
+    if A::of(true, false) {
+        EditError::InvalidRow
+    } else {
+        EditError::InvalidColumn
     }
 }
 
-/// The line at which an edit begins, and how many it inserts or deletes.
-fn lines_of(kind: EditKind) -> (i32, i32)
-    ensures { result ≡ (first_of kind, count_of kind) }
+/// The first refusal of so many lines from a first one on, with that of lines that reach too far.
+fn refusal_from<A: Axis>(
+    first: i32,
+    count: i32,
+    too_far: bool,
+    refusal: EditError,
+) -> Option<EditError>
+    ensures { result ≡ refusal_from A.along first count too_far refusal }
 {
-    match kind {
-        EditKind::Insert { first, count } => (first, count),
-        EditKind::Delete { first, count } => (first, count),
-    }
-}
-
-/// A line of the axis, or the refusal of one outside.
-fn line_along<A: Axis>(line: i32, outside: EditError) -> Result<i32, EditError>
-    ensures { result ≡ line_of A.along.last line outside }
-{
-    line_of(A::LAST, line, outside)
-}
-
-/// The edit of lines of a sheet, or its first refusal; a first line outside the sheet is refused
-/// by `outside`.
-#[tactic(auto, unfolding(crate::specs::Planned::edit_allowed))]
-fn edit_allowed<A: Axis>(
-    outside: EditError,
-    kind: EditKind,
-    sheet: &Worksheet,
-) -> Result<EditKind, EditError>
-    ensures { result ≡ edit_allowed A.along outside kind sheet.now }
-{
-    let (first, count) = lines_of(kind);
     if count < 1 {
-        return Err(EditError::BadCount);
+        Some(EditError::BadCount)
+    } else if !is_line::<A>(first) {
+        Some(outside::<A>())
+    } else if too_far {
+        Some(refusal)
+    } else {
+        None
     }
-    let _first = line_along::<A>(first, outside)?;
-    within_edge::<A>(kind, sheet)
+}
+
+/// The first refusal of an edit of the lines of a sheet.
+#[tactic(auto, unfolding(crate::specs::Planned::refusal_of))]
+fn refusal_of<A: Axis>(kind: EditKind, sheet: &Worksheet) -> Option<EditError>
+    ensures { result ≡ refusal_of A.along kind sheet.now }
+{
+    match kind {
+        EditKind::Insert { first, count } => {
+            let too_far = pushes_past::<A>(sheet, count);
+            refusal_from::<A>(first, count, too_far, EditError::OverEdge)
+        }
+        EditKind::Delete { first, count } => {
+            let too_far = reaches_past::<A>(first, count);
+            refusal_from::<A>(first, count, too_far, EditError::TargetOutOfBounds)
+        }
+        EditKind::Move { .. } if LineEdit::<A>::new(kind).is_valid() => None,
+        EditKind::Move { .. } => Some(EditError::TargetOutOfBounds),
+    }
 }
 
 fn planned<A: Axis>(
     workbook: &Workbook,
     sheet: u32,
     kind: EditKind,
-    outside: EditError,
 ) -> Result<(u32, LineEdit<A>), EditError>
-    ensures { map_ok (λ plan. (plan.0, plan.1.kind)) result ≡ lines_planned A.along outside kind sheet workbook.now }
+    ensures planned { map_ok (λ plan. (plan.0, plan.1.kind)) result ≡ lines_planned A.along kind sheet workbook.now }
+    ensures valid { IfOk result (λ plan. IsValid A.along.last plan.1.kind) }
+    ensures there { IfOk result (λ plan. IsTrue (is_some (sheet_of workbook.now plan.0))) }
+    ensures sure { result ≢ Err NoMemory }
 {
     let found = workbook.worksheet(sheet)?;
-    let edit = edit_allowed::<A>(outside, kind, found)?;
-    Ok((found.get_sheet_id(), LineEdit::new(edit)))
+    match refusal_of::<A>(kind, found) {
+        Some(refusal) => Err(refusal),
+        None => Ok((found.get_sheet_id(), LineEdit::new(kind))),
+    }
 }
 
-fn planned_rows(
-    workbook: &Workbook,
-    sheet: u32,
-    kind: EditKind,
-) -> Result<(u32, LineEdit<RowAxis>), EditError>
-    ensures planned { map_ok (λ plan. (plan.0, plan.1.kind)) result ≡ lines_planned rows InvalidRow kind sheet workbook.now }
-    ensures valid { IfOk result (λ plan. IsValid rows.last plan.1.kind) }
-    ensures there { IfOk result (λ plan. IsTrue (is_some (sheet_of workbook.now plan.0))) }
-    ensures sure { result ≢ Err NoMemory }
-{
-    planned(workbook, sheet, kind, EditError::InvalidRow)
-}
-
-/// The edit that inserts `count` empty rows at a row of the sheet at an index, and the id of that
+/// The edit that inserts `count` empty lines at a line of the sheet at an index, and the id of that
 /// sheet. It takes no memory.
 ///
 /// `InvalidSheet` where there is no such sheet, else `BadCount` where the count is below 1, else
-/// `InvalidRow` where the row is outside the sheet, else `OverEdge` where so many rows more than
-/// the greatest that holds a cell are more than a sheet has, be that cell above the row or below.
-/// docs/MODEL.md has the rule.
-pub fn plan_insert(
+/// `InvalidRow` or `InvalidColumn`, by the axis, where the line is outside the sheet, else
+/// `OverEdge` where so many lines more than the greatest that holds a cell are more than a sheet
+/// has, be that cell before the line or behind. docs/MODEL.md has the rule.
+pub fn plan_insert<A: Axis>(
     workbook: &Workbook,
     sheet: u32,
-    row: i32,
+    first: i32,
     count: i32,
-) -> Result<(u32, LineEdit<RowAxis>), EditError>
-    ensures planned { map_ok (λ plan. (plan.0, plan.1.kind)) result ≡ lines_planned rows InvalidRow (Insert row count) sheet workbook.now }
-    ensures valid { IfOk result (λ plan. IsValid rows.last plan.1.kind) }
+) -> Result<(u32, LineEdit<A>), EditError>
+    ensures planned { map_ok (λ plan. (plan.0, plan.1.kind)) result ≡ lines_planned A.along (Insert first count) sheet workbook.now }
+    ensures valid { IfOk result (λ plan. IsValid A.along.last plan.1.kind) }
     ensures there { IfOk result (λ plan. IsTrue (is_some (sheet_of workbook.now plan.0))) }
     ensures sure { result ≢ Err NoMemory }
 {
-    let first = row;
-    planned_rows(workbook, sheet, EditKind::Insert { first, count })
+    planned(workbook, sheet, EditKind::Insert { first, count })
 }
 
-/// The edit that deletes `count` rows from a row on of the sheet at an index, and the id of that
+/// The edit that deletes `count` lines from a line on of the sheet at an index, and the id of that
 /// sheet. It takes no memory.
 ///
 /// `InvalidSheet` where there is no such sheet, else `BadCount` where the count is below 1, else
-/// `InvalidRow` where the row is outside the sheet, else `TargetOutOfBounds` where the rows reach
-/// outside it. docs/MODEL.md has the rule.
-pub fn plan_delete(
+/// `InvalidRow` or `InvalidColumn`, by the axis, where the line is outside the sheet, else
+/// `TargetOutOfBounds` where the lines reach outside it. docs/MODEL.md has the rule.
+pub fn plan_delete<A: Axis>(
     workbook: &Workbook,
     sheet: u32,
-    row: i32,
+    first: i32,
     count: i32,
-) -> Result<(u32, LineEdit<RowAxis>), EditError>
-    ensures planned { map_ok (λ plan. (plan.0, plan.1.kind)) result ≡ lines_planned rows InvalidRow (Delete row count) sheet workbook.now }
-    ensures valid { IfOk result (λ plan. IsValid rows.last plan.1.kind) }
+) -> Result<(u32, LineEdit<A>), EditError>
+    ensures planned { map_ok (λ plan. (plan.0, plan.1.kind)) result ≡ lines_planned A.along (Delete first count) sheet workbook.now }
+    ensures valid { IfOk result (λ plan. IsValid A.along.last plan.1.kind) }
     ensures there { IfOk result (λ plan. IsTrue (is_some (sheet_of workbook.now plan.0))) }
     ensures sure { result ≢ Err NoMemory }
 {
-    let first = row;
-    planned_rows(workbook, sheet, EditKind::Delete { first, count })
+    planned(workbook, sheet, EditKind::Delete { first, count })
+}
+
+/// The edit that moves `count` lines from a line on of the sheet at an index on by `delta` lines, or
+/// back where it is below 0, and the id of that sheet. It takes no memory.
+///
+/// `InvalidSheet` where there is no such sheet, else `TargetOutOfBounds` where the lines, or where
+/// they go, are not 1 or more lines of the sheet. docs/MODEL.md has the rule.
+pub fn plan_move<A: Axis>(
+    workbook: &Workbook,
+    sheet: u32,
+    first: i32,
+    count: i32,
+    delta: i32,
+) -> Result<(u32, LineEdit<A>), EditError>
+    ensures planned { map_ok (λ plan. (plan.0, plan.1.kind)) result ≡ lines_planned A.along (Move first count delta) sheet workbook.now }
+    ensures valid { IfOk result (λ plan. IsValid A.along.last plan.1.kind) }
+    ensures there { IfOk result (λ plan. IsTrue (is_some (sheet_of workbook.now plan.0))) }
+    ensures sure { result ≢ Err NoMemory }
+{
+    let kind = EditKind::Move {
+        first,
+        count,
+        delta,
+    };
+    planned(workbook, sheet, kind)
 }

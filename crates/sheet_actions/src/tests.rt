@@ -1,21 +1,21 @@
-// Rows of a model inserted and deleted, and what is refused. What stands where was worked out by hand
-// from docs/MODEL.md.
-ghost use Rattle.base_axis.specs.Along.{rows};
-ghost use Rattle.line_map.specs.Edit.{IsValid};
+// Lines of a model inserted, deleted and moved, and what is refused. What stands where was worked out by
+// hand from docs/MODEL.md.
+ghost use Rattle.std.specs.Prelude.{◌≤ℤ◌, pos};
 
-use crate::{Model, line_back, line_edit, plan_delete, plan_insert};
-use base_axis::RowAxis;
+use crate::Model;
 use base_shared::Shared;
 use base_styles::Style;
 use base_tables::{Error, Locale, Zone};
-use base_values::{EditError, Items, LAST_ROW, Text, same};
-use formula_content::Content;
+use base_values::{EditError, Items, LAST_COLUMN, LAST_ROW, Text, same};
+use cell_content::Content;
 use formula_tree::{Corner, Node, has_kept_numbers};
-use line_map::LineEdit;
+use line_map::EditKind;
 use sheet_grid::{Cell, DefaultStyle, Link, RowAttr, Workbook, Worksheet};
-use sheet_lines::has_sheet;
 use std::alloc::{AllocError, Global};
+use std::process::Abort;
 use std::test::Fail;
+
+mod lines;
 
 fn text(alloc: Global, word: &str) -> Result<Text, AllocError> {
     Ok(Text::new(String::from_str(alloc, word)?))
@@ -25,51 +25,34 @@ fn empty_book(alloc: Global) -> Result<Workbook, EditError> {
     Workbook::new_empty(alloc, "book", Locale::En, Zone::Utc)
 }
 
-/// What inserting rows in a model answers, and what deleting the same ones does.
-fn answers(
-    model: &mut Model,
-    sheet: u32,
-    row: i32,
-    count: i32,
-) -> (Result<(), EditError>, Result<(), EditError>) {
-    (
-        model.insert_rows(sheet, row, count),
-        model.delete_rows(sheet, row, count),
-    )
+fn empty_model(alloc: Global) -> Result<Model, EditError> {
+    Model::from_workbook(alloc, empty_book(alloc)?)
 }
 
-/// Whether an edit changes the workbook, and going back with what was kept gives it.
-fn comes_back(
-    alloc: Global,
-    book: &Workbook,
-    id: u32,
-    edit: &LineEdit<RowAxis>,
-) -> Result<bool, EditError>
-    requires { IsValid rows.last edit.now.kind }
-{
-    if !has_sheet(book, id) {
-        return Ok(false);
+/// Edits rows or columns of the sheet at an index.
+fn edit(model: &mut Model, is_rows: bool, sheet: u32, kind: EditKind) -> Result<(), EditError> {
+    match (kind, is_rows) {
+        (EditKind::Insert { first, count }, true) => model.insert_rows(sheet, first, count),
+        (EditKind::Insert { first, count }, false) => model.insert_columns(sheet, first, count),
+        (EditKind::Delete { first, count }, true) => model.delete_rows(sheet, first, count),
+        (EditKind::Delete { first, count }, false) => model.delete_columns(sheet, first, count),
+        (
+            EditKind::Move {
+                first,
+                count,
+                delta,
+            },
+            true,
+        ) => model.move_rows_action(sheet, first, count, delta),
+        (
+            EditKind::Move {
+                first,
+                count,
+                delta,
+            },
+            false,
+        ) => model.move_columns_action(sheet, first, count, delta),
     }
-    let (after, kept) = line_edit(alloc, book, id, edit)?;
-    if after == *book || !has_sheet(&after, id) {
-        return Ok(false);
-    }
-    let again = line_back(alloc, &after, id, edit, &kept)?;
-    Ok(again == *book)
-}
-
-/// Rows of the second of three sheets come and go back, and go and come back.
-#[test]
-fn three_sheets_come_back(rt: HostRuntime) -> Result<(), Fail> {
-    let alloc = rt.alloc();
-    let book = three_sheets(alloc)?;
-    for (row, count) in [(3, 2), (1, 5), (5, 1), (1, LAST_ROW - 5)] {
-        let (id, edit) = plan_insert(&book, 1, row, count)?;
-        assert!(rt; comes_back(alloc, &book, id, &edit)?);
-        let (id, edit) = plan_delete(&book, 1, row, count)?;
-        assert!(rt; comes_back(alloc, &book, id, &edit)?);
-    }
-    Ok(())
 }
 
 /// Two sheets of one id.
@@ -80,31 +63,111 @@ fn twice_one(alloc: Global) -> Result<Workbook, EditError> {
     empty_book(alloc)?.with_worksheets(sheets)
 }
 
-/// A workbook that is no model, and edits of an empty sheet, which stays empty.
+/// A workbook that is no model.
 #[test]
-fn refusals(rt: HostRuntime) -> Result<(), Fail> {
-    let ill_formed = Model::from_workbook(rt.alloc(), twice_one(rt.alloc())?);
-    assert!(rt; matches!(ill_formed, Err(EditError::IllFormed { rule: 1 })));
-    let mut model = Model::from_workbook(rt.alloc(), empty_book(rt.alloc())?)?;
+fn ill_formed(rt: HostRuntime) -> Result<(), Fail> {
+    let model = Model::from_workbook(rt.alloc(), twice_one(rt.alloc())?);
+    assert!(rt; matches!(model, Err(EditError::IllFormed { rule: 1 })));
+    Ok(())
+}
+
+/// What inserting lines of an empty sheet answers, and what deleting the same ones does.
+fn refuses_along(
+    rt: &impl Abort,
+    alloc: Global,
+    is_rows: bool,
+    last: i32,
+    refusal: EditError,
+) -> Result<(), Fail>
+    requires low { pos 2 ≤ℤ last }
+    requires high { last ≤ℤ pos 1048576 }
+{
+    let mut model = empty_model(alloc)?;
     let (most, bad) = (i32::MAX, Err(EditError::BadCount));
     let (over, past) = (Err(EditError::OverEdge), Err(EditError::TargetOutOfBounds));
-    let (outside, missing) = (Err(EditError::InvalidRow), Err(EditError::InvalidSheet));
-    for (sheet, row, count, inserted, deleted) in [
-        (0, LAST_ROW, 1, Ok(()), Ok(())),
-        (0, LAST_ROW, 2, Ok(()), past),
-        (0, 1, LAST_ROW - 1, Ok(()), Ok(())),
-        (0, 7, LAST_ROW, over, past),
+    let (outside, missing) = (Err(refusal), Err(EditError::InvalidSheet));
+    for (sheet, first, count, inserted, deleted) in [
+        (0, last, 1, Ok(()), Ok(())),
+        (0, last, 2, Ok(()), past),
+        (0, 1, last - 1, Ok(()), Ok(())),
+        (0, 7, last, over, past),
         (0, 1, most, over, past),
-        (0, LAST_ROW, most, over, past),
+        (0, last, most, over, past),
         (0, 1, 0, bad, bad),
         (0, 0, -1, bad, bad),
         (0, 0, 1, outside, outside),
-        (0, LAST_ROW + 1, most, outside, outside),
+        (0, last + 1, most, outside, outside),
         (1, 0, 0, missing, missing),
     ] {
-        let (after_insertion, after_deletion) = answers(&mut model, sheet, row, count);
-        assert_eq!(rt; after_insertion, inserted);
-        assert_eq!(rt; after_deletion, deleted);
+        let insertion = edit(
+            &mut model,
+            is_rows,
+            sheet,
+            EditKind::Insert { first, count },
+        );
+        assert_eq!(rt; insertion, inserted);
+        let deletion = edit(
+            &mut model,
+            is_rows,
+            sheet,
+            EditKind::Delete { first, count },
+        );
+        assert_eq!(rt; deletion, deleted);
+    }
+    Ok(())
+}
+
+#[test]
+fn refusals_of_rows(rt: HostRuntime) -> Result<(), Fail> {
+    refuses_along(&rt, rt.alloc(), true, LAST_ROW, EditError::InvalidRow)
+}
+
+#[test]
+fn refusals_of_columns(rt: HostRuntime) -> Result<(), Fail> {
+    refuses_along(
+        &rt,
+        rt.alloc(),
+        false,
+        LAST_COLUMN,
+        EditError::InvalidColumn,
+    )
+}
+
+/// Moves of an empty sheet's lines. Where none moves, or by none, nothing else is tested.
+#[test]
+fn refusals_of_moves(rt: HostRuntime) -> Result<(), Fail> {
+    let mut model = empty_model(rt.alloc())?;
+    let (missing, past) = (
+        Err(EditError::InvalidSheet),
+        Err(EditError::TargetOutOfBounds),
+    );
+    for (is_rows, sheet, first, count, delta, answer) in [
+        (false, 0, 16_383, 1, 1, Ok(())),
+        (false, 0, 16_383, 1, 2, past),
+        (true, 0, 16_383, 1, 2, Ok(())),
+        (true, 0, 1, 1, 1_048_575, Ok(())),
+        (true, 0, 1, 1, 1_048_576, past),
+        (true, 0, 1, LAST_ROW, 1, past),
+        (true, 0, 2, 1, -2, past),
+        (true, 0, 1, 1, i32::MAX, past),
+        (true, 0, 1, 1, i32::MIN, past),
+        (true, 0, i32::MIN, 1, 1, past),
+        (true, 0, 1, i32::MAX, i32::MAX, past),
+        (true, 1, 1, 1, 1, missing),
+        (true, 0, 0, 0, 5, Ok(())),
+        (true, 1, 0, -1, 5, Ok(())),
+        (false, 1, 0, 1, 0, Ok(())),
+    ] {
+        let kind = EditKind::Move {
+            first,
+            count,
+            delta,
+        };
+        assert_eq!(rt;
+            edit(&mut model, is_rows, sheet, kind),
+            answer,
+            "at {first}, {count}, {delta}"
+        );
     }
     Ok(())
 }
@@ -209,7 +272,7 @@ fn stands(model: &Model, row: i32, first: Node, second: Node) -> Result<bool, Ed
     Ok(fives && holds_formula(one, first)? && holds_formula(two, second)?)
 }
 
-/// Rows of the second of three sheets come and go.
+/// Rows of the second of three sheets come, go and move.
 #[test]
 fn three_sheets_follow(rt: HostRuntime) -> Result<(), Fail> {
     let alloc = rt.alloc();
@@ -222,9 +285,12 @@ fn three_sheets_follow(rt: HostRuntime) -> Result<(), Fail> {
     model.delete_rows(1, 2, 3)?;
     let first = below(Some(Shared::new(alloc, text(alloc, "two")?)?), 3, -1);
     assert!(rt; stands(&model, 4, first, below(None, 3, -1))?);
-    model.delete_rows(1, 4, 1)?;
+    model.move_rows_action(1, 4, 1, -2)?;
+    let first = below(Some(Shared::new(alloc, text(alloc, "two")?)?), 1, -1);
+    assert!(rt; stands(&model, 2, first, below(None, 1, -1))?);
+    model.delete_rows(1, 2, 1)?;
     let three = model.workbook().worksheet(2)?;
     assert!(rt; holds_formula(three, Node::Error(Error::Ref))?);
-    assert!(rt; !has_fives(model.workbook().worksheet(1)?, 4)?);
+    assert!(rt; !has_fives(model.workbook().worksheet(1)?, 2)?);
     Ok(())
 }

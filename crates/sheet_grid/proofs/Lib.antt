@@ -1,3 +1,4 @@
 mod BookLemmas
 mod Kepts
+mod LineLemmas
 mod Rectangles

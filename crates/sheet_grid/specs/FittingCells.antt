@@ -2,7 +2,7 @@
 use Rattle.std.specs.Prelude.{Bool, true, IsTrue, Option, Some, None, All}
 use Rattle.std.specs.FinMap as fin
 use Rattle.base_values.specs.declared.Position.{Position}
-use Rattle.formula_content.specs.Fitting.{fits_at, is_shallow}
+use Rattle.cell_content.specs.Fitting.{fits_at, is_shallow}
 use Rattle.sheet_grid.specs.declared.cell.Cell.{Cell}
 use Rattle.sheet_grid.specs.Sheet.{Sheet}
 use Rattle.sheet_grid.specs.Book.{Book}

@@ -4,7 +4,7 @@ use Rattle.std.specs.FinMap as fin
 use Rattle.std.specs.FinMap.{FinMap}
 use Rattle.base_values.specs.declared.Position.{Position}
 use Rattle.base_values.specs.Places.{position_cmp}
-use Rattle.formula_content.specs.KeptContent.{IsKeptContent}
+use Rattle.cell_content.specs.KeptContent.{IsKeptContent}
 use Rattle.sheet_grid.specs.declared.cell.Cell.{Cell}
 
 -- the numbers of its content are as a workbook keeps them

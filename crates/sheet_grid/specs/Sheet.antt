@@ -1,6 +1,6 @@
 -- A sheet, as contracts see it.
 use Rattle.std.proofs.Common.{ℕ, ℤ, pos, List, Option, Some, None, Result, Bool, true}
-use Rattle.std.specs.Option.{option_or, unwrap_or}
+use Rattle.std.specs.Option.{option_map, option_or, unwrap_or}
 use Rattle.std.specs.FinMap as fin
 use Rattle.std.specs.FinMap.{FinMap}
 use Rattle.std.specs.Ordering.{int_cmp}
@@ -16,13 +16,14 @@ use Rattle.base_styles.specs.declared.Style.{Style}
 use Rattle.base_styles.specs.DefaultStyle.{default_style}
 use Rattle.sheet_grid.specs.declared.state.SheetState.{SheetState}
 use Rattle.sheet_grid.specs.declared.state.SheetState.TheVariants.{Visible}
-use Rattle.formula_content.specs.declared.Content.{Content}
-use Rattle.formula_content.specs.declared.Content.TheVariants.{Empty}
+use Rattle.cell_content.specs.declared.Content.{Content}
+use Rattle.cell_content.specs.declared.Content.TheVariants.{Empty}
 use Rattle.sheet_grid.specs.declared.cell.Cell.{Cell}
 use Rattle.sheet_grid.specs.declared.link.Link.{Link}
+use Rattle.sheet_grid.specs.declared.line_attr.LineAttr.{LineAttr}
 use Rattle.sheet_grid.specs.declared.row_attr.RowAttr.{RowAttr}
 use Rattle.sheet_grid.specs.declared.column_attr.ColumnAttr.{ColumnAttr}
-use Rattle.sheet_grid.specs.Lines.{kept_row, kept_column}
+use Rattle.sheet_grid.specs.Lines.{line_of_row, row_of_line, line_of_column, column_of_line, kept_line, own_line_style, line_changed}
 
 pub record Sheet : Type 0 where
   pub id : ℕ
@@ -34,8 +35,8 @@ pub record Sheet : Type 0 where
   pub frozen_columns : ℤ
   pub cells : FinMap position_cmp Cell
   pub links : FinMap position_cmp Link
-  pub rows : FinMap int_cmp RowAttr
-  pub columns : FinMap int_cmp ColumnAttr
+  pub rows : FinMap int_cmp LineAttr
+  pub columns : FinMap int_cmp LineAttr
 
 -- a visible sheet with grid lines and nothing else
 abbrev pub new_sheet : ℕ → List ℕ → Sheet
@@ -68,22 +69,14 @@ cell_put sheet row column entry = map_ok (λ place. with_cell sheet place entry)
 abbrev pub content_put : Sheet → ℤ → ℤ → Content → Style → Result Sheet EditError
 content_put sheet row column content style = cell_put sheet row column (Some (record { content = content; style = style }))
 
--- the style that a cell, a row or a column has of its own
+-- the style of a cell
 abbrev pub cell_style : Option Cell → Option Style
 cell_style None = None
 cell_style (Some cell) = Some cell.style
 
-abbrev pub row_style : Option RowAttr → Option Style
-row_style None = None
-row_style (Some attr) = attr.style
-
-abbrev pub column_style : Option ColumnAttr → Option Style
-column_style None = None
-column_style (Some attr) = attr.style
-
 -- the style of the row of a place, else of its column
 abbrev pub line_style : Sheet → Position → Option Style
-line_style sheet place = option_or (row_style (fin.get sheet.rows place.row)) (column_style (fin.get sheet.columns place.column))
+line_style sheet place = option_or (own_line_style (fin.get sheet.rows place.row)) (own_line_style (fin.get sheet.columns place.column))
 
 -- the style of the cell of a place, else of its row, else of its column
 abbrev pub own_style : Sheet → Position → Option Style
@@ -110,18 +103,33 @@ link_at sheet row column = map_ok (λ place. fin.get sheet.links place) (place_o
 abbrev pub link_put : Sheet → ℤ → ℤ → Option Link → Result Sheet EditError
 link_put sheet row column entry = map_ok (λ place. record sheet { links = with_entry sheet.links place entry }) (place_of row column)
 
+-- what is asked of the entry of a row, or of a column
+abbrev pub of_row : {T : Type 0} → (Option LineAttr → T) → Sheet → ℤ → Result T EditError
+of_row asked sheet row = map_ok (λ line. asked (fin.get sheet.rows line)) (line_of (pos 1048576) row InvalidRow)
+
+abbrev pub of_column : {T : Type 0} → (Option LineAttr → T) → Sheet → ℤ → Result T EditError
+of_column asked sheet column = map_ok (λ line. asked (fin.get sheet.columns line)) (line_of (pos 16384) column InvalidColumn)
+
 -- what a row has of its own
 abbrev pub row_at : Sheet → ℤ → Result (Option RowAttr) EditError
-row_at sheet row = map_ok (λ line. fin.get sheet.rows line) (line_of (pos 1048576) row InvalidRow)
+row_at = of_row (option_map row_of_line)
 
 -- a row has this of its own, and a plain entry counts as none
 abbrev pub row_put : Sheet → ℤ → Option RowAttr → Result Sheet EditError
-row_put sheet row entry = map_ok (λ line. record sheet { rows = with_entry sheet.rows line (kept_row entry) }) (line_of (pos 1048576) row InvalidRow)
+row_put sheet row entry = map_ok (λ line. record sheet { rows = with_entry sheet.rows line (kept_line (option_map line_of_row entry)) }) (line_of (pos 1048576) row InvalidRow)
 
 -- what a column has of its own
 abbrev pub column_at : Sheet → ℤ → Result (Option ColumnAttr) EditError
-column_at sheet column = map_ok (λ line. fin.get sheet.columns line) (line_of (pos 16384) column InvalidColumn)
+column_at = of_column (option_map column_of_line)
 
 -- a column has this of its own, and a plain entry counts as none
 abbrev pub column_put : Sheet → ℤ → Option ColumnAttr → Result Sheet EditError
-column_put sheet column entry = map_ok (λ line. record sheet { columns = with_entry sheet.columns line (kept_column entry) }) (line_of (pos 16384) column InvalidColumn)
+column_put sheet column entry = map_ok (λ line. record sheet { columns = with_entry sheet.columns line (kept_line (option_map line_of_column entry)) }) (line_of (pos 16384) column InvalidColumn)
+
+-- what a row has of its own is changed
+abbrev pub row_changed : Sheet → ℤ → Result (LineAttr → LineAttr) EditError → Result Sheet EditError
+row_changed sheet row change = map_ok (λ rows. record sheet { rows = rows }) (line_changed (pos 1048576) InvalidRow sheet.rows row change)
+
+-- what a column has is
+abbrev pub column_changed : Sheet → ℤ → Result (LineAttr → LineAttr) EditError → Result Sheet EditError
+column_changed sheet column change = map_ok (λ columns. record sheet { columns = columns }) (line_changed (pos 16384) InvalidColumn sheet.columns column change)

@@ -3,7 +3,7 @@ ghost use Rattle.std.specs.Prelude.{◌≡◌};
 use base_shared::Shared;
 use base_styles::Style;
 use base_values::Exact;
-use formula_content::Content;
+use cell_content::Content;
 use std::alloc::AllocError;
 
 /// A cell of a sheet.

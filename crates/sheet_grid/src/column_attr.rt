@@ -1,6 +1,3 @@
-ghost use Rattle.std.specs.Prelude.{◌≡◌};
-ghost use Rattle.sheet_grid.specs.Lines.{is_plain_column, kept_column};
-
 use base_shared::Shared;
 use base_styles::Style;
 use base_values::Exact;
@@ -14,25 +11,6 @@ pub struct ColumnAttr {
     pub style: Option<Shared<Style>>,
     /// Whether the column is not shown.
     pub hidden: bool,
-}
-
-impl ColumnAttr {
-    /// Whether a column has nothing of its own: no width, no style, and it is shown.
-    pub fn is_plain(&self) -> bool
-        ensures { result ≡ is_plain_column self.now }
-    {
-        self.width.is_none() && self.style.is_none() && !self.hidden
-    }
-
-    /// What a sheet keeps of an entry of a column: a plain one counts as none.
-    pub(crate) fn kept(entry: Option<ColumnAttr>) -> Option<ColumnAttr>
-        ensures { result ≡ kept_column entry }
-    {
-        let Some(attr) = entry else {
-            return None;
-        };
-        if attr.is_plain() { None } else { Some(attr) }
-    }
 }
 
 impl Exact for ColumnAttr {

@@ -1,6 +1,3 @@
-ghost use Rattle.std.specs.Prelude.{◌≡◌};
-ghost use Rattle.sheet_grid.specs.Lines.{is_plain_row, kept_row};
-
 use base_shared::Shared;
 use base_styles::Style;
 use base_values::Exact;
@@ -14,25 +11,6 @@ pub struct RowAttr {
     pub style: Option<Shared<Style>>,
     /// Whether the row is not shown.
     pub hidden: bool,
-}
-
-impl RowAttr {
-    /// Whether a row has nothing of its own: no height, no style, and it is shown.
-    pub fn is_plain(&self) -> bool
-        ensures { result ≡ is_plain_row self.now }
-    {
-        self.height.is_none() && self.style.is_none() && !self.hidden
-    }
-
-    /// What a sheet keeps of an entry of a row: a plain one counts as none.
-    pub(crate) fn kept(entry: Option<RowAttr>) -> Option<RowAttr>
-        ensures { result ≡ kept_row entry }
-    {
-        let Some(attr) = entry else {
-            return None;
-        };
-        if attr.is_plain() { None } else { Some(attr) }
-    }
 }
 
 impl Exact for RowAttr {

@@ -5,29 +5,29 @@ ghost use Rattle.base_values.specs.declared.EditError.TheVariants.{NoMemory};
 ghost use Rattle.base_values.specs.Places.{IsPlace};
 ghost use Rattle.base_decimal.specs.Kept.{IsKept};
 ghost use Rattle.formula_tree.specs.Numbers.{has_kept_numbers};
-ghost use Rattle.formula_content.specs.KeptContent.{IsKeptContent};
+ghost use Rattle.cell_content.specs.KeptContent.{IsKeptContent};
 ghost use Rattle.sheet_grid.specs.Dimension.{IsLeastRectangle, IsRectangle, first_place};
 ghost use Rattle.sheet_grid.specs.KeptCell.{IsKeptCell};
 ghost use Rattle.sheet_grid.specs.Sheet.{Sheet, new_sheet, cell_at, cell_put, content_put, content_cleared};
-ghost use Rattle.formula_content.specs.declared.Content.TheVariants.{Empty, Number, Boolean, Error as ErrorValue, Text as TextValue, Formula, Dynamic};
+ghost use Rattle.cell_content.specs.declared.Content.TheVariants.{Empty, Number, Boolean, Error as ErrorValue, Text as TextValue, Formula, Dynamic};
 
 mod entries;
 mod lines;
+mod sizes;
 mod styles;
 
 use crate::cell::Cell;
-use crate::column_attr::ColumnAttr;
 use crate::dimension::WorksheetDimension;
+use crate::line_attr::LineAttr;
 use crate::link::Link;
-use crate::row_attr::RowAttr;
 use crate::state::SheetState;
-use base_axis::{ColumnAxis, LineMap, RowAxis};
+use base_axis::{AxisMap, ColumnAxis, RowAxis};
 use base_decimal::Decimal;
 use base_shared::Shared;
 use base_styles::{Color, Style};
 use base_tables::Error;
 use base_values::{EditError, Exact, PlaceMap, Position, Text, copy_of, place_of};
-use formula_content::Content;
+use cell_content::Content;
 use formula_tree::Node;
 use std::alloc::{AllocError, Global};
 use std::collections::btree_map::Iter;
@@ -46,8 +46,8 @@ pub struct Worksheet {
     frozen_columns: i32,
     cells: PlaceMap<Shared<Cell>>,
     links: PlaceMap<Link>,
-    rows: LineMap<RowAxis, RowAttr>,
-    columns: LineMap<ColumnAxis, ColumnAttr>,
+    rows: AxisMap<RowAxis, LineAttr>,
+    columns: AxisMap<ColumnAxis, LineAttr>,
 }
 
 impl Model for Worksheet {
@@ -115,8 +115,8 @@ impl Worksheet {
             frozen_columns: 0,
             cells: PlaceMap::new(alloc),
             links: PlaceMap::new(alloc),
-            rows: LineMap::new(alloc),
-            columns: LineMap::new(alloc),
+            rows: AxisMap::new(alloc),
+            columns: AxisMap::new(alloc),
         }
     }
 

@@ -1,2 +1,4 @@
 mod DiffLemmas
+mod Placed
 mod ReplayLemmas
+mod Standing

@@ -5,7 +5,6 @@ use Rattle.base_values.specs.declared.EditError.{EditError}
 use Rattle.base_values.specs.declared.EditError.TheVariants.{DiffRefused, NoMemory}
 use Rattle.base_values.specs.declared.Position.{Position}
 use Rattle.base_values.specs.Answers.{and_then, ok_or, value_of}
-use Rattle.base_axis.specs.Along.{rows}
 use Rattle.sheet_grid.specs.declared.Cell.{Cell}
 use Rattle.sheet_grid.specs.Book.{Book, edit_by_id}
 use Rattle.sheet_grid.specs.FittingCells.{entry_fits_at}
@@ -14,11 +13,11 @@ use Rattle.sheet_grid.specs.Sheet.{cell_put}
 use Rattle.sheet_rules.specs.WellFormed.{broken_rule}
 use Rattle.sheet_lines.specs.KeptNumbers.{AreKeptLines}
 use Rattle.sheet_history.specs.declared.diff.Diff.{Diff}
-use Rattle.sheet_history.specs.declared.diff.Diff.TheVariants.{Cell as CellDiff, Rows as RowsDiff}
+use Rattle.sheet_history.specs.declared.diff.Diff.TheVariants.{Cell as CellDiff, Lines as LinesDiff}
 use Rattle.sheet_history.specs.declared.diff.DiffType.{DiffType}
 use Rattle.sheet_history.specs.declared.diff.DiffType.TheVariants.{Undo, Redo}
 use Rattle.sheet_history.specs.declared.diff.QueueDiffs.{QueueDiffs}
-use Rattle.sheet_history.specs.LineDiffs.{lines_forward, lines_back}
+use Rattle.sheet_history.specs.LineDiffs.{along_of, lines_forward, lines_back}
 
 -- the workbook with this cell at a place of the sheet of an id, or with none. Where no sheet has the id, the place is outside or
 -- the cell may not stand there, the diff of that number is refused
@@ -31,12 +30,12 @@ put_in at book id place entry =
 -- forward puts the new value, or edits the lines
 abbrev pub step_forward : ℕ → Book → Diff → Result Book EditError
 step_forward at book (CellDiff sheet place old new) = put_in at book sheet place new
-step_forward at book (RowsDiff sheet edit kept) = lines_forward at rows sheet edit kept book
+step_forward at book (LinesDiff sheet axis edit kept) = lines_forward at (along_of axis) sheet edit kept book
 
 -- back puts the old value, or takes the lines back
 abbrev pub step_back : ℕ → Book → Diff → Result Book EditError
 step_back at book (CellDiff sheet place old new) = put_in at book sheet place old
-step_back at book (RowsDiff sheet edit kept) = lines_back at rows sheet edit kept book
+step_back at book (LinesDiff sheet axis edit kept) = lines_back at (along_of axis) sheet edit kept book
 
 -- the diffs in order, where the first has the number at
 abbrev pub forward_from : ℕ → Book → List Diff → Result Book EditError
@@ -115,7 +114,7 @@ pub record Replays (result : Result (Unit {0}) EditError) (old new : Book) (entr
 -- every number of what a diff holds is as a sheet keeps it
 abbrev pub IsKeptDiff : Diff → Type 0
 IsKeptDiff (CellDiff sheet place old new) = IfSome old IsKeptCell × IfSome new IsKeptCell
-IsKeptDiff (RowsDiff sheet edit kept) = AreKeptLines kept
+IsKeptDiff (LinesDiff sheet axis edit kept) = AreKeptLines kept
 
 abbrev pub IsKeptList : List Diff → Type 0
 IsKeptList diffs = All IsKeptDiff diffs

@@ -6,7 +6,6 @@ use Rattle.std.specs.Ordering.{nat_cmp, int_cmp, ordering_then}
 use Rattle.std.specs.declared.cmp.Ordering.{Ordering}
 use Rattle.std.specs.FinMap as fin
 use Rattle.base_values.specs.declared.Position.{Position}
-use Rattle.base_axis.specs.Along.{rows}
 use Rattle.line_map.specs.declared.EditKind.{EditKind}
 use Rattle.line_map.specs.Edit.{IsValid}
 use Rattle.sheet_grid.specs.declared.Cell.{Cell}
@@ -14,11 +13,12 @@ use Rattle.sheet_grid.specs.SameEntry.{same_entry}
 use Rattle.sheet_grid.specs.Sheet.{Sheet}
 use Rattle.sheet_grid.specs.Book.{Book, index_of}
 use Rattle.sheet_rules.specs.WellFormed.{IsWellFormed}
-use Rattle.sheet_lines.specs.Followed.{sheet_of}
+use Rattle.sheet_lines.specs.Sheets.{sheet_of}
 use Rattle.sheet_lines.specs.Kept.{kept_lines}
 use Rattle.sheet_history.specs.declared.diff.Diff.{Diff}
-use Rattle.sheet_history.specs.declared.diff.Diff.TheVariants.{Cell as CellDiff, Rows as RowsDiff}
-use Rattle.sheet_history.specs.LineDiffs.{is_there_inside}
+use Rattle.sheet_history.specs.declared.diff.LineAxis.{LineAxis}
+use Rattle.sheet_history.specs.declared.diff.Diff.TheVariants.{Cell as CellDiff, Lines as LinesDiff}
+use Rattle.sheet_history.specs.LineDiffs.{along_of, is_there_inside}
 
 -- which entry of a workbook
 pub data EntryKey : Type 0 where
@@ -75,7 +75,7 @@ Change = EntryKey × (EntryValue × EntryValue)
 -- the change of a diff of an entry
 abbrev pub change_of : Diff → Option Change
 change_of (CellDiff sheet place old new) = Some (CellKey sheet place, (CellValue old, CellValue new))
-change_of (RowsDiff sheet edit kept) = None
+change_of (LinesDiff sheet axis edit kept) = None
 
 -- a list has, in the order of their keys, exactly the entries in which the later workbook differs from the earlier one, which
 -- differ in nothing else
@@ -86,12 +86,12 @@ pub record IsRecord (earlier later : Book) (diffs : List Diff) : Type 0 where
   pub ordered : IsTrue (fin.is_sorted key_cmp changes)
   pub exact : (key : EntryKey) → fin.find key_cmp key changes ≡ changed_entry (entry_at earlier key) (entry_at later key)
 
--- the record of an edit of rows: the edit, and what the opposite edit does not give back
-abbrev pub line_record : EditKind → ℕ → Book → List Diff
-line_record e id book = RowsDiff id e (kept_lines rows e id book) ∷ []
+-- the record of an edit of lines: the edit, and what the opposite edit does not give back
+abbrev pub line_record : LineAxis → EditKind → ℕ → Book → List Diff
+line_record axis e id book = LinesDiff id axis e (kept_lines (along_of axis) e id book) ∷ []
 
--- an edit of rows of a well-formed workbook: its numbers are those of one, its sheet is there, and no cell is pushed past the last row
-pub record IsRowEdit (e : EditKind) (id : ℕ) (book : Book) : Type 0 where
-  pub valid : IsValid rows.last e
+-- an edit of lines of a well-formed workbook: its numbers are those of one, its sheet is there, and no cell is pushed past the last line
+pub record IsLineEdit (axis : LineAxis) (e : EditKind) (id : ℕ) (book : Book) : Type 0 where
+  pub valid : IsValid (along_of axis).last e
   pub rules : IsWellFormed book
-  pub there : IsTrue (is_there_inside rows e (sheet_of book id))
+  pub there : IsTrue (is_there_inside (along_of axis) e (sheet_of book id))

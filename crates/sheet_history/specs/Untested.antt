@@ -3,7 +3,7 @@ use Rattle.std.proofs.Common.{Bool, true, false, List, [], ◌∷◌, Option, So
 use Rattle.sheet_grid.specs.declared.Cell.{Cell}
 use Rattle.sheet_rules.specs.WellFormed.{has_font}
 use Rattle.sheet_history.specs.declared.diff.Diff.{Diff}
-use Rattle.sheet_history.specs.declared.diff.Diff.TheVariants.{Cell as CellDiff, Rows as RowsDiff}
+use Rattle.sheet_history.specs.declared.diff.Diff.TheVariants.{Cell as CellDiff, Lines as LinesDiff}
 
 -- what is put, a cell or none, has a font of at least size 1
 abbrev pub entry_has_font : Option Cell → Bool
@@ -15,11 +15,11 @@ abbrev pub keeps_rules : List Diff → Bool
 keeps_rules [] = false
 keeps_rules (CellDiff sheet place old new ∷ []) = entry_has_font new
 keeps_rules (CellDiff sheet place old new ∷ second ∷ rest) = false
-keeps_rules (RowsDiff sheet edit kept ∷ rest) = false
+keeps_rules (LinesDiff sheet axis edit kept ∷ rest) = false
 
 -- one cell, taken back to one with a font
 abbrev pub keeps_rules_back : List Diff → Bool
 keeps_rules_back [] = false
 keeps_rules_back (CellDiff sheet place old new ∷ []) = entry_has_font old
 keeps_rules_back (CellDiff sheet place old new ∷ second ∷ rest) = false
-keeps_rules_back (RowsDiff sheet edit kept ∷ rest) = false
+keeps_rules_back (LinesDiff sheet axis edit kept ∷ rest) = false

@@ -1,18 +1,23 @@
-ghost use Rattle.std.specs.Prelude.{◌≡◌, IfSome};
+ghost use Rattle.std.specs.Prelude.{◌≡◌, IfOk, IfSome, OnOk};
 ghost use Rattle.base_values.specs.Answers.{Answers, Edits};
 ghost use Rattle.sheet_grid.specs.FittingCells.{entry_fits_at};
 ghost use Rattle.sheet_grid.specs.KeptCell.{IsKeptCell};
-ghost use Rattle.sheet_rules.specs.WellFormed.{broken_rule};
+ghost use Rattle.line_map.specs.declared.EditKind.{EditKind};
+ghost use Rattle.sheet_rules.specs.WellFormed.{IsWellFormed, broken_rule};
+ghost use Rattle.sheet_lines.specs.KeptNumbers.{AreKeptLines};
+ghost use Rattle.sheet_lines.specs.Sheets.{IsPlacedBook};
+ghost use Rattle.sheet_history.specs.LineDiffs.{along_of, lines_back, lines_forward};
 ghost use Rattle.sheet_history.specs.Diffs.{IsKeptDiff, IsKeptList, backed, by_rule, forwarded, made, put_in, step_back, step_forward, taken_back};
 
-use crate::diff::{Diff, DiffList};
+use crate::diff::{Diff, DiffList, LineAxis};
 use crate::line_diffs::{lines_back, lines_forward};
-use base_axis::RowAxis;
+use base_axis::{ColumnAxis, RowAxis};
 use base_shared::Shared;
 use base_values::{EditError, Position, copy_of};
-use formula_content::fits_at;
+use cell_content::fits_at;
 use line_map::{EditKind, LineEdit};
 use sheet_grid::{Cell, Workbook};
+use sheet_lines::KeptLines;
 use sheet_rules::is_well_formed;
 use std::alloc::Global;
 
@@ -35,8 +40,10 @@ fn put_in(
     entry: &Option<Shared<Cell>>,
     at: u64,
 ) -> Result<(), EditError>
-    requires { IfSome entry.now IsKeptCell }
-    ensures { Edits result workbook.old workbook.new (put_in at workbook.old id place entry.now) }
+    requires kept { IfSome entry.now IsKeptCell }
+    requires placed { IsPlacedBook workbook.old }
+    ensures edits { Edits result workbook.old workbook.new (put_in at workbook.old id place entry.now) }
+    ensures placed { OnOk result (IsPlacedBook workbook.new) }
 {
     let refused = EditError::DiffRefused { entry: 0, diff: at };
     if !entry_fits_at(place, entry) {
@@ -50,10 +57,57 @@ fn put_in(
     }
 }
 
-fn rows_edit(kind: EditKind) -> LineEdit<RowAxis>
-    ensures { result.kind ≡ kind }
+/// Makes an edit of lines along an axis, where it can be made.
+fn edit_forward(
+    alloc: Global,
+    workbook: &mut Workbook,
+    id: u32,
+    axis: LineAxis,
+    kind: EditKind,
+    kept: &KeptLines,
+    at: u64,
+) -> Result<(), EditError>
+    requires { IsPlacedBook workbook.old }
+    ensures edits { Edits result workbook.old workbook.new (lines_forward at (along_of axis) id kind kept.now workbook.old) }
+    ensures placed { OnOk result (IsPlacedBook workbook.new) }
 {
-    LineEdit::new(kind)
+    match axis {
+        LineAxis::Rows => {
+            let edit: LineEdit<RowAxis> = LineEdit::new(kind);
+            lines_forward(alloc, workbook, id, &edit, kept, at)
+        }
+        LineAxis::Columns => {
+            let edit: LineEdit<ColumnAxis> = LineEdit::new(kind);
+            lines_forward(alloc, workbook, id, &edit, kept, at)
+        }
+    }
+}
+
+/// Takes an edit of lines along an axis back, where it can be.
+fn edit_back(
+    alloc: Global,
+    workbook: &mut Workbook,
+    id: u32,
+    axis: LineAxis,
+    kind: EditKind,
+    kept: &KeptLines,
+    at: u64,
+) -> Result<(), EditError>
+    requires placed { IsPlacedBook workbook.old }
+    requires kept { AreKeptLines kept.now }
+    ensures edits { Edits result workbook.old workbook.new (lines_back at (along_of axis) id kind kept.now workbook.old) }
+    ensures placed { OnOk result (IsPlacedBook workbook.new) }
+{
+    match axis {
+        LineAxis::Rows => {
+            let edit: LineEdit<RowAxis> = LineEdit::new(kind);
+            lines_back(alloc, workbook, id, &edit, kept, at)
+        }
+        LineAxis::Columns => {
+            let edit: LineEdit<ColumnAxis> = LineEdit::new(kind);
+            lines_back(alloc, workbook, id, &edit, kept, at)
+        }
+    }
 }
 
 /// Makes a diff's change. `at` is its number in its list.
@@ -63,8 +117,10 @@ fn apply_forward(
     diff: &Diff,
     at: u64,
 ) -> Result<(), EditError>
-    requires { IsKeptDiff diff.now }
-    ensures { Edits result workbook.old workbook.new (step_forward at workbook.old diff.now) }
+    requires kept { IsKeptDiff diff.now }
+    requires placed { IsPlacedBook workbook.old }
+    ensures edits { Edits result workbook.old workbook.new (step_forward at workbook.old diff.now) }
+    ensures placed { OnOk result (IsPlacedBook workbook.new) }
 {
     match diff {
         Diff::Cell {
@@ -73,16 +129,21 @@ fn apply_forward(
             old: _,
             new,
         } => put_in(workbook, *sheet, *position, new, at),
-        Diff::Rows { sheet, edit, kept } => {
-            lines_forward(alloc, workbook, *sheet, &rows_edit(*edit), kept.get(), at)
-        }
+        Diff::Lines {
+            sheet,
+            axis,
+            edit,
+            kept,
+        } => edit_forward(alloc, workbook, *sheet, *axis, *edit, kept.get(), at),
     }
 }
 
 /// Takes a diff's change back. `at` is its number in its list.
 fn apply_back(alloc: Global, workbook: &mut Workbook, diff: &Diff, at: u64) -> Result<(), EditError>
-    requires { IsKeptDiff diff.now }
-    ensures { Edits result workbook.old workbook.new (step_back at workbook.old diff.now) }
+    requires kept { IsKeptDiff diff.now }
+    requires placed { IsPlacedBook workbook.old }
+    ensures edits { Edits result workbook.old workbook.new (step_back at workbook.old diff.now) }
+    ensures placed { OnOk result (IsPlacedBook workbook.new) }
 {
     match diff {
         Diff::Cell {
@@ -91,15 +152,19 @@ fn apply_back(alloc: Global, workbook: &mut Workbook, diff: &Diff, at: u64) -> R
             old,
             new: _,
         } => put_in(workbook, *sheet, *position, old, at),
-        Diff::Rows { sheet, edit, kept } => {
-            lines_back(alloc, workbook, *sheet, &rows_edit(*edit), kept.get(), at)
-        }
+        Diff::Lines {
+            sheet,
+            axis,
+            edit,
+            kept,
+        } => edit_back(alloc, workbook, *sheet, *axis, *edit, kept.get(), at),
     }
 }
 
 /// The workbook with the changes of a list made in order.
 fn made(alloc: Global, workbook: &Workbook, list: &DiffList) -> Result<Workbook, EditError>
-    requires { IsKeptList list.now }
+    requires kept { IsKeptList list.now }
+    requires placed { IsPlacedBook workbook.now }
     ensures { Answers result (made workbook.now list.now) }
 {
     let mut next = copy_of(workbook)?;
@@ -111,7 +176,8 @@ fn made(alloc: Global, workbook: &Workbook, list: &DiffList) -> Result<Workbook,
 
 /// The workbook with the changes of a list taken back, the last one first.
 fn taken_back(alloc: Global, workbook: &Workbook, list: &DiffList) -> Result<Workbook, EditError>
-    requires { IsKeptList list.now }
+    requires kept { IsKeptList list.now }
+    requires placed { IsPlacedBook workbook.now }
     ensures { Answers result (taken_back workbook.now list.now) }
 {
     let diffs = list.get().as_slice();
@@ -139,9 +205,10 @@ fn by_rule(workbook: Workbook, at: u64) -> Result<Workbook, EditError>
 /// `DiffRefused` with entry 0 and the number of the first diff that cannot be made; where each can,
 /// but the result breaks a rule, with the number of diffs. A cell cannot be put where its sheet is
 /// not there, its position is outside, or it may not stand there. docs/MODEL.md says when lines can
-/// be inserted and deleted.
+/// be inserted, deleted and moved.
 pub fn forward(alloc: Global, workbook: &Workbook, list: &DiffList) -> Result<Workbook, EditError>
-    requires { IsKeptList list.now }
+    requires kept { IsKeptList list.now }
+    requires rules { IsWellFormed workbook.now }
     ensures { Answers result (forwarded workbook.now list.now) }
 {
     let next = made(alloc, workbook, list)?;
@@ -153,7 +220,8 @@ pub fn forward(alloc: Global, workbook: &Workbook, list: &DiffList) -> Result<Wo
 /// `DiffRefused` as `forward` answers it, of the old cells and of lines that cannot be taken back,
 /// with the number of the first diff that it comes to.
 pub fn back(alloc: Global, workbook: &Workbook, list: &DiffList) -> Result<Workbook, EditError>
-    requires { IsKeptList list.now }
+    requires kept { IsKeptList list.now }
+    requires rules { IsWellFormed workbook.now }
     ensures { Answers result (backed workbook.now list.now) }
 {
     let before = taken_back(alloc, workbook, list)?;
@@ -167,7 +235,8 @@ pub fn forward_in_place(
     workbook: &mut Workbook,
     list: &DiffList,
 ) -> Result<(), EditError>
-    requires { IsKeptList list.now }
+    requires kept { IsKeptList list.now }
+    requires rules { IsWellFormed workbook.old }
     ensures { Edits result workbook.old workbook.new (made workbook.old list.now) }
 {
     match list.get().as_slice() {
@@ -187,7 +256,8 @@ pub fn back_in_place(
     workbook: &mut Workbook,
     list: &DiffList,
 ) -> Result<(), EditError>
-    requires { IsKeptList list.now }
+    requires kept { IsKeptList list.now }
+    requires rules { IsWellFormed workbook.old }
     ensures { Edits result workbook.old workbook.new (taken_back workbook.old list.now) }
 {
     match list.get().as_slice() {

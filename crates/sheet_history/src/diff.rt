@@ -4,6 +4,13 @@ use line_map::EditKind;
 use sheet_grid::Cell;
 use sheet_lines::KeptLines;
 
+/// The direction of a sheet whose lines are edited.
+#[derive(Clone, Copy, Debug, PartialEq, Eq)]
+pub enum LineAxis {
+    Rows,
+    Columns,
+}
+
 /// One change of a workbook, which can be made again and taken back.
 #[derive(Clone, PartialEq, Eq, Drop)]
 pub enum Diff {
@@ -14,10 +21,11 @@ pub enum Diff {
         old: Option<Shared<Cell>>,
         new: Option<Shared<Cell>>,
     },
-    /// Rows that were inserted in the sheet with that id or deleted from it, and what the opposite
-    /// edit does not give back.
-    Rows {
+    /// Lines along an axis that were inserted in the sheet with that id, deleted from it or moved,
+    /// and what the opposite edit does not give back.
+    Lines {
         sheet: u32,
+        axis: LineAxis,
         edit: EditKind,
         kept: Shared<KeptLines>,
     },
@@ -49,6 +57,15 @@ impl Exact for Diff {
     ghost copies = { λ a b h. Prim.search rules };
 
     ghost equals = { diff_equals };
+}
+
+impl Exact for LineAxis {
+    ghost use Rattle.std.proofs.Common.{rules};
+    ghost use Rattle.sheet_history.specs.laws.DiffEquals.{line_axis_equals};
+
+    ghost copies = { λ a b h. Prim.search rules };
+
+    ghost equals = { line_axis_equals };
 }
 
 impl Exact for DiffType {

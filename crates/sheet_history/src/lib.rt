@@ -12,7 +12,7 @@ mod line_diffs;
 mod replay;
 
 pub use apply::{back, back_in_place, forward, forward_in_place};
-pub use diff::{Diff, DiffList, DiffType, QueueDiffs};
+pub use diff::{Diff, DiffList, DiffType, LineAxis, QueueDiffs};
 pub use history::History;
 pub use laws::{line_records_go_both_ways, records_are_unique};
 pub use replay::replay_in_place;

@@ -1,30 +1,31 @@
 //! Diffs of lines: whether they can be made and taken back, and what they do.
 
-ghost use Rattle.std.specs.Prelude.{◌≡◌, ◌&&◌, ◌+ℤ◌, IsTrue, Some, int_lt, is_none, is_some, not};
+ghost use Rattle.std.specs.Prelude.{◌≡◌, ◌&&◌, ◌+ℤ◌, IsTrue, OnOk, int_le, int_lt, is_none, is_some, not};
 ghost use Rattle.std.specs.List.{list_all};
 ghost use Rattle.std.specs.Option.{option_copied};
 ghost use Rattle.std.specs.FinMap.{entries};
 ghost use Rattle.base_values.specs.Answers.{Edits};
 ghost use Rattle.base_values.specs.Places.{is_line};
 ghost use Rattle.base_values.specs.declared.Position.{Position};
-ghost use Rattle.formula_content.specs.Fitting.{tree_fits_at};
-ghost use Rattle.formula_tree.specs.Depth.{is_within};
-ghost use Rattle.line_map.specs.Edit.{IsValid, IsWithin, opposite_of};
-ghost use Rattle.line_map.specs.Places.{place_image};
+ghost use Rattle.cell_content.specs.Fitting.{tree_fits_at};
+ghost use Rattle.line_map.specs.Edit.{IsValid, image_at, opposite_of};
+ghost use Rattle.line_map.specs.Moves.{place_image};
 ghost use Rattle.sheet_grid.specs.declared.Cell.{Cell};
-ghost use Rattle.sheet_lines.specs.Followed.{sheet_of};
+ghost use Rattle.sheet_rules.specs.WellFormed.{is_place};
+ghost use Rattle.sheet_lines.specs.Back.{ArePlacedLines, LieInside};
 ghost use Rattle.sheet_lines.specs.KeptNumbers.{AreKeptLines};
-ghost use Rattle.sheet_lines.specs.Way.{line_image, are_rows, are_columns};
-ghost use Rattle.sheet_history.specs.LineDiffs.{is_valid, is_pushed_past, stays_inside, is_there_inside, are_lost, stand_on_lost, cells_fit, is_formula, is_formula_at, goes_on, tree_stands, trees_stand, formulas_stand, goes_forward, goes_back, lines_forward, lines_back};
+ghost use Rattle.sheet_lines.specs.Sheets.{IsPlacedBook, sheet_of};
+ghost use Rattle.sheet_history.specs.LineDiffs.{is_pushed_past, stays_inside, is_there_inside, is_lost_place, is_lost_line, all_keys, stand_on_lost, cells_fit, is_formula, is_formula_at, goes_on, tree_stands, formulas_stand, goes_forward, goes_back, lines_forward, lines_back};
 
-use base_axis::{Axis, LineMap};
+use base_axis::Axis;
+use base_maps::{NumberMap, PositionMap, SheetPlaceMap};
 use base_shared::Shared;
-use base_values::{EditError, PlaceMap, Position};
-use formula_content::fits_at;
+use base_values::{EditError, LAST_COLUMN, LAST_ROW, PlaceMap, Position};
+use cell_content::{fits_at, tree_of};
 use formula_tree::{MAX_DEPTH, Node, has_no_negative_number, is_at_most_deep, is_placed};
 use line_map::{EditKind, LineEdit};
 use sheet_grid::{Cell, Workbook, Worksheet};
-use sheet_lines::{KeptLines, SheetMap, followed_book, line_back, sheet_of, tree_of};
+use sheet_lines::{KeptLines, followed_book, line_back, sheet_of};
 use std::alloc::Global;
 
 fn is_line(last: i32, line: i32) -> bool
@@ -33,23 +34,10 @@ fn is_line(last: i32, line: i32) -> bool
     1 <= line && line <= last
 }
 
-fn are_lines(last: i32, first: i32, count: i32) -> bool
-    ensures value { result ≡ is_line last first && is_line last count }
-    ensures within { IsTrue result → IsWithin last first count }
+fn is_place(place: Position) -> bool
+    ensures { result ≡ is_place place }
 {
-    is_line(last, first) && is_line(last, count)
-}
-
-/// Whether an edit begins on a line and is of 1 to all lines.
-#[tactic(auto, unfolding(crate::specs::LineDiffs::is_valid, line_map::specs::Edit::IsValid))]
-fn is_valid(last: i32, kind: EditKind) -> bool
-    ensures value { result ≡ is_valid last kind }
-    ensures valid { IsTrue result → IsValid last kind }
-{
-    match kind {
-        EditKind::Insert { first, count } => are_lines(last, first, count),
-        EditKind::Delete { first, count } => are_lines(last, first, count),
-    }
+    is_line(LAST_ROW, place.row) && is_line(LAST_COLUMN, place.column)
 }
 
 fn is_past(last: i32, line: i32, count: i32) -> bool
@@ -80,6 +68,11 @@ fn stays_inside<A: Axis>(edit: &LineEdit<A>, sheet: &Worksheet) -> bool
     match edit.kind {
         EditKind::Insert { first, count } => none_pushed::<A>(first, count, sheet),
         EditKind::Delete { first: _, count: _ } => true,
+        EditKind::Move {
+            first: _,
+            count: _,
+            delta: _,
+        } => true,
     }
 }
 
@@ -94,54 +87,54 @@ fn is_there_inside<A: Axis>(edit: &LineEdit<A>, workbook: &Workbook, id: u32) ->
     }
 }
 
-#[tactic(auto, unfolding(line_map::specs::Places::place_image))]
+/// Whether a position is a place of the sheet that has no image.
+#[tactic(auto, unfolding(line_map::specs::Moves::place_image))]
 fn is_lost_place<A: Axis>(edit: &LineEdit<A>, place: Position) -> bool
-    ensures { result ≡ is_none (place_image A.along edit.now.kind place) }
+    ensures { result ≡ is_lost_place A.along edit.now.kind place }
 {
-    edit.image(A::line(place)).is_none()
+    is_place(place) && edit.image(A::line(place)).is_none()
 }
 
-/// Whether every place of a map is one without an image.
-fn are_lost_places<A: Axis, V>(edit: &LineEdit<A>, map: &PlaceMap<V>) -> bool
-    ensures { result ≡ are_lost (place_image A.along edit.now.kind) map.now }
+fn are_lost_places<A: Axis, V>(edit: &LineEdit<A>, map: &PositionMap<V>) -> bool
+    ensures { result ≡ all_keys (is_lost_place A.along edit.now.kind) map.now }
 {
     map.iter()
         .all(|(place, _value)| is_lost_place(edit, *place))
 }
 
-#[tactic(auto, unfolding(sheet_lines::specs::Way::line_image))]
-fn is_lost_line<A: Axis>(edit: &LineEdit<A>, is_along: bool, line: i32) -> bool
-    ensures { result ≡ is_none (line_image A.along edit.now.kind is_along line) }
+/// Whether a number is a line of the axis that has no image.
+fn is_lost_line<A: Axis>(edit: &LineEdit<A>, line: i32) -> bool
+    ensures { result ≡ is_lost_line A.along edit.now.kind line }
 {
-    is_along && edit.image(line).is_none()
+    is_line(A::LAST, line) && edit.image(line).is_none()
 }
 
-/// Whether every line of a map is one without an image.
-fn are_lost_lines<A: Axis, B: Axis, V>(
-    edit: &LineEdit<A>,
-    is_along: bool,
-    map: &LineMap<B, V>,
-) -> bool
-    ensures { result ≡ are_lost (line_image A.along edit.now.kind is_along) map.now }
+fn are_lost_lines<A: Axis, V>(edit: &LineEdit<A>, map: &NumberMap<V>) -> bool
+    ensures { result ≡ all_keys (is_lost_line A.along edit.now.kind) map.now }
 {
-    map.iter()
-        .all(|(line, _value)| is_lost_line(edit, is_along, *line))
+    map.iter().all(|(line, _value)| is_lost_line(edit, *line))
 }
 
-/// Whether what is kept stands where lines have no image.
+fn are_on_places<V>(map: &SheetPlaceMap<V>) -> bool
+    ensures { result ≡ all_keys (λ key. is_place key.place) map.now }
+{
+    map.iter().all(|(key, _value)| is_place(key.place))
+}
+
+/// Whether what is kept of lines lies inside the sheet where lines have no image, and each kept
+/// tree inside a sheet.
 #[tactic(auto, unfolding(crate::specs::LineDiffs::stand_on_lost))]
 fn stand_on_lost<A: Axis>(edit: &LineEdit<A>, kept: &KeptLines) -> bool
-    ensures { result ≡ stand_on_lost A.along edit.now.kind kept.now }
+    ensures value { result ≡ stand_on_lost A.along edit.now.kind kept.now }
+    ensures inside { IsTrue result → LieInside A.along kept.now }
 {
-    are_lost_places(edit, &kept.cells)
-        && are_lost_places(edit, &kept.links)
-        && are_lost_lines(edit, A::of(true, false), &kept.rows)
-        && are_lost_lines(edit, A::of(false, true), &kept.columns)
+    (are_lost_places(edit, &kept.cells) && are_lost_places(edit, &kept.links))
+        && (are_lost_lines(edit, &kept.lines) && are_on_places(&kept.formulas))
 }
 
 /// Whether each cell may stand at its place.
 #[tactic(auto, unfolding(crate::specs::LineDiffs::cells_fit))]
-fn cells_fit(cells: &PlaceMap<Shared<Cell>>) -> bool
+fn cells_fit(cells: &PositionMap<Shared<Cell>>) -> bool
     ensures { result ≡ cells_fit cells.now }
 {
     cells
@@ -149,18 +142,11 @@ fn cells_fit(cells: &PlaceMap<Shared<Cell>>) -> bool
         .all(|(place, cell)| fits_at(*place, &cell.get().content))
 }
 
-#[tactic(auto, using(std::proofs::lemmas::Bool::Decides::nat_tests), unfolding(formula_tree::specs::Depth::is_within))]
-fn is_shallow(tree: &Node) -> bool
-    ensures { result ≡ is_within 64 tree.now }
-{
-    is_at_most_deep(tree, MAX_DEPTH)
-}
-
-#[tactic(auto, unfolding(formula_content::specs::Fitting::tree_fits_at))]
+#[tactic(auto, using(std::proofs::lemmas::Bool::Decides::nat_tests), unfolding(formula_tree::specs::Depth::is_within, cell_content::specs::Fitting::tree_fits_at))]
 fn tree_fits_at(place: Position, tree: &Node) -> bool
     ensures { result ≡ tree_fits_at place tree.now }
 {
-    is_placed(tree, place) && is_shallow(tree) && has_no_negative_number(tree)
+    is_placed(tree, place) && is_at_most_deep(tree, MAX_DEPTH) && has_no_negative_number(tree)
 }
 
 fn is_formula(cell: Option<&Shared<Cell>>) -> bool
@@ -181,9 +167,9 @@ fn is_formula_at(cells: &PlaceMap<Shared<Cell>>, place: Option<Position>) -> boo
     }
 }
 
-#[tactic(auto, unfolding(line_map::specs::Places::place_image))]
+#[tactic(auto, unfolding(line_map::specs::Moves::place_image))]
 fn place_image<A: Axis>(edit: &LineEdit<A>, place: Position) -> Option<Position>
-    ensures { result ≡ place_image A.along edit.now.kind place }
+    ensures { result ≡ place_image A.along (image_at A.along.last edit.now.kind) place }
 {
     match edit.image(A::line(place)) {
         Some(line) => Some(A::with_line(place, line)),
@@ -203,70 +189,57 @@ fn goes_on<A: Axis>(edit: &LineEdit<A>, is_edited: bool, place: Position) -> Opt
     }
 }
 
+/// Whether a kept tree fits its place in the sheet, and a formula is there for it.
+#[tactic(auto, unfolding(crate::specs::LineDiffs::tree_stands))]
 fn tree_stands<A: Axis>(
-    edit: &LineEdit<A>,
-    is_edited: bool,
-    cells: &PlaceMap<Shared<Cell>>,
-    place: Position,
-    tree: &Node,
-) -> bool
-    ensures { result ≡ tree_stands (goes_on A.along edit.now.kind is_edited) cells.now place tree.now }
-{
-    tree_fits_at(place, tree) && is_formula_at(cells, goes_on(edit, is_edited, place))
-}
-
-/// Whether kept trees fit their places in a sheet, and formulas are there for them.
-#[tactic(auto, unfolding(crate::specs::LineDiffs::trees_stand))]
-fn sheet_trees_stand<A: Axis>(
-    edit: &LineEdit<A>,
-    id: u32,
-    sheet: &Worksheet,
-    trees: &PlaceMap<Shared<Node>>,
-) -> bool
-    ensures { result ≡ trees_stand A.along edit.now.kind id (Some sheet.now) trees.now }
-{
-    let is_edited = sheet.get_sheet_id() == id;
-    let cells = sheet.cell_map();
-    trees.iter().all(|(place, tree)| tree_stands(edit, is_edited, cells, *place, tree.get()))
-}
-
-#[tactic(auto, unfolding(crate::specs::LineDiffs::trees_stand))]
-fn trees_stand<A: Axis>(
     edit: &LineEdit<A>,
     id: u32,
     sheet: Option<&Worksheet>,
-    trees: &PlaceMap<Shared<Node>>,
+    place: Position,
+    tree: &Node,
 ) -> bool
-    ensures { result ≡ trees_stand A.along edit.now.kind id (option_copied sheet.entry) trees.now }
+    ensures { result ≡ tree_stands A.along edit.now.kind id (option_copied sheet.entry) place tree.now }
 {
     match sheet {
-        Some(sheet) => sheet_trees_stand(edit, id, sheet, trees),
+        Some(sheet) => {
+            let to = goes_on(edit, sheet.get_sheet_id() == id, place);
+            tree_fits_at(place, tree) && is_formula_at(sheet.cell_map(), to)
+        }
         None => false,
     }
 }
 
-/// Whether the kept trees of each sheet do.
+/// Whether each kept tree does.
 #[tactic(auto, unfolding(crate::specs::LineDiffs::formulas_stand))]
 fn formulas_stand<A: Axis>(
     edit: &LineEdit<A>,
     id: u32,
-    formulas: &SheetMap<PlaceMap<Shared<Node>>>,
+    formulas: &SheetPlaceMap<Shared<Node>>,
     workbook: &Workbook,
 ) -> bool
     ensures { result ≡ formulas_stand A.along edit.now.kind id formulas.now workbook.now }
 {
-    formulas.iter().all(|(sheet, trees)| trees_stand(edit, id, sheet_of(workbook, *sheet), trees))
+    formulas.iter().all(|(key, tree)| {
+        tree_stands(
+            edit,
+            id,
+            sheet_of(workbook, key.sheet),
+            key.place,
+            tree.get(),
+        )
+    })
 }
 
 fn goes_forward<A: Axis>(edit: &LineEdit<A>, id: u32, kept: &KeptLines, workbook: &Workbook) -> bool
-    ensures { result ≡ goes_forward A.along id edit.now.kind kept.now workbook.now }
+    ensures value { result ≡ goes_forward A.along id edit.now.kind kept.now workbook.now }
+    ensures valid { IsTrue result → IsValid A.along.last edit.now.kind }
 {
-    is_valid(A::LAST, edit.kind) && is_there_inside(edit, workbook, id) && stand_on_lost(edit, kept)
+    edit.is_valid() && is_there_inside(edit, workbook, id) && stand_on_lost(edit, kept)
 }
 
 /// Makes an edit of lines, where it can be made. `at` is the number of its diff.
 #[tactic(auto, unfolding(crate::specs::LineDiffs::lines_forward))]
-pub fn lines_forward<A: Axis>(
+pub(crate) fn lines_forward<A: Axis>(
     alloc: Global,
     workbook: &mut Workbook,
     id: u32,
@@ -274,7 +247,9 @@ pub fn lines_forward<A: Axis>(
     kept: &KeptLines,
     at: u64,
 ) -> Result<(), EditError>
-    ensures { Edits result workbook.old workbook.new (lines_forward at A.along id edit.now.kind kept.now workbook.old) }
+    requires { IsPlacedBook workbook.old }
+    ensures edits { Edits result workbook.old workbook.new (lines_forward at A.along id edit.now.kind kept.now workbook.old) }
+    ensures placed { OnOk result (IsPlacedBook workbook.new) }
 {
     if !goes_forward(edit, id, kept, workbook) {
         return Err(EditError::DiffRefused { entry: 0, diff: at });
@@ -284,7 +259,6 @@ pub fn lines_forward<A: Axis>(
 }
 
 /// Whether the sheet is there, and the lines can be taken from it or put back.
-#[tactic(auto, unfolding(line_map::specs::Edit::opposite_of))]
 fn is_there_inside_back<A: Axis>(edit: &LineEdit<A>, workbook: &Workbook, id: u32) -> bool
     requires { IsValid A.along.last edit.now.kind }
     ensures inside { result ≡ is_there_inside A.along (opposite_of edit.now.kind) (sheet_of workbook.now id) }
@@ -293,21 +267,30 @@ fn is_there_inside_back<A: Axis>(edit: &LineEdit<A>, workbook: &Workbook, id: u3
     is_there_inside(&edit.opposite(), workbook, id)
 }
 
+/// Whether what is kept may stand where it stood.
+fn may_stand<A: Axis>(edit: &LineEdit<A>, id: u32, kept: &KeptLines, workbook: &Workbook) -> bool
+    ensures value { result ≡ (cells_fit kept.now.cells && formulas_stand A.along edit.now.kind id kept.now.formulas workbook.now) }
+    ensures placed { IsTrue result → ArePlacedLines kept.now }
+{
+    cells_fit(&kept.cells) && formulas_stand(edit, id, &kept.formulas, workbook)
+}
+
 fn goes_back<A: Axis>(edit: &LineEdit<A>, id: u32, kept: &KeptLines, workbook: &Workbook) -> bool
     ensures value { result ≡ goes_back A.along id edit.now.kind kept.now workbook.now }
     ensures valid { IsTrue result → IsValid A.along.last edit.now.kind }
     ensures there { IsTrue result → IsTrue (is_some (sheet_of workbook.now id)) }
+    ensures inside { IsTrue result → LieInside A.along kept.now }
+    ensures placed { IsTrue result → ArePlacedLines kept.now }
 {
-    is_valid(A::LAST, edit.kind)
+    edit.is_valid()
         && is_there_inside_back(edit, workbook, id)
         && stand_on_lost(edit, kept)
-        && cells_fit(&kept.cells)
-        && formulas_stand(edit, id, &kept.formulas, workbook)
+        && may_stand(edit, id, kept, workbook)
 }
 
 /// Takes an edit of lines back, where it can be. `at` is the number of its diff.
 #[tactic(auto, unfolding(crate::specs::LineDiffs::lines_back))]
-pub fn lines_back<A: Axis>(
+pub(crate) fn lines_back<A: Axis>(
     alloc: Global,
     workbook: &mut Workbook,
     id: u32,
@@ -315,8 +298,10 @@ pub fn lines_back<A: Axis>(
     kept: &KeptLines,
     at: u64,
 ) -> Result<(), EditError>
-    requires { AreKeptLines kept.now }
-    ensures { Edits result workbook.old workbook.new (lines_back at A.along id edit.now.kind kept.now workbook.old) }
+    requires placed { IsPlacedBook workbook.old }
+    requires numbers { AreKeptLines kept.now }
+    ensures edits { Edits result workbook.old workbook.new (lines_back at A.along id edit.now.kind kept.now workbook.old) }
+    ensures placed { OnOk result (IsPlacedBook workbook.new) }
 {
     if !goes_back(edit, id, kept, workbook) {
         return Err(EditError::DiffRefused { entry: 0, diff: at });

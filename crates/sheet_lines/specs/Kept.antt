@@ -1,101 +1,62 @@
 -- What taking the lines back does not give of a workbook.
-use Rattle.std.proofs.Common.{◌≡◌, ℕ, ◌+◌, ◌<◌, Bool, List, [], length, get_or, take, Option, Some, None, refl, ap, sym, ◌∙◌}
-use Rattle.std.specs.Prelude.{◌==◌, if◌then◌else◌}
+use Rattle.std.specs.Prelude.{ℕ, true, false, List, map, Option, Some, None, if◌then◌else◌}
 use Rattle.std.specs.List.{fold}
-use Rattle.std.proofs.lemmas.List.Sums.{fold_more}
-use Rattle.std.specs.Ordering.{nat_cmp, int_cmp}
-use Rattle.std.specs.FinMap.{FinMap, empty, entries}
+use Rattle.std.specs.Ordering.{int_cmp}
+use Rattle.std.specs.declared.cmp.Ordering.{Ordering}
+use Rattle.std.specs.FinMap.{FinMap, empty, entries, from_entries}
 use Rattle.base_values.specs.declared.Position.{Position}
-use Rattle.base_values.specs.CodedEq.{same_value}
-use Rattle.base_values.specs.laws.CodedEq.{same_value_decides}
-use Rattle.base_values.specs.KeyMap.{with_entry}
 use Rattle.base_values.specs.Places.{position_cmp}
 use Rattle.base_axis.specs.Along.{Along}
+use Rattle.base_maps.specs.declared.SheetPlace.{SheetPlace}
+use Rattle.base_maps.specs.SheetPlaces.{sheet_place_cmp}
 use Rattle.formula_tree.specs.declared.Node.{Node}
-use Rattle.formula_tree.specs.contracts.node.Node.{the_row}
-use Rattle.formula_content.specs.declared.Content.{Content}
-use Rattle.formula_content.specs.declared.Content.TheVariants.{Empty, Number, Boolean, Error, Text, Formula, Dynamic}
-use Rattle.sheet_grid.specs.declared.Cell.{Cell}
-use Rattle.sheet_grid.specs.declared.Link.{Link}
-use Rattle.sheet_grid.specs.declared.RowAttr.{RowAttr}
-use Rattle.sheet_grid.specs.declared.ColumnAttr.{ColumnAttr}
+use Rattle.line_map.specs.declared.EditKind.{EditKind}
+use Rattle.line_map.specs.Carried.{lost_map, overlaid}
+use Rattle.line_map.specs.Contents.{cell_part}
+use Rattle.line_map.specs.Maps.{places_parts}
+use Rattle.line_map.specs.Moves.{LineMoves, edit_moves, place_image}
+use Rattle.sheet_grid.specs.declared.LineAttr.{LineAttr}
 use Rattle.sheet_grid.specs.Sheet.{Sheet}
 use Rattle.sheet_grid.specs.Book.{Book}
-use Rattle.line_map.specs.declared.EditKind.{EditKind}
-use Rattle.line_map.specs.Carried.{if_there, lost_map, parts_map}
-use Rattle.line_map.specs.Places.{place_image}
 use Rattle.sheet_lines.specs.declared.kept.KeptLines.{KeptLines}
-use Rattle.sheet_lines.specs.Way.{Way, back, place_goes, line_image, are_rows, are_columns}
-use Rattle.sheet_lines.specs.Followed.{tree_followed, sheet_of, name_of, way_of}
+use Rattle.sheet_lines.specs.Followed.{way_of}
+use Rattle.sheet_lines.specs.Sheets.{sheet_of, name_of}
 
--- the tree of a formula
-abbrev pub tree_of : Content → Option Node
-tree_of Empty = None
-tree_of (Number number) = None
-tree_of (Boolean truth) = None
-tree_of (Error error) = None
-tree_of (Text text) = None
-tree_of (Formula tree) = Some tree
-tree_of (Dynamic tree) = Some tree
+-- what the lines of an axis have of their own on a sheet
+abbrev pub lines_of : Along → Sheet → FinMap int_cmp LineAttr
+lines_of a sheet = if a.of true false then sheet.rows else sheet.columns
 
--- a tree that goes from a place to a place, and back
-abbrev pub there_and_back : Way → Position → Position → Node → Node
-there_and_back w from to tree = tree_followed (back w) to from (tree_followed w from to tree)
+-- of a sheet, if there is one
+abbrev pub of_sheet : {K X : Type 0} {R : K → K → Ordering} → (Sheet → FinMap R X) → Option Sheet → FinMap R X
+of_sheet entries_of None = empty
+of_sheet entries_of (Some sheet) = entries_of sheet
 
--- a tree, unless it is what comes back
-unfoldable pub unless_back : Node → Node → Option Node
-unless_back back tree = if same_value the_row.coded back tree then None else Some tree
+-- a place of the sheet of an id
+abbrev pub place_on : ℕ → Position → SheetPlace
+place_on id place = record { sheet = id; place = place }
 
--- the tree of a formula that goes somewhere, where going back does not give it
-unfoldable pub kept_tree : Way → Position → Cell → Option Node
-kept_tree w from cell = if_there (place_goes w from) (λ to. if_there (tree_of cell.content) (λ tree. unless_back (there_and_back w from to tree) tree))
+-- trees under their places on the sheet of an id
+unfoldable pub trees_under : ℕ → FinMap position_cmp Node → FinMap sheet_place_cmp Node
+trees_under id trees = from_entries (map (λ e. (place_on id e.0, e.1)) (entries trees))
 
--- these trees of a sheet, at their places before the edit
-unfoldable pub kept_trees : Way → FinMap position_cmp Cell → FinMap position_cmp Node
-kept_trees w cells = parts_map (place_goes w) (kept_tree w) cells
-
--- whether a map has no entry
-abbrev pub is_empty : {X : Type 0} → FinMap position_cmp X → Bool
-is_empty m = length (entries m) == 0
-
--- a map, if it has an entry
-abbrev pub if_any : {X : Type 0} → FinMap position_cmp X → Option (FinMap position_cmp X)
-if_any m = if is_empty m then None else Some m
-
--- the trees kept of a sheet, if there are any
-abbrev pub sheet_kept : Along → EditKind → ℕ → List ℕ → Sheet → Option (FinMap position_cmp Node)
-sheet_kept a e id edited sheet = if_any (kept_trees (way_of a e id edited sheet) sheet.cells)
+-- the trees kept of a sheet's formulas that go somewhere, under their places before
+abbrev pub trees_kept : Along → LineMoves → ℕ → List ℕ → Sheet → FinMap position_cmp Node
+trees_kept a m id edited sheet = places_parts cell_part (way_of a m id edited sheet) sheet.cells
 
 -- those of each sheet, under its id
-unfoldable pub kept_formulas : Along → EditKind → ℕ → List ℕ → List Sheet → FinMap nat_cmp (FinMap position_cmp Node)
-kept_formulas a e id edited sheets = fold (λ kept sheet. with_entry kept sheet.id (sheet_kept a e id edited sheet)) empty sheets
+unfoldable pub formulas_kept : Along → LineMoves → ℕ → List ℕ → List Sheet → FinMap sheet_place_cmp Node
+formulas_kept a m id edited sheets = fold (λ kept sheet. overlaid (trees_under sheet.id (trees_kept a m id edited sheet)) kept) empty sheets
 
--- the cells of a sheet whose lines are lost
-abbrev pub lost_cells : Along → EditKind → Option Sheet → FinMap position_cmp Cell
-lost_cells a e None = empty
-lost_cells a e (Some sheet) = lost_map (place_image a e) sheet.cells
-
--- its links whose lines are lost
-abbrev pub lost_links : Along → EditKind → Option Sheet → FinMap position_cmp Link
-lost_links a e None = empty
-lost_links a e (Some sheet) = lost_map (place_image a e) sheet.links
-
--- what its lost rows had
-abbrev pub lost_rows : Along → EditKind → Option Sheet → FinMap int_cmp RowAttr
-lost_rows a e None = empty
-lost_rows a e (Some sheet) = lost_map (line_image a e (are_rows a)) sheet.rows
-
--- what its lost columns had
-abbrev pub lost_columns : Along → EditKind → Option Sheet → FinMap int_cmp ColumnAttr
-lost_columns a e None = empty
-lost_columns a e (Some sheet) = lost_map (line_image a e (are_columns a)) sheet.columns
-
--- what is kept of a workbook whose sheet of an id is edited
-abbrev pub kept_lines : Along → EditKind → ℕ → Book → KeptLines
-kept_lines a e id book = record {
-  cells = lost_cells a e (sheet_of book id);
-  links = lost_links a e (sheet_of book id);
-  rows = lost_rows a e (sheet_of book id);
-  columns = lost_columns a e (sheet_of book id);
-  formulas = kept_formulas a e id (name_of (sheet_of book id)) book.worksheets;
+-- the cells, the links and the attributes of the edited sheet's lines that go nowhere, and the trees of the other formulas that the way
+-- back does not give
+abbrev pub lines_kept : Along → LineMoves → ℕ → Book → KeptLines
+lines_kept a m id book = record {
+  cells = of_sheet (λ sheet. lost_map (place_image a m.to) sheet.cells) (sheet_of book id);
+  links = of_sheet (λ sheet. lost_map (place_image a m.to) sheet.links) (sheet_of book id);
+  lines = of_sheet (λ sheet. lost_map m.to (lines_of a sheet)) (sheet_of book id);
+  formulas = formulas_kept a m id (name_of (sheet_of book id)) book.worksheets;
 }
+
+-- what is kept of a workbook at an edit of the lines of the sheet of an id
+abbrev pub kept_lines : Along → EditKind → ℕ → Book → KeptLines
+kept_lines a e id book = lines_kept a (edit_moves a.last e) id book

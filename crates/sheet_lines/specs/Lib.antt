@@ -1,5 +1,4 @@
-pub mod SheetIds
-pub mod Way
+pub mod Sheets
 pub mod Followed
 pub mod Kept
 pub mod KeptNumbers

@@ -1,5 +1,6 @@
 pub mod KeptEquals
 pub mod MovedNumbers
+pub mod Each
+pub mod Stays
+pub mod Under
 pub mod Regained
-pub mod Kept
-pub mod Way

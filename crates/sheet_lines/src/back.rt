@@ -1,197 +1,159 @@
-ghost use Rattle.std.specs.Prelude.{◌≡◌, IfOk, IsOkUnless, IsTrue, is_some, map};
-ghost use Rattle.std.specs.FinMap.{empty, get};
+ghost use Rattle.std.specs.Prelude.{◌≡◌, map, IfOk, IsOkUnless, IsTrue, is_some};
+ghost use Rattle.std.specs.List.{AllByRecursion};
+ghost use Rattle.std.specs.FinMap.{get};
 ghost use Rattle.base_values.specs.declared.EditError.TheVariants.{NoMemory};
+ghost use Rattle.line_map.specs.Attributes.{LinesLie, lines_restored};
 ghost use Rattle.line_map.specs.Edit.{IsValid};
-ghost use Rattle.sheet_grid.specs.KeptCell.{KeptCells};
-ghost use Rattle.sheet_lines.specs.Way.{way, back, place_goes, line_goes};
-ghost use Rattle.sheet_lines.specs.Followed.{sheet_of};
-ghost use Rattle.sheet_lines.specs.KeptNumbers.{AreKeptTrees, AreKeptLines};
-ghost use Rattle.sheet_lines.specs.Back.{cells_back, moved_back, lost_of, or_empty, sheet_back, book_back};
+ghost use Rattle.line_map.specs.Maps.{KeysInside};
+ghost use Rattle.line_map.specs.Way.{way};
+ghost use Rattle.sheet_lines.specs.Back.{LieInside, ArePlacedLines, sheet_back, book_back};
+ghost use Rattle.sheet_lines.specs.Followed.{way_on};
+ghost use Rattle.sheet_lines.specs.Kept.{place_on};
+ghost use Rattle.sheet_lines.specs.KeptNumbers.{AreKeptLines};
+ghost use Rattle.sheet_lines.specs.Sheets.{sheet_of, IsPlacedSheet, IsPlacedBook};
 
-use crate::entries::{moved_entries, overlaid_entries};
-use crate::following::followed_cells;
+use crate::edited_sheet::EditedSheet;
+use crate::followed::edited_by;
+use crate::inside::{lines_inside, places_inside};
 use crate::kept::KeptLines;
-use crate::lines::{are_columns, are_rows, moved_lines, overlaid_lines};
-use crate::overlays::RegainedCells;
-use crate::sheet_edit::{SheetEdit, back};
-use crate::sheets::{meeting, name_of};
-use base_axis::{Axis, LineMap};
+use crate::sheets::route_on;
+use base_axis::{Axis, AxisMap};
+use base_maps::{SheetPlace, SheetPlaceMap};
 use base_shared::Shared;
-use base_values::{EditError, Exact, Items, PlaceMap};
+use base_values::{EditError, Items, PlaceMap, Position, copy_of};
 use formula_tree::Node;
-use line_map::{Copied, LineEdit, lay};
-use sheet_grid::{Cell, Link, Workbook, Worksheet};
+use line_map::{Follower, LineEdit, LineMap, Parts, Route, overlaid_places, restored_places};
+use sheet_grid::{Cell, LineAttr, Link, Workbook, Worksheet};
 use std::alloc::Global;
 
-/// The cells of a sheet taken back, with the kept trees and the lost cells.
-#[tactic(auto, unfolding(crate::specs::Back::cells_back, line_map::specs::Carried::regain_map))]
-fn cells_back<A: Axis>(
-    alloc: Global,
-    by: &SheetEdit<'_, A>,
-    lost: &PlaceMap<Shared<Cell>>,
-    trees: &PlaceMap<Shared<Node>>,
-    cells: &PlaceMap<Shared<Cell>>,
-) -> Result<PlaceMap<Shared<Cell>>, EditError>
-    requires { IsValid A.along.last by.now.edit.kind }
-    ensures cells { IfOk result (λ made. made ≡ cells_back (way A.along by.now.edit.kind by.now.own.now by.now.edited.now by.now.is_edited) lost.now trees.now cells.now) }
-    ensures only { IsOkUnless result NoMemory }
-{
-    let made = followed_cells(alloc, &back(by), cells)?;
-    let (by, followed) = (*by, cells);
-    let places = trees.places(alloc)?;
-    let regained = RegainedCells {
-        by,
-        followed,
-        trees,
-    };
-    let made = lay(&regained, alloc, places.as_slice(), made)?;
-    let places = lost.places(alloc)?;
-    lay(&Copied { map: lost }, alloc, places.as_slice(), made)
+/// The kept trees of the sheet of an id.
+#[derive(Drop)]
+struct SheetTrees<'k> {
+    formulas: &'k SheetPlaceMap<Shared<Node>>,
+    id: u32,
 }
 
-/// The trees kept of a sheet, or none.
-fn trees_of<'a>(
-    kept: &'a KeptLines,
-    none: &'a PlaceMap<Shared<Node>>,
-    id: u32,
-) -> &'a PlaceMap<Shared<Node>>
-    requires none { none.now ≡ empty }
-    requires numbers { AreKeptLines kept.now }
-    ensures trees { result.now ≡ or_empty (get kept.now.formulas id) }
-    ensures numbers { AreKeptTrees result.now }
-{
-    match kept.formulas.get(id) {
-        Some(trees) => trees,
-        None => none,
+impl<'k> Parts for SheetTrees<'k> {
+    ghost use Rattle.std.specs.FinMap.{get};
+    ghost use Rattle.sheet_lines.specs.Kept.{place_on};
+
+    type Part = Shared<Node>;
+
+    ghost part_at = { λ s place. get s.formulas.now (place_on s.id place) };
+
+    fn part(&self, place: Position) -> Option<&Shared<Node>> {
+        let sheet = self.id;
+        self.formulas.get(SheetPlace { sheet, place })
     }
 }
 
-/// The lost cells, if the sheet is the edited one.
-fn lost_of<'a>(
-    kept: &'a KeptLines,
-    none: &'a PlaceMap<Shared<Cell>>,
-    is_edited: bool,
-) -> &'a PlaceMap<Shared<Cell>>
-    requires none { none.now ≡ empty }
-    requires numbers { AreKeptLines kept.now }
-    ensures cells { result.now ≡ lost_of is_edited kept.now.cells }
-    ensures numbers { KeptCells result.now }
-{
-    if is_edited { &kept.cells } else { none }
-}
-
-/// The cells of a sheet taken back with what was kept.
-fn sheet_cells_back<A: Axis>(
+/// The cells of a sheet taken back, with the kept trees and, on the edited sheet, the lost cells.
+fn cells_back<A: Axis, M: LineMap<A>>(
     alloc: Global,
-    by: &SheetEdit<'_, A>,
+    route: &Route<'_, A, M>,
     kept: &KeptLines,
     sheet: &Worksheet,
 ) -> Result<PlaceMap<Shared<Cell>>, EditError>
-    requires valid { IsValid A.along.last by.now.edit.kind }
-    requires numbers { AreKeptLines kept.now }
-    ensures cells { IfOk result (λ made. made ≡ cells_back (way A.along by.now.edit.kind by.now.own.now by.now.edited.now by.now.is_edited) (lost_of by.now.is_edited kept.now.cells) (or_empty (get kept.now.formulas sheet.now.id)) sheet.now.cells) }
-    ensures numbers { IfOk result KeptCells }
+    requires placed { IsPlacedSheet sheet.now }
+    requires inside { KeysInside kept.now.cells }
+    ensures cells { IfOk result (λ made. made ≡ (sheet_back (way route.now) kept.now sheet.now).cells) }
     ensures only { IsOkUnless result NoMemory }
 {
-    let (no_cells, no_trees) = (PlaceMap::new(alloc), PlaceMap::new(alloc));
-    let lost = lost_of(kept, &no_cells, by.is_edited);
-    let trees = trees_of(kept, &no_trees, sheet.get_sheet_id());
-    cells_back(alloc, by, lost, trees, sheet.cell_map())
+    let (cells, id) = (sheet.cell_map(), sheet.get_sheet_id());
+    places_inside(cells);
+    let formulas = &kept.formulas;
+    let cells = restored_places(alloc, route, &SheetTrees { formulas, id }, cells)?;
+    if route.is_edited {
+        overlaid_places(&kept.cells, cells)
+    } else {
+        Ok(cells)
+    }
 }
 
-/// Links that go back, on the edited sheet with the lost ones.
-#[tactic(auto, unfolding(crate::specs::Back::moved_back))]
-fn links_back<A: Axis>(
+/// The links of a sheet taken back, on the edited sheet with the lost ones.
+fn links_back<A: Axis, M: LineMap<A>>(
     alloc: Global,
-    by: &SheetEdit<'_, A>,
-    lost: &PlaceMap<Link>,
-    links: &PlaceMap<Link>,
+    route: &Route<'_, A, M>,
+    kept: &KeptLines,
+    sheet: &Worksheet,
 ) -> Result<PlaceMap<Link>, EditError>
-    requires { IsValid A.along.last by.now.edit.kind }
-    ensures links { IfOk result (λ made. made ≡ moved_back (place_goes (back (way A.along by.now.edit.kind by.now.own.now by.now.edited.now by.now.is_edited))) by.now.is_edited lost.now links.now) }
+    requires { KeysInside kept.now.links }
+    ensures links { IfOk result (λ made. made ≡ (sheet_back (way route.now) kept.now sheet.now).links) }
     ensures only { IsOkUnless result NoMemory }
 {
-    let moved = moved_entries(alloc, &back(by), links)?;
-    if by.is_edited {
-        overlaid_entries(alloc, lost, moved)
+    let links = sheet.link_map();
+    places_inside(links);
+    let links = links.carry(alloc, &route.back())?;
+    if route.is_edited {
+        overlaid_places(&kept.links, links)
     } else {
-        Ok(moved)
+        Ok(links)
     }
 }
 
-/// What lines have goes back, on the edited sheet with what the lost ones had.
-#[tactic(auto, unfolding(crate::specs::Back::moved_back))]
-fn lines_back<A: Axis, B: Axis, V: Exact + Drop>(
+/// What the lines of an axis have, taken back on the edited axis of the edited sheet.
+fn lines_back<A: Axis, B: Axis, M: LineMap<A>>(
     alloc: Global,
-    by: &SheetEdit<'_, A>,
-    is_along: bool,
-    lost: &LineMap<B, V>,
-    lines: &LineMap<B, V>,
-) -> Result<LineMap<B, V>, EditError>
-    requires valid { IsValid A.along.last by.now.edit.kind }
-    requires same { IsTrue is_along → A.along.last ≡ B.along.last }
-    ensures lines { IfOk result (λ made. made ≡ moved_back (line_goes (back (way A.along by.now.edit.kind by.now.own.now by.now.edited.now by.now.is_edited)) is_along) by.now.is_edited lost.now lines.now) }
+    route: &Route<'_, A, M>,
+    kept: &KeptLines,
+    lines: &AxisMap<B, LineAttr>,
+) -> Result<AxisMap<B, LineAttr>, EditError>
+    requires { LinesLie A.along kept.now.lines }
+    ensures lines { IfOk result (λ made. made ≡ lines_restored B.along (way route.now) lines.now kept.now.lines) }
     ensures only { IsOkUnless result NoMemory }
 {
-    let moved = moved_lines(alloc, &back(by), is_along, lines)?;
-    if by.is_edited {
-        overlaid_lines(alloc, lost, moved)
-    } else {
-        Ok(moved)
+    if !route.is_edited || !A::of(B::of(true, false), B::of(false, true)) {
+        return copy_of(lines);
     }
+    lines_inside(lines);
+    lines.restore(alloc, route, &kept.lines)
 }
 
-/// A sheet taken back, where an edit of the sheet of an id, which has that name, was made.
-fn sheet_back<A: Axis>(
+/// A sheet taken back: each part of it is restored.
+fn sheet_back<A: Axis, M: LineMap<A>>(
     alloc: Global,
-    edit: &LineEdit<A>,
-    id: u32,
-    edited: &str,
+    edited: &EditedSheet<'_, A, M>,
     kept: &KeptLines,
     sheet: &Worksheet,
 ) -> Result<Worksheet, EditError>
-    requires valid { IsValid A.along.last edit.now.kind }
+    requires placed { IsPlacedSheet sheet.now }
     requires numbers { AreKeptLines kept.now }
-    ensures sheet { IfOk result (λ made. made ≡ sheet_back A.along edit.now.kind id edited.now kept.now sheet.now) }
+    requires inside { LieInside A.along kept.now }
+    ensures sheet { IfOk result (λ made. made ≡ sheet_back (way_on edited.now sheet.now) kept.now sheet.now) }
     ensures only { IsOkUnless result NoMemory }
 {
-    let by = meeting(edit, id, edited, sheet);
-    let cells = sheet_cells_back(alloc, &by, kept, sheet)?;
-    let links = links_back(alloc, &by, &kept.links, sheet.link_map())?;
-    let rows = lines_back(alloc, &by, are_rows::<A>(), &kept.rows, sheet.row_map())?;
-    let columns = lines_back(
-        alloc,
-        &by,
-        are_columns::<A>(),
-        &kept.columns,
-        sheet.column_map(),
-    )?;
+    let route = route_on(edited, sheet);
+    let _ = sheet.cell_map(); // for the proof: its numbers are kept
+    let cells = cells_back(alloc, &route, kept, sheet)?;
+    let links = links_back(alloc, &route, kept, sheet)?;
+    let rows = lines_back(alloc, &route, kept, sheet.row_map())?;
+    let columns = lines_back(alloc, &route, kept, sheet.column_map())?;
     sheet.with_entries(cells, links, rows, columns)
 }
 
-fn sheets_back<A: Axis>(
+fn sheets_back<A: Axis, M: LineMap<A>>(
     alloc: Global,
-    edit: &LineEdit<A>,
-    id: u32,
-    edited: &str,
+    edited: &EditedSheet<'_, A, M>,
     kept: &KeptLines,
     sheets: &[Worksheet],
 ) -> Result<Items<Worksheet>, EditError>
-    requires valid { IsValid A.along.last edit.now.kind }
+    requires placed { AllByRecursion IsPlacedSheet sheets.now }
     requires numbers { AreKeptLines kept.now }
-    ensures sheets { IfOk result (λ made. made ≡ map (sheet_back A.along edit.now.kind id edited.now kept.now) sheets.now) }
+    requires inside { LieInside A.along kept.now }
+    ensures sheets { IfOk result (λ made. made ≡ map (λ sheet. sheet_back (way_on edited.now sheet) kept.now sheet) sheets.now) }
     ensures only { IsOkUnless result NoMemory }
 {
     let mut made = Items::empty(alloc);
     for sheet in sheets {
-        made.push(sheet_back(alloc, edit, id, edited, kept, sheet)?)?;
+        made.push(sheet_back(alloc, edited, kept, sheet)?)?;
     }
     Ok(made)
 }
 
-/// Takes back the lines that `line_edit` inserted or deleted in the sheet of an id: each place of
-/// the sheet goes back, each formula follows or is the kept one, and the kept cells are put back.
-/// Only want of memory is refused. docs/MODEL.md has the rules.
+/// Takes back what `line_edit` did to the lines of the sheet of an id: each place of the sheet goes
+/// back, each formula follows or is the kept one, and the lost cells, links and attributes are put
+/// back. The keys of what is kept, and the corners of the workbook's formulas, lie inside the
+/// sheet. `NoMemory` is the only error. docs/MODEL.md has the rules.
 pub fn line_back<A: Axis>(
     alloc: Global,
     workbook: &Workbook,
@@ -201,12 +163,15 @@ pub fn line_back<A: Axis>(
 ) -> Result<Workbook, EditError>
     requires valid { IsValid A.along.last edit.now.kind }
     requires there { IsTrue (is_some (sheet_of workbook.now sheet_id)) }
+    requires placed { IsPlacedBook workbook.now }
     requires numbers { AreKeptLines kept.now }
+    requires inside { LieInside A.along kept.now }
     ensures workbook { IfOk result (λ made. made ≡ book_back A.along edit.now.kind sheet_id kept.now workbook.now) }
+    ensures placed { ArePlacedLines kept.now → IfOk result IsPlacedBook }
     ensures only { IsOkUnless result NoMemory }
 {
-    let edited = name_of(workbook, sheet_id);
-    let sheets = workbook.worksheets();
-    let made = sheets_back(alloc, edit, sheet_id, edited, kept, sheets)?;
+    let opposite = edit.opposite();
+    let edited = edited_by(workbook, sheet_id, edit, &opposite);
+    let made = sheets_back(alloc, &edited, kept, workbook.worksheets())?;
     workbook.with_worksheets(made)
 }

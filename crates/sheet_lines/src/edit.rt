@@ -1,22 +1,60 @@
 ghost use Rattle.std.specs.Prelude.{◌≡◌, IfOk, IsOkUnless, IsTrue, is_some};
 ghost use Rattle.base_values.specs.declared.EditError.TheVariants.{NoMemory};
 ghost use Rattle.line_map.specs.Edit.{IsValid};
-ghost use Rattle.sheet_lines.specs.Followed.{sheet_of, book_followed};
-ghost use Rattle.sheet_lines.specs.Kept.{kept_lines};
+ghost use Rattle.sheet_lines.specs.Back.{LieInside};
+ghost use Rattle.sheet_lines.specs.Followed.{book_followed};
+ghost use Rattle.sheet_lines.specs.Kept.{kept_lines, lines_kept};
 ghost use Rattle.sheet_lines.specs.KeptNumbers.{AreKeptLines};
+ghost use Rattle.sheet_lines.specs.Sheets.{sheet_of, name_of, IsPlacedBook};
 
-use crate::following::followed_book;
-use crate::keeping_sheets::kept_lines;
+use crate::edited_sheet::EditedSheet;
+use crate::followed::{edited_by, followed_book};
+use crate::inside::{lines_inside, places_inside};
+use crate::keeping::{kept_formulas, lost_attributes};
 use crate::kept::KeptLines;
+use crate::sheets::{route_on, sheet_of};
 use base_axis::Axis;
 use base_values::EditError;
-use line_map::LineEdit;
+use line_map::{LineEdit, LineMap, lost_places};
 use sheet_grid::Workbook;
 use std::alloc::Global;
 
-/// Inserts or deletes lines of the sheet of an id. Its cells go where their lines go, the formulas
-/// of all sheets follow, and all else stays. Answers the workbook, and what taking the lines back
-/// does not give (`line_back`). Only want of memory is refused. docs/MODEL.md has the rules.
+/// What is kept of a workbook whose sheet of an id is edited.
+fn kept_lines<A: Axis, M: LineMap<A>>(
+    alloc: Global,
+    edited: &EditedSheet<'_, A, M>,
+    workbook: &Workbook,
+) -> Result<KeptLines, EditError>
+    requires there { IsTrue (is_some (sheet_of workbook.now edited.now.id)) }
+    requires name { edited.now.name.now ≡ name_of (sheet_of workbook.now edited.now.id) }
+    requires placed { IsPlacedBook workbook.now }
+    ensures kept { IfOk result (λ kept. kept ≡ lines_kept A.along (M.moves edited.now.map.now) edited.now.id workbook.now) }
+    ensures numbers { IfOk result AreKeptLines }
+    ensures inside { IfOk result (LieInside A.along) }
+    ensures only { IsOkUnless result NoMemory }
+{
+    let formulas = kept_formulas(alloc, edited, workbook.worksheets())?;
+    let Some(sheet) = sheet_of(workbook, edited.id) else {
+        unreachable!()
+    };
+    let route = route_on(edited, sheet);
+    let (cells, links) = (sheet.cell_map(), sheet.link_map());
+    places_inside(cells);
+    places_inside(links);
+    lines_inside(sheet.row_map());
+    lines_inside(sheet.column_map());
+    Ok(KeptLines {
+        cells: lost_places(alloc, &route, cells)?,
+        links: lost_places(alloc, &route, links)?,
+        lines: lost_attributes(alloc, edited, sheet)?,
+        formulas,
+    })
+}
+
+/// Inserts, deletes or moves lines of the sheet of an id. Its cells, links and attributes go where
+/// their lines go, the formulas of all sheets follow, and all else stays. Returns the workbook, and
+/// what taking the lines back does not give (`line_back`). The corners of the workbook's formulas
+/// lie inside the sheet. `NoMemory` is the only error. docs/MODEL.md has the rules.
 pub fn line_edit<A: Axis>(
     alloc: Global,
     workbook: &Workbook,
@@ -25,12 +63,17 @@ pub fn line_edit<A: Axis>(
 ) -> Result<(Workbook, KeptLines), EditError>
     requires valid { IsValid A.along.last edit.now.kind }
     requires there { IsTrue (is_some (sheet_of workbook.now sheet_id)) }
+    requires placed { IsPlacedBook workbook.now }
     ensures workbook { IfOk result (λ made. made.0 ≡ book_followed A.along edit.now.kind sheet_id workbook.now) }
+    ensures placed { IfOk result (λ made. IsPlacedBook made.0) }
     ensures kept { IfOk result (λ made. made.1 ≡ kept_lines A.along edit.now.kind sheet_id workbook.now) }
     ensures numbers { IfOk result (λ made. AreKeptLines made.1) }
+    ensures inside { IfOk result (λ made. LieInside A.along made.1) }
     ensures only { IsOkUnless result NoMemory }
 {
-    let kept = kept_lines(alloc, workbook, sheet_id, edit)?;
+    let opposite = edit.opposite();
+    let edited = edited_by(workbook, sheet_id, edit, &opposite);
+    let kept = kept_lines(alloc, &edited, workbook)?;
     let followed = followed_book(alloc, workbook, sheet_id, edit)?;
     Ok((followed, kept))
 }

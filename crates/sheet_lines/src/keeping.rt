@@ -1,88 +1,90 @@
-ghost use Rattle.std.specs.Prelude.{◌≡◌, IfOk, IsOkUnless};
-ghost use Rattle.base_values.specs.Places.{IsPlace};
+ghost use Rattle.std.specs.Prelude.{◌≡◌, IfOk, IsOkUnless, OnOk};
+ghost use Rattle.std.specs.List.{AllByRecursion};
 ghost use Rattle.base_values.specs.declared.EditError.TheVariants.{NoMemory};
-ghost use Rattle.line_map.specs.Edit.{IsValid};
-ghost use Rattle.sheet_lines.specs.Way.{way};
-ghost use Rattle.sheet_lines.specs.Kept.{there_and_back, unless_back, kept_tree};
+ghost use Rattle.line_map.specs.Carried.{lost_map, overlaid};
+ghost use Rattle.sheet_lines.specs.Kept.{lines_of, trees_under, trees_kept, formulas_kept};
+ghost use Rattle.sheet_lines.specs.KeptNumbers.{AreKeptFormulas};
+ghost use Rattle.sheet_lines.specs.Sheets.{IsPlacedSheet};
 
-use crate::contents::tree_of;
-use crate::sheet_edit::{SheetEdit, back, followed_tree, place_goes};
+use crate::edited_sheet::EditedSheet;
+use crate::inside::places_inside;
+use crate::sheets::route_on;
 use base_axis::Axis;
+use base_maps::{NumberMap, PositionMap, SheetPlace, SheetPlaceMap};
 use base_shared::Shared;
-use base_values::{EditError, Position, copy_of};
+use base_values::{EditError, copy_of};
 use formula_tree::Node;
-use line_map::carried_comes_back;
-use sheet_grid::Cell;
+use line_map::{LineMap, kept_parts, lost_lines, lost_places};
+use sheet_grid::{LineAttr, Worksheet};
 use std::alloc::Global;
 
-/// A tree that goes from a place to a place, and back.
-fn there_and_back<A: Axis>(
+/// What the lines of the edited axis that go nowhere have of their own.
+pub(crate) fn lost_attributes<A: Axis, M: LineMap<A>>(
     alloc: Global,
-    by: &SheetEdit<'_, A>,
-    from: Position,
-    to: Position,
-    tree: &Shared<Node>,
-) -> Result<Shared<Node>, EditError>
-    requires valid { IsValid A.along.last by.now.edit.kind }
-    requires from { IsPlace from }
-    requires to { IsPlace to }
-    ensures tree { IfOk result (λ back. back ≡ there_and_back (way A.along by.now.edit.kind by.now.own.now by.now.edited.now by.now.is_edited) from to tree.now) }
+    edited: &EditedSheet<'_, A, M>,
+    sheet: &Worksheet,
+) -> Result<NumberMap<LineAttr>, EditError>
+    ensures lines { IfOk result (λ lost. lost ≡ lost_map (M.moves edited.now.map.now).to (lines_of A.along sheet.now)) }
     ensures only { IsOkUnless result NoMemory }
 {
-    let there = followed_tree(alloc, by, from, to, tree)?;
-    followed_tree(alloc, &back(by), to, from, &there)
+    if A::of(true, false) {
+        lost_lines(alloc, edited.map, sheet.row_map())
+    } else {
+        lost_lines(alloc, edited.map, sheet.column_map())
+    }
 }
 
-/// A copy of a tree, unless it is what comes back.
-#[tactic(auto, unfolding(crate::specs::Kept::unless_back))]
-fn unless_back(back: &Shared<Node>, tree: &Shared<Node>) -> Result<Option<Shared<Node>>, EditError>
-    ensures kept { IfOk result (λ kept. kept ≡ unless_back back.now tree.now) }
+/// Keeps trees under their places on the sheet of an id.
+fn keep_trees(
+    id: u32,
+    trees: &PositionMap<Shared<Node>>,
+    kept: &mut SheetPlaceMap<Shared<Node>>,
+) -> Result<(), EditError>
+    ensures kept { OnOk result (kept.new ≡ overlaid (trees_under id trees.now) kept.old) }
     ensures only { IsOkUnless result NoMemory }
 {
-    if back == tree {
-        return Ok(None);
+    for (place, tree) in trees.iter() {
+        let key = SheetPlace {
+            sheet: id,
+            place: *place,
+        };
+        kept.put(key, Some(copy_of(tree)?))?;
     }
-    Ok(Some(copy_of(tree)?))
+    Ok(())
 }
 
-/// What is kept of a tree that goes from a place to a place. Its corners tell of most trees that
-/// nothing is; any other is tried.
-#[tactic(auto, using(crate::specs::laws::Kept::nothing_kept))]
-fn kept_of<A: Axis>(
+/// The trees of a sheet's formulas that go somewhere and that the way back does not give, under
+/// their places before.
+fn sheet_trees<A: Axis, M: LineMap<A>>(
     alloc: Global,
-    by: &SheetEdit<'_, A>,
-    from: Position,
-    to: Position,
-    tree: &Shared<Node>,
-) -> Result<Option<Shared<Node>>, EditError>
-    requires valid { IsValid A.along.last by.now.edit.kind }
-    requires from { IsPlace from }
-    requires to { IsPlace to }
-    ensures kept { IfOk result (λ kept. kept ≡ unless_back (there_and_back (way A.along by.now.edit.kind by.now.own.now by.now.edited.now by.now.is_edited) from to tree.now) tree.now) }
+    edited: &EditedSheet<'_, A, M>,
+    sheet: &Worksheet,
+) -> Result<PositionMap<Shared<Node>>, EditError>
+    requires { IsPlacedSheet sheet.now }
+    ensures trees { IfOk result (λ trees. trees ≡ trees_kept A.along (M.moves edited.now.map.now) edited.now.id edited.now.name.now sheet.now) }
+    ensures numbers { IfOk result AreKeptFormulas }
     ensures only { IsOkUnless result NoMemory }
 {
-    if carried_comes_back(&by.edit, by.own, by.edited, by.is_own, from, to, tree.get()) {
-        return Ok(None);
-    }
-    let back = there_and_back(alloc, by, from, to, tree)?;
-    unless_back(&back, tree)
+    let cells = sheet.cell_map();
+    places_inside(cells);
+    kept_parts(alloc, &route_on(edited, sheet), cells)
 }
 
-/// The tree of a formula that goes somewhere, where going back does not give it.
-#[tactic(auto, unfolding(crate::specs::Kept::kept_tree))]
-pub fn kept_tree<A: Axis>(
+/// Those of each sheet, under its id.
+pub(crate) fn kept_formulas<A: Axis, M: LineMap<A>>(
     alloc: Global,
-    by: &SheetEdit<'_, A>,
-    from: Position,
-    cell: &Shared<Cell>,
-) -> Result<Option<Shared<Node>>, EditError>
-    requires valid { IsValid A.along.last by.now.edit.kind }
-    requires from { IsPlace from }
-    ensures kept { IfOk result (λ kept. kept ≡ kept_tree (way A.along by.now.edit.kind by.now.own.now by.now.edited.now by.now.is_edited) from cell.now) }
+    edited: &EditedSheet<'_, A, M>,
+    sheets: &[Worksheet],
+) -> Result<SheetPlaceMap<Shared<Node>>, EditError>
+    requires { AllByRecursion IsPlacedSheet sheets.now }
+    ensures kept { IfOk result (λ kept. kept ≡ formulas_kept A.along (M.moves edited.now.map.now) edited.now.id edited.now.name.now sheets.now) }
+    ensures numbers { IfOk result AreKeptFormulas }
     ensures only { IsOkUnless result NoMemory }
 {
-    match (place_goes(by, from), tree_of(&cell.get().content)) {
-        (Some(to), Some(tree)) => kept_of(alloc, by, from, to, tree),
-        _ => Ok(None),
+    let mut kept = SheetPlaceMap::new(alloc);
+    for sheet in sheets {
+        let trees = sheet_trees(alloc, edited, sheet)?;
+        keep_trees(sheet.get_sheet_id(), &trees, &mut kept)?;
     }
+    Ok(kept)
 }

@@ -1,36 +1,34 @@
-ghost use Rattle.std.specs.Prelude.{◌≡◌};
-
-use crate::sheet_map::SheetMap;
-use base_axis::{ColumnAxis, LineMap, RowAxis};
+use base_maps::{NumberMap, PositionMap, SheetPlaceMap};
 use base_shared::Shared;
-use base_values::{Exact, PlaceMap};
+use base_values::Exact;
 use formula_tree::Node;
-use sheet_grid::{Cell, ColumnAttr, Link, RowAttr};
+use sheet_grid::{Cell, LineAttr, Link};
 use std::alloc::AllocError;
 
-/// What taking lines back does not give of a workbook. docs/MODEL.md has the rules.
+/// What taking a line edit back does not give of a workbook. docs/MODEL.md has the rules.
 #[derive(PartialEq, Eq, Drop)]
 pub struct KeptLines {
-    /// The cells of the edited sheet whose lines are lost.
-    pub cells: PlaceMap<Shared<Cell>>,
-    /// Its links whose lines are lost, and what its lost rows or columns had.
-    pub links: PlaceMap<Link>,
-    pub rows: LineMap<RowAxis, RowAttr>,
-    pub columns: LineMap<ColumnAxis, ColumnAttr>,
-    /// By sheet, the trees of the other formulas that do not come back, at their places before the
-    /// edit. A sheet without such a tree has no entry.
-    pub formulas: SheetMap<PlaceMap<Shared<Node>>>,
+    /// The cells of the edited sheet that are lost, by their positions before the edit.
+    pub cells: PositionMap<Shared<Cell>>,
+    /// Its links that are lost, by their positions before the edit.
+    pub links: PositionMap<Link>,
+    /// What its lost lines of the edited axis had of their own, by their numbers before the edit.
+    pub lines: NumberMap<LineAttr>,
+    /// The trees of the other formulas that do not come back, by the ids of their sheets and their
+    /// positions before the edit.
+    pub formulas: SheetPlaceMap<Shared<Node>>,
 }
 
 impl Clone for KeptLines {
-    ghost is_clone = { λ s r. r ≡ s };
+    ghost use Rattle.std.specs.Prelude.{◌≡◌};
+
+    ghost is_clone = { λ kept copy. copy ≡ kept };
 
     fn clone(&self) -> Result<KeptLines, AllocError> {
         Ok(KeptLines {
             cells: self.cells.clone()?,
             links: self.links.clone()?,
-            rows: self.rows.clone()?,
-            columns: self.columns.clone()?,
+            lines: self.lines.clone()?,
             formulas: self.formulas.clone()?,
         })
     }

@@ -1,16 +1,18 @@
-ghost use Rattle.std.specs.Prelude.{◌≡◌, None, Some, ℕ, ℤ, List};
-ghost use Rattle.std.specs.List.{All};
+ghost use Rattle.std.specs.Prelude.{◌≡◌, None, Some, ℕ, ℤ, List, cond, is_none};
+ghost use Rattle.std.specs.List.{AllByRecursion};
 ghost use Rattle.std.specs.FinMap.{get};
 ghost use Rattle.base_values.specs.declared.Position.{Position};
 ghost use Rattle.line_map.specs.Edit.{IsValid};
-ghost use Rattle.line_map.specs.Places.{place_image};
-ghost use Rattle.line_map.specs.Carried.{if_there, if_lost, moved_map};
+ghost use Rattle.line_map.specs.Carried.{if_there};
+ghost use Rattle.line_map.specs.Contents.{cell_carried, cell_part};
+ghost use Rattle.line_map.specs.Maps.{places_carried};
+ghost use Rattle.line_map.specs.Moves.{edit_moves, place_image};
+ghost use Rattle.line_map.specs.Way.{at, back, place_goes};
 ghost use Rattle.sheet_grid.specs.Sheet.{Sheet};
-ghost use Rattle.sheet_lines.specs.Way.{place_goes, line_image, line_goes, are_rows, are_columns, back};
-ghost use Rattle.sheet_lines.specs.Followed.{sheet_of, name_of, way_of, cell_followed, cells_followed, book_followed};
-ghost use Rattle.sheet_lines.specs.Kept.{kept_tree, kept_trees, lost_cells, lost_links, lost_rows, lost_columns, sheet_kept, kept_lines};
 ghost use Rattle.sheet_lines.specs.Back.{book_back};
-ghost use Rattle.sheet_lines.specs.SheetIds.{HasDistinctIds};
+ghost use Rattle.sheet_lines.specs.Followed.{way_of, book_followed};
+ghost use Rattle.sheet_lines.specs.Kept.{kept_lines, lines_of, place_on};
+ghost use Rattle.sheet_lines.specs.Sheets.{sheet_of, name_of, HasDistinctIds};
 
 use base_axis::Axis;
 use line_map::LineEdit;
@@ -28,31 +30,18 @@ pub fn edit_and_back<A: Axis>(workbook: &Workbook, sheet_id: u32, edit: &LineEdi
     let _ = edit;
 }
 
-/// What a sheet holds at a place afterwards, and what is kept of it: the cells, links, rows and
-/// columns on lines without an image and no others, and the trees of just those other formulas
-/// that do not come back.
-pub fn entries_of_sheets<A: Axis>(sheet_id: u32, edit: &LineEdit<A>)
-    requires { IsValid A.along.last edit.now.kind }
-    ensures followed { (edited : List ℕ) (sheet : Sheet) (q : Position) → get (cells_followed (way_of A.along edit.now.kind sheet_id edited sheet) sheet.cells) q ≡ if_there (place_goes (back (way_of A.along edit.now.kind sheet_id edited sheet)) q) (λ p. if_there (get sheet.cells p) (λ cell. Some (cell_followed (way_of A.along edit.now.kind sheet_id edited sheet) p cell))) }
-    ensures links { (edited : List ℕ) (sheet : Sheet) (q : Position) → get (moved_map (place_goes (way_of A.along edit.now.kind sheet_id edited sheet)) sheet.links) q ≡ if_there (place_goes (back (way_of A.along edit.now.kind sheet_id edited sheet)) q) (get sheet.links) }
-    ensures rows { (edited : List ℕ) (sheet : Sheet) (line : ℤ) → get (moved_map (line_goes (way_of A.along edit.now.kind sheet_id edited sheet) (are_rows A.along)) sheet.rows) line ≡ if_there (line_goes (back (way_of A.along edit.now.kind sheet_id edited sheet)) (are_rows A.along) line) (get sheet.rows) }
-    ensures columns { (edited : List ℕ) (sheet : Sheet) (line : ℤ) → get (moved_map (line_goes (way_of A.along edit.now.kind sheet_id edited sheet) (are_columns A.along)) sheet.columns) line ≡ if_there (line_goes (back (way_of A.along edit.now.kind sheet_id edited sheet)) (are_columns A.along) line) (get sheet.columns) }
-    ensures lost { (sheet : Sheet) (p : Position) → get (lost_cells A.along edit.now.kind (Some sheet)) p ≡ if_there (if_lost (place_image A.along edit.now.kind p) p) (get sheet.cells) }
-    ensures lost_links { (sheet : Sheet) (p : Position) → get (lost_links A.along edit.now.kind (Some sheet)) p ≡ if_there (if_lost (place_image A.along edit.now.kind p) p) (get sheet.links) }
-    ensures lost_rows { (sheet : Sheet) (line : ℤ) → get (lost_rows A.along edit.now.kind (Some sheet)) line ≡ if_there (if_lost (line_image A.along edit.now.kind (are_rows A.along) line) line) (get sheet.rows) }
-    ensures lost_columns { (sheet : Sheet) (line : ℤ) → get (lost_columns A.along edit.now.kind (Some sheet)) line ≡ if_there (if_lost (line_image A.along edit.now.kind (are_columns A.along) line) line) (get sheet.columns) }
-    ensures trees { (edited : List ℕ) (sheet : Sheet) (p : Position) → get (kept_trees (way_of A.along edit.now.kind sheet_id edited sheet) sheet.cells) p ≡ if_there (get sheet.cells p) (kept_tree (way_of A.along edit.now.kind sheet_id edited sheet) p) }
-{
-    let _ = sheet_id;
-    let _ = edit;
-}
-
-/// Of each sheet the trees that do not come back are kept under its id, if there are any; under no
-/// other id is anything kept.
-pub fn kept_under_ids<A: Axis>(workbook: &Workbook, sheet_id: u32, edit: &LineEdit<A>)
-    requires { HasDistinctIds workbook.now }
-    ensures sheets { All (λ sheet. get (kept_lines A.along edit.now.kind sheet_id workbook.now).formulas sheet.id ≡ sheet_kept A.along edit.now.kind sheet_id (name_of (sheet_of workbook.now sheet_id)) sheet) workbook.now.worksheets }
-    ensures others { (id : ℕ) → sheet_of workbook.now id ≡ None → get (kept_lines A.along edit.now.kind sheet_id workbook.now).formulas id ≡ None }
+/// What a sheet holds at a place afterwards, and what is kept of a workbook: the cells, links and
+/// attributes of the edited sheet's lines without an image and no others, and of each sheet the
+/// trees of just those other formulas that the way back does not give.
+pub fn entries_of_sheets<A: Axis>(workbook: &Workbook, sheet_id: u32, edit: &LineEdit<A>)
+    requires valid { IsValid A.along.last edit.now.kind }
+    requires distinct { HasDistinctIds workbook.now }
+    ensures cells { (edited : List ℕ) (sheet : Sheet) (q : Position) → get (places_carried cell_carried (way_of A.along (edit_moves A.along.last edit.now.kind) sheet_id edited sheet) sheet.cells) q ≡ if_there (place_goes (back (way_of A.along (edit_moves A.along.last edit.now.kind) sheet_id edited sheet)) q) (λ p. if_there (get sheet.cells p) (λ cell. Some (cell_carried (at (way_of A.along (edit_moves A.along.last edit.now.kind) sheet_id edited sheet) p q) cell))) }
+    ensures lost_cells { (sheet : Sheet) (p : Position) → sheet_of workbook.now sheet_id ≡ Some sheet → get (kept_lines A.along edit.now.kind sheet_id workbook.now).cells p ≡ cond (is_none (place_image A.along (edit_moves A.along.last edit.now.kind).to p)) (get sheet.cells p) None }
+    ensures lost_links { (sheet : Sheet) (p : Position) → sheet_of workbook.now sheet_id ≡ Some sheet → get (kept_lines A.along edit.now.kind sheet_id workbook.now).links p ≡ cond (is_none (place_image A.along (edit_moves A.along.last edit.now.kind).to p)) (get sheet.links p) None }
+    ensures lost_lines { (sheet : Sheet) (n : ℤ) → sheet_of workbook.now sheet_id ≡ Some sheet → get (kept_lines A.along edit.now.kind sheet_id workbook.now).lines n ≡ cond (is_none ((edit_moves A.along.last edit.now.kind).to n)) (get (lines_of A.along sheet) n) None }
+    ensures trees { AllByRecursion (λ sheet. (p : Position) → get (kept_lines A.along edit.now.kind sheet_id workbook.now).formulas (place_on sheet.id p) ≡ if_there (get sheet.cells p) (λ cell. if_there (place_goes (way_of A.along (edit_moves A.along.last edit.now.kind) sheet_id (name_of (sheet_of workbook.now sheet_id)) sheet) p) (λ q. cell_part (at (way_of A.along (edit_moves A.along.last edit.now.kind) sheet_id (name_of (sheet_of workbook.now sheet_id)) sheet) p q) cell))) workbook.now.worksheets }
+    ensures others { (id : ℕ) (p : Position) → sheet_of workbook.now id ≡ None → get (kept_lines A.along edit.now.kind sheet_id workbook.now).formulas (place_on id p) ≡ None }
 {
     let _ = workbook;
     let _ = sheet_id;

@@ -1,29 +1,24 @@
-//! Lines inserted and deleted in a workbook.
+//! Line edits of a workbook: the lines of one sheet are inserted, deleted or moved, and the
+//! formulas of all sheets follow.
 //!
-//! `line_edit` answers the workbook afterwards and what going back does not give; `line_back` takes
-//! the lines back with it; `followed_book` answers the workbook afterwards alone.
+//! A sheet and a workbook are composed from followers, so a further part of a sheet joins by its
+//! follower and a line for each of following, keeping and going back. `line_edit` returns the
+//! workbook afterwards and what going back does not give; `line_back` takes the lines back with it.
 #![tactic(auto)]
 
 mod back;
-mod contents;
 mod edit;
-mod entries;
-mod following;
+mod edited_sheet;
+mod followed;
+mod inside;
 mod keeping;
-mod keeping_sheets;
 mod kept;
 mod laws;
-mod lines;
-mod overlays;
-mod sheet_edit;
-mod sheet_map;
 mod sheets;
 
 pub use back::line_back;
-pub use contents::tree_of;
 pub use edit::line_edit;
-pub use following::followed_book;
+pub use followed::followed_book;
 pub use kept::KeptLines;
-pub use laws::{edit_and_back, entries_of_sheets, kept_under_ids};
-pub use sheet_map::SheetMap;
+pub use laws::{edit_and_back, entries_of_sheets};
 pub use sheets::{has_sheet, sheet_of};

@@ -1,15 +1,18 @@
 ghost use Rattle.std.specs.Prelude.{◌≡◌, is_some};
 ghost use Rattle.std.specs.Option.{option_copied};
-ghost use Rattle.sheet_lines.specs.Followed.{sheet_of, name_of, way_of};
-ghost use Rattle.sheet_lines.specs.Way.{way};
+ghost use Rattle.line_map.specs.Way.{IsWay, way};
+ghost use Rattle.sheet_lines.specs.Followed.{way_on};
+ghost use Rattle.sheet_lines.specs.Sheets.{sheet_of, name_of};
 
-use crate::sheet_edit::SheetEdit;
+use crate::edited_sheet::EditedSheet;
 use base_axis::Axis;
 use base_tables::same_by_folding;
-use line_map::LineEdit;
+use base_values::Position;
+use line_map::{LineMap, Route};
 use sheet_grid::{Workbook, Worksheet};
+use std::marker::PhantomData;
 
-/// The sheet of an id.
+/// The sheet of an id, if there is one.
 pub fn sheet_of(workbook: &Workbook, id: u32) -> Option<&Worksheet>
     ensures { option_copied result ≡ sheet_of workbook.now id }
 {
@@ -19,15 +22,15 @@ pub fn sheet_of(workbook: &Workbook, id: u32) -> Option<&Worksheet>
         .find(|sheet| sheet.get_sheet_id() == id)
 }
 
-/// Whether a workbook has a sheet of this id.
+/// Whether a sheet has that id.
 pub fn has_sheet(workbook: &Workbook, id: u32) -> bool
     ensures { result ≡ is_some (sheet_of workbook.now id) }
 {
     sheet_of(workbook, id).is_some()
 }
 
-/// The name of the sheet of an id.
-pub fn name_of(workbook: &Workbook, id: u32) -> &str
+/// The name of the sheet of an id; it is empty where there is none.
+pub(crate) fn name_of(workbook: &Workbook, id: u32) -> &str
     ensures { result.now ≡ name_of (sheet_of workbook.now id) }
 {
     match sheet_of(workbook, id) {
@@ -36,22 +39,27 @@ pub fn name_of(workbook: &Workbook, id: u32) -> &str
     }
 }
 
-/// How an edit of the sheet of an id, which has that name, meets a sheet.
-pub fn meeting<'a, A: Axis>(
-    edit: &LineEdit<A>,
-    id: u32,
-    edited: &'a str,
-    sheet: &'a Worksheet,
-) -> SheetEdit<'a, A>
-    ensures way { way A.along result.edit.kind result.own.now result.edited.now result.is_edited ≡ way_of A.along edit.now.kind id edited.now sheet.now }
-    ensures kind { result.edit.kind ≡ edit.now.kind }
+/// How the map on the lines of an edited sheet meets a sheet.
+pub(crate) fn route_on<'s, 'a: 's, A: Axis, M: LineMap<A>>(
+    edited: &EditedSheet<'a, A, M>,
+    sheet: &'s Worksheet,
+) -> Route<'s, A, M>
+    ensures way { way result ≡ way_on edited.now sheet.now }
+    ensures is { IsWay (way result) }
 {
-    let own = sheet.get_name();
-    SheetEdit {
-        edit: *edit,
+    let (own, first) = (sheet.get_name(), Position { row: 1, column: 1 });
+    let route = Route {
+        map: edited.map,
+        opposite: edited.opposite,
+        brings: true,
         own,
-        edited,
-        is_own: same_by_folding(own, edited),
-        is_edited: sheet.get_sheet_id() == id,
-    }
+        edited: edited.name,
+        is_own: same_by_folding(own, edited.name),
+        is_edited: sheet.get_sheet_id() == edited.id,
+        from: first,
+        to: first,
+        axis: PhantomData,
+    };
+    route.is_way(); // for the proof
+    route
 }

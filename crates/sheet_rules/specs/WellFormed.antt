@@ -1,20 +1,20 @@
--- When a workbook is well-formed. Its types keep some of the rules: places and lines lie inside the sheet (2), and there are no
--- arrays (3), merges (4), covered places (5), defined names (8) and conditional rules yet.
+-- When a workbook is well-formed. There are no arrays (3), merges (4), covered places (5), defined names (8) and conditional rules yet.
 use Rattle.std.specs.Prelude.{◌≡◌, ℕ, ℤ, pos, Bool, true, ◌&&◌, ◌==◌, not, nat_lt, List, [], ◌∷◌, length, map, Option, Some, None, int_le, if◌then◌else◌}
 use Rattle.std.specs.List.{list_all, list_any}
 use Rattle.std.specs.Ordering.{int_eq}
 use Rattle.std.specs.FinMap.{entries}
 use Rattle.base_values.specs.CodedEq.{same_value}
 use Rattle.base_values.specs.declared.Position.{Position}
+use Rattle.base_values.specs.Places.{is_line}
 use Rattle.base_tables.specs.Folding.{same_folded}
 use Rattle.base_styles.specs.declared.style.Style.{Style}
 use Rattle.base_styles.specs.contracts.style.Style as style
 use Rattle.base_styles.specs.DefaultStyle.{default_style}
-use Rattle.formula_content.specs.Fitting.{fits_at}
+use Rattle.cell_content.specs.Fitting.{fits_at}
 use Rattle.sheet_grid.specs.declared.Cell.{Cell}
-use Rattle.sheet_grid.specs.declared.RowAttr.{RowAttr}
-use Rattle.sheet_grid.specs.declared.ColumnAttr.{ColumnAttr}
-use Rattle.sheet_grid.specs.Lines.{is_plain_row, is_plain_column}
+use Rattle.sheet_grid.specs.declared.LineAttr.{LineAttr}
+use Rattle.sheet_grid.specs.declared.Link.{Link}
+use Rattle.sheet_grid.specs.Lines.{is_plain, usual_width}
 use Rattle.sheet_grid.specs.Sheet.{Sheet}
 use Rattle.sheet_grid.specs.Book.{Book}
 use Rattle.sheet_rules.specs.SheetNames.{is_sheet_name}
@@ -35,6 +35,16 @@ names_of sheets = map (λ (sheet : Sheet). sheet.name) sheets
 unfoldable pub are_sheets : List Sheet → Bool
 are_sheets sheets =
     nat_lt 0 (length sheets) && are_distinct (λ a b. a == b) (ids_of sheets) && list_all is_sheet_name (names_of sheets) && are_distinct same_folded (names_of sheets)
+
+-- whether a position is a place of the sheet
+abbrev pub is_place : Position → Bool
+is_place place = is_line (pos 1048576) place.row && is_line (pos 16384) place.column
+
+-- rule 2: cells, links, rows and columns stand inside the sheet
+unfoldable pub stands_inside : Sheet → Bool
+stands_inside sheet =
+    list_all (λ (entry : Position × Cell). is_place entry.0) (entries sheet.cells) && list_all (λ (entry : Position × Link). is_place entry.0) (entries sheet.links)
+    && list_all (λ (entry : ℤ × LineAttr). is_line (pos 1048576) entry.0) (entries sheet.rows) && list_all (λ (entry : ℤ × LineAttr). is_line (pos 16384) entry.0) (entries sheet.columns)
 
 -- rule 6: each formula of a sheet may stand at its place
 unfoldable pub have_trees : Sheet → Bool
@@ -62,13 +72,13 @@ is_row_style None = true
 is_row_style (Some given) = has_font given && not (is_default given)
 
 -- what a row may have of its own
-abbrev pub is_row : RowAttr → Bool
-is_row attr = not (is_plain_row attr) && is_size attr.height && is_row_style attr.style
+abbrev pub is_row : LineAttr → Bool
+is_row attr = not (is_plain attr) && is_size attr.size && is_row_style attr.style
 
--- a column's own width is none, or a size but not the usual 250
+-- a column's own width is none, or a size but not the usual one
 abbrev pub is_width : Option ℤ → Bool
 is_width None = true
-is_width (Some width) = int_le (pos 0) width && not (int_eq width (pos 250))
+is_width (Some width) = int_le (pos 0) width && not (int_eq width usual_width)
 
 -- a column's own style may be the default one
 abbrev pub is_column_style : Option Style → Bool
@@ -76,13 +86,13 @@ is_column_style None = true
 is_column_style (Some given) = has_font given
 
 -- what a column may have of its own
-abbrev pub is_column : ColumnAttr → Bool
-is_column attr = not (is_plain_column attr) && is_width attr.width && is_column_style attr.style
+abbrev pub is_column : LineAttr → Bool
+is_column attr = not (is_plain attr) && is_width attr.size && is_column_style attr.style
 
 -- rule 7: what rows and columns have of their own, and the fonts of cells
 unfoldable pub have_attributes : Sheet → Bool
 have_attributes sheet =
-    list_all (λ (entry : ℤ × RowAttr). is_row entry.1) (entries sheet.rows) && list_all (λ (entry : ℤ × ColumnAttr). is_column entry.1) (entries sheet.columns)
+    list_all (λ (entry : ℤ × LineAttr). is_row entry.1) (entries sheet.rows) && list_all (λ (entry : ℤ × LineAttr). is_column entry.1) (entries sheet.columns)
     && list_all (λ (entry : Position × Cell). has_font entry.1.style) (entries sheet.cells)
 
 -- rule 9: fewer lines than the sheet has stay at its top and at its left
@@ -93,6 +103,7 @@ are_frozen sheet = is_count (pos 1048575) sheet.frozen_rows && is_count (pos 163
 abbrev pub broken_rule : Book → Option ℕ
 broken_rule book =
     if not (are_sheets book.worksheets) then Some 1
+    else if not (list_all stands_inside book.worksheets) then Some 2
     else if not (list_all have_trees book.worksheets) then Some 6
     else if not (list_all have_attributes book.worksheets) then Some 7
     else if not (list_all are_frozen book.worksheets) then Some 9

@@ -1,3 +1,4 @@
 pub mod DefaultPartLaws
 pub mod EntryLaws
+pub mod InsideLaws
 pub mod WellFormedLaws

@@ -5,14 +5,13 @@ ghost use Rattle.std.specs.List.{list_all};
 ghost use Rattle.std.specs.FinMap.{entries};
 ghost use Rattle.base_values.specs.declared.Position.{Position};
 ghost use Rattle.sheet_grid.specs.declared.Cell.{Cell};
-ghost use Rattle.sheet_grid.specs.declared.RowAttr.{RowAttr};
-ghost use Rattle.sheet_grid.specs.declared.ColumnAttr.{ColumnAttr};
+ghost use Rattle.sheet_grid.specs.declared.LineAttr.{LineAttr};
 ghost use Rattle.sheet_rules.specs.WellFormed.{is_size, has_font, is_row_style, is_row, is_width, is_column_style, is_column, have_attributes};
 
 use crate::default_style::is_default;
 use base_shared::Shared;
 use base_styles::Style;
-use sheet_grid::{ColumnAttr, RowAttr, Worksheet};
+use sheet_grid::{LineAttr, USUAL_WIDTH, Worksheet};
 
 fn has_font(style: &Style) -> bool
     ensures { result ≡ has_font style.now }
@@ -38,18 +37,18 @@ fn is_row_style(style: &Option<Shared<Style>>) -> bool
     }
 }
 
-fn is_row(attr: &RowAttr) -> bool
+fn is_row(attr: &LineAttr) -> bool
     ensures { result ≡ is_row attr.now }
 {
-    !attr.is_plain() && is_size(attr.height) && is_row_style(&attr.style)
+    !attr.is_plain() && is_size(attr.size) && is_row_style(&attr.style)
 }
 
-/// A width of 250 is the usual one, which a column does not have of its own.
+/// The usual width is one that a column does not have of its own.
 fn is_width(width: Option<i32>) -> bool
     ensures { result ≡ is_width width }
 {
     match width {
-        Some(width) => width >= 0 && width != 250,
+        Some(width) => width >= 0 && width != USUAL_WIDTH,
         None => true,
     }
 }
@@ -63,20 +62,20 @@ fn is_column_style(style: &Option<Shared<Style>>) -> bool
     }
 }
 
-fn is_column(attr: &ColumnAttr) -> bool
+fn is_column(attr: &LineAttr) -> bool
     ensures { result ≡ is_column attr.now }
 {
-    !attr.is_plain() && is_width(attr.width) && is_column_style(&attr.style)
+    !attr.is_plain() && is_width(attr.size) && is_column_style(&attr.style)
 }
 
 fn are_rows(sheet: &Worksheet) -> bool
-    ensures { result ≡ list_all (λ (entry : ℤ × RowAttr). is_row entry.1) (entries sheet.now.rows) }
+    ensures { result ≡ list_all (λ (entry : ℤ × LineAttr). is_row entry.1) (entries sheet.now.rows) }
 {
     sheet.rows().all(|(_row, attr)| is_row(attr))
 }
 
 fn are_columns(sheet: &Worksheet) -> bool
-    ensures { result ≡ list_all (λ (entry : ℤ × ColumnAttr). is_column entry.1) (entries sheet.now.columns) }
+    ensures { result ≡ list_all (λ (entry : ℤ × LineAttr). is_column entry.1) (entries sheet.now.columns) }
 {
     sheet.columns().all(|(_column, attr)| is_column(attr))
 }

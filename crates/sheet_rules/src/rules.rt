@@ -1,12 +1,15 @@
 ghost use Rattle.std.specs.Prelude.{◌≡◌, is_none};
 ghost use Rattle.std.specs.List.{list_all};
-ghost use Rattle.sheet_rules.specs.WellFormed.{are_sheets, have_trees, have_attributes, is_count, are_frozen, broken_rule};
+ghost use Rattle.std.specs.FinMap.{entries};
+ghost use Rattle.base_values.specs.Places.{is_line};
+ghost use Rattle.sheet_rules.specs.WellFormed.{are_sheets, is_place, stands_inside, have_trees, have_attributes, is_count, are_frozen, broken_rule};
 
 use crate::attributes::have_attributes;
 use crate::ids::have_distinct_ids;
 use crate::names::{have_distinct_names, have_names};
-use base_values::{LAST_COLUMN, LAST_ROW};
-use formula_content::fits_at;
+use base_axis::{Axis, AxisMap};
+use base_values::{LAST_COLUMN, LAST_ROW, PlaceMap};
+use cell_content::fits_at;
 use sheet_grid::{Workbook, Worksheet};
 
 /// Rule 1: there is a sheet, ids are distinct, names are legal and distinct by case folding.
@@ -18,6 +21,39 @@ fn are_sheets(sheets: &[Worksheet]) -> bool
         && have_distinct_ids(sheets)
         && have_names(sheets)
         && have_distinct_names(sheets)
+}
+
+/// Whether the keys of a map are places of the sheet. Its type keeps them so: nothing is walked.
+fn are_places<V>(map: &PlaceMap<V>) -> bool
+    ensures { result ≡ list_all (λ entry. is_place entry.0) (entries map.now) }
+{
+    let _ = map.iter();
+    true
+}
+
+/// Whether the keys of a map are lines of its axis. Its type keeps them so: nothing is walked.
+fn are_lines<A: Axis, V>(map: &AxisMap<A, V>) -> bool
+    ensures { result ≡ list_all (λ entry. is_line A.along.last entry.0) (entries map.now) }
+{
+    let _ = map.iter();
+    true
+}
+
+/// Rule 2: cells, links, rows and columns stand inside the sheet.
+#[tactic(auto, unfolding(crate::specs::WellFormed::stands_inside))]
+fn stands_inside(sheet: &Worksheet) -> bool
+    ensures { result ≡ stands_inside sheet.now }
+{
+    are_places(sheet.cell_map())
+        && are_places(sheet.link_map())
+        && are_lines(sheet.row_map())
+        && are_lines(sheet.column_map())
+}
+
+fn all_stand_inside(sheets: &[Worksheet]) -> bool
+    ensures { result ≡ list_all stands_inside sheets.now }
+{
+    sheets.iter().all(stands_inside)
 }
 
 /// Rule 6: each formula may stand at its place.
@@ -69,6 +105,8 @@ pub fn broken_rule(workbook: &Workbook) -> Option<u8>
     let sheets = workbook.worksheets();
     if !are_sheets(sheets) {
         Some(1)
+    } else if !all_stand_inside(sheets) {
+        Some(2)
     } else if !all_have_trees(sheets) {
         Some(6)
     } else if !all_have_attributes(sheets) {

@@ -4,7 +4,7 @@ use base_shared::Shared;
 use base_styles::Style;
 use base_tables::{Locale, Zone};
 use base_values::{EditError, Items, copy_of};
-use formula_content::Content;
+use cell_content::Content;
 use formula_tree::{Corner, Node, has_kept_numbers};
 use sheet_grid::{Cell, ColumnAttr, DefaultStyle, RowAttr, Workbook, Worksheet};
 use std::alloc::Global;

@@ -1,3 +1,3 @@
-pub mod RowsBytes
+pub mod LinesBytes
 pub mod QueueBytes
 pub mod laws

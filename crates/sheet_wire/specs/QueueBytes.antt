@@ -8,15 +8,16 @@ use Rattle.line_map.specs.declared.EditKind.{EditKind}
 use Rattle.sheet_grid.specs.declared.Cell.{Cell}
 use Rattle.sheet_lines.specs.declared.KeptLines.{KeptLines}
 use Rattle.sheet_history.specs.declared.Diff.{Diff}
-use Rattle.sheet_history.specs.declared.Diff.TheVariants.{Cell as CellDiff, Rows as RowsDiff}
+use Rattle.sheet_history.specs.declared.Diff.TheVariants.{Cell as CellDiff, Lines as LinesDiff}
+use Rattle.sheet_history.specs.declared.LineAxis.{LineAxis}
 use Rattle.sheet_history.specs.declared.DiffType.{DiffType}
 use Rattle.sheet_history.specs.declared.DiffType.TheVariants.{Undo, Redo}
 use Rattle.sheet_history.specs.declared.QueueDiffs.{QueueDiffs}
 use Rattle.base_wire.specs.Reading.{Reader, refused, map_at, ◌⊗◌, tagged_at, code_at, number_at, option_at, list_at, after, whole}
 use Rattle.base_wire.specs.Spelling.{spell_code, spell_option, spell_list, FitsItems}
 use Rattle.cell_wire.specs.CellBytes.{spell_position, position_at, FitsPosition, spell_cell, cell_at, FitsCell, IsKnownCell}
-use Rattle.kept_wire.specs.KeptBytes.{IsKnownKept}
-use Rattle.sheet_wire.specs.RowsBytes.{spell_rows, rows_parts_at, FitsRows, IsKeptOfRows}
+use Rattle.lines_wire.specs.KeptBytes.{IsKnownKept}
+use Rattle.sheet_wire.specs.LinesBytes.{spell_lines, lines_parts_at, FitsLines, IsKeptOfLines}
 
 -- ---- diffs
 
@@ -24,7 +25,7 @@ use Rattle.sheet_wire.specs.RowsBytes.{spell_rows, rows_parts_at, FitsRows, IsKe
 abbrev pub spell_diff : Diff → List ℕ
 spell_diff (CellDiff sheet place old new) =
     1 ∷ (to_be_bytes w32 sheet ++ (spell_position place ++ (spell_option spell_cell old ++ spell_option spell_cell new)))
-spell_diff (RowsDiff sheet edit kept) = 7 ∷ spell_rows sheet edit kept
+spell_diff (LinesDiff sheet axis edit kept) = 7 ∷ spell_lines sheet axis edit kept
 
 abbrev pub cell_diff_made : ℕ × (Position × (Option Cell × Option Cell)) → Diff
 cell_diff_made x = CellDiff x.0 x.1.0 x.1.1.0 x.1.1.1
@@ -32,20 +33,23 @@ cell_diff_made x = CellDiff x.0 x.1.0 x.1.1.0 x.1.1.1
 unfoldable pub entry_of_cell_at : Reader (Option Cell)
 entry_of_cell_at = option_at cell_at
 
+abbrev pub cell_parts_at : Reader (ℕ × (Position × (Option Cell × Option Cell)))
+cell_parts_at = number_at w32 ⊗ position_at ⊗ entry_of_cell_at ⊗ entry_of_cell_at
+
 unfoldable pub cell_diff_at : Reader Diff
-cell_diff_at = map_at cell_diff_made (number_at w32 ⊗ position_at ⊗ entry_of_cell_at ⊗ entry_of_cell_at)
+cell_diff_at = map_at cell_diff_made cell_parts_at
 
-abbrev pub rows_diff_made : ℕ × (EditKind × KeptLines) → Diff
-rows_diff_made x = RowsDiff x.0 x.1.0 x.1.1
+abbrev pub lines_diff_made : ℕ × (LineAxis × (EditKind × KeptLines)) → Diff
+lines_diff_made x = LinesDiff x.0 x.1.0 x.1.1.0 x.1.1.1
 
-unfoldable pub rows_diff_at : Reader Diff
-rows_diff_at = map_at rows_diff_made rows_parts_at
+unfoldable pub lines_diff_at : Reader Diff
+lines_diff_at = map_at lines_diff_made lines_parts_at
 
 -- what follows each tag
 abbrev pub diff_of : ℕ → Reader Diff
 diff_of tag =
     if tag == 1 then cell_diff_at
-    else if tag == 7 then rows_diff_at
+    else if tag == 7 then lines_diff_at
     else refused
 
 unfoldable pub diff_at : Reader Diff
@@ -60,17 +64,17 @@ pub record FitsCellDiff (id : ℕ) (position : Position) (before later : Option 
 
 abbrev pub FitsDiff : Diff → Type 0
 FitsDiff (CellDiff sheet place old new) = FitsCellDiff sheet place old new
-FitsDiff (RowsDiff sheet edit kept) = FitsRows sheet edit kept
+FitsDiff (LinesDiff sheet axis edit kept) = FitsLines sheet edit kept
 
 -- what encoding asks of a diff: its numbers are kept, and its formulas are at most 64 deep
 abbrev pub IsKnownDiff : Diff → Type 0
 IsKnownDiff (CellDiff sheet place old new) = IfSome old IsKnownCell × IfSome new IsKnownCell
-IsKnownDiff (RowsDiff sheet edit kept) = IsKnownKept kept
+IsKnownDiff (LinesDiff sheet axis edit kept) = IsKnownKept kept
 
--- what a diff keeps, if it is one of rows, is what such an edit keeps
+-- what a diff keeps, if it is one of lines, is what such an edit keeps
 abbrev pub IsKeptOfDiff : Diff → Type 0
 IsKeptOfDiff (CellDiff sheet place old new) = Unit {0}
-IsKeptOfDiff (RowsDiff sheet edit kept) = IsKeptOfRows kept
+IsKeptOfDiff (LinesDiff sheet axis edit kept) = IsKeptOfLines kept
 
 -- a list of diffs that bytes can carry
 abbrev pub FitsList : List Diff → Type 0

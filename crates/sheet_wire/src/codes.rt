@@ -1,13 +1,14 @@
-//! The byte of a direction.
+//! The bytes of directions and of axes.
 
 ghost use Rattle.std.specs.Prelude.{◌≡◌};
 ghost use Rattle.base_values.specs.Answers.{ok_or};
 ghost use Rattle.base_values.specs.declared.EditError.TheVariants.{ParseDiffs};
 ghost use Rattle.base_wire.specs.Reading.{decoded};
+ghost use Rattle.sheet_wire.specs.LinesBytes.{axes, axis_code};
 ghost use Rattle.sheet_wire.specs.QueueBytes.{direction_code, directions};
 
 use base_values::EditError;
-use sheet_history::DiffType;
+use sheet_history::{DiffType, LineAxis};
 
 pub(crate) fn direction_code(kind: DiffType) -> u8
     ensures { result ≡ direction_code kind }
@@ -24,6 +25,25 @@ pub(crate) fn direction_of(code: u8) -> Result<DiffType, EditError>
     match code {
         0 => Ok(DiffType::Undo),
         1 => Ok(DiffType::Redo),
+        _ => Err(EditError::ParseDiffs),
+    }
+}
+
+pub(crate) fn axis_code(axis: LineAxis) -> u8
+    ensures { result ≡ axis_code axis }
+{
+    match axis {
+        LineAxis::Rows => 0,
+        LineAxis::Columns => 1,
+    }
+}
+
+pub(crate) fn axis_of(code: u8) -> Result<LineAxis, EditError>
+    ensures { result ≡ ok_or ParseDiffs (decoded axis_code axes code) }
+{
+    match code {
+        0 => Ok(LineAxis::Rows),
+        1 => Ok(LineAxis::Columns),
         _ => Err(EditError::ParseDiffs),
     }
 }

@@ -1,23 +1,22 @@
 //! Queues from their bytes.
 
-ghost use Rattle.std.specs.Prelude.{◌≡◌, ◌≢◌, [], ◌∷◌, IfErr, IfOk, List};
+ghost use Rattle.std.specs.Prelude.{◌≡◌, ◌≢◌, IfErr, IfOk, List};
 ghost use Rattle.base_values.specs.Answers.{Answers, map_ok};
 ghost use Rattle.base_values.specs.declared.EditError.TheVariants.{NoMemory, ParseDiffs};
 ghost use Rattle.base_wire.specs.Reading.{code_at, rest_after};
-ghost use Rattle.sheet_wire.specs.RowsBytes.{edit_at, lines_at};
-ghost use Rattle.sheet_wire.specs.QueueBytes.{cell_diff_at, diff_at, direction_code, directions, entry_at, rows_diff_at, magic, queue_of, spell_queue, FitsQueue, IsNoQueue};
+ghost use Rattle.sheet_wire.specs.LinesBytes.{axes, axis_code};
+ghost use Rattle.sheet_wire.specs.QueueBytes.{cell_diff_at, diff_at, direction_code, directions, entry_at, lines_diff_at, magic, queue_of, spell_queue, FitsQueue, IsNoQueue};
 ghost use Rattle.sheet_history.specs.declared.QueueDiffs.{QueueDiffs};
 
-use crate::codes::direction_of;
+use crate::codes::{axis_of, direction_of};
 use crate::parts::{DiffPart, EntryPart};
 use base_shared::Shared;
 use base_styles::Style;
 use base_values::{EditError, Items};
 use base_wire::Part;
 use cell_wire::{CellPart, PositionPart};
-use kept_wire::KeptRowsPart;
-use line_map::EditKind;
-use sheet_history::{Diff, DiffType, QueueDiffs};
+use lines_wire::{EditPart, KeptLinesPart};
+use sheet_history::{Diff, DiffType, LineAxis, QueueDiffs};
 use std::alloc::Global;
 
 /// A part at the front of bytes, by the steps of its reader, which proofs of this crate follow.
@@ -52,56 +51,33 @@ fn cell_diff_at<'a>(
     Ok((diff, rest))
 }
 
-/// The first line of an edit, and how many.
-fn lines_at(alloc: Global, bytes: &[u8]) -> Result<((i32, i32), &[u8]), EditError>
-    ensures { Answers (map_ok (λ x. (x.0, x.1.now)) result) (lines_at bytes.now) }
+fn axis_at(alloc: Global, bytes: &[u8]) -> Result<(LineAxis, &[u8]), EditError>
+    ensures { Answers (map_ok (λ x. (x.0, x.1.now)) result) (code_at axis_code axes bytes.now) }
 {
-    let (first, rest) = read::<i32>(alloc, &(), bytes)?;
-    let (count, rest) = read::<i32>(alloc, &(), rest)?;
-    Ok(((first, count), rest))
+    let (code, rest) = read::<u8>(alloc, &(), bytes)?;
+    let axis = axis_of(code)?;
+    Ok((axis, rest))
 }
 
-#[tactic(auto, unfolding(crate::specs::RowsBytes::edit_at))]
-fn edit_at(alloc: Global, bytes: &[u8]) -> Result<(EditKind, &[u8]), EditError>
-    ensures { Answers (map_ok (λ x. (x.0, x.1.now)) result) (edit_at bytes.now) }
-{
-    let (kind, rest) = read::<u8>(alloc, &(), bytes)?;
-    match kind {
-        0 => {
-            let ((first, count), rest) = lines_at(alloc, rest)?;
-            Ok((EditKind::Insert { first, count }, rest))
-        }
-        1 => {
-            let ((first, count), rest) = lines_at(alloc, rest)?;
-            Ok((EditKind::Delete { first, count }, rest))
-        }
-        _ => Err(EditError::ParseDiffs),
-    }
-}
-
-/// What stands after the byte of rows.
-fn after_rows(bytes: &[u8]) -> Result<&[u8], EditError>
-    ensures { Answers (map_ok (λ x. x.now) result) (rest_after (0 ∷ []) bytes.now) }
-{
-    match bytes.strip_prefix([0].as_slice()) {
-        Some(rest) => Ok(rest),
-        None => Err(EditError::ParseDiffs),
-    }
-}
-
-#[tactic(auto, unfolding(crate::specs::QueueBytes::rows_diff_at))]
-fn rows_diff_at<'a>(
+#[tactic(auto, unfolding(crate::specs::QueueBytes::lines_diff_at))]
+fn lines_diff_at<'a>(
     alloc: Global,
     plain: &Shared<Style>,
     bytes: &'a [u8],
 ) -> Result<(Diff, &'a [u8]), EditError>
-    ensures { Answers (map_ok (λ x. (x.0, x.1.now)) result) (rows_diff_at bytes.now) }
+    ensures { Answers (map_ok (λ x. (x.0, x.1.now)) result) (lines_diff_at bytes.now) }
 {
     let (sheet, rest) = read::<u32>(alloc, &(), bytes)?;
-    let rest = after_rows(rest)?;
-    let (edit, rest) = edit_at(alloc, rest)?;
-    let (kept, rest) = read::<Shared<KeptRowsPart>>(alloc, plain, rest)?;
-    Ok((Diff::Rows { sheet, edit, kept }, rest))
+    let (axis, rest) = axis_at(alloc, rest)?;
+    let (edit, rest) = read::<EditPart>(alloc, &(), rest)?;
+    let (kept, rest) = read::<Shared<KeptLinesPart>>(alloc, plain, rest)?;
+    let diff = Diff::Lines {
+        sheet,
+        axis,
+        edit,
+        kept,
+    };
+    Ok((diff, rest))
 }
 
 #[tactic(auto, unfolding(crate::specs::QueueBytes::diff_at))]
@@ -115,7 +91,7 @@ pub(crate) fn diff_at<'a>(
     let (tag, rest) = read::<u8>(alloc, &(), bytes)?;
     match tag {
         1 => cell_diff_at(alloc, plain, rest),
-        7 => rows_diff_at(alloc, plain, rest),
+        7 => lines_diff_at(alloc, plain, rest),
         _ => Err(EditError::ParseDiffs),
     }
 }

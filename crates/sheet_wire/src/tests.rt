@@ -14,17 +14,17 @@ const ONE_CELL: [u8; 84] = [
 ];
 
 /// One entry: two rows inserted before row 3 of the sheet of id 1, which keep nothing.
-const ROWS: [u8; 77] = [
+const LINES: [u8; 77] = [
     73, 67, 81, 49, 0, 0, 0, 0, 0, 0, 0, 1, 1, 0, 0, 0, 0, 0, 0, 0, 1, 7, 0, 0, 0, 1, 0, 0, 0, 0,
     0, 3, 0, 0, 0, 2, 0, 0, 0, 0, 0, 0, 0, 0, 0, 0, 0, 0, 0, 0, 0, 0, 0, 0, 0, 0, 0, 0, 0, 0, 0, 0,
     0, 0, 0, 0, 0, 0, 0, 0, 0, 0, 0, 0, 0, 0, 0,
 ];
 
-/// A place in `ROWS`, and the byte that is put there.
-const DAMAGED_ROWS: [(usize, u8); 7] = [
-    // Lines that are no rows, and an edit that neither inserts nor deletes.
-    (26, 1),
-    (27, 2),
+/// A place in `LINES`, and the byte that is put there.
+const DAMAGED_LINES: [(usize, u8); 7] = [
+    // Lines that are neither rows nor columns, and an edit that is none.
+    (26, 2),
+    (27, 3),
     // A kept cell, and a tree, that are not there.
     (43, 1),
     (67, 1),
@@ -85,10 +85,10 @@ fn damaged_queues_are_refused(rt: HostRuntime) -> Result<(), Fail> {
 }
 
 #[test]
-fn damaged_edits_of_rows_are_refused(rt: HostRuntime) -> Result<(), Fail> {
+fn damaged_edits_of_lines_are_refused(rt: HostRuntime) -> Result<(), Fail> {
     let plain = plain_style(rt)?;
-    for (at, byte) in DAMAGED_ROWS {
-        let mut bytes = ROWS;
+    for (at, byte) in DAMAGED_LINES {
+        let mut bytes = LINES;
         if let Some(place) = bytes.get_mut(at) {
             *place = byte;
         }
@@ -100,7 +100,7 @@ fn damaged_edits_of_rows_are_refused(rt: HostRuntime) -> Result<(), Fail> {
 #[test]
 fn whole_queues_are_read(rt: HostRuntime) -> Result<(), Fail> {
     let plain = plain_style(rt)?;
-    assert!(rt; decode_queue(rt.alloc(), &plain, &ROWS).is_ok());
+    assert!(rt; decode_queue(rt.alloc(), &plain, &LINES).is_ok());
     assert!(rt; decode_queue(rt.alloc(), &plain, &ONE_CELL).is_ok());
     Ok(())
 }

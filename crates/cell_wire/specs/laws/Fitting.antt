@@ -5,11 +5,11 @@ use Rattle.std.specs.List.{AllByRecursion}
 use Rattle.std.specs.Str.{IsAscii}
 use Rattle.std.proofs.lemmas.Str.{IsUtf8-from_ascii}
 use Rattle.base_styles.specs.DefaultStyle.{default_style}
-use Rattle.formula_content.specs.declared.Content.{Content}
-use Rattle.formula_content.specs.declared.Content.TheVariants.{Empty, Number, Boolean, Error as ErrorValue, Text, Formula, Dynamic}
+use Rattle.cell_content.specs.declared.Content.{Content}
+use Rattle.cell_content.specs.declared.Content.TheVariants.{Empty, Number, Boolean, Error as ErrorValue, Text, Formula, Dynamic}
 use Rattle.sheet_grid.specs.declared.Cell.{Cell}
-use Rattle.formula_content.specs.KeptContent.{IsKeptContent}
-use Rattle.formula_content.specs.Fitting.{is_shallow}
+use Rattle.cell_content.specs.KeptContent.{IsKeptContent}
+use Rattle.cell_content.specs.Fitting.{is_shallow}
 use Rattle.formula_wire.specs.laws.KeptLaws.{kept_from_carried}
 use Rattle.sheet_grid.specs.KeptCell.{IsKeptCell}
 use Rattle.cell_wire.specs.StyleBytes.{FitsStyle}

@@ -11,8 +11,8 @@ use Rattle.base_styles.specs.declared.HorizontalAlignment.{HorizontalAlignment}
 use Rattle.base_styles.specs.declared.HorizontalAlignment.TheVariants as horizontal
 use Rattle.base_styles.specs.declared.VerticalAlignment.{VerticalAlignment}
 use Rattle.base_styles.specs.declared.VerticalAlignment.TheVariants as vertical
-use Rattle.formula_content.specs.declared.Content.{Content}
-use Rattle.formula_content.specs.declared.Content.TheVariants.{Empty, Number, Boolean, Error as ErrorValue, Text, Formula, Dynamic}
+use Rattle.cell_content.specs.declared.Content.{Content}
+use Rattle.cell_content.specs.declared.Content.TheVariants.{Empty, Number, Boolean, Error as ErrorValue, Text, Formula, Dynamic}
 use Rattle.base_wire.specs.Reading.{decoded}
 use Rattle.base_wire.specs.Spelling.{spell_option}
 use Rattle.cell_wire.specs.StyleBytes.{theme_code, theme_colors, spell_color, color_at, FitsColor, spell_font, font_made, font_at, FitsFont, border_code, border_styles, spell_border_item, border_item_made, border_item_at, FitsBorderItem, spell_border, border_made, side_at, border_at, FitsBorder, horizontal_code, horizontals, vertical_code, verticals, spell_alignment, alignment_made, alignment_at, alignment_option_at, spell_style, style_made, style_at, FitsStyle}

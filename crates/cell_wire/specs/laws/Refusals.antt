@@ -2,7 +2,7 @@
 use Rattle.std.proofs.Common.{eqb}
 use Rattle.std.specs.Int.{w32}
 use Rattle.base_styles.specs.declared.Color.TheVariants.{Theme}
-use Rattle.formula_content.specs.declared.Content.TheVariants.{Number, Boolean, Error as ErrorValue, Text, Formula, Dynamic}
+use Rattle.cell_content.specs.declared.Content.TheVariants.{Number, Boolean, Error as ErrorValue, Text, Formula, Dynamic}
 use Rattle.base_wire.specs.laws.Refusals.{IsPlain, both_plain, map_plain, byte_plain, code_plain, signed_plain, text_plain, plain_plain, refused_plain, if_plain, tagged_plain, option_plain}
 use Rattle.base_wire.specs.laws.Parts.{boolean_plain, error_plain, decimal_plain}
 use Rattle.formula_wire.specs.laws.NodeLaws.{node_plain}

@@ -1,5 +1,11 @@
-use Rattle.line_laws.proofs.Shifts.{same_image}
+use Rattle.line_laws.proofs.Shifts.{inserted, deleted, stepped}
 use Rattle.line_laws.proofs.displaced_as_edited.Goals as goal
 
-pub returns : goal.returns
-returns g c = same_image g.A.Axis.along.last c.args.edit.now.kind c.requires
+pub returns-clause-insertions : goal.returns-clause-insertions
+returns-clause-insertions g c = inserted g.A.Axis.along.last
+
+pub returns-clause-deletions : goal.returns-clause-deletions
+returns-clause-deletions g c = deleted g.A.Axis.along.last
+
+pub returns-clause-moves : goal.returns-clause-moves
+returns-clause-moves g c = stepped g.A.Axis.along.last

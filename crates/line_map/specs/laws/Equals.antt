@@ -1,4 +1,4 @@
--- `==` of kinds of edits, of edits and of what is kept is equality of their values.
+-- `==` of edits and of what is kept is equality of their values.
 use Rattle.std.proofs.Common.{◌≡◌, Bool, true, refl, ap}
 use Rattle.std.specs.Prelude.{◌&&◌}
 use Rattle.std.specs.Bool.{Decides}
@@ -7,8 +7,10 @@ use Rattle.std.proofs.lemmas.Bool.Decides.{Decides-like, Decides-and}
 use Rattle.std.specs.FinMap.{FinMap}
 use Rattle.base_values.specs.Places.{position_cmp}
 use Rattle.line_map.specs.declared.edit.EditKind.{EditKind}
-use Rattle.line_map.specs.declared.edit.EditKind.TheVariants.{Insert, Delete}
+use Rattle.line_map.specs.declared.edit.EditKind.TheVariants.{Insert, Delete, Move}
 use Rattle.line_map.specs.contracts.edit.EditKindPartialEq.TheImpl as edit_kind
+use Rattle.line_map.specs.declared.contents.Nothing.{Nothing}
+use Rattle.line_map.specs.contracts.contents.NothingPartialEq.TheImpl as nothing
 use Rattle.line_map.specs.declared.place_map.KeptMap.{KeptMap}
 
 pub kind_equals : (a b : EditKind) → Decides (edit_kind.ghosts.eq a b) (a ≡ b)
@@ -28,16 +30,35 @@ kind_equals (Delete m n) (Delete p q) =
 
     count_of : Delete m n ≡ Delete p q → n ≡ q
     count_of e = cc
+kind_equals (Move m n k) (Move p q l) =
+    Decides-like _ (λ h i. Move (h.0 i) (h.1.0 i) (h.1.1 i)) (λ e. (first_of e, (count_of e, delta_of e)))
+    (Decides-and _ _ (signed_Decides _ _) (Decides-and _ _ (signed_Decides _ _) (signed_Decides _ _)))
+  where
+    first_of : Move m n k ≡ Move p q l → m ≡ p
+    first_of e = cc
+
+    count_of : Move m n k ≡ Move p q l → n ≡ q
+    count_of e = cc
+
+    delta_of : Move m n k ≡ Move p q l → k ≡ l
+    delta_of e = cc
 kind_equals (Insert _ _) (Delete _ _) = (λ e. cc, λ e. cc)
+kind_equals (Insert _ _) (Move _ _ _) = (λ e. cc, λ e. cc)
+kind_equals (Delete _ _) (Move _ _ _) = (λ e. cc, λ e. cc)
+kind_equals (Move _ _ _) (Insert _ _) = (λ e. cc, λ e. cc)
+kind_equals (Move _ _ _) (Delete _ _) = (λ e. cc, λ e. cc)
 kind_equals (Delete _ _) (Insert _ _) = (λ e. cc, λ e. cc)
 
 -- a value is itself
 pub own_value : {X : Type 0} (x : X) → Decides true (x ≡ x)
 own_value x = (λ _. refl, λ _. refl)
 
-module _ {F K : Type 0} {f : FinMap position_cmp F → FinMap position_cmp F → Bool} {k : FinMap position_cmp K → FinMap position_cmp K → Bool} where
-  pub kept_map_equals : ((a b : FinMap position_cmp F) → Decides (f a b) (a ≡ b)) → ((a b : FinMap position_cmp K) → Decides (k a b) (a ≡ b)) →
-      (a b : KeptMap F K) → Decides (f a.lost b.lost && k a.parts b.parts) (a ≡ b)
+pub nothing_equals : (a b : Nothing) → Decides (nothing.ghosts.eq a b) (a ≡ b)
+nothing_equals a b = (λ _. refl, λ _. refl)
+
+module _ {F P : Type 0} {f : FinMap position_cmp F → FinMap position_cmp F → Bool} {k : FinMap position_cmp P → FinMap position_cmp P → Bool} where
+  pub kept_map_equals : ((a b : FinMap position_cmp F) → Decides (f a b) (a ≡ b)) → ((a b : FinMap position_cmp P) → Decides (k a b) (a ≡ b)) →
+      (a b : KeptMap F P) → Decides (f a.lost b.lost && k a.parts b.parts) (a ≡ b)
   kept_map_equals lost parts a b =
       Decides-like _ (λ p i. record { lost = p.0 i; parts = p.1 i }) (λ e. (ap (λ x. x.lost) e, ap (λ x. x.parts) e))
       (Decides-and _ _ (lost a.lost b.lost) (parts a.parts b.parts))

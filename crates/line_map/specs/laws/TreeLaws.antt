@@ -1,73 +1,80 @@
--- The law of followers for trees at a place.
-use Rattle.std.proofs.Common.{◌≡◌, true, false, cond, Option, Some, None, refl, ap, sym, ◌∙◌}
-use Rattle.std.specs.Prelude.{IfSome, if◌then◌else◌}
-use Rattle.std.specs.Bool.{Decides}
-use Rattle.std.specs.Cmp.Lexicographic.{bytes_decides}
-use Rattle.std.proofs.lemmas.Bool.Decides.{Decides-like, Decides-and}
+-- The law of followers for trees, and that what is carried along stays in the sheet.
+use Rattle.std.proofs.Common.{◌≡◌, ℤ, pos, Bool, true, false, Option, Some, None, refl, sym, ◌∙◌, arith}
+use Rattle.std.specs.Prelude.{IfSome, ◌&&◌, if◌then◌else◌}
+use Rattle.std.proofs.lemmas.Int.{ints}
 use Rattle.base_values.specs.declared.Position.{Position}
-use Rattle.base_values.specs.Places.{IsPlace}
-use Rattle.base_values.specs.laws.PositionEquals.{position_equals}
+use Rattle.base_values.specs.Places.{IsRow, IsColumn, IsPlace, is_line}
 use Rattle.base_values.specs.CodedEq.{same_value}
 use Rattle.base_values.specs.laws.CodedEq.{same_value_decides}
-use Rattle.base_axis.specs.Along.{Along, IsAxis}
-use Rattle.base_tables.specs.Folding.{same_folded}
+use Rattle.formula_tree.specs.declared.Corner.{Corner}
 use Rattle.formula_tree.specs.declared.Node.{Node}
 use Rattle.formula_tree.specs.contracts.node.Node.{the_row}
-use Rattle.line_map.specs.declared.edit.EditKind.{EditKind}
-use Rattle.line_map.specs.declared.tree_at.TreeAt.{TreeAt}
-use Rattle.line_map.specs.declared.tree_at.KeptTree.TheVariants.{Back, Whole}
-use Rattle.line_map.specs.contracts.tree_at.TreeAtPartialEq.TheImpl as tree_at
-use Rattle.line_map.specs.Edit.{opposite_of, IsValid}
-use Rattle.line_map.specs.Places.{place_image, place_inside, place_back}
-use Rattle.line_map.specs.Trees.{goes, node_at, carried, followed, kept, kept_at, kept_by, laid_over, regained, Lies}
+use Rattle.formula_tree.specs.Corners.{corner_row, corner_column, is_inside, corner_at}
+use Rattle.formula_tree.specs.laws.CornerLaws.{corner_row-corner_to, corner_column-corner_to}
+use Rattle.formula_tree.specs.Placed.{is_placed}
+use Rattle.formula_tree.specs.laws.PlacedLaws.{placed-moved}
+use Rattle.line_map.specs.Carried.{if_there}
+use Rattle.line_map.specs.Moves.{place_image}
+use Rattle.line_map.specs.Trees.{corner_of, target, moved_corner, following, tree_carried, tree_part, TreeLies}
+use Rattle.line_map.specs.Trial.{part_by_trial}
+use Rattle.line_map.specs.Way.{Way, IsWay, back}
+use Rattle.line_map.specs.laws.TrialLaws.{trial_comes_back, trial_part}
+use Rattle.line_map.specs.laws.WayLaws.{image_inside}
 
--- `==` of trees at a place is equality of their values
-pub tree_at_equals : (a b : TreeAt) → Decides (tree_at.ghosts.eq a b) (a ≡ b)
-tree_at_equals a b =
-    Decides-like _ (λ p i. record { node = p.0 i; sheet = p.1.0 i; place = p.1.1.0 i; edited = p.1.1.1 i })
-    (λ e. (ap (λ x. x.node) e, (ap (λ x. x.sheet) e, (ap (λ x. x.place) e, ap (λ x. x.edited) e))))
-    (Decides-and _ _ (same_value_decides the_row.coded _ _) (Decides-and _ _ (bytes_decides _ _) (Decides-and _ _ (position_equals _ _) (bytes_decides _ _))))
+inside_at : (b : Bool) (row column : ℤ) → (is_line (pos 1048576) row && is_line (pos 16384) column) ≡ b → IfSome (if b then Some (record { row = row; column = column }) else None) IsPlace
+inside_at true row column h = ((grind (arith, ints), grind (arith, ints)), (grind (arith, ints), grind (arith, ints)))
+inside_at false row column h = tt
 
-goes_inside : (a : Along) → IsAxis a → (e : EditKind) (v : TreeAt) → IsPlace v.place → IfSome (goes a e v) IsPlace
-unfolding goes
-goes_inside a l e v h = elim (same_folded v.sheet v.edited) as (λ b. IfSome (cond b (place_image a e v.place) (Some v.place)) IsPlace)
-    [ true ↦ place_inside a l e v.place h | false ↦ h ]
+corner_inside : (place : Position) (corner : Corner) → IfSome (corner_at place corner) IsPlace
+unfolding corner_at is_inside
+corner_inside place corner = inside_at _ (corner_row place corner) (corner_column place corner) refl
 
-carried_lies : (a : Along) (e : EditKind) (v : TreeAt) → Lies v → (o : Option Position) → IfSome o IsPlace → Lies (carried a e v o)
-carried_lies a e v h None i = h
-carried_lies a e v h (Some to) i = i
+there_inside : (w : Way) → IsWay w → (o : Option Position) → IfSome o IsPlace → IfSome (if_there o (place_image w.along w.moves.to)) IsPlace
+there_inside w is None h = tt
+there_inside w is (Some place) h = image_inside w.along is.axis w.moves is.one_to_one place h
 
--- a tree that is carried along stays in the sheet
-pub tree_stays : (a : Along) → IsAxis a → (e : EditKind) (v : TreeAt) → Lies v → Lies (followed a e v)
-unfolding followed
-tree_stays a l e v h = carried_lies a e v h _ (goes_inside a l e v h)
+target_inside : (w : Way) → IsWay w → (exposed : Bool) (corner : Corner) → IfSome (target w exposed corner) IsPlace
+unfolding target
+target_inside w is true corner = there_inside w is (corner_at w.from corner) (corner_inside w.from corner)
+target_inside w is false corner = corner_inside w.from corner
 
--- the opposite takes the cell back
-goes_back : (a : Along) → IsAxis a → (e : EditKind) → IsValid a.last e → (v : TreeAt) (to : Position) (node : Node) → goes a e v ≡ Some to → goes a (opposite_of e) (record v { node = node; place = to }) ≡ Some v.place
-unfolding goes
-goes_back a l e valid v to node h = elim (same_folded v.sheet v.edited) as (λ b. cond b (place_image a e v.place) (Some v.place) ≡ Some to → cond b (place_image a (opposite_of e) to) (Some to) ≡ Some v.place)
-    [ true ↦ λ g. place_back a l e valid v.place to g | false ↦ λ g. sym g ] h
+are_lines : (row column : ℤ) → IsRow row → IsColumn column → (is_line (pos 1048576) row && is_line (pos 16384) column) ≡ true
+are_lines row column h i = let a = h.0 in let b = h.1 in let c = i.0 in let d = i.1 in grind (arith, ints)
 
--- what was kept, laid over what went back
-over : (w v : TreeAt) (m : Node) → laid_over w (kept_by m v.node) (record v { node = m }) ≡ v
-unfolding kept_by
-over w v m = elim (same_value the_row.coded m v.node) as (λ b. same_value the_row.coded m v.node ≡ b → laid_over w (if b then Back else Whole v.node) (record v { node = m }) ≡ v)
-    [ true ↦ λ h. ap (λ n. record v { node = n }) ((same_value_decides the_row.coded m v.node).0 h) | false ↦ λ h. refl ] refl
+landed : (to : Position) (corner : Corner) (o : Option Position) → IfSome o IsPlace → IfSome (if_there o (λ place. Some (corner_of to corner place))) (λ c. is_inside to c ≡ true)
+unfolding is_inside
+landed to corner None h = tt
+landed to corner (Some place) h =
+    (λ i. is_line (pos 1048576) (corner_row-corner_to to corner.absolute_row corner.absolute_column place i) && is_line (pos 16384) (corner_column-corner_to to corner.absolute_row corner.absolute_column place i))
+    ∙ are_lines place.row place.column h.0 h.1
 
--- the followed tree, gone back
-back_is : (a : Along) → IsAxis a → (e : EditKind) → IsValid a.last e → (v : TreeAt) (to : Position) → goes a e v ≡ Some to →
-    followed a (opposite_of e) (carried a e v (Some to)) ≡ record v { node = node_at a (opposite_of e) (carried a e v (Some to)) v.place }
-unfolding followed
-back_is a l e valid v to h = ap (carried a (opposite_of e) (carried a e v (Some to))) (goes_back a l e valid v to (node_at a e v to) h)
+-- the corners of a tree that is carried along lie inside the sheet, and those of each range are in order
+pub tree_placed : (w : Way) → IsWay w → (tree : Node) → is_placed w.to (tree_carried w tree) ≡ true
+unfolding tree_carried
+tree_placed w is tree = placed-moved true w.from w.to (following w) (record {
+  reference = λ sheet corner _. landed w.to corner _ (target_inside w is _ corner);
+  first = λ sheet first second _. landed w.to first _ (target_inside w is _ first);
+  second = λ sheet first second _. landed w.to second _ (target_inside w is _ second);
+}) tree refl
 
-regains_at : (a : Along) → IsAxis a → (e : EditKind) → IsValid a.last e → (v : TreeAt) (o : Option Position) → goes a e v ≡ o →
-    laid_over (carried a e v o) (kept_at a e v o) (followed a (opposite_of e) (carried a e v o)) ≡ v
-regains_at a l e valid v None h = refl
-regains_at a l e valid v (Some to) h =
-    ap (λ t. laid_over (carried a e v (Some to)) (kept_by t.node v.node) t) (back_is a l e valid v to h)
-    ∙ over (carried a e v (Some to)) v (node_at a (opposite_of e) (carried a e v (Some to)) v.place)
+pub tree_stays : (w : Way) → IsWay w → (tree : Node) → TreeLies (back w) (tree_carried w tree)
+tree_stays w is tree = tree_placed w is tree
 
--- a tree is regained
-pub tree_regains : (a : Along) → IsAxis a → (e : EditKind) → IsValid a.last e → (v : TreeAt) → regained a e (followed a e v) (kept a e v) ≡ v
-unfolding regained kept followed
-tree_regains a l e valid v = regains_at a l e valid v _ refl
+pub tree_comes_back : (w : Way) (tree : Node) → tree_part w tree ≡ None → tree_carried (back w) (tree_carried w tree) ≡ tree
+tree_comes_back w tree h = trial_comes_back (same_value the_row.coded) tree_carried (same_value_decides the_row.coded) w tree h
+
+pub tree_restores : (w : Way) (tree part : Node) → tree_part w tree ≡ Some part → part ≡ tree
+tree_restores w tree part h = trial_part (same_value the_row.coded) tree_carried w tree part h
+
+none_at : (tree returned : Node) → returned ≡ tree → None ≡ (if same_value the_row.coded returned tree then None else Some tree)
+none_at tree returned h = sym ((λ i. if (same_value_decides the_row.coded returned tree).1 h i then None else Some tree))
+
+-- of a tree that comes back nothing is kept
+pub no_tree_part : (w : Way) (tree : Node) → tree_carried (back w) (tree_carried w tree) ≡ tree → None ≡ tree_part w tree
+unfolding part_by_trial
+no_tree_part w tree h = none_at tree (tree_carried (back w) (tree_carried w tree)) h
+
+-- what is kept of a tree, by the test of what comes back
+pub tree_part_at : (w : Way) (tree : Node) (b : Bool) → same_value the_row.coded (tree_carried (back w) (tree_carried w tree)) tree ≡ b → tree_part w tree ≡ (if b then None else Some tree)
+unfolding part_by_trial
+tree_part_at w tree b h = λ i. if h i then None else Some tree

@@ -8,46 +8,53 @@ use Rattle.sheet_grid.specs.Sheet.{Sheet}
 use Rattle.sheet_grid.specs.Book.{Book}
 use Rattle.line_map.specs.declared.EditKind.{EditKind}
 use Rattle.line_map.specs.Edit.{IsValid}
+use Rattle.line_map.specs.Moves.{LineMoves, edit_moves}
+use Rattle.line_map.specs.Way.{IsWay}
+use Rattle.line_map.specs.laws.Images.{edit_one_to_one}
 use Rattle.sheet_rules.specs.SheetNames.{is_sheet_name}
 use Rattle.sheet_rules.specs.laws.EntryLaws.{both}
-use Rattle.sheet_rules.specs.WellFormed.{are_distinct, ids_of, names_of, are_sheets, have_trees, have_attributes, are_frozen, IsWellFormed}
+use Rattle.sheet_rules.specs.WellFormed.{are_distinct, ids_of, names_of, are_sheets, stands_inside, have_trees, have_attributes, are_frozen, IsWellFormed}
 use Rattle.sheet_rules.specs.laws.WellFormedLaws.{well_formed_parts, well_formed_from_parts}
-use Rattle.sheet_lines.specs.Followed.{sheet_of, name_of, sheet_followed, book_followed}
-use Rattle.sheet_actions.specs.laws.FollowedTrees.{pass}
-use Rattle.sheet_actions.specs.laws.FollowedSheets.{trees_stay, attributes_stay}
+use Rattle.sheet_lines.specs.Followed.{way_of, sheet_followed, sheets_followed, book_followed}
+use Rattle.sheet_lines.specs.Sheets.{sheet_of, name_of}
+use Rattle.sheet_actions.specs.laws.FollowedSheets.{pass, inside_stay, trees_stay, attributes_stay}
 
 -- a test that each sheet still passes
 all_follow : (P : Sheet → Bool) (f : Sheet → Sheet) → ((sheet : Sheet) → P sheet ≡ true → P (f sheet) ≡ true) → (sheets : List Sheet) → list_all P sheets ≡ true → list_all P (map f sheets) ≡ true
 all_follow P f h [] all = refl
 all_follow P f h (sheet ∷ sheets) all = let parts = both _ _ all in pass _ _ (h sheet parts.0) (all_follow P f h sheets parts.1)
 
-module _ (a : Along) (e : EditKind) (id : ℕ) (edited : List ℕ) where
-  same_count : (sheets : List Sheet) → length (map (sheet_followed a e id edited) sheets) ≡ length sheets
+module _ (a : Along) (m : LineMoves) (id : ℕ) (edited : List ℕ) where
+  same_count : (sheets : List Sheet) → length (sheets_followed a m id edited sheets) ≡ length sheets
   same_count [] = refl
   same_count (sheet ∷ sheets) = ap suc (same_count sheets)
 
-  same_ids : (sheets : List Sheet) → ids_of (map (sheet_followed a e id edited) sheets) ≡ ids_of sheets
+  same_ids : (sheets : List Sheet) → ids_of (sheets_followed a m id edited sheets) ≡ ids_of sheets
   same_ids [] = refl
   same_ids (sheet ∷ sheets) = λ i. sheet.id ∷ same_ids sheets i
 
-  same_names : (sheets : List Sheet) → names_of (map (sheet_followed a e id edited) sheets) ≡ names_of sheets
+  same_names : (sheets : List Sheet) → names_of (sheets_followed a m id edited sheets) ≡ names_of sheets
   same_names [] = refl
   same_names (sheet ∷ sheets) = λ i. sheet.name ∷ same_names sheets i
 
-  sheets_stay : (sheets : List Sheet) → are_sheets (map (sheet_followed a e id edited) sheets) ≡ are_sheets sheets
+  sheets_stay : (sheets : List Sheet) → are_sheets (sheets_followed a m id edited sheets) ≡ are_sheets sheets
   unfolding are_sheets
   sheets_stay sheets = λ i.
       nat_lt 0 (same_count sheets i) && are_distinct (λ m n. m == n) (same_ids sheets i) && list_all is_sheet_name (same_names sheets i) && are_distinct same_folded (same_names sheets i)
 
 -- whatever its sheets are, and whichever of them the edit is of
 pub followed_well_formed : (a : Along) → IsAxis a → (e : EditKind) → IsValid a.last e → (id : ℕ) (book : Book) → IsWellFormed book → IsWellFormed (book_followed a e id book)
-followed_well_formed a l e valid id book h =
+followed_well_formed a lawful e valid id book h =
+    let m : LineMoves = edit_moves a.last e in
     let edited : List ℕ = name_of (sheet_of book id) in
-    let f : Sheet → Sheet = sheet_followed a e id edited in
-    let parts = well_formed_parts book h in
-    well_formed_from_parts (book_followed a e id book) (
-      sheets_stay a e id edited book.worksheets ∙ parts.0,
-      all_follow have_trees f (λ sheet. trees_stay a l e valid id edited sheet) book.worksheets parts.1,
-      all_follow have_attributes f (λ sheet. attributes_stay a l e valid id edited sheet) book.worksheets parts.2,
-      all_follow are_frozen f (λ _ frozen. frozen) book.worksheets parts.3,
-    )
+    let f : Sheet → Sheet = λ sheet. sheet_followed (way_of a m id edited sheet) sheet in
+    let is : (sheet : Sheet) → IsWay (way_of a m id edited sheet) = λ sheet. record { axis = lawful; one_to_one = edit_one_to_one a.last e valid } in
+    let rules = well_formed_parts book h in
+    well_formed_from_parts (book_followed a e id book)
+    (record {
+      sheets = sheets_stay a m id edited book.worksheets ∙ rules.sheets;
+      inside = all_follow stands_inside f (λ sheet. inside_stay (way_of a m id edited sheet) (is sheet) sheet) book.worksheets rules.inside;
+      trees = all_follow have_trees f (λ sheet. trees_stay (way_of a m id edited sheet) (is sheet) sheet) book.worksheets rules.trees;
+      attributes = all_follow have_attributes f (λ sheet. attributes_stay (way_of a m id edited sheet) (is sheet) sheet) book.worksheets rules.attributes;
+      frozen = all_follow are_frozen f (λ _ frozen. frozen) book.worksheets rules.frozen;
+    })

@@ -1,62 +1,64 @@
 -- A planned edit is a valid one, of a sheet that the workbook has.
-use Rattle.std.proofs.Common.{◌≡◌, ◌≢◌, ◌∙◌, ℕ, zero, suc, ℤ, pos, ◌+ℤ◌, ◌≤ℤ◌, Bool, true, false, cond, List, [], ◌∷◌, Option, Some, None, Result, Ok, Err, refl, subst, ap, sym, arith}
-use Rattle.std.specs.Prelude.{IfOk, IsTrue, is_some, int_lt, slice_get, ◌==◌}
+use Rattle.std.proofs.Common.{◌≡◌, ◌≢◌, ◌∙◌, ℕ, zero, suc, ℤ, pos, ◌+ℤ◌, ◌≤ℤ◌, Bool, true, false, cond, List, [], ◌∷◌, Option, Some, None, Result, Ok, Err, refl, ap, arith}
+use Rattle.std.specs.Prelude.{IsTrue, is_some, int_lt, slice_get, ◌==◌, not}
 use Rattle.std.specs.Cmp.{unsigned_Decides}
 use Rattle.std.specs.List.{find}
 use Rattle.std.proofs.lemmas.Int.{ints}
 use Rattle.base_values.specs.declared.EditError.{EditError}
-use Rattle.base_values.specs.declared.EditError.TheVariants.{InvalidSheet, BadCount, OverEdge, TargetOutOfBounds, NoMemory}
-use Rattle.base_values.specs.Answers.{and_then, map_ok, ok_or}
-use Rattle.base_values.specs.Places.{is_line, line_of}
+use Rattle.base_values.specs.declared.EditError.TheVariants.{InvalidSheet, InvalidRow, InvalidColumn, BadCount, OverEdge, TargetOutOfBounds, NoMemory}
+use Rattle.base_values.specs.Answers.{ok_or}
+use Rattle.base_values.specs.Places.{is_line}
 use Rattle.base_axis.specs.Along.{Along}
 use Rattle.sheet_grid.specs.Sheet.{Sheet}
-use Rattle.sheet_grid.specs.Book.{Book}
+use Rattle.sheet_grid.specs.Book.{Book, sheet_at}
 use Rattle.line_map.specs.declared.EditKind.{EditKind}
-use Rattle.line_map.specs.declared.EditKind.TheVariants.{Insert, Delete}
+use Rattle.line_map.specs.declared.EditKind.TheVariants.{Insert, Delete, Move}
 use Rattle.line_map.specs.Areas.{last_line}
-use Rattle.line_map.specs.Edit.{IsValid, IsWithin}
-use Rattle.sheet_lines.specs.Followed.{sheet_of}
+use Rattle.line_map.specs.Edit.{IsValid, is_valid, is_within}
+use Rattle.sheet_lines.specs.Sheets.{sheet_of}
 use Rattle.sheet_actions.specs.GreatestLine.{greatest_line}
 use Rattle.sheet_actions.specs.laws.GreatestLaws.{at_least_one}
-use Rattle.sheet_actions.specs.Planned.{edit_allowed, lines_planned}
+use Rattle.sheet_actions.specs.Planned.{outside, refusal_of}
 
--- three guards, and what they let through
-abbrev guarded : ℤ → Bool → Bool → Bool → EditError → EditError → EditKind → Result EditKind EditError
-guarded line few on past outside over kind = cond few (Err BadCount) (and_then (cond on (Ok line) (Err outside)) (λ _. cond past (Err over) (Ok kind)))
+-- the tests of lines, by what they say
+abbrev first_refusal : Bool → Bool → Bool → EditError → EditError → Option EditError
+first_refusal few on too_far outside refusal = cond few (Some BadCount) (cond (not on) (Some outside) (cond too_far (Some refusal) None))
 
--- the guards that were passed
-record Passed (few on past : Bool) (kind edit : EditKind) : Type 0 where
+-- the tests that were passed
+record Passed (few on too_far : Bool) : Type 0 where
   enough : few ≡ false
   inside : on ≡ true
-  within : past ≡ false
-  same : kind ≡ edit
+  near : too_far ≡ false
 
-passed : (line : ℤ) (few on past : Bool) (outside over : EditError) (kind edit : EditKind) → guarded line few on past outside over kind ≡ Ok edit → Passed few on past kind edit
-passed line true on past outside over kind edit h = absurd (let never : ◌≡◌ {A = Result EditKind EditError} (Err BadCount) (Ok edit) = h in cc)
-passed line false false past outside over kind edit h = absurd (let never : ◌≡◌ {A = Result EditKind EditError} (Err outside) (Ok edit) = h in cc)
-passed line false true true outside over kind edit h = absurd (let never : ◌≡◌ {A = Result EditKind EditError} (Err over) (Ok edit) = h in cc)
-passed line false true false outside over kind edit h = record { enough = refl; inside = refl; within = refl; same = cc }
+passed : (few on too_far : Bool) (outside refusal : EditError) → first_refusal few on too_far outside refusal ≡ None → Passed few on too_far
+passed true on too_far outside refusal h = absurd (let never : ◌≡◌ {A = Option EditError} (Some BadCount) None = h in cc)
+passed false false too_far outside refusal h = absurd (let never : ◌≡◌ {A = Option EditError} (Some outside) None = h in cc)
+passed false true true outside refusal h = absurd (let never : ◌≡◌ {A = Option EditError} (Some refusal) None = h in cc)
+passed false true false outside refusal h = record { enough = refl; inside = refl; near = refl }
 
-within_insert : (last g first count : ℤ) → pos 1 ≤ℤ g → int_lt count (pos 1) ≡ false → is_line last first ≡ true → int_lt last (g +ℤ count) ≡ false → IsWithin last first count
-within_insert last g first count low few on past =
-    record { begins = (grind (arith, ints), grind (arith, ints)); amount = (grind (arith, ints), grind (arith, ints)) }
+within_insert : (last g first count : ℤ) → pos 1 ≤ℤ g → int_lt count (pos 1) ≡ false → is_line last first ≡ true → int_lt last (g +ℤ count) ≡ false → is_within last first count ≡ true
+within_insert last g first count low few on near = grind (arith, ints)
 
-within_delete : (last first count : ℤ) → int_lt count (pos 1) ≡ false → is_line last first ≡ true → int_lt last (last_line first count) ≡ false → IsWithin last first count
-within_delete last first count few on past =
-    record { begins = (grind (arith, ints), grind (arith, ints)); amount = (grind (arith, ints), grind (arith, ints)) }
+within_delete : (last first count : ℤ) → int_lt count (pos 1) ≡ false → is_line last first ≡ true → int_lt last (last_line first count) ≡ false → is_within last first count ≡ true
+within_delete last first count few on near = grind (arith, ints)
 
--- an edit that is allowed is valid
-pub valid_allowed : (a : Along) (outside : EditError) (kind : EditKind) (sheet : Sheet) (edit : EditKind) → edit_allowed a outside kind sheet ≡ Ok edit → IsValid a.last edit
-unfolding edit_allowed line_of IsValid
-valid_allowed a outside (Insert first count) sheet edit h =
-    let p = passed first (int_lt count (pos 1)) (is_line a.last first) (int_lt a.last (greatest_line a sheet +ℤ count)) outside OverEdge (Insert first count) edit h in
-    subst (IsValid a.last) p.same (within_insert a.last (greatest_line a sheet) first count (at_least_one a sheet) p.enough p.inside p.within)
-valid_allowed a outside (Delete first count) sheet edit h =
-    let p = passed first (int_lt count (pos 1)) (is_line a.last first) (int_lt a.last (last_line first count)) outside TargetOutOfBounds (Delete first count) edit h in
-    subst (IsValid a.last) p.same (within_delete a.last first count p.enough p.inside p.within)
+move_valid : (b : Bool) → cond b None (Some TargetOutOfBounds) ≡ None → b ≡ true
+move_valid true h = refl
+move_valid false h = absurd (let never : ◌≡◌ {A = Option EditError} (Some TargetOutOfBounds) None = h in cc)
+
+-- an edit that is not refused is valid
+pub valid_unrefused : (a : Along) (kind : EditKind) (sheet : Sheet) → refusal_of a kind sheet ≡ None → IsValid a.last kind
+unfolding refusal_of is_valid
+valid_unrefused a (Insert first count) sheet h =
+    let p = passed (int_lt count (pos 1)) (is_line a.last first) (int_lt a.last (greatest_line a sheet +ℤ count)) (outside a) OverEdge h in
+    within_insert a.last (greatest_line a sheet) first count (at_least_one a sheet) p.enough p.inside p.near
+valid_unrefused a (Delete first count) sheet h =
+    let p = passed (int_lt count (pos 1)) (is_line a.last first) (int_lt a.last (last_line first count)) (outside a) TargetOutOfBounds h in
+    within_delete a.last first count p.enough p.inside p.near
+valid_unrefused a (Move first count delta) sheet h = move_valid (is_valid a.last (Move first count delta)) h
 
 -- a sheet of a list is found by its id
-found_by_id : (sheets : List Sheet) (index : ℕ) (sheet : Sheet) → slice_get sheets index ≡ Some sheet → IsTrue (is_some (find (λ other. other.id == sheet.id) sheets))
+pub found_by_id : (sheets : List Sheet) (index : ℕ) (sheet : Sheet) → slice_get sheets index ≡ Some sheet → IsTrue (is_some (find (λ other. other.id == sheet.id) sheets))
 found_by_id [] index sheet h = absurd (let never : ◌≡◌ {A = Option Sheet} None (Some sheet) = h in cc)
 found_by_id (first ∷ sheets) zero sheet h =
     let same : first ≡ sheet = cc in
@@ -64,66 +66,32 @@ found_by_id (first ∷ sheets) zero sheet h =
 found_by_id (first ∷ sheets) (suc i) sheet h =
     elim (first.id == sheet.id) as (λ b. IsTrue (is_some (cond b (Some first) (find (λ other. other.id == sheet.id) sheets)))) [ true ↦ refl | false ↦ found_by_id sheets i sheet h ]
 
--- what a line edit of a workbook may ask
-pub record IsPlanned (a : Along) (book : Book) (plan : ℕ × EditKind) : Type 0 where
-  pub valid : IsValid a.last plan.1
-  pub there : IsTrue (is_some (sheet_of book plan.0))
+-- the sheet at an index is found by its id
+pub sheet_there : (book : Book) (index : ℕ) (sheet : Sheet) → Ok sheet ≡ sheet_at book index → IsTrue (is_some (sheet_of book sheet.id))
+sheet_there book index sheet h = at_index (slice_get book.worksheets index) refl h
+  where
+    at_index : (o : Option Sheet) → slice_get book.worksheets index ≡ o → Ok sheet ≡ ok_or InvalidSheet o → IsTrue (is_some (sheet_of book sheet.id))
+    at_index None is g = absurd (let never : ◌≡◌ {A = Result Sheet EditError} (Ok sheet) (Err InvalidSheet) = g in cc)
+    at_index (Some found) is g = let same : found ≡ sheet = cc in found_by_id book.worksheets index sheet (is ∙ ap Some same)
 
-module _ (a : Along) (outside : EditError) (kind : EditKind) (index : ℕ) (book : Book) (plan : ℕ × EditKind) where
-  of_sheet : (sheet : Sheet) → slice_get book.worksheets index ≡ Some sheet → (r : Result EditKind EditError) → edit_allowed a outside kind sheet ≡ r → map_ok (λ edit. (sheet.id, edit)) r ≡ Ok plan → IsPlanned a book plan
-  of_sheet sheet found (Ok edit) allowed h =
-      let same : ◌≡◌ {A = ℕ × EditKind} (sheet.id, edit) plan = cc in
-      subst (IsPlanned a book) same (record { valid = valid_allowed a outside kind sheet edit allowed; there = found_by_id book.worksheets index sheet found })
-  of_sheet sheet found (Err error) allowed h = absurd (let never : ◌≡◌ {A = Result (ℕ × EditKind) EditError} (Err error) (Ok plan) = h in cc)
+other : (few on too_far : Bool) (outside refusal : EditError) → outside ≢ NoMemory → refusal ≢ NoMemory → first_refusal few on too_far outside refusal ≢ Some NoMemory
+other true on too_far outside refusal one two h = cc
+other false false too_far outside refusal one two h = one (cc)
+other false true true outside refusal one two h = two (cc)
+other false true false outside refusal one two h = cc
 
-  of_index : (o : Option Sheet) → slice_get book.worksheets index ≡ o → and_then (ok_or InvalidSheet o) (λ sheet. map_ok (λ edit. (sheet.id, edit)) (edit_allowed a outside kind sheet)) ≡ Ok plan → IsPlanned a book plan
-  of_index (Some sheet) found h = of_sheet sheet found (edit_allowed a outside kind sheet) refl h
-  of_index None found h = absurd (let never : ◌≡◌ {A = Result (ℕ × EditKind) EditError} (Err InvalidSheet) (Ok plan) = h in cc)
+outside_sure : (a : Along) → outside a ≢ NoMemory
+outside_sure a = elim (a.of true false) as (λ b. cond b InvalidRow InvalidColumn ≢ NoMemory) [ true ↦ λ h. cc | false ↦ λ h. cc ]
 
-  -- what is planned may be edited
-  pub planned_may : lines_planned a outside kind index book ≡ Ok plan → IsPlanned a book plan
-  planned_may h = of_index (slice_get book.worksheets index) refl h
+move_sure : (b : Bool) → cond b None (Some TargetOutOfBounds) ≢ Some NoMemory
+move_sure true h = cc
+move_sure false h = cc
 
-module _ {X : Type 0} (f : X → ℕ × EditKind) (a : Along) (outside : EditError) (kind : EditKind) (index : ℕ) (book : Book) where
-  -- what a plan is read from
-  pub valid_planned : (r : Result X EditError) → map_ok f r ≡ lines_planned a outside kind index book → IfOk r (λ x. IsValid a.last (f x).1)
-  valid_planned (Ok x) h = (planned_may a outside kind index book (f x) (sym h)).valid
-  valid_planned (Err error) h = tt
-
-  pub there_planned : (r : Result X EditError) → map_ok f r ≡ lines_planned a outside kind index book → IfOk r (λ x. IsTrue (is_some (sheet_of book (f x).0)))
-  there_planned (Ok x) h = (planned_may a outside kind index book (f x) (sym h)).there
-  there_planned (Err error) h = tt
-
--- guards whose refusals are no lack of memory never tell of one
-guarded_sure : (line : ℤ) (few on past : Bool) (outside over : EditError) (kind : EditKind) → outside ≢ NoMemory → over ≢ NoMemory → guarded line few on past outside over kind ≢ Err NoMemory
-guarded_sure line true on past outside over kind other others h = let never : ◌≡◌ {A = Result EditKind EditError} (Err BadCount) (Err NoMemory) = h in cc
-guarded_sure line false false past outside over kind other others h =
-    let it : ◌≡◌ {A = Result EditKind EditError} (Err outside) (Err NoMemory) = h in
-    other (let same : outside ≡ NoMemory = cc in same)
-guarded_sure line false true true outside over kind other others h =
-    let it : ◌≡◌ {A = Result EditKind EditError} (Err over) (Err NoMemory) = h in
-    others (let same : over ≡ NoMemory = cc in same)
-guarded_sure line false true false outside over kind other others h = let never : ◌≡◌ {A = Result EditKind EditError} (Ok kind) (Err NoMemory) = h in cc
-
-allowed_sure : (a : Along) (outside : EditError) (kind : EditKind) (sheet : Sheet) → outside ≢ NoMemory → edit_allowed a outside kind sheet ≢ Err NoMemory
-unfolding edit_allowed line_of
-allowed_sure a outside (Insert first count) sheet other h =
-    guarded_sure first (int_lt count (pos 1)) (is_line a.last first) (int_lt a.last (greatest_line a sheet +ℤ count)) outside OverEdge (Insert first count) other (λ e. cc) h
-allowed_sure a outside (Delete first count) sheet other h =
-    guarded_sure first (int_lt count (pos 1)) (is_line a.last first) (int_lt a.last (last_line first count)) outside TargetOutOfBounds (Delete first count) other (λ e. cc) h
-
-module _ (a : Along) (outside : EditError) (other : outside ≢ NoMemory) (kind : EditKind) (index : ℕ) (book : Book) where
-  sheet_sure : (sheet : Sheet) (r : Result EditKind EditError) → r ≢ Err NoMemory → ◌≢◌ {A = Result (ℕ × EditKind) EditError} (map_ok (λ edit. (sheet.id, edit)) r) (Err NoMemory)
-  sheet_sure sheet (Ok edit) sure h = let never : ◌≡◌ {A = Result (ℕ × EditKind) EditError} (Ok (sheet.id, edit)) (Err NoMemory) = h in cc
-  sheet_sure sheet (Err error) sure h =
-      let it : ◌≡◌ {A = Result (ℕ × EditKind) EditError} (Err error) (Err NoMemory) = h in
-      let same : error ≡ NoMemory = cc in
-      sure (ap Err same)
-
-  index_sure : (o : Option Sheet) → ◌≢◌ {A = Result (ℕ × EditKind) EditError} (and_then (ok_or InvalidSheet o) (λ sheet. map_ok (λ edit. (sheet.id, edit)) (edit_allowed a outside kind sheet))) (Err NoMemory)
-  index_sure (Some sheet) h = sheet_sure sheet (edit_allowed a outside kind sheet) (allowed_sure a outside kind sheet other) h
-  index_sure None h = let never : ◌≡◌ {A = Result (ℕ × EditKind) EditError} (Err InvalidSheet) (Err NoMemory) = h in cc
-
-  -- planning takes no memory
-  pub plan_sure : {X : Type 0} (f : X → ℕ × EditKind) (r : Result X EditError) → map_ok f r ≡ lines_planned a outside kind index book → r ≢ Err NoMemory
-  plan_sure f r h is = index_sure (slice_get book.worksheets index) (sym h ∙ ap (map_ok f) is)
+-- no refusal is a lack of memory
+pub refusal_sure : (a : Along) (kind : EditKind) (sheet : Sheet) → refusal_of a kind sheet ≢ Some NoMemory
+unfolding refusal_of
+refusal_sure a (Insert first count) sheet =
+    other (int_lt count (pos 1)) (is_line a.last first) (int_lt a.last (greatest_line a sheet +ℤ count)) (outside a) OverEdge (outside_sure a) (λ h. cc)
+refusal_sure a (Delete first count) sheet =
+    other (int_lt count (pos 1)) (is_line a.last first) (int_lt a.last (last_line first count)) (outside a) TargetOutOfBounds (outside_sure a) (λ h. cc)
+refusal_sure a (Move first count delta) sheet = move_sure (is_valid a.last (Move first count delta))

@@ -4,7 +4,7 @@ use Rattle.std.specs.Bool.{Decides}
 use Rattle.std.proofs.lemmas.Bool.Decides.{Decides-like, Decides-and}
 use Rattle.base_values.specs.laws.Decided.{option_equals}
 use Rattle.base_styles.specs.laws.StyleEquals.{style_equals}
-use Rattle.formula_content.specs.laws.ContentEquals.{content_equals}
+use Rattle.cell_content.specs.laws.ContentEquals.{content_equals}
 use Rattle.sheet_grid.specs.declared.cell.Cell.{Cell}
 use Rattle.sheet_grid.specs.contracts.cell.CellPartialEq.TheImpl as cell
 use Rattle.sheet_grid.specs.SameEntry.{same_entry}

@@ -16,7 +16,7 @@ use Rattle.base_values.specs.Places.{is_line, place_of, position_cmp}
 use Rattle.base_values.specs.laws.Places.{position_total, exact_positions}
 use Rattle.base_tables.specs.declared.Locale.{Locale}
 use Rattle.base_tables.specs.declared.Zone.{Zone}
-use Rattle.formula_content.specs.laws.FittingLaws.{shallow_where_fits}
+use Rattle.cell_content.specs.laws.FittingLaws.{shallow_where_fits}
 use Rattle.sheet_grid.specs.declared.cell.Cell.{Cell}
 use Rattle.sheet_grid.specs.Sheet.{Sheet, cell_at, with_cell, cell_put}
 use Rattle.sheet_grid.specs.Book.{Book, new_book, index_of, sheet_at, sheet_edit, edit_by_id, with_sheet}

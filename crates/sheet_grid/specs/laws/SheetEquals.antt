@@ -11,7 +11,7 @@ use Rattle.base_tables.specs.laws.LocaleEquals.{locale_equals}
 use Rattle.base_tables.specs.laws.ZoneEquals.{zone_equals}
 use Rattle.sheet_grid.specs.laws.StateEquals.{state_equals}
 use Rattle.sheet_grid.specs.laws.CellEquals.{cell_equals}
-use Rattle.sheet_grid.specs.laws.LineEquals.{link_equals, row_attr_equals, column_attr_equals}
+use Rattle.sheet_grid.specs.laws.LineEquals.{link_equals, line_attr_equals}
 use Rattle.sheet_grid.specs.Sheet.{Sheet}
 use Rattle.sheet_grid.specs.Book.{Book}
 use Rattle.sheet_grid.specs.contracts.worksheet.WorksheetPartialEq.TheImpl as worksheet
@@ -31,8 +31,8 @@ worksheet_equals a b =
     (Decides-and _ _ (signed_Decides _ _)
     (Decides-and _ _ (same_entries_decides position_equals cell_equals _ _)
     (Decides-and _ _ (same_entries_decides position_equals link_equals _ _)
-    (Decides-and _ _ (same_entries_decides signed_Decides row_attr_equals _ _)
-    (same_entries_decides signed_Decides column_attr_equals _ _)))))))))))
+    (Decides-and _ _ (same_entries_decides signed_Decides line_attr_equals _ _)
+    (same_entries_decides signed_Decides line_attr_equals _ _)))))))))))
 
 pub workbook_equals : (a b : Book) → Decides (workbook.ghosts.eq a b) (a ≡ b)
 workbook_equals a b =

@@ -8,10 +8,9 @@ ghost use Rattle.sheet_grid.specs.KeptCell.{KeptCells};
 
 use super::Worksheet;
 use crate::cell::Cell;
-use crate::column_attr::ColumnAttr;
+use crate::line_attr::LineAttr;
 use crate::link::Link;
-use crate::row_attr::RowAttr;
-use base_axis::{ColumnAxis, LineMap, RowAxis};
+use base_axis::{AxisMap, ColumnAxis, RowAxis};
 use base_shared::Shared;
 use base_values::{EditError, Items, PlaceMap, Position, copy_of};
 
@@ -32,14 +31,14 @@ impl Worksheet {
     }
 
     /// What rows have of their own.
-    pub fn row_map(&self) -> &LineMap<RowAxis, RowAttr>
+    pub fn row_map(&self) -> &AxisMap<RowAxis, LineAttr>
         ensures { result.now ≡ self.now.rows }
     {
         &self.rows
     }
 
     /// What columns have of their own.
-    pub fn column_map(&self) -> &LineMap<ColumnAxis, ColumnAttr>
+    pub fn column_map(&self) -> &AxisMap<ColumnAxis, LineAttr>
         ensures { result.now ≡ self.now.columns }
     {
         &self.columns
@@ -80,8 +79,8 @@ impl Worksheet {
         &self,
         cells: PlaceMap<Shared<Cell>>,
         links: PlaceMap<Link>,
-        rows: LineMap<RowAxis, RowAttr>,
-        columns: LineMap<ColumnAxis, ColumnAttr>,
+        rows: AxisMap<RowAxis, LineAttr>,
+        columns: AxisMap<ColumnAxis, LineAttr>,
     ) -> Result<Worksheet, EditError>
         requires { KeptCells cells }
         ensures sheet { IfOk result (λ sheet. sheet ≡ record self.now { cells = cells; links = links; rows = rows; columns = columns }) }

@@ -1,15 +1,17 @@
 //! Links, and what rows and columns have of their own.
 
 ghost use Rattle.std.specs.Prelude.{◌≡◌, ◌≢◌, None, Ok, Err, All};
+ghost use Rattle.std.specs.Option.{option_map};
 ghost use Rattle.std.specs.FinMap as fin;
 ghost use Rattle.base_values.specs.Answers.{Returns, Changes};
 ghost use Rattle.base_values.specs.declared.EditError.TheVariants.{NoMemory};
 ghost use Rattle.base_values.specs.Places.{IsPlace, IsRow, IsColumn};
-ghost use Rattle.sheet_grid.specs.Lines.{kept_row};
+ghost use Rattle.sheet_grid.specs.Lines.{line_of_row, kept_line};
 ghost use Rattle.sheet_grid.specs.Sheet.{link_at, link_put, row_at, row_put, column_at, column_put};
 
 use super::Worksheet;
 use crate::column_attr::ColumnAttr;
+use crate::line_attr::LineAttr;
 use crate::link::Link;
 use crate::row_attr::RowAttr;
 use base_values::{EditError, LAST_COLUMN, LAST_ROW, Position, copy_of, line_of, place_of};
@@ -25,7 +27,7 @@ impl Worksheet {
     }
 
     /// The rows that have something of their own, in ascending order.
-    pub fn rows(&self) -> Iter<'_, i32, RowAttr>
+    pub fn rows(&self) -> Iter<'_, i32, LineAttr>
         ensures entries { result ≡ fin.entries self.now.rows }
         ensures inside { All (λ entry. IsRow entry.0) result }
     {
@@ -33,7 +35,7 @@ impl Worksheet {
     }
 
     /// The columns that have something of their own, in ascending order.
-    pub fn columns(&self) -> Iter<'_, i32, ColumnAttr>
+    pub fn columns(&self) -> Iter<'_, i32, LineAttr>
         ensures entries { result ≡ fin.entries self.now.columns }
         ensures inside { All (λ entry. IsColumn entry.0) result }
     {
@@ -61,7 +63,7 @@ impl Worksheet {
     {
         let line = line_of(LAST_ROW, row, EditError::InvalidRow)?;
         match self.rows.get(line) {
-            Some(attr) => Ok(Some(copy_of(attr)?)),
+            Some(attr) => Ok(Some(copy_of(attr)?.into_row())),
             None => Ok(None),
         }
     }
@@ -74,7 +76,7 @@ impl Worksheet {
     {
         let line = line_of(LAST_COLUMN, column, EditError::InvalidColumn)?;
         match self.columns.get(line) {
-            Some(attr) => Ok(Some(copy_of(attr)?)),
+            Some(attr) => Ok(Some(copy_of(attr)?.into_column())),
             None => Ok(None),
         }
     }
@@ -97,10 +99,11 @@ impl Worksheet {
     /// `InvalidRow` where the row is outside the sheet. To take something away needs no memory.
     pub fn put_row(&mut self, row: i32, entry: Option<RowAttr>) -> Result<(), EditError>
         ensures put { Changes result self.old self.new (row_put self.old row entry) }
-        ensures away { kept_row entry ≡ None → result ≢ Err NoMemory }
+        ensures away { kept_line (option_map line_of_row entry) ≡ None → result ≢ Err NoMemory }
     {
         let line = line_of(LAST_ROW, row, EditError::InvalidRow)?;
-        self.rows.put(line, RowAttr::kept(entry))
+        let attr = entry.map(LineAttr::of_row);
+        self.rows.put(line, LineAttr::kept(attr))
     }
 
     /// Sets what a column has of its own, or takes it away. A width, a style and hiding that are
@@ -111,6 +114,7 @@ impl Worksheet {
         ensures { Changes result self.old self.new (column_put self.old column entry) }
     {
         let line = line_of(LAST_COLUMN, column, EditError::InvalidColumn)?;
-        self.columns.put(line, ColumnAttr::kept(entry))
+        let attr = entry.map(LineAttr::of_column);
+        self.columns.put(line, LineAttr::kept(attr))
     }
 }

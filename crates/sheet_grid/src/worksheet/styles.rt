@@ -4,40 +4,33 @@ ghost use Rattle.std.specs.Prelude.{◌≡◌, Ok};
 ghost use Rattle.std.specs.Option.{option_copied};
 ghost use Rattle.std.specs.FinMap as fin;
 ghost use Rattle.base_values.specs.Answers.{Returns, map_ok};
-ghost use Rattle.sheet_grid.specs.Sheet.{row_style, column_style, line_style, own_style, shown_style, style_at};
+ghost use Rattle.sheet_grid.specs.Lines.{own_line_style};
+ghost use Rattle.sheet_grid.specs.Sheet.{line_style, own_style, shown_style, style_at};
 
 use super::Worksheet;
 use crate::default_style::DefaultStyle;
+use crate::line_attr::LineAttr;
 use base_shared::Shared;
 use base_styles::Style;
 use base_values::{EditError, Position, copy_of, place_of};
 
+fn own_line_style(own: Option<&LineAttr>) -> Option<&Shared<Style>>
+    ensures { option_copied result ≡ own_line_style (option_copied own.entry) }
+{
+    match own {
+        Some(attr) => attr.style.as_ref(),
+        None => None,
+    }
+}
+
 impl Worksheet {
-    fn row_style(&self, row: i32) -> Option<&Shared<Style>>
-        ensures { option_copied result ≡ row_style (fin.get self.now.rows row) }
-    {
-        match self.rows.get(row) {
-            Some(attr) => attr.style.as_ref(),
-            None => None,
-        }
-    }
-
-    fn column_style(&self, column: i32) -> Option<&Shared<Style>>
-        ensures { option_copied result ≡ column_style (fin.get self.now.columns column) }
-    {
-        match self.columns.get(column) {
-            Some(attr) => attr.style.as_ref(),
-            None => None,
-        }
-    }
-
     /// The style of the row of a place, else of its column.
     fn line_style(&self, place: Position) -> Option<&Shared<Style>>
         ensures { option_copied result ≡ line_style self.now place }
     {
-        match self.row_style(place.row) {
+        match own_line_style(self.rows.get(place.row)) {
             Some(style) => Some(style),
-            None => self.column_style(place.column),
+            None => own_line_style(self.columns.get(place.column)),
         }
     }
 

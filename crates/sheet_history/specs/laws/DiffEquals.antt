@@ -10,13 +10,21 @@ use Rattle.sheet_grid.specs.laws.CellEquals.{cell_equals}
 use Rattle.line_map.specs.laws.Equals.{kind_equals}
 use Rattle.sheet_lines.specs.laws.KeptEquals.{kept_equals}
 use Rattle.sheet_history.specs.declared.diff.Diff.{Diff}
-use Rattle.sheet_history.specs.declared.diff.Diff.TheVariants.{Cell as CellDiff, Rows as RowsDiff}
+use Rattle.sheet_history.specs.declared.diff.Diff.TheVariants.{Cell as CellDiff, Lines as LinesDiff}
 use Rattle.sheet_history.specs.declared.diff.DiffType.{DiffType}
 use Rattle.sheet_history.specs.declared.diff.DiffType.TheVariants.{Undo, Redo}
 use Rattle.sheet_history.specs.declared.diff.QueueDiffs.{QueueDiffs}
 use Rattle.sheet_history.specs.contracts.diff.DiffPartialEq.TheImpl as diff
+use Rattle.sheet_history.specs.declared.diff.LineAxis.{LineAxis}
+use Rattle.sheet_history.specs.declared.diff.LineAxis.TheVariants.{Rows, Columns}
+use Rattle.sheet_history.specs.contracts.diff.LineAxisPartialEq.TheImpl as line_axis
 use Rattle.sheet_history.specs.contracts.diff.DiffTypePartialEq.TheImpl as diff_type
 use Rattle.sheet_history.specs.contracts.diff.QueueDiffsPartialEq.TheImpl as queue_diffs
+
+pub line_axis_equals : (a b : LineAxis) → Decides (line_axis.ghosts.eq a b) (a ≡ b)
+line_axis_equals Rows Rows = (λ _. refl, λ _. refl)
+line_axis_equals Columns Columns = (λ _. refl, λ _. refl)
+line_axis_equals _ _ = (λ e. cc, λ e. cc)
 
 pub diff_equals : (a b : Diff) → Decides (diff.ghosts.eq a b) (a ≡ b)
 diff_equals (CellDiff s p o n) (CellDiff t q u v) =
@@ -34,20 +42,23 @@ diff_equals (CellDiff s p o n) (CellDiff t q u v) =
 
     new_of : CellDiff s p o n ≡ CellDiff t q u v → n ≡ v
     new_of e = cc
-diff_equals (RowsDiff s e k) (RowsDiff t f l) =
-    Decides-like _ (λ h i. RowsDiff (h.0 i) (h.1.0 i) (h.1.1 i)) (λ e. (sheet_of e, (edit_of e, kept_of e)))
-    (Decides-and _ _ (unsigned_Decides _ _) (Decides-and _ _ (kind_equals _ _) (kept_equals _ _)))
+diff_equals (LinesDiff s x e k) (LinesDiff t y f l) =
+    Decides-like _ (λ h i. LinesDiff (h.0 i) (h.1.0 i) (h.1.1.0 i) (h.1.1.1 i)) (λ e. (sheet_of e, (axis_of e, (edit_of e, kept_of e))))
+    (Decides-and _ _ (unsigned_Decides _ _) (Decides-and _ _ (line_axis_equals _ _) (Decides-and _ _ (kind_equals _ _) (kept_equals _ _))))
   where
-    sheet_of : RowsDiff s e k ≡ RowsDiff t f l → s ≡ t
+    sheet_of : LinesDiff s x e k ≡ LinesDiff t y f l → s ≡ t
     sheet_of e = cc
 
-    edit_of : RowsDiff s e k ≡ RowsDiff t f l → e ≡ f
+    axis_of : LinesDiff s x e k ≡ LinesDiff t y f l → x ≡ y
+    axis_of e = cc
+
+    edit_of : LinesDiff s x e k ≡ LinesDiff t y f l → e ≡ f
     edit_of e = cc
 
-    kept_of : RowsDiff s e k ≡ RowsDiff t f l → k ≡ l
+    kept_of : LinesDiff s x e k ≡ LinesDiff t y f l → k ≡ l
     kept_of e = cc
-diff_equals (CellDiff _ _ _ _) (RowsDiff _ _ _) = (λ e. cc, λ e. cc)
-diff_equals (RowsDiff _ _ _) (CellDiff _ _ _ _) = (λ e. cc, λ e. cc)
+diff_equals (CellDiff _ _ _ _) (LinesDiff _ _ _ _) = (λ e. cc, λ e. cc)
+diff_equals (LinesDiff _ _ _ _) (CellDiff _ _ _ _) = (λ e. cc, λ e. cc)
 
 pub diff_type_equals : (a b : DiffType) → Decides (diff_type.ghosts.eq a b) (a ≡ b)
 diff_type_equals Undo Undo = (λ _. refl, λ _. refl)

@@ -1,75 +1,63 @@
 -- The conditions of a diff of lines hold of what is kept of a workbook: the edit is made, and taken back.
-use Rattle.std.proofs.Common.{◌≡◌, ℕ, ℤ, pos, ◌+ℤ◌, Bool, true, false, cond, List, [], ◌∷◌, map, Option, Some, None, Ok, Err, refl, ap, sym, subst, ◌∙◌, arith}
+use Rattle.std.proofs.Common.{◌≡◌, ℕ, ℤ, pos, ◌+ℤ◌, ◌⊎◌, inl, inr, Bool, true, false, cond, List, [], ◌∷◌, map, Option, Some, None, Ok, Err, refl, ap, sym, subst, ◌∙◌, arith}
 use Rattle.std.specs.Prelude.{IsTrue, IfSome, not, ◌&&◌, ◌==◌, is_none, int_le, int_lt, if◌then◌else◌}
 use Rattle.std.specs.List.{list_all, find, AllByRecursion}
-use Rattle.std.specs.Option.{option_map}
 use Rattle.std.specs.declared.cmp.Ordering.{Ordering}
-use Rattle.std.specs.Ordering.{nat_cmp, int_cmp}
-use Rattle.std.specs.Cmp.{IsTotalOrder, nat_cmp_total, int_cmp_total, unsigned_Decides}
-use Rattle.std.specs.FinMap.{FinMap, entries, get, get-empty, nat_cmp-IsAntisymmetric}
+use Rattle.std.specs.Ordering.{int_cmp}
+use Rattle.std.specs.Cmp.{IsTotalOrder, int_cmp_total, unsigned_Decides}
+use Rattle.std.specs.FinMap.{FinMap, entries, get, get-empty}
 use Rattle.std.proofs.lemmas.Int.{ints}
 use Rattle.std.proofs.lemmas.Map.Lookups.{CmpEqualImpliesEq, exact_signed}
 use Rattle.base_values.specs.declared.EditError.TheVariants.{DiffRefused}
 use Rattle.base_values.specs.declared.Position.{Position}
-use Rattle.base_values.specs.Places.{position_cmp}
+use Rattle.base_values.specs.Places.{is_line, position_cmp}
 use Rattle.base_values.specs.laws.Places.{position_total, exact_positions}
-use Rattle.base_axis.specs.Along.{Along, IsAxis}
+use Rattle.base_axis.specs.Along.{Along, IsAxis, rows, columns}
+use Rattle.base_maps.specs.declared.SheetPlace.{SheetPlace}
+use Rattle.base_maps.specs.SheetPlaces.{sheet_place_cmp}
+use Rattle.base_maps.specs.laws.SheetPlaces.{sheet_place_total, exact_sheet_places}
 use Rattle.formula_tree.specs.declared.Node.{Node}
-use Rattle.formula_content.specs.declared.Content.TheVariants.{Formula}
 use Rattle.formula_tree.specs.Depth.{is_within}
-use Rattle.formula_content.specs.Fitting.{fits_at, tree_fits_at}
-use Rattle.formula_content.specs.laws.FittingLaws.{shallow_where_fits}
+use Rattle.cell_content.specs.declared.Content.TheVariants.{Formula}
+use Rattle.cell_content.specs.Fitting.{fits_at, tree_fits_at}
+use Rattle.cell_content.specs.laws.FittingLaws.{shallow_where_fits}
 use Rattle.line_map.specs.declared.EditKind.{EditKind}
-use Rattle.line_map.specs.declared.EditKind.TheVariants.{Insert, Delete}
-use Rattle.line_map.specs.Edit.{image_at, goes_to, within, opposite_of, IsValid, IsWithin}
-use Rattle.line_map.specs.Carried.{Inverse, if_there, if_lost, lost_map, get-lost_map, get-follow_map}
-use Rattle.line_map.specs.Places.{at_line, place_image, place_inverse}
+use Rattle.line_map.specs.declared.EditKind.TheVariants.{Insert, Delete, Move}
+use Rattle.line_map.specs.Edit.{image_at, goes_to, within, opposite_of, IsValid}
+use Rattle.line_map.specs.Carried.{if_there, lost_map}
+use Rattle.line_map.specs.Contents.{cell_carried, cell_part}
+use Rattle.line_map.specs.Maps.{places_carried}
+use Rattle.line_map.specs.Moves.{at_line, edit_moves, place_image}
+use Rattle.line_map.specs.Way.{Way, at, back, place_goes}
+use Rattle.line_map.specs.laws.Gathering.{get-lost_map}
+use Rattle.line_map.specs.laws.Images.{edit_one_to_one}
+use Rattle.line_map.specs.laws.MapLaws.{get-carried_map}
+use Rattle.line_map.specs.laws.WayLaws.{goes_inverse}
 use Rattle.sheet_grid.specs.declared.Cell.{Cell}
+use Rattle.sheet_grid.specs.declared.LineAttr.{LineAttr}
+use Rattle.sheet_grid.specs.declared.Link.{Link}
 use Rattle.sheet_grid.specs.Sheet.{Sheet}
 use Rattle.sheet_grid.specs.Book.{Book}
 use Rattle.sheet_grid.specs.FittingCells.{entry_fits_at, is_shallow_entry, CellsFit}
 use Rattle.sheet_grid.specs.laws.FittingLaws.{shallow_entry}
 use Rattle.sheet_rules.specs.laws.EntryLaws.{both}
-use Rattle.sheet_rules.specs.WellFormed.{have_trees, IsWellFormed}
+use Rattle.sheet_rules.specs.WellFormed.{is_place, stands_inside, have_trees, IsWellFormed}
 use Rattle.sheet_rules.specs.laws.WellFormedLaws.{well_formed_parts, cells_fit_from_trees, distinct_ids_from_well_formed}
 use Rattle.sheet_lines.specs.declared.KeptLines.{KeptLines}
-use Rattle.sheet_lines.specs.Way.{Way, way, back, place_goes, line_image, line_goes, are_rows, are_columns}
-use Rattle.sheet_lines.specs.Followed.{cell_followed, cells_followed, sheet_of, name_of, way_of, sheet_followed, book_followed}
-use Rattle.sheet_lines.specs.Kept.{kept_trees, is_empty, sheet_kept, kept_formulas, lost_cells, lost_links, lost_rows, lost_columns, kept_lines}
+use Rattle.sheet_lines.specs.Sheets.{sheet_of, name_of}
+use Rattle.sheet_lines.specs.Followed.{way_of, sheet_followed, book_followed}
+use Rattle.sheet_lines.specs.Kept.{lines_of, of_sheet, place_on, kept_lines}
 use Rattle.sheet_lines.specs.Back.{book_back}
-use Rattle.sheet_lines.specs.laws.Regained.{goes_inverse, lines_go_inverse, formulas_under, kept_elsewhere, book_regained}
-use Rattle.sheet_history.specs.laws.Entries.{all_entries}
-use Rattle.sheet_history.specs.LineDiffs.{is_valid, is_pushed_past, stays_inside, is_there_inside, are_lost, stand_on_lost, cells_fit, tree_stands, trees_stand, formulas_stand, goes_on, goes_forward, goes_back, lines_forward, lines_back}
-use Rattle.sheet_history.specs.Depth.{AreShallowTrees, AreShallowLines}
-use Rattle.sheet_history.specs.laws.KeptTrees.{kept_fits, kept_stands}
+use Rattle.sheet_lines.specs.laws.Regained.{book_regained, formulas_under, kept_elsewhere}
+use Rattle.sheet_lines.specs.laws.Stays.{way_is}
+use Rattle.sheet_lines.specs.laws.Under.{found_passes}
+use Rattle.sheet_history.specs.Depth.{AreShallowLines}
+use Rattle.sheet_history.specs.LineDiffs.{is_pushed_past, stays_inside, is_there_inside, is_lost_place, is_lost_line, all_keys, stand_on_lost, cells_fit, tree_stands, formulas_stand, goes_on, goes_forward, goes_back, lines_forward, lines_back}
+use Rattle.sheet_history.specs.laws.Entries.{all_entries, entry_holds}
+use Rattle.sheet_history.specs.laws.KeptTrees.{IsTreeThere, tree_there, kept_fits, formula_there}
 
-within_at : (last first count : ℤ) → IsWithin last first count → (int_le (pos 1) first && int_le first last) && (int_le (pos 1) count && int_le count last) ≡ true
-within_at last first count h = grind (arith, ints)
-
--- a valid edit is told to be so
-pub is_valid-from : (last : ℤ) (e : EditKind) → IsValid last e → is_valid last e ≡ true
-unfolding is_valid IsValid
-is_valid-from last (Insert first count) h = within_at last first count h
-is_valid-from last (Delete first count) h = within_at last first count h
-
--- what is found passes the test, and what holds of all holds of it
+-- what holds of all holds of what is found
 module _ {X : Type 0} (p : X → Bool) where
-  found_passes : (xs : List X) (x : X) → find p xs ≡ Some x → p x ≡ true
-  found_passes [] x h = absurd (cc)
-  found_passes (y ∷ ys) x h = go (found_passes ys x) (p y) refl h
-    where
-      go : (find p ys ≡ Some x → p x ≡ true) → (b : Bool) → p y ≡ b → cond b (Some y) (find p ys) ≡ Some x → p x ≡ true
-      go rest true is it = let same : y ≡ x = cc in ap p (sym same) ∙ is
-      go rest false is it = rest it
-
-  found_in_all : (P : X → Bool) (xs : List X) (x : X) → find p xs ≡ Some x → list_all P xs ≡ true → P x ≡ true
-  found_in_all P [] x h all = absurd (cc)
-  found_in_all P (y ∷ ys) x h all = go (λ it. found_in_all P ys x it (both (P y) (list_all P ys) all).1) (p y) h
-    where
-      go : (find p ys ≡ Some x → P x ≡ true) → (b : Bool) → cond b (Some y) (find p ys) ≡ Some x → P x ≡ true
-      go rest true it = let same : y ≡ x = cc in ap P (sym same) ∙ (both (P y) (list_all P ys) all).0
-      go rest false it = rest it
-
   found_of_each : (P : X → Type 0) (xs : List X) (x : X) → find p xs ≡ Some x → AllByRecursion P xs → P x
   found_of_each P [] x h all = absurd (cc)
   found_of_each P (y ∷ ys) x h all = go (λ it. found_of_each P ys x it all.1) (p y) h
@@ -78,191 +66,223 @@ module _ {X : Type 0} (p : X → Bool) where
       go rest true it = let same : y ≡ x = cc in subst P same all.0
       go rest false it = rest it
 
--- the lost entries of a map are on keys without an image
-lost_are_lost : {K X : Type 0} (R : K → K → Ordering) (total : IsTotalOrder R) (exact : CmpEqualImpliesEq R) (to from : K → Option K) → Inverse to from → (m : FinMap R X) → are_lost to (lost_map to m) ≡ true
-lost_are_lost {K} {X} R total exact to from i m =
-    all_entries R total exact (λ entry. is_none (to entry.0)) (lost_map to m) (λ k x found. go k x (to k) refl (sym (get-lost_map R total exact to from i m k) ∙ found))
-  where
-    go : (k : K) (x : X) (o : Option K) → to k ≡ o → if_there (if_lost o k) (λ p. if_there (get m p) Some) ≡ Some x → is_none (to k) ≡ true
-    go k x None is found = ap is_none is
-    go k x (Some q) is found = absurd (cc)
+each_passes : {X : Type 0} (P : X → Bool) (xs : List X) → list_all P xs ≡ true → AllByRecursion (λ x. P x ≡ true) xs
+each_passes P [] all = tt
+each_passes P (x ∷ xs) all = ((both (P x) (list_all P xs) all).0, each_passes P xs (both (P x) (list_all P xs) all).1)
 
+module _ {K X : Type 0} (R : K → K → Ordering) (total : IsTotalOrder R) (exact : CmpEqualImpliesEq R) (to : K → Option K) (m : FinMap R X) where
+  -- a lost entry is one of the map, and its key goes nowhere
+  lost_entry : (k : K) (x : X) → get (lost_map to m) k ≡ Some x → (get m k ≡ Some x) × (is_none (to k) ≡ true)
+  lost_entry k x found = go (is_none (to k)) refl (sym (get-lost_map R total exact to m k) ∙ found)
+    where
+      go : (b : Bool) → is_none (to k) ≡ b → cond b (get m k) None ≡ Some x → (get m k ≡ Some x) × (is_none (to k) ≡ true)
+      go true is h = (h, is)
+      go false is h = absurd (cc)
+
+  -- the keys of lost entries pass what all keys do, and go nowhere
+  lost_keys : (test : K → Bool) → list_all (λ (e : K × X). test e.0) (entries m) ≡ true → all_keys (λ k. test k && is_none (to k)) (lost_map to m) ≡ true
+  lost_keys test all = all_entries R total exact (λ e. test e.0 && is_none (to e.0)) (lost_map to m) (λ k x found.
+      let it = lost_entry k x found in
+      λ i. entry_holds R total exact (λ e. test e.0) m all k x it.0 i && it.1 i)
+
+-- what a sheet has stands inside it, map by map
+record StandsInside (sheet : Sheet) : Type 0 where
+  cells : list_all (λ (e : Position × Cell). is_place e.0) (entries sheet.cells) ≡ true
+  links : list_all (λ (e : Position × Link). is_place e.0) (entries sheet.links) ≡ true
+  rows : list_all (λ (e : ℤ × LineAttr). is_line (pos 1048576) e.0) (entries sheet.rows) ≡ true
+  columns : list_all (λ (e : ℤ × LineAttr). is_line (pos 16384) e.0) (entries sheet.columns) ≡ true
+
+inside_parts : (sheet : Sheet) → stands_inside sheet ≡ true → StandsInside sheet
+unfolding stands_inside
+inside_parts sheet all =
+    let outer = both _ _ all in
+    let middle = both _ _ outer.0 in
+    let inner = both _ _ middle.0 in
+    record { cells = inner.0; links = inner.1; rows = middle.1; columns = outer.1 }
+
+-- the lines of an axis too
+lines_inside : (a : Along) → IsAxis a → (sheet : Sheet) → StandsInside sheet → list_all (λ (e : ℤ × LineAttr). is_line a.last e.0) (entries (lines_of a sheet)) ≡ true
+lines_inside a l sheet it = go l.one_of
+  where
+    go : (a ≡ rows) ⊎ (a ≡ columns) → list_all (λ (e : ℤ × LineAttr). is_line a.last e.0) (entries (lines_of a sheet)) ≡ true
+    go (inl is) = ap (λ b. list_all (λ (e : ℤ × LineAttr). is_line b.last e.0) (entries (lines_of b sheet))) is ∙ it.rows
+    go (inr is) = ap (λ b. list_all (λ (e : ℤ × LineAttr). is_line b.last e.0) (entries (lines_of b sheet))) is ∙ it.columns
+
+-- a line that an insertion takes somewhere is not pushed past the last line
 not_pushed : (last first count n m : ℤ) → image_at last (Insert first count) n ≡ Some m → not (int_le first n && int_lt last (n +ℤ count)) ≡ true
 unfolding image_at goes_to within
 not_pushed last first count n m h = grind (arith, ints)
 
--- a place that an insertion takes somewhere is not pushed past the last line
-inside_at : (a : Along) (first count : ℤ) (q : Position) (o : Option ℤ) → image_at a.last (Insert first count) (a.line q) ≡ o → (p : Position) → at_line a q o ≡ Some p → not (is_pushed_past a first count q) ≡ true
-inside_at a first count q None is p h = absurd (cc)
-inside_at a first count q (Some m) is p h = not_pushed a.last first count (a.line q) m is
-
-place_inside : (a : Along) (first count : ℤ) (q p : Position) → place_image a (Insert first count) q ≡ Some p → not (is_pushed_past a first count q) ≡ true
+-- nor is a place
+place_inside : (a : Along) (first count : ℤ) (q p : Position) → place_image a (image_at a.last (Insert first count)) q ≡ Some p → not (is_pushed_past a first count q) ≡ true
 unfolding place_image
-place_inside a first count q p h = inside_at a first count q _ refl p h
+place_inside a first count q p h = go (image_at a.last (Insert first count) (a.line q)) refl h
+  where
+    go : (o : Option ℤ) → image_at a.last (Insert first count) (a.line q) ≡ o → at_line a q o ≡ Some p → not (is_pushed_past a first count q) ≡ true
+    go None is h = absurd (cc)
+    go (Some m) is h = not_pushed a.last first count (a.line q) m is
+
+-- the trees that are kept of a sheet's formulas
+abbrev HasTrees : Way → FinMap sheet_place_cmp Node → Sheet → Type 0
+HasTrees w formulas sheet = (p : Position) → get formulas (place_on sheet.id p) ≡ if_there (get sheet.cells p) (λ cell. if_there (place_goes w p) (λ q. cell_part (at w p q) cell))
 
 module _ (a : Along) (l : IsAxis a) (e : EditKind) (valid : IsValid a.last e) (id : ℕ) where
-  abbrev edited_of : Book → List ℕ
-  edited_of book = name_of (sheet_of book id)
+  -- how the edit meets a sheet
+  abbrev way_on : List ℕ → Sheet → Way
+  way_on edited sheet = way_of a (edit_moves a.last e) id edited sheet
+
+  -- no cell of the later sheet is pushed past the end when the lines come back
+  back_inside : (edited : List ℕ) (sheet : Sheet) → (sheet.id == id) ≡ true → (kind : EditKind) → e ≡ kind → stays_inside a (opposite_of kind) (sheet_followed (way_on edited sheet) sheet) ≡ true
+  unfolding stays_inside opposite_of place_goes
+  back_inside edited sheet it (Insert first count) is = refl
+  back_inside edited sheet it (Move first count delta) is = refl
+  back_inside edited sheet it (Delete first count) is =
+      let w : Way = way_on edited sheet in
+      let came : Position → Option Position = place_image a (image_at a.last (opposite_of e)) in
+      all_entries position_cmp position_total exact_positions (λ (entry : Position × Cell). not (is_pushed_past a first count entry.0)) (places_carried cell_carried w sheet.cells) (λ q cell found.
+      let from = comes_from q cell sheet.cells (place_goes (back w) q)
+      (sym (get-carried_map position_cmp position_total exact_positions (place_goes w) (place_goes (back w)) (goes_inverse w (way_is a l e valid id edited sheet)) (λ p q x. cell_carried (at w p q) x) sheet.cells q) ∙ found) in
+      let there : came q ≡ Some from.0 = sym (ap (λ b. if b then came q else Some q) it) ∙ from.1 in
+      place_inside a first count q from.0 (sym (ap (λ k. place_image a (image_at a.last (opposite_of k)) q) is) ∙ there))
+    where
+      comes_from : (q : Position) (cell : Cell) (cells : FinMap position_cmp Cell) (o : Option Position) → if_there o (λ p. if_there (get cells p) (λ x. Some (cell_carried (at (way_on edited sheet) p q) x))) ≡ Some cell
+          → (p : Position) × (o ≡ Some p)
+      comes_from q cell cells None h = absurd (cc)
+      comes_from q cell cells (Some p) h = (p, refl)
+
+  -- kept cells were cells of the sheet
+  kept_fit : (sheet : Sheet) → CellsFit sheet → cells_fit (lost_map (place_image a (image_at a.last e)) sheet.cells) ≡ true
+  unfolding cells_fit
+  kept_fit sheet fit =
+      let to : Position → Option Position = place_image a (image_at a.last e) in
+      all_entries position_cmp position_total exact_positions (λ (entry : Position × Cell). fits_at entry.0 entry.1.content) (lost_map to sheet.cells)
+      (λ p cell found. sym (ap (entry_fits_at p) (lost_entry position_cmp position_total exact_positions to sheet.cells p cell found).0) ∙ fit p)
 
   -- the sheets of the later workbook, found by their ids
-  followed_found : (edited : List ℕ) (n : ℕ) (sheets : List Sheet) (sheet : Sheet) → find (λ s. s.id == n) sheets ≡ Some sheet → find (λ s. s.id == n) (map (sheet_followed a e id edited) sheets) ≡ Some (sheet_followed a e id edited sheet)
+  followed_found : (edited : List ℕ) (n : ℕ) (sheets : List Sheet) (sheet : Sheet) → find (λ s. s.id == n) sheets ≡ Some sheet
+      → find (λ s. s.id == n) (map (λ s. sheet_followed (way_on edited s) s) sheets) ≡ Some (sheet_followed (way_on edited sheet) sheet)
   followed_found edited n [] sheet h = absurd (cc)
   followed_found edited n (s ∷ sheets) sheet h = go (followed_found edited n sheets sheet) (s.id == n) refl h
     where
-      go : (find (λ s. s.id == n) sheets ≡ Some sheet → find (λ s. s.id == n) (map (sheet_followed a e id edited) sheets) ≡ Some (sheet_followed a e id edited sheet))
-          → (b : Bool) → (s.id == n) ≡ b → cond b (Some s) (find (λ s. s.id == n) sheets) ≡ Some sheet
-          → cond (s.id == n) (Some (sheet_followed a e id edited s)) (find (λ s. s.id == n) (map (sheet_followed a e id edited) sheets)) ≡ Some (sheet_followed a e id edited sheet)
-      go rest true is it =
-          ap (λ b. cond b (Some (sheet_followed a e id edited s)) (find (λ s. s.id == n) (map (sheet_followed a e id edited) sheets))) is
-          ∙ ap (option_map (sheet_followed a e id edited)) it
-      go rest false is it =
-          ap (λ b. cond b (Some (sheet_followed a e id edited s)) (find (λ s. s.id == n) (map (sheet_followed a e id edited) sheets))) is ∙ rest it
+      later : List Sheet
+      later = map (λ s. sheet_followed (way_on edited s) s) sheets
 
-  lost_places : {X : Type 0} (m : FinMap position_cmp X) → are_lost (place_image a e) (lost_map (place_image a e) m) ≡ true
-  lost_places m = lost_are_lost position_cmp position_total exact_positions (place_image a e) (place_image a (opposite_of e)) (place_inverse a l e valid) m
-
-  lost_lines : {X : Type 0} (b : Bool) (m : FinMap int_cmp X) → are_lost (line_image a e b) (lost_map (line_image a e b) m) ≡ true
-  unfolding line_goes
-  lost_lines b m = lost_are_lost int_cmp int_cmp_total exact_signed (line_image a e b) (line_image a (opposite_of e) b) (lines_go_inverse (way a e [] [] true) valid b) m
-
-  -- what is kept of a workbook stands on lost lines
-  kept_on_lost : (book : Book) (sheet : Sheet) → sheet_of book id ≡ Some sheet → stand_on_lost a e (kept_lines a e id book) ≡ true
-  unfolding stand_on_lost
-  kept_on_lost book sheet found = λ i.
-      (ap (λ o. are_lost (place_image a e) (lost_cells a e o)) found ∙ lost_places sheet.cells) i
-      && (ap (λ o. are_lost (place_image a e) (lost_links a e o)) found ∙ lost_places sheet.links) i
-      && (ap (λ o. are_lost (line_image a e (are_rows a)) (lost_rows a e o)) found ∙ lost_lines (are_rows a) sheet.rows) i
-      && (ap (λ o. are_lost (line_image a e (are_columns a)) (lost_columns a e o)) found ∙ lost_lines (are_columns a) sheet.columns) i
-
-  -- the edit is made
-  pub lines_made : (at : ℕ) (book : Book) (sheet : Sheet) → sheet_of book id ≡ Some sheet → stays_inside a e sheet ≡ true → lines_forward at a id e (kept_lines a e id book) book ≡ Ok (book_followed a e id book)
-  unfolding lines_forward
-  lines_made at book sheet found stays =
-      let goes : goes_forward a id e (kept_lines a e id book) book ≡ true = λ i. is_valid-from a.last e valid i && (ap (is_there_inside a e) found ∙ stays) i && kept_on_lost book sheet found i in
-      ap (λ b. if b then Ok (book_followed a e id book) else Err (DiffRefused 0 at)) goes
-
-  -- a cell of the later sheet comes from a place
-  comes_from : (cells : FinMap position_cmp Cell) (w : Way) (q : Position) (cell : Cell) (o : Option Position) → if_there o (λ p. if_there (get cells p) (λ x. Some (cell_followed w p x))) ≡ Some cell → (p : Position) × (o ≡ Some p)
-  comes_from cells w q cell None h = absurd (cc)
-  comes_from cells w q cell (Some p) h = (p, refl)
-
-  -- no cell of the later sheet is pushed past the end when the lines come back
-  back_inside : (edited : List ℕ) (sheet : Sheet) → (sheet.id == id) ≡ true → (kind : EditKind) → e ≡ kind → stays_inside a (opposite_of kind) (sheet_followed a e id edited sheet) ≡ true
-  unfolding stays_inside opposite_of cells_followed place_goes
-  back_inside edited sheet it (Insert first count) is = refl
-  back_inside edited sheet it (Delete first count) is =
-      let w : Way = way_of a e id edited sheet in
-      all_entries position_cmp position_total exact_positions (λ (entry : Position × Cell). not (is_pushed_past a first count entry.0)) (cells_followed w sheet.cells) (λ q cell found.
-      let from = comes_from sheet.cells w q cell (place_goes (back w) q)
-      (sym (get-follow_map position_cmp position_total exact_positions (place_goes w) (place_goes (back w)) (goes_inverse w l valid) (cell_followed w) sheet.cells q) ∙ found) in
-      let there : place_image a (opposite_of e) q ≡ Some from.0 = sym (ap (λ b. if b then place_image a (opposite_of e) q else Some q) it) ∙ from.1 in
-      place_inside a first count q from.0 (sym (ap (λ k. place_image a (opposite_of k) q) is) ∙ there))
-
-  -- kept cells were cells of the sheet
-  kept_fit : (sheet : Sheet) → CellsFit sheet → cells_fit (lost_map (place_image a e) sheet.cells) ≡ true
-  unfolding cells_fit
-  kept_fit sheet fit =
-      all_entries position_cmp position_total exact_positions (λ (entry : Position × Cell). fits_at entry.0 entry.1.content) (lost_map (place_image a e) sheet.cells)
-      (λ p cell found. go p cell (place_image a e p) (get sheet.cells p) refl (sym (get-lost_map position_cmp position_total exact_positions (place_image a e) (place_image a (opposite_of e)) (place_inverse a l e valid) sheet.cells p) ∙ found))
-    where
-      go : (p : Position) (cell : Cell) (o : Option Position) (c : Option Cell) → get sheet.cells p ≡ c → if_there (if_lost o p) (λ p. if_there (get sheet.cells p) Some) ≡ Some cell → fits_at p cell.content ≡ true
-      go p cell (Some q) c is h = absurd (cc)
-      go p cell None None is h = absurd (let none : ◌≡◌ {A = Option Cell} None (Some cell) = sym (ap (λ o. if_there o Some) is) ∙ h in cc)
-      go p cell None (Some other) is h =
-          let same : ◌≡◌ {A = Option Cell} (Some other) (Some cell) = sym (ap (λ o. if_there o Some) is) ∙ h in
-          sym (ap (entry_fits_at p) (is ∙ same)) ∙ fit p
-
-  any_is : (b : Bool) (m trees : FinMap position_cmp Node) → (if b then None else Some m) ≡ Some trees → m ≡ trees
-  any_is true m trees h = absurd (cc)
-  any_is false m trees h = cc
-
-  -- the trees kept of a sheet stand in the later one
-  sheet_stands : (edited : List ℕ) (sheet : Sheet) → CellsFit sheet → (trees : FinMap position_cmp Node) → sheet_kept a e id edited sheet ≡ Some trees → trees_stand a e id (Some (sheet_followed a e id edited sheet)) trees ≡ true
-  unfolding trees_stand goes_on place_goes
-  sheet_stands edited sheet fit trees kept =
-      let w : Way = way_of a e id edited sheet in
-      let same : kept_trees w sheet.cells ≡ trees = any_is (is_empty (kept_trees w sheet.cells)) (kept_trees w sheet.cells) trees kept in
-      ap (λ m. list_all (λ (entry : Position × Node). tree_stands (place_goes w) (cells_followed w sheet.cells) entry.0 entry.1) (entries m)) (sym same)
-      ∙ all_entries position_cmp position_total exact_positions (λ (entry : Position × Node). tree_stands (place_goes w) (cells_followed w sheet.cells) entry.0 entry.1) (kept_trees w sheet.cells) (λ p tree found. kept_stands w p l valid sheet.cells fit tree found)
+      go : (find (λ s. s.id == n) sheets ≡ Some sheet → find (λ s. s.id == n) later ≡ Some (sheet_followed (way_on edited sheet) sheet)) → (b : Bool) → (s.id == n) ≡ b
+          → cond b (Some s) (find (λ s. s.id == n) sheets) ≡ Some sheet → cond (s.id == n) (Some (sheet_followed (way_on edited s) s)) (find (λ s. s.id == n) later) ≡ Some (sheet_followed (way_on edited sheet) sheet)
+      go rest true is it = let same : s ≡ sheet = cc in ap (λ b. cond b (Some (sheet_followed (way_on edited s) s)) (find (λ s. s.id == n) later)) is ∙ ap (λ t. Some (sheet_followed (way_on edited t) t)) same
+      go rest false is it = ap (λ b. cond b (Some (sheet_followed (way_on edited s) s)) (find (λ s. s.id == n) later)) is ∙ rest it
 
   module _ (book : Book) (rules : IsWellFormed book) where
+    abbrev kept : KeptLines
+    kept = kept_lines a e id book
+
+    abbrev later : Book
+    later = book_followed a e id book
+
+    abbrev way_in : Sheet → Way
+    way_in sheet = way_on (name_of (sheet_of book id)) sheet
+
     sheet_fits : (n : ℕ) (s : Sheet) → sheet_of book n ≡ Some s → CellsFit s
-    sheet_fits n s h = cells_fit_from_trees s (found_in_all (λ s. s.id == n) have_trees book.worksheets s h (well_formed_parts book rules).1)
+    sheet_fits n s h = cells_fit_from_trees s (found_of_each (λ s. s.id == n) (λ s. have_trees s ≡ true) book.worksheets s h (each_passes have_trees book.worksheets (well_formed_parts book rules).trees))
 
-    kept_under : (n : ℕ) (s : Sheet) → sheet_of book n ≡ Some s → get (kept_lines a e id book).formulas n ≡ sheet_kept a e id (edited_of book) s
-    kept_under n s h =
-        let ids : s.id ≡ n = (unsigned_Decides s.id n).0 (found_passes (λ s. s.id == n) book.worksheets s h) in
-        let under : get (kept_lines a e id book).formulas s.id ≡ sheet_kept a e id (edited_of book) s =
-        found_of_each (λ s. s.id == n) (λ s. get (kept_formulas a e id (edited_of book) book.worksheets) s.id ≡ sheet_kept a e id (edited_of book) s) book.worksheets s h
-        (formulas_under a e id (edited_of book) book.worksheets (distinct_ids_from_well_formed book rules)) in
-        ap (get (kept_lines a e id book).formulas) (sym ids) ∙ under
+    sheet_inside : (n : ℕ) (s : Sheet) → sheet_of book n ≡ Some s → StandsInside s
+    sheet_inside n s h = inside_parts s (found_of_each (λ s. s.id == n) (λ s. stands_inside s ≡ true) book.worksheets s h (each_passes stands_inside book.worksheets (well_formed_parts book rules).inside))
 
-    -- a kept tree is one of a cell of a sheet, and so it fits
-    tree_of_sheet : (n : ℕ) (trees : FinMap position_cmp Node) (o : Option Sheet) → sheet_of book n ≡ o → get (kept_lines a e id book).formulas n ≡ Some trees
-        → (p : Position) (tree : Node) → get trees p ≡ Some tree → tree_fits_at p tree ≡ true
-    tree_of_sheet n trees None none kept p tree found = absurd (let nothing : get (kept_lines a e id book).formulas n ≡ None = kept_elsewhere a e id (edited_of book) book.worksheets n none in cc)
-    tree_of_sheet n trees (Some s) there kept p tree found =
-        let w : Way = way_of a e id (edited_of book) s in
-        let same : kept_trees w s.cells ≡ trees = any_is (is_empty (kept_trees w s.cells)) (kept_trees w s.cells) trees (sym (kept_under n s there) ∙ kept) in
-        kept_fits w p l valid s.cells (sheet_fits n s there) tree (ap (λ m. get m p) same ∙ found)
+    -- a kept tree is one of a cell of a sheet
+    record IsOfSheet (key : SheetPlace) (tree : Node) : Type 0 where
+      sheet : Sheet
+      found : sheet_of book key.sheet ≡ Some sheet
+      it : IsTreeThere (way_in sheet) sheet.cells key.place tree
 
-    shallow_cells : (o : Option Sheet) → sheet_of book id ≡ o → (p : Position) → IsTrue (is_shallow_entry (get (lost_cells a e o) p))
-    shallow_cells None none p = ap is_shallow_entry (get-empty position_cmp p)
-    shallow_cells (Some s) there p =
-        ap is_shallow_entry (get-lost_map position_cmp position_total exact_positions (place_image a e) (place_image a (opposite_of e)) (place_inverse a l e valid) s.cells p)
-        ∙ go (place_image a e p) (shallow_entry p (get s.cells p) (sheet_fits id s there p))
-      where
-        some_or_none : (c : Option Cell) → is_shallow_entry c ≡ true → is_shallow_entry (if_there c Some) ≡ true
-        some_or_none None shallow = refl
-        some_or_none (Some cell) shallow = shallow
+    of_sheet_at : (key : SheetPlace) (tree : Node) (o : Option Sheet) → sheet_of book key.sheet ≡ o → get kept.formulas key ≡ Some tree → IsOfSheet key tree
+    of_sheet_at key tree None none h = absurd (let nothing : get kept.formulas key ≡ None = kept_elsewhere a l (edit_moves a.last e) (edit_one_to_one a.last e valid) id (name_of (sheet_of book id)) book.worksheets key.sheet none key.place in cc)
+    of_sheet_at key tree (Some s) there h =
+        let ids : s.id ≡ key.sheet = (unsigned_Decides s.id key.sheet).0 (found_passes (λ s. s.id == key.sheet) book.worksheets s there) in
+        let under : HasTrees (way_in s) kept.formulas s = found_of_each (λ s. s.id == key.sheet) (λ s. HasTrees (way_in s) kept.formulas s) book.worksheets s there
+        (formulas_under a l (edit_moves a.last e) (edit_one_to_one a.last e valid) id (name_of (sheet_of book id)) book.worksheets (distinct_ids_from_well_formed book rules)) in
+        record {
+          sheet = s;
+          found = there;
+          it = tree_there (way_in s) s.cells key.place tree (get s.cells key.place) (place_goes (way_in s) key.place) refl refl (sym (under key.place) ∙ ap (λ n. get kept.formulas (place_on n key.place)) ids ∙ h);
+        }
 
-        go : (o : Option Position) → is_shallow_entry (get s.cells p) ≡ true → is_shallow_entry (if_there (if_lost o p) (λ q. if_there (get s.cells q) Some)) ≡ true
-        go (Some q) shallow = refl
-        go None shallow = some_or_none (get s.cells p) shallow
+    kept_tree : (key : SheetPlace) (tree : Node) → get kept.formulas key ≡ Some tree → IsOfSheet key tree
+    kept_tree key tree h = of_sheet_at key tree (sheet_of book key.sheet) refl h
 
-    -- what is kept of a well-formed workbook is at most 64 deep
-    pub kept_shallow : AreShallowLines (kept_lines a e id book)
-    kept_shallow = record {
-      cells = λ p. shallow_cells (sheet_of book id) refl p;
-      formulas = λ n. sheet_shallow n (get (kept_lines a e id book).formulas n) refl;
-    }
-      where
-        tree_shallow : (n : ℕ) (trees : FinMap position_cmp Node) → get (kept_lines a e id book).formulas n ≡ Some trees → (p : Position) (o : Option Node) → get trees p ≡ o → IfSome o (λ tree. IsTrue (is_within 64 tree))
-        tree_shallow n trees kept p None is = tt
-        tree_shallow n trees kept p (Some tree) is = shallow_where_fits p (Formula tree) (tree_of_sheet n trees (sheet_of book n) refl kept p tree is)
+    -- so it fits its place
+    kept_tree_fits : (key : SheetPlace) (tree : Node) → get kept.formulas key ≡ Some tree → tree_fits_at key.place tree ≡ true
+    kept_tree_fits key tree h = let of = kept_tree key tree h in kept_fits (way_in of.sheet) of.sheet.cells key.place tree of.it (sheet_fits key.sheet of.sheet of.found key.place)
 
-        sheet_shallow : (n : ℕ) (o : Option (FinMap position_cmp Node)) → get (kept_lines a e id book).formulas n ≡ o → IfSome o AreShallowTrees
-        sheet_shallow n None is = tt
-        sheet_shallow n (Some trees) is = λ p. tree_shallow n trees is p (get trees p) refl
+    trees_inside : all_keys (λ (key : SheetPlace). is_place key.place) kept.formulas ≡ true
+    trees_inside = all_entries sheet_place_cmp sheet_place_total exact_sheet_places (λ (entry : SheetPlace × Node). is_place entry.0.place) kept.formulas (λ key tree h.
+        let of = kept_tree key tree h in
+        entry_holds position_cmp position_total exact_positions (λ (entry : Position × Cell). is_place entry.0) of.sheet.cells (sheet_inside key.sheet of.sheet of.found).cells key.place of.it.cell of.it.stands)
 
-  module _ (book : Book) (rules : IsWellFormed book) (sheet : Sheet) (found : sheet_of book id ≡ Some sheet) where
-    later_found : (n : ℕ) (s : Sheet) → sheet_of book n ≡ Some s → sheet_of (book_followed a e id book) n ≡ Some (sheet_followed a e id (edited_of book) s)
-    later_found n s h = followed_found (edited_of book) n book.worksheets s h
+    later_found : (n : ℕ) (s : Sheet) → sheet_of book n ≡ Some s → sheet_of later n ≡ Some (sheet_followed (way_in s) s)
+    later_found n s h = followed_found (name_of (sheet_of book id)) n book.worksheets s h
 
-    trees_at : (n : ℕ) (trees : FinMap position_cmp Node) (o : Option Sheet) → sheet_of book n ≡ o → get (kept_lines a e id book).formulas n ≡ Some trees
-        → trees_stand a e id (sheet_of (book_followed a e id book) n) trees ≡ true
-    trees_at n trees None none kept = absurd (let nothing : get (kept_lines a e id book).formulas n ≡ None = kept_elsewhere a e id (edited_of book) book.worksheets n none in cc)
-    trees_at n trees (Some s) there kept =
-        ap (λ o. trees_stand a e id o trees) (later_found n s there)
-        ∙ sheet_stands (edited_of book) s (sheet_fits book rules n s there) trees (sym (kept_under book rules n s there) ∙ kept)
+    tree_stands_later : (key : SheetPlace) (tree : Node) → IsOfSheet key tree → tree_fits_at key.place tree ≡ true → tree_stands a e id (sheet_of later key.sheet) key.place tree ≡ true
+    unfolding tree_stands goes_on place_goes
+    tree_stands_later key tree of fits =
+        ap (λ o. tree_stands a e id o key.place tree) (later_found key.sheet of.sheet of.found)
+        ∙ (λ i. fits i && formula_there (way_in of.sheet) of.sheet.cells key.place tree (way_is a l e valid id (name_of (sheet_of book id)) of.sheet) of.it i)
 
     -- each kept formula stands in the later workbook
-    kept_formulas_stand : formulas_stand a e id (kept_lines a e id book).formulas (book_followed a e id book) ≡ true
+    kept_formulas_stand : formulas_stand a e id kept.formulas later ≡ true
     unfolding formulas_stand
-    kept_formulas_stand =
-        all_entries nat_cmp nat_cmp_total nat_cmp-IsAntisymmetric
-        (λ (entry : ℕ × FinMap position_cmp Node). trees_stand a e id (sheet_of (book_followed a e id book) entry.0) entry.1) (kept_lines a e id book).formulas
-        (λ n trees kept. trees_at n trees (sheet_of book n) refl kept)
+    kept_formulas_stand = all_entries sheet_place_cmp sheet_place_total exact_sheet_places
+        (λ (entry : SheetPlace × Node). tree_stands a e id (sheet_of later entry.0.sheet) entry.0.place entry.1) kept.formulas
+        (λ key tree h. tree_stands_later key tree (kept_tree key tree h) (kept_tree_fits key tree h))
 
-    -- the edit is taken back
-    pub lines_taken_back : (at : ℕ) → lines_back at a id e (kept_lines a e id book) (book_followed a e id book) ≡ Ok book
-    unfolding lines_back
-    lines_taken_back at =
-        let kept : KeptLines = kept_lines a e id book in
-        let later : Book = book_followed a e id book in
-        let it : (sheet.id == id) ≡ true = found_passes (λ s. s.id == id) book.worksheets sheet found in
-        let inside : is_there_inside a (opposite_of e) (sheet_of later id) ≡ true = ap (is_there_inside a (opposite_of e)) (later_found id sheet found) ∙ back_inside (edited_of book) sheet it e refl in
-        let fit : cells_fit kept.cells ≡ true = ap (λ o. cells_fit (lost_cells a e o)) found ∙ kept_fit sheet (sheet_fits book rules id sheet found) in
-        let goes : goes_back a id e kept later ≡ true = λ i. is_valid-from a.last e valid i && inside i && kept_on_lost book sheet found i && fit i && kept_formulas_stand i in
-        ap (λ b. if b then Ok (book_back a e id kept later) else Err (DiffRefused 0 at)) goes
-        ∙ ap Ok (book_regained a l e valid id book (distinct_ids_from_well_formed book rules))
+    -- what is kept of a well-formed workbook is at most 64 deep
+    pub kept_shallow : AreShallowLines kept
+    kept_shallow = record {
+      cells = λ p. cell_shallow p (sheet_of book id) refl;
+      formulas = λ key. tree_shallow key (get kept.formulas key) refl;
+    }
+      where
+        entry_shallow : (s : Sheet) → CellsFit s → (p : Position) (o : Option Cell) → get (lost_map (place_image a (image_at a.last e)) s.cells) p ≡ o → IsTrue (is_shallow_entry o)
+        entry_shallow s fit p None is = refl
+        entry_shallow s fit p (Some cell) is =
+            let own = (lost_entry position_cmp position_total exact_positions (place_image a (image_at a.last e)) s.cells p cell is).0 in
+            shallow_entry p (Some cell) (sym (ap (entry_fits_at p) own) ∙ fit p)
+
+        cell_shallow : (p : Position) (o : Option Sheet) → sheet_of book id ≡ o → IsTrue (is_shallow_entry (get (of_sheet (λ (sheet : Sheet). lost_map (place_image a (edit_moves a.last e).to) sheet.cells) o) p))
+        cell_shallow p None none = ap is_shallow_entry (get-empty position_cmp p)
+        cell_shallow p (Some s) there = entry_shallow s (sheet_fits id s there) p _ refl
+
+        tree_shallow : (key : SheetPlace) (o : Option Node) → get kept.formulas key ≡ o → IfSome o (λ tree. IsTrue (is_within 64 tree))
+        tree_shallow key None is = tt
+        tree_shallow key (Some tree) is = shallow_where_fits key.place (Formula tree) (kept_tree_fits key tree is)
+
+    module _ (sheet : Sheet) (found : sheet_of book id ≡ Some sheet) where
+      -- what is kept of a workbook stands on lost lines
+      kept_on_lost : stand_on_lost a e kept ≡ true
+      unfolding stand_on_lost
+      kept_on_lost =
+          let to : Position → Option Position = place_image a (image_at a.last e) in
+          let inside : StandsInside sheet = sheet_inside id sheet found in
+          λ i. ((ap (λ o. all_keys (is_lost_place a e) (of_sheet (λ (s : Sheet). lost_map to s.cells) o)) found ∙ lost_keys position_cmp position_total exact_positions to sheet.cells is_place inside.cells) i
+          && (ap (λ o. all_keys (is_lost_place a e) (of_sheet (λ (s : Sheet). lost_map to s.links) o)) found ∙ lost_keys position_cmp position_total exact_positions to sheet.links is_place inside.links) i)
+          && ((ap (λ o. all_keys (is_lost_line a e) (of_sheet (λ (s : Sheet). lost_map (image_at a.last e) (lines_of a s)) o)) found
+          ∙ lost_keys int_cmp int_cmp_total exact_signed (image_at a.last e) (lines_of a sheet) (is_line a.last) (lines_inside a l sheet inside)) i
+          && trees_inside i)
+
+      -- the edit is made
+      pub lines_made : (at : ℕ) → is_there_inside a e (sheet_of book id) ≡ true → lines_forward at a id e kept book ≡ Ok later
+      unfolding lines_forward
+      lines_made at there =
+          let goes : goes_forward a id e kept book ≡ true = λ i. valid i && there i && kept_on_lost i in
+          ap (λ b. if b then Ok later else Err (DiffRefused 0 at)) goes
+
+      -- the edit is taken back
+      pub lines_taken_back : (at : ℕ) → lines_back at a id e kept later ≡ Ok book
+      unfolding lines_back
+      lines_taken_back at =
+          let it : (sheet.id == id) ≡ true = found_passes (λ s. s.id == id) book.worksheets sheet found in
+          let inside : is_there_inside a (opposite_of e) (sheet_of later id) ≡ true =
+          ap (is_there_inside a (opposite_of e)) (later_found id sheet found) ∙ back_inside (name_of (sheet_of book id)) sheet it e refl in
+          let fit : cells_fit kept.cells ≡ true =
+          ap (λ o. cells_fit (of_sheet (λ (s : Sheet). lost_map (place_image a (image_at a.last e)) s.cells) o)) found ∙ kept_fit sheet (sheet_fits id sheet found) in
+          let goes : goes_back a id e kept later ≡ true = λ i. valid i && inside i && kept_on_lost i && (fit i && kept_formulas_stand i) in
+          ap (λ b. if b then Ok (book_back a e id kept later) else Err (DiffRefused 0 at)) goes ∙ ap Ok (book_regained a l e valid id book (distinct_ids_from_well_formed book rules))

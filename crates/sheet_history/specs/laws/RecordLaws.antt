@@ -6,7 +6,7 @@ use Rattle.std.specs.FinMap.Entries.{same_entries}
 use Rattle.std.proofs.lemmas.Map.Lookups.{CmpEqualImpliesEq, exact_pairs, exact_unsigned, exact_signed}
 use Rattle.sheet_grid.specs.Book.{Book}
 use Rattle.sheet_history.specs.declared.diff.Diff.{Diff}
-use Rattle.sheet_history.specs.declared.diff.Diff.TheVariants.{Cell as CellDiff, Rows as RowsDiff}
+use Rattle.sheet_history.specs.declared.diff.Diff.TheVariants.{Cell as CellDiff, Lines as LinesDiff}
 use Rattle.sheet_history.specs.Records.{EntryKey, EntryValue, Rank, rank_of, rank_cmp, key_cmp, Change, change_of, IsRecord}
 use Rattle.sheet_history.specs.Records.EntryKey.{CellKey}
 use Rattle.sheet_history.specs.Records.EntryValue.{CellValue}
@@ -47,7 +47,7 @@ diff_of-change_of : (diff : Diff) (change : Change) → change_of diff ≡ Some 
 diff_of-change_of (CellDiff sheet place old new) change h =
     let same : ◌≡◌ {A = Change} (CellKey sheet place, (CellValue old, CellValue new)) change = cc in
     ap (λ (c : Change). diff_of c.0 c.1.0 c.1.1) (sym same)
-diff_of-change_of (RowsDiff _ _ _) change h = absurd (cc)
+diff_of-change_of (LinesDiff _ _ _ _) change h = absurd (cc)
 
 -- diffs of one change are equal
 same_diff : (a b : Diff) (change : Change) → change_of a ≡ Some change → change_of b ≡ Some change → a ≡ b

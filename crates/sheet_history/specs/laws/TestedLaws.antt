@@ -5,6 +5,7 @@ use Rattle.base_values.specs.declared.EditError.{EditError}
 use Rattle.base_values.specs.declared.EditError.TheVariants.{DiffRefused}
 use Rattle.base_values.specs.declared.Position.{Position}
 use Rattle.base_values.specs.Answers.{Edits, ok_or, value_of}
+use Rattle.base_values.specs.Places.{place_of}
 use Rattle.sheet_grid.specs.declared.Cell.{Cell}
 use Rattle.sheet_grid.specs.Book.{Book, edit_by_id}
 use Rattle.sheet_grid.specs.FittingCells.{entry_fits_at}
@@ -14,7 +15,7 @@ use Rattle.sheet_rules.specs.WellFormed.{broken_rule, IsWellFormed}
 use Rattle.sheet_history.specs.Untested.{entry_has_font, keeps_rules, keeps_rules_back}
 use Rattle.sheet_history.specs.laws.RuleLaws.{well_formed-by_id}
 use Rattle.sheet_history.specs.declared.diff.Diff.{Diff}
-use Rattle.sheet_history.specs.declared.diff.Diff.TheVariants.{Cell as CellDiff, Rows as RowsDiff}
+use Rattle.sheet_history.specs.declared.diff.Diff.TheVariants.{Cell as CellDiff, Lines as LinesDiff}
 use Rattle.sheet_history.specs.declared.diff.DiffType.{DiffType}
 use Rattle.sheet_history.specs.declared.diff.DiffType.TheVariants.{Undo, Redo}
 use Rattle.sheet_history.specs.Diffs.{put_in, by_rule, tested, made, taken_back, forwarded, backed, follow, of_entry, in_entry}
@@ -31,18 +32,28 @@ value_is : {A E : Type 0} (error : E) (r : Result A E) (value : A) → ok_or err
 value_is error (Ok x) value is = cc
 value_is error (Err e) value is = cc
 
+-- what is put fits its place, and is put there
+pub put_in-done : (at : ℕ) (book : Book) (id : ℕ) (place : Position) (entry : Option Cell) (next : Book) → put_in at book id place entry ≡ Ok next
+    → (entry_fits_at place entry ≡ true) × (edit_by_id book id (λ sheet. cell_put sheet place.row place.column entry) ≡ Ok next)
+unfolding put_in
+put_in-done at book id place entry next is = go (entry_fits_at place entry) refl is
+  where
+    put : Result Book EditError
+    put = edit_by_id book id (λ sheet. cell_put sheet place.row place.column entry)
+
+    go : (b : Bool) → entry_fits_at place entry ≡ b → cond b (ok_or (DiffRefused 0 at) (value_of put)) (Err (DiffRefused 0 at)) ≡ Ok next → (entry_fits_at place entry ≡ true) × (put ≡ Ok next)
+    go true fits done = (fits, value_is (DiffRefused 0 at) put next done)
+    go false fits done = absurd (let never : ◌≡◌ {A = Result Book EditError} (Err (DiffRefused 0 at)) (Ok next) = done in cc)
+
+-- where it fits its place, it fits the one at its row and its column
+pub fits_there : (place : Position) (entry : Option Cell) → entry_fits_at place entry ≡ true → (there : Position) → place_of place.row place.column ≡ Ok there → IsTrue (entry_fits_at there entry)
+fits_there place entry fits there named = subst (λ p. IsTrue (entry_fits_at p entry)) (place_is place.row place.column there named) fits
+
 -- what is put in a well-formed workbook, with a font, leaves one
 pub put_in-rules : (at : ℕ) (book : Book) (id : ℕ) (place : Position) (entry : Option Cell) (next : Book) → IsTrue (entry_has_font entry) → IsWellFormed book → put_in at book id place entry ≡ Ok next → IsWellFormed next
-unfolding put_in
-put_in-rules at book id place entry next font rules is = go (entry_fits_at place entry) refl is
-  where
-    go : (b : Bool) → entry_fits_at place entry ≡ b
-        → cond b (ok_or (DiffRefused 0 at) (value_of (edit_by_id book id (λ sheet. cell_put sheet place.row place.column entry)))) (Err (DiffRefused 0 at)) ≡ Ok next → IsWellFormed next
-    go true fits done =
-        well_formed-by_id book place.row place.column entry
-        (λ there named. subst (λ p. IsTrue (entry_fits_at p entry)) (place_is place.row place.column there named) fits) font rules next id
-        (value_is (DiffRefused 0 at) (edit_by_id book id (λ sheet. cell_put sheet place.row place.column entry)) next done)
-    go false fits done = absurd (let never : ◌≡◌ {A = Result Book EditError} (Err (DiffRefused 0 at)) (Ok next) = done in cc)
+put_in-rules at book id place entry next font rules is =
+    let done = put_in-done at book id place entry next is in
+    well_formed-by_id book place.row place.column entry (fits_there place entry done.0) font rules next id done.1
 
 -- a workbook that breaks no rule passes
 pub by_rule-kept : (at : ℕ) (book : Book) → IsWellFormed book → by_rule at book (broken_rule book) ≡ Ok book
@@ -68,13 +79,13 @@ made_rules : (book : Book) (diffs : List Diff) → keeps_rules diffs ≡ true �
 made_rules book [] keeps rules next is = absurd (cc)
 made_rules book (CellDiff sheet place old new ∷ []) font rules next is = put_in-rules 0 book sheet place new next font rules (sym (and_then-Ok _) ∙ is)
 made_rules book (CellDiff sheet place old new ∷ second ∷ rest) keeps rules next is = absurd (cc)
-made_rules book (RowsDiff sheet edit kept ∷ rest) keeps rules next is = absurd (cc)
+made_rules book (LinesDiff sheet axis edit kept ∷ rest) keeps rules next is = absurd (cc)
 
 taken_back_rules : (book : Book) (diffs : List Diff) → keeps_rules_back diffs ≡ true → IsWellFormed book → (next : Book) → taken_back book diffs ≡ Ok next → IsWellFormed next
 taken_back_rules book [] keeps rules next is = absurd (cc)
 taken_back_rules book (CellDiff sheet place old new ∷ []) font rules next is = put_in-rules 0 book sheet place old next font rules is
 taken_back_rules book (CellDiff sheet place old new ∷ second ∷ rest) keeps rules next is = absurd (cc)
-taken_back_rules book (RowsDiff sheet edit kept ∷ rest) keeps rules next is = absurd (cc)
+taken_back_rules book (LinesDiff sheet axis edit kept ∷ rest) keeps rules next is = absurd (cc)
 
 -- the result of such a list needs no test
 pub forwarded-made : (book : Book) (diffs : List Diff) → keeps_rules diffs ≡ true → IsWellFormed book → forwarded book diffs ≡ made book diffs

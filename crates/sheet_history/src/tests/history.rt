@@ -1,20 +1,23 @@
 ghost use Rattle.std.specs.Prelude.{IfOk};
-ghost use Rattle.sheet_history.specs.Diffs.{IsKeptDiff, IsKeptList};
+ghost use Rattle.sheet_rules.specs.WellFormed.{IsWellFormed};
 ghost use Rattle.sheet_lines.specs.KeptNumbers.{AreKeptLines};
+ghost use Rattle.sheet_history.specs.Diffs.{IsKeptDiff, IsKeptList};
 
-use crate::{Diff, DiffList, back, forward};
-use base_axis::LineMap;
+use crate::{Diff, DiffList, LineAxis, back, forward};
+use base_axis::{Axis, ColumnAxis, RowAxis};
+use base_maps::{NumberMap, PositionMap, SheetPlaceMap};
 use base_shared::Shared;
 use base_styles::Style;
 use base_tables::{Locale, Zone};
-use base_values::{EditError, Items, PlaceMap, Position};
-use line_map::EditKind;
-use sheet_grid::{Cell, Content, Workbook};
-use sheet_lines::{KeptLines, SheetMap};
+use base_values::{EditError, Items, Position};
+use line_map::{EditKind, LineEdit};
+use sheet_grid::{Cell, Content, LineAttr, Workbook};
+use sheet_lines::{KeptLines, has_sheet, line_edit};
+use sheet_rules::is_well_formed;
 use std::alloc::Global;
 use std::test::Fail;
 
-/// The cell C1 of the sheet of id 1, which was absent, and then TRUE.
+/// The cell B2 of the sheet of id 1, which was absent, and then TRUE.
 fn new_cell(alloc: Global, size: i32) -> Result<Diff, EditError>
     ensures { IfOk result IsKeptDiff }
 {
@@ -24,75 +27,188 @@ fn new_cell(alloc: Global, size: i32) -> Result<Diff, EditError>
     let content = Content::Boolean(true);
     Ok(Diff::Cell {
         sheet: 1,
-        position: Position { row: 1, column: 3 },
+        position: Position { row: 2, column: 2 },
         old: None,
         new: Some(Shared::new(alloc, Cell { content, style })?),
     })
 }
 
-fn nothing_kept(alloc: Global) -> KeptLines
+/// What is kept of lines, and nothing else.
+fn kept_with(alloc: Global, lines: NumberMap<LineAttr>) -> KeptLines
     ensures { AreKeptLines result }
 {
     KeptLines {
-        cells: PlaceMap::new(alloc),
-        links: PlaceMap::new(alloc),
-        rows: LineMap::new(alloc),
-        columns: LineMap::new(alloc),
-        formulas: SheetMap::new(alloc),
+        cells: PositionMap::new(alloc),
+        links: PositionMap::new(alloc),
+        lines,
+        formulas: SheetPlaceMap::new(alloc),
     }
 }
 
-/// A row that comes before the first one of the sheet of id 1.
-fn new_row(alloc: Global) -> Result<Diff, EditError>
-    ensures { IfOk result IsKeptDiff }
-{
-    Ok(Diff::Rows {
-        sheet: 1,
-        edit: EditKind::Insert { first: 1, count: 1 },
-        kept: Shared::new(alloc, nothing_kept(alloc))?,
-    })
-}
-
-/// The cell, and then the row.
-fn cell_and_row(alloc: Global, size: i32) -> Result<DiffList, EditError>
+/// A list of one diff.
+fn only(alloc: Global, diff: Diff) -> Result<DiffList, EditError>
+    requires { IsKeptDiff diff }
     ensures { IfOk result IsKeptList }
 {
     let mut list = Items::empty(alloc);
-    list.push(new_cell(alloc, size)?)?;
-    list.push(new_row(alloc)?)?;
+    list.push(diff)?;
     Ok(Shared::new(alloc, list)?)
 }
 
-/// Whether C1 has gone to C2.
-fn has_gone(book: &Workbook) -> Result<bool, EditError> {
-    let sheet = book.worksheet(0)?;
-    Ok(sheet.cell(1, 3)?.is_none() && sheet.cell(2, 3)?.is_some())
+/// A workbook of one empty sheet.
+fn empty_book(alloc: Global) -> Result<Workbook, EditError>
+    ensures { IfOk result IsWellFormed }
+{
+    let book = Workbook::new_empty(alloc, "book", Locale::En, Zone::Utc)?;
+    if is_well_formed(&book) {
+        Ok(book)
+    } else {
+        Err(EditError::InvalidSheet)
+    }
 }
 
-/// Whether a list that is made and taken back gives the workbook again.
-fn comes_back(alloc: Global, start: &Workbook, list: &DiffList) -> Result<bool, EditError>
-    requires { IsKeptList list.now }
-{
-    let later = forward(alloc, start, list)?;
-    Ok(has_gone(&later)? && back(alloc, &later, list)? == *start)
+/// A workbook with the cell B2, whose font has that size.
+fn with_cell(alloc: Global, size: i32) -> Result<Workbook, EditError> {
+    let start = empty_book(alloc)?;
+    forward(alloc, &start, &only(alloc, new_cell(alloc, size)?)?)
 }
 
-/// Whether the diff behind the last one is refused.
-fn is_refused(alloc: Global, start: &Workbook, list: &DiffList) -> bool
-    requires { IsKeptList list.now }
+/// The record of an edit of the lines of the sheet of id 1.
+fn record_of<A: Axis>(
+    alloc: Global,
+    start: &Workbook,
+    axis: LineAxis,
+    kind: EditKind,
+) -> Result<DiffList, EditError>
+    requires { IsWellFormed start.now }
+    ensures { IfOk result IsKeptList }
 {
-    match forward(alloc, start, list) {
-        Err(error) => error == EditError::DiffRefused { entry: 0, diff: 2 },
+    let edit: LineEdit<A> = LineEdit::new(kind);
+    if !edit.is_valid() || !has_sheet(start, 1) {
+        return Err(EditError::InvalidSheet);
+    }
+    let (_later, kept) = line_edit(alloc, start, 1, &edit)?;
+    let kept = Shared::new(alloc, kept)?;
+    only(
+        alloc,
+        Diff::Lines {
+            sheet: 1,
+            axis,
+            edit: kind,
+            kept,
+        },
+    )
+}
+
+/// Whether the first cell of a workbook stands there, or there is none.
+fn stands_at(book: &Workbook, expected: Option<Position>) -> Result<bool, EditError> {
+    match book.worksheet(0)?.cells().next() {
+        Some((place, _cell)) => Ok(expected == Some(*place)),
+        None => Ok(expected.is_none()),
+    }
+}
+
+/// Whether the record of an edit takes the cell there, and taken back gives the workbook again.
+fn goes_and_returns<A: Axis>(
+    alloc: Global,
+    start: &Workbook,
+    axis: LineAxis,
+    kind: EditKind,
+    expected: Option<Position>,
+) -> Result<bool, EditError>
+    requires { IsWellFormed start.now }
+{
+    let list = record_of::<A>(alloc, start, axis, kind)?;
+    let later = forward(alloc, start, &list)?;
+    if !is_well_formed(&later) || !stands_at(&later, expected)? {
+        return Ok(false);
+    }
+    Ok(back(alloc, &later, &list)? == *start)
+}
+
+/// The same of each kind of edit, where an insertion and a move take the cell to one place.
+fn each_kind_returns<A: Axis>(
+    alloc: Global,
+    start: &Workbook,
+    axis: LineAxis,
+    moved: Position,
+) -> Result<bool, EditError>
+    requires { IsWellFormed start.now }
+{
+    let before = EditKind::Insert { first: 1, count: 1 };
+    let own = EditKind::Delete { first: 2, count: 1 };
+    let on = EditKind::Move {
+        first: 2,
+        count: 1,
+        delta: 1,
+    };
+    Ok(
+        goes_and_returns::<A>(alloc, start, axis, before, Some(moved))?
+            && goes_and_returns::<A>(alloc, start, axis, own, None)?
+            && goes_and_returns::<A>(alloc, start, axis, on, Some(moved))?,
+    )
+}
+
+/// A row that comes before the first one of the sheet of id 1. What it keeps lies outside the
+/// sheet.
+fn row_with_line_outside(alloc: Global) -> Result<Diff, EditError>
+    ensures { IfOk result IsKeptDiff }
+{
+    let mut lines = NumberMap::new(alloc);
+    let high = LineAttr {
+        size: Some(30),
+        style: None,
+        hidden: false,
+    };
+    lines.put(0, Some(high))?;
+    Ok(Diff::Lines {
+        sheet: 1,
+        axis: LineAxis::Rows,
+        edit: EditKind::Insert { first: 1, count: 1 },
+        kept: Shared::new(alloc, kept_with(alloc, lines))?,
+    })
+}
+
+/// The cell, and then that row.
+fn cell_and_row(alloc: Global) -> Result<DiffList, EditError>
+    ensures { IfOk result IsKeptList }
+{
+    let mut list = Items::empty(alloc);
+    list.push(new_cell(alloc, 13)?)?;
+    list.push(row_with_line_outside(alloc)?)?;
+    Ok(Shared::new(alloc, list)?)
+}
+
+/// Whether a list is refused for the diff of that number.
+fn is_refused(made: Result<Workbook, EditError>, diff: u64) -> bool {
+    match made {
+        Err(error) => error == EditError::DiffRefused { entry: 0, diff },
         Ok(_) => false,
     }
 }
 
-/// A cell comes and goes with its row, and a font of size 0 breaks a rule.
+/// A cell goes with its row and with its column, and returns.
 #[test]
-fn a_cell_and_a_row_come_and_go(rt: HostRuntime) -> Result<(), Fail> {
+fn rows_and_columns_go_and_return(rt: HostRuntime) -> Result<(), Fail> {
     let alloc = rt.alloc();
-    let start = Workbook::new_empty(alloc, "book", Locale::En, Zone::Utc)?;
-    assert!(rt; comes_back(alloc, &start, &cell_and_row(alloc, 13)?)?);
-    assert!(rt; is_refused(alloc, &start, &cell_and_row(alloc, 0)?));
+    let start = with_cell(alloc, 13)?;
+    assert!(rt; is_well_formed(&start));
+    let below = Position { row: 3, column: 2 };
+    assert!(rt; each_kind_returns::<RowAxis>(alloc, &start, LineAxis::Rows, below)?);
+    let beside = Position { row: 2, column: 3 };
+    assert!(rt; each_kind_returns::<ColumnAxis>(alloc, &start, LineAxis::Columns, beside)?);
+    Ok(())
+}
+
+/// A font of size 0 breaks a rule, and what is kept outside the sheet is refused by its number,
+/// forward and back.
+#[test]
+fn diffs_are_refused_by_number(rt: HostRuntime) -> Result<(), Fail> {
+    let alloc = rt.alloc();
+    let start = empty_book(alloc)?;
+    assert!(rt; is_refused(with_cell(alloc, 0), 1));
+    let list = cell_and_row(alloc)?;
+    assert!(rt; is_refused(forward(alloc, &start, &list), 1));
+    assert!(rt; is_refused(back(alloc, &start, &list), 1));
     Ok(())
 }

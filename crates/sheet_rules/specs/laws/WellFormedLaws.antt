@@ -1,5 +1,5 @@
 -- What a workbook has that breaks no rule.
-use Rattle.std.proofs.Common.{◌≡◌, ℕ, ℤ, Bool, true, false, not, ◌&&◌, ◌||◌, List, [], ◌∷◌, map, length, Option, Some, None, refl, ap, sym, ◌∙◌, arith}
+use Rattle.std.proofs.Common.{◌≡◌, ℕ, ℤ, pos, Bool, true, false, not, ◌&&◌, ◌||◌, List, [], ◌∷◌, map, length, Option, Some, None, refl, ap, sym, ◌∙◌, arith}
 use Rattle.std.specs.Prelude.{◌↔◌, ◌==◌, codes, if◌then◌else◌}
 use Rattle.std.specs.List.{list_all, list_any, IsDistinct, AllByRecursion}
 use Rattle.std.specs.Str.{chars}
@@ -8,44 +8,49 @@ use Rattle.std.specs.declared.cmp.Ordering.{Ordering}
 use Rattle.std.specs.FinMap.{entries, empty, len-entries, len-empty}
 use Rattle.std.proofs.lemmas.List.Elements.{All-from_recursion}
 use Rattle.base_values.specs.declared.Position.{Position}
-use Rattle.base_values.specs.Places.{position_cmp}
+use Rattle.base_values.specs.Places.{position_cmp, is_line}
 use Rattle.base_values.specs.laws.Places.{position_total, exact_positions}
 use Rattle.base_tables.specs.declared.Locale.{Locale}
 use Rattle.base_tables.specs.declared.Zone.{Zone}
-use Rattle.formula_content.specs.Fitting.{fits_at}
+use Rattle.cell_content.specs.Fitting.{fits_at}
 use Rattle.sheet_grid.specs.declared.Cell.{Cell}
-use Rattle.sheet_grid.specs.declared.RowAttr.{RowAttr}
-use Rattle.sheet_grid.specs.declared.ColumnAttr.{ColumnAttr}
+use Rattle.sheet_grid.specs.declared.LineAttr.{LineAttr}
+use Rattle.sheet_grid.specs.declared.Link.{Link}
 use Rattle.sheet_grid.specs.Sheet.{Sheet, new_sheet}
 use Rattle.sheet_grid.specs.Book.{Book, new_book}
 use Rattle.sheet_grid.specs.FittingCells.{entry_fits_at, CellsFit, SheetsFit}
 use Rattle.sheet_rules.specs.SheetNames.{is_sheet_name}
 use Rattle.sheet_rules.specs.laws.EntryLaws.{both, passes_at_from_all, all_from_passes_at}
-use Rattle.sheet_rules.specs.WellFormed.{are_distinct, are_sheets, have_trees, is_row, is_column, has_font, have_attributes, are_frozen, IsWellFormed, ids_of}
+use Rattle.sheet_rules.specs.WellFormed.{are_distinct, are_sheets, is_place, stands_inside, have_trees, is_row, is_column, has_font, have_attributes, are_frozen, IsWellFormed, ids_of}
 
 -- the rules of a workbook, each for all of its sheets
-abbrev pub KeepsRules : Book → Type 0
-KeepsRules book =
-    (are_sheets book.worksheets ≡ true) × (list_all have_trees book.worksheets ≡ true) × (list_all have_attributes book.worksheets ≡ true)
-    × (list_all are_frozen book.worksheets ≡ true)
+pub record KeepsRules (book : Book) : Type 0 where
+  pub sheets : are_sheets book.worksheets ≡ true
+  pub inside : list_all stands_inside book.worksheets ≡ true
+  pub trees : list_all have_trees book.worksheets ≡ true
+  pub attributes : list_all have_attributes book.worksheets ≡ true
+  pub frozen : list_all are_frozen book.worksheets ≡ true
 
-abbrev first_of : Bool → Bool → Bool → Bool → Option ℕ
-first_of a b c d = if not a then Some 1 else if not b then Some 6 else if not c then Some 7 else if not d then Some 9 else None
+abbrev first_of : Bool → Bool → Bool → Bool → Bool → Option ℕ
+first_of a i b c d = if not a then Some 1 else if not i then Some 2 else if not b then Some 6 else if not c then Some 7 else if not d then Some 9 else None
 
-rules_kept : (a b c d : Bool) → first_of a b c d ≡ None → (a ≡ true) × (b ≡ true) × (c ≡ true) × (d ≡ true)
-rules_kept true true true true h = (refl, refl, refl, refl)
-rules_kept true true true false h = absurd (let never : ◌≡◌ {A = Option ℕ} (Some 9) None = h in cc)
-rules_kept true true false d h = absurd (let never : ◌≡◌ {A = Option ℕ} (Some 7) None = h in cc)
-rules_kept true false c d h = absurd (let never : ◌≡◌ {A = Option ℕ} (Some 6) None = h in cc)
-rules_kept false b c d h = absurd (let never : ◌≡◌ {A = Option ℕ} (Some 1) None = h in cc)
+rules_kept : (a i b c d : Bool) → first_of a i b c d ≡ None → (a ≡ true) × (i ≡ true) × (b ≡ true) × (c ≡ true) × (d ≡ true)
+rules_kept true true true true true h = (refl, refl, refl, refl, refl)
+rules_kept true true true true false h = absurd (let never : ◌≡◌ {A = Option ℕ} (Some 9) None = h in cc)
+rules_kept true true true false d h = absurd (let never : ◌≡◌ {A = Option ℕ} (Some 7) None = h in cc)
+rules_kept true true false c d h = absurd (let never : ◌≡◌ {A = Option ℕ} (Some 6) None = h in cc)
+rules_kept true false b c d h = absurd (let never : ◌≡◌ {A = Option ℕ} (Some 2) None = h in cc)
+rules_kept false i b c d h = absurd (let never : ◌≡◌ {A = Option ℕ} (Some 1) None = h in cc)
 
 -- a well-formed workbook keeps each rule
 pub well_formed_parts : (book : Book) → IsWellFormed book → KeepsRules book
-well_formed_parts book h = rules_kept (are_sheets book.worksheets) (list_all have_trees book.worksheets) (list_all have_attributes book.worksheets) (list_all are_frozen book.worksheets) h
+well_formed_parts book h =
+    let kept = rules_kept (are_sheets book.worksheets) (list_all stands_inside book.worksheets) (list_all have_trees book.worksheets) (list_all have_attributes book.worksheets) (list_all are_frozen book.worksheets) h in
+    record { sheets = kept.0; inside = kept.1; trees = kept.2; attributes = kept.3; frozen = kept.4 }
 
 -- and one that keeps each rule is well-formed
 pub well_formed_from_parts : (book : Book) → KeepsRules book → IsWellFormed book
-well_formed_from_parts book h = λ i. first_of (h.0 i) (h.1 i) (h.2 i) (h.3 i)
+well_formed_from_parts book h = λ i. first_of (h.sheets i) (h.inside i) (h.trees i) (h.attributes i) (h.frozen i)
 
 -- the cells of a sheet fit where their trees may stand at their places
 pub cells_fit_from_trees : (sheet : Sheet) → have_trees sheet ≡ true → CellsFit sheet
@@ -67,7 +72,7 @@ each_fits (sheet ∷ sheets) h = (cells_fit_from_trees sheet (both _ _ h).0, eac
 
 -- the cells of a well-formed workbook fit
 pub sheets_fit_from_well_formed : (book : Book) → IsWellFormed book → SheetsFit book
-sheets_fit_from_well_formed book h = All-from_recursion CellsFit book.worksheets (each_fits book.worksheets (well_formed_parts book h).1)
+sheets_fit_from_well_formed book h = All-from_recursion CellsFit book.worksheets (each_fits book.worksheets (well_formed_parts book h).trees)
 
 not_true : (b : Bool) → not b ≡ true → b ≡ false
 not_true false h = refl
@@ -95,7 +100,7 @@ ids_differ sheets h = (both _ _ (both _ _ (both _ _ h).0).0).1
 
 -- no two sheets of a well-formed workbook have one id
 pub distinct_ids_from_well_formed : (book : Book) → IsWellFormed book → IsDistinct ◌==◌ (map (λ (sheet : Sheet). sheet.id) book.worksheets)
-distinct_ids_from_well_formed book h = distinct_from_test ◌==◌ (ids_of book.worksheets) (ids_differ book.worksheets (well_formed_parts book h).0)
+distinct_ids_from_well_formed book h = distinct_from_test ◌==◌ (ids_of book.worksheets) (ids_differ book.worksheets (well_formed_parts book h).sheets)
 
 no_entries : {A : Type 0} (es : List A) → length es ≡ 0 → es ≡ []
 no_entries [] h = refl
@@ -115,11 +120,23 @@ new_trees name = ap (list_all (λ (entry : Position × Cell). fits_at entry.0 en
 new_attributes : (name : List ℕ) → have_attributes (new_sheet 1 name) ≡ true
 unfolding have_attributes
 new_attributes name =
-    λ i. list_all (λ (entry : ℤ × RowAttr). is_row entry.1) (entries-empty int_cmp i) && list_all (λ (entry : ℤ × ColumnAttr). is_column entry.1) (entries-empty int_cmp i)
+    λ i. list_all (λ (entry : ℤ × LineAttr). is_row entry.1) (entries-empty int_cmp i) && list_all (λ (entry : ℤ × LineAttr). is_column entry.1) (entries-empty int_cmp i)
     && list_all (λ (entry : Position × Cell). has_font entry.1.style) (entries-empty position_cmp i)
+
+new_inside : (name : List ℕ) → stands_inside (new_sheet 1 name) ≡ true
+unfolding stands_inside
+new_inside name =
+    λ i. list_all (λ (entry : Position × Cell). is_place entry.0) (entries-empty position_cmp i) && list_all (λ (entry : Position × Link). is_place entry.0) (entries-empty position_cmp i)
+    && list_all (λ (entry : ℤ × LineAttr). is_line (pos 1048576) entry.0) (entries-empty int_cmp i) && list_all (λ (entry : ℤ × LineAttr). is_line (pos 16384) entry.0) (entries-empty int_cmp i)
 
 -- a new workbook is well-formed
 pub well_formed-new : (name : List ℕ) (locale : Locale) (zone : Zone) → IsWellFormed (new_book name locale zone)
 well_formed-new name locale zone =
     well_formed_from_parts (new_book name locale zone)
-    (new_sheets, ap (λ b. b && true) (new_trees (codes "Sheet1")), ap (λ b. b && true) (new_attributes (codes "Sheet1")), refl)
+    (record {
+      sheets = new_sheets;
+      inside = ap (λ b. b && true) (new_inside (codes "Sheet1"));
+      trees = ap (λ b. b && true) (new_trees (codes "Sheet1"));
+      attributes = ap (λ b. b && true) (new_attributes (codes "Sheet1"));
+      frozen = refl;
+    })

@@ -1,27 +1,24 @@
 -- What fits is kept, and what encoding asks of diffs.
 use Rattle.std.proofs.Common.{List, [], ◌∷◌, Option, Some, None}
 use Rattle.std.specs.Prelude.{IfSome, IsTrue}
-use Rattle.std.specs.FinMap.{FinMap, get}
+use Rattle.std.specs.FinMap.{get}
 use Rattle.std.specs.List.{AllByRecursion}
 use Rattle.std.proofs.lemmas.List.Elements.{All-from_recursion}
-use Rattle.base_values.specs.Places.{position_cmp}
 use Rattle.formula_tree.specs.Depth.{is_within}
 use Rattle.formula_tree.specs.Numbers.{has_kept_numbers}
 use Rattle.formula_tree.specs.declared.Node.{Node}
 use Rattle.sheet_grid.specs.declared.Cell.{Cell}
 use Rattle.sheet_grid.specs.FittingCells.{is_shallow_entry}
 use Rattle.sheet_grid.specs.KeptCell.{IsKeptCell}
-use Rattle.sheet_lines.specs.KeptNumbers.{AreKeptTrees}
 use Rattle.sheet_history.specs.declared.Diff.{Diff}
-use Rattle.sheet_history.specs.declared.Diff.TheVariants.{Cell as CellDiff, Rows as RowsDiff}
+use Rattle.sheet_history.specs.declared.Diff.TheVariants.{Cell as CellDiff, Lines as LinesDiff}
 use Rattle.sheet_history.specs.declared.QueueDiffs.{QueueDiffs}
-use Rattle.sheet_history.specs.Depth.{AreShallowTrees, IsShallowDiff}
+use Rattle.sheet_history.specs.Depth.{IsShallowDiff}
 use Rattle.sheet_history.specs.Diffs.{IsKeptDiff, IsKeptList, IsKeptQueue}
 use Rattle.formula_wire.specs.Carried.{IsKnownNode}
 use Rattle.cell_wire.specs.CellBytes.{FitsCell, IsKnownCell}
 use Rattle.cell_wire.specs.laws.Fitting.{kept_cell_from_fits}
-use Rattle.kept_wire.specs.FormulaBytes.{AreKnownTrees}
-use Rattle.kept_wire.specs.laws.KeptFits.{kept_lines_from_fits}
+use Rattle.lines_wire.specs.laws.KeptFits.{kept_lines_from_fits}
 use Rattle.sheet_wire.specs.QueueBytes.{FitsDiff, FitsList, FitsEntry, FitsQueue, IsKeptOfDiff, IsKnownDiff}
 
 -- ---- what fits is kept
@@ -33,7 +30,7 @@ kept_option (Some cell) fits = kept_cell_from_fits cell fits
 pub kept_diff_from_fits : (diff : Diff) → FitsDiff diff → IsKeptDiff diff
 kept_diff_from_fits (CellDiff sheet place old new) fits =
     (kept_option old fits.old, kept_option new fits.new)
-kept_diff_from_fits (RowsDiff sheet edit kept) fits = kept_lines_from_fits kept fits.kept
+kept_diff_from_fits (LinesDiff sheet axis edit kept) fits = kept_lines_from_fits kept fits.kept
 
 kept_diffs : (diffs : List Diff) → AllByRecursion FitsDiff diffs → AllByRecursion IsKeptDiff diffs
 kept_diffs [] fits = tt
@@ -61,17 +58,11 @@ known_tree : (tree : Option Node) → IfSome tree (λ t. IsTrue (has_kept_number
 known_tree None kept shallow = tt
 known_tree (Some tree) kept shallow = record { kept = kept; depth = shallow }
 
-known_sheet : (trees : Option (FinMap position_cmp Node)) → IfSome trees AreKeptTrees → IfSome trees AreShallowTrees → IfSome trees AreKnownTrees
-known_sheet None kept shallow = tt
-known_sheet (Some trees) kept shallow = λ place. known_tree (get trees place) (kept place) (shallow place)
-
 -- a diff whose numbers are kept, and whose formulas are at most 64 deep, can be encoded
 pub known_diff : (diff : Diff) → IsKeptDiff diff → IsShallowDiff diff → IsKeptOfDiff diff → IsKnownDiff diff
-known_diff (CellDiff sheet place old new) kept shallow of_rows = (known_entry old kept.0 shallow.0, known_entry new kept.1 shallow.1)
-known_diff (RowsDiff sheet edit lines) kept shallow of_rows = record {
+known_diff (CellDiff sheet place old new) kept shallow of_lines = (known_entry old kept.0 shallow.0, known_entry new kept.1 shallow.1)
+known_diff (LinesDiff sheet axis edit lines) kept shallow of_lines = record {
   cells = λ place. known_entry (get lines.cells place) (kept.cells place) (shallow.cells place);
-  rows = of_rows.rows;
-  columns = of_rows.columns;
-  trees = λ id. known_sheet (get lines.formulas id) (kept.formulas id) (shallow.formulas id);
-  some = of_rows.some;
+  lines = of_lines;
+  formulas = λ place. known_tree (get lines.formulas place) (kept.formulas place) (shallow.formulas place);
 }

@@ -1,19 +1,103 @@
--- The three laws of diffs and of entries.
-use Rattle.std.proofs.Common.{◌≤◌, length, arith}
+-- The three laws of diffs, of entries and of queues.
+use Rattle.std.proofs.Common.{◌≡◌, ℕ, ◌^◌, ◌<◌, ◌≤◌, eqb, List, ◌++◌, length, Option, Some, Ok, refl, arith}
+use Rattle.std.specs.Prelude.{IfSome}
+use Rattle.std.specs.Int.{w32, to_be_bytes}
+use Rattle.sheet_grid.specs.declared.Cell.{Cell}
 use Rattle.sheet_history.specs.declared.Diff.{Diff}
-use Rattle.sheet_history.specs.declared.Diff.TheVariants.{Cell as CellDiff, Rows as RowsDiff}
-use Rattle.base_wire.specs.laws.Format.{Format}
-use Rattle.sheet_wire.specs.QueueBytes.{spell_diff, diff_at, FitsDiff, spell_entry, entry_at, FitsEntry}
-use Rattle.sheet_wire.specs.laws.PartsAgain.{diff_again, entry_again}
-use Rattle.sheet_wire.specs.laws.PartsSpelled.{diff_spelled, entry_spelled}
-use Rattle.sheet_wire.specs.laws.Refusals.{diff_plain, entry_plain}
+use Rattle.sheet_history.specs.declared.Diff.TheVariants.{Cell as CellDiff, Lines as LinesDiff}
+use Rattle.sheet_history.specs.declared.DiffType.{DiffType}
+use Rattle.sheet_history.specs.declared.DiffType.TheVariants.{Undo, Redo}
+use Rattle.sheet_history.specs.declared.LineAxis.{LineAxis}
+use Rattle.sheet_history.specs.declared.LineAxis.TheVariants.{Rows, Columns}
+use Rattle.base_wire.specs.Reading.{Reader, map_at, after, code_at, decoded, list_at}
+use Rattle.base_wire.specs.Spelling.{Any, Both, spell_both, spell_code, spell_list, spell_option}
+use Rattle.base_wire.specs.laws.Again.{ReadsAgain, code_again}
+use Rattle.base_wire.specs.laws.Format.{Format, list_format, option_format}
+use Rattle.base_wire.specs.laws.Formats.{both_format, after_format, made_format}
+use Rattle.base_wire.specs.laws.Parts.{short_format}
+use Rattle.base_wire.specs.laws.Refusals.{IsPlain, code_plain, if_plain, map_plain, refused_plain, tagged_plain}
+use Rattle.base_wire.specs.laws.Spelled.{ReadsSpelled, code_spelled, tag_if, tag_map, tag_refused, tagged_spelled}
+use Rattle.cell_wire.specs.CellBytes.{spell_position, FitsPosition, spell_cell, FitsCell}
+use Rattle.cell_wire.specs.laws.Formats.{position_format, cell_format}
+use Rattle.lines_wire.specs.EditBytes.{spell_edit, FitsEdit}
+use Rattle.lines_wire.specs.KeptBytes.{spell_kept, FitsKept}
+use Rattle.lines_wire.specs.laws.EditLaws.{edit_format}
+use Rattle.lines_wire.specs.laws.KeptLaws.{kept_format}
+use Rattle.sheet_wire.specs.LinesBytes.{axis_code, axes, spell_lines, lines_parts_at}
+use Rattle.sheet_wire.specs.QueueBytes.{spell_diff, cell_diff_made, entry_of_cell_at, cell_parts_at, cell_diff_at, lines_diff_made, lines_diff_at, diff_of, diff_at, FitsDiff, FitsList, direction_code, directions, spell_entry, entry_made, list_of_diffs_at, entry_at, FitsEntry, magic, FitsQueue}
+
+-- ---- diffs
+
+abbrev FitsCellEntry : Option Cell → Type 0
+FitsCellEntry entry = IfSome entry FitsCell
+
+abbrev spell_cell_entry : Option Cell → List ℕ
+spell_cell_entry = spell_option spell_cell
+
+cell_parts_format : Format (Both (λ id. id < 2 ^ 32) (Both FitsPosition (Both FitsCellEntry FitsCellEntry))) (spell_both (to_be_bytes w32) (spell_both spell_position (spell_both spell_cell_entry spell_cell_entry))) cell_parts_at
+unfolding entry_of_cell_at
+cell_parts_format = both_format short_format (both_format position_format (both_format (option_format cell_format) (option_format cell_format)))
+
+axis_known : (x : LineAxis) → decoded axis_code axes (axis_code x) ≡ Some x
+axis_known Rows = refl
+axis_known Columns = refl
+
+axis_format : Format Any (spell_code axis_code) (code_at axis_code axes)
+axis_format = record { again = code_again axis_code axes axis_known; spelled = code_spelled axis_code axes; plain = code_plain axis_code axes }
+
+lines_parts_format : Format (Both (λ id. id < 2 ^ 32) (Both Any (Both FitsEdit FitsKept))) (spell_both (to_be_bytes w32) (spell_both (spell_code axis_code) (spell_both spell_edit spell_kept))) lines_parts_at
+lines_parts_format = both_format short_format (both_format axis_format (both_format edit_format kept_format))
+
+map_reads : {A B : Type 0} (f : A → B) (r : Reader A) (bytes : List ℕ) (x : A) (rest : List ℕ) → r bytes ≡ Ok (x, rest) → map_at f r bytes ≡ Ok (f x, rest)
+map_reads f r bytes x rest h = rw h refl
+
+diff_again : ReadsAgain FitsDiff spell_diff diff_at
+unfolding diff_at cell_diff_at lines_diff_at
+diff_again = record { again = one }
+  where
+    one : (x : Diff) (rest : List ℕ) → FitsDiff x → diff_at (spell_diff x ++ rest) ≡ Ok (x, rest)
+    one (CellDiff sheet place old new) rest fits =
+        map_reads cell_diff_made cell_parts_at (spell_both (to_be_bytes w32) (spell_both spell_position (spell_both spell_cell_entry spell_cell_entry)) (sheet, (place, (old, new))) ++ rest) (sheet, (place, (old, new))) rest
+        (cell_parts_format.again.again (sheet, (place, (old, new))) rest (fits.sheet, (fits.place, (fits.old, fits.new))))
+    one (LinesDiff sheet axis edit kept) rest fits =
+        map_reads lines_diff_made lines_parts_at (spell_lines sheet axis edit kept ++ rest) (sheet, (axis, (edit, kept))) rest
+        (lines_parts_format.again.again (sheet, (axis, (edit, kept))) rest (fits.sheet, (tt, (fits.edit, fits.kept))))
+
+diff_spelled : ReadsSpelled FitsDiff spell_diff diff_at
+unfolding diff_at cell_diff_at lines_diff_at
+diff_spelled =
+    tagged_spelled diff_of (λ tag.
+    tag_if tag 1 (tag_map cell_parts_format.spelled cell_diff_made FitsDiff spell_diff 1 (λ x. refl) (λ x fits. record { sheet = fits.0; place = fits.1.0; old = fits.1.1.0; new = fits.1.1.1 }))
+    (tag_if tag 7 (tag_map lines_parts_format.spelled lines_diff_made FitsDiff spell_diff 7 (λ x. refl) (λ x fits. record { sheet = fits.0; edit = fits.1.1.0; kept = fits.1.1.1 }))
+    (tag_refused FitsDiff spell_diff tag)))
+
+diff_plain : IsPlain diff_at
+unfolding diff_at cell_diff_at lines_diff_at
+diff_plain = tagged_plain diff_of (λ tag. if_plain (eqb tag 1) (map_plain cell_diff_made cell_parts_format.plain) (if_plain (eqb tag 7) (map_plain lines_diff_made lines_parts_format.plain) refused_plain))
 
 pub diff_format : Format FitsDiff spell_diff diff_at
 diff_format = record { again = diff_again; spelled = diff_spelled; plain = diff_plain }
 
 pub diff_some : (x : Diff) → 1 ≤ length (spell_diff x)
 diff_some (CellDiff sheet place old new) = omega arith
-diff_some (RowsDiff sheet edit kept) = omega arith
+diff_some (LinesDiff sheet axis edit kept) = omega arith
+
+-- ---- entries and queues
+
+list_of_diffs_format : Format FitsList (spell_list spell_diff) list_of_diffs_at
+unfolding list_of_diffs_at
+list_of_diffs_format = list_format diff_format diff_some
+
+direction_known : (x : DiffType) → decoded direction_code directions (direction_code x) ≡ Some x
+direction_known Undo = refl
+direction_known Redo = refl
+
+direction_format : Format Any (spell_code direction_code) (code_at direction_code directions)
+direction_format = record { again = code_again direction_code directions direction_known; spelled = code_spelled direction_code directions; plain = code_plain direction_code directions }
 
 pub entry_format : Format FitsEntry spell_entry entry_at
-entry_format = record { again = entry_again; spelled = entry_spelled; plain = entry_plain }
+unfolding entry_at
+entry_format = made_format (both_format direction_format list_of_diffs_format) entry_made (λ entry. (entry.kind, entry.list)) (λ entry fits. (refl, (tt, fits))) (λ x fits. (refl, fits.1))
+
+pub queue_format : Format FitsQueue (λ queue. magic ++ spell_list spell_entry queue) (after magic (list_at entry_at))
+queue_format = after_format (list_format entry_format (λ x. omega arith)) magic refl

@@ -1,25 +1,27 @@
 -- The laws of the bytes of queues.
-use Rattle.std.proofs.Common.{◌≡◌, ℕ, List, Ok, Err, refl, ap, sym, subst, ◌∙◌, arith}
+use Rattle.std.proofs.Common.{◌≡◌, ℕ, List, Ok, Err, ap, sym, subst, ◌∙◌}
 use Rattle.base_values.specs.declared.EditError.{EditError}
 use Rattle.base_values.specs.declared.EditError.TheVariants.{ParseDiffs}
-use Rattle.base_wire.specs.laws.Refusals.{Refuses}
-use Rattle.sheet_wire.specs.laws.Refusals.{queue_refuses}
 use Rattle.sheet_history.specs.declared.QueueDiffs.{QueueDiffs}
-use Rattle.sheet_wire.specs.QueueBytes.{magic, spell_queue, queue_of, FitsQueue, IsNoQueue}
-use Rattle.base_wire.specs.laws.Again.{list_again, after_again, whole_again}
-use Rattle.sheet_wire.specs.laws.PartsAgain.{entry_again}
-use Rattle.base_wire.specs.laws.Spelled.{IsBytes, list_spelled, after_spelled, whole_spelled}
-use Rattle.sheet_wire.specs.laws.PartsSpelled.{entry_spelled}
+use Rattle.base_wire.specs.laws.Again.{whole_again}
+use Rattle.base_wire.specs.laws.Refusals.{Refuses, whole_refuses}
+use Rattle.base_wire.specs.laws.Spelled.{IsBytes, whole_spelled}
+use Rattle.sheet_wire.specs.QueueBytes.{spell_queue, queue_of, FitsQueue, IsNoQueue}
+use Rattle.sheet_wire.specs.laws.QueueFormats.{queue_format}
 
 -- a queue that bytes can carry is read again from its spelling
 pub queue_again : (queue : List QueueDiffs) → FitsQueue queue → queue_of (spell_queue queue) ≡ Ok queue
 unfolding spell_queue queue_of
-queue_again queue fits = whole_again (after_again (list_again entry_again (λ x. omega arith)) magic refl) queue fits
+queue_again queue fits = whole_again queue_format.again queue fits
 
 -- what is read of bytes is a queue that fits, and they are its spelling
 pub queue_spelled : (bytes : List ℕ) (queue : List QueueDiffs) → IsBytes bytes → queue_of bytes ≡ Ok queue → (bytes ≡ spell_queue queue) × FitsQueue queue
 unfolding spell_queue queue_of
-queue_spelled bytes queue small e = whole_spelled (after_spelled (list_spelled entry_spelled) magic) bytes queue small e
+queue_spelled bytes queue small e = whole_spelled queue_format.spelled bytes queue small e
+
+queue_refuses : (bytes : List ℕ) → Refuses (queue_of bytes)
+unfolding queue_of
+queue_refuses bytes = whole_refuses queue_format.plain bytes
 
 -- bytes that are refused are no queue
 pub refused_no_queue : (bytes : List ℕ) (e : EditError) → queue_of bytes ≡ Err e → (e ≡ ParseDiffs) × IsNoQueue bytes

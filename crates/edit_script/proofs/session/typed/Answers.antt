@@ -2,7 +2,7 @@ use Rattle.std.proofs.Common.{◌∙◌, subst, sym, w32, SFits}
 use Rattle.std.specs.Prelude.{IfOk, IsTrue}
 use Rattle.std.proofs.lemmas.Int.{to_z-of_z}
 use Rattle.base_values.specs.declared.Position.{Position}
-use Rattle.formula_content.specs.Fitting.{fits_at}
+use Rattle.cell_content.specs.Fitting.{fits_at}
 use Rattle.sheet_grid.specs.laws.FittingLaws.{place_is}
 use Rattle.edit_script.proofs.session.typed.Goals as goal
 

@@ -1,24 +1,20 @@
 use Rattle.base_values.specs.Places.{position_cmp}
 use Rattle.base_values.specs.laws.Places.{position_total, exact_positions}
-use Rattle.line_map.specs.Edit.{opposite_of}
-use Rattle.line_map.specs.Carried.{get-follow_map, get-lost_map, get-parts_map}
-use Rattle.line_map.specs.Places.{place_image, place_inverse, part_of}
+use Rattle.line_map.specs.Way.{at, back, place_goes, way}
+use Rattle.line_map.specs.laws.Gathering.{get-lost_map}
+use Rattle.line_map.specs.laws.MapLaws.{get-carried_map, get-parts_map}
+use Rattle.line_map.specs.laws.WayLaws.{goes_inverse}
 use Rattle.line_map.proofs.laws.entries_of_maps.Goals as goal
 
-pub returns-clause-followed : goal.returns-clause-followed
-returns-clause-followed g c =
-    let a = g.A.Axis.along in
-    let e = c.args.edit.now.kind in
-    get-follow_map position_cmp position_total exact_positions (place_image a e) (place_image a (opposite_of e)) (place_inverse a g.met.A.Axis.lawful e c.requires) (λ _. g.F.Follow.follow_of e) c.args.map.now
+pub returns-clause-carried : goal.returns-clause-carried
+returns-clause-carried g c =
+    let w = way c.args.route.now in
+    get-carried_map position_cmp position_total exact_positions (place_goes w) (place_goes (back w)) (goes_inverse w c.is_way.ensures) (λ p q x. g.F.Follower.carry_of (at w p q) x) c.args.map.now
 
 pub returns-clause-lost : goal.returns-clause-lost
-returns-clause-lost g c =
-    let a = g.A.Axis.along in
-    let e = c.args.edit.now.kind in
-    get-lost_map position_cmp position_total exact_positions (place_image a e) (place_image a (opposite_of e)) (place_inverse a g.met.A.Axis.lawful e c.requires) c.args.map.now
+returns-clause-lost g c = get-lost_map position_cmp position_total exact_positions (place_goes (way c.args.route.now)) c.args.map.now
 
 pub returns-clause-parts : goal.returns-clause-parts
 returns-clause-parts g c =
-    let a = g.A.Axis.along in
-    let e = c.args.edit.now.kind in
-    get-parts_map position_cmp position_total exact_positions (place_image a e) (place_image a (opposite_of e)) (place_inverse a g.met.A.Axis.lawful e c.requires) (λ _. part_of g.F.PartialEq.eq g.F.Follow.follow_of g.F.Follow.kept_of e) c.args.map.now
+    let w = way c.args.route.now in
+    get-parts_map position_cmp position_total exact_positions (place_goes w) (λ p q x. g.F.Follower.part_of (at w p q) x) c.args.map.now

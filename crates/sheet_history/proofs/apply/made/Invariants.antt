@@ -1,7 +1,8 @@
 use Rattle.std.proofs.Common.{◌≡◌, drop}
+use Rattle.sheet_lines.specs.Sheets.{IsPlacedBook}
 use Rattle.sheet_history.specs.Diffs.{forward_from}
 use Rattle.sheet_history.proofs.apply.made.Given as goal
 
--- what is left takes the present workbook where the whole list takes the first
+-- what is left takes the present workbook, which is placed, where the whole list takes the first
 abbrev pub invariant-loop-index : goal.invariant-loop-index
-invariant-loop-index l = forward_from l.index l.next (drop l.index l.diff-items) ≡ forward_from 0 l.workbook l.list
+invariant-loop-index l = (forward_from l.index l.next (drop l.index l.diff-items) ≡ forward_from 0 l.workbook l.list) × IsPlacedBook l.next

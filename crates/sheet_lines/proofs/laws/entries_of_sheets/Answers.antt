@@ -1,62 +1,58 @@
-use Rattle.sheet_lines.specs.Followed.{way_of}
-use Rattle.sheet_lines.proofs.Held.{get-followed, get-lost, get-kept_trees}
+use Rattle.std.proofs.Common.{ap, ◌∙◌}
 use Rattle.std.specs.Cmp.{int_cmp_total}
+use Rattle.std.specs.FinMap.{get}
 use Rattle.std.specs.Ordering.{int_cmp}
 use Rattle.std.proofs.lemmas.Map.Lookups.{exact_signed}
 use Rattle.base_values.specs.Places.{position_cmp}
 use Rattle.base_values.specs.laws.Places.{position_total, exact_positions}
-use Rattle.line_map.specs.Carried.{get-moved_map}
-use Rattle.line_map.specs.Edit.{opposite_of}
-use Rattle.line_map.specs.Places.{place_image, place_inverse}
-use Rattle.sheet_lines.specs.Way.{back, place_goes, line_image, line_goes, are_rows, are_columns}
-use Rattle.sheet_lines.specs.laws.Regained.{goes_inverse, lines_inverse, lines_go_inverse}
+use Rattle.line_map.specs.Carried.{lost_map}
+use Rattle.line_map.specs.Contents.{cell_carried}
+use Rattle.line_map.specs.Moves.{edit_moves, place_image}
+use Rattle.line_map.specs.Way.{at, back, place_goes}
+use Rattle.line_map.specs.laws.Gathering.{get-lost_map}
+use Rattle.line_map.specs.laws.Images.{edit_one_to_one}
+use Rattle.line_map.specs.laws.MapLaws.{get-carried_map}
+use Rattle.line_map.specs.laws.WayLaws.{goes_inverse}
+use Rattle.sheet_lines.specs.Followed.{way_of}
+use Rattle.sheet_lines.specs.Kept.{lines_of, of_sheet}
+use Rattle.sheet_lines.specs.Sheets.{sheet_of, name_of}
+use Rattle.sheet_lines.specs.laws.Regained.{formulas_under, kept_elsewhere}
+use Rattle.sheet_lines.specs.laws.Stays.{way_is}
 use Rattle.sheet_lines.proofs.laws.entries_of_sheets.Goals as goal
 
-pub returns-clause-followed : goal.returns-clause-followed
-returns-clause-followed g c edited sheet q =
-    get-followed (way_of g.A.Axis.along c.args.edit.now.kind c.args.sheet_id edited sheet) g.met.A.Axis.lawful c.requires sheet.cells q
-
-pub returns-clause-lost : goal.returns-clause-lost
-returns-clause-lost g c sheet p =
+pub returns-clause-cells : goal.returns-clause-cells
+returns-clause-cells g c edited sheet q =
     let a = g.A.Axis.along in
     let e = c.args.edit.now.kind in
-    get-lost position_cmp position_total exact_positions (place_image a e) (place_image a (opposite_of e)) (place_inverse a g.met.A.Axis.lawful e c.requires) sheet.cells p
+    let w = way_of a (edit_moves a.last e) c.args.sheet_id edited sheet in
+    get-carried_map position_cmp position_total exact_positions (place_goes w) (place_goes (back w)) (goes_inverse w (way_is a g.met.A.Axis.lawful e c.requires.valid c.args.sheet_id edited sheet)) (λ p q x. cell_carried (at w p q) x) sheet.cells q
+
+pub returns-clause-lost_cells : goal.returns-clause-lost_cells
+returns-clause-lost_cells g c sheet p found =
+    let to = place_image g.A.Axis.along (edit_moves g.A.Axis.along.last c.args.edit.now.kind).to in
+    ap (λ o. get (of_sheet (λ s. lost_map to s.cells) o) p) found ∙ get-lost_map position_cmp position_total exact_positions to sheet.cells p
 
 pub returns-clause-lost_links : goal.returns-clause-lost_links
-returns-clause-lost_links g c sheet p =
-    let a = g.A.Axis.along in
-    let e = c.args.edit.now.kind in
-    get-lost position_cmp position_total exact_positions (place_image a e) (place_image a (opposite_of e)) (place_inverse a g.met.A.Axis.lawful e c.requires) sheet.links p
+returns-clause-lost_links g c sheet p found =
+    let to = place_image g.A.Axis.along (edit_moves g.A.Axis.along.last c.args.edit.now.kind).to in
+    ap (λ o. get (of_sheet (λ s. lost_map to s.links) o) p) found ∙ get-lost_map position_cmp position_total exact_positions to sheet.links p
 
-pub returns-clause-lost_rows : goal.returns-clause-lost_rows
-returns-clause-lost_rows g c sheet line =
+pub returns-clause-lost_lines : goal.returns-clause-lost_lines
+returns-clause-lost_lines g c sheet n found =
     let a = g.A.Axis.along in
-    let e = c.args.edit.now.kind in
-    get-lost int_cmp int_cmp_total exact_signed (line_image a e (are_rows a)) (line_image a (opposite_of e) (are_rows a)) (lines_inverse a e c.requires (are_rows a)) sheet.rows line
-
-pub returns-clause-lost_columns : goal.returns-clause-lost_columns
-returns-clause-lost_columns g c sheet line =
-    let a = g.A.Axis.along in
-    let e = c.args.edit.now.kind in
-    get-lost int_cmp int_cmp_total exact_signed (line_image a e (are_columns a)) (line_image a (opposite_of e) (are_columns a)) (lines_inverse a e c.requires (are_columns a)) sheet.columns line
+    let to = (edit_moves a.last c.args.edit.now.kind).to in
+    ap (λ o. get (of_sheet (λ s. lost_map to (lines_of a s)) o) n) found ∙ get-lost_map int_cmp int_cmp_total exact_signed to (lines_of a sheet) n
 
 pub returns-clause-trees : goal.returns-clause-trees
-returns-clause-trees g c edited sheet p =
-    get-kept_trees (way_of g.A.Axis.along c.args.edit.now.kind c.args.sheet_id edited sheet) g.met.A.Axis.lawful c.requires sheet.cells p
+returns-clause-trees g c =
+    let a = g.A.Axis.along in
+    let e = c.args.edit.now.kind in
+    let book = c.args.workbook.now in
+    formulas_under a g.met.A.Axis.lawful (edit_moves a.last e) (edit_one_to_one a.last e c.requires.valid) c.args.sheet_id (name_of (sheet_of book c.args.sheet_id)) book.worksheets c.requires.distinct
 
-pub returns-clause-links : goal.returns-clause-links
-returns-clause-links g c edited sheet q =
-    let w = way_of g.A.Axis.along c.args.edit.now.kind c.args.sheet_id edited sheet in
-    get-moved_map position_cmp position_total exact_positions (place_goes w) (place_goes (back w)) (goes_inverse w g.met.A.Axis.lawful c.requires) sheet.links q
-
-pub returns-clause-rows : goal.returns-clause-rows
-returns-clause-rows g c edited sheet line =
-    let w = way_of g.A.Axis.along c.args.edit.now.kind c.args.sheet_id edited sheet in
-    let of = are_rows g.A.Axis.along in
-    get-moved_map int_cmp int_cmp_total exact_signed (line_goes w of) (line_goes (back w) of) (lines_go_inverse w c.requires of) sheet.rows line
-
-pub returns-clause-columns : goal.returns-clause-columns
-returns-clause-columns g c edited sheet line =
-    let w = way_of g.A.Axis.along c.args.edit.now.kind c.args.sheet_id edited sheet in
-    let of = are_columns g.A.Axis.along in
-    get-moved_map int_cmp int_cmp_total exact_signed (line_goes w of) (line_goes (back w) of) (lines_go_inverse w c.requires of) sheet.columns line
+pub returns-clause-others : goal.returns-clause-others
+returns-clause-others g c id p none =
+    let a = g.A.Axis.along in
+    let e = c.args.edit.now.kind in
+    let book = c.args.workbook.now in
+    kept_elsewhere a g.met.A.Axis.lawful (edit_moves a.last e) (edit_one_to_one a.last e c.requires.valid) c.args.sheet_id (name_of (sheet_of book c.args.sheet_id)) book.worksheets id none p

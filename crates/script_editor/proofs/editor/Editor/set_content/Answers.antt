@@ -1,10 +1,8 @@
-use Rattle.std.proofs.Common.{◌≡◌, w32, SFits, subst}
+use Rattle.std.proofs.Common.{w32, SFits}
 use Rattle.std.proofs.lemmas.Int.{to_z-of_z}
-use Rattle.script_editor.specs.Document.{Document}
-use Rattle.script_editor.specs.Machine.{State, edit_of}
+use Rattle.script_editor.specs.Machine.{edit_of}
 use Rattle.script_editor.specs.Machine.Edit.{Input}
 use Rattle.script_editor.specs.Opened.{document_in}
-use Rattle.script_editor.specs.Stands.{StandsFor, Moves}
 use Rattle.script_editor.proofs.InputSteps.{input_moves}
 use Rattle.script_editor.proofs.Sounds.{moves_from, reached_on, reached_rules}
 use Rattle.script_editor.proofs.editor.Editor.set_content.Goals as goal

@@ -1,0 +1,2 @@
+pub mod SheetPlaces
+pub mod laws

@@ -1,0 +1,2 @@
+pub mod SheetPlaceEquals
+pub mod SheetPlaces

@@ -1,0 +1,25 @@
+-- A content is a shape and maybe a tree: how the tree is seen, and how another one is put in its place.
+use Rattle.std.specs.Prelude.{Option, Some, None}
+use Rattle.formula_tree.specs.declared.Node.{Node}
+use Rattle.cell_content.specs.declared.content.Content.{Content}
+use Rattle.cell_content.specs.declared.content.Content.TheVariants.{Empty, Number, Boolean, Error, Text, Formula, Dynamic}
+
+-- the tree of a formula; any other content has none
+abbrev pub tree_of : Content → Option Node
+tree_of Empty = None
+tree_of (Number number) = None
+tree_of (Boolean truth) = None
+tree_of (Error error) = None
+tree_of (Text text) = None
+tree_of (Formula tree) = Some tree
+tree_of (Dynamic tree) = Some tree
+
+-- the content with that tree in place of its own; one without a tree stays
+abbrev pub with_tree : Content → Node → Content
+with_tree Empty tree = Empty
+with_tree (Number number) tree = Number number
+with_tree (Boolean truth) tree = Boolean truth
+with_tree (Error error) tree = Error error
+with_tree (Text text) tree = Text text
+with_tree (Formula own) tree = Formula tree
+with_tree (Dynamic own) tree = Dynamic tree

@@ -1,0 +1,4 @@
+pub mod Fitting
+pub mod KeptContent
+pub mod Lens
+pub mod laws

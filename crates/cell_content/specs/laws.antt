@@ -1,0 +1,3 @@
+pub mod ContentEquals
+pub mod FittingLaws
+pub mod LensLaws

@@ -1,0 +1,28 @@
+use base_decimal::Decimal;
+use base_shared::Shared;
+use base_tables::Error;
+use base_values::{Exact, Text};
+use formula_tree::Node;
+
+/// What a cell holds.
+#[derive(Clone, PartialEq, Eq, Drop)]
+pub enum Content {
+    Empty,
+    Number(Decimal),
+    Boolean(bool),
+    Error(Error),
+    Text(Text),
+    /// A formula.
+    Formula(Shared<Node>),
+    /// A formula whose value may spill over the cells around.
+    Dynamic(Shared<Node>),
+}
+
+impl Exact for Content {
+    ghost use Rattle.std.proofs.Common.{rules};
+    ghost use Rattle.cell_content.specs.laws.ContentEquals.{content_equals};
+
+    ghost copies = { λ a b h. Prim.search rules };
+
+    ghost equals = { content_equals };
+}

@@ -1,3 +1,0 @@
-pub mod Fitting
-pub mod KeptContent
-pub mod laws

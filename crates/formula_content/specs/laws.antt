@@ -1,2 +1,0 @@
-pub mod ContentEquals
-pub mod FittingLaws

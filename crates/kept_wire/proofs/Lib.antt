@@ -1,6 +1,0 @@
-pub mod Turns
-pub mod Entries
-pub mod Written
-pub mod Reinserted
-pub mod Counts
-mod Known

@@ -1,7 +1,0 @@
-use Rattle.std.proofs.Common.{arith}
-use Rattle.base_wire.specs.laws.Format.{reads}
-use Rattle.kept_wire.specs.laws.KeptLaws.{kept_rows_format}
-use Rattle.kept_wire.proofs.kept_rows.KeptRowsPartPart.take.Goals as goal
-
-pub returns : goal.returns
-returns c = reads kept_rows_format c.args.bytes.now _ (λ i. omega (arith, c.type_inv.bytes i)) c.kept_rows_at.ensures

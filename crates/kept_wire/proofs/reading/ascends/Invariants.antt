@@ -1,6 +1,0 @@
-use Rattle.kept_wire.specs.laws.Ascending.{RisesTo}
-use Rattle.kept_wire.proofs.reading.ascends.Given as goal
-
--- each key so far is below the next
-abbrev pub invariant-loop-i : goal.invariant-loop-i
-invariant-loop-i g l = RisesTo g.K.Keys.order g.met.K.Keys.total l.entries l.i

@@ -1,9 +1,0 @@
-pub mod FitsLaws
-pub mod MapLaws
-pub mod FormulaLaws
-pub mod KeptFits
-pub mod KeptLaws
-pub mod LineLaws
-pub mod NestedLaws
-pub mod Ascending
-pub mod KeyBytes

@@ -1,0 +1,6 @@
+use Rattle.std.proofs.Common.{◌≡◌, map, take}
+use Rattle.line_map.specs.Way.{way}
+use Rattle.line_map.proofs.list.ItemsFollower.part.Given as goal
+
+abbrev pub invariant-loop-item : goal.invariant-loop-item
+invariant-loop-item g l = l.made ≡ map (g.F.Follower.part_of (way l.route)) (take l.item-index l.self)

@@ -1,0 +1,39 @@
+-- What cells hold, carried along with them: a formula's tree follows, all else stays.
+use Rattle.std.specs.Prelude.{Option, Some, None, IfSome}
+use Rattle.formula_tree.specs.declared.Node.{Node}
+use Rattle.cell_content.specs.declared.Content.{Content}
+use Rattle.cell_content.specs.Lens.{tree_of, with_tree}
+use Rattle.sheet_grid.specs.declared.Cell.{Cell}
+use Rattle.line_map.specs.Carried.{if_there}
+use Rattle.line_map.specs.Trees.{tree_carried, tree_part, TreeLies}
+use Rattle.line_map.specs.Way.{Way}
+
+-- a content with this tree, if there is one
+abbrev pub with_new_tree : Content → Option Node → Content
+with_new_tree content None = content
+with_new_tree content (Some tree) = with_tree content tree
+
+-- a content whose tree, if it has one, is carried along
+abbrev pub content_carried : Way → Content → Content
+content_carried w content = with_new_tree content (if_there (tree_of content) (λ tree. Some (tree_carried w tree)))
+
+-- what is kept of it
+abbrev pub content_part : Way → Content → Option Node
+content_part w content = if_there (tree_of content) (tree_part w)
+
+abbrev pub ContentLies : Way → Content → Type 0
+ContentLies w content = IfSome (tree_of content) (TreeLies w)
+
+-- a cell: its content is carried along, and its style stays
+abbrev pub cell_carried : Way → Cell → Cell
+cell_carried w cell = record cell { content = content_carried w cell.content }
+
+abbrev pub cell_part : Way → Cell → Option Node
+cell_part w cell = content_part w cell.content
+
+-- a cell with that tree in place of its own
+abbrev pub cell_restored : Cell → Node → Cell
+cell_restored cell tree = record cell { content = with_tree cell.content tree }
+
+abbrev pub CellLies : Way → Cell → Type 0
+CellLies w cell = ContentLies w cell.content

@@ -1,0 +1,25 @@
+-- What is kept by trying restores the value.
+use Rattle.std.proofs.Common.{◌≡◌, Bool, true, false, Option, Some, None, refl, sym}
+use Rattle.std.specs.Prelude.{if◌then◌else◌}
+use Rattle.std.specs.Bool.{Decides}
+use Rattle.line_map.specs.Way.{Way, back}
+use Rattle.line_map.specs.Trial.{comes_back, part_by_trial}
+
+nothing_at : {F : Type 0} (v : F) (b : Bool) → (if b then None else Some v) ≡ None → b ≡ true
+nothing_at v true h = refl
+nothing_at v false h = absurd (cc)
+
+part_at : {F : Type 0} (v k : F) (b : Bool) → (if b then None else Some v) ≡ Some k → k ≡ v
+part_at v k true h = absurd (cc)
+part_at v k false h = let same : v ≡ k = cc in sym same
+
+module _ {F : Type 0} (same : F → F → Bool) (carry : Way → F → F) where
+  -- where nothing is kept, the way back gives the value
+  pub trial_comes_back : ((a b : F) → Decides (same a b) (a ≡ b)) → (w : Way) (v : F) → part_by_trial same carry w v ≡ None → carry (back w) (carry w v) ≡ v
+  unfolding part_by_trial
+  trial_comes_back exact w v h = (exact (carry (back w) (carry w v)) v).0 (nothing_at v (comes_back same carry w v) h)
+
+  -- what is kept is the value
+  pub trial_part : (w : Way) (v k : F) → part_by_trial same carry w v ≡ Some k → k ≡ v
+  unfolding part_by_trial
+  trial_part w v k h = part_at v k (comes_back same carry w v) h

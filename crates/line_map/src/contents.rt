@@ -1,0 +1,202 @@
+ghost use Rattle.std.specs.Prelude.{◌≡◌, IfOk, IsOkUnless};
+ghost use Rattle.base_values.specs.declared.EditError.TheVariants.{NoMemory};
+
+use crate::follower::Follower;
+use crate::line_map::LineMap;
+use crate::route::Route;
+use base_axis::Axis;
+use base_shared::Shared;
+use base_values::{EditError, Exact, copy_of};
+use cell_content::{Content, tree_of, with_tree};
+use formula_tree::Node;
+use sheet_grid::{Cell, Link};
+use std::alloc::Global;
+
+/// Of a content the tree follows; one without a tree stays.
+impl<A: Axis> Follower<A> for Content {
+    ghost use Rattle.std.specs.Prelude.{⊤};
+    ghost use Rattle.cell_content.specs.Lens.{with_tree};
+    ghost use Rattle.line_map.specs.Contents.{ContentLies, content_carried, content_part};
+    ghost use Rattle.line_map.specs.laws.ContentLaws.{content_stays, content_comes_back, content_restores};
+
+    type Part = Shared<Node>;
+
+    ghost Lies = { ContentLies };
+
+    ghost carry_of = { content_carried };
+
+    ghost part_of = { content_part };
+
+    ghost Fits = { λ _ _. ⊤ };
+
+    ghost restore_of = { λ _ content tree. with_tree content tree };
+
+    fn carry<M: LineMap<A>>(
+        &self,
+        alloc: Global,
+        route: &Route<'_, A, M>,
+    ) -> Result<Content, EditError> {
+        match tree_of(self) {
+            Some(tree) => with_tree(self, tree.carry(alloc, route)?),
+            None => copy_of(self),
+        }
+    }
+
+    fn part<M: LineMap<A>>(
+        &self,
+        alloc: Global,
+        route: &Route<'_, A, M>,
+    ) -> Result<Option<Shared<Node>>, EditError> {
+        match tree_of(self) {
+            Some(tree) => tree.part(alloc, route),
+            None => Ok(None),
+        }
+    }
+
+    fn restore<M: LineMap<A>>(
+        &self,
+        _alloc: Global,
+        _route: &Route<'_, A, M>,
+        part: &Shared<Node>,
+    ) -> Result<Content, EditError> {
+        with_tree(self, copy_of(part)?)
+    }
+
+    ghost stays = { content_stays };
+
+    ghost part_fits = { λ w is v lies k kept. tt };
+
+    ghost comes_back = { λ w is v lies h. content_comes_back w v h };
+
+    ghost restores = { λ w is v lies k h. content_restores w v k h };
+}
+
+/// A cell with another content.
+fn with_content(
+    alloc: Global,
+    cell: &Shared<Cell>,
+    content: Content,
+) -> Result<Shared<Cell>, EditError>
+    ensures cell { IfOk result (λ changed. changed ≡ record cell.now { content = content }) }
+    ensures only { IsOkUnless result NoMemory }
+{
+    let style = copy_of(&cell.get().style)?;
+    Ok(Shared::new(alloc, Cell { content, style })?)
+}
+
+/// Of a cell the content follows, and the style stays. A cell without a formula is shared.
+impl<A: Axis> Follower<A> for Shared<Cell> {
+    ghost use Rattle.std.specs.Prelude.{⊤};
+    ghost use Rattle.line_map.specs.Contents.{CellLies, cell_carried, cell_part, cell_restored};
+    ghost use Rattle.line_map.specs.laws.ContentLaws.{cell_stays, cell_comes_back, cell_restores};
+
+    type Part = Shared<Node>;
+
+    ghost Lies = { CellLies };
+
+    ghost carry_of = { cell_carried };
+
+    ghost part_of = { cell_part };
+
+    ghost Fits = { λ _ _. ⊤ };
+
+    ghost restore_of = { λ _ cell tree. cell_restored cell tree };
+
+    fn carry<M: LineMap<A>>(
+        &self,
+        alloc: Global,
+        route: &Route<'_, A, M>,
+    ) -> Result<Shared<Cell>, EditError> {
+        match tree_of(&self.get().content) {
+            Some(_) => with_content(alloc, self, self.get().content.carry(alloc, route)?),
+            None => copy_of(self),
+        }
+    }
+
+    fn part<M: LineMap<A>>(
+        &self,
+        alloc: Global,
+        route: &Route<'_, A, M>,
+    ) -> Result<Option<Shared<Node>>, EditError> {
+        self.get().content.part(alloc, route)
+    }
+
+    fn restore<M: LineMap<A>>(
+        &self,
+        alloc: Global,
+        _route: &Route<'_, A, M>,
+        part: &Shared<Node>,
+    ) -> Result<Shared<Cell>, EditError> {
+        with_content(alloc, self, with_tree(&self.get().content, copy_of(part)?)?)
+    }
+
+    ghost stays = { cell_stays };
+
+    ghost part_fits = { λ w is v lies k kept. tt };
+
+    ghost comes_back = { λ w is v lies h. cell_comes_back w v h };
+
+    ghost restores = { λ w is v lies k h. cell_restores w v k h };
+}
+
+/// What is kept of what stays as it is.
+#[derive(Clone, Copy, Debug, PartialEq, Eq)]
+pub struct Nothing;
+
+impl Exact for Nothing {
+    ghost use Rattle.line_map.specs.laws.Equals.{nothing_equals};
+
+    ghost copies = { λ a b h. h };
+
+    ghost equals = { nothing_equals };
+}
+
+/// A link stays as it is.
+impl<A: Axis> Follower<A> for Link {
+    ghost use Rattle.std.specs.Prelude.{⊤, None, refl};
+
+    type Part = Nothing;
+
+    ghost Lies = { λ _ _. ⊤ };
+
+    ghost carry_of = { λ _ link. link };
+
+    ghost part_of = { λ _ _. None };
+
+    ghost Fits = { λ _ _. ⊤ };
+
+    ghost restore_of = { λ _ link _. link };
+
+    fn carry<M: LineMap<A>>(
+        &self,
+        _alloc: Global,
+        _route: &Route<'_, A, M>,
+    ) -> Result<Link, EditError> {
+        copy_of(self)
+    }
+
+    fn part<M: LineMap<A>>(
+        &self,
+        _alloc: Global,
+        _route: &Route<'_, A, M>,
+    ) -> Result<Option<Nothing>, EditError> {
+        Ok(None)
+    }
+
+    fn restore<M: LineMap<A>>(
+        &self,
+        _alloc: Global,
+        _route: &Route<'_, A, M>,
+        _part: &Nothing,
+    ) -> Result<Link, EditError> {
+        copy_of(self)
+    }
+
+    ghost stays = { λ w is v lies. tt };
+
+    ghost part_fits = { λ w is v lies k kept. tt };
+
+    ghost comes_back = { λ w is v lies h. refl };
+
+    ghost restores = { λ w is v lies k h. refl };
+}

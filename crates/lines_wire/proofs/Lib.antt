@@ -1,0 +1,3 @@
+mod Known
+pub mod Turns
+pub mod Written

@@ -1,0 +1,10 @@
+use Rattle.lines_wire.proofs.Known.{any_option}
+use Rattle.lines_wire.proofs.kept_lines.put_kept.Goals as goal
+
+pub returns-clause-fits : goal.returns-clause-fits
+returns-clause-fits c = λ known. record {
+  cells = c.in_ok-put.ensures.fits (record { keys = λ key. tt; values = known.cells });
+  links = c.in_ok-put-2.ensures.fits (record { keys = λ key. tt; values = λ place. any_option _ });
+  lines = c.in_ok-put-3.ensures.fits (record { keys = λ key. tt; values = known.lines });
+  formulas = c.in_ok-put-4.ensures.fits (record { keys = λ key. tt; values = known.formulas });
+}

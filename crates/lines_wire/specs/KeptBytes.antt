@@ -1,0 +1,67 @@
+-- The bytes of what line edits keep of a workbook.
+use Rattle.std.specs.Prelude.{◌≡◌, ℤ, false, List, ◌∷◌, ◌++◌, ℕ, IfSome, FitsSigned}
+use Rattle.std.specs.Int.{w32, w64, to_be_bytes}
+use Rattle.std.specs.Ordering.{int_cmp}
+use Rattle.std.specs.FinMap.{FinMap, get}
+use Rattle.base_values.specs.declared.Position.{Position}
+use Rattle.base_values.specs.Places.{position_cmp}
+use Rattle.base_maps.specs.declared.SheetPlace.{SheetPlace}
+use Rattle.base_maps.specs.SheetPlaces.{sheet_place_cmp}
+use Rattle.formula_tree.specs.declared.Node.{Node}
+use Rattle.sheet_grid.specs.Lines.{is_plain}
+use Rattle.sheet_grid.specs.declared.Cell.{Cell}
+use Rattle.sheet_grid.specs.declared.Link.{Link}
+use Rattle.sheet_grid.specs.declared.LineAttr.{LineAttr}
+use Rattle.sheet_lines.specs.declared.KeptLines.{KeptLines}
+use Rattle.base_wire.specs.Reading.{Reader, plain, map_at, ◌⊗◌, signed_at, after}
+use Rattle.base_wire.specs.Spelling.{spell_signed}
+use Rattle.formula_wire.specs.NodeBytes.{spell_node, node_at}
+use Rattle.formula_wire.specs.Carried.{FitsNode, IsKnownNode}
+use Rattle.cell_wire.specs.CellBytes.{spell_position, position_at, FitsPosition, spell_cell, cell_at, FitsCell, IsKnownCell}
+use Rattle.lines_wire.specs.MapBytes.{spell_map, map_of_at, FitsMap}
+use Rattle.lines_wire.specs.PartBytes.{spell_sheet_place, sheet_place_at, FitsSheetPlace, spell_link, link_at, FitsLink, spell_line, line_at, FitsLine}
+
+-- ---- maps
+
+unfoldable pub cells_at : Reader (FinMap position_cmp Cell)
+cells_at = map_of_at position_cmp (λ m. m) position_at cell_at
+
+unfoldable pub links_at : Reader (FinMap position_cmp Link)
+links_at = map_of_at position_cmp (λ m. m) position_at link_at
+
+unfoldable pub lines_at : Reader (FinMap int_cmp LineAttr)
+lines_at = map_of_at int_cmp (λ m. m) (signed_at w32) line_at
+
+unfoldable pub formulas_at : Reader (FinMap sheet_place_cmp Node)
+formulas_at = map_of_at sheet_place_cmp (λ m. m) sheet_place_at node_at
+
+-- ---- what line edits keep
+
+-- no areas of merged cells from before, and no rules
+abbrev pub nothing_more : List ℕ
+nothing_more = 0 ∷ to_be_bytes w64 0
+
+-- cells, links, lines, the trees of formulas, and nothing more
+unfoldable pub spell_kept : KeptLines → List ℕ
+spell_kept kept =
+    spell_map spell_position spell_cell kept.cells ++ (spell_map spell_position spell_link kept.links
+    ++ (spell_map (spell_signed w32) spell_line kept.lines ++ (spell_map spell_sheet_place spell_node kept.formulas ++ nothing_more)))
+
+abbrev pub kept_made : FinMap position_cmp Cell × (FinMap position_cmp Link × (FinMap int_cmp LineAttr × (FinMap sheet_place_cmp Node × Unit {0}))) → KeptLines
+kept_made x = record { cells = x.0; links = x.1.0; lines = x.1.1.0; formulas = x.1.1.1.0 }
+
+unfoldable pub kept_at : Reader KeptLines
+kept_at = map_at kept_made (cells_at ⊗ links_at ⊗ lines_at ⊗ formulas_at ⊗ after nothing_more (plain tt))
+
+-- what line edits keep, as bytes can carry it
+pub record FitsKept (kept : KeptLines) : Type 0 where
+  pub cells : FitsMap FitsPosition FitsCell kept.cells
+  pub links : FitsMap FitsPosition FitsLink kept.links
+  pub lines : FitsMap (FitsSigned w32) FitsLine kept.lines
+  pub formulas : FitsMap FitsSheetPlace FitsNode kept.formulas
+
+-- what writing asks: numbers are kept, trees are at most 64 deep, and each line has something of its own
+pub record IsKnownKept (kept : KeptLines) : Type 0 where
+  pub cells : (place : Position) → IfSome (get kept.cells place) IsKnownCell
+  pub lines : (line : ℤ) → IfSome (get kept.lines line) (λ attr. is_plain attr ≡ false)
+  pub formulas : (place : SheetPlace) → IfSome (get kept.formulas place) IsKnownNode

@@ -1,0 +1,5 @@
+pub mod MapBytes
+pub mod PartBytes
+pub mod EditBytes
+pub mod KeptBytes
+pub mod laws

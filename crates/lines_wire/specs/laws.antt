@@ -1,0 +1,7 @@
+pub mod Ascending
+pub mod EditLaws
+pub mod FitsLaws
+pub mod KeptFits
+pub mod KeptLaws
+pub mod MapLaws
+pub mod PartLaws

@@ -1,0 +1,74 @@
+-- The laws of the bytes of what line edits keep.
+use Rattle.std.proofs.Common.{◌≤◌, [], length, refl, subst, arith, ℕ, List}
+use Rattle.std.specs.Prelude.{FitsSigned}
+use Rattle.std.specs.Cmp.{int_cmp_total}
+use Rattle.std.specs.Int.{w32}
+use Rattle.std.specs.Ordering.{int_cmp}
+use Rattle.std.proofs.lemmas.Map.Lookups.{exact_signed}
+use Rattle.base_values.specs.Places.{position_cmp}
+use Rattle.base_values.specs.laws.Places.{position_total, exact_positions}
+use Rattle.base_maps.specs.SheetPlaces.{sheet_place_cmp}
+use Rattle.base_maps.specs.laws.SheetPlaces.{sheet_place_total, exact_sheet_places}
+use Rattle.sheet_lines.specs.declared.KeptLines.{KeptLines}
+use Rattle.base_wire.specs.Reading.{plain}
+use Rattle.base_wire.specs.Spelling.{Any, spell_signed}
+use Rattle.base_wire.specs.laws.Format.{Format}
+use Rattle.base_wire.specs.laws.Formats.{both_format, after_format, made_format}
+use Rattle.base_wire.specs.laws.Parts.{signed_format}
+use Rattle.base_wire.specs.laws.Refusals.{plain_plain}
+use Rattle.base_wire.specs.laws.Spelled.{IsSpelled, ok_is}
+use Rattle.formula_wire.specs.NodeBytes.{spell_node}
+use Rattle.formula_wire.specs.Carried.{FitsNode}
+use Rattle.formula_wire.specs.laws.NodeLaws.{node_format}
+use Rattle.cell_wire.specs.CellBytes.{spell_position, FitsPosition, spell_cell, FitsCell}
+use Rattle.cell_wire.specs.laws.Formats.{position_format, position_some, cell_format}
+use Rattle.lines_wire.specs.MapBytes.{spell_map, FitsMap}
+use Rattle.lines_wire.specs.PartBytes.{spell_sheet_place, FitsSheetPlace, spell_link, FitsLink, spell_line, FitsLine}
+use Rattle.lines_wire.specs.laws.MapLaws.{map_format}
+use Rattle.lines_wire.specs.laws.PartLaws.{sheet_place_format, sheet_place_some, link_format, line_format}
+use Rattle.lines_wire.specs.KeptBytes.{cells_at, links_at, lines_at, formulas_at, nothing_more, spell_kept, kept_made, kept_at, FitsKept}
+
+-- ---- maps
+
+cells_format : Format (FitsMap {order = position_cmp} FitsPosition FitsCell) (spell_map spell_position spell_cell) cells_at
+unfolding cells_at
+cells_format = map_format position_total exact_positions position_format cell_format position_some (λ m. m) (λ m. m) (λ m. refl) (λ m. refl)
+
+links_format : Format (FitsMap {order = position_cmp} FitsPosition FitsLink) (spell_map spell_position spell_link) links_at
+unfolding links_at
+links_format = map_format position_total exact_positions position_format link_format position_some (λ m. m) (λ m. m) (λ m. refl) (λ m. refl)
+
+lines_format : Format (FitsMap {order = int_cmp} (FitsSigned w32) FitsLine) (spell_map (spell_signed w32) spell_line) lines_at
+unfolding lines_at
+lines_format = map_format int_cmp_total exact_signed signed_format line_format (λ line. omega arith) (λ m. m) (λ m. m) (λ m. refl) (λ m. refl)
+
+formulas_format : Format (FitsMap {order = sheet_place_cmp} FitsSheetPlace FitsNode) (spell_map spell_sheet_place spell_node) formulas_at
+unfolding formulas_at
+formulas_format = map_format sheet_place_total exact_sheet_places sheet_place_format node_format sheet_place_some (λ m. m) (λ m. m) (λ m. refl) (λ m. refl)
+
+-- ---- what line edits keep
+
+-- what takes no bytes
+nothing_format : Format {A = Unit {0}} Any (λ _. []) (plain tt)
+nothing_format = record {
+  again = record { again = λ x rest fits. refl };
+  spelled = record {
+    spelled = λ bytes x small e.
+        let made : Unit {0} × List ℕ = (tt, bytes) in
+        subst (λ (z : Unit {0} × List ℕ). IsSpelled {A = Unit {0}} Any (λ _. []) bytes z.0 z.1) (ok_is made x e) (record { parts = refl; fits = tt; left = small });
+  };
+  plain = plain_plain tt;
+}
+
+-- what bytes can carry is read again from its spelling, what is read was spelled so, and all else is refused
+pub kept_format : Format FitsKept spell_kept kept_at
+unfolding kept_at spell_kept
+kept_format =
+    made_format (both_format cells_format (both_format links_format (both_format lines_format (both_format formulas_format (after_format nothing_format nothing_more refl)))))
+    kept_made (λ kept. (kept.cells, (kept.links, (kept.lines, (kept.formulas, tt)))))
+    (λ kept fits. (refl, (fits.cells, (fits.links, (fits.lines, (fits.formulas, tt))))))
+    (λ x fits. (refl, record { cells = fits.0; links = fits.1.0; lines = fits.1.1.0; formulas = fits.1.1.1.0 }))
+
+pub kept_some : (kept : KeptLines) → 1 ≤ length (spell_kept kept)
+unfolding spell_kept
+kept_some kept = omega arith

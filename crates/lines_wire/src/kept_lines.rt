@@ -1,0 +1,113 @@
+//! What line edits keep of a workbook, as bytes and from them.
+
+ghost use Rattle.std.specs.Prelude.{◌≡◌, ◌++◌, OnOk};
+ghost use Rattle.base_values.specs.Answers.{Answers, map_ok};
+ghost use Rattle.base_wire.specs.Reading.{rest_after};
+ghost use Rattle.lines_wire.specs.KeptBytes.{kept_at, nothing_more, spell_kept, FitsKept, IsKnownKept};
+
+use crate::maps::MapPart;
+use crate::reading::read;
+use crate::values::{LinePart, LinkPart, SheetPlacePart};
+use base_maps::{NumberMap, PositionMap, SheetPlaceMap};
+use base_shared::Shared;
+use base_styles::Style;
+use base_values::EditError;
+use base_wire::Part;
+use cell_wire::{CellPart, PositionPart};
+use formula_tree::Node;
+use formula_wire::NodePart;
+use sheet_grid::{Cell, LineAttr, Link};
+use sheet_lines::KeptLines;
+use std::alloc::{AllocError, Global};
+
+type CellsPart = MapPart<PositionMap<Shared<Cell>>, PositionPart, CellPart>;
+
+type LinksPart = MapPart<PositionMap<Link>, PositionPart, LinkPart>;
+
+type LinesPart = MapPart<NumberMap<LineAttr>, i32, LinePart>;
+
+type FormulasPart = MapPart<SheetPlaceMap<Shared<Node>>, SheetPlacePart, Shared<NodePart>>;
+
+#[tactic(auto, unfolding(crate::specs::KeptBytes::spell_kept))]
+fn put_kept(out: &mut Vec<u8>, kept: &KeptLines) -> Result<(), AllocError>
+    ensures spelled { OnOk result (out.new.items ≡ out.old.items ++ spell_kept kept.now) }
+    ensures fits { OnOk result (IsKnownKept kept.now → FitsKept kept.now) }
+{
+    CellsPart::put(out, &kept.cells)?;
+    LinksPart::put(out, &kept.links)?;
+    LinesPart::put(out, &kept.lines)?;
+    FormulasPart::put(out, &kept.formulas)?;
+    out.extend_from_slice(&[0; 9])?;
+    Ok(())
+}
+
+/// What stands after the bytes of no merged cells and no rules.
+fn after_nothing_more(bytes: &[u8]) -> Result<&[u8], EditError>
+    ensures { Answers (map_ok (λ x. x.now) result) (rest_after nothing_more bytes.now) }
+{
+    match bytes.strip_prefix([0; 9].as_slice()) {
+        Some(rest) => Ok(rest),
+        None => Err(EditError::ParseDiffs),
+    }
+}
+
+#[tactic(auto, unfolding(crate::specs::KeptBytes::kept_at, crate::specs::KeptBytes::cells_at, crate::specs::KeptBytes::links_at, crate::specs::KeptBytes::lines_at, crate::specs::KeptBytes::formulas_at))]
+fn kept_at<'a>(
+    alloc: Global,
+    plain: &Shared<Style>,
+    bytes: &'a [u8],
+) -> Result<(KeptLines, &'a [u8]), EditError>
+    ensures { Answers (map_ok (λ x. (x.0, x.1.now)) result) (kept_at bytes.now) }
+{
+    let (cells, rest) = read::<CellsPart>(alloc, plain, bytes)?;
+    let (links, rest) = read::<LinksPart>(alloc, &(), rest)?;
+    let (lines, rest) = read::<LinesPart>(alloc, plain, rest)?;
+    let (formulas, rest) = read::<FormulasPart>(alloc, &(), rest)?;
+    let rest = after_nothing_more(rest)?;
+    let kept = KeptLines {
+        cells,
+        links,
+        lines,
+        formulas,
+    };
+    Ok((kept, rest))
+}
+
+/// What a line edit keeps: its cells, links, lines and trees (docs/FORMATS.md, "What line edits keep").
+///
+/// Bytes spell none where a map's keys don't rise strictly, where a line has nothing of its own, or
+/// where a part is none. Each style that is read and equal to that of the context shares it.
+pub struct KeptLinesPart;
+
+impl Part for KeptLinesPart {
+    ghost use Rattle.lines_wire.specs.KeptBytes.{kept_at, spell_kept, FitsKept, IsKnownKept};
+    ghost use Rattle.lines_wire.specs.laws.KeptLaws.{kept_format, kept_some};
+
+    type Value = KeptLines;
+
+    type Context = Shared<Style>;
+
+    ghost Known = { IsKnownKept };
+
+    ghost Fits = { FitsKept };
+
+    ghost spelling = { spell_kept };
+
+    ghost reading = { kept_at };
+
+    fn put(out: &mut Vec<u8>, value: &KeptLines) -> Result<(), AllocError> {
+        put_kept(out, value)
+    }
+
+    fn take<'a>(
+        alloc: Global,
+        plain: &Shared<Style>,
+        bytes: &'a [u8],
+    ) -> Result<(KeptLines, &'a [u8]), EditError> {
+        kept_at(alloc, plain, bytes)
+    }
+
+    ghost format = { kept_format };
+
+    ghost some = { kept_some };
+}

@@ -1,0 +1,20 @@
+//! What line edits keep of a workbook, as bytes, in both directions.
+//!
+//! The layer above sees a spelling, which is a function of what is kept: what bytes can carry is read
+//! again from its spelling whatever follows, what is read was spelled so, and all else is refused with
+//! `ParseDiffs`. A map is spelled in the one order of its keys.
+#![tactic(auto)]
+
+mod edits;
+mod kept_lines;
+mod keyed;
+mod maps;
+mod reading;
+mod values;
+mod writing;
+
+pub use edits::EditPart;
+pub use kept_lines::KeptLinesPart;
+
+#[cfg(test)]
+mod tests;

@@ -1,0 +1,21 @@
+use Rattle.script_editor.specs.Machine.{edit_of}
+use Rattle.script_editor.specs.Machine.Edit.{Lines}
+use Rattle.script_editor.specs.Opened.{document_in}
+use Rattle.script_editor.proofs.LineSteps.{lines_moves}
+use Rattle.script_editor.proofs.Sounds.{moves_from, reached_on, reached_rules}
+use Rattle.script_editor.proofs.editor.Editor.edit_lines.Goals as goal
+
+pub edit_lines-requires-clause-rules : goal.edit_lines-requires-clause-rules
+edit_lines-requires-clause-rules g c = reached_rules (document_in c.self.inside.book) c.self.invariant
+
+pub returns : goal.returns
+returns g c =
+    record {
+      next = moves_from c.edit_lines.result (document_in c.self.inside.book) _ _ (edit_of (Lines c.args.sheet c.args.axis c.args.kind)) c.self.view_is
+          (lines_moves c.args.sheet c.args.axis c.args.kind _ _ c.edit_lines.result c.edit_lines.ensures.document c.edit_lines.ensures.sendable);
+    }
+
+pub invariant_of-self : goal.invariant_of-self
+invariant_of-self g c =
+    reached_on c.edit_lines.result (document_in c.self.inside.book) _ (edit_of (Lines c.args.sheet c.args.axis c.args.kind))
+    (lines_moves c.args.sheet c.args.axis c.args.kind _ _ c.edit_lines.result c.edit_lines.ensures.document c.edit_lines.ensures.sendable) c.self.invariant

@@ -1,0 +1,5 @@
+use Rattle.sheet_history.proofs.Placed.{placed_by_rules}
+use Rattle.sheet_history.proofs.apply.back.Goals as goal
+
+pub taken_back-requires-clause-placed : goal.taken_back-requires-clause-placed
+taken_back-requires-clause-placed c = placed_by_rules c.args.workbook.now c.requires.rules

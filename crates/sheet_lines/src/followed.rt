@@ -1,0 +1,97 @@
+ghost use Rattle.std.specs.Prelude.{◌≡◌, map, IfOk, IsOkUnless};
+ghost use Rattle.std.specs.List.{AllByRecursion};
+ghost use Rattle.base_values.specs.declared.EditError.TheVariants.{NoMemory};
+ghost use Rattle.line_map.specs.Edit.{IsValid, opposite_of};
+ghost use Rattle.sheet_lines.specs.Followed.{way_on, sheet_followed, book_followed};
+ghost use Rattle.sheet_lines.specs.Sheets.{sheet_of, name_of, IsPlacedSheet, IsPlacedBook};
+
+use crate::edited_sheet::EditedSheet;
+use crate::inside::{lines_inside, places_inside};
+use crate::sheets::{name_of, route_on};
+use base_axis::Axis;
+use base_values::{EditError, Items};
+use line_map::{Follower, LineEdit, LineMap};
+use sheet_grid::{Workbook, Worksheet};
+use std::alloc::Global;
+use std::marker::PhantomData;
+
+/// A sheet along the map: each part of it is carried along.
+fn followed_sheet<A: Axis, M: LineMap<A>>(
+    alloc: Global,
+    edited: &EditedSheet<'_, A, M>,
+    sheet: &Worksheet,
+) -> Result<Worksheet, EditError>
+    requires { IsPlacedSheet sheet.now }
+    ensures sheet { IfOk result (λ followed. followed ≡ sheet_followed (way_on edited.now sheet.now) sheet.now) }
+    ensures only { IsOkUnless result NoMemory }
+{
+    let route = route_on(edited, sheet);
+    places_inside(sheet.cell_map());
+    places_inside(sheet.link_map());
+    lines_inside(sheet.row_map());
+    lines_inside(sheet.column_map());
+    let cells = sheet.cell_map().carry(alloc, &route)?;
+    let links = sheet.link_map().carry(alloc, &route)?;
+    let rows = sheet.row_map().carry(alloc, &route)?;
+    let columns = sheet.column_map().carry(alloc, &route)?;
+    sheet.with_entries(cells, links, rows, columns)
+}
+
+fn followed_sheets<A: Axis, M: LineMap<A>>(
+    alloc: Global,
+    edited: &EditedSheet<'_, A, M>,
+    sheets: &[Worksheet],
+) -> Result<Items<Worksheet>, EditError>
+    requires { AllByRecursion IsPlacedSheet sheets.now }
+    ensures sheets { IfOk result (λ followed. followed ≡ map (λ sheet. sheet_followed (way_on edited.now sheet) sheet) sheets.now) }
+    ensures only { IsOkUnless result NoMemory }
+{
+    let mut made = Items::empty(alloc);
+    for sheet in sheets {
+        made.push(followed_sheet(alloc, edited, sheet)?)?;
+    }
+    Ok(made)
+}
+
+/// The sheet of an id that is edited, with the edit and its opposite.
+pub(crate) fn edited_by<'e, A: Axis>(
+    workbook: &'e Workbook,
+    id: u32,
+    edit: &'e LineEdit<A>,
+    opposite: &'e LineEdit<A>,
+) -> EditedSheet<'e, A, LineEdit<A>>
+    requires valid { IsValid A.along.last edit.now.kind }
+    requires opposite { opposite.now.kind ≡ opposite_of edit.now.kind }
+    ensures map { result.map.now ≡ edit.now }
+    ensures id { result.id ≡ id }
+    ensures name { result.name.now ≡ name_of (sheet_of workbook.now id) }
+{
+    EditedSheet {
+        map: edit,
+        opposite,
+        id,
+        name: name_of(workbook, id),
+        axis: PhantomData,
+    }
+}
+
+/// The workbook whose sheets follow an edit of the sheet of an id, as `line_edit` returns it. The
+/// corners of its formulas lie inside the sheet. `NoMemory` is the only error. docs/MODEL.md has
+/// the rules.
+pub fn followed_book<A: Axis>(
+    alloc: Global,
+    workbook: &Workbook,
+    sheet_id: u32,
+    edit: &LineEdit<A>,
+) -> Result<Workbook, EditError>
+    requires valid { IsValid A.along.last edit.now.kind }
+    requires placed { IsPlacedBook workbook.now }
+    ensures book { IfOk result (λ followed. followed ≡ book_followed A.along edit.now.kind sheet_id workbook.now) }
+    ensures placed { IfOk result IsPlacedBook }
+    ensures only { IsOkUnless result NoMemory }
+{
+    let opposite = edit.opposite();
+    let edited = edited_by(workbook, sheet_id, edit, &opposite);
+    let sheets = followed_sheets(alloc, &edited, workbook.worksheets())?;
+    workbook.with_worksheets(sheets)
+}

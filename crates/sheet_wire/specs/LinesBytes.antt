@@ -1,0 +1,38 @@
+-- The bytes of edits of lines with what they keep.
+use Rattle.std.specs.Prelude.{◌≡◌, ℕ, ℤ, false, List, [], ◌∷◌, ◌++◌, IfSome, ◌<◌, ◌^◌}
+use Rattle.std.specs.Int.{w32, to_be_bytes}
+use Rattle.std.specs.FinMap.{get}
+use Rattle.line_map.specs.declared.EditKind.{EditKind}
+use Rattle.sheet_grid.specs.Lines.{is_plain}
+use Rattle.sheet_lines.specs.declared.KeptLines.{KeptLines}
+use Rattle.sheet_history.specs.declared.LineAxis.{LineAxis}
+use Rattle.sheet_history.specs.declared.LineAxis.TheVariants.{Rows, Columns}
+use Rattle.base_wire.specs.Reading.{Reader, ◌⊗◌, code_at, number_at}
+use Rattle.base_wire.specs.Spelling.{spell_code}
+use Rattle.lines_wire.specs.EditBytes.{spell_edit, edit_at, FitsEdit}
+use Rattle.lines_wire.specs.KeptBytes.{spell_kept, kept_at, FitsKept}
+
+-- rows or columns
+abbrev pub axis_code : LineAxis → ℕ
+axis_code Rows = 0
+axis_code Columns = 1
+
+abbrev pub axes : List LineAxis
+axes = Rows ∷ Columns ∷ []
+
+-- the id of the sheet, the axis, the edit, and what taking it back does not give
+abbrev pub spell_lines : ℕ → LineAxis → EditKind → KeptLines → List ℕ
+spell_lines id axis edit kept = to_be_bytes w32 id ++ (spell_code axis_code axis ++ (spell_edit edit ++ spell_kept kept))
+
+abbrev pub lines_parts_at : Reader (ℕ × (LineAxis × (EditKind × KeptLines)))
+lines_parts_at = number_at w32 ⊗ code_at axis_code axes ⊗ edit_at ⊗ kept_at
+
+-- the parts of an edit of lines, which bytes can carry
+pub record FitsLines (id : ℕ) (kind : EditKind) (part : KeptLines) : Type 0 where
+  pub sheet : id < 2 ^ 32
+  pub edit : FitsEdit kind
+  pub kept : FitsKept part
+
+-- of each line an edit keeps something of its own
+abbrev pub IsKeptOfLines : KeptLines → Type 0
+IsKeptOfLines kept = (line : ℤ) → IfSome (get kept.lines line) (λ attr. is_plain attr ≡ false)

@@ -96,5 +96,3 @@ fn first_images_are_found(rt: HostRuntime) -> Result<(), Fail> {
     }
     Ok(())
 }
-
-/// A corner by its rows below the formula's cell and its columns to the right of it.

@@ -4,7 +4,7 @@ use Rattle.std.specs.Prelude.{IsTrue, IfSome, not, ◌&&◌, ◌==◌, is_none, 
 use Rattle.std.specs.List.{list_all, find, AllByRecursion}
 use Rattle.std.specs.declared.cmp.Ordering.{Ordering}
 use Rattle.std.specs.Ordering.{int_cmp}
-use Rattle.std.specs.Cmp.{IsTotalOrder, int_cmp_total, unsigned_Decides}
+use Rattle.std.specs.Cmp.{IsTotalOrder, int_cmp_total}
 use Rattle.std.specs.FinMap.{FinMap, entries, get, get-empty}
 use Rattle.std.proofs.lemmas.Int.{ints}
 use Rattle.std.proofs.lemmas.Map.Lookups.{CmpEqualImpliesEq, exact_signed}
@@ -32,7 +32,6 @@ use Rattle.line_map.specs.Maps.{places_carried}
 use Rattle.line_edits.specs.Moves.{at_line, edit_moves, place_image}
 use Rattle.line_map.specs.Way.{Way, at, back, place_goes}
 use Rattle.base_maps.specs.laws.Gathering.{get-lost_map}
-use Rattle.line_edits.specs.laws.Images.{edit_one_to_one}
 use Rattle.base_maps.specs.laws.CarriedLaws.{get-carried_map}
 use Rattle.line_map.specs.laws.WayLaws.{goes_inverse}
 use Rattle.sheet_grid.specs.declared.Cell.{Cell}
@@ -122,10 +121,6 @@ place_inside a first count q p h = go (image_at a.last (Insert first count) (a.l
     go : (o : Option ℤ) → image_at a.last (Insert first count) (a.line q) ≡ o → at_line a q o ≡ Some p → not (is_pushed_past a first count q) ≡ true
     go None is h = absurd (cc)
     go (Some m) is h = not_pushed a.last first count (a.line q) m is
-
--- the trees that are kept of a sheet's formulas
-abbrev HasTrees : Way → FinMap sheet_place_cmp Node → Sheet → Type 0
-HasTrees w formulas sheet = (p : Position) → get formulas (place_on sheet.id p) ≡ if_there (get sheet.cells p) (λ cell. if_there (place_goes w p) (λ q. cell_part (at w p q) cell))
 
 module _ (a : Along) (l : IsAxis a) (e : EditKind) (valid : IsValid a.last e) (id : ℕ) where
   -- how the edit meets a sheet

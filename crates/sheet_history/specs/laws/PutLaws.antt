@@ -6,12 +6,12 @@ use Rattle.std.proofs.lemmas.Iterator.Adapters.{position_from-zero}
 use Rattle.std.proofs.lemmas.Option.{same_Some}
 use Rattle.base_values.specs.declared.EditError.{EditError}
 use Rattle.base_values.specs.declared.EditError.TheVariants.{DiffRefused}
-use Rattle.base_values.specs.Answers.{ok_or}
+use Rattle.base_values.specs.Answers.{Edits, map_ok, ok_or}
 use Rattle.sheet_grid.specs.Sheet.{Sheet}
 use Rattle.sheet_grid.specs.Book.{Book, index_of, sheet_at, with_sheet}
 use Rattle.sheet_lines.specs.Sheets.{sheet_of}
 use Rattle.sheet_history.specs.Entries.{EntryKey, EntryValue, sheet_id_of, sheet_entry, with_sheet_entry, may_stand, with_changed, entry_at, put_entry, accepts}
-use Rattle.sheet_history.specs.Diffs.{put_in}
+use Rattle.sheet_history.specs.Diffs.{put_in, sheet_put}
 use Rattle.sheet_history.specs.laws.EntryLaws.{decide, by_id}
 
 -- an item put where it stands changes nothing
@@ -107,3 +107,35 @@ put_entry-found w k v i sheet e at =
 pub entry_at-found : (w : Book) (k : EntryKey) (sheet : Sheet) → sheet_of w (sheet_id_of k) ≡ Some sheet → entry_at w k ≡ Some (sheet_entry k sheet)
 unfolding entry_at
 entry_at-found w k sheet there = ap (option_map (sheet_entry k)) there
+
+either_put : (w : Book) (i : ℕ) (at : ℕ) (b : Bool) (next : Sheet)
+    → ◌≡◌ {A = Result Book EditError} (cond b (Ok (with_sheet w i next)) (Err (DiffRefused 0 at))) (map_ok (with_sheet w i) (cond b (Ok next) (Err (DiffRefused 0 at))))
+either_put w i at true next = refl
+either_put w i at false next = refl
+
+-- a value is put in the sheet at the index of its sheet's id
+pub put_in-found : (at : ℕ) (w : Book) (k : EntryKey) (v : EntryValue) (i : ℕ) (sheet : Sheet) → index_of w (sheet_id_of k) ≡ Some i → slice_get w.worksheets i ≡ Some sheet
+    → put_in at w k v ≡ map_ok (with_sheet w i) (sheet_put at k v sheet)
+unfolding put_in accepts
+put_in-found at w k v i sheet e is =
+    (λ j. cond (is_some (at_index w (sheet_id_of k) i sheet e is j) && may_stand k v) (Ok (put_entry-found w k v i sheet e is j)) (Err (DiffRefused 0 at)))
+    ∙ either_put w i at (may_stand k v) (with_sheet_entry k v sheet)
+
+-- an edit of that sheet is one of the workbook
+pub Edits-put_in : (at : ℕ) (w : Book) (k : EntryKey) (v : EntryValue) (i : ℕ) (old new : Sheet) (result : Result (Unit {0}) EditError)
+    → index_of w (sheet_id_of k) ≡ Some i → sheet_at w i ≡ Ok old → Edits result old new (sheet_put at k v old) → Edits result w (with_sheet w i new) (put_in at w k v)
+Edits-put_in at w k v i old new (Ok u) e is h = record {
+  done = put_in-found at w k v i old e (ok_or-some _ _ _ is) ∙ ap (map_ok (with_sheet w i)) h.done;
+  refused = tt;
+}
+Edits-put_in at w k v i old new (Err x) e is h = record {
+  done = tt;
+  refused = (
+    ap (with_sheet w i) h.refused.0 ∙ (λ j. record w { worksheets = set_found w.worksheets i old (ok_or-some _ _ _ is) j }),
+    λ other. put_in-found at w k v i old e (ok_or-some _ _ _ is) ∙ ap (map_ok (with_sheet w i)) (h.refused.1 other),
+  );
+}
+
+-- there is a sheet at the index of an id
+pub sheet_at_there : (w : Book) (id i : ℕ) (x : EditError) → index_of w id ≡ Some i → sheet_at w i ≢ Err x
+sheet_at_there w id i x e = λ is. let it = found w id i e in absurd (let never : ◌≡◌ {A = Result Sheet EditError} (Ok it.sheet) (Err x) = ap (ok_or _) (sym it.at) ∙ is in cc)

@@ -14,14 +14,14 @@ use Rattle.sheet_history.specs.declared.diff.Diff.TheVariants.{Cell as CellDiff,
 use Rattle.sheet_history.specs.declared.diff.DiffType.{DiffType}
 use Rattle.sheet_history.specs.declared.diff.DiffType.TheVariants.{Undo, Redo}
 use Rattle.sheet_history.specs.declared.diff.QueueDiffs.{QueueDiffs}
-use Rattle.sheet_history.specs.Entries.{EntryKey, EntryValue, may_stand, with_sheet_entry, accepts, put_entry}
+use Rattle.sheet_history.specs.Entries.{EntryKey, EntryValue, value_fits, with_sheet_entry, accepts, put_entry}
 use Rattle.sheet_history.specs.Entries.EntryKey.{CellKey, LinkKey, MergesKey}
 use Rattle.sheet_history.specs.Entries.EntryValue.{CellValue, LinkValue, MergesValue}
 use Rattle.sheet_history.specs.LineDiffs.{along_of, lines_forward, lines_back}
 
 -- the sheet with a value at a key. Where it may not stand there, the diff of that number is refused
 abbrev pub sheet_put : ℕ → EntryKey → EntryValue → Sheet → Result Sheet EditError
-sheet_put at key value sheet = if may_stand key value then Ok (with_sheet_entry key value sheet) else Err (DiffRefused 0 at)
+sheet_put at key value sheet = if value_fits key value then Ok (with_sheet_entry key value sheet) else Err (DiffRefused 0 at)
 
 -- the workbook with a value at a key. Where it cannot be put there, the diff of that number is refused
 unfoldable pub put_in : ℕ → Book → EntryKey → EntryValue → Result Book EditError

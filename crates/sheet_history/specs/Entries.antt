@@ -91,11 +91,11 @@ cell_stands_at place (Some cell) = fits_at place cell.content && lies_inside (ar
 
 -- whether a value may stand at a key: it is one of the key's kind, the place lies inside the sheet, a cell may stand there, and each
 -- merge lies inside
-abbrev pub may_stand : EntryKey → EntryValue → Bool
-may_stand (CellKey id place) (CellValue entry) = is_place place && cell_stands_at place entry
-may_stand (LinkKey id place) (LinkValue entry) = is_place place
-may_stand (MergesKey id) (MergesValue merges) = list_all is_inside merges
-may_stand _ _ = false
+abbrev pub value_fits : EntryKey → EntryValue → Bool
+value_fits (CellKey id place) (CellValue entry) = is_place place && cell_stands_at place entry
+value_fits (LinkKey id place) (LinkValue entry) = is_place place
+value_fits (MergesKey id) (MergesValue merges) = list_all is_inside merges
+value_fits _ _ = false
 
 -- the value of a key that stands for nothing
 abbrev pub nothing_at : EntryKey → EntryValue
@@ -120,7 +120,7 @@ put_entry book key value = record book { worksheets = with_changed (sheet_id_of 
 
 -- a value can be put at a key: the sheet is there, and the value may stand in it
 unfoldable pub accepts : Book → EntryKey → EntryValue → Bool
-accepts book key value = is_some (sheet_of book (sheet_id_of key)) && may_stand key value
+accepts book key value = is_some (sheet_of book (sheet_id_of key)) && value_fits key value
 
 -- a sheet without its entries
 abbrev pub bare_sheet : Sheet → Sheet

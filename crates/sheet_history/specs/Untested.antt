@@ -1,16 +1,15 @@
 -- Lists whose results need no test: nothing, one link, or one cell that cannot break a rule.
 use Rattle.std.proofs.Common.{Bool, true, false, ◌&&◌, List, [], ◌∷◌, Option, Some, None}
-use Rattle.std.specs.Prelude.{◌||◌, not, is_none}
+use Rattle.std.specs.Prelude.{is_none}
 use Rattle.std.specs.List.{list_all}
 use Rattle.std.specs.FinMap.{entries}
 use Rattle.base_axis.specs.declared.MergedCell.{MergedCell}
 use Rattle.base_values.specs.declared.Position.{Position}
-use Rattle.sheet_grid.specs.Arrays.{large_array_at}
-use Rattle.sheet_grid.specs.Merges.{is_blank_entry}
+use Rattle.sheet_grid.specs.Arrays.{array_at}
 use Rattle.sheet_grid.specs.declared.Cell.{Cell}
 use Rattle.sheet_grid.specs.Sheet.{Sheet}
 use Rattle.sheet_grid.specs.Book.{Book}
-use Rattle.sheet_rules.specs.Occupied.{is_hidden_place}
+use Rattle.sheet_rules.specs.Occupied.{may_stand}
 use Rattle.sheet_rules.specs.WellFormed.{has_font}
 use Rattle.sheet_lines.specs.Sheets.{sheet_of}
 use Rattle.sheet_history.specs.declared.diff.Diff.{Diff}
@@ -21,20 +20,19 @@ abbrev pub entry_has_font : Option Cell → Bool
 entry_has_font None = true
 entry_has_font (Some cell) = has_font cell.style
 
--- it is no array of more than one cell
-abbrev pub is_no_large_array : Position → Option Cell → Bool
-is_no_large_array place None = true
-is_no_large_array place (Some cell) = is_none (large_array_at place cell.content)
+-- what is put, a cell or none, is no array
+abbrev pub is_no_array : Position → Option Cell → Bool
+is_no_array place None = true
+is_no_array place (Some cell) = is_none (array_at place cell.content)
 
--- a place that a merge or an array of the sheet hides, if there is the sheet
-abbrev pub is_hidden_on : Option Sheet → Position → Bool
-is_hidden_on None place = false
-is_hidden_on (Some sheet) place = is_hidden_place sheet place
+-- it may stand at a place of a sheet, if there is one: it is no array, and has no content where the place is hidden
+abbrev pub may_stand_on : Option Sheet → Position → Option Cell → Bool
+may_stand_on None place entry = is_no_array place entry
+may_stand_on (Some sheet) place entry = may_stand sheet place entry
 
--- a cell, or none, that a well-formed workbook can take at a place of a sheet: it has a font and is no array of more than one cell,
--- and where it has a content, the place is not hidden
+-- a cell, or none, that a well-formed workbook can take at a place of a sheet without a test of the result
 abbrev pub cell_keeps_rules : Option Sheet → Position → Option Cell → Bool
-cell_keeps_rules sheet place entry = (entry_has_font entry && is_no_large_array place entry) && (is_blank_entry entry || not (is_hidden_on sheet place))
+cell_keeps_rules sheet place entry = entry_has_font entry && may_stand_on sheet place entry
 
 -- a list that, made in a well-formed workbook, leaves one for sure
 abbrev pub keeps_rules : Book → List Diff → Bool
@@ -54,13 +52,14 @@ keeps_rules_back book (MergesDiff id old new ∷ []) = false
 keeps_rules_back book (LinesDiff id axis edit kept ∷ []) = false
 keeps_rules_back book (first ∷ second ∷ rest) = false
 
--- a sheet without a merge and without an array of more than one cell
+-- no merges
 abbrev pub has_no_merge : List MergedCell → Bool
 has_no_merge [] = true
 has_no_merge (merge ∷ merges) = false
 
+-- a sheet without a merge and without an array
 unfoldable pub shows_all : Sheet → Bool
-shows_all sheet = has_no_merge sheet.merges && list_all (λ (entry : Position × Cell). is_none (large_array_at entry.0 entry.1.content)) (entries sheet.cells)
+shows_all sheet = has_no_merge sheet.merges && list_all (λ (entry : Position × Cell). is_none (array_at entry.0 entry.1.content)) (entries sheet.cells)
 
 -- a workbook of such sheets, so that no place is hidden
 abbrev pub hides_nothing : Book → Bool

@@ -11,5 +11,7 @@ pub mod BothWays
 pub mod OneEntry
 pub mod ReplayLaws
 pub mod RuleLaws
+pub mod OpenLaws
 pub mod TestedLaws
+pub mod SoundEntries
 pub mod HistoryEquals

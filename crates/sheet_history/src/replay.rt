@@ -3,13 +3,14 @@ ghost use Rattle.std.specs.List.{list_all};
 ghost use Rattle.std.specs.FinMap.{entries};
 ghost use Rattle.base_values.specs.Answers.{Edits};
 ghost use Rattle.base_values.specs.declared.Position.{Position as Place};
-ghost use Rattle.sheet_grid.specs.Arrays.{large_array_at};
-ghost use Rattle.sheet_grid.specs.Merges.{is_blank_entry};
+ghost use Rattle.sheet_grid.specs.Arrays.{array_at};
 ghost use Rattle.sheet_grid.specs.declared.Cell.{Cell as CellValue};
+ghost use Rattle.sheet_grid.specs.Merges.{is_empty};
+ghost use Rattle.sheet_rules.specs.Occupied.{may_stand};
 ghost use Rattle.sheet_rules.specs.WellFormed.{IsWellFormed};
 ghost use Rattle.sheet_lines.specs.Sheets.{sheet_of};
 ghost use Rattle.sheet_history.specs.Diffs.{IsKeptList, IsKeptQueue, Replays, backed, follow, forwarded, in_entry};
-ghost use Rattle.sheet_history.specs.Untested.{cell_keeps_rules, entry_has_font, has_no_merge, hides_nothing, is_hidden_on, is_no_large_array, keeps_rules, keeps_rules_back, shows_all};
+ghost use Rattle.sheet_history.specs.Untested.{cell_keeps_rules, entry_has_font, has_no_merge, hides_nothing, is_no_array, keeps_rules, keeps_rules_back, may_stand_on, shows_all};
 
 use crate::apply::{back, back_in_place, forward, forward_in_place};
 use crate::diff::{Diff, DiffList, DiffType, QueueDiffs};
@@ -17,7 +18,7 @@ use base_axis::MergedCell;
 use base_shared::Shared;
 use base_values::{EditError, Position};
 use cell_content::Content;
-use sheet_grid::{Cell, Workbook, Worksheet, large_array_at};
+use sheet_grid::{Cell, Workbook, Worksheet, array_at};
 use sheet_lines::sheet_of;
 use sheet_rules::is_hidden_place;
 use std::alloc::Global;
@@ -32,22 +33,12 @@ fn has_font(entry: &Option<Shared<Cell>>) -> bool
     }
 }
 
-/// Whether what is put is no array of more than one cell.
-fn is_no_large_array(place: Position, entry: &Option<Shared<Cell>>) -> bool
-    ensures { result ≡ is_no_large_array place entry.now }
+/// Whether what is put, a cell or none, is no array.
+fn is_no_array(place: Position, entry: &Option<Shared<Cell>>) -> bool
+    ensures { result ≡ is_no_array place entry.now }
 {
     match entry {
-        Some(cell) => large_array_at(place, &cell.get().content).is_none(),
-        None => true,
-    }
-}
-
-/// Whether what is put has no content.
-fn is_blank(entry: &Option<Shared<Cell>>) -> bool
-    ensures { result ≡ is_blank_entry entry.now }
-{
-    match entry {
-        Some(cell) => matches!(cell.get().content, Content::Empty),
+        Some(cell) => array_at(place, &cell.get().content).is_none(),
         None => true,
     }
 }
@@ -61,40 +52,71 @@ fn has_no_merge(merges: &[MergedCell]) -> bool
     }
 }
 
-fn has_no_large_array(sheet: &Worksheet) -> bool
-    ensures { result ≡ list_all (λ (entry : Place × CellValue). is_none (large_array_at entry.0 entry.1.content)) (entries sheet.now.cells) }
+fn has_no_array(sheet: &Worksheet) -> bool
+    ensures { result ≡ list_all (λ (entry : Place × CellValue). is_none (array_at entry.0 entry.1.content)) (entries sheet.now.cells) }
 {
     sheet
         .cells()
-        .all(|(place, cell)| large_array_at(*place, &cell.get().content).is_none())
+        .all(|(place, cell)| array_at(*place, &cell.get().content).is_none())
 }
 
 #[tactic(auto, unfolding(crate::specs::Untested::shows_all))]
 fn shows_all(sheet: &Worksheet) -> bool
     ensures { result ≡ shows_all sheet.now }
 {
-    has_no_merge(sheet.merged_cells()) && has_no_large_array(sheet)
+    has_no_merge(sheet.merged_cells()) && has_no_array(sheet)
 }
 
-/// Whether no sheet has a merge or an array of more than one cell, so that no place is hidden.
+/// Whether no sheet has a merge or an array, so that no place is hidden.
 fn hides_nothing(workbook: &Workbook) -> bool
     ensures { result ≡ hides_nothing workbook.now }
 {
     workbook.worksheets().iter().all(shows_all)
 }
 
-/// Whether a merge or an array of the sheet of an id hides a place.
-fn is_hidden(workbook: &Workbook, id: u32, place: Position) -> bool
-    ensures { result ≡ is_hidden_on (sheet_of workbook.now id) place }
+fn is_empty(content: &Content) -> bool
+    ensures { result ≡ is_empty content.now }
 {
-    match sheet_of(workbook, id) {
-        Some(sheet) => is_hidden_place(sheet, place),
-        None => false,
+    matches!(content, Content::Empty)
+}
+
+/// Whether a cell, or none, may stand at a place of a sheet: it is no array, and has no content
+/// where the place is hidden.
+fn may_stand(sheet: &Worksheet, place: Position, entry: &Option<Shared<Cell>>) -> bool
+    ensures { result ≡ may_stand sheet.now place entry.now }
+{
+    match entry {
+        Some(cell) => {
+            let content = &cell.get().content;
+            array_at(place, content).is_none()
+                && (is_empty(content) || !is_hidden_place(sheet, place))
+        }
+        None => true,
     }
 }
 
-/// Whether a cell, or none, can be put without a test of the result. Where it is known that no place
-/// is hidden, no cell is looked at.
+/// The same of the sheet of an id, if it is there. Where it is known that no place is hidden, no
+/// other cell is looked at.
+fn may_stand_on(
+    workbook: &Workbook,
+    id: u32,
+    place: Position,
+    entry: &Option<Shared<Cell>>,
+    is_open: bool,
+) -> bool
+    requires { IsTrue is_open → IsTrue (hides_nothing workbook.now) }
+    ensures { result ≡ may_stand_on (sheet_of workbook.now id) place entry.now }
+{
+    if is_open {
+        return is_no_array(place, entry);
+    }
+    match sheet_of(workbook, id) {
+        Some(sheet) => may_stand(sheet, place, entry),
+        None => is_no_array(place, entry),
+    }
+}
+
+/// Whether a cell, or none, can be put without a test of the result.
 fn cell_keeps_rules(
     workbook: &Workbook,
     id: u32,
@@ -105,9 +127,7 @@ fn cell_keeps_rules(
     requires { IsTrue is_open → IsTrue (hides_nothing workbook.now) }
     ensures { result ≡ cell_keeps_rules (sheet_of workbook.now id) place entry.now }
 {
-    has_font(entry)
-        && is_no_large_array(place, entry)
-        && (is_open || is_blank(entry) || !is_hidden(workbook, id, place))
+    has_font(entry) && may_stand_on(workbook, id, place, entry, is_open)
 }
 
 /// Whether a list, made in a well-formed workbook, leaves one for sure.
@@ -245,8 +265,8 @@ fn follow_by_rule(
 ///
 /// `DiffRefused` with the numbers of the first entry and diff that do not fit: exactly the entries
 /// before that one stand. After `NoMemory` some first entries stand. An entry of one link costs no
-/// copy of the workbook and no test of it, and so does one of one cell that has a font, is no array
-/// of more than one cell, and has no content or stands at no hidden place.
+/// copy of the workbook and no test of it, and so does one of one cell that has a font, is no array,
+/// and has no content or stands at no hidden place.
 pub fn replay_in_place(
     alloc: Global,
     workbook: &mut Workbook,

@@ -21,7 +21,7 @@ use Rattle.sheet_grid.specs.Book.{Book}
 use Rattle.sheet_rules.specs.WellFormed.{is_place}
 use Rattle.sheet_rules.specs.laws.EntryLaws.{both}
 use Rattle.sheet_lines.specs.Sheets.{sheet_of, HasDistinctIds}
-use Rattle.sheet_history.specs.Entries.{EntryKey, EntryValue, sheet_id_of, sheet_entry, with_sheet_entry, cell_stands_at, may_stand, nothing_at, with_changed, entry_at, put_entry, accepts, bare_sheet, frame_of}
+use Rattle.sheet_history.specs.Entries.{EntryKey, EntryValue, sheet_id_of, sheet_entry, with_sheet_entry, cell_stands_at, value_fits, nothing_at, with_changed, entry_at, put_entry, accepts, bare_sheet, frame_of}
 use Rattle.sheet_history.specs.Entries.EntryKey.{CellKey, LinkKey, MergesKey}
 use Rattle.sheet_history.specs.Entries.EntryValue.{CellValue, LinkValue, MergesValue}
 
@@ -45,7 +45,7 @@ module _ {K X : Type 0} {R : K → K → Ordering} (total : IsTotalOrder R) (exa
 
 -- ---- one sheet
 
-entry-with_sheet_entry : (s : Sheet) (k : EntryKey) (v : EntryValue) → may_stand k v ≡ true → sheet_entry k (with_sheet_entry k v s) ≡ v
+entry-with_sheet_entry : (s : Sheet) (k : EntryKey) (v : EntryValue) → value_fits k v ≡ true → sheet_entry k (with_sheet_entry k v s) ≡ v
 entry-with_sheet_entry s (CellKey id place) (CellValue v) h = ap CellValue (get-put position_total exact_positions s.cells place v)
 entry-with_sheet_entry s (LinkKey id place) (LinkValue v) h = ap LinkValue (get-put position_total exact_positions s.links place v)
 entry-with_sheet_entry s (MergesKey id) (MergesValue v) h = refl
@@ -82,11 +82,11 @@ bare-with_sheet_entry _ _ s = refl
 pub id-with_sheet_entry : (k : EntryKey) (v : EntryValue) (s : Sheet) → (with_sheet_entry k v s).id ≡ s.id
 id-with_sheet_entry k v s = ap (λ t. t.id) (bare-with_sheet_entry k v s)
 
-nothing_may_stand : (k : EntryKey) (v : EntryValue) → may_stand k v ≡ true → may_stand k (nothing_at k) ≡ true
-nothing_may_stand (CellKey id place) (CellValue v) h = λ i. (both (is_place place) (cell_stands_at place v) h).0 i && true
-nothing_may_stand (LinkKey id place) (LinkValue v) h = h
-nothing_may_stand (MergesKey id) (MergesValue v) h = refl
-nothing_may_stand _ _ h = absurd (let never : false ≡ true = h in cc)
+nothing_fits : (k : EntryKey) (v : EntryValue) → value_fits k v ≡ true → value_fits k (nothing_at k) ≡ true
+nothing_fits (CellKey id place) (CellValue v) h = λ i. (both (is_place place) (cell_stands_at place v) h).0 i && true
+nothing_fits (LinkKey id place) (LinkValue v) h = h
+nothing_fits (MergesKey id) (MergesValue v) h = refl
+nothing_fits _ _ h = absurd (let never : false ≡ true = h in cc)
 
 abbrev cell_of : EntryValue → Option Cell
 cell_of (CellValue v) = v
@@ -175,7 +175,7 @@ pub entry_at-put_entry : (w : Book) (k : EntryKey) (v : EntryValue) → accepts 
 unfolding entry_at put_entry accepts
 entry_at-put_entry w k v h =
     let id : ℕ = sheet_id_of k in
-    let parts = both (is_some (by_id id w.worksheets)) (may_stand k v) h in
+    let parts = both (is_some (by_id id w.worksheets)) (value_fits k v) h in
     ap (option_map (sheet_entry k)) (found-changed (with_sheet_entry k v) (id-with_sheet_entry k v) id w.worksheets)
     ∙ map_twice (with_sheet_entry k v) (sheet_entry k) (by_id id w.worksheets)
     ∙ map_constant (λ s. sheet_entry k (with_sheet_entry k v s)) v (λ s. entry-with_sheet_entry s k v parts.1) (by_id id w.worksheets) parts.0
@@ -211,7 +211,7 @@ is_there-frame_of w w2 id e = is_some-bare id w.worksheets ∙ ap (λ (b : Book)
 -- what can be put, and which entries are there, is a matter of the frame
 pub accepts-frame_of : (w w2 : Book) (k : EntryKey) (v : EntryValue) → frame_of w ≡ frame_of w2 → accepts w k v ≡ accepts w2 k v
 unfolding accepts
-accepts-frame_of w w2 k v e = ap (λ b. b && may_stand k v) (is_there-frame_of w w2 (sheet_id_of k) e)
+accepts-frame_of w w2 k v e = ap (λ b. b && value_fits k v) (is_there-frame_of w w2 (sheet_id_of k) e)
 
 pub is_some-entry_at : (w w2 : Book) (k : EntryKey) → frame_of w ≡ frame_of w2 → is_some (entry_at w k) ≡ is_some (entry_at w2 k)
 unfolding entry_at
@@ -223,8 +223,8 @@ is_some-entry_at w w2 k e =
 pub accepts-nothing_at : (w : Book) (k : EntryKey) (v : EntryValue) → accepts w k v ≡ true → accepts w k (nothing_at k) ≡ true
 unfolding accepts
 accepts-nothing_at w k v h =
-    let parts = both (is_some (by_id (sheet_id_of k) w.worksheets)) (may_stand k v) h in
-    λ i. parts.0 i && nothing_may_stand k v parts.1 i
+    let parts = both (is_some (by_id (sheet_id_of k) w.worksheets)) (value_fits k v) h in
+    λ i. parts.0 i && nothing_fits k v parts.1 i
 
 none_there : (id : ℕ) (ss ts : List Sheet) → map bare_sheet ss ≡ map bare_sheet ts → by_id id ss ≡ None → by_id id ts ≡ None
 none_there id ss ts e none = go (by_id id ts) (sym (is_some-bare id ts ∙ ap (λ l. is_some (by_id id l)) (sym e) ∙ sym (is_some-bare id ss) ∙ ap is_some none))

@@ -8,7 +8,7 @@ use Rattle.std.specs.FinMap as fin
 use Rattle.sheet_grid.specs.Sheet.{Sheet}
 use Rattle.sheet_grid.specs.Book.{Book}
 use Rattle.sheet_lines.specs.Sheets.{sheet_of}
-use Rattle.sheet_history.specs.Entries.{EntryKey, EntryValue, key_cmp, sheet_id_of, sheet_entry, may_stand, entry_at, put_entry, accepts, frame_of}
+use Rattle.sheet_history.specs.Entries.{EntryKey, EntryValue, key_cmp, sheet_id_of, sheet_entry, value_fits, entry_at, put_entry, accepts, frame_of}
 use Rattle.sheet_history.specs.Entries.EntryKey.{CellKey, LinkKey, MergesKey}
 use Rattle.sheet_history.specs.Entries.EntryValue.{CellValue, LinkValue, MergesValue}
 use Rattle.sheet_history.specs.Records.{same_entry_value, changed_entry, Change, change_of, diff_of, entry_record, IsRecord}
@@ -18,7 +18,7 @@ use Rattle.sheet_history.specs.laws.RecordLaws.{key_total, exact_keys}
 use Rattle.sheet_history.specs.laws.ValueEquals.{same_value_decides}
 
 -- a diff of values of the key's kind is the change
-diff_is : (k : EntryKey) (s : Sheet) (v : EntryValue) → may_stand k v ≡ true → map change_of (diff_of k (sheet_entry k s) v) ≡ Some (k, (sheet_entry k s, v)) ∷ []
+diff_is : (k : EntryKey) (s : Sheet) (v : EntryValue) → value_fits k v ≡ true → map change_of (diff_of k (sheet_entry k s) v) ≡ Some (k, (sheet_entry k s, v)) ∷ []
 diff_is (CellKey id place) s (CellValue v) h = refl
 diff_is (LinkKey id place) s (LinkValue v) h = refl
 diff_is (MergesKey id) s (MergesValue v) h = refl
@@ -29,7 +29,7 @@ changed_entry-same : (entry : Option EntryValue) → changed_entry entry entry �
 changed_entry-same None = refl
 changed_entry-same (Some v) = ap (λ b. cond b None (Some (v, v))) ((same_value_decides v v).1 refl)
 
-module _ (w : Book) (k : EntryKey) (v : EntryValue) (sheet : Sheet) (there : sheet_of w (sheet_id_of k) ≡ Some sheet) (stands : may_stand k v ≡ true) where
+module _ (w : Book) (k : EntryKey) (v : EntryValue) (sheet : Sheet) (there : sheet_of w (sheet_id_of k) ≡ Some sheet) (stands : value_fits k v ≡ true) where
   abbrev old : EntryValue
   old = sheet_entry k sheet
 

@@ -10,7 +10,7 @@ use Rattle.base_values.specs.Answers.{Edits, map_ok, ok_or}
 use Rattle.sheet_grid.specs.Sheet.{Sheet}
 use Rattle.sheet_grid.specs.Book.{Book, index_of, sheet_at, with_sheet}
 use Rattle.sheet_lines.specs.Sheets.{sheet_of}
-use Rattle.sheet_history.specs.Entries.{EntryKey, EntryValue, sheet_id_of, sheet_entry, with_sheet_entry, may_stand, with_changed, entry_at, put_entry, accepts}
+use Rattle.sheet_history.specs.Entries.{EntryKey, EntryValue, sheet_id_of, sheet_entry, with_sheet_entry, value_fits, with_changed, entry_at, put_entry, accepts}
 use Rattle.sheet_history.specs.Diffs.{put_in, sheet_put}
 use Rattle.sheet_history.specs.laws.EntryLaws.{decide, by_id}
 
@@ -88,9 +88,9 @@ put_in-refused at w k v h = ap (λ b. cond b (Ok (put_entry w k v)) (Err (DiffRe
 
 pub accepts-missing : (w : Book) (k : EntryKey) (v : EntryValue) → index_of w (sheet_id_of k) ≡ None → accepts w k v ≡ false
 unfolding accepts
-accepts-missing w k v e = ap (λ o. is_some o && may_stand k v) (missing w (sheet_id_of k) e)
+accepts-missing w k v e = ap (λ o. is_some o && value_fits k v) (missing w (sheet_id_of k) e)
 
-pub accepts-found : (w : Book) (k : EntryKey) (v : EntryValue) (i : ℕ) → index_of w (sheet_id_of k) ≡ Some i → may_stand k v ≡ true → accepts w k v ≡ true
+pub accepts-found : (w : Book) (k : EntryKey) (v : EntryValue) (i : ℕ) → index_of w (sheet_id_of k) ≡ Some i → value_fits k v ≡ true → accepts w k v ≡ true
 unfolding accepts
 accepts-found w k v i e h = λ j. is_some ((found w (sheet_id_of k) i e).by j) && h j
 
@@ -118,8 +118,8 @@ pub put_in-found : (at : ℕ) (w : Book) (k : EntryKey) (v : EntryValue) (i : �
     → put_in at w k v ≡ map_ok (with_sheet w i) (sheet_put at k v sheet)
 unfolding put_in accepts
 put_in-found at w k v i sheet e is =
-    (λ j. cond (is_some (at_index w (sheet_id_of k) i sheet e is j) && may_stand k v) (Ok (put_entry-found w k v i sheet e is j)) (Err (DiffRefused 0 at)))
-    ∙ either_put w i at (may_stand k v) (with_sheet_entry k v sheet)
+    (λ j. cond (is_some (at_index w (sheet_id_of k) i sheet e is j) && value_fits k v) (Ok (put_entry-found w k v i sheet e is j)) (Err (DiffRefused 0 at)))
+    ∙ either_put w i at (value_fits k v) (with_sheet_entry k v sheet)
 
 -- an edit of that sheet is one of the workbook
 pub Edits-put_in : (at : ℕ) (w : Book) (k : EntryKey) (v : EntryValue) (i : ℕ) (old new : Sheet) (result : Result (Unit {0}) EditError)

@@ -9,7 +9,7 @@ use Rattle.base_values.specs.laws.PositionEquals.{position_equals}
 use Rattle.base_axis.specs.laws.MergedEquals.{merged_equals}
 use Rattle.sheet_grid.specs.laws.CellEquals.{cell_equals}
 use Rattle.sheet_grid.specs.laws.LineEquals.{link_equals}
-use Rattle.line_map.specs.laws.Equals.{kind_equals}
+use Rattle.line_edits.specs.laws.Equals.{kind_equals}
 use Rattle.sheet_lines.specs.laws.KeptEquals.{kept_equals}
 use Rattle.sheet_history.specs.declared.diff.Diff.{Diff}
 use Rattle.sheet_history.specs.declared.diff.Diff.TheVariants.{Cell as CellDiff, Link as LinkDiff, Merges as MergesDiff, Lines as LinesDiff}

@@ -1,5 +1,5 @@
-pub mod LineDiffs
 pub mod Entries
+pub mod LineDiffs
 pub mod Diffs
 pub mod Depth
 pub mod Untested

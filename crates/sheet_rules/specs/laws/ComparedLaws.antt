@@ -15,7 +15,7 @@ use Rattle.sheet_grid.specs.declared.Cell.{Cell}
 use Rattle.sheet_grid.specs.Arrays.{large_array_at, large_arrays_of}
 use Rattle.sheet_grid.specs.Sheet.{Sheet}
 use Rattle.sheet_rules.specs.Compared.{meets_another, stands_apart}
-use Rattle.sheet_rules.specs.Occupied.{are_apart, large_array_in}
+use Rattle.sheet_rules.specs.Occupied.{are_apart}
 use Rattle.sheet_rules.specs.laws.EntryLaws.{passes_at_from_all, all_from_passes_at}
 use Rattle.sheet_rules.specs.laws.ShownLaws.{not_true, apart_in, apart_of}
 

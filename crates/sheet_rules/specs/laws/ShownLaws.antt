@@ -1,6 +1,6 @@
 -- What the entries of a map show, each maybe one thing: a test of the list of these is that test at each key.
 use Rattle.std.proofs.Common.{◌≡◌, Bool, true, false, not, cond, ◌&&◌, ◌||◌, List, [], ◌∷◌, Option, Some, None, refl, ap, sym, ◌∙◌, T}
-use Rattle.std.specs.Prelude.{IsTrue, ◌≢◌}
+use Rattle.std.specs.Prelude.{◌≢◌}
 use Rattle.std.specs.List.{list_all, list_any, filter_map, cons_option}
 use Rattle.std.specs.Option.{option_and_then, option_map_or}
 use Rattle.std.specs.Cmp.{IsTotalOrder, tied_itself}

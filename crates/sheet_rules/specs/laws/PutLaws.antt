@@ -46,7 +46,6 @@ module _ (sheet : Sheet) (place : Position) (entry : Option Cell) (stands : may_
   abbrev next : Sheet
   next = with_cell sheet place entry
 
-
   kept_shape : (shape : Position → Cell → Option MergedCell) → option_and_then (shape place) entry ≡ None → (q : Position) (r : MergedCell) → option_and_then (shape q) (get next.cells q) ≡ Some r → option_and_then (shape q) (get sheet.cells q) ≡ Some r
   kept_shape shape none q r at = go (eq_by_cmp position_cmp q place) refl (sym (ap (option_and_then (shape q)) (get-with_entry position_total sheet.cells place entry q)) ∙ at)
     where

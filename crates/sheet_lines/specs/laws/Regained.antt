@@ -32,6 +32,7 @@ use Rattle.line_map.specs.Way.{Way, IsWay, at, back, place_goes, is_along}
 use Rattle.line_map.specs.laws.AttributeLaws.{both_of, lines_restore}
 use Rattle.line_map.specs.laws.ContentLaws.{cell_comes_back, cell_restores}
 use Rattle.line_map.specs.laws.WayLaws.{goes_inverse}
+use Rattle.sheet_lines.specs.declared.kept.KeptLines.{KeptLines}
 use Rattle.sheet_lines.specs.Back.{with_lost, sheet_back, book_back}
 use Rattle.sheet_lines.specs.Followed.{way_of, sheet_followed, book_followed}
 use Rattle.sheet_lines.specs.Kept.{lines_of, of_sheet, trees_kept, formulas_kept, kept_lines}
@@ -111,7 +112,8 @@ module _ (a : Along) (l : IsAxis a) (e : EditKind) (valid : IsValid a.last e) (i
   abbrev way_to : Sheet → Way
   way_to sheet = way_of a moves id (name_of (sheet_of book id)) sheet
 
-  abbrev kept = kept_lines a e id book
+  abbrev kept : KeptLines
+  kept = kept_lines a e id book
 
   sheet_regained : (sheet : Sheet) → sheet_of book sheet.id ≡ Some sheet → sheet_back (way_to sheet) kept (sheet_followed (way_to sheet) sheet) ≡ sheet
   sheet_regained sheet found =

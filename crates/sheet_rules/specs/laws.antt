@@ -1,3 +1,4 @@
+pub mod ComparedLaws
 pub mod DefaultPartLaws
 pub mod EntryLaws
 pub mod FollowedLists

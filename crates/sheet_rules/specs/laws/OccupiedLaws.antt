@@ -7,7 +7,8 @@ use Rattle.base_values.specs.declared.Position.{Position}
 use Rattle.base_values.specs.Places.{position_cmp}
 use Rattle.base_values.specs.laws.Places.{position_total, exact_positions}
 use Rattle.base_axis.specs.declared.MergedCell.{MergedCell}
-use Rattle.base_axis.specs.Rectangles.{last_row, last_column, is_inside, meets}
+use Rattle.base_axis.specs.Rectangles.{is_inside, meets}
+use Rattle.base_axis.specs.laws.RectangleLaws.{meets_turned}
 use Rattle.sheet_grid.specs.declared.Cell.{Cell}
 use Rattle.sheet_grid.specs.Arrays.{array_at, large_array_at}
 use Rattle.sheet_grid.specs.Merges.{is_empty}
@@ -21,17 +22,6 @@ array_shape place cell = array_at place cell.content
 
 abbrev large_shape : Position → Cell → Option MergedCell
 large_shape place cell = large_array_at place cell.content
-
-turned : (a b : Bool) → (a && b) ≡ (b && a)
-turned true true = refl
-turned true false = refl
-turned false true = refl
-turned false false = refl
-
--- two rectangles meet whichever is named first
-pub meets_turned : (r s : MergedCell) → meets r s ≡ meets s r
-unfolding meets
-meets_turned r s = λ i. turned (int_le r.row (last_row s)) (int_le s.row (last_row r)) i && turned (int_le r.column (last_column s)) (int_le s.column (last_column r)) i
 
 -- each array lies inside, and large ones at different places do not meet
 pub record KeepsArrays (sheet : Sheet) : Type 0 where

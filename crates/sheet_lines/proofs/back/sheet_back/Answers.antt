@@ -8,7 +8,7 @@ use Rattle.line_map.specs.Contents.{cell_carried, cell_restored}
 use Rattle.line_map.specs.Maps.{places_carried, places_restored}
 use Rattle.line_map.specs.Way.{back, way}
 use Rattle.sheet_grid.specs.KeptCell.{IsKeptCell, KeptCells}
-use Rattle.sheet_lines.specs.Back.{with_lost}
+use Rattle.sheet_lines.specs.Back.{with_lost, merges_back}
 use Rattle.sheet_lines.specs.laws.Stays.{HasKeptNumbers, back_are, numbers_stay}
 use Rattle.sheet_lines.proofs.back.sheet_back.Goals as goal
 
@@ -27,4 +27,5 @@ returns-clause-sheet g c =
       links = (c.in_ok-links.ensures.map ∙ (λ j. with_lost (to j) kept.links (places_carried (λ _ link. link) (back (to j)) (c.link_map-links.ensures j)))) i;
       rows = (c.in_ok-rows.ensures.lines ∙ (λ j. lines_restored rows (to j) (c.row_map.ensures j) kept.lines)) i;
       columns = (c.in_ok-columns.ensures.lines ∙ (λ j. lines_restored columns (to j) (c.column_map.ensures j) kept.lines)) i;
+      merges = (c.in_ok-merges.ensures.merges ∙ (λ j. merges_back (to j) kept.merges c.args.sheet.now.merges)) i;
     })) c.with_entries.ensures.sheet

@@ -1,0 +1,7 @@
+pub mod Edit
+pub mod Moves
+pub mod Images
+pub mod Splits
+pub mod Merged
+pub mod Sources
+pub mod MergedSources

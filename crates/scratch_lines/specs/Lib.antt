@@ -5,3 +5,4 @@ pub mod Splits
 pub mod Merged
 pub mod Sources
 pub mod MergedSources
+pub mod Followers

@@ -6,3 +6,6 @@ pub mod Merged
 pub mod Sources
 pub mod MergedSources
 pub mod Followers
+pub mod EntryLaws
+pub mod Apart
+pub mod ApartLaws

@@ -1,2 +1,3 @@
 pub mod SheetPlaces
+pub mod Carried
 pub mod laws

@@ -3,12 +3,12 @@ use Rattle.std.specs.Prelude.{◌≡◌, ℕ, true, List, map, Some, if◌then�
 use Rattle.std.specs.declared.cmp.Ordering.{Ordering}
 use Rattle.std.specs.FinMap.{FinMap, get}
 use Rattle.base_axis.specs.Along.{Along, rows, columns}
-use Rattle.line_map.specs.declared.EditKind.{EditKind}
+use Rattle.line_edits.specs.declared.EditKind.{EditKind}
 use Rattle.line_map.specs.Attributes.{lines_restored, LinesLie}
-use Rattle.line_map.specs.Carried.{overlaid}
+use Rattle.base_maps.specs.Carried.{overlaid}
 use Rattle.line_map.specs.Contents.{cell_carried, cell_restored}
 use Rattle.line_map.specs.Maps.{places_carried, places_restored, KeysInside}
-use Rattle.line_map.specs.Moves.{LineMoves, edit_moves}
+use Rattle.line_edits.specs.Moves.{LineMoves, edit_moves}
 use Rattle.line_map.specs.Way.{Way, back}
 use Rattle.formula_tree.specs.declared.Node.{Node}
 use Rattle.formula_tree.specs.Placed.{is_placed}

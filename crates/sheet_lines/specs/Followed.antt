@@ -2,12 +2,12 @@
 use Rattle.std.specs.Prelude.{ℕ, ◌==◌, List, map, pos}
 use Rattle.base_axis.specs.declared.axis.Axis as axis
 use Rattle.base_axis.specs.Along.{Along, rows, columns}
-use Rattle.line_map.specs.declared.EditKind.{EditKind}
-use Rattle.line_map.specs.declared.LineMap as line_map
+use Rattle.line_edits.specs.declared.EditKind.{EditKind}
+use Rattle.line_edits.specs.declared.LineMap as line_map
 use Rattle.line_map.specs.Attributes.{lines_carried}
 use Rattle.line_map.specs.Contents.{cell_carried}
 use Rattle.line_map.specs.Maps.{places_carried}
-use Rattle.line_map.specs.Moves.{LineMoves, edit_moves}
+use Rattle.line_edits.specs.Moves.{LineMoves, edit_moves}
 use Rattle.line_map.specs.Way.{Way}
 use Rattle.sheet_grid.specs.contracts.line_attr.LineAttrPartialEq.TheImpl as attribute
 use Rattle.sheet_grid.specs.Sheet.{Sheet}

@@ -10,11 +10,11 @@ use Rattle.base_axis.specs.Along.{Along}
 use Rattle.base_maps.specs.declared.SheetPlace.{SheetPlace}
 use Rattle.base_maps.specs.SheetPlaces.{sheet_place_cmp}
 use Rattle.formula_tree.specs.declared.Node.{Node}
-use Rattle.line_map.specs.declared.EditKind.{EditKind}
-use Rattle.line_map.specs.Carried.{lost_map, overlaid}
+use Rattle.line_edits.specs.declared.EditKind.{EditKind}
+use Rattle.base_maps.specs.Carried.{lost_map, overlaid}
 use Rattle.line_map.specs.Contents.{cell_part}
 use Rattle.line_map.specs.Maps.{places_parts}
-use Rattle.line_map.specs.Moves.{LineMoves, edit_moves, place_image}
+use Rattle.line_edits.specs.Moves.{LineMoves, edit_moves, place_image}
 use Rattle.sheet_grid.specs.declared.LineAttr.{LineAttr}
 use Rattle.sheet_grid.specs.Sheet.{Sheet}
 use Rattle.sheet_grid.specs.Book.{Book}

@@ -3,7 +3,7 @@ ghost use Rattle.std.specs.List.{AllByRecursion};
 ghost use Rattle.std.specs.FinMap.{get};
 ghost use Rattle.base_values.specs.declared.EditError.TheVariants.{NoMemory};
 ghost use Rattle.line_map.specs.Attributes.{LinesLie, lines_restored};
-ghost use Rattle.line_map.specs.Edit.{IsValid};
+ghost use Rattle.line_edits.specs.Edit.{IsValid};
 ghost use Rattle.line_map.specs.Maps.{KeysInside};
 ghost use Rattle.line_map.specs.Way.{way};
 ghost use Rattle.sheet_lines.specs.Back.{LieInside, ArePlacedLines, sheet_back, book_back};

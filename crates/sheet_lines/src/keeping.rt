@@ -1,7 +1,7 @@
 ghost use Rattle.std.specs.Prelude.{◌≡◌, IfOk, IsOkUnless, OnOk};
 ghost use Rattle.std.specs.List.{AllByRecursion};
 ghost use Rattle.base_values.specs.declared.EditError.TheVariants.{NoMemory};
-ghost use Rattle.line_map.specs.Carried.{lost_map, overlaid};
+ghost use Rattle.base_maps.specs.Carried.{lost_map, overlaid};
 ghost use Rattle.sheet_lines.specs.Kept.{lines_of, trees_under, trees_kept, formulas_kept};
 ghost use Rattle.sheet_lines.specs.KeptNumbers.{AreKeptFormulas};
 ghost use Rattle.sheet_lines.specs.Sheets.{IsPlacedSheet};

@@ -2,11 +2,11 @@ ghost use Rattle.std.specs.Prelude.{◌≡◌, None, Some, ℕ, ℤ, List, cond,
 ghost use Rattle.std.specs.List.{AllByRecursion};
 ghost use Rattle.std.specs.FinMap.{get};
 ghost use Rattle.base_values.specs.declared.Position.{Position};
-ghost use Rattle.line_map.specs.Edit.{IsValid};
-ghost use Rattle.line_map.specs.Carried.{if_there};
+ghost use Rattle.line_edits.specs.Edit.{IsValid};
+ghost use Rattle.base_maps.specs.Carried.{if_there};
 ghost use Rattle.line_map.specs.Contents.{cell_carried, cell_part};
 ghost use Rattle.line_map.specs.Maps.{places_carried};
-ghost use Rattle.line_map.specs.Moves.{edit_moves, place_image};
+ghost use Rattle.line_edits.specs.Moves.{edit_moves, place_image};
 ghost use Rattle.line_map.specs.Way.{at, back, place_goes};
 ghost use Rattle.sheet_grid.specs.Sheet.{Sheet};
 ghost use Rattle.sheet_lines.specs.Back.{book_back};

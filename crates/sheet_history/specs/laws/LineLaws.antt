@@ -21,17 +21,17 @@ use Rattle.formula_tree.specs.Depth.{is_within}
 use Rattle.cell_content.specs.declared.Content.TheVariants.{Formula}
 use Rattle.cell_content.specs.Fitting.{fits_at, tree_fits_at}
 use Rattle.cell_content.specs.laws.FittingLaws.{shallow_where_fits}
-use Rattle.line_map.specs.declared.EditKind.{EditKind}
-use Rattle.line_map.specs.declared.EditKind.TheVariants.{Insert, Delete, Move}
-use Rattle.line_map.specs.Edit.{image_at, goes_to, within, opposite_of, IsValid}
-use Rattle.line_map.specs.Carried.{if_there, lost_map}
+use Rattle.line_edits.specs.declared.EditKind.{EditKind}
+use Rattle.line_edits.specs.declared.EditKind.TheVariants.{Insert, Delete, Move}
+use Rattle.line_edits.specs.Edit.{image_at, goes_to, within, opposite_of, IsValid}
+use Rattle.base_maps.specs.Carried.{if_there, lost_map}
 use Rattle.line_map.specs.Contents.{cell_carried, cell_part}
 use Rattle.line_map.specs.Maps.{places_carried}
-use Rattle.line_map.specs.Moves.{at_line, edit_moves, place_image}
+use Rattle.line_edits.specs.Moves.{at_line, edit_moves, place_image}
 use Rattle.line_map.specs.Way.{Way, at, back, place_goes}
-use Rattle.line_map.specs.laws.Gathering.{get-lost_map}
-use Rattle.line_map.specs.laws.Images.{edit_one_to_one}
-use Rattle.line_map.specs.laws.MapLaws.{get-carried_map}
+use Rattle.base_maps.specs.laws.Gathering.{get-lost_map}
+use Rattle.line_edits.specs.laws.Images.{edit_one_to_one}
+use Rattle.base_maps.specs.laws.CarriedLaws.{get-carried_map}
 use Rattle.line_map.specs.laws.WayLaws.{goes_inverse}
 use Rattle.sheet_grid.specs.declared.Cell.{Cell}
 use Rattle.sheet_grid.specs.declared.LineAttr.{LineAttr}

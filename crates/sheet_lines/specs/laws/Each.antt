@@ -9,10 +9,10 @@ use Rattle.std.proofs.lemmas.List.Elements.{recursion_from_All}
 use Rattle.std.proofs.lemmas.Map.Lookups.{CmpEqualImpliesEq}
 use Rattle.std.specs.FinMap.{FinMap, empty, entries, get, get-empty, get-entries}
 use Rattle.std.specs.FinMap.Entries.{find}
-use Rattle.line_map.specs.Carried.{if_there, gathered, lost_map, overlaid}
-use Rattle.line_map.specs.Moves.{Inverse}
-use Rattle.line_map.specs.laws.Gathering.{get-gathered, get-lost_map, get-overlaid}
-use Rattle.line_map.specs.laws.Keys.{one_key}
+use Rattle.base_maps.specs.Carried.{if_there, gathered, lost_map, overlaid}
+use Rattle.base_maps.specs.Carried.{Inverse}
+use Rattle.base_maps.specs.laws.Gathering.{get-gathered, get-lost_map, get-overlaid}
+use Rattle.base_maps.specs.laws.Keys.{one_key}
 
 abbrev pub Each : {K X : Type 0} {R : K → K → Ordering} → (K → X → Type 0) → FinMap R X → Type 0
 Each P m = (k : _) (x : _) → get m k ≡ Some x → P k x

@@ -17,19 +17,19 @@ use Rattle.sheet_grid.specs.declared.LineAttr.{LineAttr}
 use Rattle.sheet_grid.specs.contracts.line_attr.LineAttrPartialEq.TheImpl as attribute
 use Rattle.sheet_grid.specs.Sheet.{Sheet}
 use Rattle.sheet_grid.specs.Book.{Book}
-use Rattle.line_map.specs.declared.EditKind.{EditKind}
+use Rattle.line_edits.specs.declared.EditKind.{EditKind}
 use Rattle.line_map.specs.Attributes.{line_goes_along, heirs, lines_carried, lines_restored}
-use Rattle.line_map.specs.Carried.{if_there, lost_map, moved_map, overlaid, settled}
+use Rattle.base_maps.specs.Carried.{if_there, lost_map, moved_map, overlaid, settled}
 use Rattle.line_map.specs.Contents.{cell_carried, cell_part, cell_restored}
-use Rattle.line_map.specs.Edit.{IsValid}
+use Rattle.line_edits.specs.Edit.{IsValid}
 use Rattle.line_map.specs.Maps.{places_carried, places_restored}
-use Rattle.line_map.specs.Moves.{LineMoves, IsOneToOne, edit_moves, place_image}
+use Rattle.line_edits.specs.Moves.{LineMoves, IsOneToOne, edit_moves, place_image}
 use Rattle.line_map.specs.Way.{Way, IsWay, at, back, place_goes, is_along}
 use Rattle.line_map.specs.laws.AttributeLaws.{both_of, lines_restore}
 use Rattle.line_map.specs.laws.ContentLaws.{cell_comes_back, cell_restores}
-use Rattle.line_map.specs.laws.Gathering.{get-lost_map, nothing_overlaid}
-use Rattle.line_map.specs.laws.Images.{edit_one_to_one}
-use Rattle.line_map.specs.laws.MapLaws.{get-parts_map, map_restores}
+use Rattle.base_maps.specs.laws.Gathering.{get-lost_map, nothing_overlaid}
+use Rattle.line_edits.specs.laws.Images.{edit_one_to_one}
+use Rattle.base_maps.specs.laws.CarriedLaws.{get-parts_map, map_restores}
 use Rattle.line_map.specs.laws.WayLaws.{goes_inverse}
 use Rattle.sheet_lines.specs.declared.kept.KeptLines.{KeptLines}
 use Rattle.sheet_lines.specs.Back.{with_lost, sheet_back, sheets_back, book_back}

@@ -27,19 +27,19 @@ use Rattle.sheet_grid.specs.contracts.line_attr.LineAttrPartialEq.TheImpl as att
 use Rattle.sheet_grid.specs.KeptCell.{IsKeptCell, KeptCells}
 use Rattle.sheet_grid.specs.Sheet.{Sheet}
 use Rattle.sheet_grid.specs.Book.{Book}
-use Rattle.line_map.specs.declared.EditKind.{EditKind}
+use Rattle.line_edits.specs.declared.EditKind.{EditKind}
 use Rattle.line_map.specs.Attributes.{line_goes_along, lines_restored, LinesLie}
-use Rattle.line_map.specs.Carried.{if_there, lost_map, moved_map, overlaid, settled}
+use Rattle.base_maps.specs.Carried.{if_there, lost_map, moved_map, overlaid, settled}
 use Rattle.line_map.specs.Contents.{with_new_tree, cell_carried, cell_part, cell_restored}
-use Rattle.line_map.specs.Edit.{IsValid}
+use Rattle.line_edits.specs.Edit.{IsValid}
 use Rattle.line_map.specs.Maps.{places_carried, places_parts, places_restored, KeysInside}
-use Rattle.line_map.specs.Moves.{edit_moves, place_image}
+use Rattle.line_edits.specs.Moves.{edit_moves, place_image}
 use Rattle.line_map.specs.Trees.{following, tree_carried, tree_part}
 use Rattle.line_map.specs.Way.{Way, IsWay, at, back, place_goes, is_along}
 use Rattle.line_map.specs.laws.AttributeLaws.{both_of, same_last, lines_stay}
 use Rattle.line_map.specs.laws.ContentLaws.{cell_stays}
-use Rattle.line_map.specs.laws.Images.{edit_one_to_one}
-use Rattle.line_map.specs.laws.Inverses.{own_inverse, turned_inverse}
+use Rattle.line_edits.specs.laws.Images.{edit_one_to_one}
+use Rattle.base_maps.specs.laws.Inverses.{own_inverse, turned_inverse}
 use Rattle.line_map.specs.laws.TreeLaws.{tree_restores}
 use Rattle.line_map.specs.laws.WayLaws.{at_is_way, back_is_way, goes_inside, goes_inverse}
 use Rattle.sheet_lines.specs.declared.kept.KeptLines.{KeptLines}

@@ -18,10 +18,10 @@ use Rattle.base_maps.specs.SheetPlaces.{sheet_place_cmp}
 use Rattle.base_maps.specs.laws.SheetPlaces.{sheet_place_total, exact_sheet_places}
 use Rattle.formula_tree.specs.declared.Node.{Node}
 use Rattle.formula_tree.specs.Numbers.{has_kept_numbers}
-use Rattle.line_map.specs.Carried.{overlaid}
-use Rattle.line_map.specs.Moves.{LineMoves}
-use Rattle.line_map.specs.laws.Gathering.{get-overlaid, overlaid_more, rises_of}
-use Rattle.line_map.specs.laws.Keys.{own_key, apart_keys, not_before}
+use Rattle.base_maps.specs.Carried.{overlaid}
+use Rattle.line_edits.specs.Moves.{LineMoves}
+use Rattle.base_maps.specs.laws.Gathering.{get-overlaid, overlaid_more, rises_of}
+use Rattle.base_maps.specs.laws.Keys.{own_key, apart_keys, not_before}
 use Rattle.sheet_grid.specs.Sheet.{Sheet}
 use Rattle.sheet_lines.specs.Kept.{place_on, trees_under, trees_kept, formulas_kept}
 use Rattle.sheet_lines.specs.KeptNumbers.{AreKeptFormulas}

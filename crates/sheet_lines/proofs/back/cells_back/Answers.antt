@@ -3,7 +3,7 @@ use Rattle.std.proofs.lemmas.Result.{IfOk-weaker}
 use Rattle.std.specs.Prelude.{if◌then◌else◌}
 use Rattle.std.specs.FinMap.{FinMap, get}
 use Rattle.base_values.specs.Places.{position_cmp}
-use Rattle.line_map.specs.Carried.{overlaid}
+use Rattle.base_maps.specs.Carried.{overlaid}
 use Rattle.line_map.specs.Contents.{cell_carried, cell_restored}
 use Rattle.line_map.specs.Maps.{places_restored}
 use Rattle.line_map.specs.Way.{way}

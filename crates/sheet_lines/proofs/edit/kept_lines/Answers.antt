@@ -5,9 +5,9 @@ use Rattle.base_values.specs.Places.{IsPlace, position_cmp}
 use Rattle.base_values.specs.laws.Places.{position_total, exact_positions}
 use Rattle.base_axis.specs.Along.{rows, columns}
 use Rattle.line_map.specs.Attributes.{LinesLie}
-use Rattle.line_map.specs.Carried.{lost_map}
+use Rattle.base_maps.specs.Carried.{lost_map}
 use Rattle.line_map.specs.Maps.{KeysInside}
-use Rattle.line_map.specs.Moves.{place_image}
+use Rattle.line_edits.specs.Moves.{place_image}
 use Rattle.line_map.specs.Way.{place_goes, way}
 use Rattle.sheet_grid.specs.KeptCell.{KeptCells}
 use Rattle.sheet_lines.specs.Followed.{way_on}

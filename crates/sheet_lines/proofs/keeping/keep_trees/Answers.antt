@@ -7,8 +7,8 @@ use Rattle.base_values.specs.declared.Position.{Position}
 use Rattle.base_maps.specs.SheetPlaces.{sheet_place_cmp}
 use Rattle.base_maps.specs.laws.SheetPlaces.{sheet_place_total, exact_sheet_places}
 use Rattle.formula_tree.specs.declared.Node.{Node}
-use Rattle.line_map.specs.Carried.{overlaid}
-use Rattle.line_map.specs.laws.Gathering.{nothing_overlaid}
+use Rattle.base_maps.specs.Carried.{overlaid}
+use Rattle.base_maps.specs.laws.Gathering.{nothing_overlaid}
 use Rattle.sheet_lines.specs.Kept.{place_on}
 use Rattle.sheet_lines.specs.laws.Under.{under, map_push, put_more, put_all}
 use Rattle.sheet_lines.proofs.keeping.keep_trees.Goals as goal

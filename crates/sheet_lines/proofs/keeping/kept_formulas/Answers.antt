@@ -2,7 +2,7 @@ use Rattle.std.proofs.Common.{◌≡◌, ◌<◌, length, ap, sym, subst, ◌∙
 use Rattle.std.specs.Prelude.{IsTrue}
 use Rattle.base_maps.specs.SheetPlaces.{sheet_place_cmp}
 use Rattle.formula_tree.specs.Numbers.{has_kept_numbers}
-use Rattle.line_map.specs.Carried.{overlaid}
+use Rattle.base_maps.specs.Carried.{overlaid}
 use Rattle.sheet_lines.specs.Kept.{trees_under}
 use Rattle.sheet_lines.specs.KeptNumbers.{AreKeptFormulas}
 use Rattle.sheet_lines.specs.laws.Each.{if_each, no_entry}

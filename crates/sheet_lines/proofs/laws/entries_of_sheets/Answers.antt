@@ -5,13 +5,13 @@ use Rattle.std.specs.Ordering.{int_cmp}
 use Rattle.std.proofs.lemmas.Map.Lookups.{exact_signed}
 use Rattle.base_values.specs.Places.{position_cmp}
 use Rattle.base_values.specs.laws.Places.{position_total, exact_positions}
-use Rattle.line_map.specs.Carried.{lost_map}
+use Rattle.base_maps.specs.Carried.{lost_map}
 use Rattle.line_map.specs.Contents.{cell_carried}
-use Rattle.line_map.specs.Moves.{edit_moves, place_image}
+use Rattle.line_edits.specs.Moves.{edit_moves, place_image}
 use Rattle.line_map.specs.Way.{at, back, place_goes}
-use Rattle.line_map.specs.laws.Gathering.{get-lost_map}
-use Rattle.line_map.specs.laws.Images.{edit_one_to_one}
-use Rattle.line_map.specs.laws.MapLaws.{get-carried_map}
+use Rattle.base_maps.specs.laws.Gathering.{get-lost_map}
+use Rattle.line_edits.specs.laws.Images.{edit_one_to_one}
+use Rattle.base_maps.specs.laws.CarriedLaws.{get-carried_map}
 use Rattle.line_map.specs.laws.WayLaws.{goes_inverse}
 use Rattle.sheet_lines.specs.Followed.{way_of}
 use Rattle.sheet_lines.specs.Kept.{lines_of, of_sheet}

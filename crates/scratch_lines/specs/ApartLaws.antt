@@ -1,7 +1,7 @@
 -- Rectangles of the entries of a map that do not meet, key by key.
 use Rattle.std.proofs.Common.{◌≡◌, ◌≢◌, Bool, true, false, cond, not, ◌&&◌, ◌||◌, List, [], ◌∷◌, Option, Some, None, refl, ap, sym, subst, ◌∙◌, arith, T}
 use Rattle.std.specs.Prelude.{IsTrue}
-use Rattle.std.specs.List.{list_all, filter_map, cons_option}
+use Rattle.std.specs.List.{list_all, list_any, filter_map, cons_option}
 use Rattle.std.specs.Cmp.{IsTotalOrder, tied_itself}
 use Rattle.std.specs.Ordering.{is_eq, is_lt, eq_by_cmp}
 use Rattle.std.specs.declared.cmp.Ordering.{Ordering}
@@ -12,7 +12,7 @@ use Rattle.std.proofs.lemmas.Map.Lookups.{CmpEqualImpliesEq}
 use Rattle.base_axis.specs.declared.MergedCell.{MergedCell}
 use Rattle.base_axis.specs.Rectangles.{meets}
 use Rattle.base_axis.specs.laws.RectangleLaws.{meets_turned}
-use Rattle.scratch_lines.specs.Apart.{meets_none, are_apart}
+use Rattle.scratch_lines.specs.Distinct.{are_distinct}
 use Rattle.scratch_lines.specs.EntryLaws.{both, passes_at_from_all, all_from_passes_at}
 
 -- two rectangles, where both are there, do not meet
@@ -59,6 +59,15 @@ each_two : {E : Type 0} (P Q S : E → Bool) → ((e : E) → P e ≡ true → Q
 each_two P Q S h [] all too = refl
 each_two P Q S h (e ∷ es) all too = let p = both _ _ all in let q = both _ _ too in pass (S e) (list_all S es) (h e p.0 q.0) (each_two P Q S h es p.1 q.1)
 
+not_either : (a b : Bool) → not (a || b) ≡ (not a && not b)
+not_either true b = refl
+not_either false b = refl
+
+-- no item passes a test where all fail it
+pub any_none : {Y : Type 0} (P : Y → Bool) (ys : List Y) → not (list_any P ys) ≡ list_all (λ y. not (P y)) ys
+any_none P [] = refl
+any_none P (y ∷ ys) = not_either (P y) (list_any P ys) ∙ ap (λ b. not (P y) && b) (any_none P ys)
+
 -- what is asked of the items that are made of others
 pub all_made : {E Y : Type 0} (P : Y → Bool) (P? : Option Y → Bool) → P? None ≡ true → ((y : Y) → P? (Some y) ≡ P y) → (f : E → Option Y) (es : List E) → list_all P (filter_map f es) ≡ list_all (λ e. P? (f e)) es
 all_made P P? none some f [] = refl
@@ -69,8 +78,8 @@ all_made P P? none some f (e ∷ es) = at_item (f e) (all_made P P? none some f 
     at_item (Some y) rest = ap (λ b. P y && b) rest ∙ sym (ap (λ b. b && list_all (λ e. P? (f e)) es) (some y))
 
 module _ {E : Type 0} (f : E → Option MergedCell) where
-  none_met : (r : MergedCell) (es : List E) → meets_none (filter_map f es) r ≡ list_all (λ e. apart (Some r) (f e)) es
-  none_met r es = all_made (λ s. not (meets r s)) (apart (Some r)) refl (λ s. refl) f es
+  none_met : (r : MergedCell) (es : List E) → not (list_any (meets r) (filter_map f es)) ≡ list_all (λ e. apart (Some r) (f e)) es
+  none_met r es = any_none (meets r) (filter_map f es) ∙ all_made (λ s. not (meets r s)) (apart (Some r)) refl (λ s. refl) f es
 
   -- no two items make rectangles that meet
   abbrev pairs_apart : List E → Bool
@@ -81,11 +90,11 @@ module _ {E : Type 0} (f : E → Option MergedCell) where
   nothing_apart [] = refl
   nothing_apart (e ∷ es) = nothing_apart es
 
-  apart_by_pairs : (es : List E) → are_apart (filter_map f es) ≡ pairs_apart es
+  apart_by_pairs : (es : List E) → are_distinct meets (filter_map f es) ≡ pairs_apart es
   apart_by_pairs [] = refl
   apart_by_pairs (e ∷ es) = at_item (f e) (apart_by_pairs es)
     where
-      at_item : (o : Option MergedCell) → are_apart (filter_map f es) ≡ pairs_apart es → are_apart (cons_option o (filter_map f es)) ≡ (list_all (λ d. apart o (f d)) es && pairs_apart es)
+      at_item : (o : Option MergedCell) → are_distinct meets (filter_map f es) ≡ pairs_apart es → are_distinct meets (cons_option o (filter_map f es)) ≡ (list_all (λ d. apart o (f d)) es && pairs_apart es)
       at_item None rest = rest ∙ sym (ap (λ b. b && pairs_apart es) (nothing_apart es))
       at_item (Some r) rest = λ i. none_met r es i && rest i
 
@@ -164,7 +173,7 @@ module _ {K X : Type 0} (R : K → K → Ordering) (total : IsTotalOrder R) (exa
   only a b h k = grind arith
 
   -- rectangles of a map that do not meet do not meet at two keys
-  pub apart_at_from_list : (m : FinMap R X) → are_apart (filter_map of_entry (entries m)) ≡ true → AreApartAt m
+  pub apart_at_from_list : (m : FinMap R X) → are_distinct meets (filter_map of_entry (entries m)) ≡ true → AreApartAt m
   apart_at_from_list m h k l other = at_first (get m k) (passes_at_from_all R total exact (row_passes m) (λ _. refl) m (fit_of_pairs (entries m) (sym (apart_by_pairs of_entry (entries m)) ∙ h)) k)
     where
       at_second : (x : X) (o : Option X) → fit_found k (f k x) l o ≡ true → apart (f k x) (found_of l o) ≡ true
@@ -176,7 +185,7 @@ module _ {K X : Type 0} (R : K → K → Ordering) (total : IsTotalOrder R) (exa
       at_first (Some x) p = at_second x (get m l) (passes_at_from_all R total exact (fit_found k (f k x)) (λ _. refl) m p l)
 
   -- and back
-  pub apart_list_from_at : (m : FinMap R X) → AreApartAt m → are_apart (filter_map of_entry (entries m)) ≡ true
+  pub apart_list_from_at : (m : FinMap R X) → AreApartAt m → are_distinct meets (filter_map of_entry (entries m)) ≡ true
   apart_list_from_at m h =
       apart_by_pairs of_entry (entries m) ∙ pairs_of_fit (entries m) (entries_sorted m)
       (all_from_passes_at R total exact (row_passes m) (λ _. refl) m (λ k. at_first k (get m k) refl))

@@ -7,5 +7,6 @@ pub mod Sources
 pub mod MergedSources
 pub mod Followers
 pub mod EntryLaws
-pub mod Apart
+pub mod Distinct
 pub mod ApartLaws
+pub mod FollowedRectangles

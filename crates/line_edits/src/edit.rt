@@ -4,6 +4,7 @@ ghost use Rattle.base_values.specs.Places.{IsLine, is_line};
 ghost use Rattle.line_edits.specs.Edit.{image_at, goes_to, within, is_in_block, opposite_of, is_within, is_valid, IsValid};
 ghost use Rattle.line_edits.specs.Lost.{pushed_from, lost_from, lost_to, beside_lost};
 ghost use Rattle.line_edits.specs.Moves.{inserted_by, edit_moves};
+ghost use Rattle.line_edits.specs.Splits.{splits};
 ghost use Rattle.line_edits.specs.laws.Images.{IsMove};
 
 use crate::line_map::LineMap;
@@ -133,7 +134,7 @@ fn is_passed_up(first: i32, delta: i32, line: i32) -> bool
 
 /// Where a line of the axis goes when a block of lines moves.
 #[tactic(auto, unfolding(crate::specs::Edit::goes_to))]
-fn passed(last: i32, first: i32, count: i32, delta: i32, line: i32) -> Option<i32>
+pub(crate) fn passed(last: i32, first: i32, count: i32, delta: i32, line: i32) -> Option<i32>
     ensures value { result ≡ goes_to last (EditKind.Move first count delta) line }
     ensures inside { IfSome result (IsLine last) }
 {
@@ -361,6 +362,14 @@ impl<A: Axis> LineEdit<A> {
         goes_to(A::LAST, self.kind, line)
     }
 
+    /// Whether it splits what stands from a first to a last line: an insertion between them; a
+    /// deletion of some of these lines; a move of some of them, or past some, but not of all.
+    pub fn splits(&self, first: i32, last: i32) -> bool
+        ensures { result ≡ splits self.now.kind first last }
+    {
+        self.kind.splits(first, last)
+    }
+
     /// The edit that takes the lines back. It takes no memory.
     pub fn opposite(&self) -> LineEdit<A>
         requires { IsValid A.along.last self.now.kind }
@@ -389,6 +398,10 @@ impl<A: Axis> LineMap<A> for LineEdit<A> {
     fn first_image(&self, line: i32, towards: i32) -> Option<i32> {
         let (low, high) = (self.kind.lost_from(A::LAST), self.kind.lost_to(A::LAST));
         beside_lost(low, high, line, towards)
+    }
+
+    fn merged(&self, first: i32, last: i32, across: i32) -> Option<(i32, i32)> {
+        self.kind.merged(A::LAST, (first, last), across)
     }
 
     fn opposite(&self, _alloc: Global) -> Result<LineEdit<A>, EditError> {

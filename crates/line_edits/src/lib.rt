@@ -6,6 +6,7 @@
 mod edit;
 mod laws;
 mod line_map;
+mod merged;
 
 pub use edit::{Block, EditKind, LineEdit, within};
 pub use laws::{image_of_opposite, move_by_single_lines};

@@ -1,0 +1,12 @@
+pub mod Edit
+pub mod Moves
+pub mod Images
+pub mod Splits
+pub mod Merged
+pub mod Sources
+pub mod MergedSources
+pub mod Followers
+pub mod EntryLaws
+pub mod Distinct
+pub mod ApartLaws
+pub mod FollowedRectangles

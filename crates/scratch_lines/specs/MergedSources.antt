@@ -1,0 +1,155 @@
+-- Where the lines of a merge after an edit stood before.
+use Rattle.std.proofs.Common.{◌≡◌, ◌⊎◌, ℤ, pos, ◌+ℤ◌, ◌-ℤ◌, ◌≤ℤ◌, ◌<ℤ◌, Bool, true, false, Option, Some, None, refl, arith, ap, sym, subst, ◌∙◌}
+use Rattle.std.specs.Prelude.{IfSome, int_lt, int_le, ◌&&◌, ◌||◌, not, if◌then◌else◌}
+use Rattle.std.proofs.lemmas.Int.{ints}
+use Rattle.base_values.specs.Places.{IsLine, is_line}
+use Rattle.scratch_lines.specs.declared.EditKind.{EditKind}
+use Rattle.scratch_lines.specs.declared.EditKind.TheVariants.{Insert, Delete, Move}
+use Rattle.scratch_lines.specs.Edit.{within, is_in_block, moved_by, goes_to, image_at, is_valid, IsValid, opposite_of}
+use Rattle.scratch_lines.specs.Images.{IsWithin, IsMove, insert_parts, delete_parts, move_parts, image_back, image_inside, move_image}
+use Rattle.scratch_lines.specs.Splits.{splits}
+use Rattle.scratch_lines.specs.Merged.{merged, grown, cut, first_fallen, last_fallen, many, both_images}
+use Rattle.scratch_lines.specs.Sources.{source, Stood, Shift, brings, Whole, whole_shift, whole_stood, whole_inside}
+
+abbrev pub is_move : EditKind → Bool
+is_move (Insert c k) = false
+is_move (Delete c k) = false
+is_move (Move c k d) = true
+
+-- the lines of a merge after an edit
+pub record Left (across first last f l : ℤ) : Type 0 where
+  pub first_is : first ≡ f
+  pub last_is : last ≡ l
+  pub some : f ≤ℤ l
+  pub many : (int_lt f l || int_lt (pos 1) across) ≡ true
+
+left_from : (across first last f l : ℤ) → many across first last ≡ Some (f, l) → Left across first last f l
+left_from across first last f l h = record { first_is = grind (arith, ints); last_is = grind (arith, ints); some = grind (arith, ints); many = grind (arith, ints) }
+
+module _ (most c k first end across f l : ℤ) (v : IsWithin most c k) (a : IsLine most first) (b : first ≤ℤ end) (e : end ≤ℤ most) where
+  insert_stood : merged most (Insert c k) first end across ≡ Some (f, l) → (m : ℤ) → f ≤ℤ m → m ≤ℤ l → Stood (Insert c k) first end m
+  unfolding merged source
+  insert_stood h m low high =
+     let few = v.amount.0 in
+     let left = left_from across (grown c k first) (cut most (grown c k end)) f l h in
+     let p = left.first_is in let q = left.last_is in
+     record { low = grind (arith, ints); high = grind (arith, ints) }
+
+  delete_stood : merged most (Delete c k) first end across ≡ Some (f, l) → (m : ℤ) → f ≤ℤ m → m ≤ℤ l → Stood (Delete c k) first end m
+  unfolding merged source
+  delete_stood h m low high =
+     let few = v.amount.0 in
+     let left = left_from across (first_fallen c k first) (last_fallen c k end) f l h in
+     let p = left.first_is in let q = left.last_is in
+     record { low = grind (arith, ints); high = grind (arith, ints) }
+
+  -- the first line of a merge goes where its own line goes
+  insert_first : merged most (Insert c k) first end across ≡ Some (f, l) → (m : ℤ) → image_at most (Insert c k) first ≡ Some m → m ≡ f
+  unfolding merged image_at goes_to within
+  insert_first h m i =
+     let few = v.amount.0 in
+     let left = left_from across (grown c k first) (cut most (grown c k end)) f l h in
+     let p = left.first_is in
+     grind (arith, ints)
+
+  delete_first : merged most (Delete c k) first end across ≡ Some (f, l) → (m : ℤ) → image_at most (Delete c k) first ≡ Some m → m ≡ f
+  unfolding merged image_at goes_to within
+  delete_first h m i =
+     let few = v.amount.0 in
+     let left = left_from across (first_fallen c k first) (last_fallen c k end) f l h in
+     let p = left.first_is in
+     grind (arith, ints)
+
+  insert_left : merged most (Insert c k) first end across ≡ Some (f, l) → (pos 1 ≤ℤ f) × (f ≤ℤ l) × (l ≤ℤ most) × ((int_lt f l || int_lt (pos 1) across) ≡ true)
+  unfolding merged
+  insert_left h =
+     let few = v.amount.0 in
+     let low = a.0 in
+     let left = left_from across (grown c k first) (cut most (grown c k end)) f l h in
+     let p = left.first_is in let q = left.last_is in
+     (grind (arith, ints), left.some, grind (arith, ints), left.many)
+
+  delete_left : merged most (Delete c k) first end across ≡ Some (f, l) → (pos 1 ≤ℤ f) × (f ≤ℤ l) × (l ≤ℤ most) × ((int_lt f l || int_lt (pos 1) across) ≡ true)
+  unfolding merged
+  delete_left h =
+     let few = v.amount.0 in
+     let start = v.begins.0 in
+     let low = a.0 in
+     let left = left_from across (first_fallen c k first) (last_fallen c k end) f l h in
+     let p = left.first_is in let q = left.last_is in
+     (grind (arith, ints), left.some, grind (arith, ints), left.many)
+
+same_pair : (a b c d : ℤ) → ◌≡◌ {A = Option (ℤ × ℤ)} (Some (a, b)) (Some (c, d)) → (a ≡ c) × (b ≡ d)
+same_pair a b c d h = let p : ◌≡◌ {A = ℤ × ℤ} (a, b) (c, d) = cc in (ap (λ t. t.0) p, ap (λ t. t.1) p)
+
+some_is : (m n : ℤ) → ◌≡◌ {A = Option ℤ} (Some m) (Some n) → m ≡ n
+some_is m n h = cc
+
+shifted : (first end across f l s : ℤ) → (int_lt first end || int_lt (pos 1) across) ≡ true → (first +ℤ s) ≡ f → (end +ℤ s) ≡ l → (int_lt f l || int_lt (pos 1) across) ≡ true
+shifted first end across f l s h p q = grind (arith, ints)
+
+module _ (most c k d first end across f l : ℤ) (valid : IsValid most (Move c k d)) (v : IsMove most c k d) (a : IsLine most first) (b : first ≤ℤ end) (e : end ≤ℤ most) (whole : splits (Move c k d) first end ≡ false) where
+  s : Shift c k d first end
+  s = whole_shift c k d first end v.amount.0 whole
+
+  goes_by : (line : ℤ) → first ≤ℤ line → line ≤ℤ end → image_at most (Move c k d) line ≡ Some (line +ℤ s.by)
+  goes_by line low high = move_image most c k d line v (omega (arith, ints, a.0), omega (arith, ints)) ∙ ap (λ t. Some (line +ℤ t)) (s.goes line low high)
+
+  here : Whole most (Move c k d) first end (first +ℤ s.by)
+  here = record { first_inside = a; some = b; room = omega (arith, ints); unsplit = whole; goes = goes_by first (omega (arith, ints)) b }
+
+  -- both lines of a merge go on by one number
+  move_ends : merged most (Move c k d) first end across ≡ Some (f, l) → ((first +ℤ s.by) ≡ f) × ((end +ℤ s.by) ≡ l)
+  unfolding merged
+  move_ends h =
+      same_pair (first +ℤ s.by) (end +ℤ s.by) f l
+      (sym ((λ i. Some (if whole i then (first, end) else both_images first end (goes_by first (omega (arith, ints)) b i) (goes_by end b (omega (arith, ints)) i)))) ∙ h)
+
+  move_stood : merged most (Move c k d) first end across ≡ Some (f, l) → (m : ℤ) → f ≤ℤ m → m ≤ℤ l → Stood (Move c k d) first end m
+  move_stood h m low high =
+      let ends = move_ends h in
+      let p = ends.0 in let q = ends.1 in
+      whole_stood most first end (first +ℤ s.by) (Move c k d) valid here m (omega (arith, ints)) (omega (arith, ints))
+
+  move_first : merged most (Move c k d) first end across ≡ Some (f, l) → (m : ℤ) → image_at most (Move c k d) first ≡ Some m → m ≡ f
+  move_first h m i = some_is m (first +ℤ s.by) (sym i ∙ here.goes) ∙ (move_ends h).0
+
+  move_left : (int_lt first end || int_lt (pos 1) across) ≡ true → merged most (Move c k d) first end across ≡ Some (f, l) → (pos 1 ≤ℤ f) × (f ≤ℤ l) × (l ≤ℤ most) × ((int_lt f l || int_lt (pos 1) across) ≡ true)
+  move_left some h =
+      let ends = move_ends h in
+      let p = ends.0 in let q = ends.1 in
+      let inside = whole_inside most first end (first +ℤ s.by) (Move c k d) valid here in
+      let low = inside.0.0 in let high = inside.1 in
+      (omega (arith, ints), omega (arith, ints), omega (arith, ints), shifted first end across f l s.by some p q)
+
+-- what a move has to leave whole
+abbrev pub IsLeft : EditKind → ℤ → ℤ → Type 0
+IsLeft kind first end = is_move kind ≡ true → splits kind first end ≡ false
+
+-- a merge that lies on the axis and has more than one cell, and what becomes of it
+pub record Carried (most : ℤ) (kind : EditKind) (first end across f l : ℤ) : Type 0 where
+  pub first_inside : IsLine most first
+  pub some : first ≤ℤ end
+  pub end_inside : end ≤ℤ most
+  pub has_many : (int_lt first end || int_lt (pos 1) across) ≡ true
+  pub unsplit : IsLeft kind first end
+  pub becomes : merged most kind first end across ≡ Some (f, l)
+
+module _ (most : ℤ) (first end across f l : ℤ) where
+  -- each line that a merge then takes is one of its own, or was inserted at one
+  pub merged_stood : (kind : EditKind) → IsValid most kind → Carried most kind first end across f l → (m : ℤ) → f ≤ℤ m → m ≤ℤ l → Stood kind first end m
+  merged_stood (Insert c k) v h = insert_stood most c k first end across f l (insert_parts most c k v) h.first_inside h.some h.end_inside h.becomes
+  merged_stood (Delete c k) v h = delete_stood most c k first end across f l (delete_parts most c k v) h.first_inside h.some h.end_inside h.becomes
+  merged_stood (Move c k d) v h = move_stood most c k d first end across f l v (move_parts most c k d v) h.first_inside h.some h.end_inside (h.unsplit refl) h.becomes
+
+  -- its first line is where the one before goes, if that goes somewhere
+  pub merged_first : (kind : EditKind) → IsValid most kind → Carried most kind first end across f l → (m : ℤ) → image_at most kind first ≡ Some m → m ≡ f
+  merged_first (Insert c k) v h = insert_first most c k first end across f l (insert_parts most c k v) h.first_inside h.some h.end_inside h.becomes
+  merged_first (Delete c k) v h = delete_first most c k first end across f l (delete_parts most c k v) h.first_inside h.some h.end_inside h.becomes
+  merged_first (Move c k d) v h = move_first most c k d first end across f l v (move_parts most c k d v) h.first_inside h.some h.end_inside (h.unsplit refl) h.becomes
+
+  -- it lies on the axis, and still has more than one cell
+  pub merged_left : (kind : EditKind) → IsValid most kind → Carried most kind first end across f l → (pos 1 ≤ℤ f) × (f ≤ℤ l) × (l ≤ℤ most) × ((int_lt f l || int_lt (pos 1) across) ≡ true)
+  merged_left (Insert c k) v h = insert_left most c k first end across f l (insert_parts most c k v) h.first_inside h.some h.end_inside h.becomes
+  merged_left (Delete c k) v h = delete_left most c k first end across f l (delete_parts most c k v) h.first_inside h.some h.end_inside h.becomes
+  merged_left (Move c k d) v h = move_left most c k d first end across f l v (move_parts most c k d v) h.first_inside h.some h.end_inside (h.unsplit refl) h.has_many h.becomes

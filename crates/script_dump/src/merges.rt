@@ -23,7 +23,7 @@ fn last_place(area: MergedCell) -> Position
 }
 
 /// Writes the name of a rectangle of places.
-#[tactic(auto, using(base_axis::specs::laws::RectangleLaws::inside_parts))]
+#[tactic(auto, using(base_axis::specs::laws::RectangleLaws::inside_found))]
 fn push_area(alloc: Global, out: &mut Vec<u8>, area: MergedCell) -> Result<(), AllocError>
     ensures { OnOk result (out.new.items ≡ out.old.items ++ area_text area) }
 {

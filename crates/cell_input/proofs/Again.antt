@@ -145,4 +145,4 @@ inputs_read_again p (ErrorContent error) bare kept = error_again p error
 inputs_read_again p (Text text) bare kept = text_again p text
 inputs_read_again p (Formula tree) bare kept = absurd cc
 inputs_read_again p (Dynamic tree) bare kept = absurd cc
-inputs_read_again p (Array tree width height) bare kept = absurd cc
+inputs_read_again p (Array tree _ _) bare kept = absurd cc

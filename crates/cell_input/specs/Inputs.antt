@@ -72,7 +72,7 @@ input_text p (Error error) = error_text error
 input_text p (Text text) = marked_text p text
 input_text p (Formula tree) = formula_text p tree
 input_text p (Dynamic tree) = formula_text p tree
-input_text p (Array tree width height) = formula_text p tree
+input_text p (Array tree _ _) = formula_text p tree
 
 -- ---- what is read again
 

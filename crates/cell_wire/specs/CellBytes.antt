@@ -48,10 +48,10 @@ abbrev pub array_at : Reader Content
 array_at = map_at array_made (node_at ⊗ signed_at w32 ⊗ signed_at w32)
 
 -- a tree that bytes can carry, and two numbers of 32 bits
-pub record FitsArray (tree : Node) (width height : ℤ) : Type 0 where
-  pub tree : FitsNode tree
-  pub width : FitsSigned w32 width
-  pub height : FitsSigned w32 height
+pub record FitsArray (node : Node) (columns rows : ℤ) : Type 0 where
+  pub tree : FitsNode node
+  pub width : FitsSigned w32 columns
+  pub height : FitsSigned w32 rows
 
 -- the kind, and then what it holds
 abbrev pub spell_content : Content → List ℕ

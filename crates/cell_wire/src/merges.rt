@@ -50,10 +50,10 @@ fn put_merge(out: &mut Vec<u8>, merge: MergedCell) -> Result<(), AllocError>
     ensures spelled { OnOk result (out.new.items ≡ out.old.items ++ spell_merge merge) }
     ensures fits { OnOk result (FitsMerge merge) }
 {
-    out.extend_from_slice(&merge.row.to_be_bytes())?;
-    out.extend_from_slice(&merge.column.to_be_bytes())?;
-    out.extend_from_slice(&merge.width.to_be_bytes())?;
-    out.extend_from_slice(&merge.height.to_be_bytes())
+    i32::put(out, &merge.row)?;
+    i32::put(out, &merge.column)?;
+    i32::put(out, &merge.width)?;
+    i32::put(out, &merge.height)
 }
 
 #[tactic(auto, using(crate::proofs::Known::any_items))]

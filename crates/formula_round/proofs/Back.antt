@@ -38,4 +38,4 @@ module _ (p : Profile) where
   content_back trees others (Text text) normal kept = others p (Text text) refl kept
   content_back trees others (Formula tree) normal kept = ap Formula (trees tree (record { normal = normal; kept = kept }))
   content_back trees others (Dynamic tree) normal kept = absurd cc
-  content_back trees others (Array tree width height) normal kept = absurd cc
+  content_back trees others (Array tree _ _) normal kept = absurd cc

@@ -17,8 +17,8 @@ pub record IsKeptNormal (p : Profile) (tree : Node) : Type 0 where
   pub normal : is_normal p.place p.language tree ≡ true
   pub kept : has_kept_numbers tree ≡ true
 
--- the content is no formula, or one with a normal tree. What is printed of a formula that may spill, or that fills an array, is
--- read as one of a single cell
+-- the content is no formula, or one with a normal tree. What is printed of a formula that may spill, and of an array, is read as one
+-- that does neither
 abbrev pub is_normal_content : Profile → Content → Bool
 is_normal_content p Empty = true
 is_normal_content p (Number _) = true

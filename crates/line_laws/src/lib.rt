@@ -3,8 +3,8 @@
 
 ghost use Rattle.std.specs.Prelude.{◌≡◌, ◌-ℤ◌, ℤ, pos};
 ghost use Rattle.formula_move.specs.Lines.{shifted, stepped};
-ghost use Rattle.line_map.specs.declared.EditKind.TheVariants.{Insert, Delete, Move};
-ghost use Rattle.line_map.specs.Edit.{image_at, IsValid};
+ghost use Rattle.line_edits.specs.declared.EditKind.TheVariants.{Insert, Delete, Move};
+ghost use Rattle.line_edits.specs.Edit.{image_at, IsValid};
 
 use base_axis::Axis;
 

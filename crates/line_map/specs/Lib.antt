@@ -1,16 +1,11 @@
-pub mod Edit
-pub mod Lost
-pub mod Moves
 pub mod Way
 pub mod Trial
-pub mod Carried
 pub mod Trees
 pub mod Contents
 pub mod Areas
 pub mod Lists
 pub mod Maps
 pub mod Attributes
-pub mod Singles
 pub mod TreeAt
 pub mod Alone
 pub mod laws

@@ -11,8 +11,8 @@ use Rattle.formula_tree.specs.Corners.{corner_at, corner_to, is_whole_rows, is_w
 use Rattle.formula_tree.specs.OnSheet.{is_on_sheet}
 use Rattle.formula_tree.specs.Moved.{Mapping, moved}
 use Rattle.formula_tree.specs.Placed.{is_placed}
-use Rattle.line_map.specs.Carried.{if_there}
-use Rattle.line_map.specs.Moves.{place_image}
+use Rattle.base_maps.specs.Carried.{if_there}
+use Rattle.line_edits.specs.Moves.{place_image}
 use Rattle.line_map.specs.Trial.{part_by_trial}
 use Rattle.line_map.specs.Way.{Way}
 

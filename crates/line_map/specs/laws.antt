@@ -1,10 +1,4 @@
 pub mod Equals
-pub mod Images
-pub mod FirstImages
-pub mod Singles
-pub mod Inverses
-pub mod Keys
-pub mod Gathering
 pub mod WayLaws
 pub mod TrialLaws
 pub mod TreeLaws

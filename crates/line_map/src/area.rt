@@ -4,7 +4,7 @@ ghost use Rattle.line_map.specs.Areas.{IsArea, first_place, last_line, last_plac
 ghost use Rattle.line_map.specs.Way.{way};
 
 use crate::follower::Follower;
-use crate::line_map::LineMap;
+use line_edits::LineMap;
 use crate::route::Route;
 use base_axis::{Area, Axis};
 use base_values::{EditError, Position};

@@ -2,7 +2,7 @@ ghost use Rattle.std.specs.Prelude.{◌≡◌, IfOk, IsOkUnless};
 ghost use Rattle.base_values.specs.declared.EditError.TheVariants.{NoMemory};
 
 use crate::follower::Follower;
-use crate::line_map::LineMap;
+use line_edits::LineMap;
 use crate::route::Route;
 use base_axis::Axis;
 use base_shared::Shared;

@@ -2,7 +2,7 @@ ghost use Rattle.std.specs.Prelude.{◌≡◌, IfOk, IfSome, IsOkUnless, None, O
 ghost use Rattle.base_values.specs.declared.EditError.TheVariants.{NoMemory};
 ghost use Rattle.line_map.specs.Way.{Way, IsWay, back, way};
 
-use crate::line_map::LineMap;
+use line_edits::LineMap;
 use crate::route::Route;
 use base_axis::Axis;
 use base_values::EditError;

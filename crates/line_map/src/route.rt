@@ -2,7 +2,7 @@ ghost use Rattle.std.specs.Prelude.{◌≡◌, true};
 ghost use Rattle.base_values.specs.Places.{IsPlace};
 ghost use Rattle.base_tables.specs.Folding.{same_folded};
 
-use crate::line_map::LineMap;
+use line_edits::LineMap;
 use base_axis::Axis;
 use base_values::Position;
 use std::alloc::AllocError;

@@ -6,7 +6,7 @@ ghost use Rattle.line_map.specs.Trees.{target, is_exposed, moved_corner, tree_ca
 ghost use Rattle.line_map.specs.Way.{back, way};
 
 use crate::follower::Follower;
-use crate::line_map::LineMap;
+use line_edits::LineMap;
 use crate::route::Route;
 use base_axis::Axis;
 use base_shared::Shared;

@@ -6,7 +6,7 @@ ghost use Rattle.line_map.specs.TreeAt.{TreeAtLies, tree_goes, tree_at_carried, 
 ghost use Rattle.line_map.specs.Way.{way};
 
 use crate::follower::Follower;
-use crate::line_map::LineMap;
+use line_edits::LineMap;
 use crate::route::Route;
 use crate::tree::carried_node;
 use base_axis::Axis;

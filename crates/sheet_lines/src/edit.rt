@@ -1,6 +1,6 @@
 ghost use Rattle.std.specs.Prelude.{◌≡◌, IfOk, IsOkUnless, IsTrue, is_some};
 ghost use Rattle.base_values.specs.declared.EditError.TheVariants.{NoMemory};
-ghost use Rattle.line_map.specs.Edit.{IsValid};
+ghost use Rattle.line_edits.specs.Edit.{IsValid};
 ghost use Rattle.sheet_lines.specs.Back.{LieInside};
 ghost use Rattle.sheet_lines.specs.Followed.{book_followed};
 ghost use Rattle.sheet_lines.specs.Kept.{kept_lines, lines_kept};

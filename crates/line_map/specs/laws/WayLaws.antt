@@ -4,9 +4,10 @@ use Rattle.std.specs.Prelude.{IfSome, if◌then◌else◌}
 use Rattle.base_values.specs.declared.Position.{Position}
 use Rattle.base_values.specs.Places.{IsLine, IsPlace}
 use Rattle.base_axis.specs.Along.{Along, IsAxis}
-use Rattle.line_map.specs.Moves.{LineMoves, Inverse, IsOneToOne, turned, at_line, place_image}
+use Rattle.base_maps.specs.Carried.{Inverse}
+use Rattle.line_edits.specs.Moves.{LineMoves, IsOneToOne, turned, at_line, place_image}
 use Rattle.line_map.specs.Way.{Way, IsWay, at, back, place_goes}
-use Rattle.line_map.specs.laws.Inverses.{own_inverse, turned_inverse}
+use Rattle.base_maps.specs.laws.Inverses.{own_inverse, turned_inverse}
 
 -- the map that takes the lines back is one to one
 pub turned_one_to_one : (last : ℤ) (m : LineMoves) → IsOneToOne last m → IsOneToOne last (turned m)

@@ -5,17 +5,17 @@ use Rattle.base_values.specs.Places.{IsPlace, position_cmp}
 use Rattle.base_values.specs.laws.Places.{position_total, exact_positions}
 use Rattle.base_axis.specs.Along.{rows, columns}
 use Rattle.line_map.specs.Attributes.{LinesLie}
-use Rattle.line_map.specs.Carried.{lost_map}
+use Rattle.base_maps.specs.Carried.{lost_map}
+use Rattle.base_maps.specs.laws.Each.{each_lost, keys_lost}
+use Rattle.base_maps.specs.laws.Found.{found_passes}
 use Rattle.line_map.specs.Maps.{KeysInside}
-use Rattle.line_map.specs.Moves.{place_image}
+use Rattle.line_edits.specs.Moves.{place_image}
 use Rattle.line_map.specs.Way.{place_goes, way}
-use Rattle.sheet_grid.specs.KeptCell.{KeptCells}
+use Rattle.sheet_grid.specs.KeptCell.{IsKeptCell, KeptCells}
 use Rattle.sheet_lines.specs.Followed.{way_on}
 use Rattle.sheet_lines.specs.Kept.{lines_of, of_sheet, formulas_kept}
 use Rattle.sheet_lines.specs.Sheets.{sheet_of}
-use Rattle.sheet_lines.specs.laws.Each.{each_lost}
-use Rattle.sheet_lines.specs.laws.Stays.{lost_kept, lost_lines_lie, lost_places}
-use Rattle.sheet_lines.specs.laws.Under.{found_passes}
+use Rattle.sheet_lines.specs.laws.Stays.{lost_lines_lie, lost_places}
 use Rattle.sheet_lines.proofs.edit.kept_lines.Goals as goal
 
 pub returns-clause-kept : goal.returns-clause-kept
@@ -41,7 +41,7 @@ returns-clause-kept g c =
 
 pub returns-clause-numbers : goal.returns-clause-numbers
 returns-clause-numbers g c = record {
-  cells = subst KeptCells (sym c.in_ok-lost_places.ensures.map) (lost_kept (place_goes (way c.route_on-route.result)) c.cell_map-cells.result.now c.cell_map-cells.ensures.kept);
+  cells = subst KeptCells (sym c.in_ok-lost_places.ensures.map) (each_lost position_cmp position_total exact_positions (λ _. IsKeptCell) (place_goes (way c.route_on-route.result)) c.cell_map-cells.result.now c.cell_map-cells.ensures.kept);
   formulas = c.in_ok-formulas.ensures.numbers;
 }
 
@@ -49,8 +49,8 @@ pub returns-clause-inside : goal.returns-clause-inside
 returns-clause-inside g c =
     let goes = place_goes (way c.route_on-route.result) in
     let sheet = c.in-Some.sheet.now in record {
-      cells = subst KeysInside (sym c.in_ok-lost_places.ensures.map) (each_lost position_cmp position_total exact_positions (λ p _. IsPlace p) goes c.cell_map-cells.result.now c.places_inside.ensures);
-      links = subst KeysInside (sym c.in_ok-lost_places-2.ensures.map) (each_lost position_cmp position_total exact_positions (λ p _. IsPlace p) goes c.link_map-links.result.now c.places_inside-2.ensures);
+      cells = subst KeysInside (sym c.in_ok-lost_places.ensures.map) (keys_lost position_cmp position_total exact_positions IsPlace goes c.cell_map-cells.result.now c.places_inside.ensures);
+      links = subst KeysInside (sym c.in_ok-lost_places-2.ensures.map) (keys_lost position_cmp position_total exact_positions IsPlace goes c.link_map-links.result.now c.places_inside-2.ensures);
       lines = subst (LinesLie g.A.Axis.along) (sym c.in_ok-lost_attributes.ensures.lines)
           (lost_lines_lie g.A.Axis.along g.met.A.Axis.lawful sheet (subst (LinesLie rows) c.row_map.ensures c.lines_inside.ensures) (subst (LinesLie columns) c.column_map.ensures c.lines_inside-2.ensures) (g.M.LineMap.moves c.args.edited.now.map.now).to);
     }

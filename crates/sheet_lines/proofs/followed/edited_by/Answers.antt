@@ -1,6 +1,6 @@
 use Rattle.std.proofs.Common.{ap, subst, sym, ◌∙◌}
-use Rattle.line_map.specs.Edit.{image_at, opposite_of, IsValid}
-use Rattle.line_map.specs.laws.Images.{opposite_twice, valid_opposite}
+use Rattle.line_edits.specs.Edit.{image_at, opposite_of, IsValid}
+use Rattle.line_edits.specs.laws.Images.{opposite_twice, valid_opposite}
 use Rattle.sheet_lines.proofs.followed.edited_by.Goals as goal
 
 pub invariant_of-result : goal.invariant_of-result

@@ -1,0 +1,4 @@
+pub mod Equals
+pub mod Images
+pub mod FirstImages
+pub mod Singles

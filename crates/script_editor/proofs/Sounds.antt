@@ -21,10 +21,11 @@ use Rattle.script_editor.specs.Machine.{Edit, Step, Sent, State, start, changed,
 use Rattle.script_editor.specs.Sound.{IsSendable, IsSoundStep, Leads, Follows, Carries, IsSound}
 use Rattle.script_editor.specs.Spellable.{AreSpellable}
 use Rattle.script_editor.specs.Stands.{StandsFor, IsReached, Moves}
+use Rattle.script_editor.proofs.Open.{first_open}
 use Rattle.script_editor.proofs.Tested.{passed}
 
 pub sound_start : IsSound start
-sound_start = record { present = well_formed-new (codes "workbook") En Utc; past = tt; undone = tt; sync = record { spelled = refl; led = refl }; spellable = tt }
+sound_start = record { present = well_formed-new (codes "workbook") En Utc; open = first_open; past = tt; undone = tt; sync = record { spelled = refl; led = refl }; spellable = tt }
 
 -- ---- what is sent
 
@@ -58,6 +59,7 @@ step_of edit s later = record { edit = edit; before = s.present; after = later }
 pub sound_edited : (edit : Edit) (s : State) (later : Book) → IsSound s → IsSoundStep (step_of edit s later) → IsSound (edited edit s later)
 sound_edited edit s later sound step = record {
   present = step.after;
+  open = step.open_after;
   past = (refl, step, sound.past);
   undone = tt;
   sync = carries_more s sound (record { kind = Redo; step = step_of edit s later }) later step.forth;
@@ -88,6 +90,7 @@ undo_sound : (s : State) (past : List Step) → IsSound s → Leads past s.prese
 undo_sound s [] sound leads = sound
 undo_sound s (step ∷ past) sound leads = record {
   present = leads.1.before;
+  open = leads.1.open_before;
   past = leads.2;
   undone = (refl, leads.1, subst (Follows s.undone) (sym leads.0) sound.undone);
   sync = carries_more s sound (record { kind = Undo; step = step }) step.before (ap (λ book. backed book (step_record step)) (sym leads.0) ∙ leads.1.back);
@@ -114,6 +117,7 @@ redo_sound : (s : State) (undone : List Step) → IsSound s → Follows undone s
 redo_sound s [] sound follows = sound
 redo_sound s (step ∷ undone) sound follows = record {
   present = follows.1.after;
+  open = follows.1.open_after;
   past = (refl, follows.1, subst (Leads s.past) (sym follows.0) sound.past);
   undone = follows.2;
   sync = carries_more s sound (record { kind = Redo; step = step }) step.after (ap (λ book. forwarded book (step_record step)) (sym follows.0) ∙ follows.1.forth);
@@ -137,7 +141,7 @@ document_redone s sound = redo_along s s.undone sound.undone
 -- ---- sync
 
 pub sound_sync : (s : State) → IsSound s → IsSound (synced_of s)
-sound_sync s sound = record { present = sound.present; past = sound.past; undone = sound.undone; sync = record { spelled = refl; led = refl }; spellable = tt }
+sound_sync s sound = record { present = sound.present; open = sound.open; past = sound.past; undone = sound.undone; sync = record { spelled = refl; led = refl }; spellable = tt }
 
 -- ---- from documents to states
 

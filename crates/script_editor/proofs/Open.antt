@@ -1,0 +1,136 @@
+-- A workbook without merges and arrays stays one.
+use Rattle.std.proofs.Common.{◌≡◌, ◌&&◌, ℕ, ℤ, Bool, true, false, List, [], ◌∷◌, map, Option, Some, None, Result, Ok, Err, refl, ap, sym, ◌∙◌}
+use Rattle.std.specs.Prelude.{is_none, is_some, if◌then◌else◌}
+use Rattle.std.specs.List.{list_all, filter_map, find}
+use Rattle.std.specs.FinMap.{entries}
+use Rattle.base_values.specs.declared.EditError.{EditError}
+use Rattle.base_values.specs.declared.EditError.TheVariants.{CoveredCell, ArrayCell}
+use Rattle.base_values.specs.declared.Position.{Position}
+use Rattle.base_values.specs.Answers.{and_then}
+use Rattle.base_values.specs.Places.{place_of}
+use Rattle.base_axis.specs.Along.{Along, IsAxis}
+use Rattle.base_axis.specs.declared.MergedCell.{MergedCell}
+use Rattle.base_axis.specs.Rectangles.{holds}
+use Rattle.base_maps.specs.Carried.{if_there}
+use Rattle.formula_tree.specs.declared.Node.{Node}
+use Rattle.cell_content.specs.declared.Content.{Content}
+use Rattle.cell_content.specs.declared.Content.TheVariants.{Empty, Number, Boolean, Error, Text, Formula, Dynamic, Array}
+use Rattle.cell_content.specs.Lens.{tree_of, with_tree}
+use Rattle.line_edits.specs.declared.EditKind.{EditKind}
+use Rattle.line_edits.specs.Edit.{IsValid}
+use Rattle.line_edits.specs.Moves.{LineMoves, edit_moves}
+use Rattle.line_edits.specs.laws.OneToOne.{edit_one_to_one}
+use Rattle.line_map.specs.Contents.{with_new_tree, content_carried, cell_carried}
+use Rattle.line_map.specs.Merges.{merges_carried}
+use Rattle.line_map.specs.Trees.{tree_carried}
+use Rattle.line_map.specs.Way.{Way, IsWay, at}
+use Rattle.sheet_grid.specs.declared.Cell.{Cell}
+use Rattle.sheet_grid.specs.Arrays.{array_at, large_array_at, where_large, large_arrays_of}
+use Rattle.sheet_grid.specs.Merges.{is_covered}
+use Rattle.sheet_grid.specs.Sheet.{Sheet}
+use Rattle.sheet_grid.specs.Book.{Book}
+use Rattle.sheet_rules.specs.Occupied.{array_over}
+use Rattle.sheet_rules.specs.laws.EntryLaws.{both}
+use Rattle.sheet_lines.specs.Followed.{way_of, sheet_followed, book_followed}
+use Rattle.sheet_lines.specs.Sheets.{sheet_of, name_of}
+use Rattle.sheet_actions.specs.laws.FollowedEntries.{items_follow}
+use Rattle.sheet_history.specs.Untested.{has_no_merge, shows_all, hides_nothing}
+use Rattle.script_editor.specs.Inputs.{free_place, input_place}
+use Rattle.script_editor.specs.Machine.{first_book}
+
+-- the one that a script begins with is one
+pub first_open : hides_nothing first_book ≡ true
+unfolding shows_all
+first_open = refl
+
+-- ---- lines
+
+with_no_array : (place there : Position) (content : Content) (tree : Option Node) → is_none (array_at place content) ≡ true → is_none (array_at there (with_new_tree content tree)) ≡ true
+with_no_array place there Empty None h = refl
+with_no_array place there (Number _) None h = refl
+with_no_array place there (Boolean _) None h = refl
+with_no_array place there (Error _) None h = refl
+with_no_array place there (Text _) None h = refl
+with_no_array place there (Formula _) None h = refl
+with_no_array place there (Dynamic _) None h = refl
+with_no_array place there (Array _ _ _) tree h = absurd (let never : false ≡ true = h in cc)
+with_no_array place there Empty (Some tree) h = refl
+with_no_array place there (Number _) (Some tree) h = refl
+with_no_array place there (Boolean _) (Some tree) h = refl
+with_no_array place there (Error _) (Some tree) h = refl
+with_no_array place there (Text _) (Some tree) h = refl
+with_no_array place there (Formula _) (Some tree) h = refl
+with_no_array place there (Dynamic _) (Some tree) h = refl
+
+none_carried : (w : Way) (merges : List MergedCell) → has_no_merge merges ≡ true → has_no_merge (merges_carried w merges) ≡ true
+unfolding merges_carried
+none_carried w (merge ∷ merges) h = absurd (let never : false ≡ true = h in cc)
+none_carried w [] h = go w.is_edited
+  where
+    go : (b : Bool) → has_no_merge (merges_carried (record w { is_edited = b }) []) ≡ true
+    go true = refl
+    go false = refl
+
+module _ (w : Way) (is : IsWay w) where
+  abbrev shows : Position → Cell → Bool
+  shows place cell = is_none (array_at place cell.content)
+
+  follows_shown : (sheet : Sheet) → shows_all sheet ≡ true → shows_all (sheet_followed w sheet) ≡ true
+  unfolding shows_all
+  follows_shown sheet h =
+      let parts = both (has_no_merge sheet.merges) (list_all (λ (entry : Position × Cell). shows entry.0 entry.1) (entries sheet.cells)) h in
+      let cells = items_follow w is cell_carried shows (λ p q cell none. with_no_array p q cell.content (if_there (tree_of cell.content) (λ tree. Some (tree_carried (at w p q) tree))) none) sheet.cells parts.1 in
+      λ i. none_carried w sheet.merges parts.0 i && cells i
+
+all_follow : (f : Sheet → Sheet) → ((sheet : Sheet) → shows_all sheet ≡ true → shows_all (f sheet) ≡ true) → (sheets : List Sheet) → list_all shows_all sheets ≡ true → list_all shows_all (map f sheets) ≡ true
+all_follow f h [] all = refl
+all_follow f h (sheet ∷ sheets) all = let parts = both (shows_all sheet) (list_all shows_all sheets) all in λ i. h sheet parts.0 i && all_follow f h sheets parts.1 i
+
+-- lines that are inserted, deleted or moved bring none
+pub followed_open : (a : Along) → IsAxis a → (e : EditKind) → IsValid a.last e → (id : ℕ) (book : Book) → hides_nothing book ≡ true → hides_nothing (book_followed a e id book) ≡ true
+followed_open a lawful e valid id book open =
+    let m : LineMoves = edit_moves a.last e in
+    let edited : List ℕ = name_of (sheet_of book id) in
+    all_follow (λ sheet. sheet_followed (way_of a m id edited sheet) sheet)
+    (λ sheet. follows_shown (way_of a m id edited sheet) (record { axis = lawful; one_to_one = edit_one_to_one a.last e valid }) sheet) book.worksheets open
+
+-- ---- inputs
+
+no_large : (place : Position) (content : Content) → is_none (array_at place content) ≡ true → large_array_at place content ≡ None
+no_large place content h = ap where_large (none_of (array_at place content) h)
+  where
+    none_of : (o : Option MergedCell) → is_none o ≡ true → o ≡ None
+    none_of None h = refl
+    none_of (Some array) h = cc
+
+no_arrays : (cells : List (Position × Cell)) → list_all (λ (entry : Position × Cell). is_none (array_at entry.0 entry.1.content)) cells ≡ true
+    → filter_map (λ (entry : Position × Cell). large_array_at entry.0 entry.1.content) cells ≡ []
+no_arrays [] h = refl
+no_arrays (cell ∷ cells) h =
+    let parts = both (is_none (array_at cell.0 cell.1.content)) (list_all (λ (entry : Position × Cell). is_none (array_at entry.0 entry.1.content)) cells) h in
+    ap (λ o. add o (filter_map (λ (entry : Position × Cell). large_array_at entry.0 entry.1.content) cells)) (no_large cell.0 cell.1.content parts.0) ∙ no_arrays cells parts.1
+  where
+    add : Option MergedCell → List MergedCell → List MergedCell
+    add None arrays = arrays
+    add (Some array) arrays = array ∷ arrays
+
+no_merges : (merges : List MergedCell) → has_no_merge merges ≡ true → merges ≡ []
+no_merges [] h = refl
+no_merges (merge ∷ merges) h = absurd (let never : false ≡ true = h in cc)
+
+-- an input may go to each place of a sheet that hides none
+pub open_place : (sheet : Sheet) → shows_all sheet ≡ true → (row column : ℤ) → input_place sheet row column ≡ place_of row column
+unfolding shows_all
+open_place sheet h row column = go (place_of row column)
+  where
+    parts : (has_no_merge sheet.merges ≡ true) × (list_all (λ (entry : Position × Cell). is_none (array_at entry.0 entry.1.content)) (entries sheet.cells) ≡ true)
+    parts = both (has_no_merge sheet.merges) (list_all (λ (entry : Position × Cell). is_none (array_at entry.0 entry.1.content)) (entries sheet.cells)) h
+
+    free : (place : Position) → free_place sheet place ≡ Ok place
+    free place =
+        ap (λ merges. if is_covered merges place then Err CoveredCell else if is_some (array_over sheet place) then Err ArrayCell else Ok place) (no_merges sheet.merges parts.0)
+        ∙ ap (λ arrays. if is_some (find (λ array. holds array place) arrays) then Err ArrayCell else Ok place) (no_arrays (entries sheet.cells) parts.1)
+
+    go : (r : Result Position EditError) → and_then r (free_place sheet) ≡ r
+    go (Ok place) = free place
+    go (Err error) = refl

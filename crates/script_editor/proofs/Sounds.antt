@@ -1,5 +1,5 @@
 -- Every step of the machine keeps it sound, and an editor's documents go along.
-use Rattle.std.proofs.Common.{◌≡◌, ℕ, ◌+◌, List, [], ◌∷◌, ◌++◌, map, length, Result, Ok, Err, refl, ap, sym, subst, ◌∙◌}
+use Rattle.std.proofs.Common.{◌≡◌, ℕ, ◌+◌, true, List, [], ◌∷◌, ◌++◌, map, length, Result, Ok, Err, refl, ap, sym, subst, ◌∙◌}
 use Rattle.std.specs.Prelude.{OnOk, IfErr, IsOk, codes}
 use Rattle.std.specs.List.{AllByRecursion}
 use Rattle.std.proofs.lemmas.List.{map_push}
@@ -14,6 +14,7 @@ use Rattle.sheet_rules.specs.laws.WellFormedLaws.{well_formed-new}
 use Rattle.sheet_history.specs.declared.DiffType.TheVariants.{Undo, Redo}
 use Rattle.sheet_history.specs.declared.QueueDiffs.{QueueDiffs}
 use Rattle.sheet_history.specs.Diffs.{made, taken_back, forwarded, backed, follow, in_entry, replayed}
+use Rattle.sheet_history.specs.Untested.{hides_nothing}
 use Rattle.sheet_history.specs.laws.ReplayLaws.{replayed_from-push}
 use Rattle.sheet_wire.specs.QueueBytes.{IsKnownEntry, IsKnownQueue, FitsQueue, spell_queue}
 use Rattle.script_editor.specs.Document.{Document, document, document_edit, document_undo, undo_at, document_redo, redo_at, recorded, undone, redone}
@@ -246,6 +247,10 @@ reached_on result old new step goes is = moved result old new is.0 (step is.0) i
 -- a document that stands for some state has a well-formed workbook
 pub reached_rules : (doc : Document) → IsReached doc → IsWellFormed doc.book
 reached_rules doc is = subst IsWellFormed (sym (ap (λ (d : Document). d.book) is.1.document)) is.1.sound.present
+
+-- which hides no place
+pub reached_open : (doc : Document) → IsReached doc → hides_nothing doc.book ≡ true
+reached_open doc is = ap (λ (d : Document). hides_nothing d.book) is.1.document ∙ is.1.sound.open
 
 -- the document with an empty queue stands for the state after a sync
 pub synced_document : (doc new : Document) (s : State) → StandsFor doc s → new.book ≡ doc.book → new.undo ≡ doc.undo → new.redo ≡ doc.redo → new.queue ≡ [] → StandsFor new (synced_of s)

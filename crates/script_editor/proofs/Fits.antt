@@ -1,5 +1,5 @@
 -- The place of an input lies inside the sheet, and the entry that it makes has a font.
-use Rattle.std.proofs.Common.{◌≡◌, ℕ, ℤ, pos, Bool, true, false, cond, List, zero, suc, ◌∷◌, [], Option, Some, None, Result, Ok, Err, refl, ap, sym, ◌∙◌}
+use Rattle.std.proofs.Common.{◌≡◌, ℕ, ℤ, pos, Bool, true, false, cond, Option, Some, None, Result, Ok, Err, refl, ap, sym, ◌∙◌}
 use Rattle.std.specs.Prelude.{IsTrue, IfSome, slice_get, ◌&&◌, not}
 use Rattle.std.specs.Option.{option_or, unwrap_or}
 use Rattle.std.specs.List.{list_all}
@@ -28,6 +28,7 @@ use Rattle.sheet_rules.specs.laws.WellFormedLaws.{well_formed_parts}
 use Rattle.sheet_history.specs.laws.Entries.{entry_holds}
 use Rattle.sheet_history.specs.Untested.{entry_has_font}
 use Rattle.script_editor.specs.Inputs.{new_cell, entered}
+use Rattle.script_editor.proofs.Lists.{passes_at}
 
 -- ---- places
 
@@ -60,11 +61,6 @@ new_font (Array tree width height) style font = font
 pub entered_font : (old : Option Cell) (content : Content) (style : Style) → IsTrue (has_font style) → IsTrue (entry_has_font (entered old content style))
 entered_font None content style font = new_font content style font
 entered_font (Some cell) content style font = font
-
-list_at : (sheets : List Sheet) (index : ℕ) (sheet : Sheet) → slice_get sheets index ≡ Some sheet → list_all have_attributes sheets ≡ true → have_attributes sheet ≡ true
-list_at [] index sheet found all = absurd (cc)
-list_at (s ∷ sheets) zero sheet found all = let same : s ≡ sheet = cc in ap have_attributes (sym same) ∙ (both _ _ all).0
-list_at (s ∷ sheets) (suc index) sheet found all = list_at sheets index sheet found (both _ _ all).1
 
 -- what rows, columns and cells have of their own
 pub record Attributes (sheet : Sheet) : Type 0 where
@@ -115,7 +111,7 @@ shown_font book rules index sheet found place =
     (either_font (own_line_style (fin.get sheet.rows place.row)) (own_line_style (fin.get sheet.columns place.column)) (of_row (fin.get sheet.rows place.row) refl) (of_column (fin.get sheet.columns place.column) refl)))
   where
     fonts : Attributes sheet
-    fonts = attributes_of sheet (list_at book.worksheets index sheet found (well_formed_parts book rules).attributes)
+    fonts = attributes_of sheet (passes_at have_attributes book.worksheets index sheet found (well_formed_parts book rules).attributes)
 
     of_cell : (o : Option Cell) → fin.get sheet.cells place ≡ o → HasFont (cell_style o)
     of_cell None is = tt

@@ -1,10 +1,10 @@
 -- A workbook without merges and arrays stays one.
 use Rattle.std.proofs.Common.{◌≡◌, ◌&&◌, ℕ, ℤ, Bool, true, false, List, [], ◌∷◌, map, Option, Some, None, Result, Ok, Err, refl, ap, sym, ◌∙◌}
-use Rattle.std.specs.Prelude.{is_none, is_some, if◌then◌else◌}
+use Rattle.std.specs.Prelude.{is_none, is_some, slice_get, if◌then◌else◌}
 use Rattle.std.specs.List.{list_all, filter_map, find}
 use Rattle.std.specs.FinMap.{entries}
 use Rattle.base_values.specs.declared.EditError.{EditError}
-use Rattle.base_values.specs.declared.EditError.TheVariants.{CoveredCell, ArrayCell}
+use Rattle.base_values.specs.declared.EditError.TheVariants.{InvalidSheet, CoveredCell, ArrayCell}
 use Rattle.base_values.specs.declared.Position.{Position}
 use Rattle.base_values.specs.Answers.{and_then}
 use Rattle.base_values.specs.Places.{place_of}
@@ -28,7 +28,7 @@ use Rattle.sheet_grid.specs.declared.Cell.{Cell}
 use Rattle.sheet_grid.specs.Arrays.{array_at, large_array_at, where_large, large_arrays_of}
 use Rattle.sheet_grid.specs.Merges.{is_covered}
 use Rattle.sheet_grid.specs.Sheet.{Sheet}
-use Rattle.sheet_grid.specs.Book.{Book}
+use Rattle.sheet_grid.specs.Book.{Book, sheet_at}
 use Rattle.sheet_rules.specs.Occupied.{array_over}
 use Rattle.sheet_rules.specs.laws.EntryLaws.{both}
 use Rattle.sheet_lines.specs.Followed.{way_of, sheet_followed, book_followed}
@@ -37,6 +37,8 @@ use Rattle.sheet_actions.specs.laws.FollowedEntries.{items_follow}
 use Rattle.sheet_history.specs.Untested.{has_no_merge, shows_all, hides_nothing}
 use Rattle.script_editor.specs.Inputs.{free_place, input_place}
 use Rattle.script_editor.specs.Machine.{first_book}
+use Rattle.script_editor.proofs.Entering.{found_some}
+use Rattle.script_editor.proofs.Lists.{passes_at}
 
 -- the one that a script begins with is one
 pub first_open : hides_nothing first_book ≡ true
@@ -117,6 +119,10 @@ no_arrays (cell ∷ cells) h =
 no_merges : (merges : List MergedCell) → has_no_merge merges ≡ true → merges ≡ []
 no_merges [] h = refl
 no_merges (merge ∷ merges) h = absurd (let never : false ≡ true = h in cc)
+
+-- a sheet of such a workbook has none
+pub sheet_open : (book : Book) (index : ℕ) (sheet : Sheet) → hides_nothing book ≡ true → sheet_at book index ≡ Ok sheet → shows_all sheet ≡ true
+sheet_open book index sheet open at = passes_at shows_all book.worksheets index sheet (found_some (slice_get book.worksheets index) InvalidSheet sheet at) open
 
 -- an input may go to each place of a sheet that hides none
 pub open_place : (sheet : Sheet) → shows_all sheet ≡ true → (row column : ℤ) → input_place sheet row column ≡ place_of row column

@@ -29,10 +29,10 @@ fn arrays_lie_inside(sheet: &Worksheet) -> bool
 }
 
 /// Whether a rectangle meets the array of more than one cell that stands at a place, if one does.
-fn meets_array(rectangle: MergedCell, place: Position, cell: &Cell) -> bool
-    ensures { result ≡ option_map_or (meets rectangle) (large_array_at place cell.now.content) false }
+fn meets_array(rectangle: MergedCell, other: Position, cell: &Cell) -> bool
+    ensures { result ≡ option_map_or (meets rectangle) (large_array_at other cell.now.content) false }
 {
-    match large_array_at(place, &cell.content) {
+    match large_array_at(other, &cell.content) {
         Some(array) => rectangle.meets(array),
         None => false,
     }
@@ -42,9 +42,7 @@ fn meets_array(rectangle: MergedCell, place: Position, cell: &Cell) -> bool
 fn meets_another(sheet: &Worksheet, place: Position, rectangle: MergedCell) -> bool
     ensures { result ≡ meets_another sheet.now place rectangle }
 {
-    sheet
-        .cells()
-        .any(|(other, cell)| *other != place && meets_array(rectangle, *other, cell.get()))
+    sheet.cells().any(|(other, cell)| *other != place && meets_array(rectangle, *other, cell.get()))
 }
 
 fn stands_apart(sheet: &Worksheet, place: Position, cell: &Cell) -> bool
@@ -149,9 +147,7 @@ fn covers(rectangle: MergedCell, place: Position) -> bool
 fn covers_blanks(sheet: &Worksheet, rectangle: MergedCell) -> bool
     ensures { result ≡ covers_blanks sheet.now rectangle }
 {
-    sheet
-        .cells()
-        .all(|(place, cell)| is_empty(&cell.get().content) || !covers(rectangle, *place))
+    sheet.cells().all(|(place, cell)| is_empty(&cell.get().content) || !covers(rectangle, *place))
 }
 
 fn merges_cover_blanks(sheet: &Worksheet) -> bool

@@ -15,7 +15,7 @@ use Rattle.sheet_grid.specs.declared.Cell.{Cell}
 use Rattle.sheet_grid.specs.Arrays.{large_array_at, large_arrays_of}
 use Rattle.sheet_grid.specs.Sheet.{Sheet}
 use Rattle.sheet_rules.specs.Compared.{meets_another, stands_apart}
-use Rattle.sheet_rules.specs.Occupied.{are_apart, large_array_in}
+use Rattle.sheet_rules.specs.Occupied.{are_apart}
 use Rattle.sheet_rules.specs.laws.EntryLaws.{passes_at_from_all, all_from_passes_at}
 use Rattle.sheet_rules.specs.laws.ShownLaws.{not_true, apart_in, apart_of}
 
@@ -102,7 +102,7 @@ module _ (sheet : Sheet) where
   back : are_apart (large_arrays_of sheet) ≡ true → list_all (λ (entry : Position × Cell). stands_apart sheet entry.0 entry.1) (entries sheet.cells) ≡ true
   back all = all_from_passes_at position_cmp position_total exact_positions apart (λ _. refl) sheet.cells (λ p. apart_each p (get sheet.cells p) (λ r at_p.
       none_from p r (λ q. clear_from p q r (get sheet.cells q) (λ s at_q differ.
-        apart_in position_cmp position_total exact_positions large meets meets_turned sheet.cells all p q r s (λ same. differ (sym same)) at_p at_q))))
+      apart_in position_cmp position_total exact_positions large meets meets_turned sheet.cells all p q r s (λ same. differ (sym same)) at_p at_q))))
 
   -- each stands apart exactly where no two meet
   pub all_stand_apart : list_all (λ (entry : Position × Cell). stands_apart sheet entry.0 entry.1) (entries sheet.cells) ≡ are_apart (large_arrays_of sheet)

@@ -32,7 +32,7 @@ use Rattle.sheet_grid.specs.Book.{Book}
 use Rattle.line_edits.specs.declared.EditKind.{EditKind}
 use Rattle.line_edits.specs.Edit.{IsValid}
 use Rattle.line_edits.specs.Moves.{edit_moves, place_image}
-use Rattle.line_edits.specs.laws.Images.{edit_one_to_one}
+use Rattle.line_edits.specs.laws.OneToOne.{edit_one_to_one}
 use Rattle.line_map.specs.Attributes.{LinesLie}
 use Rattle.line_map.specs.Contents.{with_new_tree, cell_carried, cell_part, cell_restored}
 use Rattle.line_map.specs.Maps.{places_carried, places_parts, places_restored}

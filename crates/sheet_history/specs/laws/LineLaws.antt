@@ -12,6 +12,9 @@ use Rattle.base_values.specs.declared.EditError.TheVariants.{DiffRefused}
 use Rattle.base_values.specs.declared.Position.{Position}
 use Rattle.base_values.specs.Places.{is_line, position_cmp}
 use Rattle.base_values.specs.laws.Places.{position_total, exact_positions}
+use Rattle.base_axis.specs.declared.MergedCell.{MergedCell}
+use Rattle.base_axis.specs.contracts.merge_list.MergeListPartialEq.TheImpl as equality
+use Rattle.base_axis.specs.Rectangles.{is_inside}
 use Rattle.base_axis.specs.Along.{Along, IsAxis, rows, columns}
 use Rattle.base_maps.specs.declared.SheetPlace.{SheetPlace}
 use Rattle.base_maps.specs.SheetPlaces.{sheet_place_cmp}
@@ -29,6 +32,8 @@ use Rattle.line_edits.specs.Edit.{image_at, goes_to, within, opposite_of, IsVali
 use Rattle.base_maps.specs.Carried.{if_there, lost_map}
 use Rattle.line_map.specs.Contents.{cell_carried, cell_part}
 use Rattle.line_map.specs.Maps.{places_carried}
+use Rattle.line_map.specs.Merges.{merges_carried, merges_part}
+use Rattle.line_map.specs.Trial.{comes_back, part_by_trial}
 use Rattle.line_edits.specs.Moves.{at_line, edit_moves, place_image}
 use Rattle.line_map.specs.Way.{Way, at, back, place_goes}
 use Rattle.base_maps.specs.laws.Gathering.{get-lost_map}
@@ -280,7 +285,7 @@ module _ (a : Along) (l : IsAxis a) (e : EditKind) (valid : IsValid a.last e) (i
               (λ p cell there. array_inside sheet keeps.arrays p cell (lost_entry position_cmp position_total exact_positions (place_image a (image_at a.last e)) sheet.cells p cell there).0)
 
           merges : merges_inside kept.merges ≡ true
-          merges = MERGES
+          merges = ap (λ o. merges_inside (merges_kept a (edit_moves a.last e) id (name_of (sheet_of book id)) o)) found ∙ part_inside (way_in sheet) sheet.merges (sheet_merges_inside sheet keeps.merges)
 
       -- the edit is made
       pub lines_made : (at : ℕ) → is_there_inside a e (sheet_of book id) ≡ true → lines_forward at a id e kept book ≡ Ok later

@@ -102,10 +102,10 @@ placed_at q r = record r { row = q.row; column = q.column }
 same_span : (n first count : ℤ) → line_span n (n +ℤ (last_of first count -ℤ first)) ≡ count
 same_span n first count = omega (arith, ints)
 
-many_lines : (first count across : ℤ) → (int_lt (pos 1) across || int_lt (pos 1) count) ≡ true → (int_lt first (last_of first count) || int_lt (pos 1) across) ≡ true
+pub many_lines : (first count across : ℤ) → (int_lt (pos 1) across || int_lt (pos 1) count) ≡ true → (int_lt first (last_of first count) || int_lt (pos 1) across) ≡ true
 many_lines first count across h = grind (arith, ints)
 
-many_span : (f l across : ℤ) → (int_lt f l || int_lt (pos 1) across) ≡ true → (int_lt (pos 1) across || int_lt (pos 1) (line_span f l)) ≡ true
+pub many_span : (f l across : ℤ) → (int_lt f l || int_lt (pos 1) across) ≡ true → (int_lt (pos 1) across || int_lt (pos 1) (line_span f l)) ≡ true
 many_span f l across h = grind (arith, ints)
 
 some_at : {X : Type 0} (x y : X) → ◌≡◌ {A = Option X} (Some x) (Some y) → x ≡ y
@@ -115,7 +115,7 @@ module _ (a : Along) (is : IsAxis a) (kind : EditKind) (valid : IsValid a.last k
   abbrev goes : Position → Option Position
   goes = place_image a (image_at a.last kind)
 
-  put_lines : (r : MergedCell) (n : ℤ) → placed_at (a.with_line (anchor_place r) n) r ≡ with_lines a r n (n +ℤ (last_line a r -ℤ first_line a r))
+  pub put_lines : (r : MergedCell) (n : ℤ) → placed_at (a.with_line (anchor_place r) n) r ≡ with_lines a r n (n +ℤ (last_line a r -ℤ first_line a r))
   put_lines r n = sym (by_axis (λ b. with_lines b r n (n +ℤ (last_line b r -ℤ first_line b r)) ≡ placed_at (b.with_line (anchor_place r) n) r)
       (λ i. record r { row = n; height = same_span n r.row r.height i }) (λ i. record r { column = n; width = same_span n r.column r.width i }) a is)
 
@@ -129,7 +129,7 @@ module _ (a : Along) (is : IsAxis a) (kind : EditKind) (valid : IsValid a.last k
       at_line_of (Some n) e g = (n, e, cc)
 
   -- an array that lies whole follows
-  whole_follows : (r : MergedCell) (n : ℤ) → IsInside r → Whole a.last kind (first_line a r) (last_line a r) n → Follows goes (source_place a kind) r (with_lines a r n (n +ℤ (last_line a r -ℤ first_line a r)))
+  pub whole_follows : (r : MergedCell) (n : ℤ) → IsInside r → Whole a.last kind (first_line a r) (last_line a r) n → Follows goes (source_place a kind) r (with_lines a r n (n +ℤ (last_line a r -ℤ first_line a r)))
   whole_follows r n inside whole =
       let l : ℤ = n +ℤ (last_line a r -ℤ first_line a r) in
       let there = whole_inside a.last (first_line a r) (last_line a r) n kind valid whole in

@@ -1,5 +1,5 @@
 -- What an edit makes of a merge, which stands from a first to a last line and is so many cross lines wide.
-use Rattle.std.specs.Prelude.{ℤ, pos, ◌+ℤ◌, ◌-ℤ◌, ◌≤ℤ◌, Bool, ◌&&◌, ◌||◌, Option, Some, None, int_lt, if◌then◌else◌}
+use Rattle.std.specs.Prelude.{ℤ, pos, ◌+ℤ◌, ◌-ℤ◌, ◌≤ℤ◌, ◌&&◌, ◌||◌, Option, Some, None, int_lt, if◌then◌else◌}
 use Rattle.std.specs.Ordering.{int_eq}
 use Rattle.base_values.specs.Places.{IsLine}
 use Rattle.line_edits.specs.declared.edit.EditKind.{EditKind}

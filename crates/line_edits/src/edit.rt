@@ -381,7 +381,7 @@ impl<A: Axis> LineEdit<A> {
 }
 
 impl<A: Axis> LineMap<A> for LineEdit<A> {
-    ghost use Rattle.line_edits.specs.laws.Images.{edit_one_to_one};
+    ghost use Rattle.line_edits.specs.laws.OneToOne.{edit_one_to_one};
 
     ghost is_valid = { λ e. is_valid A.along.last e.kind };
 

@@ -1,6 +1,6 @@
 //! What an edit makes of merges, and what it splits.
 
-ghost use Rattle.std.specs.Prelude.{◌≡◌, ◌+ℤ◌, ◌-ℤ◌, ◌≤ℤ◌, pos, Some, IfSome, FitsSigned};
+ghost use Rattle.std.specs.Prelude.{◌≡◌, ◌&&◌, ◌||◌, not, ◌+ℤ◌, ◌-ℤ◌, ◌≤ℤ◌, pos, Some, IfSome, FitsSigned};
 ghost use Rattle.std.specs.Int.{w64};
 ghost use Rattle.base_values.specs.Places.{IsLine};
 ghost use Rattle.line_edits.specs.declared.edit.EditKind.TheVariants.{Insert, Delete, Move};
@@ -30,7 +30,7 @@ fn is_in_whole(start: i64, count: i64, first: i32, last: i32) -> bool
 /// The first of the lines that a block passes which moves.
 fn passed_from(start: i32, count: i32, delta: i32) -> i64
     ensures value { result ≡ passed_from start count delta }
-    ensures low { pos 0 -ℤ pos 4294967296 ≤ℤ result }
+    ensures low { (pos 0 -ℤ pos 4294967296) ≤ℤ result }
     ensures high { result ≤ℤ pos 4294967296 }
 {
     if delta < 0 {
@@ -70,6 +70,13 @@ fn is_split_by_deletion(start: i32, count: i32, first: i32, last: i32) -> bool
     meets_block(start, count, first, last) && !is_in_whole(start, count, first, last)
 }
 
+/// Whether it has lines of one block or of another one, and not all its lines are of one of them.
+fn is_split(of_one: bool, of_other: bool, whole_of_one: bool, whole_of_other: bool) -> bool
+    ensures { result ≡ ((of_one || of_other) && not (whole_of_one || whole_of_other)) }
+{
+    (of_one || of_other) && !(whole_of_one || whole_of_other)
+}
+
 /// Whether a move takes some of its lines along, and it does not go as a whole.
 #[tactic(auto, unfolding(crate::specs::Splits::splits))]
 fn is_split_by_move(start: i32, count: i32, delta: i32, first: i32, last: i32) -> bool
@@ -77,14 +84,21 @@ fn is_split_by_move(start: i32, count: i32, delta: i32, first: i32, last: i32) -
 {
     let (passed, passed_count) = (passed_from(start, count, delta), passed_count(delta));
     let (start, count) = (i64::from(start), i64::from(count));
-    let meets = meets_block(start, count, first, last) || meets_block(passed, passed_count, first, last);
-    let whole = is_in_whole(start, count, first, last) || is_in_whole(passed, passed_count, first, last);
-    meets && !whole
+    is_split(
+        meets_block(start, count, first, last),
+        meets_block(passed, passed_count, first, last),
+        is_in_whole(start, count, first, last),
+        is_in_whole(passed, passed_count, first, last),
+    )
 }
 
 /// Where a line comes to stand when lines come.
 fn pushed_on(start: i32, count: i32, line: i32) -> i64
-    ensures { result ≡ pushed_on start count line }
+    requires count { pos 1 ≤ℤ count }
+    requires line { pos 1 ≤ℤ line }
+    ensures value { result ≡ pushed_on start count line }
+    ensures low { pos 1 ≤ℤ result }
+    ensures high { result ≤ℤ pos 4294967296 }
 {
     if line < start {
         i64::from(line)
@@ -95,15 +109,29 @@ fn pushed_on(start: i32, count: i32, line: i32) -> i64
 
 /// The line, or the last one of the axis where it is past it.
 fn cut_to(last: i32, line: i64) -> i64
-    ensures { result ≡ cut_to last line }
+    requires last { pos 1 ≤ℤ last }
+    requires line { pos 1 ≤ℤ line }
+    ensures value { result ≡ cut_to last line }
+    ensures low { pos 1 ≤ℤ result }
+    ensures high { result ≤ℤ last }
 {
-    if i64::from(last) < line { i64::from(last) } else { line }
+    if i64::from(last) < line {
+        i64::from(last)
+    } else {
+        line
+    }
 }
 
 /// Where the first or the last line of a merge comes to stand when the lines of a block go: one of
 /// these stands there.
 fn fallen_to(start: i32, count: i32, there: i64, line: i32) -> i64
-    ensures { result ≡ fallen_to start count there line }
+    requires low { pos 0 ≤ℤ there }
+    requires high { there ≤ℤ start }
+    requires count { pos 1 ≤ℤ count }
+    requires line { pos 1 ≤ℤ line }
+    ensures value { result ≡ fallen_to start count there line }
+    ensures low { pos 0 ≤ℤ result }
+    ensures high { result ≤ℤ line }
 {
     if line < start {
         return i64::from(line);
@@ -117,7 +145,7 @@ fn fallen_to(start: i32, count: i32, there: i64, line: i32) -> i64
 /// These lines of a merge, so many cross lines wide. `None` where there is none, or one cell.
 #[tactic(auto, unfolding(crate::specs::Merged::if_merge))]
 fn if_merge(axis_last: i32, across: i32, first: i64, last: i64) -> Option<(i32, i32)>
-    requires first { pos 1 ≤ℤ first }
+    requires first { pos 0 ≤ℤ first }
     requires last { last ≤ℤ axis_last }
     ensures { result ≡ if_merge across first last }
 {
@@ -140,8 +168,14 @@ fn moved_line(last: i32, start: i32, count: i32, delta: i32, line: i32) -> i32
 }
 
 /// What an insertion makes of a merge.
-#[tactic(auto, unfolding(crate::specs::Merged::merged_by))]
-fn inserted(axis_last: i32, start: i32, count: i32, lines: (i32, i32), across: i32) -> Option<(i32, i32)>
+#[tactic(auto, unfolding(crate::specs::Edit::is_valid, crate::specs::Merged::merged_by))]
+fn inserted(
+    axis_last: i32,
+    start: i32,
+    count: i32,
+    lines: (i32, i32),
+    across: i32,
+) -> Option<(i32, i32)>
     requires valid { IsValid axis_last (EditKind.Insert start count) }
     requires lines { AreLines axis_last lines.0 lines.1 }
     ensures { result ≡ merged_by axis_last (EditKind.Insert start count) lines.0 lines.1 across }
@@ -152,8 +186,14 @@ fn inserted(axis_last: i32, start: i32, count: i32, lines: (i32, i32), across: i
 }
 
 /// What a deletion makes of a merge.
-#[tactic(auto, unfolding(crate::specs::Merged::merged_by))]
-fn deleted(axis_last: i32, start: i32, count: i32, lines: (i32, i32), across: i32) -> Option<(i32, i32)>
+#[tactic(auto, unfolding(crate::specs::Edit::is_valid, crate::specs::Merged::merged_by))]
+fn deleted(
+    axis_last: i32,
+    start: i32,
+    count: i32,
+    lines: (i32, i32),
+    across: i32,
+) -> Option<(i32, i32)>
     requires valid { IsValid axis_last (EditKind.Delete start count) }
     requires lines { AreLines axis_last lines.0 lines.1 }
     ensures { result ≡ merged_by axis_last (EditKind.Delete start count) lines.0 lines.1 across }
@@ -166,7 +206,14 @@ fn deleted(axis_last: i32, start: i32, count: i32, lines: (i32, i32), across: i3
 
 /// What a move makes of a merge: what it splits stays.
 #[tactic(auto, unfolding(crate::specs::Merged::merged_by))]
-fn moved(axis_last: i32, start: i32, count: i32, delta: i32, lines: (i32, i32), across: i32) -> (i32, i32)
+fn moved(
+    axis_last: i32,
+    start: i32,
+    count: i32,
+    delta: i32,
+    lines: (i32, i32),
+    across: i32,
+) -> (i32, i32)
     requires valid { IsValid axis_last (EditKind.Move start count delta) }
     requires lines { AreLines axis_last lines.0 lines.1 }
     ensures { Some result ≡ merged_by axis_last (EditKind.Move start count delta) lines.0 lines.1 across }
@@ -202,12 +249,7 @@ impl EditKind {
     }
 
     /// What it makes of a merge, which stands on these lines of the axis.
-    pub(crate) fn merged(
-        self,
-        axis_last: i32,
-        lines: (i32, i32),
-        across: i32,
-    ) -> Option<(i32, i32)>
+    pub(crate) fn merged(self, axis_last: i32, lines: (i32, i32), across: i32) -> Option<(i32, i32)>
         requires valid { IsValid axis_last self }
         requires lines { AreLines axis_last lines.0 lines.1 }
         ensures { result ≡ merged_by axis_last self lines.0 lines.1 across }

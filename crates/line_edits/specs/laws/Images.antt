@@ -6,7 +6,7 @@ use Rattle.base_values.specs.Places.{IsLine, is_line}
 use Rattle.line_edits.specs.declared.edit.EditKind.{EditKind}
 use Rattle.line_edits.specs.declared.edit.EditKind.TheVariants.{Insert, Delete, Move}
 use Rattle.line_edits.specs.Edit.{within, is_in_block, moved_by, goes_to, image_at, opposite_of, is_within, is_valid, IsValid}
-use Rattle.line_edits.specs.Moves.{IsOneToOne, edit_moves, inserted_by, is_brought}
+use Rattle.line_edits.specs.Moves.{inserted_by, is_brought}
 
 -- the numbers of a valid insertion or deletion
 pub record IsWithin (last first count : ℤ) : Type 0 where
@@ -282,23 +282,11 @@ valid_opposite last (Delete c k) v = v
 valid_opposite last (Move c k d) v = valid_move last (c +ℤ d) k (pos 0 -ℤ d) (move_turned last c k d (move_parts last c k d v))
 
 -- lines that are brought in come from nowhere
-brought : (last : ℤ) (kind : EditKind) → IsValid last kind → (n : ℤ) → is_brought (inserted_by kind) n ≡ true → image_at last (opposite_of kind) n ≡ None
+pub brought : (last : ℤ) (kind : EditKind) → IsValid last kind → (n : ℤ) → is_brought (inserted_by kind) n ≡ true → image_at last (opposite_of kind) n ≡ None
 unfolding opposite_of image_at goes_to is_in_block
 brought last (Insert c k) v n h = let w = insert_parts last c k v in grind (arith, ints)
 brought last (Delete c k) v n h = absurd (cc)
 brought last (Move c k d) v n h = absurd (cc)
-
--- a valid edit is one to one
-pub edit_one_to_one : (last : ℤ) (kind : EditKind) → IsValid last kind → IsOneToOne last (edit_moves last kind)
-edit_one_to_one last kind valid = record {
-  inverse = record {
-    back = λ n m h. image_back last kind valid n m h;
-    forth = λ n m h. ap (λ x. image_at last x n) (sym (opposite_twice kind)) ∙ image_back last (opposite_of kind) (valid_opposite last kind valid) m n h;
-  };
-  to_inside = λ n. image_inside last kind n _ refl;
-  from_inside = λ n. image_inside last (opposite_of kind) n _ refl;
-  fresh = brought last kind valid;
-}
 
 -- a line after those that go
 pub delete_after : (last c k n : ℤ) → c ≤ℤ n → (c +ℤ k) ≤ℤ n → goes_to last (Delete c k) n ≡ within last (n -ℤ k)
@@ -341,3 +329,6 @@ move_image last c k d n v h =
 pub empty_block : (c n : ℤ) → is_in_block c (pos 0) n ≡ false
 unfolding is_in_block
 empty_block c n = grind (arith, ints)
+
+pub line_moves : (last c k d n : ℤ) → IsValid last (Move c k d) → IsLine last n → goes_to last (Move c k d) n ≡ Some (n +ℤ moved_by c k d n)
+line_moves last c k d n v h = sym (image_of_line last (Move c k d) n (is_line-of last n h)) ∙ move_image last c k d n (move_parts last c k d v) h

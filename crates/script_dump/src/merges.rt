@@ -5,7 +5,7 @@ ghost use Rattle.std.specs.List.{flat_map};
 ghost use Rattle.base_axis.specs.Rectangles.{last_place, IsInside};
 ghost use Rattle.script_dump.specs.Dump.{area_text, merge_line};
 
-use base_axis::MergedCell;
+use base_axis::{ColumnAxis, MergedCell, RowAxis};
 use base_values::Position;
 use script_lines::push_reference;
 use sheet_grid::Worksheet;
@@ -16,14 +16,12 @@ fn last_place(area: MergedCell) -> Position
     requires { IsInside area }
     ensures { result ≡ last_place area }
 {
-    Position {
-        row: area.row + (area.height - 1),
-        column: area.column + (area.width - 1),
-    }
+    let (_, row) = area.lines::<RowAxis>();
+    let (_, column) = area.lines::<ColumnAxis>();
+    Position { row, column }
 }
 
 /// Writes the name of a rectangle of places.
-#[tactic(auto, using(base_axis::specs::laws::RectangleLaws::inside_found))]
 fn push_area(alloc: Global, out: &mut Vec<u8>, area: MergedCell) -> Result<(), AllocError>
     ensures { OnOk result (out.new.items ≡ out.old.items ++ area_text area) }
 {

@@ -7,6 +7,7 @@ use Rattle.line_edits.specs.declared.LineMap as line_map
 use Rattle.line_map.specs.Attributes.{lines_carried}
 use Rattle.line_map.specs.Contents.{cell_carried}
 use Rattle.line_map.specs.Maps.{places_carried}
+use Rattle.line_map.specs.Merges.{merges_carried}
 use Rattle.line_edits.specs.Moves.{LineMoves, edit_moves}
 use Rattle.line_map.specs.Way.{Way}
 use Rattle.sheet_grid.specs.contracts.line_attr.LineAttrPartialEq.TheImpl as attribute
@@ -27,13 +28,14 @@ way_of a m id edited sheet = record {
   to = record { row = pos 1; column = pos 1 };
 }
 
--- a sheet's cells, links, rows and columns, each where it goes
+-- a sheet's cells, links, rows, columns and merges, each where it goes
 abbrev pub sheet_followed : Way → Sheet → Sheet
 sheet_followed w sheet = record sheet {
   cells = places_carried cell_carried w sheet.cells;
   links = places_carried (λ _ link. link) w sheet.links;
   rows = lines_carried rows attribute.ghosts.eq w sheet.rows;
   columns = lines_carried columns attribute.ghosts.eq w sheet.columns;
+  merges = merges_carried w sheet.merges;
 }
 
 -- how the map on the lines of an edited sheet meets a sheet

@@ -5,7 +5,8 @@ use Rattle.std.specs.declared.cmp.Ordering.{Ordering}
 use Rattle.std.specs.FinMap.{FinMap, empty}
 use Rattle.base_values.specs.Places.{position_cmp}
 use Rattle.base_axis.specs.Along.{Along}
-use Rattle.base_maps.specs.Carried.{lost_map}
+use Rattle.base_axis.specs.declared.MergedCell.{MergedCell}
+use Rattle.base_maps.specs.Carried.{if_there, lost_map}
 use Rattle.base_maps.specs.SheetPlaces.{sheet_place_cmp}
 use Rattle.base_maps.specs.Tagged.{all_under}
 use Rattle.formula_tree.specs.declared.Node.{Node}
@@ -13,6 +14,7 @@ use Rattle.line_edits.specs.declared.EditKind.{EditKind}
 use Rattle.line_edits.specs.Moves.{LineMoves, edit_moves, place_image}
 use Rattle.line_map.specs.Contents.{cell_part}
 use Rattle.line_map.specs.Maps.{places_parts}
+use Rattle.line_map.specs.Merges.{merges_part}
 use Rattle.sheet_grid.specs.declared.LineAttr.{LineAttr}
 use Rattle.sheet_grid.specs.Sheet.{Sheet}
 use Rattle.sheet_grid.specs.Book.{Book}
@@ -37,14 +39,19 @@ trees_kept a m id edited sheet = places_parts cell_part (way_of a m id edited sh
 abbrev pub formulas_kept : Along → LineMoves → ℕ → List ℕ → List Sheet → FinMap sheet_place_cmp Node
 formulas_kept a m id edited sheets = all_under (λ sheet. sheet.id) (trees_kept a m id edited) sheets
 
--- the cells, the links and the attributes of the edited sheet's lines that go nowhere, and the trees of the other formulas that the way
--- back does not give
+-- the merges of the edited sheet, where the way back does not give them
+abbrev pub merges_kept : Along → LineMoves → ℕ → List ℕ → Option Sheet → Option (List MergedCell)
+merges_kept a m id edited found = if_there found (λ sheet. merges_part (way_of a m id edited sheet) sheet.merges)
+
+-- the cells, the links and the attributes of the edited sheet's lines that go nowhere; the trees of the other formulas, and the merges,
+-- that the way back does not give
 abbrev pub lines_kept : Along → LineMoves → ℕ → Book → KeptLines
 lines_kept a m id book = record {
   cells = of_sheet (λ sheet. lost_map (place_image a m.to) sheet.cells) (sheet_of book id);
   links = of_sheet (λ sheet. lost_map (place_image a m.to) sheet.links) (sheet_of book id);
   lines = of_sheet (λ sheet. lost_map m.to (lines_of a sheet)) (sheet_of book id);
   formulas = formulas_kept a m id (name_of (sheet_of book id)) book.worksheets;
+  merges = merges_kept a m id (name_of (sheet_of book id)) (sheet_of book id);
 }
 
 -- what is kept of a workbook at an edit of the lines of the sheet of an id

@@ -1,11 +1,12 @@
-ghost use Rattle.std.specs.Prelude.{◌≡◌, map, IfOk, IsOkUnless, IsTrue, is_some};
+ghost use Rattle.std.specs.Prelude.{◌≡◌, map, IfOk, IfSome, IsOkUnless, IsTrue, is_some};
 ghost use Rattle.std.specs.List.{AllByRecursion};
 ghost use Rattle.base_values.specs.declared.EditError.TheVariants.{NoMemory};
 ghost use Rattle.line_map.specs.Attributes.{LinesLie, lines_restored};
 ghost use Rattle.line_edits.specs.Edit.{IsValid};
 ghost use Rattle.line_map.specs.Maps.{AllLie, KeysInside, PartsFit, places_restored};
+ghost use Rattle.line_map.specs.Merges.{MergesLie};
 ghost use Rattle.line_map.specs.Way.{back, way};
-ghost use Rattle.sheet_lines.specs.Back.{LieInside, ArePlacedLines, with_lost, sheet_back, book_back};
+ghost use Rattle.sheet_lines.specs.Back.{LieInside, ArePlacedLines, with_lost, merges_back, sheet_back, book_back};
 ghost use Rattle.sheet_lines.specs.Followed.{way_on};
 ghost use Rattle.sheet_lines.specs.KeptNumbers.{AreKeptLines};
 ghost use Rattle.sheet_lines.specs.Sheets.{sheet_of, IsPlacedSheet, IsPlacedBook};
@@ -15,7 +16,7 @@ use crate::followed::edited_by;
 use crate::inside::{lines_inside, places_inside};
 use crate::kept::KeptLines;
 use crate::sheets::route_on;
-use base_axis::{Axis, AxisMap};
+use base_axis::{Axis, AxisMap, MergeList};
 use base_maps::{PositionMap, SheetPlace, SheetPlaceMap};
 use base_shared::Shared;
 use base_values::{EditError, Exact, Items, PlaceMap, Position, copy_of};
@@ -103,6 +104,27 @@ fn lines_back<A: Axis, B: Axis, M: LineMap<A>>(
     lines.restore(alloc, route, &kept.lines)
 }
 
+/// The merges of a sheet taken back: on the edited sheet the kept ones, if there are.
+fn merges_back<A: Axis, M: LineMap<A>>(
+    alloc: Global,
+    route: &Route<'_, A, M>,
+    kept: &KeptLines,
+    sheet: &Worksheet,
+) -> Result<MergeList, EditError>
+    requires inside { MergesLie sheet.now.merges }
+    requires kept { IfSome kept.now.merges MergesLie }
+    ensures merges { IfOk result (λ made. made ≡ merges_back (way route.now) kept.now.merges sheet.now.merges) }
+    ensures only { IsOkUnless result NoMemory }
+{
+    let merges = sheet.merge_list();
+    if route.is_edited {
+        if let Some(kept) = &kept.merges {
+            return merges.restore(alloc, route, kept);
+        }
+    }
+    merges.carry(alloc, &route.back())
+}
+
 /// A sheet taken back: each part of it is restored.
 fn sheet_back<A: Axis, M: LineMap<A>>(
     alloc: Global,
@@ -125,7 +147,8 @@ fn sheet_back<A: Axis, M: LineMap<A>>(
     let links = map_back(alloc, &route, &NoParts {}, &kept.links, links)?;
     let rows = lines_back(alloc, &route, kept, sheet.row_map())?;
     let columns = lines_back(alloc, &route, kept, sheet.column_map())?;
-    sheet.with_entries(cells, links, rows, columns)
+    let merges = merges_back(alloc, &route, kept, sheet)?;
+    sheet.with_entries(cells, links, rows, columns, merges)
 }
 
 fn sheets_back<A: Axis, M: LineMap<A>>(

@@ -1,5 +1,5 @@
 -- Items that are found by their ids.
-use Rattle.std.proofs.Common.{◌≡◌, ℕ, Bool, true, false, cond, List, [], ◌∷◌, map, Option, Some, None, refl, ap, sym, ◌∙◌}
+use Rattle.std.proofs.Common.{◌≡◌, ℕ, Bool, true, false, cond, List, [], ◌∷◌, map, Option, Some, None, refl, ap, sym, subst, ◌∙◌}
 use Rattle.std.specs.Prelude.{◌==◌}
 use Rattle.std.specs.List.{find, AllByRecursion, IsDistinct}
 use Rattle.std.specs.Cmp.{nat_eq_equiv, unsigned_Decides}
@@ -12,6 +12,15 @@ found_passes p (y ∷ xs) x h = by_test (found_passes p xs x) (p y) refl h
     by_test : (find p xs ≡ Some x → p x ≡ true) → (b : Bool) → p y ≡ b → cond b (Some y) (find p xs) ≡ Some x → p x ≡ true
     by_test rest true e g = let same : y ≡ x = cc in ap p (sym same) ∙ e
     by_test rest false e g = rest g
+
+-- what holds of each item holds of the one that is found
+pub found_holds : {S : Type 0} (p : S → Bool) (P : S → Type 0) (xs : List S) → AllByRecursion P xs → (x : S) → find p xs ≡ Some x → P x
+found_holds p P [] all x h = absurd (cc)
+found_holds p P (y ∷ xs) all x h = by_test (found_holds p P xs all.1 x) (p y) h
+  where
+    by_test : (find p xs ≡ Some x → P x) → (b : Bool) → cond b (Some y) (find p xs) ≡ Some x → P x
+    by_test rest true g = let same : y ≡ x = cc in subst P same all.0
+    by_test rest false g = rest g
 
 module _ {S : Type 0} (id_of : S → ℕ) where
   -- the item of an id

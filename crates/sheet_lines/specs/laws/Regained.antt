@@ -1,7 +1,7 @@
 -- Going back with what was kept gives the workbook.
 use Rattle.std.proofs.Common.{◌≡◌, ◌⊎◌, inl, inr, ℕ, Bool, true, false, List, [], ◌∷◌, map, Option, Some, None, refl, ap, sym, ◌∙◌}
 use Rattle.std.specs.Prelude.{◌==◌, if◌then◌else◌}
-use Rattle.std.specs.List.{AllByRecursion}
+use Rattle.std.specs.List.{AllByRecursion, filter_map}
 use Rattle.std.specs.Ordering.{int_cmp}
 use Rattle.std.specs.Cmp.{unsigned_Decides}
 use Rattle.std.specs.FinMap.{FinMap, empty, get, get-empty, same_map}
@@ -9,6 +9,7 @@ use Rattle.base_values.specs.declared.Position.{Position}
 use Rattle.base_values.specs.Places.{position_cmp}
 use Rattle.base_values.specs.laws.Places.{position_total, exact_positions}
 use Rattle.base_axis.specs.Along.{Along, IsAxis, rows, columns}
+use Rattle.base_axis.specs.declared.MergedCell.{MergedCell}
 use Rattle.base_maps.specs.Carried.{if_there, lost_map, moved_map, overlaid, settled}
 use Rattle.base_maps.specs.Tagged.{place_on}
 use Rattle.base_maps.specs.laws.CarriedLaws.{get-parts_map, map_restores}
@@ -24,17 +25,20 @@ use Rattle.sheet_grid.specs.Book.{Book}
 use Rattle.line_edits.specs.declared.EditKind.{EditKind}
 use Rattle.line_edits.specs.Edit.{IsValid}
 use Rattle.line_edits.specs.Moves.{LineMoves, IsOneToOne, edit_moves, place_image}
-use Rattle.line_edits.specs.laws.Images.{edit_one_to_one}
+use Rattle.line_edits.specs.laws.OneToOne.{edit_one_to_one}
 use Rattle.line_map.specs.Attributes.{line_goes_along, heirs, lines_carried, lines_restored}
 use Rattle.line_map.specs.Contents.{cell_carried, cell_part, cell_restored}
 use Rattle.line_map.specs.Maps.{places_carried, places_restored}
+use Rattle.line_map.specs.Merges.{merge_carried, merges_carried, merges_part}
 use Rattle.line_map.specs.Way.{Way, IsWay, at, back, place_goes, is_along}
 use Rattle.line_map.specs.laws.AttributeLaws.{both_of, lines_restore}
 use Rattle.line_map.specs.laws.ContentLaws.{cell_comes_back, cell_restores}
+use Rattle.line_map.specs.laws.MergeLaws.{merges_come_back, merges_restore}
 use Rattle.line_map.specs.laws.WayLaws.{goes_inverse}
-use Rattle.sheet_lines.specs.Back.{with_lost, sheet_back, book_back}
+use Rattle.sheet_lines.specs.declared.kept.KeptLines.{KeptLines}
+use Rattle.sheet_lines.specs.Back.{with_lost, merges_back, sheet_back, book_back}
 use Rattle.sheet_lines.specs.Followed.{way_of, sheet_followed, book_followed}
-use Rattle.sheet_lines.specs.Kept.{lines_of, of_sheet, trees_kept, formulas_kept, kept_lines}
+use Rattle.sheet_lines.specs.Kept.{lines_of, of_sheet, trees_kept, formulas_kept, merges_kept, kept_lines}
 use Rattle.sheet_lines.specs.Sheets.{sheet_of, name_of, HasDistinctIds}
 
 -- ---- a sheet
@@ -78,6 +82,22 @@ module _ (w : Way) (is : IsWay w) where
       by_axis true h = lines_restore w is b attribute.ghosts.eq m given (ap (λ t. if t then Some (lost_map w.moves.to m) else None) h ∙ ap Some (sym (lost h)))
       by_axis false h = ap (λ t. if t then overlaid given (moved_map w.moves.from (if t then overlaid (heirs b attribute.ghosts.eq w.moves.inserted m) (moved_map w.moves.to m) else m)) else (if t then overlaid (heirs b attribute.ghosts.eq w.moves.inserted m) (moved_map w.moves.to m) else m)) h
 
+-- on another sheet than the edited one merges stay
+apart : (w : Way) → w.is_edited ≡ false → (merges : List MergedCell) → merges_carried (back w) (merges_carried w merges) ≡ merges
+unfolding merges_carried
+apart w h merges = ap (λ b. if b then filter_map (merge_carried (back w)) (if b then filter_map (merge_carried w) merges else merges) else (if b then filter_map (merge_carried w) merges else merges)) h
+
+merges_regained : (w : Way) (merges : List MergedCell) (kept : Option (List MergedCell)) → (w.is_edited ≡ true → kept ≡ merges_part w merges) → merges_back w kept (merges_carried w merges) ≡ merges
+merges_regained w merges kept lost = at_sheet w.is_edited refl
+  where
+    at_part : (o : Option (List MergedCell)) → merges_part w merges ≡ o → settled (merges_carried (back w)) (λ _ list. list) o (merges_carried w merges) ≡ merges
+    at_part None h = merges_come_back w merges h
+    at_part (Some part) h = merges_restore w merges part h
+
+    at_sheet : (b : Bool) → w.is_edited ≡ b → settled (merges_carried (back w)) (λ _ list. list) (if b then kept else None) (merges_carried w merges) ≡ merges
+    at_sheet true h = at_part kept (sym (lost h))
+    at_sheet false h = apart w h merges
+
 columns_alone : (a : Along) → IsAxis a → a.of false true ≡ true → a.of true false ≡ false
 columns_alone a l h = by_axis l.one_of
   where
@@ -111,7 +131,8 @@ module _ (a : Along) (l : IsAxis a) (e : EditKind) (valid : IsValid a.last e) (i
   abbrev way_to : Sheet → Way
   way_to sheet = way_of a moves id (name_of (sheet_of book id)) sheet
 
-  abbrev kept = kept_lines a e id book
+  abbrev kept : KeptLines
+  kept = kept_lines a e id book
 
   sheet_regained : (sheet : Sheet) → sheet_of book sheet.id ≡ Some sheet → sheet_back (way_to sheet) kept (sheet_followed (way_to sheet) sheet) ≡ sheet
   sheet_regained sheet found =
@@ -126,6 +147,7 @@ module _ (a : Along) (l : IsAxis a) (e : EditKind) (valid : IsValid a.last e) (i
         links = map_regained w is {P = Unit {0}} (λ _ link. link) (λ _ link _. link) (λ _. None) sheet.links kept.links (λ same. ap (of_sheet (λ s. lost_map (place_image a moves.to) s.links)) (it same)) (λ p q x there held. refl) i;
         rows = attributes_regained w is rows sheet.rows kept.lines (λ h. let along = both_of w.is_edited (is_along a rows) h in lines along.0 ∙ ap (λ t. lost_map moves.to (if t then sheet.rows else sheet.columns)) along.1) i;
         columns = attributes_regained w is columns sheet.columns kept.lines (λ h. let along = both_of w.is_edited (is_along a columns) h in lines along.0 ∙ ap (λ t. lost_map moves.to (if t then sheet.rows else sheet.columns)) (columns_alone a l along.1)) i;
+        merges = merges_regained w sheet.merges kept.merges (λ same. ap (merges_kept a moves id (name_of (sheet_of book id))) (it same)) i;
       }
 
   all_regained : (sheets : List Sheet) → AllByRecursion (λ sheet. sheet_of book sheet.id ≡ Some sheet) sheets → map (λ sheet. sheet_back (way_to sheet) kept sheet) (map (λ sheet. sheet_followed (way_to sheet) sheet) sheets) ≡ sheets

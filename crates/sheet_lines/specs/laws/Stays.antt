@@ -11,6 +11,7 @@ use Rattle.base_values.specs.declared.Position.{Position}
 use Rattle.base_values.specs.Places.{IsLine, position_cmp}
 use Rattle.base_values.specs.laws.Places.{position_total, exact_positions}
 use Rattle.base_axis.specs.Along.{Along, IsAxis, rows, columns}
+use Rattle.base_axis.specs.declared.MergedCell.{MergedCell}
 use Rattle.base_maps.specs.Carried.{if_there, lost_map, overlaid, settled}
 use Rattle.base_maps.specs.Tagged.{place_on}
 use Rattle.base_maps.specs.laws.Each.{Each, each_found, each_from, each_gathered, each_overlaid, holds_of, keys_lost}
@@ -31,17 +32,19 @@ use Rattle.sheet_grid.specs.Book.{Book}
 use Rattle.line_edits.specs.declared.EditKind.{EditKind}
 use Rattle.line_edits.specs.Edit.{IsValid}
 use Rattle.line_edits.specs.Moves.{edit_moves, place_image}
-use Rattle.line_edits.specs.laws.Images.{edit_one_to_one}
+use Rattle.line_edits.specs.laws.OneToOne.{edit_one_to_one}
 use Rattle.line_map.specs.Attributes.{LinesLie}
 use Rattle.line_map.specs.Contents.{with_new_tree, cell_carried, cell_part, cell_restored}
 use Rattle.line_map.specs.Maps.{places_carried, places_parts, places_restored}
+use Rattle.line_map.specs.Merges.{merges_carried, MergesLie}
 use Rattle.line_map.specs.Trees.{following, tree_carried, tree_part}
 use Rattle.line_map.specs.Way.{Way, IsWay, at, back, place_goes}
 use Rattle.line_map.specs.laws.ContentLaws.{cell_stays}
+use Rattle.line_map.specs.laws.MergeLaws.{merges_stay}
 use Rattle.line_map.specs.laws.TreeLaws.{tree_restores}
 use Rattle.line_map.specs.laws.WayLaws.{at_is_way, back_is_way, goes_inverse}
 use Rattle.sheet_lines.specs.declared.kept.KeptLines.{KeptLines}
-use Rattle.sheet_lines.specs.Back.{with_lost, sheet_back, book_back, ArePlacedLines}
+use Rattle.sheet_lines.specs.Back.{with_lost, merges_back, sheet_back, book_back, LieInside, ArePlacedLines}
 use Rattle.sheet_lines.specs.Followed.{way_of, sheet_followed, book_followed}
 use Rattle.sheet_lines.specs.Kept.{lines_of}
 use Rattle.sheet_lines.specs.KeptNumbers.{AreKeptFormulas}
@@ -130,6 +133,14 @@ pub lost_places : {X : Type 0} (w : Way) → w.is_edited ≡ true → (m : FinMa
 unfolding place_goes
 lost_places w e m = ap (λ b. lost_map (λ p. if b then place_image w.along w.moves.to p else Some p) m) e
 
+-- merges that are taken back lie inside
+merges_return : (w : Way) → IsWay w → (kept : Option (List MergedCell)) (merges : List MergedCell) → IfSome kept MergesLie → MergesLie merges → MergesLie (merges_back w kept merges)
+merges_return w is kept merges h lie = elim w.is_edited as (λ b. MergesLie (settled (merges_carried (back w)) (λ _ list. list) (if b then kept else None) merges)) [ true ↦ at_kept kept h | false ↦ at_kept None tt ]
+  where
+    at_kept : (o : Option (List MergedCell)) → IfSome o MergesLie → MergesLie (settled (merges_carried (back w)) (λ _ list. list) o merges)
+    at_kept None i = merges_stay (back w) (back_is_way w is) merges lie
+    at_kept (Some list) i = i
+
 -- ---- workbooks
 
 all_mapped : (P : Sheet → Type 0) (f : Sheet → Sheet) → ((sheet : Sheet) → P sheet → P (f sheet)) → (sheets : List Sheet) → AllByRecursion P sheets → AllByRecursion P (map f sheets)
@@ -149,13 +160,19 @@ module _ (a : Along) (l : IsAxis a) (e : EditKind) (valid : IsValid a.last e) (i
   -- a book that follows stays placed
   pub followed_placed : IsPlacedBook (book_followed a e id book)
   followed_placed = all_mapped IsPlacedSheet (λ sheet. sheet_followed (way_to sheet) sheet)
-      (λ sheet h. let w : Way = way_to sheet in each_found position_cmp IsPlacedCell (places_carried cell_carried w sheet.cells)
-      (followed_are w (is_way_to sheet) IsPlacedCell (λ place tree. is_placed place tree ≡ true) places_stay sheet.cells (each_from position_cmp IsPlacedCell sheet.cells h))) book.worksheets placed
+      (λ sheet h. let w : Way = way_to sheet in record {
+        cells = each_found position_cmp IsPlacedCell (places_carried cell_carried w sheet.cells)
+            (followed_are w (is_way_to sheet) IsPlacedCell (λ place tree. is_placed place tree ≡ true) places_stay sheet.cells (each_from position_cmp IsPlacedCell sheet.cells h.cells));
+        merges = merges_stay w (is_way_to sheet) sheet.merges h.merges;
+      }) book.worksheets placed
 
   -- so does one that is taken back, with cells and trees that may stand where they stood
-  pub back_placed : (kept : KeptLines) → ArePlacedLines kept → IsPlacedBook (book_back a e id kept book)
-  back_placed kept lines = all_mapped IsPlacedSheet (λ sheet. sheet_back (way_to sheet) kept sheet)
-      (λ sheet h. let w : Way = way_to sheet in each_found position_cmp IsPlacedCell (sheet_back w kept sheet).cells
-      (back_are w (is_way_to sheet) IsPlacedCell (λ place tree. is_placed place tree ≡ true) places_stay sheet.cells (each_from position_cmp IsPlacedCell sheet.cells h)
-      kept.cells (λ place. get kept.formulas (place_on sheet.id place)) (each_from position_cmp IsPlacedCell kept.cells lines.cells)
-      (λ p. holds_of (λ tree. is_placed p tree ≡ true) (get kept.formulas (place_on sheet.id p)) (λ tree. lines.formulas (place_on sheet.id p) tree)))) book.worksheets placed
+  pub back_placed : (kept : KeptLines) → LieInside a kept → ArePlacedLines kept → IsPlacedBook (book_back a e id kept book)
+  back_placed kept inside lines = all_mapped IsPlacedSheet (λ sheet. sheet_back (way_to sheet) kept sheet)
+      (λ sheet h. let w : Way = way_to sheet in record {
+        cells = each_found position_cmp IsPlacedCell (sheet_back w kept sheet).cells
+            (back_are w (is_way_to sheet) IsPlacedCell (λ place tree. is_placed place tree ≡ true) places_stay sheet.cells (each_from position_cmp IsPlacedCell sheet.cells h.cells)
+            kept.cells (λ place. get kept.formulas (place_on sheet.id place)) (each_from position_cmp IsPlacedCell kept.cells lines.cells)
+            (λ p. holds_of (λ tree. is_placed p tree ≡ true) (get kept.formulas (place_on sheet.id p)) (λ tree. lines.formulas (place_on sheet.id p) tree)));
+        merges = merges_return w (is_way_to sheet) kept.merges sheet.merges inside.merges h.merges;
+      }) book.worksheets placed

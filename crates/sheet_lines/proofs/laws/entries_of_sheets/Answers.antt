@@ -13,7 +13,7 @@ use Rattle.line_map.specs.Contents.{cell_carried}
 use Rattle.line_map.specs.Way.{at, back, place_goes}
 use Rattle.line_map.specs.laws.WayLaws.{goes_inverse}
 use Rattle.sheet_lines.specs.Followed.{way_of}
-use Rattle.sheet_lines.specs.Kept.{lines_of, of_sheet}
+use Rattle.sheet_lines.specs.Kept.{lines_of, of_sheet, merges_kept}
 use Rattle.sheet_lines.specs.Sheets.{sheet_of, name_of}
 use Rattle.sheet_lines.specs.laws.Regained.{formulas_at}
 use Rattle.sheet_lines.specs.laws.Stays.{way_is}
@@ -41,6 +41,9 @@ returns-clause-lost_lines g c sheet n found =
     let a = g.A.Axis.along in
     let to = (edit_moves a.last c.args.edit.now.kind).to in
     ap (λ o. get (of_sheet (λ s. lost_map to (lines_of a s)) o) n) found ∙ get-lost_map int_cmp int_cmp_total exact_signed to (lines_of a sheet) n
+
+pub returns-clause-merges : goal.returns-clause-merges
+returns-clause-merges g c sheet found = ap (merges_kept g.A.Axis.along (edit_moves g.A.Axis.along.last c.args.edit.now.kind) c.args.sheet_id (name_of (sheet_of c.args.workbook.now c.args.sheet_id))) found
 
 pub returns-clause-trees : goal.returns-clause-trees
 returns-clause-trees g c id p =

@@ -1,6 +1,7 @@
--- When a workbook is well-formed. There are no arrays (3), merges (4), covered places (5), defined names (8) and conditional rules yet.
-use Rattle.std.specs.Prelude.{◌≡◌, ℕ, ℤ, pos, Bool, true, ◌&&◌, ◌==◌, not, nat_lt, List, [], ◌∷◌, length, map, Option, Some, None, int_le, if◌then◌else◌}
-use Rattle.std.specs.List.{list_all, list_any}
+-- When a workbook is well-formed. `Occupied` has the rules of arrays (3), of merges (4) and of the places that they cover (5). There are
+-- no defined names (8) and no conditional rules yet.
+use Rattle.std.specs.Prelude.{◌≡◌, ℕ, ℤ, pos, Bool, true, ◌&&◌, ◌==◌, not, nat_lt, List, length, map, Option, Some, None, int_le, if◌then◌else◌}
+use Rattle.std.specs.List.{list_all}
 use Rattle.std.specs.Ordering.{int_eq}
 use Rattle.std.specs.FinMap.{entries}
 use Rattle.base_values.specs.CodedEq.{same_value}
@@ -17,12 +18,9 @@ use Rattle.sheet_grid.specs.declared.Link.{Link}
 use Rattle.sheet_grid.specs.Lines.{is_plain, usual_width}
 use Rattle.sheet_grid.specs.Sheet.{Sheet}
 use Rattle.sheet_grid.specs.Book.{Book}
+pub use Rattle.sheet_rules.specs.Distinct.{are_distinct}
+use Rattle.sheet_rules.specs.Occupied.{have_arrays, have_merges, are_hidden_blank}
 use Rattle.sheet_rules.specs.SheetNames.{is_sheet_name}
-
--- no element of a list is the same as one after it
-abbrev pub are_distinct : {X : Type 0} → (X → X → Bool) → List X → Bool
-are_distinct same [] = true
-are_distinct same (x ∷ xs) = not (list_any (same x) xs) && are_distinct same xs
 
 -- the ids of the sheets, and their names
 abbrev pub ids_of : List Sheet → List ℕ
@@ -104,6 +102,9 @@ abbrev pub broken_rule : Book → Option ℕ
 broken_rule book =
     if not (are_sheets book.worksheets) then Some 1
     else if not (list_all stands_inside book.worksheets) then Some 2
+    else if not (list_all have_arrays book.worksheets) then Some 3
+    else if not (list_all have_merges book.worksheets) then Some 4
+    else if not (list_all are_hidden_blank book.worksheets) then Some 5
     else if not (list_all have_trees book.worksheets) then Some 6
     else if not (list_all have_attributes book.worksheets) then Some 7
     else if not (list_all are_frozen book.worksheets) then Some 9

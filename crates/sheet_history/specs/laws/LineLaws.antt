@@ -30,7 +30,7 @@ use Rattle.line_map.specs.Maps.{places_carried}
 use Rattle.line_edits.specs.Moves.{at_line, edit_moves, place_image}
 use Rattle.line_map.specs.Way.{Way, at, back, place_goes}
 use Rattle.base_maps.specs.laws.Gathering.{get-lost_map}
-use Rattle.line_edits.specs.laws.Images.{edit_one_to_one}
+use Rattle.line_edits.specs.laws.OneToOne.{edit_one_to_one}
 use Rattle.base_maps.specs.laws.CarriedLaws.{get-carried_map}
 use Rattle.line_map.specs.laws.WayLaws.{goes_inverse}
 use Rattle.sheet_grid.specs.declared.Cell.{Cell}

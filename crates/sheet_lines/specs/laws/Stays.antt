@@ -38,7 +38,7 @@ use Rattle.line_map.specs.Trees.{following, tree_carried, tree_part}
 use Rattle.line_map.specs.Way.{Way, IsWay, at, back, place_goes, is_along}
 use Rattle.line_map.specs.laws.AttributeLaws.{both_of, same_last, lines_stay}
 use Rattle.line_map.specs.laws.ContentLaws.{cell_stays}
-use Rattle.line_edits.specs.laws.Images.{edit_one_to_one}
+use Rattle.line_edits.specs.laws.OneToOne.{edit_one_to_one}
 use Rattle.base_maps.specs.laws.Inverses.{own_inverse, turned_inverse}
 use Rattle.line_map.specs.laws.TreeLaws.{tree_restores}
 use Rattle.line_map.specs.laws.WayLaws.{at_is_way, back_is_way, goes_inside, goes_inverse}

@@ -12,6 +12,9 @@ use Rattle.base_values.specs.declared.EditError.TheVariants.{DiffRefused}
 use Rattle.base_values.specs.declared.Position.{Position}
 use Rattle.base_values.specs.Places.{is_line, position_cmp}
 use Rattle.base_values.specs.laws.Places.{position_total, exact_positions}
+use Rattle.base_axis.specs.declared.MergedCell.{MergedCell}
+use Rattle.base_axis.specs.contracts.merge_list.MergeListPartialEq.TheImpl as equality
+use Rattle.base_axis.specs.Rectangles.{is_inside}
 use Rattle.base_axis.specs.Along.{Along, IsAxis, rows, columns}
 use Rattle.base_maps.specs.declared.SheetPlace.{SheetPlace}
 use Rattle.base_maps.specs.SheetPlaces.{sheet_place_cmp}
@@ -29,11 +32,14 @@ use Rattle.line_edits.specs.Edit.{image_at, goes_to, within, opposite_of, IsVali
 use Rattle.base_maps.specs.Carried.{if_there, lost_map}
 use Rattle.line_map.specs.Contents.{cell_carried, cell_part}
 use Rattle.line_map.specs.Maps.{places_carried}
+use Rattle.line_map.specs.Merges.{merges_carried, merges_part}
+use Rattle.line_map.specs.Trial.{comes_back, part_by_trial}
 use Rattle.line_edits.specs.Moves.{at_line, edit_moves, place_image}
 use Rattle.line_map.specs.Way.{Way, at, back, place_goes}
 use Rattle.base_maps.specs.laws.Gathering.{get-lost_map}
 use Rattle.base_maps.specs.laws.CarriedLaws.{get-carried_map}
 use Rattle.line_map.specs.laws.WayLaws.{goes_inverse}
+use Rattle.sheet_grid.specs.Arrays.{array_at}
 use Rattle.sheet_grid.specs.declared.Cell.{Cell}
 use Rattle.sheet_grid.specs.declared.LineAttr.{LineAttr}
 use Rattle.sheet_grid.specs.declared.Link.{Link}
@@ -52,8 +58,11 @@ use Rattle.sheet_lines.specs.Back.{book_back}
 use Rattle.sheet_lines.specs.laws.Regained.{book_regained, formulas_at}
 use Rattle.sheet_lines.specs.laws.Stays.{way_is}
 use Rattle.sheet_history.specs.Depth.{AreShallowLines}
-use Rattle.sheet_history.specs.LineDiffs.{is_pushed_past, stays_inside, is_there_inside, is_lost_place, is_lost_line, all_keys, stand_on_lost, cells_fit, tree_stands, formulas_stand, goes_on, goes_forward, goes_back, lines_forward, lines_back}
+use Rattle.sheet_history.specs.LineDiffs.{is_pushed_past, stays_inside, is_there_inside, is_lost_place, is_lost_line, all_keys, stand_on_lost, merges_inside, lie_inside, cells_fit, tree_stands, formulas_stand, goes_on, goes_forward, goes_back, lines_forward, lines_back}
+use Rattle.sheet_history.specs.Entries.{lies_inside}
 use Rattle.sheet_history.specs.laws.Entries.{all_entries, entry_holds}
+use Rattle.sheet_history.specs.laws.RuleLaws.{KeepsSheetRules, sheet_rules}
+use Rattle.sheet_history.specs.laws.SoundEntries.{array_inside, sheet_merges_inside}
 use Rattle.sheet_history.specs.laws.KeptTrees.{IsTreeThere, tree_there, kept_fits, formula_there}
 
 -- what holds of all holds of what is found
@@ -258,11 +267,31 @@ module _ (a : Along) (l : IsAxis a) (e : EditKind) (valid : IsValid a.last e) (i
           ∙ lost_keys int_cmp int_cmp_total exact_signed (image_at a.last e) (lines_of a sheet) (is_line a.last) (lines_inside a l sheet inside)) i
           && trees_inside i)
 
+      -- kept arrays and merges lie inside
+      kept_lie_inside : lie_inside kept ≡ true
+      unfolding lie_inside
+      kept_lie_inside = λ i. arrays i && merges i
+        where
+          keeps : KeepsSheetRules sheet
+          keeps = sheet_rules book rules id sheet found
+
+          abbrev test : Position × Cell → Bool
+          test entry = lies_inside (array_at entry.0 entry.1.content)
+
+          arrays : list_all test (entries kept.cells) ≡ true
+          arrays =
+              ap (λ o. list_all test (entries (of_sheet (λ (s : Sheet). lost_map (place_image a (image_at a.last e)) s.cells) o))) found
+              ∙ all_entries position_cmp position_total exact_positions test (lost_map (place_image a (image_at a.last e)) sheet.cells)
+              (λ p cell there. array_inside sheet keeps.arrays p cell (lost_entry position_cmp position_total exact_positions (place_image a (image_at a.last e)) sheet.cells p cell there).0)
+
+          merges : merges_inside kept.merges ≡ true
+          merges = ap (λ o. merges_inside (merges_kept a (edit_moves a.last e) id (name_of (sheet_of book id)) o)) found ∙ part_inside (way_in sheet) sheet.merges (sheet_merges_inside sheet keeps.merges)
+
       -- the edit is made
       pub lines_made : (at : ℕ) → is_there_inside a e (sheet_of book id) ≡ true → lines_forward at a id e kept book ≡ Ok later
       unfolding lines_forward
       lines_made at there =
-          let goes : goes_forward a id e kept book ≡ true = λ i. valid i && there i && kept_on_lost i in
+          let goes : goes_forward a id e kept book ≡ true = λ i. valid i && there i && (kept_on_lost i && kept_lie_inside i) in
           ap (λ b. if b then Ok later else Err (DiffRefused 0 at)) goes
 
       -- the edit is taken back
@@ -274,5 +303,5 @@ module _ (a : Along) (l : IsAxis a) (e : EditKind) (valid : IsValid a.last e) (i
           ap (is_there_inside a (opposite_of e)) (later_found id sheet found) ∙ back_inside (name_of (sheet_of book id)) sheet it e refl in
           let fit : cells_fit kept.cells ≡ true =
           ap (λ o. cells_fit (of_sheet (λ (s : Sheet). lost_map (place_image a (image_at a.last e)) s.cells) o)) found ∙ kept_fit sheet (sheet_fits id sheet found) in
-          let goes : goes_back a id e kept later ≡ true = λ i. valid i && inside i && kept_on_lost i && (fit i && kept_formulas_stand i) in
+          let goes : goes_back a id e kept later ≡ true = λ i. valid i && inside i && (kept_on_lost i && kept_lie_inside i) && (fit i && kept_formulas_stand i) in
           ap (λ b. if b then Ok (book_back a e id kept later) else Err (DiffRefused 0 at)) goes ∙ ap Ok (book_regained a l e valid id book (distinct_ids_from_well_formed book rules))

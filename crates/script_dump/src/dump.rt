@@ -125,11 +125,7 @@ fn push_array_word(
 }
 
 /// Writes the word before the text of a content that is not empty.
-fn push_content_word(
-    alloc: Global,
-    out: &mut Vec<u8>,
-    content: &Content,
-) -> Result<(), AllocError>
+fn push_content_word(alloc: Global, out: &mut Vec<u8>, content: &Content) -> Result<(), AllocError>
     ensures { OnOk result (out.new.items ≡ out.old.items ++ content_word content.now) }
 {
     match content {

@@ -26,12 +26,20 @@ const LINES: [u8; 77] = [
 
 /// At row 2 and column 3 of the sheet of id 1: an array of the tree `TRUE` in the default style, 2 wide
 /// and 5 high, is put, and a link to `a`. Each place was empty.
-const ARRAY: [u8; 56] = [1, 0, 0, 0, 1, 0, 0, 0, 2, 0, 0, 0, 3, 0, 1, 7, 0, 1, 0, 0, 0, 2, 0, 0, 0, 5, 0, 0, 0, 0, 0, 0, 0, 13, 0, 0, 0, 0, 0, 0, 0, 0, 0, 0, 0, 0, 0, 7, 103, 101, 110, 101, 114, 97, 108, 0];
+const ARRAY: [u8; 56] = [
+    1, 0, 0, 0, 1, 0, 0, 0, 2, 0, 0, 0, 3, 0, 1, 7, 0, 1, 0, 0, 0, 2, 0, 0, 0, 5, 0, 0, 0, 0, 0, 0,
+    0, 13, 0, 0, 0, 0, 0, 0, 0, 0, 0, 0, 0, 0, 0, 7, 103, 101, 110, 101, 114, 97, 108, 0,
+];
 
-const LINK: [u8; 24] = [2, 0, 0, 0, 1, 0, 0, 0, 2, 0, 0, 0, 3, 0, 1, 0, 0, 0, 0, 0, 0, 0, 1, 97];
+const LINK: [u8; 24] = [
+    2, 0, 0, 0, 1, 0, 0, 0, 2, 0, 0, 0, 3, 0, 1, 0, 0, 0, 0, 0, 0, 0, 1, 97,
+];
 
 /// The sheet of id 1 had no merges, and gets one at row 2 and column 3, which is 4 wide and -1 high.
-const MERGES: [u8; 37] = [5, 0, 0, 0, 1, 0, 0, 0, 0, 0, 0, 0, 0, 0, 0, 0, 0, 0, 0, 0, 1, 0, 0, 0, 2, 0, 0, 0, 3, 0, 0, 0, 4, 255, 255, 255, 255];
+const MERGES: [u8; 37] = [
+    5, 0, 0, 0, 1, 0, 0, 0, 0, 0, 0, 0, 0, 0, 0, 0, 0, 0, 0, 0, 1, 0, 0, 0, 2, 0, 0, 0, 3, 0, 0, 0,
+    4, 255, 255, 255, 255,
+];
 
 /// A place in `LINES`, and the byte that is put there.
 const DAMAGED_LINES: [(usize, u8); 7] = [

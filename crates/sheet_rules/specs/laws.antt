@@ -1,6 +1,8 @@
+pub mod ComparedLaws
 pub mod DefaultPartLaws
 pub mod EntryLaws
 pub mod FollowedLists
+pub mod HiddenLaws
 pub mod InsideLaws
 pub mod OccupiedLaws
 pub mod PutLaws

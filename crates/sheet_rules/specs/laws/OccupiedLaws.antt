@@ -1,37 +1,27 @@
 -- What the rules of arrays and merges say, place by place.
-use Rattle.std.proofs.Common.{◌≡◌, ℤ, pos, Bool, true, false, not, cond, ◌&&◌, ◌||◌, List, [], ◌∷◌, Option, Some, None, refl, ap, sym, ◌∙◌, arith}
-use Rattle.std.specs.Prelude.{◌≢◌, int_le, IsTrue, is_none}
+use Rattle.std.proofs.Common.{◌≡◌, Bool, true, false, not, ◌&&◌, ◌||◌, List, [], ◌∷◌, Option, Some, None, refl, ap, sym, ◌∙◌}
+use Rattle.std.specs.Prelude.{◌≢◌}
 use Rattle.std.specs.List.{list_all, list_any}
-use Rattle.std.specs.FinMap.{FinMap, entries, entries_sorted, get}
+use Rattle.std.specs.FinMap.{get}
 use Rattle.base_values.specs.declared.Position.{Position}
 use Rattle.base_values.specs.Places.{position_cmp}
 use Rattle.base_values.specs.laws.Places.{position_total, exact_positions}
 use Rattle.base_axis.specs.declared.MergedCell.{MergedCell}
-use Rattle.base_axis.specs.Rectangles.{last_row, last_column, is_inside, meets}
+use Rattle.base_axis.specs.Rectangles.{is_inside, meets}
+use Rattle.base_axis.specs.laws.RectangleLaws.{meets_turned}
 use Rattle.sheet_grid.specs.declared.Cell.{Cell}
 use Rattle.sheet_grid.specs.Arrays.{array_at, large_array_at}
 use Rattle.sheet_grid.specs.Merges.{is_empty}
 use Rattle.sheet_grid.specs.Sheet.{Sheet}
 use Rattle.sheet_rules.specs.laws.EntryLaws.{both, passes_at_from_all, all_from_passes_at}
 use Rattle.sheet_rules.specs.laws.ShownLaws.{neither, not_true, shown_pass, all_pass, apart_in, apart_of, none_in, none_of}
-use Rattle.sheet_rules.specs.Occupied.{are_apart, meets_any, have_arrays, is_merge, have_merges, covers, covers_blanks, are_hidden_blank, is_hidden_place, may_stand, array_in, large_array_in}
+use Rattle.sheet_rules.specs.Occupied.{are_apart, meets_any, have_arrays, is_merge, have_merges, covers, covers_blanks, are_hidden_blank, is_hidden_place, array_in, large_array_in}
 
 abbrev array_shape : Position → Cell → Option MergedCell
 array_shape place cell = array_at place cell.content
 
 abbrev large_shape : Position → Cell → Option MergedCell
 large_shape place cell = large_array_at place cell.content
-
-turned : (a b : Bool) → (a && b) ≡ (b && a)
-turned true true = refl
-turned true false = refl
-turned false true = refl
-turned false false = refl
-
--- two rectangles meet whichever is named first
-pub meets_turned : (r s : MergedCell) → meets r s ≡ meets s r
-unfolding meets
-meets_turned r s = λ i. turned (int_le r.row (last_row s)) (int_le s.row (last_row r)) i && turned (int_le r.column (last_column s)) (int_le s.column (last_column r)) i
 
 -- each array lies inside, and large ones at different places do not meet
 pub record KeepsArrays (sheet : Sheet) : Type 0 where

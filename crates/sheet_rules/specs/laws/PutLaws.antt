@@ -1,9 +1,9 @@
 -- A cell that is no array and hides no content, put at a place, keeps the rules of arrays and merges.
-use Rattle.std.proofs.Common.{◌≡◌, Bool, true, false, not, cond, ◌&&◌, ◌||◌, Option, Some, None, refl, ap, sym, subst, ◌∙◌}
+use Rattle.std.proofs.Common.{◌≡◌, Bool, true, false, not, cond, ◌||◌, Option, Some, None, refl, ap, sym, subst, ◌∙◌}
 use Rattle.std.specs.Prelude.{is_none}
 use Rattle.std.specs.Option.{option_and_then}
 use Rattle.std.specs.List.{list_any}
-use Rattle.std.specs.Ordering.{is_eq, eq_by_cmp}
+use Rattle.std.specs.Ordering.{eq_by_cmp}
 use Rattle.std.specs.FinMap.{get}
 use Rattle.base_values.specs.laws.KeyMap.{get-with_entry}
 use Rattle.base_values.specs.declared.Position.{Position}
@@ -16,7 +16,7 @@ use Rattle.sheet_grid.specs.Merges.{is_empty}
 use Rattle.sheet_grid.specs.Sheet.{Sheet, with_cell}
 use Rattle.sheet_rules.specs.laws.EntryLaws.{both, equal}
 use Rattle.sheet_rules.specs.Occupied.{have_arrays, have_merges, are_hidden_blank, covers, is_hidden_place, may_stand, array_in, large_array_in}
-use Rattle.sheet_rules.specs.laws.OccupiedLaws.{KeepsArrays, keeps_arrays, have_arrays_from, KeepsMerges, keeps_merges, have_merges_from, KeepsHidden, keeps_hidden, are_hidden_blank_from, merges_apart_from, arrays_apart_from}
+use Rattle.sheet_rules.specs.laws.OccupiedLaws.{keeps_arrays, have_arrays_from, keeps_merges, have_merges_from, keeps_hidden, are_hidden_blank_from, merges_apart_from, arrays_apart_from}
 
 -- positions that compare alike are one
 same_place : (p q : Position) → eq_by_cmp position_cmp p q ≡ true → p ≡ q
@@ -45,7 +45,6 @@ or_hidden true b h is = cc
 module _ (sheet : Sheet) (place : Position) (entry : Option Cell) (stands : may_stand sheet place entry ≡ true) where
   abbrev next : Sheet
   next = with_cell sheet place entry
-
 
   kept_shape : (shape : Position → Cell → Option MergedCell) → option_and_then (shape place) entry ≡ None → (q : Position) (r : MergedCell) → option_and_then (shape q) (get next.cells q) ≡ Some r → option_and_then (shape q) (get sheet.cells q) ≡ Some r
   kept_shape shape none q r at = go (eq_by_cmp position_cmp q place) refl (sym (ap (option_and_then (shape q)) (get-with_entry position_total sheet.cells place entry q)) ∙ at)

@@ -1,6 +1,6 @@
 -- What the entries of a map show, each maybe one thing: a test of the list of these is that test at each key.
 use Rattle.std.proofs.Common.{◌≡◌, Bool, true, false, not, cond, ◌&&◌, ◌||◌, List, [], ◌∷◌, Option, Some, None, refl, ap, sym, ◌∙◌, T}
-use Rattle.std.specs.Prelude.{IsTrue, ◌≢◌}
+use Rattle.std.specs.Prelude.{◌≢◌}
 use Rattle.std.specs.List.{list_all, list_any, filter_map, cons_option}
 use Rattle.std.specs.Option.{option_and_then, option_map_or}
 use Rattle.std.specs.Cmp.{IsTotalOrder, tied_itself}
@@ -143,9 +143,9 @@ module _ {K X M : Type 0} (R : K → K → Ordering) (total : IsTotalOrder R) (e
     apart_from (e ∷ es) sorted each =
         apart_more (shape e.0 e.1) (shown es)
         (λ r at. none_pass (touches r) es (right _ _ sorted) (λ q s at_q.
-            each e.0 q r s (λ same. apart_keys e es (left _ _ sorted) q s at_q same) (first e es r at) (later e es (left _ _ sorted) q s at_q (eq_by_cmp R q e.0) refl)))
+        each e.0 q r s (λ same. apart_keys e es (left _ _ sorted) q s at_q same) (first e es r at) (later e es (left _ _ sorted) q s at_q (eq_by_cmp R q e.0) refl)))
         (apart_from es (right _ _ sorted) (λ p q r s differ at_p at_q.
-            each p q r s differ (later e es (left _ _ sorted) p r at_p (eq_by_cmp R p e.0) refl) (later e es (left _ _ sorted) q s at_q (eq_by_cmp R q e.0) refl)))
+        each p q r s differ (later e es (left _ _ sorted) p r at_p (eq_by_cmp R p e.0) refl) (later e es (left _ _ sorted) q s at_q (eq_by_cmp R q e.0) refl)))
 
     -- so it is in a map
     pub apart_in : (m : FinMap R X) → are_distinct touches (shown (entries m)) ≡ true → (p q : K) (r s : M) → p ≢ q → shown_at p (get m p) ≡ Some r → shown_at q (get m q) ≡ Some s → touches r s ≡ false

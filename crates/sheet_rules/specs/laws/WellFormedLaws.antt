@@ -67,7 +67,7 @@ rules_kept false i a m h t b f none = broken none
 pub well_formed_parts : (book : Book) → IsWellFormed book → KeepsRules book
 well_formed_parts book h =
     let kept = rules_kept (are_sheets book.worksheets) (list_all stands_inside book.worksheets) (list_all have_arrays book.worksheets) (list_all have_merges book.worksheets)
-        (list_all are_hidden_blank book.worksheets) (list_all have_trees book.worksheets) (list_all have_attributes book.worksheets) (list_all are_frozen book.worksheets) h in
+    (list_all are_hidden_blank book.worksheets) (list_all have_trees book.worksheets) (list_all have_attributes book.worksheets) (list_all are_frozen book.worksheets) h in
     record { sheets = kept.0; inside = kept.1; arrays = kept.2; merges = kept.3; hidden = kept.4; trees = kept.5; attributes = kept.6; frozen = kept.7 }
 
 -- and one that keeps each rule is well-formed

@@ -5,3 +5,6 @@ pub mod Keys
 pub mod Gathering
 pub mod CarriedLaws
 pub mod Turns
+pub mod Each
+pub mod Found
+pub mod Tagged

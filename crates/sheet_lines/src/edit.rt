@@ -15,7 +15,7 @@ use crate::kept::KeptLines;
 use crate::sheets::{route_on, sheet_of};
 use base_axis::Axis;
 use base_values::EditError;
-use line_map::{LineEdit, LineMap, lost_places};
+use line_map::{Follower, LineEdit, LineMap, lost_places};
 use sheet_grid::Workbook;
 use std::alloc::Global;
 
@@ -48,6 +48,7 @@ fn kept_lines<A: Axis, M: LineMap<A>>(
         links: lost_places(alloc, &route, links)?,
         lines: lost_attributes(alloc, edited, sheet)?,
         formulas,
+        merges: sheet.merge_list().part(alloc, &route)?,
     })
 }
 

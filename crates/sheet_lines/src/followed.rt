@@ -34,7 +34,8 @@ fn followed_sheet<A: Axis, M: LineMap<A>>(
     let links = sheet.link_map().carry(alloc, &route)?;
     let rows = sheet.row_map().carry(alloc, &route)?;
     let columns = sheet.column_map().carry(alloc, &route)?;
-    sheet.with_entries(cells, links, rows, columns)
+    let merges = sheet.merge_list().carry(alloc, &route)?;
+    sheet.with_entries(cells, links, rows, columns, merges)
 }
 
 fn followed_sheets<A: Axis, M: LineMap<A>>(

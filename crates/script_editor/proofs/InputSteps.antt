@@ -21,6 +21,7 @@ use Rattle.sheet_rules.specs.WellFormed.{is_place, IsWellFormed}
 use Rattle.sheet_rules.specs.Occupied.{is_hidden_place, may_stand}
 use Rattle.sheet_rules.specs.laws.HiddenLaws.{shown_where_free}
 use Rattle.sheet_lines.specs.Sheets.{sheet_of}
+use Rattle.sheet_actions.specs.laws.OwnSheets.{own_found}
 use Rattle.sheet_history.specs.declared.Diff.{Diff}
 use Rattle.sheet_history.specs.Entries.{EntryKey, EntryValue, lies_inside, cell_stands_at, value_fits, put_entry}
 use Rattle.sheet_history.specs.Entries.EntryKey.{CellKey}
@@ -41,7 +42,7 @@ use Rattle.script_editor.specs.BothWays.{GoesBothWays}
 use Rattle.script_editor.specs.Stands.{StandsFor, Moves}
 use Rattle.script_editor.proofs.Entering.{IsFree, is_free, accepted, found_some, input_entry, input_book, input_record}
 use Rattle.script_editor.proofs.Fits.{entered_font, place_inside, shown_font}
-use Rattle.script_editor.proofs.Own.{own_index, own_found}
+use Rattle.script_editor.proofs.Own.{own_index}
 use Rattle.script_editor.proofs.Sounds.{sound_edit, step_of, edit_moves, on_ok_map, sendable_in}
 
 -- ---- what an input may be may stand where it goes

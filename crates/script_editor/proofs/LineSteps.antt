@@ -18,6 +18,7 @@ use Rattle.sheet_history.specs.LineDiffs.{along_of}
 use Rattle.sheet_history.specs.Diffs.{made, taken_back}
 use Rattle.sheet_history.specs.Records.{IsLineEdit, line_record}
 use Rattle.sheet_actions.specs.Planned.{lines_planned}
+use Rattle.sheet_actions.specs.Whole.{IsAllowed}
 use Rattle.sheet_actions.specs.laws.FollowedWellFormed.{followed_well_formed}
 use Rattle.sheet_history.specs.Untested.{hides_nothing}
 use Rattle.sheet_history.specs.laws.LineRecords.{along_lawful, record_made, record_taken_back}
@@ -94,6 +95,7 @@ record IsAccepted (w : Book) (index : ℕ) (axis : LineAxis) (kind : EditKind) (
   sheet : Sheet
   at : sheet_at w index ≡ Ok sheet
   edit : IsLineEdit axis kind sheet.id w
+  allowed : IsAllowed (along_of axis) kind sheet.id w
   followed : book_followed (along_of axis) kind sheet.id w ≡ later
 
 module _ (index : ℕ) (axis : LineAxis) (kind : EditKind) where
@@ -107,7 +109,7 @@ module _ (index : ℕ) (axis : LineAxis) (kind : EditKind) where
       go (Ok p) plan h =
           let found = lines_plan w rules index axis kind p plan in
           let same : book_followed (along_of axis) p.1 p.0 w ≡ later = cc in
-          record { sheet = found.sheet; at = found.at; edit = found.edit; followed = ap (λ (p : ℕ × EditKind). book_followed (along_of axis) p.1 p.0 w) found.plan_is ∙ same }
+          record { sheet = found.sheet; at = found.at; edit = found.edit; allowed = found.allowed; followed = ap (λ (p : ℕ × EditKind). book_followed (along_of axis) p.1 p.0 w) found.plan_is ∙ same }
       go (Err error) plan h = absurd (let never : ◌≡◌ {A = Result Book EditError} (Err error) (Ok later) = h in cc)
 
   lines_both : (w later : Book) → IsAccepted w index axis kind later → GoesBothWays edit w later
@@ -115,7 +117,7 @@ module _ (index : ℕ) (axis : LineAxis) (kind : EditKind) where
       let id : ℕ = found.sheet.id in
       let list : List Diff = record_of edit w later in
       let recorded_is : list ≡ line_record axis kind id w = ap (lines_record axis kind w) found.at in
-      let later_rules : IsWellFormed later = subst IsWellFormed found.followed (followed_well_formed (along_of axis) (along_lawful axis) kind found.edit.valid id w found.edit.rules) in
+      let later_rules : IsWellFormed later = subst IsWellFormed found.followed (followed_well_formed (along_of axis) (along_lawful axis) kind found.edit.valid id w found.edit.rules found.allowed) in
       record {
         rules = later_rules;
         forth = passes (length list) (made w list) later (ap (made w) recorded_is ∙ record_made axis kind id w found.edit ∙ ap Ok found.followed) later_rules;

@@ -1,7 +1,7 @@
 -- A workbook without merges and arrays stays one.
 use Rattle.std.proofs.Common.{◌≡◌, ◌&&◌, ℕ, ℤ, Bool, true, false, List, [], ◌∷◌, map, Option, Some, None, Result, Ok, Err, refl, ap, sym, ◌∙◌}
 use Rattle.std.specs.Prelude.{is_none, is_some, slice_get, if◌then◌else◌}
-use Rattle.std.specs.List.{list_all, filter_map, find}
+use Rattle.std.specs.List.{list_all, find}
 use Rattle.std.specs.FinMap.{entries}
 use Rattle.base_values.specs.declared.EditError.{EditError}
 use Rattle.base_values.specs.declared.EditError.TheVariants.{InvalidSheet, CoveredCell, ArrayCell}
@@ -25,7 +25,7 @@ use Rattle.line_map.specs.Merges.{merges_carried}
 use Rattle.line_map.specs.Trees.{tree_carried}
 use Rattle.line_map.specs.Way.{Way, IsWay, at}
 use Rattle.sheet_grid.specs.declared.Cell.{Cell}
-use Rattle.sheet_grid.specs.Arrays.{array_at, large_array_at, where_large, large_arrays_of}
+use Rattle.sheet_grid.specs.Arrays.{array_at}
 use Rattle.sheet_grid.specs.Merges.{is_covered}
 use Rattle.sheet_grid.specs.Sheet.{Sheet}
 use Rattle.sheet_grid.specs.Book.{Book, sheet_at}
@@ -35,6 +35,7 @@ use Rattle.sheet_lines.specs.Followed.{way_of, sheet_followed, book_followed}
 use Rattle.sheet_lines.specs.Sheets.{sheet_of, name_of}
 use Rattle.sheet_actions.specs.laws.FollowedEntries.{items_follow}
 use Rattle.sheet_history.specs.Untested.{has_no_merge, shows_all, hides_nothing}
+use Rattle.sheet_history.specs.laws.OpenLaws.{no_arrays, no_merges}
 use Rattle.script_editor.specs.Inputs.{free_place, input_place}
 use Rattle.script_editor.specs.Machine.{first_book}
 use Rattle.script_editor.proofs.Entering.{found_some}
@@ -97,28 +98,6 @@ followed_open a lawful e valid id book open =
     (λ sheet. follows_shown (way_of a m id edited sheet) (record { axis = lawful; one_to_one = edit_one_to_one a.last e valid }) sheet) book.worksheets open
 
 -- ---- inputs
-
-no_large : (place : Position) (content : Content) → is_none (array_at place content) ≡ true → large_array_at place content ≡ None
-no_large place content h = ap where_large (none_of (array_at place content) h)
-  where
-    none_of : (o : Option MergedCell) → is_none o ≡ true → o ≡ None
-    none_of None h = refl
-    none_of (Some array) h = cc
-
-no_arrays : (cells : List (Position × Cell)) → list_all (λ (entry : Position × Cell). is_none (array_at entry.0 entry.1.content)) cells ≡ true
-    → filter_map (λ (entry : Position × Cell). large_array_at entry.0 entry.1.content) cells ≡ []
-no_arrays [] h = refl
-no_arrays (cell ∷ cells) h =
-    let parts = both (is_none (array_at cell.0 cell.1.content)) (list_all (λ (entry : Position × Cell). is_none (array_at entry.0 entry.1.content)) cells) h in
-    ap (λ o. add o (filter_map (λ (entry : Position × Cell). large_array_at entry.0 entry.1.content) cells)) (no_large cell.0 cell.1.content parts.0) ∙ no_arrays cells parts.1
-  where
-    add : Option MergedCell → List MergedCell → List MergedCell
-    add None arrays = arrays
-    add (Some array) arrays = array ∷ arrays
-
-no_merges : (merges : List MergedCell) → has_no_merge merges ≡ true → merges ≡ []
-no_merges [] h = refl
-no_merges (merge ∷ merges) h = absurd (let never : false ≡ true = h in cc)
 
 -- a sheet of such a workbook has none
 pub sheet_open : (book : Book) (index : ℕ) (sheet : Sheet) → hides_nothing book ≡ true → sheet_at book index ≡ Ok sheet → shows_all sheet ≡ true

@@ -116,9 +116,10 @@ impl Editor {
     /// with their links and its rows go where their lines go, and the formulas of all sheets follow.
     ///
     /// `InvalidSheet` where there is no such sheet, else `BadCount` where the count is below 1, else
-    /// `InvalidRow` where the row is outside the sheet, else `OverEdge` where the last row with a
-    /// cell and the count together exceed the last row of the sheet, else `NoMemory` where there is
-    /// not enough. An error changes nothing. docs/MODEL.md has the rules.
+    /// `InvalidRow` where the row is outside the sheet, else `SplitsArray` where an array stands on
+    /// both sides of it, else `OverEdge` where the last row with a cell, or that an array fills, and
+    /// the count together exceed the last row of the sheet, else `NoMemory` where there is not
+    /// enough. An error changes nothing. docs/MODEL.md has the rules.
     pub fn insert_rows(&mut self, sheet: u32, row: i32, count: i32) -> Result<(), EditError>
         ensures next { (state : State) → StandsFor self.old state → Moves result self.old self.new state (edit_of (Lines sheet Rows (Insert row count)) state) }
     {
@@ -133,8 +134,9 @@ impl Editor {
     /// can be taken back by `undo`.
     ///
     /// `InvalidSheet`, `BadCount` and `InvalidRow` as `insert_rows` answers them, else
-    /// `TargetOutOfBounds` where the last row to delete is outside the sheet, else `NoMemory` where
-    /// there is not enough. An error changes nothing. docs/MODEL.md has the rules.
+    /// `TargetOutOfBounds` where the last row to delete is outside the sheet, else `SplitsArray`
+    /// where an array has some of these rows and others, else `NoMemory` where there is not enough.
+    /// An error changes nothing. docs/MODEL.md has the rules.
     pub fn delete_rows(&mut self, sheet: u32, row: i32, count: i32) -> Result<(), EditError>
         ensures next { (state : State) → StandsFor self.old state → Moves result self.old self.new state (edit_of (Lines sheet Rows (Delete row count)) state) }
     {

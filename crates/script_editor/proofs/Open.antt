@@ -1,28 +1,24 @@
 -- A workbook without merges and arrays stays one.
-use Rattle.std.proofs.Common.{◌≡◌, ◌&&◌, ℕ, ℤ, Bool, true, false, List, [], ◌∷◌, map, Option, Some, None, Result, Ok, Err, refl, ap, sym, ◌∙◌}
-use Rattle.std.specs.Prelude.{is_none, is_some, slice_get, if◌then◌else◌}
+use Rattle.std.proofs.Common.{◌≡◌, ◌&&◌, ℕ, ℤ, Bool, true, false, List, [], ◌∷◌, map, length, Option, Some, None, Result, Ok, Err, refl, ap, sym, ◌∙◌, arith}
+use Rattle.std.specs.Prelude.{IfOk, is_none, is_some, slice_get, if◌then◌else◌}
 use Rattle.std.specs.List.{list_all, find}
-use Rattle.std.specs.FinMap.{entries}
+use Rattle.std.specs.FinMap.{empty, entries, len-entries, len-empty}
 use Rattle.base_values.specs.declared.EditError.{EditError}
 use Rattle.base_values.specs.declared.EditError.TheVariants.{InvalidSheet, CoveredCell, ArrayCell}
 use Rattle.base_values.specs.declared.Position.{Position}
 use Rattle.base_values.specs.Answers.{and_then}
-use Rattle.base_values.specs.Places.{place_of}
+use Rattle.base_values.specs.Places.{place_of, position_cmp}
 use Rattle.base_axis.specs.Along.{Along, IsAxis}
 use Rattle.base_axis.specs.declared.MergedCell.{MergedCell}
 use Rattle.base_axis.specs.Rectangles.{holds}
-use Rattle.base_maps.specs.Carried.{if_there}
-use Rattle.formula_tree.specs.declared.Node.{Node}
 use Rattle.cell_content.specs.declared.Content.{Content}
 use Rattle.cell_content.specs.declared.Content.TheVariants.{Empty, Number, Boolean, Error, Text, Formula, Dynamic, Array}
-use Rattle.cell_content.specs.Lens.{tree_of, with_tree}
 use Rattle.line_edits.specs.declared.EditKind.{EditKind}
 use Rattle.line_edits.specs.Edit.{IsValid}
 use Rattle.line_edits.specs.Moves.{LineMoves, edit_moves}
 use Rattle.line_edits.specs.laws.OneToOne.{edit_one_to_one}
-use Rattle.line_map.specs.Contents.{with_new_tree, content_carried, cell_carried}
+use Rattle.line_map.specs.Contents.{content_carried, cell_carried}
 use Rattle.line_map.specs.Merges.{merges_carried}
-use Rattle.line_map.specs.Trees.{tree_carried}
 use Rattle.line_map.specs.Way.{Way, IsWay, at}
 use Rattle.sheet_grid.specs.declared.Cell.{Cell}
 use Rattle.sheet_grid.specs.Arrays.{array_at}
@@ -41,29 +37,29 @@ use Rattle.script_editor.specs.Machine.{first_book}
 use Rattle.script_editor.proofs.Entering.{found_some}
 use Rattle.script_editor.proofs.Lists.{passes_at}
 
--- the one that a script begins with is one
+-- the one that a script begins with is one: its sheet has no cells
+no_cells : (cells : List (Position × Cell)) → length cells ≡ 0 → cells ≡ []
+no_cells [] h = refl
+no_cells (cell ∷ cells) h = absurd (omega arith)
+
 pub first_open : hides_nothing first_book ≡ true
 unfolding shows_all
-first_open = refl
+first_open =
+    ap (λ cells. list_all (λ (entry : Position × Cell). is_none (array_at entry.0 entry.1.content)) cells && true)
+    (no_cells (entries (empty {X = Cell} {R = position_cmp})) (sym (len-entries (empty {X = Cell} {R = position_cmp})) ∙ len-empty position_cmp Cell))
 
 -- ---- lines
 
-with_no_array : (place there : Position) (content : Content) (tree : Option Node) → is_none (array_at place content) ≡ true → is_none (array_at there (with_new_tree content tree)) ≡ true
-with_no_array place there Empty None h = refl
-with_no_array place there (Number _) None h = refl
-with_no_array place there (Boolean _) None h = refl
-with_no_array place there (Error _) None h = refl
-with_no_array place there (Text _) None h = refl
-with_no_array place there (Formula _) None h = refl
-with_no_array place there (Dynamic _) None h = refl
-with_no_array place there (Array _ _ _) tree h = absurd (let never : false ≡ true = h in cc)
-with_no_array place there Empty (Some tree) h = refl
-with_no_array place there (Number _) (Some tree) h = refl
-with_no_array place there (Boolean _) (Some tree) h = refl
-with_no_array place there (Error _) (Some tree) h = refl
-with_no_array place there (Text _) (Some tree) h = refl
-with_no_array place there (Formula _) (Some tree) h = refl
-with_no_array place there (Dynamic _) (Some tree) h = refl
+-- a content that is no array is none where it goes
+no_array_carried : (w : Way) (p q : Position) (content : Content) → is_none (array_at p content) ≡ true → is_none (array_at q (content_carried w content)) ≡ true
+no_array_carried w p q Empty h = refl
+no_array_carried w p q (Number number) h = refl
+no_array_carried w p q (Boolean truth) h = refl
+no_array_carried w p q (Error error) h = refl
+no_array_carried w p q (Text text) h = refl
+no_array_carried w p q (Formula tree) h = refl
+no_array_carried w p q (Dynamic tree) h = refl
+no_array_carried w p q (Array tree width height) h = absurd (let never : false ≡ true = h in cc)
 
 none_carried : (w : Way) (merges : List MergedCell) → has_no_merge merges ≡ true → has_no_merge (merges_carried w merges) ≡ true
 unfolding merges_carried
@@ -82,7 +78,7 @@ module _ (w : Way) (is : IsWay w) where
   unfolding shows_all
   follows_shown sheet h =
       let parts = both (has_no_merge sheet.merges) (list_all (λ (entry : Position × Cell). shows entry.0 entry.1) (entries sheet.cells)) h in
-      let cells = items_follow w is cell_carried shows (λ p q cell none. with_no_array p q cell.content (if_there (tree_of cell.content) (λ tree. Some (tree_carried (at w p q) tree))) none) sheet.cells parts.1 in
+      let cells = items_follow w is cell_carried shows (λ p q cell none. no_array_carried (at w p q) p q cell.content none) sheet.cells parts.1 in
       λ i. none_carried w sheet.merges parts.0 i && cells i
 
 all_follow : (f : Sheet → Sheet) → ((sheet : Sheet) → shows_all sheet ≡ true → shows_all (f sheet) ≡ true) → (sheets : List Sheet) → list_all shows_all sheets ≡ true → list_all shows_all (map f sheets) ≡ true
@@ -119,3 +115,8 @@ open_place sheet h row column = go (place_of row column)
     go : (r : Result Position EditError) → and_then r (free_place sheet) ≡ r
     go (Ok place) = free place
     go (Err error) = refl
+
+-- what is found is what was looked for
+pub found_is : {T : Type 0} (result expected : Result T EditError) → result ≡ expected → IfOk result (λ value. expected ≡ Ok value)
+found_is (Ok value) expected is = sym is
+found_is (Err error) expected is = tt

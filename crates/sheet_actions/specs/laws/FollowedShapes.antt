@@ -329,12 +329,12 @@ module _ (a : Along) (is : IsAxis a) (kind : EditKind) (valid : IsValid a.last k
         let here = begins p r at in
         let found = line_of_place a is kind valid (anchor_place r) q (ap (place_image a (image_at a.last kind)) here ∙ sym (goes_on p) ∙ goes) in
         let whole_array : Whole a.last kind (first_line a r) (last_line a r) found.0 = record {
-              first_inside = first_inside a is r inside;
-              some = lines_in_order a is r inside;
-              room = room_for kind whole.room (last_line a r) (array_ends a is sheet p x.cell r x.held x.shows (sym here) inside) (last_inside a is r inside).1;
-              unsplit = unsplit r inside (none_in position_cmp position_total exact_positions (λ place cell. array_at place cell.content) (splits_rectangle a kind) sheet.cells whole.arrays p r at);
-              goes = found.1;
-            } in
+          first_inside = first_inside a is r inside;
+          some = lines_in_order a is r inside;
+          room = room_for kind whole.room (last_line a r) (array_ends a is sheet p x.cell r x.held x.shows (sym here) inside) (last_inside a is r inside).1;
+          unsplit = unsplit r inside (none_in position_cmp position_total exact_positions (λ place cell. array_at place cell.content) (splits_rectangle a kind) sheet.cells whole.arrays p r at);
+          goes = found.1;
+        } in
         let f = whole_follows a is kind valid r found.0 inside whole_array in
         let same : with_lines a r found.0 (found.0 +ℤ (last_line a r -ℤ first_line a r)) ≡ placed_at q r = sym (put_lines a is kind valid r found.0) ∙ ap (λ x. placed_at x r) found.2 in
         along_way r (placed_at q r) (subst (Follows (place_image a (image_at a.last kind)) (source_place a kind) r) same f)

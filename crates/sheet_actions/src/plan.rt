@@ -148,12 +148,7 @@ fn deletion_refusal<A: Axis>(first: i32, count: i32, sheet: &Worksheet) -> Optio
 
 /// The first refusal of a move.
 #[tactic(auto, unfolding(crate::specs::Planned::refusal_of))]
-fn move_refusal<A: Axis>(
-    first: i32,
-    count: i32,
-    delta: i32,
-    sheet: &Worksheet,
-) -> Option<EditError>
+fn move_refusal<A: Axis>(first: i32, count: i32, delta: i32, sheet: &Worksheet) -> Option<EditError>
     ensures { result ≡ refusal_of A.along (Move first count delta) sheet.now }
 {
     let edit = LineEdit::<A>::new(EditKind::Move {

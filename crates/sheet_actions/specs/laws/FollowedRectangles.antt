@@ -1,5 +1,5 @@
 -- A sheet whose arrays and merges follow keeps the rules of arrays, of merges, and of the places that they cover.
-use Rattle.std.proofs.Common.{◌≡◌, ◌≢◌, Bool, true, false, not, ◌&&◌, Option, Some, None, refl, ap, sym, subst, ◌∙◌}
+use Rattle.std.proofs.Common.{◌≡◌, Bool, true, false, not, ◌&&◌, Option, Some, refl, ap, sym, ◌∙◌}
 use Rattle.std.specs.List.{list_all, list_any, filter_map}
 use Rattle.std.specs.Option.{option_and_then}
 use Rattle.std.specs.Cmp.{signed_Decides}
@@ -9,7 +9,7 @@ use Rattle.base_values.specs.declared.Position.{Position}
 use Rattle.base_values.specs.Places.{same_position}
 use Rattle.base_values.specs.laws.Places.{position_equiv}
 use Rattle.base_axis.specs.declared.MergedCell.{MergedCell}
-use Rattle.base_axis.specs.Rectangles.{holds, meets, anchor_place, is_inside}
+use Rattle.base_axis.specs.Rectangles.{holds, meets, anchor_place}
 use Rattle.base_axis.specs.laws.RectangleLaws.{inside_passes}
 use Rattle.sheet_grid.specs.declared.Cell.{Cell}
 use Rattle.sheet_grid.specs.Arrays.{array_at, large_array_at}

@@ -6,7 +6,7 @@ use Rattle.std.specs.Option.{option_map, option_and_then}
 use Rattle.std.specs.FinMap.{get}
 use Rattle.std.proofs.lemmas.Int.{ints}
 use Rattle.base_values.specs.declared.Position.{Position}
-use Rattle.base_values.specs.Places.{IsLine, position_cmp}
+use Rattle.base_values.specs.Places.{position_cmp}
 use Rattle.base_values.specs.laws.Places.{position_total, exact_positions}
 use Rattle.base_axis.specs.Along.{Along, IsAxis}
 use Rattle.base_axis.specs.declared.MergedCell.{MergedCell}
@@ -24,7 +24,6 @@ use Rattle.line_edits.specs.Moves.{edit_moves, place_image}
 use Rattle.line_edits.specs.Splits.{splits}
 use Rattle.line_edits.specs.laws.OneToOne.{edit_one_to_one}
 use Rattle.line_map.specs.Contents.{content_carried, cell_carried}
-use Rattle.line_map.specs.Maps.{places_carried}
 use Rattle.line_map.specs.Merges.{merge_carried, merges_carried}
 use Rattle.line_map.specs.Way.{Way, IsWay, at, back, place_goes}
 use Rattle.line_map.specs.laws.WayLaws.{goes_inverse}
@@ -35,7 +34,7 @@ use Rattle.sheet_grid.specs.Sheet.{Sheet}
 use Rattle.sheet_rules.specs.Occupied.{have_arrays, have_merges, are_hidden_blank, is_merge, array_in}
 use Rattle.sheet_rules.specs.laws.EntryLaws.{both}
 use Rattle.sheet_rules.specs.laws.ShownLaws.{neither, not_true, none_in}
-use Rattle.sheet_rules.specs.laws.OccupiedLaws.{KeepsArrays, keeps_arrays, have_arrays_from, KeepsMerges, keeps_merges, have_merges_from, KeepsHidden, keeps_hidden, are_hidden_blank_from}
+use Rattle.sheet_rules.specs.laws.OccupiedLaws.{KeepsArrays, keeps_arrays, have_arrays_from, KeepsMerges, keeps_merges, have_merges_from, keeps_hidden, are_hidden_blank_from}
 use Rattle.sheet_lines.specs.Followed.{way_of, sheet_followed}
 use Rattle.sheet_actions.specs.GreatestLine.{greatest_line}
 use Rattle.sheet_actions.specs.Planned.{splits_rectangle}
@@ -330,12 +329,12 @@ module _ (a : Along) (is : IsAxis a) (kind : EditKind) (valid : IsValid a.last k
         let here = begins p r at in
         let found = line_of_place a is kind valid (anchor_place r) q (ap (place_image a (image_at a.last kind)) here ∙ sym (goes_on p) ∙ goes) in
         let whole_array : Whole a.last kind (first_line a r) (last_line a r) found.0 = record {
-              first_inside = first_inside a is r inside;
-              some = lines_in_order a is r inside;
-              room = room_for kind whole.room (last_line a r) (array_ends a is sheet p x.cell r x.held x.shows (sym here) inside) (last_inside a is r inside).1;
-              unsplit = unsplit r inside (none_in position_cmp position_total exact_positions (λ place cell. array_at place cell.content) (splits_rectangle a kind) sheet.cells whole.arrays p r at);
-              goes = found.1;
-            } in
+          first_inside = first_inside a is r inside;
+          some = lines_in_order a is r inside;
+          room = room_for kind whole.room (last_line a r) (array_ends a is sheet p x.cell r x.held x.shows (sym here) inside) (last_inside a is r inside).1;
+          unsplit = unsplit r inside (none_in position_cmp position_total exact_positions (λ place cell. array_at place cell.content) (splits_rectangle a kind) sheet.cells whole.arrays p r at);
+          goes = found.1;
+        } in
         let f = whole_follows a is kind valid r found.0 inside whole_array in
         let same : with_lines a r found.0 (found.0 +ℤ (last_line a r -ℤ first_line a r)) ≡ placed_at q r = sym (put_lines a is kind valid r found.0) ∙ ap (λ x. placed_at x r) found.2 in
         along_way r (placed_at q r) (subst (Follows (place_image a (image_at a.last kind)) (source_place a kind) r) same f)

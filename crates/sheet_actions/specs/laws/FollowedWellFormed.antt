@@ -77,8 +77,8 @@ followed_well_formed a lawful e valid id book h allowed =
     let is : (sheet : Sheet) → IsWay (way_of a m id edited sheet) = λ sheet. record { axis = lawful; one_to_one = edit_one_to_one a.last e valid } in
     let rules = well_formed_parts book h in
     let kept = all_keep f (λ sheet. (sheet.id == id) ≡ true → LeavesWhole a e sheet) (λ sheet whole keeps. rectangles_stay a lawful e valid id edited sheet keeps whole) book.worksheets
-          (each_of_id (LeavesWhole a e) id book.worksheets (distinct_ids_from_well_formed book h) allowed)
-          (each_keeps book.worksheets rules.arrays rules.merges rules.hidden) in
+    (each_of_id (LeavesWhole a e) id book.worksheets (distinct_ids_from_well_formed book h) allowed)
+    (each_keeps book.worksheets rules.arrays rules.merges rules.hidden) in
     well_formed_from_parts (book_followed a e id book)
     (record {
       sheets = sheets_stay a m id edited book.worksheets ∙ rules.sheets;

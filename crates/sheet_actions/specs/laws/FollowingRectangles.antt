@@ -1,13 +1,12 @@
 -- Rectangles that follow an edit, by the places that theirs were before.
-use Rattle.std.proofs.Common.{◌≡◌, ◌≢◌, ◌⊎◌, ⊎_elim, ℤ, pos, ◌+ℤ◌, ◌-ℤ◌, ◌≤ℤ◌, Bool, true, false, ◌&&◌, ◌||◌, Option, Some, None, refl, arith, ap, sym, subst, ◌∙◌}
-use Rattle.std.specs.Prelude.{int_lt, int_le}
+use Rattle.std.proofs.Common.{◌≡◌, ⊎_elim, ℤ, pos, ◌+ℤ◌, ◌-ℤ◌, ◌≤ℤ◌, Bool, true, false, ◌&&◌, ◌||◌, Option, Some, None, refl, arith, ap, sym, subst, ◌∙◌}
+use Rattle.std.specs.Prelude.{int_lt}
 use Rattle.std.proofs.lemmas.Int.{ints}
 use Rattle.base_values.specs.declared.Position.{Position}
-use Rattle.base_values.specs.Places.{IsLine}
 use Rattle.base_axis.specs.Along.{Along, IsAxis, rows, columns}
 use Rattle.base_axis.specs.declared.MergedCell.{MergedCell}
-use Rattle.base_axis.specs.Rectangles.{IsInside, is_between, holds, meets, has_many, anchor_place, first_line, last_line, line_count, across, first_cross, last_cross, line_span, last_of, with_lines}
-use Rattle.base_axis.specs.laws.RectangleLaws.{shared_meets, Shared, meets_shared, first_put, last_put, across_stays, first_cross_stays, last_cross_stays, first_inside, last_inside, lines_in_order, put_lines_inside, holds_along, has_many_along}
+use Rattle.base_axis.specs.Rectangles.{IsInside, is_between, holds, meets, anchor_place, first_line, last_line, across, first_cross, last_cross, line_span, last_of, with_lines}
+use Rattle.base_axis.specs.laws.RectangleLaws.{shared_meets, meets_shared, first_put, last_put, first_cross_stays, last_cross_stays, put_lines_inside, holds_along}
 use Rattle.line_edits.specs.declared.EditKind.{EditKind}
 use Rattle.line_edits.specs.Edit.{image_at, IsValid}
 use Rattle.line_edits.specs.Moves.{place_image, at_line}
@@ -57,16 +56,16 @@ module _ (a : Along) (is : IsAxis a) (kind : EditKind) where
   pub put_came_from : (r : MergedCell) (f l : ℤ) → ((m : ℤ) → f ≤ℤ m → m ≤ℤ l → Stood kind (first_line a r) (last_line a r) m) → CameFrom (source_place a kind) r (with_lines a r f l)
   put_came_from r f l stood place h =
       let split = parts (is_between (first_line a (with_lines a r f l)) (last_line a (with_lines a r f l)) (a.line place))
-          (is_between (first_cross a (with_lines a r f l)) (last_cross a (with_lines a r f l)) (a.cross place)) (sym (holds_along a is (with_lines a r f l) place) ∙ h) in
+      (is_between (first_cross a (with_lines a r f l)) (last_cross a (with_lines a r f l)) (a.cross place)) (sym (holds_along a is (with_lines a r f l) place) ∙ h) in
       let on_line : is_between f l (a.line place) ≡ true = sym (λ i. is_between (first_put a is r f l i) (last_put a is r f l i) (a.line place)) ∙ split.0 in
       let on_cross : is_between (first_cross a r) (last_cross a r) (a.cross place) ≡ true =
-          sym (λ i. is_between (first_cross_stays a is r f l i) (last_cross_stays a is r f l i) (a.cross place)) ∙ split.1 in
+      sym (λ i. is_between (first_cross_stays a is r f l i) (last_cross_stays a is r f l i) (a.cross place)) ∙ split.1 in
       let own = stood (a.line place) (low_of f l (a.line place) on_line) (high_of f l (a.line place) on_line) in
       let back = source_place a kind place in
       let line_back : is_between (first_line a r) (last_line a r) (a.line back) ≡ true =
-          ap (is_between (first_line a r) (last_line a r)) (is.line_put place (source kind (a.line place))) ∙ between_from (first_line a r) (last_line a r) (source kind (a.line place)) own.low own.high in
+      ap (is_between (first_line a r) (last_line a r)) (is.line_put place (source kind (a.line place))) ∙ between_from (first_line a r) (last_line a r) (source kind (a.line place)) own.low own.high in
       let cross_back : is_between (first_cross a r) (last_cross a r) (a.cross back) ≡ true =
-          ap (is_between (first_cross a r) (last_cross a r)) (is.cross_stays place (source kind (a.line place))) ∙ on_cross in
+      ap (is_between (first_cross a r) (last_cross a r)) (is.cross_stays place (source kind (a.line place))) ∙ on_cross in
       holds_along a is r back ∙ passes (is_between (first_line a r) (last_line a r) (a.line back)) (is_between (first_cross a r) (last_cross a r) (a.cross back)) line_back cross_back
 
   -- a place that went somewhere came from where it was

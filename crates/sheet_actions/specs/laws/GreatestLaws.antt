@@ -1,15 +1,14 @@
 -- The greatest line of a sheet: it is at least 1, and no array ends behind it.
 use Rattle.std.proofs.Common.{◌≡◌, ℤ, pos, ◌≤ℤ◌, Bool, true, List, [], ◌∷◌, map, Option, Some, None, refl, ap, sym, ◌∙◌, arith}
-use Rattle.std.specs.Prelude.{◌&&◌, int_le, int_lt, if◌then◌else◌}
-use Rattle.std.specs.Int.{int_max}
-use Rattle.std.specs.List.{list_all, fold, AllByRecursion}
+use Rattle.std.specs.Prelude.{◌&&◌, int_le}
+use Rattle.std.specs.List.{list_all, AllByRecursion}
 use Rattle.std.proofs.lemmas.Int.{ints, fold-int_max_bounds}
 use Rattle.std.proofs.lemmas.List.Elements.{recursion_from_All}
 use Rattle.std.specs.FinMap.{entries, get}
 use Rattle.base_values.specs.declared.Position.{Position}
 use Rattle.base_values.specs.Places.{position_cmp}
 use Rattle.base_values.specs.laws.Places.{position_total, exact_positions}
-use Rattle.base_axis.specs.Along.{Along, IsAxis, rows, columns}
+use Rattle.base_axis.specs.Along.{Along, IsAxis}
 use Rattle.base_axis.specs.declared.MergedCell.{MergedCell}
 use Rattle.base_axis.specs.Rectangles.{IsInside, last_of, last_line}
 use Rattle.sheet_grid.specs.declared.Cell.{Cell}

@@ -1,7 +1,6 @@
 -- Where the lines stood before an edit that a merge then takes.
-use Rattle.std.proofs.Common.{◌≡◌, ℤ, pos, ◌+ℤ◌, ◌-ℤ◌, ◌≤ℤ◌, Bool, true, false, Option, Some, None, refl, arith, ap, sym, ◌∙◌}
-use Rattle.std.specs.Prelude.{int_lt, ◌||◌, ◌&&◌, if◌then◌else◌}
-use Rattle.std.specs.Ordering.{int_eq}
+use Rattle.std.proofs.Common.{◌≡◌, ℤ, pos, ◌+ℤ◌, ◌-ℤ◌, ◌≤ℤ◌, Bool, true, false, Option, Some, refl, arith, ap, sym, ◌∙◌}
+use Rattle.std.specs.Prelude.{int_lt, ◌||◌, if◌then◌else◌}
 use Rattle.std.proofs.lemmas.Int.{ints}
 use Rattle.base_values.specs.Places.{IsLine}
 use Rattle.line_edits.specs.declared.EditKind.{EditKind}
@@ -33,54 +32,54 @@ module _ (most c k first end across f l : ℤ) (v : IsWithin most c k) (a : IsLi
   insert_stood : merged_by most (Insert c k) first end across ≡ Some (f, l) → (m : ℤ) → f ≤ℤ m → m ≤ℤ l → Stood (Insert c k) first end m
   unfolding merged_by source
   insert_stood h m low high =
-     let few = v.amount.0 in
-     let left = left_from across (pushed_on c k first) (cut_to most (pushed_on c k end)) f l wide h in
-     let p = left.first_is in let q = left.last_is in
-     record { low = grind (arith, ints); high = grind (arith, ints) }
+      let few = v.amount.0 in
+      let left = left_from across (pushed_on c k first) (cut_to most (pushed_on c k end)) f l wide h in
+      let p = left.first_is in let q = left.last_is in
+      record { low = grind (arith, ints); high = grind (arith, ints) }
 
   delete_stood : merged_by most (Delete c k) first end across ≡ Some (f, l) → (m : ℤ) → f ≤ℤ m → m ≤ℤ l → Stood (Delete c k) first end m
   unfolding merged_by source
   delete_stood h m low high =
-     let few = v.amount.0 in
-     let left = left_from across (fallen_to c k c first) (fallen_to c k (c -ℤ pos 1) end) f l wide h in
-     let p = left.first_is in let q = left.last_is in
-     record { low = grind (arith, ints); high = grind (arith, ints) }
+      let few = v.amount.0 in
+      let left = left_from across (fallen_to c k c first) (fallen_to c k (c -ℤ pos 1) end) f l wide h in
+      let p = left.first_is in let q = left.last_is in
+      record { low = grind (arith, ints); high = grind (arith, ints) }
 
   -- the first line of a merge goes where its own line goes
   insert_first : merged_by most (Insert c k) first end across ≡ Some (f, l) → (m : ℤ) → image_at most (Insert c k) first ≡ Some m → m ≡ f
   unfolding merged_by image_at goes_to within
   insert_first h m i =
-     let few = v.amount.0 in
-     let left = left_from across (pushed_on c k first) (cut_to most (pushed_on c k end)) f l wide h in
-     let p = left.first_is in
-     grind (arith, ints)
+      let few = v.amount.0 in
+      let left = left_from across (pushed_on c k first) (cut_to most (pushed_on c k end)) f l wide h in
+      let p = left.first_is in
+      grind (arith, ints)
 
   delete_first : merged_by most (Delete c k) first end across ≡ Some (f, l) → (m : ℤ) → image_at most (Delete c k) first ≡ Some m → m ≡ f
   unfolding merged_by image_at goes_to within
   delete_first h m i =
-     let few = v.amount.0 in
-     let left = left_from across (fallen_to c k c first) (fallen_to c k (c -ℤ pos 1) end) f l wide h in
-     let p = left.first_is in
-     grind (arith, ints)
+      let few = v.amount.0 in
+      let left = left_from across (fallen_to c k c first) (fallen_to c k (c -ℤ pos 1) end) f l wide h in
+      let p = left.first_is in
+      grind (arith, ints)
 
   insert_left : merged_by most (Insert c k) first end across ≡ Some (f, l) → (pos 1 ≤ℤ f) × (f ≤ℤ l) × (l ≤ℤ most) × ((int_lt f l || int_lt (pos 1) across) ≡ true)
   unfolding merged_by
   insert_left h =
-     let few = v.amount.0 in
-     let low = a.0 in
-     let left = left_from across (pushed_on c k first) (cut_to most (pushed_on c k end)) f l wide h in
-     let p = left.first_is in let q = left.last_is in
-     (grind (arith, ints), left.some, grind (arith, ints), left.many)
+      let few = v.amount.0 in
+      let low = a.0 in
+      let left = left_from across (pushed_on c k first) (cut_to most (pushed_on c k end)) f l wide h in
+      let p = left.first_is in let q = left.last_is in
+      (grind (arith, ints), left.some, grind (arith, ints), left.many)
 
   delete_left : merged_by most (Delete c k) first end across ≡ Some (f, l) → (pos 1 ≤ℤ f) × (f ≤ℤ l) × (l ≤ℤ most) × ((int_lt f l || int_lt (pos 1) across) ≡ true)
   unfolding merged_by
   delete_left h =
-     let few = v.amount.0 in
-     let start = v.begins.0 in
-     let low = a.0 in
-     let left = left_from across (fallen_to c k c first) (fallen_to c k (c -ℤ pos 1) end) f l wide h in
-     let p = left.first_is in let q = left.last_is in
-     (grind (arith, ints), left.some, grind (arith, ints), left.many)
+      let few = v.amount.0 in
+      let start = v.begins.0 in
+      let low = a.0 in
+      let left = left_from across (fallen_to c k c first) (fallen_to c k (c -ℤ pos 1) end) f l wide h in
+      let p = left.first_is in let q = left.last_is in
+      (grind (arith, ints), left.some, grind (arith, ints), left.many)
 
 same_pair : (a b c d : ℤ) → ◌≡◌ {A = Option (ℤ × ℤ)} (Some (a, b)) (Some (c, d)) → (a ≡ c) × (b ≡ d)
 same_pair a b c d h = let p : ◌≡◌ {A = ℤ × ℤ} (a, b) (c, d) = cc in (ap (λ t. t.0) p, ap (λ t. t.1) p)

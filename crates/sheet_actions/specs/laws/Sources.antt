@@ -1,5 +1,5 @@
 -- Where a line stood before an edit. One that was inserted counts as the line that it was inserted at.
-use Rattle.std.proofs.Common.{◌≡◌, ℤ, pos, ◌+ℤ◌, ◌-ℤ◌, ◌≤ℤ◌, Bool, false, Option, Some, refl, arith, ap, sym, subst, ◌∙◌}
+use Rattle.std.proofs.Common.{◌≡◌, ℤ, pos, ◌+ℤ◌, ◌-ℤ◌, ◌≤ℤ◌, false, Option, Some, refl, arith, ap, sym, subst, ◌∙◌}
 use Rattle.std.specs.Prelude.{IfSome, int_lt, if◌then◌else◌}
 use Rattle.std.proofs.lemmas.Int.{ints}
 use Rattle.base_values.specs.Places.{IsLine}

@@ -22,7 +22,7 @@ pub(crate) struct SecondCopy {
     is_open: bool,
     plain: DefaultStyle,
     ghost rules: { IsWellFormed workbook } by { Prim.hlevel props },
-    ghost open: { IsTrue is_open → IsTrue (hides_nothing workbook) } by { Prim.hlevel props },
+    ghost shown: { IsTrue is_open → IsTrue (hides_nothing workbook) } by { Prim.hlevel props },
 }
 
 impl SecondCopy {

@@ -148,7 +148,7 @@ module _ (w : Book) (index : ℕ) (row column : ℤ) (content : Content) (rules 
 
   -- a workbook that hides nothing stays one
   input_open : hides_nothing w ≡ true → hides_nothing after ≡ true
-  input_open open = ap hides_nothing (sym put_is) ∙ open-cell w sheet.id place new stands open
+  input_open shown = ap hides_nothing (sym put_is) ∙ open-cell w sheet.id place new stands shown
 
 -- an accepted input in a well-formed workbook goes both ways
 pub inputs_go_both_ways : (index : ℕ) (row column : ℤ) (content : Content) (earlier later : Book) → IsWellFormed earlier → IsInput row column content
@@ -167,8 +167,8 @@ sound_input index row column content s next sound may sendable is = sound_edit (
     step later how =
         let both = inputs_go_both_ways index row column content s.present later sound.present may how in
         let it = accepted s.present index row column content later how in
-        let open = ap hides_nothing (sym it.made) ∙ input_open s.present index row column content sound.present may it.sheet it.place it.at it.goes sound.open in
-        record { before = sound.present; after = both.rules; open_before = sound.open; open_after = open; forth = both.forth; back = both.back; exact = both.exact; spellable = sendable later how }
+        let shown = ap hides_nothing (sym it.made) ∙ input_open s.present index row column content sound.present may it.sheet it.place it.at it.goes sound.shown in
+        record { before = sound.present; after = both.rules; shown_before = sound.shown; shown_after = shown; forth = both.forth; back = both.back; exact = both.exact; spellable = sendable later how }
 
 -- a call that puts a content in the document moves as the machine does
 pub input_moves : (index : ℕ) (row column : ℤ) (content : Content) (old new : Document) (result : Result (Unit {0}) EditError) → IsInput row column content

@@ -131,15 +131,15 @@ module _ (index : ℕ) (axis : LineAxis) (kind : EditKind) where
   lines_go_both_ways earlier later rules how = lines_both earlier later (accepted earlier later rules how)
 
   lines_step : (w later : Book) → IsWellFormed w → hides_nothing w ≡ true → changed edit w ≡ Ok later → AreSpellable (record_of edit w later) → IsSoundStep (record { edit = edit; before = w; after = later })
-  lines_step w later rules open how spellable =
+  lines_step w later rules shown how spellable =
       let both = lines_go_both_ways w later rules how in
       let found = accepted w later rules how in
-      let open_after = ap hides_nothing (sym found.followed) ∙ followed_open (along_of axis) (along_lawful axis) kind found.edit.valid found.sheet.id w open in
-      record { before = rules; after = both.rules; open_before = open; open_after = open_after; forth = both.forth; back = both.back; exact = both.exact; spellable = spellable }
+      let shown_after = ap hides_nothing (sym found.followed) ∙ followed_open (along_of axis) (along_lawful axis) kind found.edit.valid found.sheet.id w shown in
+      record { before = rules; after = both.rules; shown_before = shown; shown_after = shown_after; forth = both.forth; back = both.back; exact = both.exact; spellable = spellable }
 
   -- the state after it is sound
   sound_lines : (s next : State) → IsSound s → IsSendable edit s.present → edit_of edit s ≡ Ok next → IsSound next
-  sound_lines s next sound sendable is = sound_edit edit s next sound (λ later how. lines_step s.present later sound.present sound.open how (sendable later how)) is
+  sound_lines s next sound sendable is = sound_edit edit s next sound (λ later how. lines_step s.present later sound.present sound.shown how (sendable later how)) is
 
   -- a call that edits lines in the document moves as the machine does
   pub lines_moves : (old new : Document) (result : Result (Unit {0}) EditError) → Changes result old new (document_edit edit old) → OnOk result (IsSendable edit old.book)

@@ -87,17 +87,17 @@ all_follow f h (sheet ∷ sheets) all = let parts = both (shows_all sheet) (list
 
 -- lines that are inserted, deleted or moved bring none
 pub followed_open : (a : Along) → IsAxis a → (e : EditKind) → IsValid a.last e → (id : ℕ) (book : Book) → hides_nothing book ≡ true → hides_nothing (book_followed a e id book) ≡ true
-followed_open a lawful e valid id book open =
+followed_open a lawful e valid id book shown =
     let m : LineMoves = edit_moves a.last e in
     let edited : List ℕ = name_of (sheet_of book id) in
     all_follow (λ sheet. sheet_followed (way_of a m id edited sheet) sheet)
-    (λ sheet. follows_shown (way_of a m id edited sheet) (record { axis = lawful; one_to_one = edit_one_to_one a.last e valid }) sheet) book.worksheets open
+    (λ sheet. follows_shown (way_of a m id edited sheet) (record { axis = lawful; one_to_one = edit_one_to_one a.last e valid }) sheet) book.worksheets shown
 
 -- ---- inputs
 
 -- a sheet of such a workbook has none
 pub sheet_open : (book : Book) (index : ℕ) (sheet : Sheet) → hides_nothing book ≡ true → sheet_at book index ≡ Ok sheet → shows_all sheet ≡ true
-sheet_open book index sheet open at = passes_at shows_all book.worksheets index sheet (found_some (slice_get book.worksheets index) InvalidSheet sheet at) open
+sheet_open book index sheet shown at = passes_at shows_all book.worksheets index sheet (found_some (slice_get book.worksheets index) InvalidSheet sheet at) shown
 
 -- an input may go to each place of a sheet that hides none
 pub open_place : (sheet : Sheet) → shows_all sheet ≡ true → (row column : ℤ) → input_place sheet row column ≡ place_of row column

@@ -37,8 +37,8 @@ IsSendable edit book = (later : Book) → changed edit book ≡ Ok later → Are
 pub record IsSoundStep (step : Step) : Type 0 where
   pub before : IsWellFormed step.before
   pub after : IsWellFormed step.after
-  pub open_before : hides_nothing step.before ≡ true
-  pub open_after : hides_nothing step.after ≡ true
+  pub shown_before : hides_nothing step.before ≡ true
+  pub shown_after : hides_nothing step.after ≡ true
   pub forth : forwarded step.before (step_record step) ≡ Ok step.after
   pub back : backed step.after (step_record step) ≡ Ok step.before
   pub exact : IsExact step.edit step.before step.after (step_record step)
@@ -63,7 +63,7 @@ pub record Carries (entries : List QueueDiffs) (bytes : List ℕ) (earlier later
 -- the bytes of a sync carry the workbook of the last sync to it; each list that they hold can be spelled
 pub record IsSound (s : State) : Type 0 where
   pub present : IsWellFormed s.present
-  pub open : hides_nothing s.present ≡ true
+  pub shown : hides_nothing s.present ≡ true
   pub past : Leads s.past s.present
   pub undone : Follows s.undone s.present
   pub sync : Carries (entries_of s) (sync_bytes s) s.synced s.present

@@ -70,7 +70,7 @@ impl Editor {
     pub fn workbook(&self) -> &Workbook
         ensures now { result.now ≡ self.now.book }
         ensures rules { IsWellFormed self.now.book }
-        ensures open { hides_nothing self.now.book ≡ true }
+        ensures shown { hides_nothing self.now.book ≡ true }
         ensures reached { IsReached self.now }
     {
         &self.book.workbook

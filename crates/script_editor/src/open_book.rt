@@ -220,7 +220,7 @@ impl OpenBook {
         requires kept { IsKeptContent content }
         requires input { IsInput row column content }
         requires rules { IsWellFormed self.now.workbook }
-        requires open { hides_nothing self.now.workbook ≡ true }
+        requires shown { hides_nothing self.now.workbook ≡ true }
         ensures made { Returns result (input_plan sheet row column content self.now.workbook) }
         ensures entry { IfOk result (λ plan. IfSome plan.0 IsKeptCell) }
         ensures record { IfOk result (λ plan. IsKeptList plan.1) }
@@ -272,7 +272,7 @@ impl OpenBook {
         requires kept { IsKeptContent content }
         requires input { IsInput row column content }
         requires rules { IsWellFormed self.now.workbook }
-        requires open { hides_nothing self.now.workbook ≡ true }
+        requires shown { hides_nothing self.now.workbook ≡ true }
         ensures document { Changes result (document_in self.old) (document_in self.new) (document_edit (Input sheet row column content) (document_in self.old)) }
         ensures sendable { OnOk result (IsSendable (Input sheet row column content) self.old.workbook) }
     {

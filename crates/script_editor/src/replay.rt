@@ -29,12 +29,12 @@ pub fn replay_bytes(
     bytes: &[u8],
 ) -> Result<(), EditError>
     requires rules { IsWellFormed workbook.old }
-    requires open { IsTrue is_open.old → IsTrue (hides_nothing workbook.old) }
+    requires shown { IsTrue is_open.old → IsTrue (hides_nothing workbook.old) }
     ensures replays { (entries : List Entry) → FitsQueue entries → bytes.now ≡ spell_queue entries → Replays result workbook.old workbook.new entries }
     ensures unspelled { IsNoQueue bytes.now → Edits result workbook.old workbook.new (Err ParseDiffs) }
     ensures parsed { result ≡ Err ParseDiffs → IsNoQueue bytes.now }
     ensures rules { IsWellFormed workbook.new }
-    ensures open { IsTrue is_open.new → IsTrue (hides_nothing workbook.new) }
+    ensures shown { IsTrue is_open.new → IsTrue (hides_nothing workbook.new) }
 {
     let queue = decode_queue(alloc, plain.shared(), bytes)?;
     replay_in_place(alloc, workbook, is_open, queue.as_slice())

@@ -276,10 +276,10 @@ pub fn replay_in_place(
 ) -> Result<(), EditError>
     requires kept { IsKeptQueue queue.now }
     requires rules { IsWellFormed workbook.old }
-    requires open { IsTrue is_open.old → IsTrue (hides_nothing workbook.old) }
+    requires shown { IsTrue is_open.old → IsTrue (hides_nothing workbook.old) }
     ensures replayed { Replays result workbook.old workbook.new queue.now }
     ensures rules { IsWellFormed workbook.new }
-    ensures open { IsTrue is_open.new → IsTrue (hides_nothing workbook.new) }
+    ensures shown { IsTrue is_open.new → IsTrue (hides_nothing workbook.new) }
 {
     for (index, entry) in queue.iter().enumerate() {
         follow_by_rule(alloc, workbook, entry, index as u64, is_open)?;

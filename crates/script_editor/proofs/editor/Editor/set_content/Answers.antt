@@ -10,8 +10,8 @@ use Rattle.script_editor.proofs.editor.Editor.set_content.Goals as goal
 pub enter-requires-clause-rules : goal.enter-requires-clause-rules
 enter-requires-clause-rules c = reached_rules (document_in c.self.inside.book) c.self.invariant
 
-pub enter-requires-clause-open : goal.enter-requires-clause-open
-enter-requires-clause-open c = reached_open (document_in c.self.inside.book) c.self.invariant
+pub enter-requires-clause-shown : goal.enter-requires-clause-shown
+enter-requires-clause-shown c = reached_open (document_in c.self.inside.book) c.self.invariant
 
 pub returns : goal.returns
 returns c =

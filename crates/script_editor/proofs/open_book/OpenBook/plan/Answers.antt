@@ -8,7 +8,7 @@ use Rattle.script_editor.proofs.Open.{sheet_open}
 use Rattle.script_editor.proofs.open_book.OpenBook.plan.Goals as goal
 
 pub input_place-requires : goal.input_place-requires
-input_place-requires c = sheet_open c.args.self.now.workbook c.args.sheet c.in_ok-found.found.now c.requires.open (sym (c.in_ok-found.ensures {u = _}))
+input_place-requires c = sheet_open c.args.self.now.workbook c.args.sheet c.in_ok-found.found.now c.requires.shown (sym (c.in_ok-found.ensures {u = _}))
 
 pub cell_change-requires-clause-old_shallow : goal.cell_change-requires-clause-old_shallow
 cell_change-requires-clause-old_shallow c =

@@ -16,8 +16,6 @@ use Rattle.base_axis.specs.Rectangles.{last_of}
 use Rattle.line_edits.specs.declared.EditKind.{EditKind}
 use Rattle.line_edits.specs.declared.EditKind.TheVariants.{Insert, Delete, Move}
 use Rattle.sheet_grid.specs.declared.Cell.{Cell}
-use Rattle.sheet_grid.specs.declared.LineAttr.{LineAttr}
-use Rattle.sheet_grid.specs.declared.Link.{Link}
 use Rattle.sheet_grid.specs.declared.WorksheetDimension.{WorksheetDimension}
 use Rattle.sheet_grid.specs.Arrays.{array_at}
 use Rattle.sheet_grid.specs.Dimension.{reached, extent_at, extent_of, extents_of, last_corner}
@@ -84,28 +82,16 @@ up_to axis top (cell ∷ cells) inside most =
       up_to axis top cells parts.1 most.1,
     )
 
+first_of : (a b c d : Bool) → (a && b && c && d) ≡ true → a ≡ true
+first_of a b c d h = (both a b (both (a && b) c (both (a && b && c) d h).0).0).0
+
 -- no cell of a sheet stands behind its greatest line
 cells_up_to : (axis : LineAxis) (sheet : Sheet) → stands_inside sheet ≡ true → AllUpTo (along_of axis) (greatest_line (along_of axis) sheet) (entries sheet.cells)
 unfolding greatest_line stands_inside
 cells_up_to axis sheet inside =
     let lines : List ℤ = map (λ (extent : WorksheetDimension). (along_of axis).line (last_corner extent)) (extents_of sheet.cells) in
-    up_to axis (greatest_line (along_of axis) sheet) (entries sheet.cells) (all_cells inside)
+    up_to axis (greatest_line (along_of axis) sheet) (entries sheet.cells) (first_of _ _ _ _ inside)
     (recursion_from_All (λ line. line ≤ℤ greatest_line (along_of axis) sheet) lines (fold-int_max_bounds (pos 1) lines (greatest_line (along_of axis) sheet) refl).1)
-  where
-    abbrev c : Bool
-    c = list_all (λ (entry : Position × Cell). is_place entry.0) (entries sheet.cells)
-
-    abbrev l : Bool
-    l = list_all (λ (entry : Position × Link). is_place entry.0) (entries sheet.links)
-
-    abbrev r : Bool
-    r = list_all (λ (entry : ℤ × LineAttr). is_line (pos 1048576) entry.0) (entries sheet.rows)
-
-    abbrev n : Bool
-    n = list_all (λ (entry : ℤ × LineAttr). is_line (pos 16384) entry.0) (entries sheet.columns)
-
-    all_cells : (c && l && r && n) ≡ true → c ≡ true
-    all_cells h = (both c l (both (c && l) r (both (c && l && r) n h).0).0).0
 
 -- an edit that leaves arrays and merges whole pushes no cell past the last line
 stays_whole : (axis : LineAxis) (kind : EditKind) (sheet : Sheet) → stands_inside sheet ≡ true → LeavesWhole (along_of axis) kind sheet → stays_inside (along_of axis) kind sheet ≡ true

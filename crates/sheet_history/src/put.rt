@@ -55,17 +55,22 @@ fn cell_stands_at(place: Position, entry: &Option<Shared<Cell>>) -> bool
     }
 }
 
+fn index_of(workbook: &Workbook, id: u32) -> Option<usize>
+    ensures { result ≡ index_of workbook.now id }
+{
+    workbook
+        .worksheets()
+        .iter()
+        .position(|sheet| sheet.get_sheet_id() == id)
+}
+
 /// The index of the first sheet of an id. One that 32 bits do not count is not found for want of
 /// memory, since no machine holds so many sheets.
-fn index_of(workbook: &Workbook, id: u32) -> Result<Option<u32>, EditError>
+fn sheet_index(workbook: &Workbook, id: u32) -> Result<Option<u32>, EditError>
     ensures index { IfOk result (λ index. index ≡ index_of workbook.now id) }
     ensures only { IsOkUnless result NoMemory }
 {
-    let found = workbook
-        .worksheets()
-        .iter()
-        .position(|sheet| sheet.get_sheet_id() == id);
-    match found {
+    match index_of(workbook, id) {
         Some(index) => match u32::try_from(index) {
             Ok(index) => Ok(Some(index)),
             Err(_) => Err(EditError::NoMemory),
@@ -138,7 +143,7 @@ pub(crate) fn put_cell(
     ensures edits { Edits result workbook.old workbook.new (put_in at workbook.old (CellKey id place) (CellValue entry.now)) }
     ensures placed { OnOk result (IsPlacedBook workbook.new) }
 {
-    let Some(index) = index_of(workbook, id)? else {
+    let Some(index) = sheet_index(workbook, id)? else {
         return Err(EditError::DiffRefused { entry: 0, diff: at });
     };
     let sheet = workbook.worksheet_mut(index)?;
@@ -157,7 +162,7 @@ pub(crate) fn put_link(
     ensures edits { Edits result workbook.old workbook.new (put_in at workbook.old (LinkKey id place) (LinkValue entry.now)) }
     ensures placed { OnOk result (IsPlacedBook workbook.new) }
 {
-    let Some(index) = index_of(workbook, id)? else {
+    let Some(index) = sheet_index(workbook, id)? else {
         return Err(EditError::DiffRefused { entry: 0, diff: at });
     };
     let sheet = workbook.worksheet_mut(index)?;
@@ -176,7 +181,7 @@ pub(crate) fn put_merges(
     ensures edits { Edits result workbook.old workbook.new (put_in at workbook.old (MergesKey id) (MergesValue merges.now)) }
     ensures placed { OnOk result (IsPlacedBook workbook.new) }
 {
-    let Some(index) = index_of(workbook, id)? else {
+    let Some(index) = sheet_index(workbook, id)? else {
         return Err(EditError::DiffRefused { entry: 0, diff: at });
     };
     let sheet = workbook.worksheet_mut(index)?;

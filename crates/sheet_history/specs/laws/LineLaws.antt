@@ -53,7 +53,7 @@ use Rattle.sheet_rules.specs.laws.WellFormedLaws.{well_formed_parts, cells_fit_f
 use Rattle.sheet_lines.specs.declared.KeptLines.{KeptLines}
 use Rattle.sheet_lines.specs.Sheets.{sheet_of, name_of}
 use Rattle.sheet_lines.specs.Followed.{way_of, sheet_followed, book_followed}
-use Rattle.sheet_lines.specs.Kept.{lines_of, of_sheet, kept_lines}
+use Rattle.sheet_lines.specs.Kept.{lines_of, of_sheet, merges_kept, kept_lines}
 use Rattle.sheet_lines.specs.Back.{book_back}
 use Rattle.sheet_lines.specs.laws.Regained.{book_regained, formulas_at}
 use Rattle.sheet_lines.specs.laws.Stays.{way_is}
@@ -64,20 +64,6 @@ use Rattle.sheet_history.specs.laws.Entries.{all_entries, entry_holds}
 use Rattle.sheet_history.specs.laws.RuleLaws.{KeepsSheetRules, sheet_rules}
 use Rattle.sheet_history.specs.laws.SoundEntries.{array_inside, sheet_merges_inside}
 use Rattle.sheet_history.specs.laws.KeptTrees.{IsTreeThere, tree_there, kept_fits, formula_there}
-
--- what holds of all holds of what is found
-module _ {X : Type 0} (p : X → Bool) where
-  found_of_each : (P : X → Type 0) (xs : List X) (x : X) → find p xs ≡ Some x → AllByRecursion P xs → P x
-  found_of_each P [] x h all = absurd (cc)
-  found_of_each P (y ∷ ys) x h all = go (λ it. found_of_each P ys x it all.1) (p y) h
-    where
-      go : (find p ys ≡ Some x → P x) → (b : Bool) → cond b (Some y) (find p ys) ≡ Some x → P x
-      go rest true it = let same : y ≡ x = cc in subst P same all.0
-      go rest false it = rest it
-
-each_passes : {X : Type 0} (P : X → Bool) (xs : List X) → list_all P xs ≡ true → AllByRecursion (λ x. P x ≡ true) xs
-each_passes P [] all = tt
-each_passes P (x ∷ xs) all = ((both (P x) (list_all P xs) all).0, each_passes P xs (both (P x) (list_all P xs) all).1)
 
 module _ {K X : Type 0} (R : K → K → Ordering) (total : IsTotalOrder R) (exact : CmpEqualImpliesEq R) (to : K → Option K) (m : FinMap R X) where
   -- a lost entry is one of the map, and its key goes nowhere
@@ -93,6 +79,19 @@ module _ {K X : Type 0} (R : K → K → Ordering) (total : IsTotalOrder R) (exa
   lost_keys test all = all_entries R total exact (λ e. test e.0 && is_none (to e.0)) (lost_map to m) (λ k x found.
       let it = lost_entry k x found in
       λ i. entry_holds R total exact (λ e. test e.0) m all k x it.0 i && it.1 i)
+
+-- whether the array of an entry, if it is one, lies inside
+abbrev array_lies : Position × Cell → Bool
+array_lies entry = lies_inside (array_at entry.0 entry.1.content)
+
+either_inside : (b : Bool) (merges : List MergedCell) → list_all is_inside merges ≡ true → merges_inside (cond b None (Some merges)) ≡ true
+either_inside true merges all = refl
+either_inside false merges all = all
+
+-- what is kept of merges that lie inside does too
+part_inside : (w : Way) (merges : List MergedCell) → list_all is_inside merges ≡ true → merges_inside (merges_part w merges) ≡ true
+unfolding part_by_trial
+part_inside w merges all = either_inside (comes_back equality.ghosts.eq merges_carried w merges) merges all
 
 -- what a sheet has stands inside it, map by map
 record StandsInside (sheet : Sheet) : Type 0 where
@@ -188,10 +187,10 @@ module _ (a : Along) (l : IsAxis a) (e : EditKind) (valid : IsValid a.last e) (i
     way_in sheet = way_on (name_of (sheet_of book id)) sheet
 
     sheet_fits : (n : ℕ) (s : Sheet) → sheet_of book n ≡ Some s → CellsFit s
-    sheet_fits n s h = cells_fit_from_trees s (found_of_each (λ s. s.id == n) (λ s. have_trees s ≡ true) book.worksheets s h (each_passes have_trees book.worksheets (well_formed_parts book rules).trees))
+    sheet_fits n s h = cells_fit_from_trees s (sheet_rules book rules n s h).trees
 
     sheet_inside : (n : ℕ) (s : Sheet) → sheet_of book n ≡ Some s → StandsInside s
-    sheet_inside n s h = inside_parts s (found_of_each (λ s. s.id == n) (λ s. stands_inside s ≡ true) book.worksheets s h (each_passes stands_inside book.worksheets (well_formed_parts book rules).inside))
+    sheet_inside n s h = inside_parts s (sheet_rules book rules n s h).inside
 
     -- a kept tree is one of a cell of a sheet
     record IsOfSheet (key : SheetPlace) (tree : Node) : Type 0 where
@@ -275,13 +274,10 @@ module _ (a : Along) (l : IsAxis a) (e : EditKind) (valid : IsValid a.last e) (i
           keeps : KeepsSheetRules sheet
           keeps = sheet_rules book rules id sheet found
 
-          abbrev test : Position × Cell → Bool
-          test entry = lies_inside (array_at entry.0 entry.1.content)
-
-          arrays : list_all test (entries kept.cells) ≡ true
+          arrays : list_all array_lies (entries kept.cells) ≡ true
           arrays =
-              ap (λ o. list_all test (entries (of_sheet (λ (s : Sheet). lost_map (place_image a (image_at a.last e)) s.cells) o))) found
-              ∙ all_entries position_cmp position_total exact_positions test (lost_map (place_image a (image_at a.last e)) sheet.cells)
+              ap (λ o. list_all array_lies (entries (of_sheet (λ (s : Sheet). lost_map (place_image a (image_at a.last e)) s.cells) o))) found
+              ∙ all_entries position_cmp position_total exact_positions array_lies (lost_map (place_image a (image_at a.last e)) sheet.cells)
               (λ p cell there. array_inside sheet keeps.arrays p cell (lost_entry position_cmp position_total exact_positions (place_image a (image_at a.last e)) sheet.cells p cell there).0)
 
           merges : merges_inside kept.merges ≡ true

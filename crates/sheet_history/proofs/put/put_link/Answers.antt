@@ -1,5 +1,5 @@
 use Rattle.std.proofs.Common.{◌≡◌, None, Some, Ok, Err, sym, ◌∙◌, rules}
-use Rattle.sheet_grid.specs.Book.{index_of, sheet_at}
+use Rattle.sheet_grid.specs.Book.{index_of, sheet_at, with_sheet}
 use Rattle.sheet_history.specs.Entries.EntryKey.{LinkKey}
 use Rattle.sheet_history.specs.Entries.EntryValue.{LinkValue}
 use Rattle.sheet_history.specs.laws.PutLaws.{accepts-missing, put_in-refused, sheet_at_there, Edits-put_in}
@@ -25,4 +25,4 @@ returns-clause-edits c =
 
 pub returns-clause-placed : goal.returns-clause-placed
 returns-clause-placed c =
-    edit_placed c.args.at c.args.workbook.now (LinkKey c.args.id c.args.place) (LinkValue c.args.entry.now) c.finish.workbook c.put_link_in.result c.requires (returns-clause-edits c)
+    edit_placed c.args.at c.args.workbook.now (LinkKey c.args.id c.args.place) (LinkValue c.args.entry.now) (with_sheet c.args.workbook.now c.in-Some.index c.put_link_in.new.sheet) c.put_link_in.result c.requires (returns-clause-edits c)

@@ -1,5 +1,5 @@
 use Rattle.std.proofs.Common.{◌≡◌, None, Some, Ok, Err, sym, ◌∙◌, rules}
-use Rattle.sheet_grid.specs.Book.{index_of, sheet_at}
+use Rattle.sheet_grid.specs.Book.{index_of, sheet_at, with_sheet}
 use Rattle.sheet_history.specs.Entries.EntryKey.{MergesKey}
 use Rattle.sheet_history.specs.Entries.EntryValue.{MergesValue}
 use Rattle.sheet_history.specs.laws.PutLaws.{accepts-missing, put_in-refused, sheet_at_there, Edits-put_in}
@@ -25,4 +25,4 @@ returns-clause-edits c =
 
 pub returns-clause-placed : goal.returns-clause-placed
 returns-clause-placed c =
-    edit_placed c.args.at c.args.workbook.now (MergesKey c.args.id) (MergesValue c.args.merges.now) c.finish.workbook c.put_merges_in.result c.requires (returns-clause-edits c)
+    edit_placed c.args.at c.args.workbook.now (MergesKey c.args.id) (MergesValue c.args.merges.now) (with_sheet c.args.workbook.now c.in-Some.index c.put_merges_in.new.sheet) c.put_merges_in.result c.requires (returns-clause-edits c)

@@ -10,8 +10,8 @@ returns-then-keeps_rules_back-clause-followed c =
     let keeps : keeps_rules_back c.args.workbook.now c.args.list.now ≡ true = search rules in
     rw (backed-taken_back c.args.workbook.now c.args.list.now keeps c.requires.rules) c.back_in_place.ensures
 
-pub returns-then-keeps_rules_back-clause-open : goal.returns-then-keeps_rules_back-clause-open
-returns-then-keeps_rules_back-clause-open c = λ is.
+pub returns-then-keeps_rules_back-clause-shown : goal.returns-then-keeps_rules_back-clause-shown
+returns-then-keeps_rules_back-clause-shown c = λ is.
     let keeps : keeps_rules_back c.args.workbook.now c.args.list.now ≡ true = search rules in
     edit_keeps (λ (b : Book). hides_nothing b ≡ true) c.back_in_place.result c.args.workbook.now c.back_in_place.new.workbook (taken_back c.args.workbook.now c.args.list.now) c.back_in_place.ensures
-    (λ next was. taken_back_open c.args.workbook.now c.args.list.now keeps (c.requires.open is) next was) (c.requires.open is)
+    (λ next was. taken_back_open c.args.workbook.now c.args.list.now keeps (c.requires.shown is) next was) (c.requires.shown is)

@@ -10,8 +10,8 @@ returns-then-keeps_rules-clause-followed c =
     let keeps : keeps_rules c.args.workbook.now c.args.list.now ≡ true = search rules in
     rw (forwarded-made c.args.workbook.now c.args.list.now keeps c.requires.rules) c.forward_in_place.ensures
 
-pub returns-then-keeps_rules-clause-open : goal.returns-then-keeps_rules-clause-open
-returns-then-keeps_rules-clause-open c = λ is.
+pub returns-then-keeps_rules-clause-shown : goal.returns-then-keeps_rules-clause-shown
+returns-then-keeps_rules-clause-shown c = λ is.
     let keeps : keeps_rules c.args.workbook.now c.args.list.now ≡ true = search rules in
     edit_keeps (λ (b : Book). hides_nothing b ≡ true) c.forward_in_place.result c.args.workbook.now c.forward_in_place.new.workbook (made c.args.workbook.now c.args.list.now) c.forward_in_place.ensures
-    (λ next was. made_open c.args.workbook.now c.args.list.now keeps (c.requires.open is) next was) (c.requires.open is)
+    (λ next was. made_open c.args.workbook.now c.args.list.now keeps (c.requires.shown is) next was) (c.requires.shown is)

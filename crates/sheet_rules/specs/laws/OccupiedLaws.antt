@@ -69,7 +69,7 @@ pub record KeepsHidden (sheet : Sheet) : Type 0 where
   pub merges : (place : Position) (cell : Cell) → get sheet.cells place ≡ Some cell → is_empty cell.content ≡ false → list_any (λ merge. covers merge place) sheet.merges ≡ false
   pub arrays : (p q : Position) (array : MergedCell) (cell : Cell) → large_array_in sheet p ≡ Some array → get sheet.cells q ≡ Some cell → is_empty cell.content ≡ false → covers array q ≡ false
 
-or_not : (a b : Bool) → (a || not b) ≡ true → a ≡ false → b ≡ false
+pub or_not : (a b : Bool) → (a || not b) ≡ true → a ≡ false → b ≡ false
 or_not false false h is = refl
 or_not false true h is = cc
 or_not true b h is = cc

@@ -1,5 +1,5 @@
 -- A cell that is no array and hides no content, put at a place, keeps the rules of arrays and merges.
-use Rattle.std.proofs.Common.{◌≡◌, Bool, true, false, not, cond, ◌||◌, Option, Some, None, refl, ap, sym, subst, ◌∙◌}
+use Rattle.std.proofs.Common.{◌≡◌, Bool, true, false, cond, Option, Some, None, refl, ap, sym, subst, ◌∙◌}
 use Rattle.std.specs.Prelude.{is_none}
 use Rattle.std.specs.Option.{option_and_then}
 use Rattle.std.specs.List.{list_any}
@@ -16,7 +16,8 @@ use Rattle.sheet_grid.specs.Merges.{is_empty}
 use Rattle.sheet_grid.specs.Sheet.{Sheet, with_cell}
 use Rattle.sheet_rules.specs.laws.EntryLaws.{both, equal}
 use Rattle.sheet_rules.specs.Occupied.{have_arrays, have_merges, are_hidden_blank, covers, is_hidden_place, may_stand, array_in, large_array_in}
-use Rattle.sheet_rules.specs.laws.OccupiedLaws.{keeps_arrays, have_arrays_from, keeps_merges, have_merges_from, keeps_hidden, are_hidden_blank_from, merges_apart_from, arrays_apart_from}
+use Rattle.sheet_rules.specs.laws.OccupiedLaws.{keeps_arrays, have_arrays_from, keeps_merges, have_merges_from, keeps_hidden, are_hidden_blank_from, merges_apart_from, arrays_apart_from, or_not}
+use Rattle.sheet_rules.specs.laws.ShownLaws.{no_value}
 
 -- positions that compare alike are one
 same_place : (p q : Position) → eq_by_cmp position_cmp p q ≡ true → p ≡ q
@@ -30,17 +31,9 @@ is_none_of : {A : Type 0} (o : Option A) → is_none o ≡ true → o ≡ None
 is_none_of None h = refl
 is_none_of (Some x) h = cc
 
-never : {A : Type 0} (x : A) → None ≡ Some x → ⊥
-never x h = absurd (cc)
-
 no_array_put : (sheet : Sheet) (place : Position) (entry : Option Cell) → may_stand sheet place entry ≡ true → option_and_then (λ cell. array_at place cell.content) entry ≡ None
 no_array_put sheet place None h = refl
 no_array_put sheet place (Some cell) h = is_none_of _ (both _ _ h).0
-
-or_hidden : (a b : Bool) → (a || not b) ≡ true → a ≡ false → b ≡ false
-or_hidden false false h is = refl
-or_hidden false true h is = cc
-or_hidden true b h is = cc
 
 module _ (sheet : Sheet) (place : Position) (entry : Option Cell) (stands : may_stand sheet place entry ≡ true) where
   abbrev next : Sheet
@@ -50,7 +43,7 @@ module _ (sheet : Sheet) (place : Position) (entry : Option Cell) (stands : may_
   kept_shape shape none q r at = go (eq_by_cmp position_cmp q place) refl (sym (ap (option_and_then (shape q)) (get-with_entry position_total sheet.cells place entry q)) ∙ at)
     where
       go : (b : Bool) → eq_by_cmp position_cmp q place ≡ b → option_and_then (shape q) (cond b entry (get sheet.cells q)) ≡ Some r → option_and_then (shape q) (get sheet.cells q) ≡ Some r
-      go true is it = absurd (never r (sym (ap (λ p. option_and_then (shape p) entry) (same_place q place is) ∙ none) ∙ it))
+      go true is it = absurd (no_value r (sym (ap (λ p. option_and_then (shape p) entry) (same_place q place is) ∙ none) ∙ it))
       go false is it = it
 
   array_kept : (q : Position) (r : MergedCell) → array_in next q ≡ Some r → array_in sheet q ≡ Some r
@@ -78,8 +71,8 @@ module _ (sheet : Sheet) (place : Position) (entry : Option Cell) (stands : may_
   shown P old new q cell found filled = go (eq_by_cmp position_cmp q place) refl (sym (get-with_entry position_total sheet.cells place entry q) ∙ found)
     where
       put : (o : Option Cell) → may_stand sheet place o ≡ true → o ≡ Some cell → is_hidden_place sheet place ≡ false
-      put None may is = absurd (never cell is)
-      put (Some other) may is = let same : other ≡ cell = cc in or_hidden (is_empty other.content) (is_hidden_place sheet place) (both _ _ may).1 (ap (λ c. is_empty c.content) same ∙ filled)
+      put None may is = absurd (no_value cell is)
+      put (Some other) may is = let same : other ≡ cell = cc in or_not (is_empty other.content) (is_hidden_place sheet place) (both _ _ may).1 (ap (λ c. is_empty c.content) same ∙ filled)
 
       go : (b : Bool) → eq_by_cmp position_cmp q place ≡ b → cond b entry (get sheet.cells q) ≡ Some cell → P q
       go true is it = subst P (sym (same_place q place is)) (new (put entry stands it))

@@ -20,8 +20,9 @@ pub not_true : (b : Bool) → not b ≡ true → b ≡ false
 not_true false h = refl
 not_true true h = cc
 
-not_found_some : {A : Type 0} (x : A) → None ≡ Some x → ⊥
-not_found_some x h = absurd (cc)
+-- nothing is no value
+pub no_value : {A : Type 0} (x : A) → None ≡ Some x → ⊥
+no_value x h = absurd (cc)
 
 module _ {K X M : Type 0} (R : K → K → Ordering) (total : IsTotalOrder R) (exact : CmpEqualImpliesEq R) (shape : K → X → Option M) where
   -- what the entries show, in their order
@@ -39,7 +40,7 @@ module _ {K X M : Type 0} (R : K → K → Ordering) (total : IsTotalOrder R) (e
   later : (e : K × X) (es : List (K × X)) → T (below_all R e.0 es) → (key : K) (r : M) → shown_at key (find R key es) ≡ Some r → (b : Bool) → eq_by_cmp R key e.0 ≡ b → shown_at key (cond b (Some e.1) (find R key es)) ≡ Some r
   later e es below key r at false is = at
   later e es below key r at true is =
-      absurd (not_found_some r (sym (ap (shown_at key) (ap (λ k. find R k es) (exact key e.0 (equal (R key e.0) is)) ∙ not_found R total exact (λ _ _. true) (λ _. refl) e.0 es below)) ∙ at))
+      absurd (no_value r (sym (ap (shown_at key) (ap (λ k. find R k es) (exact key e.0 (equal (R key e.0) is)) ∙ not_found R total exact (λ _ _. true) (λ _. refl) e.0 es below)) ∙ at))
 
   -- what the first entry shows is found at its key
   first : (e : K × X) (es : List (K × X)) (r : M) → shape e.0 e.1 ≡ Some r → shown_at e.0 (find R e.0 (e ∷ es)) ≡ Some r
@@ -48,12 +49,12 @@ module _ {K X M : Type 0} (R : K → K → Ordering) (total : IsTotalOrder R) (e
   -- and no later key is its own
   apart_keys : (e : K × X) (es : List (K × X)) → T (below_all R e.0 es) → (q : K) (s : M) → shown_at q (find R q es) ≡ Some s → e.0 ≡ q → ⊥
   apart_keys e es below q s at same =
-      not_found_some s (sym (ap (shown_at q) (ap (λ k. find R k es) (sym same) ∙ not_found R total exact (λ _ _. true) (λ _. refl) e.0 es below)) ∙ at)
+      no_value s (sym (ap (shown_at q) (ap (λ k. find R k es) (sym same) ∙ not_found R total exact (λ _ _. true) (λ _. refl) e.0 es below)) ∙ at)
 
   module _ (test : M → Bool) where
     head_or_tail : (e : K × X) (es : List (K × X)) (key : K) (r : M) → (list_any test (shown es) ≡ false → shown_at key (find R key es) ≡ Some r → test r ≡ false) → (b : Bool) → eq_by_cmp R key e.0 ≡ b
         → (o : Option M) → shape e.0 e.1 ≡ o → list_any test (cons_option o (shown es)) ≡ false → shown_at key (cond b (Some e.1) (find R key es)) ≡ Some r → test r ≡ false
-    head_or_tail e es key r tail true is None shows none at = absurd (not_found_some r (sym shows ∙ here key e r is at))
+    head_or_tail e es key r tail true is None shows none at = absurd (no_value r (sym shows ∙ here key e r is at))
     head_or_tail e es key r tail true is (Some s) shows none at =
         let same : ◌≡◌ {A = Option M} (Some s) (Some r) = sym shows ∙ here key e r is at in
         let one : s ≡ r = cc in
@@ -87,7 +88,7 @@ module _ {K X M : Type 0} (R : K → K → Ordering) (total : IsTotalOrder R) (e
 
     -- no shown one passes: so it is with what each key shows
     pub misses : (es : List (K × X)) → list_any test (shown es) ≡ false → (key : K) (r : M) → shown_at key (find R key es) ≡ Some r → test r ≡ false
-    misses [] none key r at = absurd (not_found_some r at)
+    misses [] none key r at = absurd (no_value r at)
     misses (e ∷ es) none key r at = head_or_tail e es key r (λ rest there. misses es rest key r there) (eq_by_cmp R key e.0) refl (shape e.0 e.1) refl none at
 
     one_more : (o : Option M) (rs : List M) → ((r : M) → o ≡ Some r → test r ≡ false) → list_any test rs ≡ false → list_any test (cons_option o rs) ≡ false
@@ -117,7 +118,7 @@ module _ {K X M : Type 0} (R : K → K → Ordering) (total : IsTotalOrder R) (e
     apart_tail (Some r) rs h = (both _ _ h).1
 
     apart_head : (o : Option M) (rs : List M) → are_distinct touches (cons_option o rs) ≡ true → (r : M) → o ≡ Some r → list_any (touches r) rs ≡ false
-    apart_head None rs h r is = absurd (not_found_some r is)
+    apart_head None rs h r is = absurd (no_value r is)
     apart_head (Some s) rs h r is = let one : s ≡ r = cc in ap (λ t. list_any (touches t) rs) (sym one) ∙ not_true _ (both _ _ h).0
 
     pair : (e : K × X) (es : List (K × X)) → are_distinct touches (shown (e ∷ es)) ≡ true → Apart es → (p q : K) (r s : M) → p ≢ q → (b c : Bool) → eq_by_cmp R p e.0 ≡ b → eq_by_cmp R q e.0 ≡ c
@@ -129,7 +130,7 @@ module _ {K X M : Type 0} (R : K → K → Ordering) (total : IsTotalOrder R) (e
 
     -- where no two of the list touch, no two that different keys show do
     pub apart_at : (es : List (K × X)) → are_distinct touches (shown es) ≡ true → Apart es
-    apart_at [] h p q r s differ at_p at_q = absurd (not_found_some r at_p)
+    apart_at [] h p q r s differ at_p at_q = absurd (no_value r at_p)
     apart_at (e ∷ es) h p q r s differ at_p at_q =
         pair e es h (apart_at es (apart_tail (shape e.0 e.1) (shown es) h)) p q r s differ (eq_by_cmp R p e.0) (eq_by_cmp R q e.0) refl refl at_p at_q
 

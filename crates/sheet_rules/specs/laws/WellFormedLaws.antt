@@ -24,6 +24,7 @@ use Rattle.sheet_grid.specs.FittingCells.{entry_fits_at, CellsFit, SheetsFit}
 use Rattle.sheet_rules.specs.Occupied.{are_apart, have_arrays, meets_any, have_merges, covers_blanks, are_hidden_blank}
 use Rattle.sheet_rules.specs.SheetNames.{is_sheet_name}
 use Rattle.sheet_rules.specs.laws.EntryLaws.{both, passes_at_from_all, all_from_passes_at}
+use Rattle.sheet_rules.specs.laws.ShownLaws.{not_true}
 use Rattle.sheet_rules.specs.WellFormed.{are_distinct, are_sheets, is_place, stands_inside, have_trees, is_row, is_column, has_font, have_attributes, are_frozen, IsWellFormed, ids_of}
 
 -- the rules of a workbook, each for all of its sheets
@@ -95,10 +96,6 @@ each_fits (sheet ∷ sheets) h = (cells_fit_from_trees sheet (both _ _ h).0, eac
 -- the cells of a well-formed workbook fit
 pub sheets_fit_from_well_formed : (book : Book) → IsWellFormed book → SheetsFit book
 sheets_fit_from_well_formed book h = All-from_recursion CellsFit book.worksheets (each_fits book.worksheets (well_formed_parts book h).trees)
-
-not_true : (b : Bool) → not b ≡ true → b ≡ false
-not_true false h = refl
-not_true true h = cc
 
 module _ {X : Type 0} (same : X → X → Bool) where
   differs : (x : X) (xs : List X) → list_any (same x) xs ≡ false → AllByRecursion (λ y. same x y ≡ false) xs

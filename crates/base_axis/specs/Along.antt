@@ -3,13 +3,15 @@ use Rattle.std.proofs.Common.{◌≡◌, ◌⊎◌, Bool, ℤ, pos, ◌≤ℤ◌
 use Rattle.base_values.specs.declared.Position.{Position}
 use Rattle.base_values.specs.Places.{IsLine, IsPlace}
 
--- its last line, the line and the cross line of a place, a place put on a line, and its choice of what holds of rows and of columns
+-- its last line, the line and the cross line of a place, a place put on a line, its choice of what holds of rows and of columns,
+-- and its choice of a number of rows and one of columns
 pub record Along : Type 0 where
   pub last : ℤ
   pub line : Position → ℤ
   pub cross : Position → ℤ
   pub with_line : Position → ℤ → Position
   pub of : Bool → Bool → Bool
+  pub count_of : ℤ → ℤ → ℤ
 
 -- from row to row
 abbrev pub rows : Along
@@ -19,6 +21,7 @@ rows = record {
   cross = λ p. p.column;
   with_line = λ p line. record p { row = line };
   of = λ row column. row;
+  count_of = λ rows columns. rows;
 }
 
 -- from column to column
@@ -29,6 +32,7 @@ columns = record {
   cross = λ p. p.row;
   with_line = λ p line. record p { column = line };
   of = λ row column. column;
+  count_of = λ rows columns. columns;
 }
 
 -- the laws of an axis: the line put in is the line got, the cross line stays, and putting a place's own line changes nothing

@@ -1,2 +1,3 @@
 pub mod Along
+pub mod Rectangles
 pub mod laws

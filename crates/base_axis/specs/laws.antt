@@ -1,3 +1,5 @@
 pub mod AreaEquals
 pub mod AxisEquals
 pub mod Lawful
+pub mod MergedEquals
+pub mod RectangleLaws

@@ -26,6 +26,10 @@ pub trait Axis {
     fn of(rows: bool, columns: bool) -> bool
         ensures { result ≡ along.of rows columns };
 
+    /// Of a number of rows and a number of columns, that of the lines of this axis.
+    fn count_of(rows: i32, columns: i32) -> i32
+        ensures { result ≡ along.count_of rows columns };
+
     ghost last_is: { LAST ≡ along.last };
 
     ghost lawful: { IsAxis along };
@@ -81,6 +85,10 @@ impl Axis for RowAxis {
         rows
     }
 
+    fn count_of(rows: i32, _columns: i32) -> i32 {
+        rows
+    }
+
     ghost last_is = { refl };
 
     ghost lawful = { rows_lawful };
@@ -109,6 +117,10 @@ impl Axis for ColumnAxis {
     }
 
     fn of(_rows: bool, columns: bool) -> bool {
+        columns
+    }
+
+    fn count_of(_rows: i32, columns: i32) -> i32 {
         columns
     }
 

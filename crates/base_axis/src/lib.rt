@@ -1,14 +1,18 @@
 //! The two directions of a sheet, so that what is done to rows and to columns is written once, maps
-//! from their lines, and areas of places.
+//! from their lines, and rectangles of places.
 #![tactic(auto)]
 
 mod area;
 mod axis;
 mod axis_map;
+mod merge_list;
+mod merged_cell;
 
 pub use area::Area;
 pub use axis::{Axis, ColumnAxis, RowAxis};
 pub use axis_map::AxisMap;
+pub use merge_list::MergeList;
+pub use merged_cell::MergedCell;
 
 #[cfg(test)]
 mod tests;

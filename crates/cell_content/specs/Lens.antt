@@ -2,7 +2,7 @@
 use Rattle.std.specs.Prelude.{Option, Some, None}
 use Rattle.formula_tree.specs.declared.Node.{Node}
 use Rattle.cell_content.specs.declared.content.Content.{Content}
-use Rattle.cell_content.specs.declared.content.Content.TheVariants.{Empty, Number, Boolean, Error, Text, Formula, Dynamic}
+use Rattle.cell_content.specs.declared.content.Content.TheVariants.{Empty, Number, Boolean, Error, Text, Formula, Dynamic, Array}
 
 -- the tree of a formula; any other content has none
 abbrev pub tree_of : Content → Option Node
@@ -13,6 +13,7 @@ tree_of (Error error) = None
 tree_of (Text text) = None
 tree_of (Formula tree) = Some tree
 tree_of (Dynamic tree) = Some tree
+tree_of (Array tree width height) = Some tree
 
 -- the content with that tree in place of its own; one without a tree stays
 abbrev pub with_tree : Content → Node → Content
@@ -23,3 +24,4 @@ with_tree (Error error) tree = Error error
 with_tree (Text text) tree = Text text
 with_tree (Formula own) tree = Formula tree
 with_tree (Dynamic own) tree = Dynamic tree
+with_tree (Array own width height) tree = Array tree width height

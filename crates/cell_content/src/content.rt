@@ -16,6 +16,12 @@ pub enum Content {
     Formula(Shared<Node>),
     /// A formula whose value may spill over the cells around.
     Dynamic(Shared<Node>),
+    /// A formula whose values fill a rectangle from the cell on: so many columns wide and rows high.
+    Array {
+        tree: Shared<Node>,
+        width: i32,
+        height: i32,
+    },
 }
 
 impl Exact for Content {

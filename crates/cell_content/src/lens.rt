@@ -18,10 +18,12 @@ pub fn tree_of(content: &Content) -> Option<&Shared<Node>>
         Content::Empty | Content::Number(_) => None,
         Content::Boolean(_) | Content::Error(_) | Content::Text(_) => None,
         Content::Formula(tree) | Content::Dynamic(tree) => Some(tree),
+        Content::Array { tree, .. } => Some(tree),
     }
 }
 
-/// A copy of a content with that tree in place of its own; one without a tree stays as it is.
+/// A copy of a content with that tree in place of its own; an array keeps its sides, and a content
+/// without a tree stays as it is.
 /// `NoMemory` alone is an error.
 pub fn with_tree(content: &Content, tree: Shared<Node>) -> Result<Content, EditError>
     ensures content { IfOk result (λ changed. changed ≡ with_tree content.now tree) }
@@ -32,5 +34,10 @@ pub fn with_tree(content: &Content, tree: Shared<Node>) -> Result<Content, EditE
         Content::Boolean(_) | Content::Error(_) | Content::Text(_) => copy_of(content),
         Content::Formula(_) => Ok(Content::Formula(tree)),
         Content::Dynamic(_) => Ok(Content::Dynamic(tree)),
+        Content::Array { width, height, .. } => Ok(Content::Array {
+            tree,
+            width: *width,
+            height: *height,
+        }),
     }
 }

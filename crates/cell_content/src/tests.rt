@@ -90,5 +90,19 @@ fn trees_are_put_in(rt: HostRuntime) -> Result<(), Fail> {
     );
     assert!(rt; with_two(alloc, &Content::Dynamic(one))? == Content::Dynamic(two));
     assert!(rt; with_two(alloc, &Content::Boolean(true))? == Content::Boolean(true));
+    let (width, height) = (2, 3);
+    let tree = Shared::new(alloc, number(1))?;
+    let array = Content::Array {
+        tree,
+        width,
+        height,
+    };
+    let tree = Shared::new(alloc, number(2))?;
+    let changed = Content::Array {
+        tree,
+        width,
+        height,
+    };
+    assert!(rt; with_two(alloc, &array)? == changed);
     Ok(())
 }

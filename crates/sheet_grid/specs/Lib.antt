@@ -1,8 +1,10 @@
+pub mod Arrays
 pub mod Book
 pub mod Dimension
 pub mod FittingCells
 pub mod KeptCell
 pub mod Lines
+pub mod Merges
 pub mod SameEntry
 pub mod Sheet
 pub mod laws

@@ -1,5 +1,5 @@
 -- A sheet, as contracts see it.
-use Rattle.std.proofs.Common.{ℕ, ℤ, pos, List, Option, Some, None, Result, Bool, true}
+use Rattle.std.proofs.Common.{ℕ, ℤ, pos, List, [], Option, Some, None, Result, Bool, true}
 use Rattle.std.specs.Option.{option_map, option_or, unwrap_or}
 use Rattle.std.specs.FinMap as fin
 use Rattle.std.specs.FinMap.{FinMap}
@@ -10,6 +10,7 @@ use Rattle.base_values.specs.declared.Position.{Position}
 use Rattle.base_values.specs.Answers.{map_ok}
 use Rattle.base_values.specs.KeyMap.{with_entry}
 use Rattle.base_values.specs.Places.{position_cmp, place_of, line_of}
+use Rattle.base_axis.specs.declared.MergedCell.{MergedCell}
 use Rattle.base_styles.specs.declared.Color.{Color}
 use Rattle.base_styles.specs.declared.Color.TheVariants.{None as NoColor}
 use Rattle.base_styles.specs.declared.Style.{Style}
@@ -37,6 +38,7 @@ pub record Sheet : Type 0 where
   pub links : FinMap position_cmp Link
   pub rows : FinMap int_cmp LineAttr
   pub columns : FinMap int_cmp LineAttr
+  pub merges : List MergedCell
 
 -- a visible sheet with grid lines and nothing else
 abbrev pub new_sheet : ℕ → List ℕ → Sheet
@@ -52,6 +54,7 @@ new_sheet id name = record {
   links = fin.empty;
   rows = fin.empty;
   columns = fin.empty;
+  merges = [];
 }
 
 -- the cell at a row and a column, or the first of them that is outside

@@ -1,10 +1,11 @@
 //! Sheets and workbooks.
 //!
-//! The layers above see a sheet as a record of its fields and of finite maps of its cells, links,
-//! rows and columns, and a workbook as a record of its fields and of the list of its sheets. A
+//! The layers above see a sheet as a record of its fields, of finite maps of its cells, links, rows
+//! and columns, and of the list of its merges, and a workbook as a record of its fields and of the list of its sheets. A
 //! setter changes the named entry and nothing else.
 #![tactic(auto)]
 
+mod arrays;
 mod cell;
 mod column_attr;
 mod default_style;
@@ -16,6 +17,7 @@ mod state;
 mod workbook;
 mod worksheet;
 
+pub use arrays::{array_at, large_array_at};
 pub use cell::Cell;
 pub use cell_content::Content;
 pub use column_attr::ColumnAttr;

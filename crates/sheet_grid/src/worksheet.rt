@@ -6,13 +6,14 @@ ghost use Rattle.base_values.specs.Places.{IsPlace};
 ghost use Rattle.base_decimal.specs.Kept.{IsKept};
 ghost use Rattle.formula_tree.specs.Numbers.{has_kept_numbers};
 ghost use Rattle.cell_content.specs.KeptContent.{IsKeptContent};
-ghost use Rattle.sheet_grid.specs.Dimension.{IsLeastRectangle, IsRectangle, first_place};
+ghost use Rattle.sheet_grid.specs.Dimension.{IsLeastRectangle, IsRectangle, first_place, extents_of};
 ghost use Rattle.sheet_grid.specs.KeptCell.{IsKeptCell};
 ghost use Rattle.sheet_grid.specs.Sheet.{Sheet, new_sheet, cell_at, cell_put, content_put, content_cleared};
-ghost use Rattle.cell_content.specs.declared.Content.TheVariants.{Empty, Number, Boolean, Error as ErrorValue, Text as TextValue, Formula, Dynamic};
+ghost use Rattle.cell_content.specs.declared.Content.TheVariants.{Empty, Number, Boolean, Error as ErrorValue, Text as TextValue, Formula, Dynamic, Array};
 
 mod entries;
 mod lines;
+mod merges;
 mod sizes;
 mod styles;
 
@@ -21,7 +22,7 @@ use crate::dimension::WorksheetDimension;
 use crate::line_attr::LineAttr;
 use crate::link::Link;
 use crate::state::SheetState;
-use base_axis::{AxisMap, ColumnAxis, RowAxis};
+use base_axis::{AxisMap, ColumnAxis, MergeList, RowAxis};
 use base_decimal::Decimal;
 use base_shared::Shared;
 use base_styles::{Color, Style};
@@ -48,6 +49,7 @@ pub struct Worksheet {
     links: PlaceMap<Link>,
     rows: AxisMap<RowAxis, LineAttr>,
     columns: AxisMap<ColumnAxis, LineAttr>,
+    merges: MergeList,
 }
 
 impl Model for Worksheet {
@@ -74,6 +76,7 @@ impl Model for Worksheet {
       links = s.links;
       rows = s.rows;
       columns = s.columns;
+      merges = s.merges;
     } };
 
     ghost inverse = { λ s. record {
@@ -88,6 +91,7 @@ impl Model for Worksheet {
       links = s.links;
       rows = s.rows;
       columns = s.columns;
+      merges = s.merges;
     } };
 
     ghost invariant = { λ s. KeptCells s.cells };
@@ -117,6 +121,7 @@ impl Worksheet {
             links: PlaceMap::new(alloc),
             rows: AxisMap::new(alloc),
             columns: AxisMap::new(alloc),
+            merges: MergeList::empty(alloc),
         }
     }
 
@@ -206,16 +211,17 @@ impl Worksheet {
         }
     }
 
-    /// The least rectangle that holds the cells, with or without content; the first place of the
-    /// sheet where there is none. It takes no memory. docs/MODEL.md has the rule.
+    /// The least rectangle that holds the cells, with or without content, and what arrays fill of
+    /// the sheet; the first place of the sheet where there is no cell. It takes no memory.
+    /// docs/MODEL.md has the rule.
     pub fn dimension(&self) -> WorksheetDimension
-        ensures none { fin.keys self.now.cells ≡ [] → result ≡ first_place }
-        ensures least { fin.keys self.now.cells ≢ [] → IsLeastRectangle (fin.keys self.now.cells) result }
+        ensures none { extents_of self.now.cells ≡ [] → result ≡ first_place }
+        ensures least { extents_of self.now.cells ≢ [] → IsLeastRectangle (extents_of self.now.cells) result }
         ensures inside { IsRectangle result }
     {
         let mut cells = self.cells();
         match cells.next() {
-            Some((place, _cell)) => WorksheetDimension::of_places(*place, cells),
+            Some((place, cell)) => WorksheetDimension::of_cells(*place, cell.get(), cells),
             None => WorksheetDimension::of_place(Position { row: 1, column: 1 }),
         }
     }
@@ -384,6 +390,33 @@ impl Worksheet {
         self.put_content(row, column, Content::Dynamic(tree), style)
     }
 
+    /// Sets the cell at a row and a column to a formula whose values fill a rectangle, so many
+    /// columns wide and rows high, with a style. The formula may be any tree, and the sides any
+    /// numbers: it is not asked whether they fit the place.
+    ///
+    /// `InvalidRow` where the row is outside the sheet, else `InvalidColumn` where the column is.
+    pub fn set_cell_with_array_formula(
+        &mut self,
+        row: i32,
+        column: i32,
+        value: Node,
+        style: &Shared<Style>,
+        width: i32,
+        height: i32,
+    ) -> Result<(), EditError>
+        requires { IsTrue (has_kept_numbers value) }
+        ensures { Changes result self.old self.new (content_put self.old row column (Array value width height) style.now) }
+    {
+        let _place = place_of(row, column)?;
+        let tree = self.shared_tree(value)?;
+        let content = Content::Array {
+            tree,
+            width,
+            height,
+        };
+        self.put_content(row, column, content, style)
+    }
+
     /// Empties the cell at a row and a column, and keeps the style that the place shows. A place
     /// without a cell gets an empty one.
     ///
@@ -428,6 +461,7 @@ impl Clone for Worksheet {
             links: self.links.clone()?,
             rows: self.rows.clone()?,
             columns: self.columns.clone()?,
+            merges: self.merges.clone()?,
         })
     }
 }

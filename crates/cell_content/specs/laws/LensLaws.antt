@@ -5,7 +5,7 @@ use Rattle.std.specs.Option.{option_map}
 use Rattle.formula_tree.specs.declared.Node.{Node}
 use Rattle.formula_tree.specs.Numbers.{has_kept_numbers}
 use Rattle.cell_content.specs.declared.content.Content.{Content}
-use Rattle.cell_content.specs.declared.content.Content.TheVariants.{Empty, Number, Boolean, Error, Text, Formula, Dynamic}
+use Rattle.cell_content.specs.declared.content.Content.TheVariants.{Empty, Number, Boolean, Error, Text, Formula, Dynamic, Array}
 use Rattle.cell_content.specs.KeptContent.{IsKeptContent}
 use Rattle.cell_content.specs.Lens.{tree_of, with_tree}
 
@@ -18,6 +18,7 @@ tree_of-with_tree (Error _) tree = refl
 tree_of-with_tree (Text _) tree = refl
 tree_of-with_tree (Formula _) tree = refl
 tree_of-with_tree (Dynamic _) tree = refl
+tree_of-with_tree (Array _ _ _) tree = refl
 
 -- a content whose tree is put in stays as it was
 pub with_own_tree : (content : Content) (tree : Node) → tree_of content ≡ Some tree → with_tree content tree ≡ content
@@ -28,6 +29,7 @@ with_own_tree (Error _) tree is = refl
 with_own_tree (Text _) tree is = refl
 with_own_tree (Formula own) tree is = let same : own ≡ tree = cc in ap Formula (sym same)
 with_own_tree (Dynamic own) tree is = let same : own ≡ tree = cc in ap Dynamic (sym same)
+with_own_tree (Array own width height) tree is = let same : own ≡ tree = cc in ap (λ t. Array t width height) (sym same)
 
 -- so does one without a tree
 pub with_tree-none : (content : Content) (tree : Node) → tree_of content ≡ None → with_tree content tree ≡ content
@@ -38,6 +40,7 @@ with_tree-none (Error _) tree is = refl
 with_tree-none (Text _) tree is = refl
 with_tree-none (Formula _) tree is = cc
 with_tree-none (Dynamic _) tree is = cc
+with_tree-none (Array _ _ _) tree is = cc
 
 -- of two trees put in one after the other the second stands
 pub with_tree-with_tree : (content : Content) (first second : Node) → with_tree (with_tree content first) second ≡ with_tree content second
@@ -48,6 +51,7 @@ with_tree-with_tree (Error _) first second = refl
 with_tree-with_tree (Text _) first second = refl
 with_tree-with_tree (Formula _) first second = refl
 with_tree-with_tree (Dynamic _) first second = refl
+with_tree-with_tree (Array _ _ _) first second = refl
 
 -- the tree of a kept content has kept numbers
 pub tree_of-kept : (content : Content) → IsKeptContent content → IfSome (tree_of content) (λ tree. IsTrue (has_kept_numbers tree))
@@ -58,6 +62,7 @@ tree_of-kept (Error _) kept = tt
 tree_of-kept (Text _) kept = tt
 tree_of-kept (Formula tree) kept = kept
 tree_of-kept (Dynamic tree) kept = kept
+tree_of-kept (Array tree _ _) kept = kept
 
 -- a kept content stays so with such a tree
 pub with_tree-kept : (content : Content) (tree : Node) → IsKeptContent content → IsTrue (has_kept_numbers tree) → IsKeptContent (with_tree content tree)
@@ -68,3 +73,4 @@ with_tree-kept (Error _) tree kept numbers = kept
 with_tree-kept (Text _) tree kept numbers = kept
 with_tree-kept (Formula _) tree kept numbers = numbers
 with_tree-kept (Dynamic _) tree kept numbers = numbers
+with_tree-kept (Array _ _ _) tree kept numbers = numbers

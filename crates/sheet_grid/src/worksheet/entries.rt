@@ -10,7 +10,7 @@ use super::Worksheet;
 use crate::cell::Cell;
 use crate::line_attr::LineAttr;
 use crate::link::Link;
-use base_axis::{AxisMap, ColumnAxis, RowAxis};
+use base_axis::{AxisMap, ColumnAxis, MergeList, RowAxis};
 use base_shared::Shared;
 use base_values::{EditError, Items, PlaceMap, Position, copy_of};
 
@@ -73,17 +73,18 @@ impl Worksheet {
         self.columns.lines(self.name.allocator())
     }
 
-    /// A copy of the sheet that holds these in place of its own cells, links, rows and columns.
-    /// `NoMemory` alone is an error.
+    /// A copy of the sheet that holds these in place of its own cells, links, rows, columns and
+    /// merges. `NoMemory` alone is an error.
     pub fn with_entries(
         &self,
         cells: PlaceMap<Shared<Cell>>,
         links: PlaceMap<Link>,
         rows: AxisMap<RowAxis, LineAttr>,
         columns: AxisMap<ColumnAxis, LineAttr>,
+        merges: MergeList,
     ) -> Result<Worksheet, EditError>
         requires { KeptCells cells }
-        ensures sheet { IfOk result (λ sheet. sheet ≡ record self.now { cells = cells; links = links; rows = rows; columns = columns }) }
+        ensures sheet { IfOk result (λ sheet. sheet ≡ record self.now { cells = cells; links = links; rows = rows; columns = columns; merges = merges }) }
         ensures only { IsOkUnless result NoMemory }
     {
         Ok(Worksheet {
@@ -98,6 +99,7 @@ impl Worksheet {
             links,
             rows,
             columns,
+            merges,
         })
     }
 }

@@ -1,5 +1,5 @@
 -- Rectangles of places of a sheet, whatever their numbers are: the sums are those of whole numbers, without a bound.
-use Rattle.std.proofs.Common.{◌⊎◌, ℤ, pos, ◌+ℤ◌, ◌-ℤ◌, ◌≤ℤ◌, ◌<ℤ◌, Bool, ◌&&◌}
+use Rattle.std.proofs.Common.{ℤ, pos, ◌+ℤ◌, ◌-ℤ◌, ◌≤ℤ◌, Bool, ◌&&◌}
 use Rattle.std.specs.Prelude.{◌||◌, int_le, int_lt}
 use Rattle.base_values.specs.declared.Position.{Position}
 use Rattle.base_values.specs.Places.{IsPlace}

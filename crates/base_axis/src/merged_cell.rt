@@ -35,6 +35,21 @@ fn is_among(first: i32, count: i32, line: i32) -> bool
     first <= line && i64::from(line) <= last_of(first, count)
 }
 
+/// Whether so many lines from a first one and others share a line, where each are one or more.
+fn overlap(first: i32, count: i32, first_other: i32, count_other: i32) -> bool
+    ensures { result ≡ overlap first (last_of first count) first_other (last_of first_other count_other) }
+{
+    i64::from(first) <= last_of(first_other, count_other)
+        && i64::from(first_other) <= last_of(first, count)
+}
+
+/// Whether so many lines from a first one are all among others.
+fn is_part(first: i32, count: i32, first_other: i32, count_other: i32) -> bool
+    ensures { result ≡ is_part first (last_of first count) first_other (last_of first_other count_other) }
+{
+    first_other <= first && last_of(first, count) <= last_of(first_other, count_other)
+}
+
 /// How many lines stand from one to another, both counted.
 fn line_span(first: i32, last: i32) -> i32
     requires first { IsLine (pos 1048576) first }
@@ -98,13 +113,13 @@ impl MergedCell {
     fn shares_a_row(self, other: MergedCell) -> bool
         ensures { result ≡ overlap self.row (last_row self) other.row (last_row other) }
     {
-        i64::from(self.row) <= other.last_row() && i64::from(other.row) <= self.last_row()
+        overlap(self.row, self.height, other.row, other.height)
     }
 
     fn shares_a_column(self, other: MergedCell) -> bool
         ensures { result ≡ overlap self.column (last_column self) other.column (last_column other) }
     {
-        i64::from(self.column) <= other.last_column() && i64::from(other.column) <= self.last_column()
+        overlap(self.column, self.width, other.column, other.width)
     }
 
     /// Whether two rectangles share a row and a column. Of two that lie inside the sheet it says
@@ -119,13 +134,13 @@ impl MergedCell {
     fn has_rows_of(self, other: MergedCell) -> bool
         ensures { result ≡ is_part self.row (last_row self) other.row (last_row other) }
     {
-        other.row <= self.row && self.last_row() <= other.last_row()
+        is_part(self.row, self.height, other.row, other.height)
     }
 
     fn has_columns_of(self, other: MergedCell) -> bool
         ensures { result ≡ is_part self.column (last_column self) other.column (last_column other) }
     {
-        other.column <= self.column && self.last_column() <= other.last_column()
+        is_part(self.column, self.width, other.column, other.width)
     }
 
     /// Whether each of its rows and columns is one of another's.

@@ -21,7 +21,7 @@ use Rattle.base_decimal.proofs.Marks.{prints_back}
 use Rattle.base_values.specs.declared.Position.{Position}
 use Rattle.formula_grammar.specs.declared.Profile.{Profile}
 use Rattle.cell_content.specs.declared.Content.{Content}
-use Rattle.cell_content.specs.declared.Content.TheVariants.{Empty, Number, Boolean, Error as ErrorContent, Text, Formula, Dynamic}
+use Rattle.cell_content.specs.declared.Content.TheVariants.{Empty, Number, Boolean, Error as ErrorContent, Text, Formula, Dynamic, Array}
 use Rattle.cell_input.proofs.Texts.{is_text-true}
 use Rattle.cell_input.specs.Inputs.{value_of_text, input_of, reads_as_text, marked_text, IsReadAgain}
 
@@ -145,3 +145,4 @@ inputs_read_again p (ErrorContent error) bare kept = error_again p error
 inputs_read_again p (Text text) bare kept = text_again p text
 inputs_read_again p (Formula tree) bare kept = absurd cc
 inputs_read_again p (Dynamic tree) bare kept = absurd cc
+inputs_read_again p (Array tree _ _) bare kept = absurd cc

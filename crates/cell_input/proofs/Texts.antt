@@ -14,7 +14,7 @@ use Rattle.base_decimal.specs.declared.Decimal.{Decimal}
 use Rattle.base_decimal.specs.laws.Reading.{decimal_of}
 use Rattle.formula_grammar.specs.declared.Profile.{Profile}
 use Rattle.cell_content.specs.declared.Content.{Content}
-use Rattle.cell_content.specs.declared.Content.TheVariants.{Empty, Number, Boolean, Error as ErrorContent, Text, Formula, Dynamic}
+use Rattle.cell_content.specs.declared.Content.TheVariants.{Empty, Number, Boolean, Error as ErrorContent, Text, Formula, Dynamic, Array}
 use Rattle.cell_input.specs.Inputs.{value_of_text, is_text, reads_as_text, has_lead}
 
 pub is_text-true : (text : List ℕ) (content : Content) → is_text text content ≡ true → content ≡ Text text
@@ -25,6 +25,7 @@ is_text-true text (ErrorContent _) e = absurd cc
 is_text-true text (Text read) e = ap Text ((bytes_decides read text).0 e)
 is_text-true text (Formula _) e = absurd cc
 is_text-true text (Dynamic _) e = absurd cc
+is_text-true text (Array _ _ _) e = absurd cc
 
 -- ---- values
 

@@ -13,7 +13,7 @@ use Rattle.formula_print.specs.Forms.{localized_text}
 use Rattle.formula_tree.specs.declared.Node.{Node}
 use Rattle.formula_grammar.specs.declared.Profile.{Profile}
 use Rattle.cell_content.specs.declared.Content.{Content}
-use Rattle.cell_content.specs.declared.Content.TheVariants.{Empty, Number, Boolean, Error, Text, Formula, Dynamic}
+use Rattle.cell_content.specs.declared.Content.TheVariants.{Empty, Number, Boolean, Error, Text, Formula, Dynamic, Array}
 use Rattle.cell_content.specs.KeptContent.{IsKeptContent}
 use Rattle.formula_read.specs.Formula.{formula_of}
 
@@ -45,6 +45,7 @@ is_text text (Error _) = false
 is_text text (Text read) = same_text read text
 is_text text (Formula _) = false
 is_text text (Dynamic _) = false
+is_text text (Array _ _ _) = false
 
 -- whether the text is read as itself
 abbrev pub reads_as_text : Profile → List ℕ → Bool
@@ -71,6 +72,7 @@ input_text p (Error error) = error_text error
 input_text p (Text text) = marked_text p text
 input_text p (Formula tree) = formula_text p tree
 input_text p (Dynamic tree) = formula_text p tree
+input_text p (Array tree _ _) = formula_text p tree
 
 -- ---- what is read again
 
@@ -83,6 +85,7 @@ has_no_tree (Error _) = true
 has_no_tree (Text _) = true
 has_no_tree (Formula _) = false
 has_no_tree (Dynamic _) = false
+has_no_tree (Array _ _ _) = false
 
 -- what is printed of a content without a formula is read as that content
 abbrev pub IsReadAgain : Type 0

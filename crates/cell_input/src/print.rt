@@ -97,6 +97,7 @@ pub fn push_content(
         Content::Text(text) => Ok(push_text(out, text.as_str(), context, locale, language)?),
         Content::Formula(tree) => push_formula(out, tree.get(), context, locale, language),
         Content::Dynamic(tree) => push_formula(out, tree.get(), context, locale, language),
+        Content::Array { tree, .. } => push_formula(out, tree.get(), context, locale, language),
     }
 }
 

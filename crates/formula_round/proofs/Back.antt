@@ -4,7 +4,7 @@ use Rattle.std.specs.Str.{chars}
 use Rattle.std.proofs.Common.{refl, ap}
 use Rattle.formula_tree.specs.declared.Node.{Node}
 use Rattle.cell_content.specs.declared.Content.{Content}
-use Rattle.cell_content.specs.declared.Content.TheVariants.{Empty, Number, Boolean, Error, Text, Formula, Dynamic}
+use Rattle.cell_content.specs.declared.Content.TheVariants.{Empty, Number, Boolean, Error, Text, Formula, Dynamic, Array}
 use Rattle.cell_content.specs.KeptContent.{IsKeptContent}
 use Rattle.formula_grammar.specs.declared.Profile.{Profile}
 use Rattle.formula_lex.specs.Lexicon.{IsTokens}
@@ -38,3 +38,4 @@ module _ (p : Profile) where
   content_back trees others (Text text) normal kept = others p (Text text) refl kept
   content_back trees others (Formula tree) normal kept = ap Formula (trees tree (record { normal = normal; kept = kept }))
   content_back trees others (Dynamic tree) normal kept = absurd cc
+  content_back trees others (Array tree _ _) normal kept = absurd cc

@@ -3,7 +3,7 @@ use Rattle.std.specs.Prelude.{◌≡◌, ℕ, Bool, true, false, List}
 use Rattle.formula_tree.specs.declared.Node.{Node}
 use Rattle.formula_tree.specs.Numbers.{has_kept_numbers}
 use Rattle.cell_content.specs.declared.Content.{Content}
-use Rattle.cell_content.specs.declared.Content.TheVariants.{Empty, Number, Boolean, Error, Text, Formula, Dynamic}
+use Rattle.cell_content.specs.declared.Content.TheVariants.{Empty, Number, Boolean, Error, Text, Formula, Dynamic, Array}
 use Rattle.formula_grammar.specs.declared.Profile.{Profile}
 use Rattle.formula_grammar.specs.Normal.{is_normal}
 use Rattle.formula_print.specs.Forms.{localized_text}
@@ -17,7 +17,8 @@ pub record IsKeptNormal (p : Profile) (tree : Node) : Type 0 where
   pub normal : is_normal p.place p.language tree ≡ true
   pub kept : has_kept_numbers tree ≡ true
 
--- the content is no formula, or one with a normal tree. What is printed of a formula that may spill is read as one that may not
+-- the content is no formula, or one with a normal tree. What is printed of a formula that may spill, and of an array, is read as one
+-- that does neither
 abbrev pub is_normal_content : Profile → Content → Bool
 is_normal_content p Empty = true
 is_normal_content p (Number _) = true
@@ -26,3 +27,4 @@ is_normal_content p (Error _) = true
 is_normal_content p (Text _) = true
 is_normal_content p (Formula tree) = is_normal p.place p.language tree
 is_normal_content p (Dynamic _) = false
+is_normal_content p (Array _ _ _) = false

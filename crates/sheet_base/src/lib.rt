@@ -4,7 +4,7 @@
 //! their contracts stand there.
 #![tactic(auto)]
 
-pub use base_axis::{Area, Axis, AxisMap, ColumnAxis, RowAxis};
+pub use base_axis::{Area, Axis, AxisMap, ColumnAxis, MergeList, MergedCell, RowAxis};
 pub use base_decimal::Decimal;
 pub use base_styles::{
     Alignment, Border, BorderItem, BorderStyle, Color, Font, HorizontalAlignment, Style,

@@ -49,10 +49,17 @@ pub record IsLeastRectangle (extents : List WorksheetDimension) (rectangle : Wor
   pub min_column : IsLeast (map (λ extent. extent.min_column) extents) rectangle.min_column
   pub max_column : IsGreatest (map (λ extent. extent.max_column) extents) rectangle.max_column
 
+-- its first place, and its last
+abbrev pub first_corner : WorksheetDimension → Position
+first_corner rectangle = record { row = rectangle.min_row; column = rectangle.min_column }
+
+abbrev pub last_corner : WorksheetDimension → Position
+last_corner rectangle = record { row = rectangle.max_row; column = rectangle.max_column }
+
 -- its corners are places of a sheet
 pub record IsRectangle (rectangle : WorksheetDimension) : Type 0 where
-  pub first : IsPlace (record { row = rectangle.min_row; column = rectangle.min_column })
-  pub last : IsPlace (record { row = rectangle.max_row; column = rectangle.max_column })
+  pub first : IsPlace (first_corner rectangle)
+  pub last : IsPlace (last_corner rectangle)
 
 -- the first place of a sheet
 abbrev pub first_place : WorksheetDimension

@@ -1,12 +1,12 @@
 -- Laws of rectangles.
-use Rattle.std.proofs.Common.{◌≡◌, ◌⊎◌, inl, inr, ℤ, pos, ◌+ℤ◌, ◌-ℤ◌, ◌≤ℤ◌, ◌<ℤ◌, Bool, true, false, ◌&&◌, refl, ap, sym, subst, arith}
+use Rattle.std.proofs.Common.{◌≡◌, ◌⊎◌, inl, inr, ℤ, pos, ◌≤ℤ◌, Bool, true, false, ◌&&◌, refl, sym, subst, arith}
 use Rattle.std.proofs.lemmas.Int.{ints}
 use Rattle.std.specs.Prelude.{◌||◌, int_le, int_lt}
 use Rattle.base_values.specs.declared.Position.{Position}
-use Rattle.base_values.specs.Places.{IsLine, IsRow, IsColumn, IsPlace}
+use Rattle.base_values.specs.Places.{IsLine, IsPlace}
 use Rattle.base_axis.specs.declared.merged_cell.MergedCell.{MergedCell}
 use Rattle.base_axis.specs.Along.{Along, IsAxis, rows, columns}
-use Rattle.base_axis.specs.Rectangles.{last_of, last_row, last_column, anchor_place, last_place, stands_inside, is_inside, IsInside, is_between, holds, Holds, has_many, overlap, meets, Meets, is_part, lies_within, first_line, line_count, last_line, across, first_cross, last_cross, line_span, with_lines}
+use Rattle.base_axis.specs.Rectangles.{last_of, last_row, last_column, anchor_place, stands_inside, is_inside, IsInside, is_between, holds, Holds, has_many, overlap, meets, Meets, first_line, line_count, last_line, across, first_cross, last_cross, line_span, with_lines}
 
 -- ---- tests and what they say
 

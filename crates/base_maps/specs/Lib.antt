@@ -1,2 +1,4 @@
 pub mod SheetPlaces
+pub mod Carried
+pub mod Tagged
 pub mod laws

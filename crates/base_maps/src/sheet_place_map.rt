@@ -3,13 +3,15 @@ ghost use Rattle.std.specs.Option.{option_copied};
 ghost use Rattle.std.specs.FinMap as fin;
 ghost use Rattle.std.specs.Cmp.{partial_equiv_from_equiv};
 ghost use Rattle.base_maps.specs.SheetPlaces.{same_sheet_place};
+ghost use Rattle.base_maps.specs.Tagged.{put_under};
 ghost use Rattle.base_maps.specs.laws.SheetPlaces.{sheet_place_equiv};
 ghost use Rattle.base_values.specs.KeyMap.{with_entry, same_entries};
 ghost use Rattle.base_values.specs.laws.KeyMap.{same_entries_laws, same_entries_equiv};
 ghost use Rattle.base_values.specs.declared.EditError.TheVariants.{NoMemory};
 
+use crate::position_map::PositionMap;
 use crate::sheet_place::SheetPlace;
-use base_values::{EditError, Exact, Items};
+use base_values::{EditError, Exact, Items, copy_of};
 use std::alloc::{AllocError, Global};
 use std::collections::BTreeMap;
 use std::collections::btree_map::Iter;
@@ -121,6 +123,24 @@ impl<V: Drop> SheetPlaceMap<V> {
             None => {
                 let _before = self.remove(key);
             }
+        }
+        Ok(())
+    }
+}
+
+impl<V: Exact + Drop> SheetPlaceMap<V> {
+    /// Puts copies of the entries of a map under the id of a sheet. After `NoMemory` some of them
+    /// may stand.
+    pub fn put_under(&mut self, sheet: u32, map: &PositionMap<V>) -> Result<(), EditError>
+        ensures ok { OnOk result (self.new ≡ put_under sheet map.now self.old) }
+        ensures only { IsOkUnless result NoMemory }
+    {
+        for (place, value) in map.iter() {
+            let key = SheetPlace {
+                sheet,
+                place: *place,
+            };
+            let _before = self.insert(key, copy_of(value)?)?;
         }
         Ok(())
     }

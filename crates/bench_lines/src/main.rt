@@ -7,7 +7,7 @@
 #![tactic(auto)]
 
 ghost use Rattle.std.specs.Prelude.{IfOk};
-ghost use Rattle.line_map.specs.Edit.{IsValid};
+ghost use Rattle.line_edits.specs.Edit.{IsValid};
 ghost use Rattle.sheet_lines.specs.Sheets.{IsPlacedBook};
 
 use anyhow::{Context, Result};

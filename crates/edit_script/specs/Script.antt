@@ -6,7 +6,7 @@ use Rattle.base_values.specs.Answers.{and_then, map_ok}
 use Rattle.base_values.specs.ErrorNames.{name_of}
 use Rattle.base_values.specs.declared.Position.{Position}
 use Rattle.base_values.specs.Places.{place_of}
-use Rattle.line_map.specs.declared.EditKind.TheVariants.{Insert, Delete}
+use Rattle.line_edits.specs.declared.EditKind.TheVariants.{Insert, Delete}
 use Rattle.sheet_grid.specs.declared.Cell.{Cell}
 use Rattle.cell_content.specs.declared.Content.{Content}
 use Rattle.cell_content.specs.declared.Content.TheVariants.{Empty}

@@ -10,14 +10,14 @@ use Rattle.formula_tree.specs.declared.Node.TheVariants as node
 use Rattle.formula_tree.specs.Corners.{corner_row, corner_column, corner_at, is_inside, are_rows_reversed, are_columns_reversed, crossing, lower_corner, higher_corner}
 use Rattle.formula_tree.specs.Moved.{moved, range_to}
 use Rattle.formula_tree.specs.laws.CornerLaws.{corner_row-corner_to, corner_column-corner_to}
-use Rattle.line_map.specs.declared.edit.EditKind.{EditKind}
-use Rattle.line_map.specs.declared.edit.EditKind.TheVariants.{Insert, Delete, Move}
-use Rattle.line_map.specs.Carried.{if_there}
-use Rattle.line_map.specs.Edit.{within, goes_to, image_at, IsValid}
-use Rattle.line_map.specs.Moves.{at_line, place_image, is_between}
+use Rattle.line_edits.specs.declared.edit.EditKind.{EditKind}
+use Rattle.line_edits.specs.declared.edit.EditKind.TheVariants.{Insert, Delete, Move}
+use Rattle.base_maps.specs.Carried.{if_there}
+use Rattle.line_edits.specs.Edit.{within, goes_to, image_at, IsValid}
+use Rattle.line_edits.specs.Moves.{at_line, place_image, is_between}
 use Rattle.line_map.specs.Trees.{corner_of, target, is_exposed, moved_corner, tree_carried}
 use Rattle.line_map.specs.Way.{Way, IsWay, at}
-use Rattle.line_map.specs.laws.Images.{insert_parts, delete_parts}
+use Rattle.line_edits.specs.laws.Images.{insert_parts, delete_parts}
 use Rattle.line_map.specs.laws.WayLaws.{at_is_way, image_inside}
 use Rattle.line_laws.specs.Ranges.{is_insertion_or_deletion, Denotes, Holds, Survives, IsImage, IsLeastRange, GoesByNodes, range_carried, RangesHoldImages}
 

@@ -2,9 +2,9 @@
 use Rattle.std.proofs.Common.{◌≡◌, ℤ, pos, ◌-ℤ◌, arith}
 use Rattle.std.proofs.lemmas.Int.{ints}
 use Rattle.formula_move.specs.Lines as displacing
-use Rattle.line_map.specs.Edit.{within, is_in_block, moved_by, goes_to, image_at, IsValid}
-use Rattle.line_map.specs.declared.EditKind.TheVariants.{Insert, Delete, Move}
-use Rattle.line_map.specs.laws.Images.{insert_parts, delete_parts, move_parts}
+use Rattle.line_edits.specs.Edit.{within, is_in_block, moved_by, goes_to, image_at, IsValid}
+use Rattle.line_edits.specs.declared.EditKind.TheVariants.{Insert, Delete, Move}
+use Rattle.line_edits.specs.laws.Images.{insert_parts, delete_parts, move_parts}
 
 pub inserted : (last first count n : ℤ) → IsValid last (Insert first count) → displacing.shifted last first count n ≡ image_at last (Insert first count) n
 unfolding displacing.goes_on displacing.within image_at goes_to within

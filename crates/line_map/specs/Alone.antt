@@ -1,8 +1,8 @@
 -- How an edit meets what stands on the edited sheet by itself.
 use Rattle.std.specs.Prelude.{◌≡◌, pos, true, [], Option, Some, None}
 use Rattle.base_axis.specs.Along.{Along}
-use Rattle.line_map.specs.declared.edit.EditKind.{EditKind}
-use Rattle.line_map.specs.Moves.{edit_moves}
+use Rattle.line_edits.specs.declared.EditKind.{EditKind}
+use Rattle.line_edits.specs.Moves.{edit_moves}
 use Rattle.line_map.specs.Way.{Way, back}
 
 -- the way of an edit: it names no sheet, and begins and ends at the first place

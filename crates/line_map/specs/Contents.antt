@@ -4,7 +4,7 @@ use Rattle.formula_tree.specs.declared.Node.{Node}
 use Rattle.cell_content.specs.declared.Content.{Content}
 use Rattle.cell_content.specs.Lens.{tree_of, with_tree}
 use Rattle.sheet_grid.specs.declared.Cell.{Cell}
-use Rattle.line_map.specs.Carried.{if_there}
+use Rattle.base_maps.specs.Carried.{if_there}
 use Rattle.line_map.specs.Trees.{tree_carried, tree_part, TreeLies}
 use Rattle.line_map.specs.Way.{Way}
 

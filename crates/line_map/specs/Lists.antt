@@ -1,6 +1,6 @@
 -- Lists whose items are carried along.
 use Rattle.std.specs.Prelude.{List, [], ◌∷◌, Option}
-use Rattle.line_map.specs.Carried.{settled}
+use Rattle.base_maps.specs.Carried.{settled}
 
 -- item by item, as long as both lists have one
 abbrev pub zip_by : {F K G : Type 0} → (F → K → G) → List F → List K → List G

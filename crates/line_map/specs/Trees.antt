@@ -1,9 +1,8 @@
 -- Trees of formulas, carried along with their cells.
-use Rattle.std.proofs.Common.{◌≡◌, ℕ, Bool, true, List, Option, Some, None}
+use Rattle.std.proofs.Common.{◌≡◌, ℕ, Bool, true, List, Option, Some}
 use Rattle.std.specs.Prelude.{not, ◌&&◌, if◌then◌else◌}
 use Rattle.base_values.specs.declared.Position.{Position}
 use Rattle.base_values.specs.CodedEq.{same_value}
-use Rattle.base_axis.specs.Along.{Along}
 use Rattle.formula_tree.specs.declared.Corner.{Corner}
 use Rattle.formula_tree.specs.declared.Node.{Node}
 use Rattle.formula_tree.specs.contracts.node.Node.{the_row}
@@ -11,8 +10,8 @@ use Rattle.formula_tree.specs.Corners.{corner_at, corner_to, is_whole_rows, is_w
 use Rattle.formula_tree.specs.OnSheet.{is_on_sheet}
 use Rattle.formula_tree.specs.Moved.{Mapping, moved}
 use Rattle.formula_tree.specs.Placed.{is_placed}
-use Rattle.line_map.specs.Carried.{if_there}
-use Rattle.line_map.specs.Moves.{place_image}
+use Rattle.base_maps.specs.Carried.{if_there}
+use Rattle.line_edits.specs.Moves.{place_image}
 use Rattle.line_map.specs.Trial.{part_by_trial}
 use Rattle.line_map.specs.Way.{Way}
 

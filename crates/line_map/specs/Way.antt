@@ -1,11 +1,11 @@
 -- How a map on the lines of one sheet meets a sheet of the workbook, and what stands there.
-use Rattle.std.specs.Prelude.{◌≡◌, ℕ, ℤ, Bool, true, false, List, [], Option, Some, None, ◌&&◌, if◌then◌else◌}
+use Rattle.std.specs.Prelude.{ℕ, Bool, true, false, List, Option, Some, None, if◌then◌else◌}
 use Rattle.base_values.specs.declared.Position.{Position}
 use Rattle.base_axis.specs.Along.{Along, IsAxis}
 use Rattle.base_axis.specs.declared.axis.Axis as axis
-use Rattle.line_map.specs.declared.line_map.LineMap as line_map
+use Rattle.line_edits.specs.declared.LineMap as line_map
 use Rattle.line_map.specs.declared.route.Route.{Route}
-use Rattle.line_map.specs.Moves.{LineMoves, IsOneToOne, turned, place_image}
+use Rattle.line_edits.specs.Moves.{LineMoves, IsOneToOne, turned, place_image}
 
 -- the axis and the map, the names of the sheet and of the edited one, whether they are one sheet, and the place of what is carried
 -- along, before and afterwards

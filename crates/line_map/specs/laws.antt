@@ -1,15 +1,10 @@
 pub mod Equals
-pub mod Images
-pub mod FirstImages
-pub mod Singles
-pub mod Inverses
-pub mod Keys
-pub mod Gathering
 pub mod WayLaws
 pub mod TrialLaws
 pub mod TreeLaws
 pub mod ContentLaws
-pub mod AreaLaws
+pub mod MergedCellLaws
+pub mod MergeLaws
 pub mod ListLaws
 pub mod MapLaws
 pub mod AttributeLaws

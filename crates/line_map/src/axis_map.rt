@@ -5,19 +5,19 @@ ghost use Rattle.std.specs.Option.{option_copied};
 ghost use Rattle.std.specs.FinMap.{get, insert};
 ghost use Rattle.base_values.specs.Places.{IsLine};
 ghost use Rattle.base_values.specs.declared.EditError.TheVariants.{NoMemory};
-ghost use Rattle.line_map.specs.Attributes.{line_goes_along, heir, amount, with_line, block_with, block_heirs, heirs, LinesLie};
-ghost use Rattle.line_map.specs.Carried.{entry_made, if_lost, lost_map, moved_map, overlaid};
-ghost use Rattle.line_map.specs.Edit.{within};
-ghost use Rattle.line_map.specs.laws.Gathering.{with_made};
+ghost use Rattle.line_edits.specs.Edit.{amount};
+ghost use Rattle.line_map.specs.Attributes.{line_goes_along, heir, with_line, block_with, block_heirs, heirs, LinesLie};
+ghost use Rattle.base_maps.specs.Carried.{entry_made, if_lost, lost_map, moved_map, overlaid};
+ghost use Rattle.line_edits.specs.Edit.{within};
+ghost use Rattle.base_maps.specs.laws.Gathering.{with_made};
 ghost use Rattle.line_map.specs.Way.{way};
 
-use crate::edit::{Block, within};
 use crate::follower::Follower;
-use crate::line_map::LineMap;
 use crate::route::Route;
 use base_axis::{Axis, AxisMap};
 use base_maps::NumberMap;
 use base_values::{EditError, Exact, copy_of};
+use line_edits::{Block, LineMap, within};
 use std::alloc::Global;
 
 /// Whether the lines of an axis go along a route: those of the edited axis of the edited sheet.

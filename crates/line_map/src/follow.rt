@@ -1,15 +1,15 @@
 ghost use Rattle.std.specs.Prelude.{◌≡◌, IfOk, IsOkUnless};
 ghost use Rattle.base_values.specs.declared.EditError.TheVariants.{NoMemory};
-ghost use Rattle.line_map.specs.Edit.{IsValid, opposite_of};
+ghost use Rattle.line_edits.specs.Edit.{IsValid, opposite_of};
 ghost use Rattle.line_map.specs.Alone.{edit_way};
 ghost use Rattle.line_map.specs.Way.{way};
-ghost use Rattle.line_map.specs.declared.edit.EditKind.{EditKind};
+ghost use Rattle.line_edits.specs.declared.EditKind.{EditKind};
 
-use crate::edit::LineEdit;
 use crate::follower::Follower;
 use crate::route::Route;
 use base_axis::Axis;
 use base_values::{EditError, Exact, Position};
+use line_edits::LineEdit;
 use std::alloc::Global;
 use std::marker::PhantomData;
 

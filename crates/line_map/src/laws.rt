@@ -1,25 +1,21 @@
 //! What the maps and trees are that a route carries along.
 
-ghost use Rattle.std.specs.Prelude.{◌≡◌, ℤ, true, Some, None, is_none, if◌then◌else◌};
+ghost use Rattle.std.specs.Prelude.{◌≡◌, true, Some, None, is_none, if◌then◌else◌};
 ghost use Rattle.std.specs.FinMap.{get};
 ghost use Rattle.base_values.specs.declared.Position.{Position};
-ghost use Rattle.base_values.specs.Places.{IsLine};
 ghost use Rattle.formula_tree.specs.Placed.{is_placed};
-ghost use Rattle.line_map.specs.Carried.{if_there, lost_map};
-ghost use Rattle.line_map.specs.declared.edit.EditKind.TheVariants.{Move};
-ghost use Rattle.line_map.specs.Edit.{image_at, IsValid};
+ghost use Rattle.base_maps.specs.Carried.{if_there, lost_map};
 ghost use Rattle.line_map.specs.Maps.{places_carried, places_parts};
-ghost use Rattle.line_map.specs.Singles.{line_by_line};
 ghost use Rattle.line_map.specs.Trees.{tree_carried};
 ghost use Rattle.line_map.specs.Way.{at, back, place_goes, way};
 
 use crate::follower::Follower;
-use crate::line_map::LineMap;
 use crate::route::Route;
 use base_axis::Axis;
 use base_shared::Shared;
 use base_values::PlaceMap;
 use formula_tree::Node;
+use line_edits::LineMap;
 
 /// A carried map has at a place what the map had where the place came from, carried along. Of a map
 /// is kept: each entry whose place goes nowhere; and of each other entry the part that the way back
@@ -43,14 +39,4 @@ pub fn followed_is_placed<A: Axis, M: LineMap<A>>(route: &Route<'_, A, M>, tree:
 {
     route.is_way();
     let _ = tree;
-}
-
-/// A move of a block of lines takes each line of the axis where the moves of its lines one by one
-/// take it: the last of them first where the block goes on, and the first of them first where it
-/// goes back.
-pub fn move_by_single_lines<A: Axis>(first: i32, count: i32, delta: i32)
-    requires { IsValid A.along.last (Move first count delta) }
-    ensures { (n : ℤ) → IsLine A.along.last n → image_at A.along.last (Move first count delta) n ≡ line_by_line A.along.last first count delta n }
-{
-    let _ = (first, count, delta);
 }

@@ -1,13 +1,13 @@
 ghost use Rattle.std.specs.Prelude.{◌≡◌, IfOk, IfSome, IsOkUnless};
 ghost use Rattle.base_values.specs.declared.EditError.TheVariants.{NoMemory};
-ghost use Rattle.line_map.specs.Carried.{settled};
+ghost use Rattle.base_maps.specs.Carried.{settled};
 ghost use Rattle.line_map.specs.Way.{back, way};
 
 use crate::follower::Follower;
-use crate::line_map::LineMap;
 use crate::route::Route;
 use base_axis::Axis;
 use base_values::{EditError, Items};
+use line_edits::LineMap;
 use std::alloc::Global;
 
 /// What an item is restored from its part to, if it has one, else what is carried back.

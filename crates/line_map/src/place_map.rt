@@ -6,17 +6,17 @@ ghost use Rattle.std.specs.FinMap.{get, entries, insert};
 ghost use Rattle.base_values.specs.declared.Position.{Position};
 ghost use Rattle.base_values.specs.declared.EditError.TheVariants.{NoMemory};
 ghost use Rattle.base_values.specs.Places.{IsPlace};
-ghost use Rattle.line_map.specs.Carried.{entry_made, if_lost, if_there, lost_map, overlaid, settled};
-ghost use Rattle.line_map.specs.laws.Gathering.{with_made};
+ghost use Rattle.base_maps.specs.Carried.{entry_made, if_lost, if_there, lost_map, overlaid, settled};
+ghost use Rattle.base_maps.specs.laws.Gathering.{with_made};
 ghost use Rattle.line_map.specs.Maps.{AllLie, KeysInside, PartsFit, places_carried, places_parts, places_restored};
 ghost use Rattle.line_map.specs.Way.{at, back, place_goes, way};
 
 use crate::follower::Follower;
-use crate::line_map::LineMap;
 use crate::route::Route;
 use base_axis::Axis;
 use base_maps::PositionMap;
 use base_values::{EditError, Exact, PlaceMap, Position, copy_of};
+use line_edits::LineMap;
 use std::alloc::{AllocError, Global};
 
 /// Parts that are kept under places.
@@ -260,7 +260,7 @@ impl<F: Exact, P: Exact> Exact for KeptMap<F, P> {
 impl<A: Axis, F: Follower<A> + Exact> Follower<A> for PlaceMap<F> {
     ghost use Rattle.std.specs.Prelude.{Some};
     ghost use Rattle.std.specs.FinMap.{get};
-    ghost use Rattle.line_map.specs.Carried.{lost_map, overlaid};
+    ghost use Rattle.base_maps.specs.Carried.{lost_map, overlaid};
     ghost use Rattle.line_map.specs.Maps.{AllLie, KeptFits, places_carried, places_parts, places_restored};
     ghost use Rattle.line_map.specs.Way.{place_goes};
     ghost use Rattle.line_map.specs.laws.MapLaws.{places_stay, kept_map_fits, kept_map_restores};

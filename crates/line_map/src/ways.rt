@@ -1,13 +1,12 @@
 ghost use Rattle.std.specs.Prelude.{◌≡◌, IfSome};
 ghost use Rattle.base_values.specs.Places.{IsPlace};
-ghost use Rattle.line_map.specs.Moves.{place_image};
+ghost use Rattle.line_edits.specs.Moves.{place_image};
 ghost use Rattle.line_map.specs.Way.{IsWay, at, back, place_goes, way};
 
-use crate::edit::Block;
-use crate::line_map::LineMap;
 use crate::route::Route;
 use base_axis::Axis;
 use base_values::Position;
+use line_edits::{Block, LineMap};
 use std::marker::PhantomData;
 
 impl<'a, A: Axis, M: LineMap<A>> Route<'a, A, M> {
@@ -57,7 +56,7 @@ impl<'a, A: Axis, M: LineMap<A>> Route<'a, A, M> {
     }
 
     /// Where a place goes along the map, whether or not this sheet is the edited one.
-    #[tactic(auto, unfolding(crate::specs::Moves::place_image))]
+    #[tactic(auto, unfolding(line_edits::specs::Moves::place_image))]
     pub fn image(&self, place: Position) -> Option<Position>
         requires { IsPlace place }
         ensures value { result ≡ place_image A.along (M.moves self.now.map.now).to place }

@@ -1,8 +1,8 @@
 -- The bytes of what an edit does to lines.
 use Rattle.std.specs.Prelude.{ℤ, List, ◌∷◌, ℕ, ◌==◌, if◌then◌else◌, FitsSigned}
 use Rattle.std.specs.Int.{w32}
-use Rattle.line_map.specs.declared.EditKind.{EditKind}
-use Rattle.line_map.specs.declared.EditKind.TheVariants.{Insert, Delete, Move}
+use Rattle.line_edits.specs.declared.EditKind.{EditKind}
+use Rattle.line_edits.specs.declared.EditKind.TheVariants.{Insert, Delete, Move}
 use Rattle.base_wire.specs.Reading.{Reader, refused, map_at, ◌⊗◌, tagged_at, signed_at}
 use Rattle.base_wire.specs.Spelling.{spell_signed, spell_both}
 

@@ -7,10 +7,10 @@ use Rattle.std.specs.Cmp.{int_cmp_total}
 use Rattle.std.specs.FinMap.{FinMap, entries, get, get-empty}
 use Rattle.std.proofs.lemmas.Map.Lookups.{exact_signed}
 use Rattle.base_axis.specs.Along.{Along}
-use Rattle.line_map.specs.declared.EditKind.{EditKind}
-use Rattle.line_map.specs.Carried.{lost_map}
-use Rattle.line_map.specs.Edit.{image_at}
-use Rattle.line_map.specs.laws.Gathering.{get-lost_map}
+use Rattle.line_edits.specs.declared.EditKind.{EditKind}
+use Rattle.base_maps.specs.Carried.{lost_map}
+use Rattle.line_edits.specs.Edit.{image_at}
+use Rattle.base_maps.specs.laws.Gathering.{get-lost_map}
 use Rattle.sheet_grid.specs.declared.LineAttr.{LineAttr}
 use Rattle.sheet_grid.specs.Lines.{is_plain}
 use Rattle.sheet_grid.specs.Sheet.{Sheet}

@@ -5,7 +5,7 @@ use Rattle.base_values.specs.declared.EditError.TheVariants.{DiffRefused, ParseD
 use Rattle.base_values.specs.declared.Position.{Position}
 use Rattle.base_values.specs.Answers.{and_then, ok_or, value_of}
 use Rattle.base_axis.specs.Along.{Along}
-use Rattle.line_map.specs.declared.EditKind.{EditKind}
+use Rattle.line_edits.specs.declared.EditKind.{EditKind}
 use Rattle.sheet_grid.specs.declared.Cell.{Cell}
 use Rattle.sheet_grid.specs.Book.{Book, edit_by_id}
 use Rattle.sheet_grid.specs.FittingCells.{entry_fits_at}

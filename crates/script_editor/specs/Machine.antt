@@ -7,7 +7,7 @@ use Rattle.base_values.specs.Places.{place_of}
 use Rattle.base_tables.specs.declared.Locale.TheVariants.{En}
 use Rattle.base_tables.specs.declared.Zone.TheVariants.{Utc}
 use Rattle.cell_content.specs.declared.Content.{Content}
-use Rattle.line_map.specs.declared.EditKind.{EditKind}
+use Rattle.line_edits.specs.declared.EditKind.{EditKind}
 use Rattle.sheet_grid.specs.Sheet.{Sheet}
 use Rattle.sheet_grid.specs.Book.{Book, new_book, sheet_at}
 use Rattle.sheet_history.specs.declared.Diff.{Diff}

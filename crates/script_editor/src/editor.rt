@@ -2,7 +2,7 @@ ghost use Rattle.std.specs.Prelude.{◌≡◌, Ok, IfOk, OnOk, IsTrue, IsOkUnles
 ghost use Rattle.base_values.specs.declared.EditError.TheVariants.{NoMemory};
 ghost use Rattle.cell_content.specs.Fitting.{fits_at};
 ghost use Rattle.cell_content.specs.KeptContent.{IsKeptContent};
-ghost use Rattle.line_map.specs.declared.EditKind.TheVariants.{Insert, Delete};
+ghost use Rattle.line_edits.specs.declared.EditKind.TheVariants.{Insert, Delete};
 ghost use Rattle.sheet_history.specs.LineDiffs.{along_of};
 ghost use Rattle.sheet_history.specs.declared.LineAxis.TheVariants.{Rows};
 ghost use Rattle.sheet_rules.specs.WellFormed.{IsWellFormed};

@@ -1,7 +1,7 @@
 ghost use Rattle.std.specs.Prelude.{◌≡◌, ℕ, ℤ, Ok, IsTrue};
 ghost use Rattle.cell_content.specs.declared.Content.{Content};
 ghost use Rattle.cell_content.specs.Fitting.{fits_at};
-ghost use Rattle.line_map.specs.declared.EditKind.{EditKind};
+ghost use Rattle.line_edits.specs.declared.EditKind.{EditKind};
 ghost use Rattle.sheet_grid.specs.Book.{Book};
 ghost use Rattle.sheet_history.specs.declared.LineAxis.{LineAxis};
 ghost use Rattle.sheet_rules.specs.WellFormed.{IsWellFormed};

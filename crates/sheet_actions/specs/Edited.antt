@@ -6,8 +6,8 @@ use Rattle.base_values.specs.declared.EditError.{EditError}
 use Rattle.base_values.specs.Answers.{map_ok}
 use Rattle.base_axis.specs.Along.{Along}
 use Rattle.sheet_grid.specs.Book.{Book}
-use Rattle.line_map.specs.declared.EditKind.{EditKind}
-use Rattle.line_map.specs.declared.EditKind.TheVariants.{Move}
+use Rattle.line_edits.specs.declared.EditKind.{EditKind}
+use Rattle.line_edits.specs.declared.EditKind.TheVariants.{Move}
 use Rattle.sheet_lines.specs.Followed.{book_followed}
 use Rattle.sheet_actions.specs.Planned.{lines_planned}
 

@@ -8,10 +8,10 @@ use Rattle.base_values.specs.Places.{is_line}
 use Rattle.base_axis.specs.Along.{Along}
 use Rattle.sheet_grid.specs.Sheet.{Sheet}
 use Rattle.sheet_grid.specs.Book.{Book, sheet_at}
-use Rattle.line_map.specs.declared.EditKind.{EditKind}
-use Rattle.line_map.specs.declared.EditKind.TheVariants.{Insert, Delete, Move}
+use Rattle.line_edits.specs.declared.EditKind.{EditKind}
+use Rattle.line_edits.specs.declared.EditKind.TheVariants.{Insert, Delete, Move}
 use Rattle.line_map.specs.Areas.{last_line}
-use Rattle.line_map.specs.Edit.{is_valid}
+use Rattle.line_edits.specs.Edit.{is_valid}
 use Rattle.sheet_actions.specs.GreatestLine.{greatest_line}
 
 -- the refusal of a line that is not one of the axis

@@ -1,5 +1,5 @@
 ghost use Rattle.std.specs.Prelude.{◌≡◌};
-ghost use Rattle.line_map.specs.Edit.{IsValid};
+ghost use Rattle.line_edits.specs.Edit.{IsValid};
 ghost use Rattle.sheet_lines.specs.Followed.{book_followed};
 ghost use Rattle.sheet_lines.specs.Kept.{kept_lines};
 ghost use Rattle.sheet_lines.specs.Back.{book_back};

@@ -1,8 +1,8 @@
 ghost use Rattle.std.specs.Prelude.{◌≡◌, Ok};
 ghost use Rattle.base_values.specs.Answers.{Changes, map_ok};
 ghost use Rattle.base_axis.specs.Along.{rows, columns};
-ghost use Rattle.line_map.specs.Edit.{IsValid};
-ghost use Rattle.line_map.specs.declared.EditKind.TheVariants.{Insert, Delete};
+ghost use Rattle.line_edits.specs.Edit.{IsValid};
+ghost use Rattle.line_edits.specs.declared.EditKind.TheVariants.{Insert, Delete};
 ghost use Rattle.sheet_rules.specs.WellFormed.{IsWellFormed};
 ghost use Rattle.sheet_lines.specs.Followed.{book_followed};
 ghost use Rattle.sheet_actions.specs.Checked.{checked};

@@ -11,7 +11,7 @@ use Rattle.base_maps.specs.SheetPlaces.{sheet_place_cmp}
 use Rattle.base_maps.specs.laws.SheetPlaces.{sheet_place_total, exact_sheet_places}
 use Rattle.formula_tree.specs.declared.Node.{Node}
 use Rattle.cell_content.specs.Fitting.{fits_at, tree_fits_at}
-use Rattle.line_map.specs.declared.EditKind.{EditKind}
+use Rattle.line_edits.specs.declared.EditKind.{EditKind}
 use Rattle.sheet_grid.specs.declared.Cell.{Cell}
 use Rattle.sheet_grid.specs.Book.{Book}
 use Rattle.sheet_grid.specs.Sheet.{Sheet}

@@ -14,10 +14,10 @@ use Rattle.base_maps.specs.SheetPlaces.{sheet_place_cmp}
 use Rattle.formula_tree.specs.declared.Node.{Node}
 use Rattle.cell_content.specs.Fitting.{fits_at, tree_fits_at}
 use Rattle.cell_content.specs.Lens.{tree_of}
-use Rattle.line_map.specs.declared.EditKind.{EditKind}
-use Rattle.line_map.specs.declared.EditKind.TheVariants.{Insert, Delete, Move}
-use Rattle.line_map.specs.Edit.{image_at, is_valid, opposite_of}
-use Rattle.line_map.specs.Moves.{place_image}
+use Rattle.line_edits.specs.declared.EditKind.{EditKind}
+use Rattle.line_edits.specs.declared.EditKind.TheVariants.{Insert, Delete, Move}
+use Rattle.line_edits.specs.Edit.{image_at, is_valid, opposite_of}
+use Rattle.line_edits.specs.Moves.{place_image}
 use Rattle.sheet_grid.specs.declared.Cell.{Cell}
 use Rattle.sheet_grid.specs.Sheet.{Sheet}
 use Rattle.sheet_grid.specs.Book.{Book}

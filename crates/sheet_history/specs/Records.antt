@@ -6,8 +6,8 @@ use Rattle.std.specs.Ordering.{nat_cmp, int_cmp, ordering_then}
 use Rattle.std.specs.declared.cmp.Ordering.{Ordering}
 use Rattle.std.specs.FinMap as fin
 use Rattle.base_values.specs.declared.Position.{Position}
-use Rattle.line_map.specs.declared.EditKind.{EditKind}
-use Rattle.line_map.specs.Edit.{IsValid}
+use Rattle.line_edits.specs.declared.EditKind.{EditKind}
+use Rattle.line_edits.specs.Edit.{IsValid}
 use Rattle.sheet_grid.specs.declared.Cell.{Cell}
 use Rattle.sheet_grid.specs.SameEntry.{same_entry}
 use Rattle.sheet_grid.specs.Sheet.{Sheet}

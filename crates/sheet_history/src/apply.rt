@@ -2,7 +2,7 @@ ghost use Rattle.std.specs.Prelude.{◌≡◌, IfOk, IfSome, OnOk};
 ghost use Rattle.base_values.specs.Answers.{Answers, Edits};
 ghost use Rattle.sheet_grid.specs.FittingCells.{entry_fits_at};
 ghost use Rattle.sheet_grid.specs.KeptCell.{IsKeptCell};
-ghost use Rattle.line_map.specs.declared.EditKind.{EditKind};
+ghost use Rattle.line_edits.specs.declared.EditKind.{EditKind};
 ghost use Rattle.sheet_rules.specs.WellFormed.{IsWellFormed, broken_rule};
 ghost use Rattle.sheet_lines.specs.KeptNumbers.{AreKeptLines};
 ghost use Rattle.sheet_lines.specs.Sheets.{IsPlacedBook};

@@ -1,5 +1,5 @@
 ghost use Rattle.std.specs.Prelude.{◌≡◌, ℕ, List, Ok};
-ghost use Rattle.line_map.specs.declared.EditKind.{EditKind};
+ghost use Rattle.line_edits.specs.declared.EditKind.{EditKind};
 ghost use Rattle.sheet_grid.specs.Book.{Book};
 ghost use Rattle.sheet_rules.specs.WellFormed.{IsWellFormed};
 ghost use Rattle.sheet_lines.specs.Followed.{book_followed};

@@ -8,8 +8,8 @@ ghost use Rattle.base_values.specs.Answers.{Edits};
 ghost use Rattle.base_values.specs.Places.{is_line};
 ghost use Rattle.base_values.specs.declared.Position.{Position};
 ghost use Rattle.cell_content.specs.Fitting.{tree_fits_at};
-ghost use Rattle.line_map.specs.Edit.{IsValid, image_at, opposite_of};
-ghost use Rattle.line_map.specs.Moves.{place_image};
+ghost use Rattle.line_edits.specs.Edit.{IsValid, image_at, opposite_of};
+ghost use Rattle.line_edits.specs.Moves.{place_image};
 ghost use Rattle.sheet_grid.specs.declared.Cell.{Cell};
 ghost use Rattle.sheet_rules.specs.WellFormed.{is_place};
 ghost use Rattle.sheet_lines.specs.Back.{ArePlacedLines, LieInside};
@@ -88,7 +88,7 @@ fn is_there_inside<A: Axis>(edit: &LineEdit<A>, workbook: &Workbook, id: u32) ->
 }
 
 /// Whether a position is a place of the sheet that has no image.
-#[tactic(auto, unfolding(line_map::specs::Moves::place_image))]
+#[tactic(auto, unfolding(line_edits::specs::Moves::place_image))]
 fn is_lost_place<A: Axis>(edit: &LineEdit<A>, place: Position) -> bool
     ensures { result ≡ is_lost_place A.along edit.now.kind place }
 {
@@ -167,7 +167,7 @@ fn is_formula_at(cells: &PlaceMap<Shared<Cell>>, place: Option<Position>) -> boo
     }
 }
 
-#[tactic(auto, unfolding(line_map::specs::Moves::place_image))]
+#[tactic(auto, unfolding(line_edits::specs::Moves::place_image))]
 fn place_image<A: Axis>(edit: &LineEdit<A>, place: Position) -> Option<Position>
     ensures { result ≡ place_image A.along (image_at A.along.last edit.now.kind) place }
 {

@@ -1,14 +1,17 @@
 -- A workbook taken back along a map on the lines of one of its sheets.
-use Rattle.std.specs.Prelude.{◌≡◌, ℕ, true, List, map, Some, if◌then◌else◌}
+use Rattle.std.specs.Prelude.{◌≡◌, ℕ, true, List, map, Option, Some, None, IfSome, if◌then◌else◌}
 use Rattle.std.specs.declared.cmp.Ordering.{Ordering}
 use Rattle.std.specs.FinMap.{FinMap, get}
 use Rattle.base_axis.specs.Along.{Along, rows, columns}
-use Rattle.line_map.specs.declared.EditKind.{EditKind}
+use Rattle.base_axis.specs.declared.MergedCell.{MergedCell}
+use Rattle.base_maps.specs.Carried.{overlaid, settled}
+use Rattle.base_maps.specs.Tagged.{place_on}
+use Rattle.line_edits.specs.declared.EditKind.{EditKind}
+use Rattle.line_edits.specs.Moves.{edit_moves}
 use Rattle.line_map.specs.Attributes.{lines_restored, LinesLie}
-use Rattle.line_map.specs.Carried.{overlaid}
 use Rattle.line_map.specs.Contents.{cell_carried, cell_restored}
 use Rattle.line_map.specs.Maps.{places_carried, places_restored, KeysInside}
-use Rattle.line_map.specs.Moves.{LineMoves, edit_moves}
+use Rattle.line_map.specs.Merges.{merges_carried, MergesLie}
 use Rattle.line_map.specs.Way.{Way, back}
 use Rattle.formula_tree.specs.declared.Node.{Node}
 use Rattle.formula_tree.specs.Placed.{is_placed}
@@ -19,39 +22,37 @@ use Rattle.sheet_grid.specs.Sheet.{Sheet}
 use Rattle.sheet_grid.specs.Book.{Book}
 use Rattle.sheet_lines.specs.declared.kept.KeptLines.{KeptLines}
 use Rattle.sheet_lines.specs.Followed.{way_of}
-use Rattle.sheet_lines.specs.Kept.{place_on}
 use Rattle.sheet_lines.specs.Sheets.{IsPlacedCell, sheet_of, name_of}
 
 -- what came back, on the edited sheet with the lost entries in place of its own
 abbrev pub with_lost : {K X : Type 0} {R : K → K → Ordering} → Way → FinMap R X → FinMap R X → FinMap R X
 with_lost w lost m = if w.is_edited then overlaid lost m else m
 
--- a sheet taken back: its cells with the kept trees and the lost cells, its links with the lost ones, and its rows and columns with what
--- the lost ones had
+-- the merges that were kept of the edited sheet, else those that go back
+abbrev pub merges_back : Way → Option (List MergedCell) → List MergedCell → List MergedCell
+merges_back w kept merges = settled (merges_carried (back w)) (λ _ list. list) (if w.is_edited then kept else None) merges
+
+-- a sheet taken back: its cells with the kept trees and the lost cells, its links with the lost ones, its rows and columns with what the
+-- lost ones had, and its merges
 abbrev pub sheet_back : Way → KeptLines → Sheet → Sheet
 sheet_back w kept sheet = record sheet {
   cells = with_lost w kept.cells (places_restored cell_carried (λ _ cell tree. cell_restored cell tree) w (λ place. get kept.formulas (place_on sheet.id place)) sheet.cells);
   links = with_lost w kept.links (places_carried (λ _ link. link) (back w) sheet.links);
   rows = lines_restored rows w sheet.rows kept.lines;
   columns = lines_restored columns w sheet.columns kept.lines;
+  merges = merges_back w kept.merges sheet.merges;
 }
 
-abbrev pub sheets_back : Along → LineMoves → ℕ → List ℕ → KeptLines → List Sheet → List Sheet
-sheets_back a m id edited kept sheets = map (λ sheet. sheet_back (way_of a m id edited sheet) kept sheet) sheets
-
--- every sheet is taken back; all else stays
-abbrev pub book_restored : Along → LineMoves → ℕ → KeptLines → Book → Book
-book_restored a m id kept book = record book { worksheets = sheets_back a m id (name_of (sheet_of book id)) kept book.worksheets }
-
--- a workbook taken back along an edit of the lines of the sheet of an id
+-- a workbook taken back along an edit of the lines of the sheet of an id: every sheet is, and all else stays
 abbrev pub book_back : Along → EditKind → ℕ → KeptLines → Book → Book
-book_back a e id kept book = book_restored a (edit_moves a.last e) id kept book
+book_back a e id kept book = record book { worksheets = map (λ sheet. sheet_back (way_of a (edit_moves a.last e) id (name_of (sheet_of book id)) sheet) kept sheet) book.worksheets }
 
--- the keys of what is kept lie inside the sheet
+-- the keys and the merges of what is kept lie inside the sheet
 pub record LieInside (a : Along) (kept : KeptLines) : Type 0 where
   pub cells : KeysInside kept.cells
   pub links : KeysInside kept.links
   pub lines : LinesLie a kept.lines
+  pub merges : IfSome kept.merges MergesLie
 
 -- the trees of what is kept may stand where they stood
 pub record ArePlacedLines (kept : KeptLines) : Type 0 where

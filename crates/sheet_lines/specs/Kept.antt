@@ -1,20 +1,20 @@
 -- What taking the lines back does not give of a workbook.
-use Rattle.std.specs.Prelude.{ℕ, true, false, List, map, Option, Some, None, if◌then◌else◌}
-use Rattle.std.specs.List.{fold}
+use Rattle.std.specs.Prelude.{ℕ, true, false, List, Option, Some, None, if◌then◌else◌}
 use Rattle.std.specs.Ordering.{int_cmp}
 use Rattle.std.specs.declared.cmp.Ordering.{Ordering}
-use Rattle.std.specs.FinMap.{FinMap, empty, entries, from_entries}
-use Rattle.base_values.specs.declared.Position.{Position}
+use Rattle.std.specs.FinMap.{FinMap, empty}
 use Rattle.base_values.specs.Places.{position_cmp}
 use Rattle.base_axis.specs.Along.{Along}
-use Rattle.base_maps.specs.declared.SheetPlace.{SheetPlace}
+use Rattle.base_axis.specs.declared.MergedCell.{MergedCell}
+use Rattle.base_maps.specs.Carried.{if_there, lost_map}
 use Rattle.base_maps.specs.SheetPlaces.{sheet_place_cmp}
+use Rattle.base_maps.specs.Tagged.{all_under}
 use Rattle.formula_tree.specs.declared.Node.{Node}
-use Rattle.line_map.specs.declared.EditKind.{EditKind}
-use Rattle.line_map.specs.Carried.{lost_map, overlaid}
+use Rattle.line_edits.specs.declared.EditKind.{EditKind}
+use Rattle.line_edits.specs.Moves.{LineMoves, edit_moves, place_image}
 use Rattle.line_map.specs.Contents.{cell_part}
 use Rattle.line_map.specs.Maps.{places_parts}
-use Rattle.line_map.specs.Moves.{LineMoves, edit_moves, place_image}
+use Rattle.line_map.specs.Merges.{merges_part}
 use Rattle.sheet_grid.specs.declared.LineAttr.{LineAttr}
 use Rattle.sheet_grid.specs.Sheet.{Sheet}
 use Rattle.sheet_grid.specs.Book.{Book}
@@ -31,30 +31,27 @@ abbrev pub of_sheet : {K X : Type 0} {R : K → K → Ordering} → (Sheet → F
 of_sheet entries_of None = empty
 of_sheet entries_of (Some sheet) = entries_of sheet
 
--- a place of the sheet of an id
-abbrev pub place_on : ℕ → Position → SheetPlace
-place_on id place = record { sheet = id; place = place }
-
--- trees under their places on the sheet of an id
-unfoldable pub trees_under : ℕ → FinMap position_cmp Node → FinMap sheet_place_cmp Node
-trees_under id trees = from_entries (map (λ e. (place_on id e.0, e.1)) (entries trees))
-
 -- the trees kept of a sheet's formulas that go somewhere, under their places before
 abbrev pub trees_kept : Along → LineMoves → ℕ → List ℕ → Sheet → FinMap position_cmp Node
 trees_kept a m id edited sheet = places_parts cell_part (way_of a m id edited sheet) sheet.cells
 
 -- those of each sheet, under its id
-unfoldable pub formulas_kept : Along → LineMoves → ℕ → List ℕ → List Sheet → FinMap sheet_place_cmp Node
-formulas_kept a m id edited sheets = fold (λ kept sheet. overlaid (trees_under sheet.id (trees_kept a m id edited sheet)) kept) empty sheets
+abbrev pub formulas_kept : Along → LineMoves → ℕ → List ℕ → List Sheet → FinMap sheet_place_cmp Node
+formulas_kept a m id edited sheets = all_under (λ sheet. sheet.id) (trees_kept a m id edited) sheets
 
--- the cells, the links and the attributes of the edited sheet's lines that go nowhere, and the trees of the other formulas that the way
--- back does not give
+-- the merges of the edited sheet, where the way back does not give them
+abbrev pub merges_kept : Along → LineMoves → ℕ → List ℕ → Option Sheet → Option (List MergedCell)
+merges_kept a m id edited found = if_there found (λ sheet. merges_part (way_of a m id edited sheet) sheet.merges)
+
+-- the cells, the links and the attributes of the edited sheet's lines that go nowhere; the trees of the other formulas, and the merges,
+-- that the way back does not give
 abbrev pub lines_kept : Along → LineMoves → ℕ → Book → KeptLines
 lines_kept a m id book = record {
   cells = of_sheet (λ sheet. lost_map (place_image a m.to) sheet.cells) (sheet_of book id);
   links = of_sheet (λ sheet. lost_map (place_image a m.to) sheet.links) (sheet_of book id);
   lines = of_sheet (λ sheet. lost_map m.to (lines_of a sheet)) (sheet_of book id);
   formulas = formulas_kept a m id (name_of (sheet_of book id)) book.worksheets;
+  merges = merges_kept a m id (name_of (sheet_of book id)) (sheet_of book id);
 }
 
 -- what is kept of a workbook at an edit of the lines of the sheet of an id

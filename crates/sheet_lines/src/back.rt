@@ -1,14 +1,13 @@
-ghost use Rattle.std.specs.Prelude.{◌≡◌, map, IfOk, IsOkUnless, IsTrue, is_some};
+ghost use Rattle.std.specs.Prelude.{◌≡◌, map, IfOk, IfSome, IsOkUnless, IsTrue, is_some};
 ghost use Rattle.std.specs.List.{AllByRecursion};
-ghost use Rattle.std.specs.FinMap.{get};
 ghost use Rattle.base_values.specs.declared.EditError.TheVariants.{NoMemory};
 ghost use Rattle.line_map.specs.Attributes.{LinesLie, lines_restored};
-ghost use Rattle.line_map.specs.Edit.{IsValid};
-ghost use Rattle.line_map.specs.Maps.{KeysInside};
-ghost use Rattle.line_map.specs.Way.{way};
-ghost use Rattle.sheet_lines.specs.Back.{LieInside, ArePlacedLines, sheet_back, book_back};
+ghost use Rattle.line_edits.specs.Edit.{IsValid};
+ghost use Rattle.line_map.specs.Maps.{AllLie, KeysInside, PartsFit, places_restored};
+ghost use Rattle.line_map.specs.Merges.{MergesLie};
+ghost use Rattle.line_map.specs.Way.{back, way};
+ghost use Rattle.sheet_lines.specs.Back.{LieInside, ArePlacedLines, with_lost, merges_back, sheet_back, book_back};
 ghost use Rattle.sheet_lines.specs.Followed.{way_on};
-ghost use Rattle.sheet_lines.specs.Kept.{place_on};
 ghost use Rattle.sheet_lines.specs.KeptNumbers.{AreKeptLines};
 ghost use Rattle.sheet_lines.specs.Sheets.{sheet_of, IsPlacedSheet, IsPlacedBook};
 
@@ -17,13 +16,15 @@ use crate::followed::edited_by;
 use crate::inside::{lines_inside, places_inside};
 use crate::kept::KeptLines;
 use crate::sheets::route_on;
-use base_axis::{Axis, AxisMap};
-use base_maps::{SheetPlace, SheetPlaceMap};
+use base_axis::{Axis, AxisMap, MergeList};
+use base_maps::{PositionMap, SheetPlace, SheetPlaceMap};
 use base_shared::Shared;
-use base_values::{EditError, Items, PlaceMap, Position, copy_of};
+use base_values::{EditError, Exact, Items, PlaceMap, Position, copy_of};
 use formula_tree::Node;
-use line_map::{Follower, LineEdit, LineMap, Parts, Route, overlaid_places, restored_places};
-use sheet_grid::{Cell, LineAttr, Link, Workbook, Worksheet};
+use line_map::{
+    Follower, LineEdit, LineMap, Nothing, Parts, Route, overlaid_places, restored_places,
+};
+use sheet_grid::{LineAttr, Workbook, Worksheet};
 use std::alloc::Global;
 
 /// The kept trees of the sheet of an id.
@@ -35,7 +36,7 @@ struct SheetTrees<'k> {
 
 impl<'k> Parts for SheetTrees<'k> {
     ghost use Rattle.std.specs.FinMap.{get};
-    ghost use Rattle.sheet_lines.specs.Kept.{place_on};
+    ghost use Rattle.base_maps.specs.Tagged.{place_on};
 
     type Part = Shared<Node>;
 
@@ -47,47 +48,41 @@ impl<'k> Parts for SheetTrees<'k> {
     }
 }
 
-/// The cells of a sheet taken back, with the kept trees and, on the edited sheet, the lost cells.
-fn cells_back<A: Axis, M: LineMap<A>>(
-    alloc: Global,
-    route: &Route<'_, A, M>,
-    kept: &KeptLines,
-    sheet: &Worksheet,
-) -> Result<PlaceMap<Shared<Cell>>, EditError>
-    requires placed { IsPlacedSheet sheet.now }
-    requires inside { KeysInside kept.now.cells }
-    ensures cells { IfOk result (λ made. made ≡ (sheet_back (way route.now) kept.now sheet.now).cells) }
-    ensures only { IsOkUnless result NoMemory }
-{
-    let (cells, id) = (sheet.cell_map(), sheet.get_sheet_id());
-    places_inside(cells);
-    let formulas = &kept.formulas;
-    let cells = restored_places(alloc, route, &SheetTrees { formulas, id }, cells)?;
-    if route.is_edited {
-        overlaid_places(&kept.cells, cells)
-    } else {
-        Ok(cells)
+/// What has no parts.
+#[derive(Drop)]
+struct NoParts {}
+
+impl Parts for NoParts {
+    ghost use Rattle.std.specs.Prelude.{None};
+
+    type Part = Nothing;
+
+    ghost part_at = { λ _ _. None };
+
+    fn part(&self, _place: Position) -> Option<&Nothing> {
+        None
     }
 }
 
-/// The links of a sheet taken back, on the edited sheet with the lost ones.
-fn links_back<A: Axis, M: LineMap<A>>(
+/// The entries of a map taken back, with their kept parts and, on the edited sheet, the lost ones.
+fn map_back<A: Axis, M: LineMap<A>, F: Follower<A> + Exact, P: Parts<Part = F::Part>>(
     alloc: Global,
     route: &Route<'_, A, M>,
-    kept: &KeptLines,
-    sheet: &Worksheet,
-) -> Result<PlaceMap<Link>, EditError>
-    requires { KeysInside kept.now.links }
-    ensures links { IfOk result (λ made. made ≡ (sheet_back (way route.now) kept.now sheet.now).links) }
+    parts: &P,
+    lost: &PositionMap<F>,
+    map: &PlaceMap<F>,
+) -> Result<PlaceMap<F>, EditError>
+    requires lie { AllLie F.Lies (back (way route.now)) map.now }
+    requires fit { PartsFit F.Fits (way route.now) (P.part_at parts.now) }
+    requires inside { KeysInside lost.now }
+    ensures map { IfOk result (λ made. made ≡ with_lost (way route.now) lost.now (places_restored F.carry_of F.restore_of (way route.now) (P.part_at parts.now) map.now)) }
     ensures only { IsOkUnless result NoMemory }
 {
-    let links = sheet.link_map();
-    places_inside(links);
-    let links = links.carry(alloc, &route.back())?;
+    let made = restored_places(alloc, route, parts, map)?;
     if route.is_edited {
-        overlaid_places(&kept.links, links)
+        overlaid_places(lost, made)
     } else {
-        Ok(links)
+        Ok(made)
     }
 }
 
@@ -109,6 +104,27 @@ fn lines_back<A: Axis, B: Axis, M: LineMap<A>>(
     lines.restore(alloc, route, &kept.lines)
 }
 
+/// The merges of a sheet taken back: on the edited sheet the kept ones, if there are.
+fn merges_back<A: Axis, M: LineMap<A>>(
+    alloc: Global,
+    route: &Route<'_, A, M>,
+    kept: &KeptLines,
+    sheet: &Worksheet,
+) -> Result<MergeList, EditError>
+    requires inside { MergesLie sheet.now.merges }
+    requires kept { IfSome kept.now.merges MergesLie }
+    ensures merges { IfOk result (λ made. made ≡ merges_back (way route.now) kept.now.merges sheet.now.merges) }
+    ensures only { IsOkUnless result NoMemory }
+{
+    let merges = sheet.merge_list();
+    if route.is_edited {
+        if let Some(kept) = &kept.merges {
+            return merges.restore(alloc, route, kept);
+        }
+    }
+    merges.carry(alloc, &route.back())
+}
+
 /// A sheet taken back: each part of it is restored.
 fn sheet_back<A: Axis, M: LineMap<A>>(
     alloc: Global,
@@ -123,12 +139,16 @@ fn sheet_back<A: Axis, M: LineMap<A>>(
     ensures only { IsOkUnless result NoMemory }
 {
     let route = route_on(edited, sheet);
-    let _ = sheet.cell_map(); // for the proof: its numbers are kept
-    let cells = cells_back(alloc, &route, kept, sheet)?;
-    let links = links_back(alloc, &route, kept, sheet)?;
+    let (formulas, id) = (&kept.formulas, sheet.get_sheet_id());
+    let (cells, links) = (sheet.cell_map(), sheet.link_map());
+    places_inside(cells);
+    places_inside(links);
+    let cells = map_back(alloc, &route, &SheetTrees { formulas, id }, &kept.cells, cells)?;
+    let links = map_back(alloc, &route, &NoParts {}, &kept.links, links)?;
     let rows = lines_back(alloc, &route, kept, sheet.row_map())?;
     let columns = lines_back(alloc, &route, kept, sheet.column_map())?;
-    sheet.with_entries(cells, links, rows, columns)
+    let merges = merges_back(alloc, &route, kept, sheet)?;
+    sheet.with_entries(cells, links, rows, columns, merges)
 }
 
 fn sheets_back<A: Axis, M: LineMap<A>>(

@@ -1,6 +1,6 @@
 ghost use Rattle.std.specs.Prelude.{◌≡◌, IfOk, IsOkUnless, IsTrue, is_some};
 ghost use Rattle.base_values.specs.declared.EditError.TheVariants.{NoMemory};
-ghost use Rattle.line_map.specs.Edit.{IsValid};
+ghost use Rattle.line_edits.specs.Edit.{IsValid};
 ghost use Rattle.sheet_lines.specs.Back.{LieInside};
 ghost use Rattle.sheet_lines.specs.Followed.{book_followed};
 ghost use Rattle.sheet_lines.specs.Kept.{kept_lines, lines_kept};
@@ -15,7 +15,7 @@ use crate::kept::KeptLines;
 use crate::sheets::{route_on, sheet_of};
 use base_axis::Axis;
 use base_values::EditError;
-use line_map::{LineEdit, LineMap, lost_places};
+use line_map::{Follower, LineEdit, LineMap, lost_places};
 use sheet_grid::Workbook;
 use std::alloc::Global;
 
@@ -43,11 +43,13 @@ fn kept_lines<A: Axis, M: LineMap<A>>(
     places_inside(links);
     lines_inside(sheet.row_map());
     lines_inside(sheet.column_map());
+    let merges = sheet.merge_list().part(alloc, &route)?;
     Ok(KeptLines {
         cells: lost_places(alloc, &route, cells)?,
         links: lost_places(alloc, &route, links)?,
         lines: lost_attributes(alloc, edited, sheet)?,
         formulas,
+        merges,
     })
 }
 

@@ -1,7 +1,7 @@
 ghost use Rattle.std.specs.Prelude.{◌≡◌, map, IfOk, IsOkUnless};
 ghost use Rattle.std.specs.List.{AllByRecursion};
 ghost use Rattle.base_values.specs.declared.EditError.TheVariants.{NoMemory};
-ghost use Rattle.line_map.specs.Edit.{IsValid, opposite_of};
+ghost use Rattle.line_edits.specs.Edit.{IsValid, opposite_of};
 ghost use Rattle.sheet_lines.specs.Followed.{way_on, sheet_followed, book_followed};
 ghost use Rattle.sheet_lines.specs.Sheets.{sheet_of, name_of, IsPlacedSheet, IsPlacedBook};
 
@@ -34,7 +34,8 @@ fn followed_sheet<A: Axis, M: LineMap<A>>(
     let links = sheet.link_map().carry(alloc, &route)?;
     let rows = sheet.row_map().carry(alloc, &route)?;
     let columns = sheet.column_map().carry(alloc, &route)?;
-    sheet.with_entries(cells, links, rows, columns)
+    let merges = sheet.merge_list().carry(alloc, &route)?;
+    sheet.with_entries(cells, links, rows, columns, merges)
 }
 
 fn followed_sheets<A: Axis, M: LineMap<A>>(

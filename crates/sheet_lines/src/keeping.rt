@@ -1,8 +1,8 @@
-ghost use Rattle.std.specs.Prelude.{◌≡◌, IfOk, IsOkUnless, OnOk};
+ghost use Rattle.std.specs.Prelude.{◌≡◌, IfOk, IsOkUnless};
 ghost use Rattle.std.specs.List.{AllByRecursion};
 ghost use Rattle.base_values.specs.declared.EditError.TheVariants.{NoMemory};
-ghost use Rattle.line_map.specs.Carried.{lost_map, overlaid};
-ghost use Rattle.sheet_lines.specs.Kept.{lines_of, trees_under, trees_kept, formulas_kept};
+ghost use Rattle.base_maps.specs.Carried.{lost_map};
+ghost use Rattle.sheet_lines.specs.Kept.{lines_of, trees_kept, formulas_kept};
 ghost use Rattle.sheet_lines.specs.KeptNumbers.{AreKeptFormulas};
 ghost use Rattle.sheet_lines.specs.Sheets.{IsPlacedSheet};
 
@@ -10,11 +10,11 @@ use crate::edited_sheet::EditedSheet;
 use crate::inside::places_inside;
 use crate::sheets::route_on;
 use base_axis::Axis;
-use base_maps::{NumberMap, PositionMap, SheetPlace, SheetPlaceMap};
+use base_maps::{NumberMap, PositionMap, SheetPlaceMap};
 use base_shared::Shared;
-use base_values::{EditError, copy_of};
+use base_values::EditError;
 use formula_tree::Node;
-use line_map::{LineMap, kept_parts, lost_lines, lost_places};
+use line_map::{LineMap, kept_parts, lost_lines};
 use sheet_grid::{LineAttr, Worksheet};
 use std::alloc::Global;
 
@@ -32,25 +32,6 @@ pub(crate) fn lost_attributes<A: Axis, M: LineMap<A>>(
     } else {
         lost_lines(alloc, edited.map, sheet.column_map())
     }
-}
-
-/// Keeps trees under their places on the sheet of an id.
-fn keep_trees(
-    id: u32,
-    trees: &PositionMap<Shared<Node>>,
-    kept: &mut SheetPlaceMap<Shared<Node>>,
-) -> Result<(), EditError>
-    ensures kept { OnOk result (kept.new ≡ overlaid (trees_under id trees.now) kept.old) }
-    ensures only { IsOkUnless result NoMemory }
-{
-    for (place, tree) in trees.iter() {
-        let key = SheetPlace {
-            sheet: id,
-            place: *place,
-        };
-        kept.put(key, Some(copy_of(tree)?))?;
-    }
-    Ok(())
 }
 
 /// The trees of a sheet's formulas that go somewhere and that the way back does not give, under
@@ -84,7 +65,7 @@ pub(crate) fn kept_formulas<A: Axis, M: LineMap<A>>(
     let mut kept = SheetPlaceMap::new(alloc);
     for sheet in sheets {
         let trees = sheet_trees(alloc, edited, sheet)?;
-        keep_trees(sheet.get_sheet_id(), &trees, &mut kept)?;
+        kept.put_under(sheet.get_sheet_id(), &trees)?;
     }
     Ok(kept)
 }

@@ -1,3 +1,4 @@
+use base_axis::MergeList;
 use base_maps::{NumberMap, PositionMap, SheetPlaceMap};
 use base_shared::Shared;
 use base_values::Exact;
@@ -17,6 +18,8 @@ pub struct KeptLines {
     /// The trees of the other formulas that do not come back, by the ids of their sheets and their
     /// positions before the edit.
     pub formulas: SheetPlaceMap<Shared<Node>>,
+    /// The merges of the edited sheet, where they do not come back.
+    pub merges: Option<MergeList>,
 }
 
 impl Clone for KeptLines {
@@ -30,6 +33,7 @@ impl Clone for KeptLines {
             links: self.links.clone()?,
             lines: self.lines.clone()?,
             formulas: self.formulas.clone()?,
+            merges: self.merges.clone()?,
         })
     }
 }

@@ -1,11 +1,11 @@
 -- The law of followers for what an edit carries along by itself.
 use Rattle.std.proofs.Common.{◌≡◌, Option, Some, None, refl}
 use Rattle.base_axis.specs.Along.{Along, IsAxis}
-use Rattle.line_map.specs.declared.edit.EditKind.{EditKind}
+use Rattle.line_edits.specs.declared.EditKind.{EditKind}
 use Rattle.line_map.specs.Alone.{edit_way, regained, Restores}
-use Rattle.line_map.specs.Edit.{IsValid}
+use Rattle.line_edits.specs.Edit.{IsValid}
 use Rattle.line_map.specs.Way.{Way, IsWay, back}
-use Rattle.line_map.specs.laws.Images.{edit_one_to_one}
+use Rattle.line_edits.specs.laws.OneToOne.{edit_one_to_one}
 
 -- the way of a valid edit is one
 pub edit_is_way : (a : Along) → IsAxis a → (e : EditKind) → IsValid a.last e → IsWay (edit_way a e)

@@ -4,19 +4,20 @@ use Rattle.std.specs.Prelude.{IfSome, is_some, is_none, ◌&&◌, if◌then◌el
 use Rattle.std.proofs.lemmas.Int.{ints}
 use Rattle.std.specs.Ordering.{int_cmp, eq_by_cmp}
 use Rattle.std.specs.Cmp.{int_cmp_total}
-use Rattle.std.specs.FinMap.{FinMap, empty, get, get-empty, insert, get-insert, int_cmp-IsAntisymmetric, same_map}
+use Rattle.std.specs.FinMap.{FinMap, empty, get, get-empty, insert, get-insert, int_cmp-IsAntisymmetric}
 use Rattle.base_values.specs.Places.{IsLine}
 use Rattle.base_axis.specs.Along.{Along, IsAxis, rows, columns}
-use Rattle.line_map.specs.declared.edit.Block.{Block}
-use Rattle.line_map.specs.Attributes.{line_goes_along, heir, with_line, filled, amount, block_given, block_heirs, heirs, lines_carried, lines_part, lines_restored, LinesLie}
-use Rattle.line_map.specs.Carried.{if_there, moved_map, lost_map, overlaid}
-use Rattle.line_map.specs.Edit.{within, is_in_block}
-use Rattle.line_map.specs.Moves.{LineMoves, Inverse, IsOneToOne, is_brought}
+use Rattle.line_edits.specs.declared.Block.{Block}
+use Rattle.line_edits.specs.Edit.{amount}
+use Rattle.line_map.specs.Attributes.{line_goes_along, heir, with_line, filled, block_given, block_heirs, heirs, lines_carried, lines_part, lines_restored, LinesLie}
+use Rattle.base_maps.specs.Carried.{if_there, moved_map, lost_map, overlaid}
+use Rattle.line_edits.specs.Edit.{within, is_in_block}
+use Rattle.line_edits.specs.Moves.{is_brought}
 use Rattle.line_map.specs.Way.{Way, IsWay, back, is_along}
-use Rattle.line_map.specs.laws.Gathering.{get-lost_map, get-overlaid, nothing_overlaid, overlaid_more}
-use Rattle.line_map.specs.laws.Keys.{one_key}
-use Rattle.line_map.specs.laws.MapLaws.{get-moved_map, laid_over}
-use Rattle.line_map.specs.laws.Inverses.{turned_inverse}
+use Rattle.base_maps.specs.laws.Gathering.{get-lost_map, get-overlaid, nothing_overlaid, overlaid_more}
+use Rattle.base_maps.specs.laws.Keys.{one_key}
+use Rattle.base_maps.specs.laws.CarriedLaws.{get-moved_map, laid_over}
+use Rattle.base_maps.specs.laws.Inverses.{turned_inverse}
 
 pub both_of : (a b : Bool) → (a && b) ≡ true → (a ≡ true) × (b ≡ true)
 both_of true true h = (refl, refl)

@@ -7,7 +7,7 @@ use Rattle.cell_content.specs.declared.Content.{Content}
 use Rattle.cell_content.specs.Lens.{tree_of, with_tree}
 use Rattle.cell_content.specs.laws.LensLaws.{tree_of-with_tree, with_own_tree, with_tree-with_tree}
 use Rattle.sheet_grid.specs.declared.Cell.{Cell}
-use Rattle.line_map.specs.Carried.{if_there}
+use Rattle.base_maps.specs.Carried.{if_there}
 use Rattle.line_map.specs.Contents.{with_new_tree, content_carried, content_part, ContentLies, cell_carried, cell_part, cell_restored, CellLies}
 use Rattle.line_map.specs.Trees.{tree_carried, tree_part, TreeLies}
 use Rattle.line_map.specs.Way.{Way, IsWay, back}

@@ -3,7 +3,7 @@ use Rattle.std.proofs.Common.{◌≡◌, List, [], ◌∷◌, Option, Some, None
 use Rattle.std.specs.Prelude.{IfSome}
 use Rattle.std.specs.List.{All, AllByRecursion}
 use Rattle.std.proofs.lemmas.List.Elements.{recursion_from_All, All-from_recursion}
-use Rattle.line_map.specs.Carried.{settled}
+use Rattle.base_maps.specs.Carried.{settled}
 use Rattle.line_map.specs.Lists.{items_restored}
 
 module _ {F : Type 0} (P Q : F → Type 0) (f : F → F) (h : (x : F) → P x → Q (f x)) where

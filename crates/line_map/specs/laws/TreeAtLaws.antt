@@ -6,7 +6,7 @@ use Rattle.base_values.specs.Places.{IsPlace}
 use Rattle.base_tables.specs.Folding.{same_folded}
 use Rattle.line_map.specs.declared.tree_at.TreeAt.{TreeAt}
 use Rattle.line_map.specs.contracts.tree_at.TreeAtPartialEq.TheImpl as equality
-use Rattle.line_map.specs.Moves.{place_image}
+use Rattle.line_edits.specs.Moves.{place_image}
 use Rattle.line_map.specs.TreeAt.{tree_goes, way_of_tree, tree_at_moved, tree_at_carried, tree_at_part, TreeAtLies}
 use Rattle.line_map.specs.Way.{Way, IsWay, back}
 use Rattle.line_map.specs.laws.TreeAtEquals.{tree_at_equals}

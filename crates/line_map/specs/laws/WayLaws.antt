@@ -1,12 +1,13 @@
 -- Laws of ways.
-use Rattle.std.proofs.Common.{◌≡◌, ℤ, Bool, true, false, Option, Some, None, refl, ap, sym, ◌∙◌}
+use Rattle.std.proofs.Common.{◌≡◌, ℤ, true, false, Option, Some, None, refl, ap, ◌∙◌}
 use Rattle.std.specs.Prelude.{IfSome, if◌then◌else◌}
 use Rattle.base_values.specs.declared.Position.{Position}
 use Rattle.base_values.specs.Places.{IsLine, IsPlace}
 use Rattle.base_axis.specs.Along.{Along, IsAxis}
-use Rattle.line_map.specs.Moves.{LineMoves, Inverse, IsOneToOne, turned, at_line, place_image}
+use Rattle.base_maps.specs.Carried.{Inverse}
+use Rattle.line_edits.specs.Moves.{LineMoves, IsOneToOne, turned, at_line, place_image}
 use Rattle.line_map.specs.Way.{Way, IsWay, at, back, place_goes}
-use Rattle.line_map.specs.laws.Inverses.{own_inverse, turned_inverse}
+use Rattle.base_maps.specs.laws.Inverses.{own_inverse, turned_inverse}
 
 -- the map that takes the lines back is one to one
 pub turned_one_to_one : (last : ℤ) (m : LineMoves) → IsOneToOne last m → IsOneToOne last (turned m)
@@ -15,6 +16,8 @@ turned_one_to_one last m o = record {
   to_inside = o.from_inside;
   from_inside = o.to_inside;
   fresh = λ n h. absurd (cc);
+  merged_inside = o.merged_back_inside;
+  merged_back_inside = o.merged_inside;
 }
 
 -- the way back is a way, and so is that of what goes from a place to a place

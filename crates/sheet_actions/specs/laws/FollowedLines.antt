@@ -6,13 +6,14 @@ use Rattle.std.specs.Ordering.{int_cmp, eq_by_cmp}
 use Rattle.std.specs.Cmp.{int_cmp_total}
 use Rattle.std.specs.FinMap.{FinMap, empty, entries, get, get-empty, get-insert, int_cmp-IsAntisymmetric}
 use Rattle.base_axis.specs.Along.{Along}
-use Rattle.line_map.specs.declared.Block.{Block}
-use Rattle.line_map.specs.Attributes.{line_goes_along, heir, with_line, filled, amount, block_given, block_heirs, heirs, lines_carried}
-use Rattle.line_map.specs.Carried.{if_there, moved_map, overlaid}
-use Rattle.line_map.specs.Edit.{within}
+use Rattle.line_edits.specs.declared.Block.{Block}
+use Rattle.line_edits.specs.Edit.{amount}
+use Rattle.line_map.specs.Attributes.{line_goes_along, heir, with_line, filled, block_given, block_heirs, heirs, lines_carried}
+use Rattle.base_maps.specs.Carried.{if_there, moved_map, overlaid}
+use Rattle.line_edits.specs.Edit.{within}
 use Rattle.line_map.specs.Way.{Way, IsWay}
-use Rattle.line_map.specs.laws.Gathering.{get-overlaid}
-use Rattle.line_map.specs.laws.MapLaws.{get-moved_map}
+use Rattle.base_maps.specs.laws.Gathering.{get-overlaid}
+use Rattle.base_maps.specs.laws.CarriedLaws.{get-moved_map}
 use Rattle.sheet_rules.specs.laws.EntryLaws.{passes_at_from_all, all_from_passes_at}
 
 module _ {X : Type 0} (P : X → Bool) where

@@ -29,7 +29,7 @@ use Rattle.sheet_rules.specs.WellFormed.{stands_inside, have_trees, have_attribu
 use Rattle.sheet_rules.specs.laws.EntryLaws.{both}
 use Rattle.sheet_rules.specs.laws.InsideLaws.{lines_from_test, test_from_lines}
 use Rattle.sheet_lines.specs.Followed.{sheet_followed}
-use Rattle.sheet_lines.specs.laws.MovedNumbers.{numbers-moved}
+use Rattle.formula_back.specs.laws.MovedNumbers.{numbers-moved}
 use Rattle.sheet_actions.specs.laws.FollowedEntries.{places_follow, items_follow}
 use Rattle.sheet_actions.specs.laws.FollowedLines.{values_follow}
 

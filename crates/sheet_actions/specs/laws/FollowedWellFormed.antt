@@ -6,11 +6,11 @@ use Rattle.base_axis.specs.Along.{Along, IsAxis}
 use Rattle.base_tables.specs.Folding.{same_folded}
 use Rattle.sheet_grid.specs.Sheet.{Sheet}
 use Rattle.sheet_grid.specs.Book.{Book}
-use Rattle.line_map.specs.declared.EditKind.{EditKind}
-use Rattle.line_map.specs.Edit.{IsValid}
-use Rattle.line_map.specs.Moves.{LineMoves, edit_moves}
+use Rattle.line_edits.specs.declared.EditKind.{EditKind}
+use Rattle.line_edits.specs.Edit.{IsValid}
+use Rattle.line_edits.specs.Moves.{LineMoves, edit_moves}
 use Rattle.line_map.specs.Way.{IsWay}
-use Rattle.line_map.specs.laws.Images.{edit_one_to_one}
+use Rattle.line_edits.specs.laws.OneToOne.{edit_one_to_one}
 use Rattle.sheet_rules.specs.SheetNames.{is_sheet_name}
 use Rattle.sheet_rules.specs.laws.EntryLaws.{both}
 use Rattle.sheet_rules.specs.WellFormed.{are_distinct, ids_of, names_of, are_sheets, stands_inside, have_trees, have_attributes, are_frozen, IsWellFormed}

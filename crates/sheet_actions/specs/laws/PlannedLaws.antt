@@ -11,10 +11,10 @@ use Rattle.base_values.specs.Places.{is_line}
 use Rattle.base_axis.specs.Along.{Along}
 use Rattle.sheet_grid.specs.Sheet.{Sheet}
 use Rattle.sheet_grid.specs.Book.{Book, sheet_at}
-use Rattle.line_map.specs.declared.EditKind.{EditKind}
-use Rattle.line_map.specs.declared.EditKind.TheVariants.{Insert, Delete, Move}
+use Rattle.line_edits.specs.declared.EditKind.{EditKind}
+use Rattle.line_edits.specs.declared.EditKind.TheVariants.{Insert, Delete, Move}
 use Rattle.line_map.specs.Areas.{last_line}
-use Rattle.line_map.specs.Edit.{IsValid, is_valid, is_within}
+use Rattle.line_edits.specs.Edit.{IsValid, is_valid, is_within}
 use Rattle.sheet_lines.specs.Sheets.{sheet_of}
 use Rattle.sheet_actions.specs.GreatestLine.{greatest_line}
 use Rattle.sheet_actions.specs.laws.GreatestLaws.{at_least_one}

@@ -7,7 +7,7 @@ use Rattle.std.proofs.lemmas.Bool.Decides.{Decides-like, Decides-and}
 use Rattle.base_values.specs.laws.Decided.{option_equals}
 use Rattle.base_values.specs.laws.PositionEquals.{position_equals}
 use Rattle.sheet_grid.specs.laws.CellEquals.{cell_equals}
-use Rattle.line_map.specs.laws.Equals.{kind_equals}
+use Rattle.line_edits.specs.laws.Equals.{kind_equals}
 use Rattle.sheet_lines.specs.laws.KeptEquals.{kept_equals}
 use Rattle.sheet_history.specs.declared.diff.Diff.{Diff}
 use Rattle.sheet_history.specs.declared.diff.Diff.TheVariants.{Cell as CellDiff, Lines as LinesDiff}

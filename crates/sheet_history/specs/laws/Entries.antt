@@ -8,7 +8,7 @@ use Rattle.std.specs.FinMap.{FinMap, entries, get}
 use Rattle.std.proofs.lemmas.Map.Lookups.{CmpEqualImpliesEq}
 use Rattle.base_values.specs.KeyMap.{with_entry}
 use Rattle.base_values.specs.laws.KeyMap.{get-with_entry}
-use Rattle.line_map.specs.laws.Keys.{one_key}
+use Rattle.base_maps.specs.laws.Keys.{one_key}
 use Rattle.sheet_rules.specs.laws.EntryLaws.{passes_at_from_all, all_from_passes_at}
 
 module _ {K X : Type 0} (R : K → K → Ordering) (total : IsTotalOrder R) (exact : CmpEqualImpliesEq R) (P : K × X → Bool) where

@@ -11,12 +11,12 @@ use Rattle.cell_content.specs.declared.Content.{Content}
 use Rattle.cell_content.specs.Fitting.{tree_fits_at}
 use Rattle.cell_content.specs.Lens.{tree_of}
 use Rattle.cell_content.specs.laws.LensLaws.{tree_of-with_tree}
-use Rattle.line_map.specs.Carried.{if_there}
+use Rattle.base_maps.specs.Carried.{if_there}
 use Rattle.line_map.specs.Contents.{with_new_tree, content_carried, cell_carried, cell_part}
 use Rattle.line_map.specs.Maps.{places_carried}
 use Rattle.line_map.specs.Trees.{tree_carried, tree_part}
 use Rattle.line_map.specs.Way.{Way, IsWay, at, back, place_goes}
-use Rattle.line_map.specs.laws.MapLaws.{get-carried_map}
+use Rattle.base_maps.specs.laws.CarriedLaws.{get-carried_map}
 use Rattle.line_map.specs.laws.TreeLaws.{tree_restores}
 use Rattle.line_map.specs.laws.WayLaws.{goes_inverse}
 use Rattle.sheet_grid.specs.declared.Cell.{Cell}

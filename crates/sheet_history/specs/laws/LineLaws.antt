@@ -4,7 +4,7 @@ use Rattle.std.specs.Prelude.{IsTrue, IfSome, not, ◌&&◌, ◌==◌, is_none, 
 use Rattle.std.specs.List.{list_all, find, AllByRecursion}
 use Rattle.std.specs.declared.cmp.Ordering.{Ordering}
 use Rattle.std.specs.Ordering.{int_cmp}
-use Rattle.std.specs.Cmp.{IsTotalOrder, int_cmp_total, unsigned_Decides}
+use Rattle.std.specs.Cmp.{IsTotalOrder, int_cmp_total}
 use Rattle.std.specs.FinMap.{FinMap, entries, get, get-empty}
 use Rattle.std.proofs.lemmas.Int.{ints}
 use Rattle.std.proofs.lemmas.Map.Lookups.{CmpEqualImpliesEq, exact_signed}
@@ -15,23 +15,24 @@ use Rattle.base_values.specs.laws.Places.{position_total, exact_positions}
 use Rattle.base_axis.specs.Along.{Along, IsAxis, rows, columns}
 use Rattle.base_maps.specs.declared.SheetPlace.{SheetPlace}
 use Rattle.base_maps.specs.SheetPlaces.{sheet_place_cmp}
+use Rattle.base_maps.specs.Tagged.{place_on}
+use Rattle.base_maps.specs.laws.Found.{found_passes}
 use Rattle.base_maps.specs.laws.SheetPlaces.{sheet_place_total, exact_sheet_places}
 use Rattle.formula_tree.specs.declared.Node.{Node}
 use Rattle.formula_tree.specs.Depth.{is_within}
 use Rattle.cell_content.specs.declared.Content.TheVariants.{Formula}
 use Rattle.cell_content.specs.Fitting.{fits_at, tree_fits_at}
 use Rattle.cell_content.specs.laws.FittingLaws.{shallow_where_fits}
-use Rattle.line_map.specs.declared.EditKind.{EditKind}
-use Rattle.line_map.specs.declared.EditKind.TheVariants.{Insert, Delete, Move}
-use Rattle.line_map.specs.Edit.{image_at, goes_to, within, opposite_of, IsValid}
-use Rattle.line_map.specs.Carried.{if_there, lost_map}
+use Rattle.line_edits.specs.declared.EditKind.{EditKind}
+use Rattle.line_edits.specs.declared.EditKind.TheVariants.{Insert, Delete, Move}
+use Rattle.line_edits.specs.Edit.{image_at, goes_to, within, opposite_of, IsValid}
+use Rattle.base_maps.specs.Carried.{if_there, lost_map}
 use Rattle.line_map.specs.Contents.{cell_carried, cell_part}
 use Rattle.line_map.specs.Maps.{places_carried}
-use Rattle.line_map.specs.Moves.{at_line, edit_moves, place_image}
+use Rattle.line_edits.specs.Moves.{at_line, edit_moves, place_image}
 use Rattle.line_map.specs.Way.{Way, at, back, place_goes}
-use Rattle.line_map.specs.laws.Gathering.{get-lost_map}
-use Rattle.line_map.specs.laws.Images.{edit_one_to_one}
-use Rattle.line_map.specs.laws.MapLaws.{get-carried_map}
+use Rattle.base_maps.specs.laws.Gathering.{get-lost_map}
+use Rattle.base_maps.specs.laws.CarriedLaws.{get-carried_map}
 use Rattle.line_map.specs.laws.WayLaws.{goes_inverse}
 use Rattle.sheet_grid.specs.declared.Cell.{Cell}
 use Rattle.sheet_grid.specs.declared.LineAttr.{LineAttr}
@@ -46,11 +47,10 @@ use Rattle.sheet_rules.specs.laws.WellFormedLaws.{well_formed_parts, cells_fit_f
 use Rattle.sheet_lines.specs.declared.KeptLines.{KeptLines}
 use Rattle.sheet_lines.specs.Sheets.{sheet_of, name_of}
 use Rattle.sheet_lines.specs.Followed.{way_of, sheet_followed, book_followed}
-use Rattle.sheet_lines.specs.Kept.{lines_of, of_sheet, place_on, kept_lines}
+use Rattle.sheet_lines.specs.Kept.{lines_of, of_sheet, kept_lines}
 use Rattle.sheet_lines.specs.Back.{book_back}
-use Rattle.sheet_lines.specs.laws.Regained.{book_regained, formulas_under, kept_elsewhere}
+use Rattle.sheet_lines.specs.laws.Regained.{book_regained, formulas_at}
 use Rattle.sheet_lines.specs.laws.Stays.{way_is}
-use Rattle.sheet_lines.specs.laws.Under.{found_passes}
 use Rattle.sheet_history.specs.Depth.{AreShallowLines}
 use Rattle.sheet_history.specs.LineDiffs.{is_pushed_past, stays_inside, is_there_inside, is_lost_place, is_lost_line, all_keys, stand_on_lost, cells_fit, tree_stands, formulas_stand, goes_on, goes_forward, goes_back, lines_forward, lines_back}
 use Rattle.sheet_history.specs.laws.Entries.{all_entries, entry_holds}
@@ -122,10 +122,6 @@ place_inside a first count q p h = go (image_at a.last (Insert first count) (a.l
     go None is h = absurd (cc)
     go (Some m) is h = not_pushed a.last first count (a.line q) m is
 
--- the trees that are kept of a sheet's formulas
-abbrev HasTrees : Way → FinMap sheet_place_cmp Node → Sheet → Type 0
-HasTrees w formulas sheet = (p : Position) → get formulas (place_on sheet.id p) ≡ if_there (get sheet.cells p) (λ cell. if_there (place_goes w p) (λ q. cell_part (at w p q) cell))
-
 module _ (a : Along) (l : IsAxis a) (e : EditKind) (valid : IsValid a.last e) (id : ℕ) where
   -- how the edit meets a sheet
   abbrev way_on : List ℕ → Sheet → Way
@@ -194,20 +190,14 @@ module _ (a : Along) (l : IsAxis a) (e : EditKind) (valid : IsValid a.last e) (i
       found : sheet_of book key.sheet ≡ Some sheet
       it : IsTreeThere (way_in sheet) sheet.cells key.place tree
 
-    of_sheet_at : (key : SheetPlace) (tree : Node) (o : Option Sheet) → sheet_of book key.sheet ≡ o → get kept.formulas key ≡ Some tree → IsOfSheet key tree
-    of_sheet_at key tree None none h = absurd (let nothing : get kept.formulas key ≡ None = kept_elsewhere a l (edit_moves a.last e) (edit_one_to_one a.last e valid) id (name_of (sheet_of book id)) book.worksheets key.sheet none key.place in cc)
-    of_sheet_at key tree (Some s) there h =
-        let ids : s.id ≡ key.sheet = (unsigned_Decides s.id key.sheet).0 (found_passes (λ s. s.id == key.sheet) book.worksheets s there) in
-        let under : HasTrees (way_in s) kept.formulas s = found_of_each (λ s. s.id == key.sheet) (λ s. HasTrees (way_in s) kept.formulas s) book.worksheets s there
-        (formulas_under a l (edit_moves a.last e) (edit_one_to_one a.last e valid) id (name_of (sheet_of book id)) book.worksheets (distinct_ids_from_well_formed book rules)) in
-        record {
-          sheet = s;
-          found = there;
-          it = tree_there (way_in s) s.cells key.place tree (get s.cells key.place) (place_goes (way_in s) key.place) refl refl (sym (under key.place) ∙ ap (λ n. get kept.formulas (place_on n key.place)) ids ∙ h);
-        }
+    of_sheet_at : (key : SheetPlace) (tree : Node) (o : Option Sheet) → sheet_of book key.sheet ≡ o →
+        if_there o (λ s. if_there (get s.cells key.place) (λ cell. if_there (place_goes (way_in s) key.place) (λ q. cell_part (at (way_in s) key.place q) cell))) ≡ Some tree → IsOfSheet key tree
+    of_sheet_at key tree None none h = absurd (cc)
+    of_sheet_at key tree (Some s) there h = record { sheet = s; found = there; it = tree_there (way_in s) s.cells key.place tree (get s.cells key.place) (place_goes (way_in s) key.place) refl refl h }
 
     kept_tree : (key : SheetPlace) (tree : Node) → get kept.formulas key ≡ Some tree → IsOfSheet key tree
-    kept_tree key tree h = of_sheet_at key tree (sheet_of book key.sheet) refl h
+    kept_tree key tree h = of_sheet_at key tree (sheet_of book key.sheet) refl
+        (sym (formulas_at a (edit_moves a.last e) id (name_of (sheet_of book id)) book (distinct_ids_from_well_formed book rules) key.sheet key.place) ∙ h)
 
     -- so it fits its place
     kept_tree_fits : (key : SheetPlace) (tree : Node) → get kept.formulas key ≡ Some tree → tree_fits_at key.place tree ≡ true

@@ -4,7 +4,7 @@ use Rattle.std.proofs.lemmas.List.Elements.{All-from_recursion}
 use Rattle.base_values.specs.Answers.{and_then}
 use Rattle.base_axis.specs.Along.{Along, IsAxis}
 use Rattle.base_axis.specs.laws.Lawful.{rows_lawful, columns_lawful}
-use Rattle.line_map.specs.declared.EditKind.{EditKind}
+use Rattle.line_edits.specs.declared.EditKind.{EditKind}
 use Rattle.sheet_grid.specs.Sheet.{Sheet}
 use Rattle.sheet_grid.specs.Book.{Book}
 use Rattle.sheet_rules.specs.WellFormed.{broken_rule, IsWellFormed}

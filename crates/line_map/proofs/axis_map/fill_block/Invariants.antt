@@ -1,6 +1,6 @@
 use Rattle.std.proofs.Common.{◌≡◌}
 use Rattle.line_map.specs.Attributes.{filled}
-use Rattle.line_map.specs.Carried.{overlaid}
+use Rattle.base_maps.specs.Carried.{overlaid}
 use Rattle.line_map.proofs.axis_map.fill_block.Given as goal
 
 abbrev pub invariant-loop-i : goal.invariant-loop-i

@@ -6,10 +6,10 @@ use Rattle.std.specs.Ordering.{int_cmp}
 use Rattle.std.specs.Cmp.{int_cmp_total}
 use Rattle.std.specs.FinMap.{int_cmp-IsAntisymmetric}
 use Rattle.base_values.specs.Places.{IsLine}
-use Rattle.line_map.specs.Carried.{entry_made, if_lost}
-use Rattle.line_map.specs.laws.Inverses.{own_inverse}
-use Rattle.line_map.specs.laws.Gathering.{lost_gathered, with_made}
-use Rattle.line_map.proofs.Turns.{turn_seen, turn_made, end_made, first_holds, rest_hold}
+use Rattle.base_maps.specs.Carried.{entry_made, if_lost}
+use Rattle.base_maps.specs.laws.Inverses.{own_inverse}
+use Rattle.base_maps.specs.laws.Gathering.{lost_gathered, with_made}
+use Rattle.base_maps.specs.laws.Turns.{turn_seen, turn_made, end_made, first_holds, rest_hold}
 use Rattle.line_map.proofs.axis_map.lost_lines.Goals as goal
 
 pub loop-line-preserved : goal.loop-line-preserved

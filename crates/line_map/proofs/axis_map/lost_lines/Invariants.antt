@@ -3,7 +3,7 @@ use Rattle.std.specs.List.{All, filter_map}
 use Rattle.std.specs.FinMap.{entries, from_entries}
 use Rattle.std.specs.Map.Iter.{deref_pair}
 use Rattle.base_values.specs.Places.{IsLine}
-use Rattle.line_map.specs.Carried.{entry_made, if_lost}
+use Rattle.base_maps.specs.Carried.{entry_made, if_lost}
 use Rattle.line_map.proofs.axis_map.lost_lines.Given as goal
 
 -- what is left of the entries, and what those so far have made

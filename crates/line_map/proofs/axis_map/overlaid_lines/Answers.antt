@@ -7,8 +7,8 @@ use Rattle.std.specs.Ordering.{int_cmp}
 use Rattle.std.specs.Cmp.{int_cmp_total}
 use Rattle.std.specs.FinMap.{int_cmp-IsAntisymmetric}
 use Rattle.base_values.specs.Places.{IsLine}
-use Rattle.line_map.specs.laws.Gathering.{nothing_overlaid}
-use Rattle.line_map.proofs.Turns.{turn_seen, turn_held, turn_laid, end_laid}
+use Rattle.base_maps.specs.laws.Gathering.{nothing_overlaid}
+use Rattle.base_maps.specs.laws.Turns.{turn_seen, turn_held, turn_laid, end_laid}
 use Rattle.line_map.proofs.axis_map.overlaid_lines.Goals as goal
 
 pub put_line-requires : goal.put_line-requires

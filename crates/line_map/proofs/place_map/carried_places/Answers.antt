@@ -5,7 +5,7 @@ use Rattle.base_values.specs.Places.{position_cmp}
 use Rattle.base_values.specs.laws.Places.{position_total, exact_positions}
 use Rattle.line_map.specs.Way.{at, back, place_goes, way}
 use Rattle.line_map.specs.laws.WayLaws.{goes_inverse}
-use Rattle.line_map.proofs.Turns.{turn_seen, turn_held, turn_made, end_made}
+use Rattle.base_maps.specs.laws.Turns.{turn_seen, turn_held, turn_made, end_made}
 use Rattle.line_map.proofs.place_map.carried_places.Goals as goal
 
 pub carry_entry-requires-clause-inside : goal.carry_entry-requires-clause-inside

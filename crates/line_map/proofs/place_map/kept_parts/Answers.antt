@@ -3,10 +3,10 @@ use Rattle.std.proofs.lemmas.Map.Iter.{rest_more, rest_all}
 use Rattle.std.specs.Map.Iter.{deref_pair}
 use Rattle.base_values.specs.Places.{position_cmp}
 use Rattle.base_values.specs.laws.Places.{position_total, exact_positions}
-use Rattle.line_map.specs.Carried.{if_there}
+use Rattle.base_maps.specs.Carried.{if_there}
 use Rattle.line_map.specs.Way.{at, place_goes, way}
-use Rattle.line_map.specs.laws.Inverses.{own_inverse}
-use Rattle.line_map.proofs.Turns.{turn_seen, turn_held, turn_made, end_made}
+use Rattle.base_maps.specs.laws.Inverses.{own_inverse}
+use Rattle.base_maps.specs.laws.Turns.{turn_seen, turn_held, turn_made, end_made}
 use Rattle.line_map.proofs.place_map.kept_parts.Goals as goal
 
 pub keep_part-requires-clause-inside : goal.keep_part-requires-clause-inside

@@ -2,7 +2,7 @@ use Rattle.std.proofs.Common.{◌≡◌, ◌++◌, map, Some}
 use Rattle.std.specs.List.{filter_map}
 use Rattle.std.specs.FinMap.{entries, from_entries}
 use Rattle.std.specs.Map.Iter.{deref_pair}
-use Rattle.line_map.specs.Carried.{entry_made, if_there}
+use Rattle.base_maps.specs.Carried.{entry_made, if_there}
 use Rattle.line_map.specs.Way.{at, place_goes, way}
 use Rattle.line_map.proofs.place_map.kept_parts.Given as goal
 

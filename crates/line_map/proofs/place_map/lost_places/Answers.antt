@@ -3,11 +3,11 @@ use Rattle.std.proofs.lemmas.Map.Iter.{rest_more, rest_all}
 use Rattle.std.specs.Map.Iter.{deref_pair}
 use Rattle.base_values.specs.Places.{IsPlace, position_cmp}
 use Rattle.base_values.specs.laws.Places.{position_total, exact_positions}
-use Rattle.line_map.specs.Carried.{if_lost}
+use Rattle.base_maps.specs.Carried.{if_lost}
 use Rattle.line_map.specs.Way.{place_goes, way}
-use Rattle.line_map.specs.laws.Inverses.{own_inverse}
-use Rattle.line_map.specs.laws.Gathering.{lost_gathered}
-use Rattle.line_map.proofs.Turns.{turn_seen, turn_made, end_made, first_holds, rest_hold}
+use Rattle.base_maps.specs.laws.Inverses.{own_inverse}
+use Rattle.base_maps.specs.laws.Gathering.{lost_gathered}
+use Rattle.base_maps.specs.laws.Turns.{turn_seen, turn_made, end_made, first_holds, rest_hold}
 use Rattle.line_map.proofs.place_map.lost_places.Goals as goal
 
 pub keep_lost-requires : goal.keep_lost-requires

@@ -3,8 +3,8 @@ use Rattle.std.proofs.lemmas.Map.Iter.{rest_more, rest_all}
 use Rattle.std.specs.Map.Iter.{deref_pair}
 use Rattle.base_values.specs.Places.{position_cmp}
 use Rattle.base_values.specs.laws.Places.{position_total, exact_positions}
-use Rattle.line_map.specs.laws.Gathering.{nothing_overlaid}
-use Rattle.line_map.proofs.Turns.{turn_seen, turn_held, turn_laid, end_laid}
+use Rattle.base_maps.specs.laws.Gathering.{nothing_overlaid}
+use Rattle.base_maps.specs.laws.Turns.{turn_seen, turn_held, turn_laid, end_laid}
 use Rattle.line_map.proofs.place_map.overlaid_places.Goals as goal
 
 pub put_entry-requires : goal.put_entry-requires

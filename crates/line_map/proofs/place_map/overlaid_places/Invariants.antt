@@ -1,7 +1,7 @@
 use Rattle.std.proofs.Common.{◌≡◌, ◌++◌, map}
 use Rattle.std.specs.FinMap.{entries, from_entries}
 use Rattle.std.specs.Map.Iter.{deref_pair}
-use Rattle.line_map.specs.Carried.{overlaid}
+use Rattle.base_maps.specs.Carried.{overlaid}
 use Rattle.line_map.proofs.place_map.overlaid_places.Given as goal
 
 -- what is left of the entries, and what those so far have made

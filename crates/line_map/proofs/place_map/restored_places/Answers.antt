@@ -3,11 +3,11 @@ use Rattle.std.proofs.lemmas.Map.Iter.{rest_more, rest_all}
 use Rattle.std.specs.Map.Iter.{deref_pair}
 use Rattle.base_values.specs.Places.{position_cmp}
 use Rattle.base_values.specs.laws.Places.{position_total, exact_positions}
-use Rattle.line_map.specs.Carried.{settled}
+use Rattle.base_maps.specs.Carried.{settled}
 use Rattle.line_map.specs.Way.{at, back, place_goes, way}
-use Rattle.line_map.specs.laws.Inverses.{turned_inverse}
+use Rattle.base_maps.specs.laws.Inverses.{turned_inverse}
 use Rattle.line_map.specs.laws.WayLaws.{goes_inverse}
-use Rattle.line_map.proofs.Turns.{turn_seen, turn_held, turn_made, end_made}
+use Rattle.base_maps.specs.laws.Turns.{turn_seen, turn_held, turn_made, end_made}
 use Rattle.line_map.proofs.place_map.restored_places.Goals as goal
 
 pub restore_entry-requires-clause-inside : goal.restore_entry-requires-clause-inside

@@ -1,7 +1,7 @@
 use Rattle.std.proofs.Common.{◌≡◌, ◌∙◌, Some, ap, subst, sym}
 use Rattle.std.specs.Prelude.{IsTrue, is_some}
 use Rattle.base_values.specs.declared.EditError.TheVariants.{NoMemory}
-use Rattle.line_map.specs.Edit.{IsValid}
+use Rattle.line_edits.specs.Edit.{IsValid}
 use Rattle.sheet_lines.specs.Sheets.{sheet_of}
 use Rattle.sheet_actions.specs.laws.PlannedLaws.{valid_unrefused, sheet_there, refusal_sure}
 use Rattle.sheet_actions.proofs.plan.planned.Goals as goal

@@ -1,6 +1,6 @@
 use Rattle.std.proofs.Common.{map, subst, sym, ◌∙◌}
 use Rattle.std.proofs.lemmas.Result.{IfOk-weaker}
-use Rattle.line_map.specs.Moves.{edit_moves}
+use Rattle.line_edits.specs.Moves.{edit_moves}
 use Rattle.sheet_lines.specs.Back.{sheet_back}
 use Rattle.sheet_lines.specs.Followed.{way_of}
 use Rattle.sheet_lines.specs.Sheets.{IsPlacedBook}
@@ -20,5 +20,5 @@ returns-clause-placed g c = λ lines.
     IfOk-weaker c.with_worksheets.result _ _
     (λ book is.
     subst IsPlacedBook (sym is)
-    (back_placed g.A.Axis.along g.met.A.Axis.lawful c.args.edit.now.kind c.requires.valid c.args.sheet_id c.args.workbook.now c.args.kept.now lines c.requires.placed))
+    (back_placed g.A.Axis.along g.met.A.Axis.lawful c.args.edit.now.kind c.requires.valid c.args.sheet_id c.args.workbook.now c.requires.placed c.args.kept.now c.requires.inside lines))
     (returns-clause-workbook g c)

@@ -1,10 +1,31 @@
-use Rattle.std.proofs.Common.{subst, sym}
-use Rattle.line_map.specs.Way.{way}
-use Rattle.sheet_grid.specs.KeptCell.{KeptCells}
-use Rattle.sheet_lines.specs.laws.Stays.{back_kept}
+use Rattle.std.proofs.Common.{subst, sym, ◌∙◌}
+use Rattle.std.proofs.lemmas.Result.{IfOk-weaker}
+use Rattle.std.specs.FinMap.{get}
+use Rattle.base_axis.specs.Along.{rows, columns}
+use Rattle.base_maps.specs.Tagged.{place_on}
+use Rattle.line_map.specs.Attributes.{lines_restored}
+use Rattle.line_map.specs.Contents.{cell_carried, cell_restored}
+use Rattle.line_map.specs.Maps.{places_carried, places_restored}
+use Rattle.line_map.specs.Way.{back, way}
+use Rattle.sheet_grid.specs.KeptCell.{IsKeptCell, KeptCells}
+use Rattle.sheet_lines.specs.Back.{with_lost, merges_back}
+use Rattle.sheet_lines.specs.laws.Stays.{HasKeptNumbers, back_are, numbers_stay}
 use Rattle.sheet_lines.proofs.back.sheet_back.Goals as goal
 
 pub with_entries-requires : goal.with_entries-requires
 with_entries-requires g c =
-    subst KeptCells (sym c.in_ok-cells.ensures.cells)
-    (back_kept (way c.route_on-route.result) c.route_on-route.ensures.is c.args.kept.now c.requires.numbers c.args.sheet.now (subst KeptCells c.cell_map.ensures.map c.cell_map.ensures.kept))
+    subst KeptCells (sym c.in_ok-cells.ensures.map)
+    (back_are (way c.route_on-route.result) c.route_on-route.ensures.is (λ _. IsKeptCell) (λ _. HasKeptNumbers) numbers_stay c.cell_map-cells.result.now c.cell_map-cells.ensures.kept
+    c.args.kept.now.cells _ c.requires.numbers.cells (λ p. c.requires.numbers.formulas (place_on c.get_sheet_id-id.result p)))
+
+pub returns-clause-sheet : goal.returns-clause-sheet
+returns-clause-sheet g c =
+    let kept = c.args.kept.now in
+    let to = c.route_on-route.ensures.way in
+    IfOk-weaker c.with_entries.result _ _ (λ made is. is ∙ (λ i. record c.args.sheet.now {
+      cells = (c.in_ok-cells.ensures.map ∙ (λ j. with_lost (to j) kept.cells (places_restored cell_carried (λ _ cell tree. cell_restored cell tree) (to j) (λ place. get kept.formulas (place_on (c.get_sheet_id-id.ensures j) place)) (c.cell_map-cells.ensures.map j)))) i;
+      links = (c.in_ok-links.ensures.map ∙ (λ j. with_lost (to j) kept.links (places_carried (λ _ link. link) (back (to j)) (c.link_map-links.ensures j)))) i;
+      rows = (c.in_ok-rows.ensures.lines ∙ (λ j. lines_restored rows (to j) (c.row_map.ensures j) kept.lines)) i;
+      columns = (c.in_ok-columns.ensures.lines ∙ (λ j. lines_restored columns (to j) (c.column_map.ensures j) kept.lines)) i;
+      merges = (c.in_ok-merges.ensures.merges ∙ (λ j. merges_back (to j) kept.merges c.args.sheet.now.merges)) i;
+    })) c.with_entries.ensures.sheet

@@ -1,22 +1,33 @@
-use Rattle.std.proofs.Common.{◌≡◌, Some, true, subst, sym, ap, ◌∙◌}
-use Rattle.std.specs.Prelude.{◌==◌}
+use Rattle.std.proofs.Common.{◌≡◌, ℕ, Some, true, subst, sym, ap, ◌∙◌}
+use Rattle.std.specs.Prelude.{◌==◌, IfSome}
 use Rattle.std.specs.Option.{option_copied}
 use Rattle.base_values.specs.Places.{IsPlace, position_cmp}
 use Rattle.base_values.specs.laws.Places.{position_total, exact_positions}
 use Rattle.base_axis.specs.Along.{rows, columns}
 use Rattle.line_map.specs.Attributes.{LinesLie}
-use Rattle.line_map.specs.Carried.{lost_map}
+use Rattle.base_maps.specs.Carried.{lost_map}
+use Rattle.base_maps.specs.laws.Each.{each_lost, holds_of, keys_lost}
+use Rattle.base_maps.specs.laws.Found.{found_holds, found_passes}
 use Rattle.line_map.specs.Maps.{KeysInside}
-use Rattle.line_map.specs.Moves.{place_image}
+use Rattle.line_edits.specs.Moves.{place_image}
+use Rattle.line_map.specs.Merges.{merges_part, MergesLie}
 use Rattle.line_map.specs.Way.{place_goes, way}
-use Rattle.sheet_grid.specs.KeptCell.{KeptCells}
-use Rattle.sheet_lines.specs.Followed.{way_on}
-use Rattle.sheet_lines.specs.Kept.{lines_of, of_sheet, formulas_kept}
-use Rattle.sheet_lines.specs.Sheets.{sheet_of}
-use Rattle.sheet_lines.specs.laws.Each.{each_lost}
-use Rattle.sheet_lines.specs.laws.Stays.{lost_kept, lost_lines_lie, lost_places}
-use Rattle.sheet_lines.specs.laws.Under.{found_passes}
+use Rattle.line_map.specs.laws.MergeLaws.{merges_part_fits}
+use Rattle.sheet_grid.specs.Book.{Book}
+use Rattle.sheet_grid.specs.Sheet.{Sheet}
+use Rattle.sheet_grid.specs.KeptCell.{IsKeptCell, KeptCells}
+use Rattle.sheet_lines.specs.Followed.{way_of, way_on}
+use Rattle.sheet_lines.specs.Kept.{lines_of, of_sheet, formulas_kept, merges_kept}
+use Rattle.sheet_lines.specs.Sheets.{sheet_of, name_of, IsPlacedSheet, IsPlacedBook}
+use Rattle.sheet_lines.specs.laws.Stays.{lost_lines_lie, lost_places}
 use Rattle.sheet_lines.proofs.edit.kept_lines.Goals as goal
+
+merges_lie : (book : Book) (id : ℕ) (sheet : Sheet) → IsPlacedBook book → sheet_of book id ≡ Some sheet → MergesLie sheet.merges
+merges_lie book id sheet placed found = (found_holds (λ s. s.id == id) IsPlacedSheet book.worksheets placed sheet found).merges
+
+pub part-requires : goal.part-requires
+part-requires g c =
+    subst MergesLie (sym c.merge_list.ensures) (merges_lie c.args.workbook.now c.args.edited.now.id c.in-Some.sheet.now c.requires.placed (sym c.sheet_of.ensures ∙ ap option_copied c.in-Some.is))
 
 pub returns-clause-kept : goal.returns-clause-kept
 returns-clause-kept g c =
@@ -36,12 +47,16 @@ returns-clause-kept g c =
           ∙ lost_places (way_on edited sheet) it sheet.links
           ∙ sym (ap (of_sheet (λ s. lost_map (place_image a moves.to) s.links)) found)) i;
       lines = (c.in_ok-lost_attributes.ensures.lines ∙ sym (ap (of_sheet (λ s. lost_map moves.to (lines_of a s))) found)) i;
+      merges = (c.in_ok-merges.ensures.part
+          ∙ (λ j. merges_part (c.route_on-route.ensures.way j) (c.merge_list.ensures j))
+          ∙ (λ j. merges_part (way_of a moves edited.id (c.requires.name j) sheet) sheet.merges)
+          ∙ sym (ap (merges_kept a moves edited.id (name_of (sheet_of c.args.workbook.now edited.id))) found)) i;
       formulas = (c.in_ok-formulas.ensures.kept ∙ (λ j. formulas_kept a moves edited.id (c.requires.name j) (c.worksheets.ensures j))) i;
     }
 
 pub returns-clause-numbers : goal.returns-clause-numbers
 returns-clause-numbers g c = record {
-  cells = subst KeptCells (sym c.in_ok-lost_places.ensures.map) (lost_kept (place_goes (way c.route_on-route.result)) c.cell_map-cells.result.now c.cell_map-cells.ensures.kept);
+  cells = subst KeptCells (sym c.in_ok-lost_places.ensures.map) (each_lost position_cmp position_total exact_positions (λ _. IsKeptCell) (place_goes (way c.route_on-route.result)) c.cell_map-cells.result.now c.cell_map-cells.ensures.kept);
   formulas = c.in_ok-formulas.ensures.numbers;
 }
 
@@ -49,8 +64,11 @@ pub returns-clause-inside : goal.returns-clause-inside
 returns-clause-inside g c =
     let goes = place_goes (way c.route_on-route.result) in
     let sheet = c.in-Some.sheet.now in record {
-      cells = subst KeysInside (sym c.in_ok-lost_places.ensures.map) (each_lost position_cmp position_total exact_positions (λ p _. IsPlace p) goes c.cell_map-cells.result.now c.places_inside.ensures);
-      links = subst KeysInside (sym c.in_ok-lost_places-2.ensures.map) (each_lost position_cmp position_total exact_positions (λ p _. IsPlace p) goes c.link_map-links.result.now c.places_inside-2.ensures);
+      cells = subst KeysInside (sym c.in_ok-lost_places.ensures.map) (keys_lost position_cmp position_total exact_positions IsPlace goes c.cell_map-cells.result.now c.places_inside.ensures);
+      links = subst KeysInside (sym c.in_ok-lost_places-2.ensures.map) (keys_lost position_cmp position_total exact_positions IsPlace goes c.link_map-links.result.now c.places_inside-2.ensures);
       lines = subst (LinesLie g.A.Axis.along) (sym c.in_ok-lost_attributes.ensures.lines)
           (lost_lines_lie g.A.Axis.along g.met.A.Axis.lawful sheet (subst (LinesLie rows) c.row_map.ensures c.lines_inside.ensures) (subst (LinesLie columns) c.column_map.ensures c.lines_inside-2.ensures) (g.M.LineMap.moves c.args.edited.now.map.now).to);
+      merges = subst (λ o. IfSome o MergesLie) (sym c.in_ok-merges.ensures.part)
+          (holds_of MergesLie (merges_part (way c.route_on-route.result) c.merge_list.result.now) (merges_part_fits (way c.route_on-route.result) c.route_on-route.ensures.is c.merge_list.result.now
+          (subst MergesLie (sym c.merge_list.ensures) (merges_lie c.args.workbook.now c.args.edited.now.id sheet c.requires.placed (sym c.sheet_of.ensures ∙ ap option_copied c.in-Some.is)))));
     }

@@ -1,6 +1,6 @@
 use Rattle.std.proofs.Common.{map, subst, sym, ◌∙◌}
 use Rattle.std.proofs.lemmas.Result.{IfOk-weaker}
-use Rattle.line_map.specs.Moves.{edit_moves}
+use Rattle.line_edits.specs.Moves.{edit_moves}
 use Rattle.sheet_lines.specs.Followed.{way_of, sheet_followed}
 use Rattle.sheet_lines.specs.Sheets.{IsPlacedBook}
 use Rattle.sheet_lines.specs.laws.Stays.{followed_placed}

@@ -1,31 +1,30 @@
-use Rattle.std.proofs.Common.{◌≡◌, ◌<◌, length, ap, sym, subst, ◌∙◌, arith}
+use Rattle.std.proofs.Common.{◌<◌, length, take, ap, sym, subst, ◌∙◌, arith}
 use Rattle.std.specs.Prelude.{IsTrue}
+use Rattle.std.specs.FinMap.{empty}
+use Rattle.std.proofs.lemmas.List.Sums.{fold_more}
 use Rattle.base_maps.specs.SheetPlaces.{sheet_place_cmp}
+use Rattle.base_maps.specs.Tagged.{put_under}
+use Rattle.base_maps.specs.laws.Each.{no_entry}
+use Rattle.base_maps.specs.laws.Tagged.{put_under_are}
 use Rattle.formula_tree.specs.Numbers.{has_kept_numbers}
-use Rattle.line_map.specs.Carried.{overlaid}
-use Rattle.sheet_lines.specs.Kept.{trees_under}
+use Rattle.sheet_lines.specs.Kept.{trees_kept, formulas_kept}
 use Rattle.sheet_lines.specs.KeptNumbers.{AreKeptFormulas}
-use Rattle.sheet_lines.specs.laws.Each.{if_each, no_entry}
-use Rattle.sheet_lines.specs.laws.Under.{formulas_none, formulas_more, put_kept}
 use Rattle.sheet_lines.proofs.keeping.kept_formulas.Goals as goal
 
 pub loop-sheet-init : goal.loop-sheet-init
-loop-sheet-init g c =
-    let edited = c.args.edited.now in (
-      c.new-kept.ensures ∙ formulas_none g.A.Axis.along (g.M.LineMap.moves edited.map.now) edited.id edited.name.now,
-      subst AreKeptFormulas (sym c.new-kept.ensures) (if_each sheet_place_cmp (λ tree. IsTrue (has_kept_numbers tree)) _ (no_entry sheet_place_cmp (λ _ tree. IsTrue (has_kept_numbers tree)))),
-    )
+loop-sheet-init g c = (c.new-kept.ensures, subst AreKeptFormulas (sym c.new-kept.ensures) (no_entry sheet_place_cmp (λ _ tree. IsTrue (has_kept_numbers tree))))
 
 pub loop-sheet-preserved : goal.loop-sheet-preserved
 loop-sheet-preserved g c =
     let edited = c.args.edited.now in
+    let trees_of = trees_kept g.A.Axis.along (g.M.LineMap.moves edited.map.now) edited.id edited.name.now in
     let sheets = c.args.sheets.now in
-    let sheet = c.sheet-item.result in
-    let within : c.loop-sheet.sheet-index < length sheets = omega arith in
-    let put : c.keep_trees.new.kept ≡ overlaid (trees_under sheet.id c.in_ok-trees.trees) c.loop-sheet.kept =
-    c.in_ok-keep_trees.ensures.kept ∙ ap (λ n. overlaid (trees_under n c.in_ok-trees.trees) c.loop-sheet.kept) c.get_sheet_id.ensures in (
-      put
-          ∙ (λ j. overlaid (trees_under sheet.id (c.in_ok-trees.ensures.trees j)) (c.loop-sheet.invariant.0 j))
-          ∙ sym (formulas_more g.A.Axis.along (g.M.LineMap.moves edited.map.now) edited.id edited.name.now sheets c.loop-sheet.sheet-index sheet within c.sheet-item.is),
-      subst AreKeptFormulas (sym put) (put_kept sheet.id c.in_ok-trees.trees c.loop-sheet.kept c.in_ok-trees.ensures.numbers c.loop-sheet.invariant.1),
+    let i = c.loop-sheet.sheet-index in
+    let within : i < length sheets = omega arith in (
+      c.in_ok-put_under.ensures.ok
+          ∙ (λ j. put_under (c.get_sheet_id.ensures j) (c.in_ok-trees.ensures.trees j) (c.loop-sheet.invariant.0 j))
+          ∙ sym (fold_more (λ made sheet. put_under sheet.id (trees_of sheet) made) empty sheets i c.sheet-item.result within
+          ∙ ap (λ sheet. put_under sheet.id (trees_of sheet) (formulas_kept g.A.Axis.along (g.M.LineMap.moves edited.map.now) edited.id edited.name.now (take i sheets))) (sym c.sheet-item.is)),
+      subst AreKeptFormulas (sym c.in_ok-put_under.ensures.ok)
+          (put_under_are (λ tree. IsTrue (has_kept_numbers tree)) c.get_sheet_id.result c.in_ok-trees.trees c.loop-sheet.kept c.in_ok-trees.ensures.numbers c.loop-sheet.invariant.1),
     )

@@ -5,18 +5,17 @@ use Rattle.std.specs.Ordering.{int_cmp}
 use Rattle.std.proofs.lemmas.Map.Lookups.{exact_signed}
 use Rattle.base_values.specs.Places.{position_cmp}
 use Rattle.base_values.specs.laws.Places.{position_total, exact_positions}
-use Rattle.line_map.specs.Carried.{lost_map}
+use Rattle.base_maps.specs.Carried.{lost_map}
+use Rattle.base_maps.specs.laws.CarriedLaws.{get-carried_map}
+use Rattle.base_maps.specs.laws.Gathering.{get-lost_map}
+use Rattle.line_edits.specs.Moves.{edit_moves, place_image}
 use Rattle.line_map.specs.Contents.{cell_carried}
-use Rattle.line_map.specs.Moves.{edit_moves, place_image}
 use Rattle.line_map.specs.Way.{at, back, place_goes}
-use Rattle.line_map.specs.laws.Gathering.{get-lost_map}
-use Rattle.line_map.specs.laws.Images.{edit_one_to_one}
-use Rattle.line_map.specs.laws.MapLaws.{get-carried_map}
 use Rattle.line_map.specs.laws.WayLaws.{goes_inverse}
 use Rattle.sheet_lines.specs.Followed.{way_of}
-use Rattle.sheet_lines.specs.Kept.{lines_of, of_sheet}
+use Rattle.sheet_lines.specs.Kept.{lines_of, of_sheet, merges_kept}
 use Rattle.sheet_lines.specs.Sheets.{sheet_of, name_of}
-use Rattle.sheet_lines.specs.laws.Regained.{formulas_under, kept_elsewhere}
+use Rattle.sheet_lines.specs.laws.Regained.{formulas_at}
 use Rattle.sheet_lines.specs.laws.Stays.{way_is}
 use Rattle.sheet_lines.proofs.laws.entries_of_sheets.Goals as goal
 
@@ -43,16 +42,11 @@ returns-clause-lost_lines g c sheet n found =
     let to = (edit_moves a.last c.args.edit.now.kind).to in
     ap (λ o. get (of_sheet (λ s. lost_map to (lines_of a s)) o) n) found ∙ get-lost_map int_cmp int_cmp_total exact_signed to (lines_of a sheet) n
 
-pub returns-clause-trees : goal.returns-clause-trees
-returns-clause-trees g c =
-    let a = g.A.Axis.along in
-    let e = c.args.edit.now.kind in
-    let book = c.args.workbook.now in
-    formulas_under a g.met.A.Axis.lawful (edit_moves a.last e) (edit_one_to_one a.last e c.requires.valid) c.args.sheet_id (name_of (sheet_of book c.args.sheet_id)) book.worksheets c.requires.distinct
+pub returns-clause-merges : goal.returns-clause-merges
+returns-clause-merges g c sheet found = ap (merges_kept g.A.Axis.along (edit_moves g.A.Axis.along.last c.args.edit.now.kind) c.args.sheet_id (name_of (sheet_of c.args.workbook.now c.args.sheet_id))) found
 
-pub returns-clause-others : goal.returns-clause-others
-returns-clause-others g c id p none =
+pub returns-clause-trees : goal.returns-clause-trees
+returns-clause-trees g c id p =
     let a = g.A.Axis.along in
-    let e = c.args.edit.now.kind in
     let book = c.args.workbook.now in
-    kept_elsewhere a g.met.A.Axis.lawful (edit_moves a.last e) (edit_one_to_one a.last e c.requires.valid) c.args.sheet_id (name_of (sheet_of book c.args.sheet_id)) book.worksheets id none p
+    formulas_at a (edit_moves a.last c.args.edit.now.kind) c.args.sheet_id (name_of (sheet_of book c.args.sheet_id)) book c.requires.distinct id p

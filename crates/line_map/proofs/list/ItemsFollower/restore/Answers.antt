@@ -1,5 +1,5 @@
 use Rattle.std.proofs.Common.{rules, ◌≡◌, ◌+◌, [], ◌∷◌, ◌++◌, arith, take}
-use Rattle.line_map.specs.Carried.{settled}
+use Rattle.base_maps.specs.Carried.{settled}
 use Rattle.line_map.specs.Lists.{items_restored}
 use Rattle.line_map.specs.Way.{back, way}
 use Rattle.line_map.proofs.Zips.{zip_more, zip_all}

@@ -2,7 +2,7 @@ use Rattle.std.proofs.Common.{ℕ, ap, refl, subst, Ok, Err}
 use Rattle.std.specs.Prelude.{IsOk}
 use Rattle.std.proofs.lemmas.Result.{err_from_is_err_and}
 use Rattle.base_values.specs.Answers.{Edits}
-use Rattle.line_map.specs.declared.EditKind.{EditKind}
+use Rattle.line_edits.specs.declared.EditKind.{EditKind}
 use Rattle.script_editor.specs.Opened.{document_in}
 use Rattle.script_editor.proofs.LineSteps.{planned_along, plan_edit, plan_sendable, planned_document, refused_document}
 use Rattle.script_editor.proofs.Sounds.{changes_from, on_ok_map}

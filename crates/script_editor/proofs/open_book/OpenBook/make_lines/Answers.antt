@@ -1,6 +1,6 @@
 use Rattle.std.proofs.Common.{sym, subst}
 use Rattle.base_values.specs.Answers.{Edits}
-use Rattle.line_map.specs.Edit.{IsValid}
+use Rattle.line_edits.specs.Edit.{IsValid}
 use Rattle.sheet_history.specs.declared.Diff.TheVariants.{Lines as LinesDiff}
 use Rattle.sheet_history.specs.Depth.{AreShallowLines}
 use Rattle.sheet_history.specs.LineDiffs.{along_of}

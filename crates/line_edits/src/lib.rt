@@ -1,0 +1,16 @@
+//! Maps on the lines of an axis: where lines go, and where they came from.
+//!
+//! A `LineMap` takes each line to at most one other; a `LineEdit` is one.
+#![tactic(auto)]
+
+mod edit;
+mod laws;
+mod line_map;
+mod merged;
+
+pub use edit::{Block, EditKind, LineEdit, within};
+pub use laws::{image_of_opposite, move_by_single_lines};
+pub use line_map::LineMap;
+
+#[cfg(test)]
+mod tests;

@@ -1,5 +1,0 @@
-use Rattle.line_map.specs.laws.Images.{image_back}
-use Rattle.line_map.proofs.edit.image_of_opposite.Goals as goal
-
-pub returns : goal.returns
-returns g c = image_back g.A.Axis.along.last c.args.edit.now.kind c.requires

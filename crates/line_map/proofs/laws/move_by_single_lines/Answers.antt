@@ -1,5 +1,0 @@
-use Rattle.line_map.specs.laws.Singles.{moves_line_by_line}
-use Rattle.line_map.proofs.laws.move_by_single_lines.Goals as goal
-
-pub returns : goal.returns
-returns g c = moves_line_by_line g.A.Axis.along.last c.args.first c.args.count c.args.delta c.requires

@@ -10,8 +10,8 @@ use Rattle.formula_tree.specs.declared.Node.TheVariants as node
 use Rattle.formula_tree.specs.Corners.{corner_row, corner_column, corner_at, is_inside, are_rows_reversed, are_columns_reversed, crossing, lower_corner, higher_corner}
 use Rattle.formula_tree.specs.Moved.{moved, range_to}
 use Rattle.formula_tree.specs.laws.CornerLaws.{corner_row-corner_to, corner_column-corner_to}
-use Rattle.line_edits.specs.declared.EditKind.{EditKind}
-use Rattle.line_edits.specs.declared.EditKind.TheVariants.{Insert, Delete, Move}
+use Rattle.line_edits.specs.declared.edit.EditKind.{EditKind}
+use Rattle.line_edits.specs.declared.edit.EditKind.TheVariants.{Insert, Delete, Move}
 use Rattle.base_maps.specs.Carried.{if_there}
 use Rattle.line_edits.specs.Edit.{within, goes_to, image_at, IsValid}
 use Rattle.line_edits.specs.Moves.{at_line, place_image, is_between}
@@ -55,15 +55,17 @@ last_between m n = grind (arith, ints)
 between_kept : (to : ℤ → Option ℤ) → KeepsOrder to → (m n k a b c : ℤ) → to m ≡ Some a → to n ≡ Some b → to k ≡ Some c → is_between m n k ≡ true → is_between a b c ≡ true
 between_kept to keeps m n k a b c e f g h =
     elim (between_cases m n k h) [
-      inl i ↦ between_up a b c (keeps m k a c e g i.0) (keeps k n c b g f i.1)
-    | inr i ↦ between_down a b c (keeps n k b c f g i.0) (keeps k m c a g e i.1) ]
+      | inl i ↦ between_up a b c (keeps m k a c e g i.0) (keeps k n c b g f i.1)
+      | inr i ↦ between_down a b c (keeps n k b c f g i.0) (keeps k m c a g e i.1)
+    ]
 
 -- a line between two that lie from a first to a last line lies there too
 between_within : (first last m n k : ℤ) → first ≤ℤ m → m ≤ℤ last → first ≤ℤ n → n ≤ℤ last → is_between m n k ≡ true → (first ≤ℤ k) × (k ≤ℤ last)
 between_within first last m n k a b c d h =
     elim (between_cases m n k h) [
-      inl i ↦ (omega (arith, ints, i.0, i.1), omega (arith, ints, i.0, i.1))
-    | inr i ↦ (omega (arith, ints, i.0, i.1), omega (arith, ints, i.0, i.1)) ]
+      | inl i ↦ (omega (arith, ints, i.0, i.1), omega (arith, ints, i.0, i.1))
+      | inr i ↦ (omega (arith, ints, i.0, i.1), omega (arith, ints, i.0, i.1))
+    ]
 
 -- ---- places between two places
 
@@ -276,14 +278,14 @@ module _ (w : Way) (is : IsWay w) where
         second = higher_corner w.to c d;
         is_range = becomes_range sheet first second c d (goes_there first s _ exposed) (goes_there second t _ exposed);
         denotes = λ place image.
-          ordered_denotes w.to c d s.image t.image starts stops place
-          (spanned_images w.moves.to keeps w.along is.axis.one_of s.place t.place image.place s.image t.image place s.goes t.goes image.goes
-          (denotes_spanned w.from first second s.place t.place image.place s.stands t.stands image.denoted));
+            ordered_denotes w.to c d s.image t.image starts stops place
+            (spanned_images w.moves.to keeps w.along is.axis.one_of s.place t.place image.place s.image t.image place s.goes t.goes image.goes
+            (denotes_spanned w.from first second s.place t.place image.place s.stands t.stands image.denoted));
         least = λ start end all place denoted.
-          spanned_held start end s.image t.image place
-          (all s.image (record { place = s.place; denoted = spanned_denotes w.from first second s.place t.place s.place s.stands t.stands (record { in_rows = first_between s.place.row t.place.row; in_columns = first_between s.place.column t.place.column }); goes = s.goes }))
-          (all t.image (record { place = t.place; denoted = spanned_denotes w.from first second s.place t.place t.place s.stands t.stands (record { in_rows = last_between s.place.row t.place.row; in_columns = last_between s.place.column t.place.column }); goes = t.goes }))
-          (denotes_ordered w.to c d s.image t.image starts stops place denoted);
+            spanned_held start end s.image t.image place
+            (all s.image (record { place = s.place; denoted = spanned_denotes w.from first second s.place t.place s.place s.stands t.stands (record { in_rows = first_between s.place.row t.place.row; in_columns = first_between s.place.column t.place.column }); goes = s.goes }))
+            (all t.image (record { place = t.place; denoted = spanned_denotes w.from first second s.place t.place t.place s.stands t.stands (record { in_rows = last_between s.place.row t.place.row; in_columns = last_between s.place.column t.place.column }); goes = t.goes }))
+            (denotes_ordered w.to c d s.image t.image starts stops place denoted);
       }
 
 pub goes_by_nodes : (w : Way) → GoesByNodes w

@@ -7,8 +7,8 @@ use Rattle.formula_tree.specs.declared.node.Node.TheVariants as node
 use Rattle.formula_tree.specs.declared.node.Node.TheOpen as layer
 use Rattle.formula_tree.specs.Corners.{corner_at}
 use Rattle.formula_tree.specs.Moved.{move_layer}
-use Rattle.line_edits.specs.declared.EditKind.{EditKind}
-use Rattle.line_edits.specs.declared.EditKind.TheVariants.{Insert, Delete, Move}
+use Rattle.line_edits.specs.declared.edit.EditKind.{EditKind}
+use Rattle.line_edits.specs.declared.edit.EditKind.TheVariants.{Insert, Delete, Move}
 use Rattle.line_edits.specs.Moves.{is_between, place_image}
 use Rattle.line_map.specs.Trees.{following, is_exposed, tree_carried}
 use Rattle.line_map.specs.Way.{Way, at, place_goes}

@@ -6,11 +6,12 @@ ghost use Rattle.std.specs.Prelude.{◌≡◌, ◌-ℤ◌, ℤ, pos, true};
 ghost use Rattle.formula_move.specs.Lines.{shifted, stepped};
 ghost use Rattle.line_edits.specs.declared.EditKind.TheVariants.{Insert, Delete, Move};
 ghost use Rattle.line_edits.specs.Edit.{image_at, IsValid};
-ghost use Rattle.line_map.specs.Way.{way};
 ghost use Rattle.line_laws.specs.Ranges.{is_insertion_or_deletion, GoesByNodes, RangesHoldImages};
+ghost use Rattle.line_map.specs.Way.{way};
 
 use base_axis::Axis;
-use line_map::{LineEdit, Route};
+use line_edits::LineEdit;
+use line_map::Route;
 
 /// The law of line maps: an edit of lines takes each number where displacing its first line by its
 /// count takes it, or by minus its count for a deletion; and the move of one line takes it where

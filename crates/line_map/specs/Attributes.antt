@@ -1,12 +1,12 @@
 -- What the lines of a sheet have of their own, carried along.
-use Rattle.std.specs.Prelude.{ℕ, zero, suc, ℤ, pos, negsuc, ◌+ℤ◌, ◌-ℤ◌, Bool, true, false, ◌&&◌, ◌≡◌, Option, Some, None, if◌then◌else◌}
+use Rattle.std.specs.Prelude.{ℕ, zero, suc, ℤ, pos, ◌+ℤ◌, ◌-ℤ◌, Bool, true, false, ◌&&◌, ◌≡◌, Option, Some, None, if◌then◌else◌}
 use Rattle.std.specs.FinMap.{FinMap, empty, get, insert}
 use Rattle.std.specs.Ordering.{int_cmp}
 use Rattle.base_values.specs.Places.{IsLine}
 use Rattle.base_axis.specs.Along.{Along}
 use Rattle.line_edits.specs.declared.Block.{Block}
 use Rattle.base_maps.specs.Carried.{moved_map, lost_map, overlaid}
-use Rattle.line_edits.specs.Edit.{within}
+use Rattle.line_edits.specs.Edit.{within, amount}
 use Rattle.line_map.specs.Way.{Way, is_along}
 
 -- whether lines of an axis go along the map: those of the edited axis of the edited sheet

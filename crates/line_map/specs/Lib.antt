@@ -2,7 +2,8 @@ pub mod Way
 pub mod Trial
 pub mod Trees
 pub mod Contents
-pub mod Areas
+pub mod MergedCells
+pub mod Merges
 pub mod Lists
 pub mod Maps
 pub mod Attributes

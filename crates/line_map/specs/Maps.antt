@@ -1,9 +1,9 @@
 -- Maps by place whose entries are carried along.
-use Rattle.std.specs.Prelude.{◌≡◌, Option, Some, IfSome}
+use Rattle.std.specs.Prelude.{◌≡◌, Option, Some}
 use Rattle.std.specs.FinMap.{FinMap, get}
 use Rattle.base_values.specs.declared.Position.{Position}
 use Rattle.base_values.specs.Places.{IsPlace, position_cmp}
-use Rattle.base_maps.specs.Carried.{carried_map, parts_map, lost_map, settled, overlaid}
+use Rattle.base_maps.specs.Carried.{carried_map, parts_map, settled}
 use Rattle.line_map.specs.Way.{Way, at, back, place_goes}
 
 module _ {F : Type 0} where

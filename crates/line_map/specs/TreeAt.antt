@@ -3,7 +3,6 @@ use Rattle.std.specs.Prelude.{◌≡◌, true, Option, Some, None, if◌then◌e
 use Rattle.base_values.specs.declared.Position.{Position}
 use Rattle.base_values.specs.Places.{IsPlace}
 use Rattle.base_tables.specs.Folding.{same_folded}
-use Rattle.formula_tree.specs.declared.Node.{Node}
 use Rattle.formula_tree.specs.Placed.{is_placed}
 use Rattle.line_map.specs.declared.tree_at.TreeAt.{TreeAt}
 use Rattle.line_map.specs.contracts.tree_at.TreeAtPartialEq.TheImpl as equality

@@ -1,9 +1,8 @@
 -- Trees of formulas, carried along with their cells.
-use Rattle.std.proofs.Common.{◌≡◌, ℕ, Bool, true, List, Option, Some, None}
+use Rattle.std.proofs.Common.{◌≡◌, ℕ, Bool, true, List, Option, Some}
 use Rattle.std.specs.Prelude.{not, ◌&&◌, if◌then◌else◌}
 use Rattle.base_values.specs.declared.Position.{Position}
 use Rattle.base_values.specs.CodedEq.{same_value}
-use Rattle.base_axis.specs.Along.{Along}
 use Rattle.formula_tree.specs.declared.Corner.{Corner}
 use Rattle.formula_tree.specs.declared.Node.{Node}
 use Rattle.formula_tree.specs.contracts.node.Node.{the_row}

@@ -3,7 +3,8 @@ pub mod WayLaws
 pub mod TrialLaws
 pub mod TreeLaws
 pub mod ContentLaws
-pub mod AreaLaws
+pub mod MergedCellLaws
+pub mod MergeLaws
 pub mod ListLaws
 pub mod MapLaws
 pub mod AttributeLaws

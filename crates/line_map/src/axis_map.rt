@@ -12,13 +12,12 @@ ghost use Rattle.line_edits.specs.Edit.{within};
 ghost use Rattle.base_maps.specs.laws.Gathering.{with_made};
 ghost use Rattle.line_map.specs.Way.{way};
 
-use line_edits::{Block, within};
 use crate::follower::Follower;
-use line_edits::LineMap;
 use crate::route::Route;
 use base_axis::{Axis, AxisMap};
 use base_maps::NumberMap;
 use base_values::{EditError, Exact, copy_of};
+use line_edits::{Block, LineMap, within};
 use std::alloc::Global;
 
 /// Whether the lines of an axis go along a route: those of the edited axis of the edited sheet.

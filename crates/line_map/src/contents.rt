@@ -2,13 +2,13 @@ ghost use Rattle.std.specs.Prelude.{◌≡◌, IfOk, IsOkUnless};
 ghost use Rattle.base_values.specs.declared.EditError.TheVariants.{NoMemory};
 
 use crate::follower::Follower;
-use line_edits::LineMap;
 use crate::route::Route;
 use base_axis::Axis;
 use base_shared::Shared;
 use base_values::{EditError, Exact, copy_of};
 use cell_content::{Content, tree_of, with_tree};
 use formula_tree::Node;
+use line_edits::LineMap;
 use sheet_grid::{Cell, Link};
 use std::alloc::Global;
 

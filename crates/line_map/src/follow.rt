@@ -5,11 +5,11 @@ ghost use Rattle.line_map.specs.Alone.{edit_way};
 ghost use Rattle.line_map.specs.Way.{way};
 ghost use Rattle.line_edits.specs.declared.EditKind.{EditKind};
 
-use line_edits::LineEdit;
 use crate::follower::Follower;
 use crate::route::Route;
 use base_axis::Axis;
 use base_values::{EditError, Exact, Position};
+use line_edits::LineEdit;
 use std::alloc::Global;
 use std::marker::PhantomData;
 

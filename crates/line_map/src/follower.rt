@@ -2,10 +2,10 @@ ghost use Rattle.std.specs.Prelude.{◌≡◌, IfOk, IfSome, IsOkUnless, None, O
 ghost use Rattle.base_values.specs.declared.EditError.TheVariants.{NoMemory};
 ghost use Rattle.line_map.specs.Way.{Way, IsWay, back, way};
 
-use line_edits::LineMap;
 use crate::route::Route;
 use base_axis::Axis;
 use base_values::EditError;
+use line_edits::LineMap;
 use std::alloc::Global;
 
 /// What is carried along a map on lines. Each call asks that the value lies inside the sheet, and

@@ -10,12 +10,12 @@ ghost use Rattle.line_map.specs.Trees.{tree_carried};
 ghost use Rattle.line_map.specs.Way.{at, back, place_goes, way};
 
 use crate::follower::Follower;
-use line_edits::LineMap;
 use crate::route::Route;
 use base_axis::Axis;
 use base_shared::Shared;
 use base_values::PlaceMap;
 use formula_tree::Node;
+use line_edits::LineMap;
 
 /// A carried map has at a place what the map had where the place came from, carried along. Of a map
 /// is kept: each entry whose place goes nowhere; and of each other entry the part that the way back

@@ -4,13 +4,14 @@
 //! what the way back does not give. `Follow` is the same for an edit by itself.
 #![tactic(auto)]
 
-mod area;
 mod axis_map;
 mod contents;
 mod follow;
 mod follower;
 mod laws;
 mod list;
+mod merge_list;
+mod merged_cell;
 mod place_map;
 mod route;
 mod tree;
@@ -22,9 +23,7 @@ pub use contents::Nothing;
 pub use follow::{Follow, there_and_back};
 pub use follower::Follower;
 pub use laws::{entries_of_maps, followed_is_placed};
-pub use line_edits::{
-    Block, EditKind, LineEdit, LineMap, image_of_opposite, move_by_single_lines,
-};
+pub use line_edits::{Block, EditKind, LineEdit, LineMap, image_of_opposite, move_by_single_lines};
 pub use place_map::{KeptMap, Parts, kept_parts, lost_places, overlaid_places, restored_places};
 pub use route::Route;
 pub use tree_at::TreeAt;

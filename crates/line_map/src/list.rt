@@ -4,10 +4,10 @@ ghost use Rattle.base_maps.specs.Carried.{settled};
 ghost use Rattle.line_map.specs.Way.{back, way};
 
 use crate::follower::Follower;
-use line_edits::LineMap;
 use crate::route::Route;
 use base_axis::Axis;
 use base_values::{EditError, Items};
+use line_edits::LineMap;
 use std::alloc::Global;
 
 /// What an item is restored from its part to, if it has one, else what is carried back.

@@ -12,11 +12,11 @@ ghost use Rattle.line_map.specs.Maps.{AllLie, KeysInside, PartsFit, places_carri
 ghost use Rattle.line_map.specs.Way.{at, back, place_goes, way};
 
 use crate::follower::Follower;
-use line_edits::LineMap;
 use crate::route::Route;
 use base_axis::Axis;
 use base_maps::PositionMap;
 use base_values::{EditError, Exact, PlaceMap, Position, copy_of};
+use line_edits::LineMap;
 use std::alloc::{AllocError, Global};
 
 /// Parts that are kept under places.

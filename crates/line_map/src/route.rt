@@ -2,9 +2,9 @@ ghost use Rattle.std.specs.Prelude.{◌≡◌, true};
 ghost use Rattle.base_values.specs.Places.{IsPlace};
 ghost use Rattle.base_tables.specs.Folding.{same_folded};
 
-use line_edits::LineMap;
 use base_axis::Axis;
 use base_values::Position;
+use line_edits::LineMap;
 use std::alloc::AllocError;
 use std::marker::PhantomData;
 
@@ -31,6 +31,8 @@ pub struct Route<'a, A: Axis, M: LineMap<A>> {
     pub ghost valid_back: { M.is_valid opposite.now ≡ true },
     pub ghost goes_back: { (M.moves opposite.now).to ≡ (M.moves map.now).from },
     pub ghost comes_back: { (M.moves opposite.now).from ≡ (M.moves map.now).to },
+    pub ghost merges_back: { (M.moves opposite.now).merged ≡ (M.moves map.now).merged_back },
+    pub ghost merges_again: { (M.moves opposite.now).merged_back ≡ (M.moves map.now).merged },
     pub ghost is_named: { is_own ≡ same_folded own.now edited.now },
     pub ghost from_inside: { IsPlace from },
     pub ghost to_inside: { IsPlace to },

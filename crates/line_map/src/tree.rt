@@ -6,7 +6,6 @@ ghost use Rattle.line_map.specs.Trees.{target, is_exposed, moved_corner, tree_ca
 ghost use Rattle.line_map.specs.Way.{back, way};
 
 use crate::follower::Follower;
-use line_edits::LineMap;
 use crate::route::Route;
 use base_axis::Axis;
 use base_shared::Shared;
@@ -16,6 +15,7 @@ use formula_back::{comes_back, is_still};
 use formula_tree::{
     Corner, CornerMap, Node, corner_at, corner_to, is_whole_columns, is_whole_rows, move_node,
 };
+use line_edits::LineMap;
 use std::alloc::Global;
 
 /// Where the corners go of a formula that is carried along a route.

@@ -6,13 +6,13 @@ ghost use Rattle.line_map.specs.TreeAt.{TreeAtLies, tree_goes, tree_at_carried, 
 ghost use Rattle.line_map.specs.Way.{way};
 
 use crate::follower::Follower;
-use line_edits::LineMap;
 use crate::route::Route;
 use crate::tree::carried_node;
 use base_axis::Axis;
 use base_tables::same_by_folding;
 use base_values::{EditError, Exact, Position, Text, copy_of};
 use formula_tree::Node;
+use line_edits::LineMap;
 use std::alloc::Global;
 use std::marker::PhantomData;
 

@@ -3,11 +3,10 @@ ghost use Rattle.base_values.specs.Places.{IsPlace};
 ghost use Rattle.line_edits.specs.Moves.{place_image};
 ghost use Rattle.line_map.specs.Way.{IsWay, at, back, place_goes, way};
 
-use line_edits::Block;
-use line_edits::LineMap;
 use crate::route::Route;
 use base_axis::Axis;
 use base_values::Position;
+use line_edits::{Block, LineMap};
 use std::marker::PhantomData;
 
 impl<'a, A: Axis, M: LineMap<A>> Route<'a, A, M> {

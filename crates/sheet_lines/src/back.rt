@@ -143,7 +143,13 @@ fn sheet_back<A: Axis, M: LineMap<A>>(
     let (cells, links) = (sheet.cell_map(), sheet.link_map());
     places_inside(cells);
     places_inside(links);
-    let cells = map_back(alloc, &route, &SheetTrees { formulas, id }, &kept.cells, cells)?;
+    let cells = map_back(
+        alloc,
+        &route,
+        &SheetTrees { formulas, id },
+        &kept.cells,
+        cells,
+    )?;
     let links = map_back(alloc, &route, &NoParts {}, &kept.links, links)?;
     let rows = lines_back(alloc, &route, kept, sheet.row_map())?;
     let columns = lines_back(alloc, &route, kept, sheet.column_map())?;

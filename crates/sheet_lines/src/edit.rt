@@ -43,12 +43,13 @@ fn kept_lines<A: Axis, M: LineMap<A>>(
     places_inside(links);
     lines_inside(sheet.row_map());
     lines_inside(sheet.column_map());
+    let merges = sheet.merge_list().part(alloc, &route)?;
     Ok(KeptLines {
         cells: lost_places(alloc, &route, cells)?,
         links: lost_places(alloc, &route, links)?,
         lines: lost_attributes(alloc, edited, sheet)?,
         formulas,
-        merges: sheet.merge_list().part(alloc, &route)?,
+        merges,
     })
 }
 

@@ -17,4 +17,6 @@ pub struct EditedSheet<'a, A: Axis, M: LineMap<A>> {
     pub ghost valid_back: { M.is_valid opposite.now ≡ true },
     pub ghost goes_back: { (M.moves opposite.now).to ≡ (M.moves map.now).from },
     pub ghost comes_back: { (M.moves opposite.now).from ≡ (M.moves map.now).to },
+    pub ghost merges_back: { (M.moves opposite.now).merged ≡ (M.moves map.now).merged_back },
+    pub ghost merges_again: { (M.moves opposite.now).merged_back ≡ (M.moves map.now).merged },
 }

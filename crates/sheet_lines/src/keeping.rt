@@ -2,7 +2,7 @@ ghost use Rattle.std.specs.Prelude.{◌≡◌, IfOk, IsOkUnless};
 ghost use Rattle.std.specs.List.{AllByRecursion};
 ghost use Rattle.base_values.specs.declared.EditError.TheVariants.{NoMemory};
 ghost use Rattle.base_maps.specs.Carried.{lost_map};
-ghost use Rattle.sheet_lines.specs.Kept.{lines_of, trees_kept, formulas_kept};
+ghost use Rattle.sheet_lines.specs.Kept.{lines_of, formulas_kept};
 ghost use Rattle.sheet_lines.specs.KeptNumbers.{AreKeptFormulas};
 ghost use Rattle.sheet_lines.specs.Sheets.{IsPlacedSheet};
 
@@ -10,7 +10,7 @@ use crate::edited_sheet::EditedSheet;
 use crate::inside::places_inside;
 use crate::sheets::route_on;
 use base_axis::Axis;
-use base_maps::{NumberMap, PositionMap, SheetPlaceMap};
+use base_maps::{NumberMap, SheetPlaceMap};
 use base_shared::Shared;
 use base_values::EditError;
 use formula_tree::Node;
@@ -34,24 +34,8 @@ pub(crate) fn lost_attributes<A: Axis, M: LineMap<A>>(
     }
 }
 
-/// The trees of a sheet's formulas that go somewhere and that the way back does not give, under
-/// their places before.
-fn sheet_trees<A: Axis, M: LineMap<A>>(
-    alloc: Global,
-    edited: &EditedSheet<'_, A, M>,
-    sheet: &Worksheet,
-) -> Result<PositionMap<Shared<Node>>, EditError>
-    requires { IsPlacedSheet sheet.now }
-    ensures trees { IfOk result (λ trees. trees ≡ trees_kept A.along (M.moves edited.now.map.now) edited.now.id edited.now.name.now sheet.now) }
-    ensures numbers { IfOk result AreKeptFormulas }
-    ensures only { IsOkUnless result NoMemory }
-{
-    let cells = sheet.cell_map();
-    places_inside(cells);
-    kept_parts(alloc, &route_on(edited, sheet), cells)
-}
-
-/// Those of each sheet, under its id.
+/// The trees of each sheet's formulas that go somewhere and that the way back does not give, under
+/// the id of the sheet and their places before.
 pub(crate) fn kept_formulas<A: Axis, M: LineMap<A>>(
     alloc: Global,
     edited: &EditedSheet<'_, A, M>,
@@ -64,7 +48,9 @@ pub(crate) fn kept_formulas<A: Axis, M: LineMap<A>>(
 {
     let mut kept = SheetPlaceMap::new(alloc);
     for sheet in sheets {
-        let trees = sheet_trees(alloc, edited, sheet)?;
+        let cells = sheet.cell_map();
+        places_inside(cells);
+        let trees = kept_parts(alloc, &route_on(edited, sheet), cells)?;
         kept.put_under(sheet.get_sheet_id(), &trees)?;
     }
     Ok(kept)

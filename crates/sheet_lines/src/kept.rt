@@ -4,10 +4,9 @@ use base_shared::Shared;
 use base_values::Exact;
 use formula_tree::Node;
 use sheet_grid::{Cell, LineAttr, Link};
-use std::alloc::AllocError;
 
 /// What taking a line edit back does not give of a workbook. docs/MODEL.md has the rules.
-#[derive(PartialEq, Eq, Drop)]
+#[derive(Clone, PartialEq, Eq, Drop)]
 pub struct KeptLines {
     /// The cells of the edited sheet that are lost, by their positions before the edit.
     pub cells: PositionMap<Shared<Cell>>,
@@ -22,26 +21,11 @@ pub struct KeptLines {
     pub merges: Option<MergeList>,
 }
 
-impl Clone for KeptLines {
-    ghost use Rattle.std.specs.Prelude.{◌≡◌};
-
-    ghost is_clone = { λ kept copy. copy ≡ kept };
-
-    fn clone(&self) -> Result<KeptLines, AllocError> {
-        Ok(KeptLines {
-            cells: self.cells.clone()?,
-            links: self.links.clone()?,
-            lines: self.lines.clone()?,
-            formulas: self.formulas.clone()?,
-            merges: self.merges.clone()?,
-        })
-    }
-}
-
 impl Exact for KeptLines {
+    ghost use Rattle.std.proofs.Common.{rules};
     ghost use Rattle.sheet_lines.specs.laws.KeptEquals.{kept_equals};
 
-    ghost copies = { λ a b h. h };
+    ghost copies = { λ a b h. Prim.search rules };
 
     ghost equals = { kept_equals };
 }

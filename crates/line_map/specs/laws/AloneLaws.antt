@@ -5,7 +5,7 @@ use Rattle.line_edits.specs.declared.EditKind.{EditKind}
 use Rattle.line_map.specs.Alone.{edit_way, regained, Restores}
 use Rattle.line_edits.specs.Edit.{IsValid}
 use Rattle.line_map.specs.Way.{Way, IsWay, back}
-use Rattle.line_edits.specs.laws.Images.{edit_one_to_one}
+use Rattle.line_edits.specs.laws.OneToOne.{edit_one_to_one}
 
 -- the way of a valid edit is one
 pub edit_is_way : (a : Along) → IsAxis a → (e : EditKind) → IsValid a.last e → IsWay (edit_way a e)

@@ -4,7 +4,7 @@ use Rattle.std.specs.Prelude.{IfSome, is_some, is_none, ◌&&◌, if◌then◌el
 use Rattle.std.proofs.lemmas.Int.{ints}
 use Rattle.std.specs.Ordering.{int_cmp, eq_by_cmp}
 use Rattle.std.specs.Cmp.{int_cmp_total}
-use Rattle.std.specs.FinMap.{FinMap, empty, get, get-empty, insert, get-insert, int_cmp-IsAntisymmetric, same_map}
+use Rattle.std.specs.FinMap.{FinMap, empty, get, get-empty, insert, get-insert, int_cmp-IsAntisymmetric}
 use Rattle.base_values.specs.Places.{IsLine}
 use Rattle.base_axis.specs.Along.{Along, IsAxis, rows, columns}
 use Rattle.line_edits.specs.declared.Block.{Block}
@@ -12,8 +12,7 @@ use Rattle.line_edits.specs.Edit.{amount}
 use Rattle.line_map.specs.Attributes.{line_goes_along, heir, with_line, filled, block_given, block_heirs, heirs, lines_carried, lines_part, lines_restored, LinesLie}
 use Rattle.base_maps.specs.Carried.{if_there, moved_map, lost_map, overlaid}
 use Rattle.line_edits.specs.Edit.{within, is_in_block}
-use Rattle.base_maps.specs.Carried.{Inverse}
-use Rattle.line_edits.specs.Moves.{LineMoves, IsOneToOne, is_brought}
+use Rattle.line_edits.specs.Moves.{is_brought}
 use Rattle.line_map.specs.Way.{Way, IsWay, back, is_along}
 use Rattle.base_maps.specs.laws.Gathering.{get-lost_map, get-overlaid, nothing_overlaid, overlaid_more}
 use Rattle.base_maps.specs.laws.Keys.{one_key}

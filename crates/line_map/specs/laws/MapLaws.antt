@@ -1,20 +1,17 @@
 -- The law of followers for maps by place.
 use Rattle.std.proofs.Common.{◌≡◌, Bool, true, false, cond, Option, Some, None, refl, ap, sym, subst, ◌∙◌}
-use Rattle.std.specs.Prelude.{IfSome, is_some, is_none}
-use Rattle.std.specs.declared.cmp.Ordering.{Ordering}
-use Rattle.std.specs.Cmp.{IsTotalOrder}
-use Rattle.std.proofs.lemmas.Map.Lookups.{CmpEqualImpliesEq}
-use Rattle.std.specs.FinMap.{FinMap, get, same_map}
+use Rattle.std.specs.Prelude.{IfSome}
+use Rattle.std.specs.FinMap.{FinMap, get}
 use Rattle.base_values.specs.declared.Position.{Position}
 use Rattle.base_values.specs.Places.{IsPlace, position_cmp}
 use Rattle.base_values.specs.laws.Places.{position_total, exact_positions}
-use Rattle.base_maps.specs.Carried.{if_there, carried_map, moved_map, parts_map, lost_map, overlaid, settled}
-use Rattle.line_map.specs.Maps.{AllLie, KeysInside, PartsFit, KeptFits, places_carried, places_parts, places_restored}
+use Rattle.base_maps.specs.Carried.{if_there, lost_map, overlaid, settled}
+use Rattle.line_map.specs.Maps.{AllLie, KeptFits, places_carried, places_parts, places_restored}
 use Rattle.line_map.specs.declared.place_map.KeptMap.{KeptMap}
 use Rattle.base_maps.specs.Carried.{Inverse}
 use Rattle.line_map.specs.Way.{Way, IsWay, at, back, place_goes}
-use Rattle.base_maps.specs.laws.Gathering.{get-gathered, get-lost_map, get-overlaid}
-use Rattle.base_maps.specs.laws.Inverses.{own_inverse, turned_inverse}
+use Rattle.base_maps.specs.laws.Gathering.{get-lost_map}
+use Rattle.base_maps.specs.laws.CarriedLaws.{get-carried_map, get-parts_map, map_restores}
 use Rattle.line_map.specs.laws.WayLaws.{goes_inverse, goes_inside, at_is_way}
 
 found_from : {F : Type 0} (f : F → F) (v : Option F) (y : F) → if_there v (λ x. Some (f x)) ≡ Some y → (x : F) × (v ≡ Some x) × (y ≡ f x)

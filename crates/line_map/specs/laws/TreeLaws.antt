@@ -15,7 +15,7 @@ use Rattle.formula_tree.specs.Placed.{is_placed}
 use Rattle.formula_tree.specs.laws.PlacedLaws.{placed-moved}
 use Rattle.base_maps.specs.Carried.{if_there}
 use Rattle.line_edits.specs.Moves.{place_image}
-use Rattle.line_map.specs.Trees.{corner_of, target, moved_corner, following, tree_carried, tree_part, TreeLies}
+use Rattle.line_map.specs.Trees.{corner_of, target, following, tree_carried, tree_part, TreeLies}
 use Rattle.line_map.specs.Trial.{part_by_trial}
 use Rattle.line_map.specs.Way.{Way, IsWay, back}
 use Rattle.line_map.specs.laws.TrialLaws.{trial_comes_back, trial_part}

@@ -1,5 +1,5 @@
 -- Laws of ways.
-use Rattle.std.proofs.Common.{◌≡◌, ℤ, Bool, true, false, Option, Some, None, refl, ap, sym, ◌∙◌}
+use Rattle.std.proofs.Common.{◌≡◌, ℤ, true, false, Option, Some, None, refl, ap, ◌∙◌}
 use Rattle.std.specs.Prelude.{IfSome, if◌then◌else◌}
 use Rattle.base_values.specs.declared.Position.{Position}
 use Rattle.base_values.specs.Places.{IsLine, IsPlace}
@@ -16,6 +16,8 @@ turned_one_to_one last m o = record {
   to_inside = o.from_inside;
   from_inside = o.to_inside;
   fresh = λ n h. absurd (cc);
+  merged_inside = o.merged_back_inside;
+  merged_back_inside = o.merged_inside;
 }
 
 -- the way back is a way, and so is that of what goes from a place to a place

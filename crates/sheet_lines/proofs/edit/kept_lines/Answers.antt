@@ -1,4 +1,4 @@
-use Rattle.std.proofs.Common.{◌≡◌, Some, true, subst, sym, ap, ◌∙◌}
+use Rattle.std.proofs.Common.{◌≡◌, ℕ, Some, true, subst, sym, ap, ◌∙◌}
 use Rattle.std.specs.Prelude.{◌==◌, IfSome}
 use Rattle.std.specs.Option.{option_copied}
 use Rattle.base_values.specs.Places.{IsPlace, position_cmp}
@@ -13,17 +13,21 @@ use Rattle.line_edits.specs.Moves.{place_image}
 use Rattle.line_map.specs.Merges.{merges_part, MergesLie}
 use Rattle.line_map.specs.Way.{place_goes, way}
 use Rattle.line_map.specs.laws.MergeLaws.{merges_part_fits}
+use Rattle.sheet_grid.specs.Book.{Book}
+use Rattle.sheet_grid.specs.Sheet.{Sheet}
 use Rattle.sheet_grid.specs.KeptCell.{IsKeptCell, KeptCells}
 use Rattle.sheet_lines.specs.Followed.{way_of, way_on}
 use Rattle.sheet_lines.specs.Kept.{lines_of, of_sheet, formulas_kept, merges_kept}
-use Rattle.sheet_lines.specs.Sheets.{sheet_of, name_of, IsPlacedSheet}
+use Rattle.sheet_lines.specs.Sheets.{sheet_of, name_of, IsPlacedSheet, IsPlacedBook}
 use Rattle.sheet_lines.specs.laws.Stays.{lost_lines_lie, lost_places}
 use Rattle.sheet_lines.proofs.edit.kept_lines.Goals as goal
 
+merges_lie : (book : Book) (id : ℕ) (sheet : Sheet) → IsPlacedBook book → sheet_of book id ≡ Some sheet → MergesLie sheet.merges
+merges_lie book id sheet placed found = (found_holds (λ s. s.id == id) IsPlacedSheet book.worksheets placed sheet found).merges
+
 pub part-requires : goal.part-requires
 part-requires g c =
-    let found : sheet_of c.args.workbook.now c.args.edited.now.id ≡ Some c.in-Some.sheet.now = sym c.sheet_of.ensures ∙ ap option_copied c.in-Some.is in
-    subst MergesLie (sym c.merge_list.ensures) (found_holds (λ s. s.id == c.args.edited.now.id) IsPlacedSheet c.args.workbook.now.worksheets c.requires.placed c.in-Some.sheet.now found).merges
+    subst MergesLie (sym c.merge_list.ensures) (merges_lie c.args.workbook.now c.args.edited.now.id c.in-Some.sheet.now c.requires.placed (sym c.sheet_of.ensures ∙ ap option_copied c.in-Some.is))
 
 pub returns-clause-kept : goal.returns-clause-kept
 returns-clause-kept g c =
@@ -43,7 +47,7 @@ returns-clause-kept g c =
           ∙ lost_places (way_on edited sheet) it sheet.links
           ∙ sym (ap (of_sheet (λ s. lost_map (place_image a moves.to) s.links)) found)) i;
       lines = (c.in_ok-lost_attributes.ensures.lines ∙ sym (ap (of_sheet (λ s. lost_map moves.to (lines_of a s))) found)) i;
-      merges = (c.in_ok-part.ensures.part
+      merges = (c.in_ok-merges.ensures.part
           ∙ (λ j. merges_part (c.route_on-route.ensures.way j) (c.merge_list.ensures j))
           ∙ (λ j. merges_part (way_of a moves edited.id (c.requires.name j) sheet) sheet.merges)
           ∙ sym (ap (merges_kept a moves edited.id (name_of (sheet_of c.args.workbook.now edited.id))) found)) i;
@@ -64,6 +68,7 @@ returns-clause-inside g c =
       links = subst KeysInside (sym c.in_ok-lost_places-2.ensures.map) (keys_lost position_cmp position_total exact_positions IsPlace goes c.link_map-links.result.now c.places_inside-2.ensures);
       lines = subst (LinesLie g.A.Axis.along) (sym c.in_ok-lost_attributes.ensures.lines)
           (lost_lines_lie g.A.Axis.along g.met.A.Axis.lawful sheet (subst (LinesLie rows) c.row_map.ensures c.lines_inside.ensures) (subst (LinesLie columns) c.column_map.ensures c.lines_inside-2.ensures) (g.M.LineMap.moves c.args.edited.now.map.now).to);
-      merges = subst (λ o. IfSome o MergesLie) (sym c.in_ok-part.ensures.part)
-          (holds_of MergesLie (merges_part (way c.route_on-route.result) c.merge_list.result.now) (merges_part_fits (way c.route_on-route.result) c.route_on-route.ensures.is c.merge_list.result.now (part-requires g c)));
+      merges = subst (λ o. IfSome o MergesLie) (sym c.in_ok-merges.ensures.part)
+          (holds_of MergesLie (merges_part (way c.route_on-route.result) c.merge_list.result.now) (merges_part_fits (way c.route_on-route.result) c.route_on-route.ensures.is c.merge_list.result.now
+          (subst MergesLie (sym c.merge_list.ensures) (merges_lie c.args.workbook.now c.args.edited.now.id sheet c.requires.placed (sym c.sheet_of.ensures ∙ ap option_copied c.in-Some.is)))));
     }

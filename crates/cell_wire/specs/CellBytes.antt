@@ -5,8 +5,9 @@ use Rattle.base_values.specs.declared.Position.{Position}
 use Rattle.base_tables.specs.Error.{error_code}
 use Rattle.base_decimal.specs.Kept.{IsKept}
 use Rattle.base_styles.specs.declared.Style.{Style}
+use Rattle.formula_tree.specs.declared.Node.{Node}
 use Rattle.cell_content.specs.declared.Content.{Content}
-use Rattle.cell_content.specs.declared.Content.TheVariants.{Empty, Number, Boolean, Error as ErrorValue, Text, Formula, Dynamic}
+use Rattle.cell_content.specs.declared.Content.TheVariants.{Empty, Number, Boolean, Error as ErrorValue, Text, Formula, Dynamic, Array}
 use Rattle.sheet_grid.specs.declared.Cell.{Cell}
 use Rattle.sheet_grid.specs.KeptCell.{IsKeptCell}
 use Rattle.cell_content.specs.Fitting.{is_shallow}
@@ -36,6 +37,22 @@ pub record FitsPosition (place : Position) : Type 0 where
 
 -- ---- contents
 
+-- the tree of a formula that fills an array, and how many columns wide and rows high the array is
+abbrev pub spell_array : Node → ℤ → ℤ → List ℕ
+spell_array tree width height = spell_node tree ++ (spell_signed w32 width ++ spell_signed w32 height)
+
+abbrev pub array_made : Node × (ℤ × ℤ) → Content
+array_made x = Array x.0 x.1.0 x.1.1
+
+abbrev pub array_at : Reader Content
+array_at = map_at array_made (node_at ⊗ signed_at w32 ⊗ signed_at w32)
+
+-- a tree that bytes can carry, and two numbers of 32 bits
+pub record FitsArray (node : Node) (columns rows : ℤ) : Type 0 where
+  pub tree : FitsNode node
+  pub width : FitsSigned w32 columns
+  pub height : FitsSigned w32 rows
+
 -- the kind, and then what it holds
 abbrev pub spell_content : Content → List ℕ
 spell_content Empty = 0 ∷ []
@@ -45,6 +62,7 @@ spell_content (ErrorValue error) = 3 ∷ spell_code error_code error
 spell_content (Text text) = 4 ∷ spell_text text
 spell_content (Formula tree) = 5 ∷ spell_node tree
 spell_content (Dynamic tree) = 6 ∷ spell_node tree
+spell_content (Array tree width height) = 7 ∷ spell_array tree width height
 
 -- what follows each kind
 abbrev pub content_of : ℕ → Reader Content
@@ -56,12 +74,13 @@ content_of kind =
     else if kind == 4 then map_at Text text_at
     else if kind == 5 then map_at Formula node_at
     else if kind == 6 then map_at Dynamic node_at
+    else if kind == 7 then array_at
     else refused
 
 unfoldable pub content_at : Reader Content
 content_at = tagged_at content_of
 
--- a number is as a sheet keeps it, a text is one of Rust, and a tree one that bytes can carry
+-- a number is as a sheet keeps it, a text is one of Rust, a tree one that bytes can carry, and the sides of an array have 32 bits
 abbrev pub FitsContent : Content → Type 0
 FitsContent Empty = Unit {0}
 FitsContent (Number number) = IsKept number
@@ -70,6 +89,7 @@ FitsContent (ErrorValue error) = Unit {0}
 FitsContent (Text text) = FitsText text
 FitsContent (Formula tree) = FitsNode tree
 FitsContent (Dynamic tree) = FitsNode tree
+FitsContent (Array tree width height) = FitsArray tree width height
 
 -- ---- cells
 

@@ -1,3 +1,5 @@
 pub mod StyleBytes
 pub mod CellBytes
+pub mod LinkBytes
+pub mod MergeBytes
 pub mod laws

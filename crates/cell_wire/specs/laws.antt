@@ -2,4 +2,5 @@ pub mod PartsAgain
 pub mod PartsSpelled
 pub mod Refusals
 pub mod Formats
+pub mod MergeLaws
 pub mod Fitting

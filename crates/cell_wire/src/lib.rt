@@ -1,4 +1,4 @@
-//! Styles, positions and cells as bytes, in both directions.
+//! Styles, positions, cells, links and merged cells as bytes, in both directions.
 //!
 //! The layers above see of each a spelling, which is a function of the value: a value that bytes can
 //! carry is read again from its spelling whatever follows, what is read was spelled so, and all else
@@ -8,6 +8,7 @@
 
 mod codes;
 mod encode;
+mod merges;
 mod parts;
 mod read;
 mod reading_cells;
@@ -16,4 +17,5 @@ mod writing;
 
 pub use codes::theme_code;
 pub use encode::encode_style;
+pub use merges::{LinkPart, MergeListPart};
 pub use parts::{CellPart, PositionPart, StylePart};

@@ -1,7 +1,7 @@
 //! Positions and cells from the front of bytes.
 
 ghost use Rattle.base_values.specs.Answers.{Answers, map_ok};
-ghost use Rattle.cell_wire.specs.CellBytes.{cell_at, content_at, position_at};
+ghost use Rattle.cell_wire.specs.CellBytes.{cell_at, array_at, content_at, position_at};
 
 use crate::read::read;
 use crate::reading_styles::style_at;
@@ -21,6 +21,21 @@ pub(crate) fn position_at(alloc: Global, bytes: &[u8]) -> Result<(Position, &[u8
     let (row, rest) = read::<i32>(alloc, bytes)?;
     let (column, rest) = read::<i32>(alloc, rest)?;
     Ok((Position { row, column }, rest))
+}
+
+/// The formula of an array, and the array's sides.
+fn array_at(alloc: Global, bytes: &[u8]) -> Result<(Content, &[u8]), EditError>
+    ensures { Answers (map_ok (λ x. (x.0, x.1.now)) result) (array_at bytes.now) }
+{
+    let (tree, rest) = read::<Shared<NodePart>>(alloc, bytes)?;
+    let (width, rest) = read::<i32>(alloc, rest)?;
+    let (height, rest) = read::<i32>(alloc, rest)?;
+    let array = Content::Array {
+        tree,
+        width,
+        height,
+    };
+    Ok((array, rest))
 }
 
 #[tactic(auto, unfolding(crate::specs::CellBytes::content_at))]
@@ -54,6 +69,7 @@ fn content_at(alloc: Global, bytes: &[u8]) -> Result<(Content, &[u8]), EditError
             let (tree, rest) = read::<Shared<NodePart>>(alloc, rest)?;
             Ok((Content::Dynamic(tree), rest))
         }
+        7 => array_at(alloc, rest),
         _ => Err(EditError::ParseDiffs),
     }
 }

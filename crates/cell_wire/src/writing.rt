@@ -4,8 +4,9 @@
 ghost use Rattle.std.specs.Prelude.{◌≡◌, ◌++◌, IsTrue, OnOk};
 ghost use Rattle.cell_content.specs.Fitting.{is_shallow};
 ghost use Rattle.cell_content.specs.KeptContent.{IsKeptContent};
+ghost use Rattle.formula_wire.specs.Carried.{IsKnownNode};
 ghost use Rattle.cell_wire.specs.StyleBytes.{spell_alignment, spell_border, spell_border_item, spell_color, spell_font, spell_style, FitsBorder, FitsBorderItem, FitsColor, FitsFont, FitsStyle};
-ghost use Rattle.cell_wire.specs.CellBytes.{spell_cell, spell_content, spell_position, FitsCell, FitsContent, FitsPosition, IsKnownCell};
+ghost use Rattle.cell_wire.specs.CellBytes.{spell_array, spell_cell, spell_content, spell_position, FitsArray, FitsCell, FitsContent, FitsPosition, IsKnownCell};
 
 use crate::codes::{border_code, horizontal_code, theme_code, vertical_code};
 use crate::parts::{AlignmentPart, BorderItemPart};
@@ -13,6 +14,7 @@ use base_decimal::Decimal;
 use base_styles::{Alignment, Border, BorderItem, Color, Font, Style};
 use base_values::{Position, Text};
 use base_wire::{Part, boolean_code};
+use formula_tree::Node;
 use formula_wire::push_node;
 use sheet_grid::{Cell, Content};
 use std::alloc::AllocError;
@@ -89,6 +91,15 @@ pub(crate) fn put_position(out: &mut Vec<u8>, place: Position) -> Result<(), All
     out.extend_from_slice(&place.column.to_be_bytes())
 }
 
+fn put_array(out: &mut Vec<u8>, tree: &Node, width: i32, height: i32) -> Result<(), AllocError>
+    ensures spelled { OnOk result (out.new.items ≡ out.old.items ++ spell_array tree.now width height) }
+    ensures fits { OnOk result (IsKnownNode tree.now → FitsArray tree.now width height) }
+{
+    push_node(out, tree)?;
+    out.extend_from_slice(&width.to_be_bytes())?;
+    out.extend_from_slice(&height.to_be_bytes())
+}
+
 fn put_content(out: &mut Vec<u8>, content: &Content) -> Result<(), AllocError>
     ensures spelled { OnOk result (out.new.items ≡ out.old.items ++ spell_content content.now) }
     ensures fits { OnOk result (IsKeptContent content.now → IsTrue (is_shallow content.now) → FitsContent content.now) }
@@ -118,6 +129,14 @@ fn put_content(out: &mut Vec<u8>, content: &Content) -> Result<(), AllocError>
         Content::Dynamic(tree) => {
             out.push(6)?;
             push_node(out, tree.get())?;
+        }
+        Content::Array {
+            tree,
+            width,
+            height,
+        } => {
+            out.push(7)?;
+            put_array(out, tree.get(), *width, *height)?;
         }
     }
     Ok(())

@@ -1,10 +1,11 @@
 -- The bytes of what line edits keep of a workbook.
-use Rattle.std.specs.Prelude.{◌≡◌, ℤ, false, List, ◌∷◌, ◌++◌, ℕ, IfSome, FitsSigned}
+use Rattle.std.specs.Prelude.{◌≡◌, ℤ, false, List, ◌++◌, ℕ, Option, IfSome, FitsSigned}
 use Rattle.std.specs.Int.{w32, w64, to_be_bytes}
 use Rattle.std.specs.Ordering.{int_cmp}
 use Rattle.std.specs.FinMap.{FinMap, get}
 use Rattle.base_values.specs.declared.Position.{Position}
 use Rattle.base_values.specs.Places.{position_cmp}
+use Rattle.base_axis.specs.declared.MergedCell.{MergedCell}
 use Rattle.base_maps.specs.declared.SheetPlace.{SheetPlace}
 use Rattle.base_maps.specs.SheetPlaces.{sheet_place_cmp}
 use Rattle.formula_tree.specs.declared.Node.{Node}
@@ -13,13 +14,15 @@ use Rattle.sheet_grid.specs.declared.Cell.{Cell}
 use Rattle.sheet_grid.specs.declared.Link.{Link}
 use Rattle.sheet_grid.specs.declared.LineAttr.{LineAttr}
 use Rattle.sheet_lines.specs.declared.KeptLines.{KeptLines}
-use Rattle.base_wire.specs.Reading.{Reader, plain, map_at, ◌⊗◌, signed_at, after}
-use Rattle.base_wire.specs.Spelling.{spell_signed}
+use Rattle.base_wire.specs.Reading.{Reader, plain, map_at, ◌⊗◌, signed_at, option_at, after}
+use Rattle.base_wire.specs.Spelling.{spell_signed, spell_option}
 use Rattle.formula_wire.specs.NodeBytes.{spell_node, node_at}
 use Rattle.formula_wire.specs.Carried.{FitsNode, IsKnownNode}
 use Rattle.cell_wire.specs.CellBytes.{spell_position, position_at, FitsPosition, spell_cell, cell_at, FitsCell, IsKnownCell}
+use Rattle.cell_wire.specs.LinkBytes.{spell_link, link_at, FitsLink}
+use Rattle.cell_wire.specs.MergeBytes.{spell_merges, merges_at, FitsMerges}
 use Rattle.lines_wire.specs.MapBytes.{spell_map, map_of_at, FitsMap}
-use Rattle.lines_wire.specs.PartBytes.{spell_sheet_place, sheet_place_at, FitsSheetPlace, spell_link, link_at, FitsLink, spell_line, line_at, FitsLine}
+use Rattle.lines_wire.specs.PartBytes.{spell_sheet_place, sheet_place_at, FitsSheetPlace, spell_line, line_at, FitsLine}
 
 -- ---- maps
 
@@ -37,21 +40,26 @@ formulas_at = map_of_at sheet_place_cmp (λ m. m) sheet_place_at node_at
 
 -- ---- what line edits keep
 
--- no areas of merged cells from before, and no rules
-abbrev pub nothing_more : List ℕ
-nothing_more = 0 ∷ to_be_bytes w64 0
+-- the merges from before, where the way back does not give them
+unfoldable pub kept_merges_at : Reader (Option (List MergedCell))
+kept_merges_at = option_at merges_at
 
--- cells, links, lines, the trees of formulas, and nothing more
+-- no rules
+abbrev pub no_rules : List ℕ
+no_rules = to_be_bytes w64 0
+
+-- cells, links, lines, the trees of formulas, merges, and no rules
 unfoldable pub spell_kept : KeptLines → List ℕ
 spell_kept kept =
     spell_map spell_position spell_cell kept.cells ++ (spell_map spell_position spell_link kept.links
-    ++ (spell_map (spell_signed w32) spell_line kept.lines ++ (spell_map spell_sheet_place spell_node kept.formulas ++ nothing_more)))
+    ++ (spell_map (spell_signed w32) spell_line kept.lines ++ (spell_map spell_sheet_place spell_node kept.formulas
+    ++ (spell_option spell_merges kept.merges ++ no_rules))))
 
-abbrev pub kept_made : FinMap position_cmp Cell × (FinMap position_cmp Link × (FinMap int_cmp LineAttr × (FinMap sheet_place_cmp Node × Unit {0}))) → KeptLines
-kept_made x = record { cells = x.0; links = x.1.0; lines = x.1.1.0; formulas = x.1.1.1.0 }
+abbrev pub kept_made : FinMap position_cmp Cell × (FinMap position_cmp Link × (FinMap int_cmp LineAttr × (FinMap sheet_place_cmp Node × (Option (List MergedCell) × Unit {0})))) → KeptLines
+kept_made x = record { cells = x.0; links = x.1.0; lines = x.1.1.0; formulas = x.1.1.1.0; merges = x.1.1.1.1.0 }
 
 unfoldable pub kept_at : Reader KeptLines
-kept_at = map_at kept_made (cells_at ⊗ links_at ⊗ lines_at ⊗ formulas_at ⊗ after nothing_more (plain tt))
+kept_at = map_at kept_made (cells_at ⊗ links_at ⊗ lines_at ⊗ formulas_at ⊗ kept_merges_at ⊗ after no_rules (plain tt))
 
 -- what line edits keep, as bytes can carry it
 pub record FitsKept (kept : KeptLines) : Type 0 where
@@ -59,6 +67,7 @@ pub record FitsKept (kept : KeptLines) : Type 0 where
   pub links : FitsMap FitsPosition FitsLink kept.links
   pub lines : FitsMap (FitsSigned w32) FitsLine kept.lines
   pub formulas : FitsMap FitsSheetPlace FitsNode kept.formulas
+  pub merges : IfSome kept.merges FitsMerges
 
 -- what writing asks: numbers are kept, trees are at most 64 deep, and each line has something of its own
 pub record IsKnownKept (kept : KeptLines) : Type 0 where

@@ -1,15 +1,14 @@
--- The bytes of places of a workbook, of links, and of what lines have of their own.
+-- The bytes of places of a workbook, and of what lines have of their own.
 use Rattle.std.specs.Prelude.{◌≡◌, ℕ, ℤ, ◌<◌, ◌^◌, Bool, false, not, List, ◌++◌, Option, IfSome, FitsSigned}
 use Rattle.std.specs.Int.{w32, to_be_bytes}
 use Rattle.base_values.specs.declared.Position.{Position}
 use Rattle.base_maps.specs.declared.SheetPlace.{SheetPlace}
 use Rattle.base_styles.specs.declared.Style.{Style}
 use Rattle.sheet_grid.specs.Lines.{is_plain}
-use Rattle.sheet_grid.specs.declared.Link.{Link}
 use Rattle.sheet_grid.specs.declared.LineAttr.{LineAttr}
 use Rattle.base_wire.specs.Parts.{boolean_at}
-use Rattle.base_wire.specs.Reading.{Reader, map_at, ◌⊗◌, check_at, number_at, signed_at, text_at, option_at}
-use Rattle.base_wire.specs.Spelling.{spell_signed, spell_code, boolean_code, spell_text, spell_option, FitsText}
+use Rattle.base_wire.specs.Reading.{Reader, map_at, ◌⊗◌, check_at, number_at, signed_at, option_at}
+use Rattle.base_wire.specs.Spelling.{spell_signed, spell_code, boolean_code, spell_option}
 use Rattle.cell_wire.specs.CellBytes.{spell_position, position_at, FitsPosition}
 use Rattle.cell_wire.specs.StyleBytes.{spell_style, style_at, FitsStyle}
 
@@ -28,21 +27,6 @@ sheet_place_at = map_at sheet_place_made (number_at w32 ⊗ position_at)
 pub record FitsSheetPlace (at : SheetPlace) : Type 0 where
   pub sheet : at.sheet < 2 ^ 32
   pub place : FitsPosition at.place
-
--- ---- links
-
--- where it leads
-abbrev pub spell_link : Link → List ℕ
-spell_link link = spell_text link.target
-
-abbrev pub link_made : List ℕ → Link
-link_made text = record { target = text }
-
-unfoldable pub link_at : Reader Link
-link_at = map_at link_made text_at
-
-abbrev pub FitsLink : Link → Type 0
-FitsLink link = FitsText link.target
 
 -- ---- lines
 

@@ -1,19 +1,22 @@
 //! What line edits keep of a workbook, as bytes and from them.
 
-ghost use Rattle.std.specs.Prelude.{◌≡◌, ◌++◌, OnOk};
+ghost use Rattle.std.specs.Prelude.{◌≡◌, ◌++◌, IfSome, OnOk};
 ghost use Rattle.base_values.specs.Answers.{Answers, map_ok};
 ghost use Rattle.base_wire.specs.Reading.{rest_after};
-ghost use Rattle.lines_wire.specs.KeptBytes.{kept_at, nothing_more, spell_kept, FitsKept, IsKnownKept};
+ghost use Rattle.base_wire.specs.Spelling.{spell_option};
+ghost use Rattle.cell_wire.specs.MergeBytes.{spell_merges, FitsMerges};
+ghost use Rattle.lines_wire.specs.KeptBytes.{kept_at, no_rules, spell_kept, FitsKept, IsKnownKept};
 
 use crate::maps::MapPart;
 use crate::reading::read;
-use crate::values::{LinePart, LinkPart, SheetPlacePart};
+use crate::values::{LinePart, SheetPlacePart};
+use base_axis::MergeList;
 use base_maps::{NumberMap, PositionMap, SheetPlaceMap};
 use base_shared::Shared;
 use base_styles::Style;
 use base_values::EditError;
 use base_wire::Part;
-use cell_wire::{CellPart, PositionPart};
+use cell_wire::{CellPart, LinkPart, MergeListPart, PositionPart};
 use formula_tree::Node;
 use formula_wire::NodePart;
 use sheet_grid::{Cell, LineAttr, Link};
@@ -28,6 +31,14 @@ type LinesPart = MapPart<NumberMap<LineAttr>, i32, LinePart>;
 
 type FormulasPart = MapPart<SheetPlaceMap<Shared<Node>>, SheetPlacePart, Shared<NodePart>>;
 
+#[tactic(auto, using(crate::proofs::Known::any_option))]
+fn put_kept_merges(out: &mut Vec<u8>, merges: &Option<MergeList>) -> Result<(), AllocError>
+    ensures spelled { OnOk result (out.new.items ≡ out.old.items ++ spell_option spell_merges merges.now) }
+    ensures fits { OnOk result (IfSome merges.now FitsMerges) }
+{
+    Option::<MergeListPart>::put(out, merges)
+}
+
 #[tactic(auto, unfolding(crate::specs::KeptBytes::spell_kept))]
 fn put_kept(out: &mut Vec<u8>, kept: &KeptLines) -> Result<(), AllocError>
     ensures spelled { OnOk result (out.new.items ≡ out.old.items ++ spell_kept kept.now) }
@@ -37,21 +48,22 @@ fn put_kept(out: &mut Vec<u8>, kept: &KeptLines) -> Result<(), AllocError>
     LinksPart::put(out, &kept.links)?;
     LinesPart::put(out, &kept.lines)?;
     FormulasPart::put(out, &kept.formulas)?;
-    out.extend_from_slice(&[0; 9])?;
+    put_kept_merges(out, &kept.merges)?;
+    out.extend_from_slice(&[0; 8])?;
     Ok(())
 }
 
-/// What stands after the bytes of no merged cells and no rules.
-fn after_nothing_more(bytes: &[u8]) -> Result<&[u8], EditError>
-    ensures { Answers (map_ok (λ x. x.now) result) (rest_after nothing_more bytes.now) }
+/// What stands after the bytes of no rules.
+fn after_no_rules(bytes: &[u8]) -> Result<&[u8], EditError>
+    ensures { Answers (map_ok (λ x. x.now) result) (rest_after no_rules bytes.now) }
 {
-    match bytes.strip_prefix([0; 9].as_slice()) {
+    match bytes.strip_prefix([0; 8].as_slice()) {
         Some(rest) => Ok(rest),
         None => Err(EditError::ParseDiffs),
     }
 }
 
-#[tactic(auto, unfolding(crate::specs::KeptBytes::kept_at, crate::specs::KeptBytes::cells_at, crate::specs::KeptBytes::links_at, crate::specs::KeptBytes::lines_at, crate::specs::KeptBytes::formulas_at))]
+#[tactic(auto, unfolding(crate::specs::KeptBytes::kept_at, crate::specs::KeptBytes::cells_at, crate::specs::KeptBytes::links_at, crate::specs::KeptBytes::lines_at, crate::specs::KeptBytes::formulas_at, crate::specs::KeptBytes::kept_merges_at))]
 fn kept_at<'a>(
     alloc: Global,
     plain: &Shared<Style>,
@@ -63,17 +75,19 @@ fn kept_at<'a>(
     let (links, rest) = read::<LinksPart>(alloc, &(), rest)?;
     let (lines, rest) = read::<LinesPart>(alloc, plain, rest)?;
     let (formulas, rest) = read::<FormulasPart>(alloc, &(), rest)?;
-    let rest = after_nothing_more(rest)?;
+    let (merges, rest) = read::<Option<MergeListPart>>(alloc, &(), rest)?;
+    let rest = after_no_rules(rest)?;
     let kept = KeptLines {
         cells,
         links,
         lines,
         formulas,
+        merges,
     };
     Ok((kept, rest))
 }
 
-/// What a line edit keeps: its cells, links, lines and trees (docs/FORMATS.md, "What line edits keep").
+/// What a line edit keeps: its cells, links, lines, trees and merges (docs/FORMATS.md, "What line edits keep").
 ///
 /// Bytes spell none where a map's keys don't rise strictly, where a line has nothing of its own, or
 /// where a part is none. Each style that is read and equal to that of the context shares it.

@@ -8,13 +8,14 @@ use std::test::*;
 
 /// Each map with one entry: the number 1 in the default style at row 2 and column 3, a link to `a`
 /// there, line 2 of size 40 that is hidden, and on the sheet of id 7 the tree `TRUE` of row 1 and
-/// column 1.
-const ONE_OF_EACH: [u8; 139] = [
+/// column 1. Then one merge, at row 2 and column 3, which is 4 wide and -1 high.
+const ONE_OF_EACH: [u8; 163] = [
     0, 0, 0, 0, 0, 0, 0, 1, 0, 0, 0, 2, 0, 0, 0, 3, 1, 0, 0, 0, 0, 0, 0, 0, 0, 0, 0, 0, 0, 0, 0, 0,
     1, 0, 0, 0, 0, 0, 0, 0, 0, 13, 0, 0, 0, 0, 0, 0, 0, 0, 0, 0, 0, 0, 0, 7, 103, 101, 110, 101,
     114, 97, 108, 0, 0, 0, 0, 0, 0, 0, 0, 1, 0, 0, 0, 2, 0, 0, 0, 3, 0, 0, 0, 0, 0, 0, 0, 1, 97, 0,
     0, 0, 0, 0, 0, 0, 1, 0, 0, 0, 2, 1, 0, 0, 0, 40, 0, 1, 0, 0, 0, 0, 0, 0, 0, 1, 0, 0, 0, 7, 0,
-    0, 0, 1, 0, 0, 0, 1, 0, 1, 0, 0, 0, 0, 0, 0, 0, 0, 0,
+    0, 0, 1, 0, 0, 0, 1, 0, 1, 1, 0, 0, 0, 0, 0, 0, 0, 1, 0, 0, 0, 2, 0, 0, 0, 3, 0, 0, 0, 4, 255,
+    255, 255, 255, 0, 0, 0, 0, 0, 0, 0, 0,
 ];
 
 /// Nothing but two lines, 2 and 3, that are hidden.
@@ -24,15 +25,16 @@ const TWO_LINES: [u8; 55] = [
 ];
 
 /// Bytes that are put in the place of those of `TWO_LINES`, where they stand.
-const DAMAGES: [(usize, u8); 5] = [
+const DAMAGES: [(usize, u8); 6] = [
     // Line 2 twice.
     (34, 2),
     // Line 1 behind line 2.
     (34, 1),
     // A line that has nothing of its own.
     (30, 0),
-    // Merged cells, and a rule.
+    // A list of merges in place of its absence, no option, and a rule.
     (46, 1),
+    (46, 2),
     (54, 1),
 ];
 

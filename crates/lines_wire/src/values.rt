@@ -1,16 +1,16 @@
-//! Places of a workbook, links, and what lines have of their own, as parts of formats.
+//! Places of a workbook, and what lines have of their own, as parts of formats.
 
 ghost use Rattle.base_values.specs.Answers.{Answers, map_ok};
-ghost use Rattle.lines_wire.specs.PartBytes.{line_at, link_at, sheet_place_at};
+ghost use Rattle.lines_wire.specs.PartBytes.{line_at, sheet_place_at};
 
 use crate::reading::read;
 use base_maps::SheetPlace;
 use base_shared::Shared;
 use base_styles::Style;
-use base_values::{EditError, Text};
+use base_values::EditError;
 use base_wire::Part;
 use cell_wire::{PositionPart, StylePart};
-use sheet_grid::{LineAttr, Link};
+use sheet_grid::LineAttr;
 use std::alloc::{AllocError, Global};
 
 #[tactic(auto, unfolding(crate::specs::PartBytes::sheet_place_at))]
@@ -20,14 +20,6 @@ fn sheet_place_at(alloc: Global, bytes: &[u8]) -> Result<(SheetPlace, &[u8]), Ed
     let (sheet, rest) = read::<u32>(alloc, &(), bytes)?;
     let (place, rest) = read::<PositionPart>(alloc, &(), rest)?;
     Ok((SheetPlace { sheet, place }, rest))
-}
-
-#[tactic(auto, unfolding(crate::specs::PartBytes::link_at))]
-fn link_at(alloc: Global, bytes: &[u8]) -> Result<(Link, &[u8]), EditError>
-    ensures { Answers (map_ok (λ x. (x.0, x.1.now)) result) (link_at bytes.now) }
-{
-    let (target, rest) = read::<Text>(alloc, &(), bytes)?;
-    Ok((Link { target }, rest))
 }
 
 /// A line that has something of its own.
@@ -55,9 +47,6 @@ fn line_at<'a>(
 
 /// The id of a sheet, and a position, inside the sheet or not.
 pub(crate) struct SheetPlacePart;
-
-/// A link: where it leads.
-pub(crate) struct LinkPart;
 
 /// What a line has of its own.
 pub(crate) struct LinePart;
@@ -96,41 +85,6 @@ impl Part for SheetPlacePart {
     ghost format = { sheet_place_format };
 
     ghost some = { sheet_place_some };
-}
-
-impl Part for LinkPart {
-    ghost use Rattle.std.proofs.Common.{arith};
-    ghost use Rattle.base_wire.specs.Spelling.{Any};
-    ghost use Rattle.lines_wire.specs.PartBytes.{spell_link, link_at, FitsLink};
-    ghost use Rattle.lines_wire.specs.laws.PartLaws.{link_format};
-
-    type Value = Link;
-
-    type Context = ();
-
-    ghost Known = { Any };
-
-    ghost Fits = { FitsLink };
-
-    ghost spelling = { spell_link };
-
-    ghost reading = { link_at };
-
-    fn put(out: &mut Vec<u8>, value: &Link) -> Result<(), AllocError> {
-        Text::put(out, &value.target)
-    }
-
-    fn take<'a>(
-        alloc: Global,
-        _context: &(),
-        bytes: &'a [u8],
-    ) -> Result<(Link, &'a [u8]), EditError> {
-        link_at(alloc, bytes)
-    }
-
-    ghost format = { link_format };
-
-    ghost some = { λ x. Prim.omega arith };
 }
 
 impl Part for LinePart {

@@ -1,9 +1,11 @@
 -- The printed form of a workbook.
-use Rattle.std.specs.Prelude.{ℕ, ℤ, Bool, true, false, List, [], ◌∷◌, ◌++◌, Option, Some, None, codes, decimal, if◌then◌else◌}
+use Rattle.std.specs.Prelude.{ℕ, ℤ, Bool, true, false, List, [], ◌∷◌, ◌++◌, Option, Some, None, codes, decimal, if◌then◌else◌, not}
 use Rattle.std.specs.Fmt.{signed_decimal}
 use Rattle.std.specs.FinMap as fin
 use Rattle.std.specs.List.{flat_map}
 use Rattle.base_values.specs.declared.Position.{Position}
+use Rattle.base_axis.specs.declared.MergedCell.{MergedCell}
+use Rattle.base_axis.specs.Rectangles.{anchor_place, last_place, is_inside, has_many}
 use Rattle.base_tables.specs.Locale.{locale_name}
 use Rattle.base_tables.specs.Zone.{zone_name}
 use Rattle.base_styles.specs.declared.Color.{Color}
@@ -17,7 +19,7 @@ use Rattle.sheet_grid.specs.declared.Cell.{Cell}
 use Rattle.sheet_grid.specs.declared.LineAttr.{LineAttr}
 use Rattle.sheet_grid.specs.declared.Link.{Link}
 use Rattle.cell_content.specs.declared.Content.{Content}
-use Rattle.cell_content.specs.declared.Content.TheVariants.{Empty, Formula, Dynamic}
+use Rattle.cell_content.specs.declared.Content.TheVariants.{Empty, Formula, Dynamic, Array}
 use Rattle.sheet_grid.specs.declared.SheetState.{SheetState}
 use Rattle.sheet_grid.specs.declared.SheetState.TheVariants.{Visible, Hidden, VeryHidden}
 use Rattle.cell_wire.specs.StyleBytes.{theme_code, spell_style}
@@ -61,16 +63,28 @@ abbrev pub own_style_text : Option Style → List ℕ
 own_style_text None = codes "-"
 own_style_text (Some style) = hex (spell_style style)
 
--- the word before a content's text
+-- the sides of an array: how many columns wide it is, an x, and how many rows high
+abbrev pub sides_text : ℤ → ℤ → List ℕ
+sides_text width height = signed_decimal width ++ (codes "x" ++ signed_decimal height)
+
+-- the word before a content's text, and the sides of an array
 abbrev pub content_word : Content → List ℕ
 content_word (Formula tree) = codes "formula "
 content_word (Dynamic tree) = codes "dynamic "
+content_word (Array tree width height) = codes "array " ++ (sides_text width height ++ codes " ")
 content_word content = codes "value "
 
 -- the text of a content is that of English
 abbrev pub content_text : Position → Content → List ℕ
 content_text place Empty = codes "empty"
 content_text place content = content_word content ++ escaped (input_text (english place) content)
+
+-- a rectangle of places by its first and its last, or by the only one; one that does not lie inside the sheet has no name
+abbrev pub area_text : MergedCell → List ℕ
+area_text area =
+    if not (is_inside area) then codes "#REF!"
+    else if has_many area then reference_text (anchor_place area) ++ (codes ":" ++ reference_text (last_place area))
+    else reference_text (anchor_place area)
 
 -- ---- lines
 
@@ -93,17 +107,21 @@ attr_words attr = size_text attr.size ∷ flag_text attr.hidden ∷ own_style_te
 abbrev pub attr_line : List ℕ → ℤ × LineAttr → List ℕ
 attr_line word (number, attr) = line (words (word ∷ signed_decimal number ∷ attr_words attr))
 
+abbrev pub merge_line : MergedCell → List ℕ
+merge_line merge = line (words (codes "merge" ∷ area_text merge ∷ []))
+
 abbrev pub link_line : Position × Link → List ℕ
 link_line (place, link) = line (words (codes "link" ∷ reference_text place ∷ escaped link.target ∷ []))
 
--- a sheet, then its rows, its columns, its cells by row and column, and its links
+-- a sheet, then its rows, its columns, its merges in their order, its cells by row and column, and its links
 abbrev pub sheet_lines : Sheet → List ℕ
 sheet_lines sheet =
     sheet_line sheet
     ++ (flat_map (attr_line (codes "row")) (fin.entries sheet.rows)
     ++ (flat_map (attr_line (codes "column")) (fin.entries sheet.columns)
+    ++ (flat_map merge_line sheet.merges
     ++ (flat_map cell_line (fin.entries sheet.cells)
-    ++ flat_map link_line (fin.entries sheet.links))))
+    ++ flat_map link_line (fin.entries sheet.links)))))
 
 -- a workbook, then its sheets in order
 abbrev pub dump : Book → List ℕ

@@ -8,10 +8,11 @@ ghost use Rattle.base_styles.specs.DefaultStyle.{default_style};
 ghost use Rattle.cell_wire.specs.StyleBytes.{theme_code, spell_style};
 ghost use Rattle.script_lines.specs.Escapes.{escaped};
 ghost use Rattle.script_dump.specs.Text.{hex};
-ghost use Rattle.script_dump.specs.Dump.{flag_text, state_text, color_text, same_style, style_text, content_word, content_text, book_line, sheet_line, cell_line, sheet_lines, dump};
+ghost use Rattle.script_dump.specs.Dump.{flag_text, state_text, color_text, same_style, sides_text, style_text, content_word, content_text, book_line, sheet_line, cell_line, sheet_lines, dump};
 
 use crate::english::push_english;
 use crate::lines::{push_columns, push_links, push_rows};
+use crate::merges::push_merges;
 use crate::text::{push_capital_hex, push_hex, push_line, push_signed, push_unsigned, push_word};
 use base_shared::Shared;
 use base_styles::{Color, Style, ThemeColor};
@@ -107,18 +108,35 @@ fn push_style(alloc: Global, out: &mut Vec<u8>, style: &Shared<Style>) -> Result
     push_style_bytes(alloc, out, style)
 }
 
-/// The word before the text of a content that is not empty.
-fn content_word(content: &Content) -> &'static str
-    ensures { result.now ≡ content_word content.now }
+/// Writes the word of an array, and its sides.
+fn push_array_word(
+    alloc: Global,
+    out: &mut Vec<u8>,
+    width: i32,
+    height: i32,
+) -> Result<(), AllocError>
+    ensures { OnOk result (out.new.items ≡ out.old.items ++ (codes "array " ++ (sides_text width height ++ codes " "))) }
+{
+    out.extend_from_slice(b"array ")?;
+    push_signed(alloc, out, width)?;
+    out.extend_from_slice(b"x")?;
+    push_signed(alloc, out, height)?;
+    out.extend_from_slice(b" ")
+}
+
+/// Writes the word before the text of a content that is not empty.
+fn push_content_word(alloc: Global, out: &mut Vec<u8>, content: &Content) -> Result<(), AllocError>
+    ensures { OnOk result (out.new.items ≡ out.old.items ++ content_word content.now) }
 {
     match content {
-        Content::Formula(_) => "formula ",
-        Content::Dynamic(_) => "dynamic ",
-        Content::Empty => "value ",
-        Content::Number(_) => "value ",
-        Content::Boolean(_) => "value ",
-        Content::Error(_) => "value ",
-        Content::Text(_) => "value ",
+        Content::Formula(_) => out.extend_from_slice(b"formula "),
+        Content::Dynamic(_) => out.extend_from_slice(b"dynamic "),
+        Content::Array { width, height, .. } => push_array_word(alloc, out, *width, *height),
+        Content::Empty => out.extend_from_slice(b"value "),
+        Content::Number(_) => out.extend_from_slice(b"value "),
+        Content::Boolean(_) => out.extend_from_slice(b"value "),
+        Content::Error(_) => out.extend_from_slice(b"value "),
+        Content::Text(_) => out.extend_from_slice(b"value "),
     }
 }
 
@@ -136,7 +154,7 @@ fn push_content(
         out.extend_from_slice(b"empty")?;
         return Ok(());
     }
-    out.extend_from_slice(content_word(content).as_bytes())?;
+    push_content_word(*scratch.allocator(), out, content)?;
     push_english(out, scratch, place, content)
 }
 
@@ -237,6 +255,7 @@ fn push_sheet(alloc: Global, out: &mut Vec<u8>, sheet: &Worksheet) -> Result<(),
     push_sheet_line(alloc, out, sheet)?;
     push_rows(alloc, out, sheet)?;
     push_columns(alloc, out, sheet)?;
+    push_merges(alloc, out, sheet)?;
     push_cells(alloc, out, sheet)?;
     push_links(alloc, out, sheet)
 }
@@ -253,7 +272,7 @@ fn push_book_line(out: &mut Vec<u8>, workbook: &Workbook) -> Result<(), AllocErr
 }
 
 /// Writes the printed form of a workbook at the end: a line for the workbook, for each sheet a line
-/// and lines for its rows, columns, cells and links, and last a line `end`. Texts are escaped,
+/// and lines for its rows, columns, merges, cells and links, and last a line `end`. Texts are escaped,
 /// contents are printed in English, and styles are their bytes in hexadecimal. docs/SCRIPT.md has
 /// the lines.
 ///

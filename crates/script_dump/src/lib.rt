@@ -9,6 +9,7 @@
 mod dump;
 mod english;
 mod lines;
+mod merges;
 mod text;
 
 pub use dump::push_dump;

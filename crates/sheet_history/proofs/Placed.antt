@@ -1,11 +1,17 @@
--- Corners of formulas lie inside the sheet: in a well-formed workbook, and where a cell that fits is put.
-use Rattle.std.proofs.Common.{◌≡◌, ℕ, zero, suc, Bool, true, false, cond, List, [], ◌∷◌, Option, Some, None, Ok, refl, ap, sym, subst, ◌∙◌}
-use Rattle.std.specs.Prelude.{IsTrue, IfSome, slice_set, slice_get}
+-- Corners of formulas lie inside the sheet: in a well-formed workbook, and where an entry that fits is put.
+use Rattle.std.proofs.Common.{◌≡◌, ℕ, Bool, true, false, cond, ◌&&◌, List, [], ◌∷◌, Option, Some, None, Result, Ok, Err, refl, ap, sym, subst, ◌∙◌}
+use Rattle.std.specs.Prelude.{IfSome, OnOk, ◌==◌, is_some}
 use Rattle.std.specs.List.{AllByRecursion, list_all}
 use Rattle.std.specs.Option.{option_map_or}
 use Rattle.std.specs.Ordering.{eq_by_cmp}
 use Rattle.std.specs.FinMap.{get}
+use Rattle.std.proofs.lemmas.List.Elements.{All-from_recursion}
+use Rattle.base_axis.specs.declared.MergedCell.{MergedCell}
+use Rattle.base_axis.specs.Rectangles.{IsInside, is_inside}
+use Rattle.base_axis.specs.laws.RectangleLaws.{inside_found}
+use Rattle.base_values.specs.declared.EditError.{EditError}
 use Rattle.base_values.specs.declared.Position.{Position}
+use Rattle.base_values.specs.Answers.{Edits}
 use Rattle.base_values.specs.Places.{position_cmp}
 use Rattle.base_values.specs.laws.KeyMap.{get-with_entry}
 use Rattle.base_values.specs.laws.Places.{position_total, exact_positions}
@@ -20,11 +26,17 @@ use Rattle.sheet_grid.specs.Sheet.{Sheet, with_cell}
 use Rattle.sheet_grid.specs.Book.{Book}
 use Rattle.sheet_rules.specs.laws.EntryLaws.{both}
 use Rattle.sheet_rules.specs.laws.WellFormedLaws.{well_formed_parts, cells_fit_from_trees}
-use Rattle.sheet_rules.specs.WellFormed.{have_trees, IsWellFormed}
-use Rattle.sheet_lines.specs.Sheets.{IsPlacedCell, IsPlacedSheet, IsPlacedBook}
+use Rattle.line_map.specs.Merges.{MergesLie}
+use Rattle.sheet_rules.specs.Occupied.{have_merges}
+use Rattle.sheet_rules.specs.WellFormed.{is_place, have_trees, IsWellFormed}
+use Rattle.sheet_lines.specs.Sheets.{IsPlacedCell, IsPlacedSheet, IsPlacedBook, sheet_of}
+use Rattle.sheet_history.specs.Entries.{EntryKey, EntryValue, cell_stands_at, value_fits, sheet_id_of, with_sheet_entry, with_changed, put_entry, accepts}
+use Rattle.sheet_history.specs.Entries.EntryKey.{CellKey, LinkKey, MergesKey}
+use Rattle.sheet_history.specs.Entries.EntryValue.{CellValue, LinkValue, MergesValue}
 use Rattle.sheet_history.specs.Diffs.{put_in}
-use Rattle.sheet_history.specs.laws.RuleLaws.{holds-by_id}
-use Rattle.sheet_history.specs.laws.TestedLaws.{put_in-done, fits_there}
+use Rattle.sheet_history.specs.laws.EntryLaws.{decide}
+use Rattle.sheet_history.specs.laws.SoundEntries.{sheet_merges_inside}
+use Rattle.sheet_history.specs.laws.TestedLaws.{put_in-done}
 
 -- of a tree that fits
 pub placed_tree : (place : Position) (tree : Node) → tree_fits_at place tree ≡ true → is_placed place tree ≡ true
@@ -39,37 +51,68 @@ placed_cell place cell fits = go (tree_of cell.content) fits
     go None fits = tt
     go (Some tree) fits = placed_tree place tree fits
 
-placed_sheet : (sheet : Sheet) → have_trees sheet ≡ true → IsPlacedSheet sheet
-placed_sheet sheet trees place cell found = placed_cell place cell (sym (ap (entry_fits_at place) found) ∙ cells_fit_from_trees sheet trees place)
+each_inside : (merges : List MergedCell) → list_all is_inside merges ≡ true → AllByRecursion IsInside merges
+each_inside [] all = tt
+each_inside (merge ∷ merges) all = let parts = both (is_inside merge) (list_all is_inside merges) all in (inside_found merge parts.0, each_inside merges parts.1)
 
-placed_sheets : (sheets : List Sheet) → list_all have_trees sheets ≡ true → AllByRecursion IsPlacedSheet sheets
-placed_sheets [] trees = tt
-placed_sheets (sheet ∷ sheets) trees = let parts = both (have_trees sheet) (list_all have_trees sheets) trees in (placed_sheet sheet parts.0, placed_sheets sheets parts.1)
+-- of merges that pass the test
+pub merges_lie : (merges : List MergedCell) → list_all is_inside merges ≡ true → MergesLie merges
+merges_lie merges all = All-from_recursion IsInside merges (each_inside merges all)
+
+placed_sheet : (sheet : Sheet) → have_trees sheet ≡ true → have_merges sheet ≡ true → IsPlacedSheet sheet
+placed_sheet sheet trees merges = record {
+  cells = λ place cell found. placed_cell place cell (sym (ap (entry_fits_at place) found) ∙ cells_fit_from_trees sheet trees place);
+  merges = merges_lie sheet.merges (sheet_merges_inside sheet merges);
+}
+
+placed_sheets : (sheets : List Sheet) → list_all have_trees sheets ≡ true → list_all have_merges sheets ≡ true → AllByRecursion IsPlacedSheet sheets
+placed_sheets [] trees merges = tt
+placed_sheets (sheet ∷ sheets) trees merges =
+    let own = both (have_trees sheet) (list_all have_trees sheets) trees in
+    let apart = both (have_merges sheet) (list_all have_merges sheets) merges in
+    (placed_sheet sheet own.0 apart.0, placed_sheets sheets own.1 apart.1)
 
 -- of a well-formed workbook
 pub placed_by_rules : (book : Book) → IsWellFormed book → IsPlacedBook book
-placed_by_rules book rules = placed_sheets book.worksheets (well_formed_parts book rules).trees
+placed_by_rules book rules = let parts = well_formed_parts book rules in placed_sheets book.worksheets parts.trees parts.merges
 
-placed-put : (sheet : Sheet) (place : Position) (entry : Option Cell) → IsTrue (entry_fits_at place entry) → IsPlacedSheet sheet → IsPlacedSheet (with_cell sheet place entry)
-placed-put sheet place entry fits all q cell found = go (eq_by_cmp position_cmp q place) refl (sym (get-with_entry position_total sheet.cells place entry q) ∙ found)
+placed-put : (sheet : Sheet) (place : Position) (entry : Option Cell) → entry_fits_at place entry ≡ true → IsPlacedSheet sheet → IsPlacedSheet (with_cell sheet place entry)
+placed-put sheet place entry fits all = record {
+  cells = λ q cell found. go q cell (eq_by_cmp position_cmp q place) refl (sym (get-with_entry position_total sheet.cells place entry q) ∙ found);
+  merges = all.merges;
+}
   where
-    go : (b : Bool) → eq_by_cmp position_cmp q place ≡ b → cond b entry (get sheet.cells q) ≡ Some cell → IsPlacedCell q cell
-    go true same it = placed_cell q cell (sym (λ i. entry_fits_at (sym (one_key position_cmp position_total exact_positions q place same) i) (it i)) ∙ fits)
-    go false other it = all q cell it
+    go : (q : Position) (cell : Cell) (b : Bool) → eq_by_cmp position_cmp q place ≡ b → cond b entry (get sheet.cells q) ≡ Some cell → IsPlacedCell q cell
+    go q cell true same it = placed_cell q cell (sym (λ i. entry_fits_at (sym (one_key position_cmp position_total exact_positions q place same) i) (it i)) ∙ fits)
+    go q cell false other it = all.cells q cell it
 
-each_set : {X : Type 0} (P : X → Type 0) (xs : List X) (i : ℕ) (y : X) → P y → AllByRecursion P xs → AllByRecursion P (slice_set xs i y)
-each_set P [] i y here all = tt
-each_set P (x ∷ xs) zero y here all = (here, all.1)
-each_set P (x ∷ xs) (suc i) y here all = (all.0, each_set P xs i y here all.1)
+fits_there : (place : Position) (entry : Option Cell) → cell_stands_at place entry ≡ true → entry_fits_at place entry ≡ true
+fits_there place None fits = refl
+fits_there place (Some cell) fits = (both _ _ fits).0
 
-each_get : {X : Type 0} (P : X → Type 0) (xs : List X) (i : ℕ) (x : X) → slice_get xs i ≡ Some x → AllByRecursion P xs → P x
-each_get P [] i x found all = absurd (cc)
-each_get P (y ∷ xs) zero x found all = let it : y ≡ x = cc in subst P it all.0
-each_get P (y ∷ xs) (suc i) x found all = each_get P xs i x found all.1
+-- of a sheet with an entry that fits
+placed_entry : (s : Sheet) (k : EntryKey) (v : EntryValue) → value_fits k v ≡ true → IsPlacedSheet s → IsPlacedSheet (with_sheet_entry k v s)
+placed_entry s (CellKey id place) (CellValue entry) fits all = placed-put s place entry (fits_there place entry (both (is_place place) (cell_stands_at place entry) fits).1) all
+placed_entry s (LinkKey id place) (LinkValue entry) fits all = record { cells = all.cells; merges = all.merges }
+placed_entry s (MergesKey id) (MergesValue merges) fits all = record { cells = all.cells; merges = merges_lie merges fits }
+placed_entry s _ _ fits all = absurd (let never : false ≡ true = fits in cc)
 
--- of a workbook in which a cell is put
-pub put_in-placed : (at : ℕ) (book : Book) (id : ℕ) (place : Position) (entry : Option Cell) (next : Book) → IsPlacedBook book → put_in at book id place entry ≡ Ok next → IsPlacedBook next
-put_in-placed at book id place entry next all is =
-    let done = put_in-done at book id place entry next is in
-    holds-by_id book place.row place.column entry IsPlacedBook (λ index sheet there found named.
-    each_set IsPlacedSheet book.worksheets index (with_cell sheet there entry) (placed-put sheet there entry (fits_there place entry done.0 there named) (each_get IsPlacedSheet book.worksheets index sheet found all)) all) next id done.1
+each_changed : (P : Sheet → Type 0) (f : Sheet → Sheet) → ((s : Sheet) → P s → P (f s)) → (id : ℕ) (ss : List Sheet) → AllByRecursion P ss → AllByRecursion P (with_changed id f ss)
+each_changed P f keeps id [] all = tt
+each_changed P f keeps id (s ∷ ss) all =
+    decide (s.id == id)
+    (λ hit. subst (λ b. AllByRecursion P (cond b (f s ∷ ss) (s ∷ with_changed id f ss))) (sym hit) (keeps s all.0, all.1))
+    (λ miss. subst (λ b. AllByRecursion P (cond b (f s ∷ ss) (s ∷ with_changed id f ss))) (sym miss) (all.0, each_changed P f keeps id ss all.1))
+
+-- of a workbook in which an entry is put
+pub put_in-placed : (at : ℕ) (book : Book) (k : EntryKey) (v : EntryValue) (next : Book) → IsPlacedBook book → put_in at book k v ≡ Ok next → IsPlacedBook next
+unfolding accepts put_entry
+put_in-placed at book k v next all is =
+    let done = put_in-done at book k v next is in
+    let fits = (both (is_some (sheet_of book (sheet_id_of k))) (value_fits k v) done.0).1 in
+    subst IsPlacedBook done.1 (each_changed IsPlacedSheet (with_sheet_entry k v) (λ s placed. placed_entry s k v fits placed) (sheet_id_of k) book.worksheets all)
+
+-- so it is after a call that puts one
+pub edit_placed : (at : ℕ) (book : Book) (k : EntryKey) (v : EntryValue) (next : Book) (result : Result (Unit {0}) EditError) → IsPlacedBook book → Edits result book next (put_in at book k v) → OnOk result (IsPlacedBook next)
+edit_placed at book k v next (Ok done) all edits = put_in-placed at book k v next all edits.done
+edit_placed at book k v next (Err error) all edits = tt

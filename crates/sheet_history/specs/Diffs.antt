@@ -3,38 +3,42 @@ use Rattle.std.proofs.Common.{◌≡◌, ◌≢◌, ℕ, ◌+◌, List, [], ◌�
 use Rattle.std.specs.Prelude.{IfSome, IfErr, OnOk, All, if◌then◌else◌}
 use Rattle.base_values.specs.declared.EditError.{EditError}
 use Rattle.base_values.specs.declared.EditError.TheVariants.{DiffRefused, NoMemory}
-use Rattle.base_values.specs.declared.Position.{Position}
-use Rattle.base_values.specs.Answers.{and_then, ok_or, value_of}
-use Rattle.sheet_grid.specs.declared.Cell.{Cell}
-use Rattle.sheet_grid.specs.Book.{Book, edit_by_id}
-use Rattle.sheet_grid.specs.FittingCells.{entry_fits_at}
+use Rattle.base_values.specs.Answers.{and_then}
+use Rattle.sheet_grid.specs.Book.{Book}
+use Rattle.sheet_grid.specs.Sheet.{Sheet}
 use Rattle.sheet_grid.specs.KeptCell.{IsKeptCell}
-use Rattle.sheet_grid.specs.Sheet.{cell_put}
 use Rattle.sheet_rules.specs.WellFormed.{broken_rule}
 use Rattle.sheet_lines.specs.KeptNumbers.{AreKeptLines}
 use Rattle.sheet_history.specs.declared.diff.Diff.{Diff}
-use Rattle.sheet_history.specs.declared.diff.Diff.TheVariants.{Cell as CellDiff, Lines as LinesDiff}
+use Rattle.sheet_history.specs.declared.diff.Diff.TheVariants.{Cell as CellDiff, Link as LinkDiff, Merges as MergesDiff, Lines as LinesDiff}
 use Rattle.sheet_history.specs.declared.diff.DiffType.{DiffType}
 use Rattle.sheet_history.specs.declared.diff.DiffType.TheVariants.{Undo, Redo}
 use Rattle.sheet_history.specs.declared.diff.QueueDiffs.{QueueDiffs}
+use Rattle.sheet_history.specs.Entries.{EntryKey, EntryValue, value_fits, with_sheet_entry, accepts, put_entry}
+use Rattle.sheet_history.specs.Entries.EntryKey.{CellKey, LinkKey, MergesKey}
+use Rattle.sheet_history.specs.Entries.EntryValue.{CellValue, LinkValue, MergesValue}
 use Rattle.sheet_history.specs.LineDiffs.{along_of, lines_forward, lines_back}
 
--- the workbook with this cell at a place of the sheet of an id, or with none. Where no sheet has the id, the place is outside or
--- the cell may not stand there, the diff of that number is refused
-unfoldable pub put_in : ℕ → Book → ℕ → Position → Option Cell → Result Book EditError
-put_in at book id place entry =
-    if entry_fits_at place entry
-    then ok_or (DiffRefused 0 at) (value_of (edit_by_id book id (λ sheet. cell_put sheet place.row place.column entry)))
-    else Err (DiffRefused 0 at)
+-- the sheet with a value at a key. Where it may not stand there, the diff of that number is refused
+abbrev pub sheet_put : ℕ → EntryKey → EntryValue → Sheet → Result Sheet EditError
+sheet_put at key value sheet = if value_fits key value then Ok (with_sheet_entry key value sheet) else Err (DiffRefused 0 at)
+
+-- the workbook with a value at a key. Where it cannot be put there, the diff of that number is refused
+unfoldable pub put_in : ℕ → Book → EntryKey → EntryValue → Result Book EditError
+put_in at book key value = if accepts book key value then Ok (put_entry book key value) else Err (DiffRefused 0 at)
 
 -- forward puts the new value, or edits the lines
 abbrev pub step_forward : ℕ → Book → Diff → Result Book EditError
-step_forward at book (CellDiff sheet place old new) = put_in at book sheet place new
+step_forward at book (CellDiff sheet place old new) = put_in at book (CellKey sheet place) (CellValue new)
+step_forward at book (LinkDiff sheet place old new) = put_in at book (LinkKey sheet place) (LinkValue new)
+step_forward at book (MergesDiff sheet old new) = put_in at book (MergesKey sheet) (MergesValue new)
 step_forward at book (LinesDiff sheet axis edit kept) = lines_forward at (along_of axis) sheet edit kept book
 
 -- back puts the old value, or takes the lines back
 abbrev pub step_back : ℕ → Book → Diff → Result Book EditError
-step_back at book (CellDiff sheet place old new) = put_in at book sheet place old
+step_back at book (CellDiff sheet place old new) = put_in at book (CellKey sheet place) (CellValue old)
+step_back at book (LinkDiff sheet place old new) = put_in at book (LinkKey sheet place) (LinkValue old)
+step_back at book (MergesDiff sheet old new) = put_in at book (MergesKey sheet) (MergesValue old)
 step_back at book (LinesDiff sheet axis edit kept) = lines_back at (along_of axis) sheet edit kept book
 
 -- the diffs in order, where the first has the number at
@@ -114,6 +118,8 @@ pub record Replays (result : Result (Unit {0}) EditError) (old new : Book) (entr
 -- every number of what a diff holds is as a sheet keeps it
 abbrev pub IsKeptDiff : Diff → Type 0
 IsKeptDiff (CellDiff sheet place old new) = IfSome old IsKeptCell × IfSome new IsKeptCell
+IsKeptDiff (LinkDiff sheet place old new) = Unit {0}
+IsKeptDiff (MergesDiff sheet old new) = Unit {0}
 IsKeptDiff (LinesDiff sheet axis edit kept) = AreKeptLines kept
 
 abbrev pub IsKeptList : List Diff → Type 0

@@ -1,3 +1,4 @@
+pub mod Entries
 pub mod LineDiffs
 pub mod Diffs
 pub mod Depth

@@ -1,5 +1,5 @@
 -- When a diff of lines is made, and when it is taken back.
-use Rattle.std.proofs.Common.{ℕ, ℤ, ◌+ℤ◌, Bool, true, false, Option, Some, None, Result, Ok, Err}
+use Rattle.std.proofs.Common.{ℕ, ℤ, ◌+ℤ◌, Bool, true, false, List, Option, Some, None, Result, Ok, Err}
 use Rattle.std.specs.Prelude.{not, ◌&&◌, ◌==◌, is_some, is_none, int_le, int_lt, if◌then◌else◌}
 use Rattle.std.specs.List.{list_all}
 use Rattle.std.specs.declared.cmp.Ordering.{Ordering}
@@ -8,6 +8,8 @@ use Rattle.base_values.specs.declared.EditError.{EditError}
 use Rattle.base_values.specs.declared.EditError.TheVariants.{DiffRefused}
 use Rattle.base_values.specs.declared.Position.{Position}
 use Rattle.base_values.specs.Places.{is_line, position_cmp}
+use Rattle.base_axis.specs.declared.MergedCell.{MergedCell}
+use Rattle.base_axis.specs.Rectangles.{is_inside}
 use Rattle.base_axis.specs.Along.{Along, rows, columns}
 use Rattle.base_maps.specs.declared.SheetPlace.{SheetPlace}
 use Rattle.base_maps.specs.SheetPlaces.{sheet_place_cmp}
@@ -18,6 +20,7 @@ use Rattle.line_edits.specs.declared.EditKind.{EditKind}
 use Rattle.line_edits.specs.declared.EditKind.TheVariants.{Insert, Delete, Move}
 use Rattle.line_edits.specs.Edit.{image_at, is_valid, opposite_of}
 use Rattle.line_edits.specs.Moves.{place_image}
+use Rattle.sheet_grid.specs.Arrays.{array_at}
 use Rattle.sheet_grid.specs.declared.Cell.{Cell}
 use Rattle.sheet_grid.specs.Sheet.{Sheet}
 use Rattle.sheet_grid.specs.Book.{Book}
@@ -26,6 +29,7 @@ use Rattle.sheet_lines.specs.declared.KeptLines.{KeptLines}
 use Rattle.sheet_lines.specs.Sheets.{sheet_of}
 use Rattle.sheet_lines.specs.Followed.{book_followed}
 use Rattle.sheet_lines.specs.Back.{book_back}
+use Rattle.sheet_history.specs.Entries.{lies_inside}
 use Rattle.sheet_history.specs.declared.diff.LineAxis.{LineAxis}
 use Rattle.sheet_history.specs.declared.diff.LineAxis.TheVariants.{Rows, Columns}
 
@@ -65,7 +69,16 @@ unfoldable pub stand_on_lost : Along → EditKind → KeptLines → Bool
 stand_on_lost a e kept =
     (all_keys (is_lost_place a e) kept.cells && all_keys (is_lost_place a e) kept.links) && (all_keys (is_lost_line a e) kept.lines && all_keys (λ key. is_place key.place) kept.formulas)
 
--- each kept cell may stand at its place
+-- each of the kept merges, if they are there, lies inside the sheet
+abbrev pub merges_inside : Option (List MergedCell) → Bool
+merges_inside None = true
+merges_inside (Some merges) = list_all is_inside merges
+
+-- each kept cell that is an array lies inside the sheet, and so does each kept merge
+unfoldable pub lie_inside : KeptLines → Bool
+lie_inside kept = list_all (λ (entry : Position × Cell). lies_inside (array_at entry.0 entry.1.content)) (entries kept.cells) && merges_inside kept.merges
+
+-- the formula of each kept cell fits its place
 unfoldable pub cells_fit : FinMap position_cmp Cell → Bool
 cells_fit cells = list_all (λ (entry : Position × Cell). fits_at entry.0 entry.1.content) (entries cells)
 
@@ -94,12 +107,12 @@ formulas_stand a e id formulas book = list_all (λ (entry : SheetPlace × Node).
 
 -- whether an edit of the sheet of an id can be made
 abbrev pub goes_forward : Along → ℕ → EditKind → KeptLines → Book → Bool
-goes_forward a id e kept book = is_valid a.last e && is_there_inside a e (sheet_of book id) && stand_on_lost a e kept
+goes_forward a id e kept book = is_valid a.last e && is_there_inside a e (sheet_of book id) && (stand_on_lost a e kept && lie_inside kept)
 
 -- whether it can be taken back
 abbrev pub goes_back : Along → ℕ → EditKind → KeptLines → Book → Bool
 goes_back a id e kept book =
-    is_valid a.last e && is_there_inside a (opposite_of e) (sheet_of book id) && stand_on_lost a e kept && (cells_fit kept.cells && formulas_stand a e id kept.formulas book)
+    is_valid a.last e && is_there_inside a (opposite_of e) (sheet_of book id) && (stand_on_lost a e kept && lie_inside kept) && (cells_fit kept.cells && formulas_stand a e id kept.formulas book)
 
 -- the workbook with the edit made, or the diff of that number is refused
 unfoldable pub lines_forward : ℕ → Along → ℕ → EditKind → KeptLines → Book → Result Book EditError

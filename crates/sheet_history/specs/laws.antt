@@ -1,10 +1,17 @@
 pub mod DiffEquals
 pub mod Entries
+pub mod EntryLaws
+pub mod PutLaws
+pub mod ValueEquals
 pub mod KeptTrees
 pub mod LineLaws
 pub mod LineRecords
 pub mod RecordLaws
+pub mod BothWays
+pub mod OneEntry
 pub mod ReplayLaws
 pub mod RuleLaws
+pub mod OpenLaws
 pub mod TestedLaws
+pub mod SoundEntries
 pub mod HistoryEquals

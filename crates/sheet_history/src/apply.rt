@@ -1,61 +1,23 @@
-ghost use Rattle.std.specs.Prelude.{◌≡◌, IfOk, IfSome, OnOk};
+ghost use Rattle.std.specs.Prelude.{◌≡◌, IfSome, OnOk, Ok};
 ghost use Rattle.base_values.specs.Answers.{Answers, Edits};
-ghost use Rattle.sheet_grid.specs.FittingCells.{entry_fits_at};
 ghost use Rattle.sheet_grid.specs.KeptCell.{IsKeptCell};
 ghost use Rattle.line_edits.specs.declared.EditKind.{EditKind};
 ghost use Rattle.sheet_rules.specs.WellFormed.{IsWellFormed, broken_rule};
 ghost use Rattle.sheet_lines.specs.KeptNumbers.{AreKeptLines};
 ghost use Rattle.sheet_lines.specs.Sheets.{IsPlacedBook};
 ghost use Rattle.sheet_history.specs.LineDiffs.{along_of, lines_back, lines_forward};
-ghost use Rattle.sheet_history.specs.Diffs.{IsKeptDiff, IsKeptList, backed, by_rule, forwarded, made, put_in, step_back, step_forward, taken_back};
+ghost use Rattle.sheet_history.specs.Diffs.{IsKeptDiff, IsKeptList, backed, by_rule, forwarded, made, step_back, step_forward, taken_back};
 
 use crate::diff::{Diff, DiffList, LineAxis};
 use crate::line_diffs::{lines_back, lines_forward};
+use crate::put::{put_cell, put_link, put_merges};
 use base_axis::{ColumnAxis, RowAxis};
-use base_shared::Shared;
-use base_values::{EditError, Position, copy_of};
-use cell_content::fits_at;
+use base_values::{EditError, copy_of};
 use line_map::{EditKind, LineEdit};
-use sheet_grid::{Cell, Workbook};
+use sheet_grid::Workbook;
 use sheet_lines::KeptLines;
 use sheet_rules::is_well_formed;
 use std::alloc::Global;
-
-/// Whether what is put at a place, a cell or none, may stand there.
-fn entry_fits_at(place: Position, entry: &Option<Shared<Cell>>) -> bool
-    ensures { result ≡ entry_fits_at place entry.now }
-{
-    match entry {
-        Some(cell) => fits_at(place, &cell.get().content),
-        None => true,
-    }
-}
-
-/// Puts an entry at a place of the sheet of an id, where it may stand there.
-#[tactic(auto, unfolding(crate::specs::Diffs::put_in))]
-fn put_in(
-    workbook: &mut Workbook,
-    id: u32,
-    place: Position,
-    entry: &Option<Shared<Cell>>,
-    at: u64,
-) -> Result<(), EditError>
-    requires kept { IfSome entry.now IsKeptCell }
-    requires placed { IsPlacedBook workbook.old }
-    ensures edits { Edits result workbook.old workbook.new (put_in at workbook.old id place entry.now) }
-    ensures placed { OnOk result (IsPlacedBook workbook.new) }
-{
-    let refused = EditError::DiffRefused { entry: 0, diff: at };
-    if !entry_fits_at(place, entry) {
-        return Err(refused);
-    }
-    let entry = copy_of(entry)?;
-    match workbook.put_shared_cell_by_id(id, place.row, place.column, entry) {
-        Ok(()) => Ok(()),
-        Err(EditError::NoMemory) => Err(EditError::NoMemory),
-        Err(_) => Err(refused),
-    }
-}
 
 /// Makes an edit of lines along an axis, where it can be made.
 fn edit_forward(
@@ -128,7 +90,14 @@ fn apply_forward(
             position,
             old: _,
             new,
-        } => put_in(workbook, *sheet, *position, new, at),
+        } => put_cell(workbook, *sheet, *position, new, at),
+        Diff::Link {
+            sheet,
+            position,
+            old: _,
+            new,
+        } => put_link(workbook, *sheet, *position, new, at),
+        Diff::Merges { sheet, old: _, new } => put_merges(workbook, *sheet, new, at),
         Diff::Lines {
             sheet,
             axis,
@@ -151,7 +120,14 @@ fn apply_back(alloc: Global, workbook: &mut Workbook, diff: &Diff, at: u64) -> R
             position,
             old,
             new: _,
-        } => put_in(workbook, *sheet, *position, old, at),
+        } => put_cell(workbook, *sheet, *position, old, at),
+        Diff::Link {
+            sheet,
+            position,
+            old,
+            new: _,
+        } => put_link(workbook, *sheet, *position, old, at),
+        Diff::Merges { sheet, old, new: _ } => put_merges(workbook, *sheet, old, at),
         Diff::Lines {
             sheet,
             axis,

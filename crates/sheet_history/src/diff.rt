@@ -1,7 +1,8 @@
+use base_axis::MergeList;
 use base_shared::Shared;
 use base_values::{Exact, Items, Position};
 use line_map::EditKind;
-use sheet_grid::Cell;
+use sheet_grid::{Cell, Link};
 use sheet_lines::KeptLines;
 
 /// The direction of a sheet whose lines are edited.
@@ -20,6 +21,19 @@ pub enum Diff {
         position: Position,
         old: Option<Shared<Cell>>,
         new: Option<Shared<Cell>>,
+    },
+    /// The link at a position of the sheet with that id. None stands for no link.
+    Link {
+        sheet: u32,
+        position: Position,
+        old: Option<Link>,
+        new: Option<Link>,
+    },
+    /// The merges of the sheet with that id, in their order.
+    Merges {
+        sheet: u32,
+        old: MergeList,
+        new: MergeList,
     },
     /// Lines along an axis that were inserted in the sheet with that id, deleted from it or moved,
     /// and what the opposite edit does not give back.

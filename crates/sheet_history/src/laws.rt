@@ -14,6 +14,16 @@ pub fn records_are_unique()
     ensures { (earlier later : Book) (one two : List Diff) → IsRecord earlier later one → IsRecord earlier later two → one ≡ two }
 {}
 
+/// A law about records, with no work at run time: the record of two well-formed workbooks that
+/// differ in entries alone takes the earlier one to the later one, and the later one back, also
+/// where the results are tested.
+pub fn records_go_both_ways()
+    ensures made { (earlier later : Book) (list : List Diff) → IsWellFormed earlier → IsWellFormed later → IsRecord earlier later list → made earlier list ≡ Ok later }
+    ensures forwarded { (earlier later : Book) (list : List Diff) → IsWellFormed earlier → IsWellFormed later → IsRecord earlier later list → forwarded earlier list ≡ Ok later }
+    ensures taken_back { (earlier later : Book) (list : List Diff) → IsWellFormed earlier → IsWellFormed later → IsRecord earlier later list → taken_back later list ≡ Ok earlier }
+    ensures backed { (earlier later : Book) (list : List Diff) → IsWellFormed earlier → IsWellFormed later → IsRecord earlier later list → backed later list ≡ Ok earlier }
+{}
+
 /// A law about records of edits of lines, with no work at run time: the record makes the edit and
 /// takes it back, also where the results are tested.
 pub fn line_records_go_both_ways()

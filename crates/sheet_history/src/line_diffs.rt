@@ -10,14 +10,17 @@ ghost use Rattle.base_values.specs.declared.Position.{Position};
 ghost use Rattle.cell_content.specs.Fitting.{tree_fits_at};
 ghost use Rattle.line_edits.specs.Edit.{IsValid, image_at, opposite_of};
 ghost use Rattle.line_edits.specs.Moves.{place_image};
+ghost use Rattle.sheet_grid.specs.Arrays.{array_at};
+ghost use Rattle.sheet_history.specs.Entries.{lies_inside};
 ghost use Rattle.sheet_grid.specs.declared.Cell.{Cell};
 ghost use Rattle.sheet_rules.specs.WellFormed.{is_place};
 ghost use Rattle.sheet_lines.specs.Back.{ArePlacedLines, LieInside};
 ghost use Rattle.sheet_lines.specs.KeptNumbers.{AreKeptLines};
 ghost use Rattle.sheet_lines.specs.Sheets.{IsPlacedBook, sheet_of};
-ghost use Rattle.sheet_history.specs.LineDiffs.{is_pushed_past, stays_inside, is_there_inside, is_lost_place, is_lost_line, all_keys, stand_on_lost, cells_fit, is_formula, is_formula_at, goes_on, tree_stands, formulas_stand, goes_forward, goes_back, lines_forward, lines_back};
+ghost use Rattle.sheet_history.specs.LineDiffs.{is_pushed_past, stays_inside, is_there_inside, is_lost_place, is_lost_line, all_keys, stand_on_lost, lie_inside, merges_inside, cells_fit, is_formula, is_formula_at, goes_on, tree_stands, formulas_stand, goes_forward, goes_back, lines_forward, lines_back};
 
-use base_axis::Axis;
+use crate::put::{array_lies_inside, merges_lie_inside};
+use base_axis::{Axis, MergeList};
 use base_maps::{NumberMap, PositionMap, SheetPlaceMap};
 use base_shared::Shared;
 use base_values::{EditError, LAST_COLUMN, LAST_ROW, PlaceMap, Position};
@@ -125,14 +128,46 @@ fn are_on_places<V>(map: &SheetPlaceMap<V>) -> bool
 /// tree inside a sheet.
 #[tactic(auto, unfolding(crate::specs::LineDiffs::stand_on_lost))]
 fn stand_on_lost<A: Axis>(edit: &LineEdit<A>, kept: &KeptLines) -> bool
-    ensures value { result ≡ stand_on_lost A.along edit.now.kind kept.now }
-    ensures inside { IsTrue result → LieInside A.along kept.now }
+    ensures { result ≡ stand_on_lost A.along edit.now.kind kept.now }
 {
     (are_lost_places(edit, &kept.cells) && are_lost_places(edit, &kept.links))
         && (are_lost_lines(edit, &kept.lines) && are_on_places(&kept.formulas))
 }
 
-/// Whether each cell may stand at its place.
+fn arrays_inside(cells: &PositionMap<Shared<Cell>>) -> bool
+    ensures { result ≡ list_all (λ (entry : Position × Cell). lies_inside (array_at entry.0 entry.1.content)) (entries cells.now) }
+{
+    cells
+        .iter()
+        .all(|(place, cell)| array_lies_inside(*place, cell.get()))
+}
+
+fn merges_inside(merges: &Option<MergeList>) -> bool
+    ensures { result ≡ merges_inside merges.now }
+{
+    match merges {
+        Some(merges) => merges_lie_inside(merges),
+        None => true,
+    }
+}
+
+/// Whether each kept cell that is an array lies inside the sheet, and so does each kept merge.
+#[tactic(auto, unfolding(crate::specs::LineDiffs::lie_inside))]
+fn lie_inside(kept: &KeptLines) -> bool
+    ensures { result ≡ lie_inside kept.now }
+{
+    arrays_inside(&kept.cells) && merges_inside(&kept.merges)
+}
+
+/// Both: what is kept lies inside the sheet.
+fn kept_lies_inside<A: Axis>(edit: &LineEdit<A>, kept: &KeptLines) -> bool
+    ensures value { result ≡ (stand_on_lost A.along edit.now.kind kept.now && lie_inside kept.now) }
+    ensures inside { IsTrue result → LieInside A.along kept.now }
+{
+    stand_on_lost(edit, kept) && lie_inside(kept)
+}
+
+/// Whether the formula of each cell fits its place.
 #[tactic(auto, unfolding(crate::specs::LineDiffs::cells_fit))]
 fn cells_fit(cells: &PositionMap<Shared<Cell>>) -> bool
     ensures { result ≡ cells_fit cells.now }
@@ -234,7 +269,7 @@ fn goes_forward<A: Axis>(edit: &LineEdit<A>, id: u32, kept: &KeptLines, workbook
     ensures value { result ≡ goes_forward A.along id edit.now.kind kept.now workbook.now }
     ensures valid { IsTrue result → IsValid A.along.last edit.now.kind }
 {
-    edit.is_valid() && is_there_inside(edit, workbook, id) && stand_on_lost(edit, kept)
+    edit.is_valid() && is_there_inside(edit, workbook, id) && kept_lies_inside(edit, kept)
 }
 
 /// Makes an edit of lines, where it can be made. `at` is the number of its diff.
@@ -284,7 +319,7 @@ fn goes_back<A: Axis>(edit: &LineEdit<A>, id: u32, kept: &KeptLines, workbook: &
 {
     edit.is_valid()
         && is_there_inside_back(edit, workbook, id)
-        && stand_on_lost(edit, kept)
+        && kept_lies_inside(edit, kept)
         && may_stand(edit, id, kept, workbook)
 }
 

@@ -1,3 +1,4 @@
 pub mod LinesBytes
+pub mod ChangeBytes
 pub mod QueueBytes
 pub mod laws

@@ -1,43 +1,53 @@
 -- The bytes of a queue of diffs.
-use Rattle.std.specs.Prelude.{◌≢◌, ℕ, ◌<◌, ◌^◌, List, [], ◌∷◌, ◌++◌, Option, Result, ◌==◌, if◌then◌else◌, IfSome, codes}
-use Rattle.std.specs.Int.{w32, to_be_bytes}
+use Rattle.std.specs.Prelude.{◌≢◌, ℕ, List, [], ◌∷◌, ◌++◌, Option, Result, ◌==◌, if◌then◌else◌, IfSome, codes}
 use Rattle.std.specs.List.{AllByRecursion}
+use Rattle.base_axis.specs.declared.MergedCell.{MergedCell}
 use Rattle.base_values.specs.declared.EditError.{EditError}
 use Rattle.base_values.specs.declared.Position.{Position}
 use Rattle.line_edits.specs.declared.EditKind.{EditKind}
 use Rattle.sheet_grid.specs.declared.Cell.{Cell}
+use Rattle.sheet_grid.specs.declared.Link.{Link}
 use Rattle.sheet_lines.specs.declared.KeptLines.{KeptLines}
 use Rattle.sheet_history.specs.declared.Diff.{Diff}
-use Rattle.sheet_history.specs.declared.Diff.TheVariants.{Cell as CellDiff, Lines as LinesDiff}
+use Rattle.sheet_history.specs.declared.Diff.TheVariants.{Cell as CellDiff, Link as LinkDiff, Merges as MergesDiff, Lines as LinesDiff}
 use Rattle.sheet_history.specs.declared.LineAxis.{LineAxis}
 use Rattle.sheet_history.specs.declared.DiffType.{DiffType}
 use Rattle.sheet_history.specs.declared.DiffType.TheVariants.{Undo, Redo}
 use Rattle.sheet_history.specs.declared.QueueDiffs.{QueueDiffs}
-use Rattle.base_wire.specs.Reading.{Reader, refused, map_at, ◌⊗◌, tagged_at, code_at, number_at, option_at, list_at, after, whole}
-use Rattle.base_wire.specs.Spelling.{spell_code, spell_option, spell_list, FitsItems}
-use Rattle.cell_wire.specs.CellBytes.{spell_position, position_at, FitsPosition, spell_cell, cell_at, FitsCell, IsKnownCell}
+use Rattle.base_wire.specs.Reading.{Reader, refused, map_at, ◌⊗◌, tagged_at, code_at, list_at, after, whole}
+use Rattle.base_wire.specs.Spelling.{spell_code, spell_list, FitsItems}
+use Rattle.cell_wire.specs.CellBytes.{spell_cell, cell_at, FitsCell, IsKnownCell}
+use Rattle.cell_wire.specs.LinkBytes.{spell_link, link_at, FitsLink}
 use Rattle.lines_wire.specs.KeptBytes.{IsKnownKept}
+use Rattle.sheet_wire.specs.ChangeBytes.{spell_change, change_at, FitsChange, spell_merges_change, merges_change_at, FitsMergesChange}
 use Rattle.sheet_wire.specs.LinesBytes.{spell_lines, lines_parts_at, FitsLines, IsKeptOfLines}
 
 -- ---- diffs
 
--- the tag, and then its fields: of a cell the id of the sheet, the position, and the cells before and after
+-- the tag, and then its fields
 abbrev pub spell_diff : Diff → List ℕ
-spell_diff (CellDiff sheet place old new) =
-    1 ∷ (to_be_bytes w32 sheet ++ (spell_position place ++ (spell_option spell_cell old ++ spell_option spell_cell new)))
+spell_diff (CellDiff sheet place old new) = 1 ∷ spell_change spell_cell sheet place old new
+spell_diff (LinkDiff sheet place old new) = 2 ∷ spell_change spell_link sheet place old new
+spell_diff (MergesDiff sheet old new) = 5 ∷ spell_merges_change sheet old new
 spell_diff (LinesDiff sheet axis edit kept) = 7 ∷ spell_lines sheet axis edit kept
 
 abbrev pub cell_diff_made : ℕ × (Position × (Option Cell × Option Cell)) → Diff
 cell_diff_made x = CellDiff x.0 x.1.0 x.1.1.0 x.1.1.1
 
-unfoldable pub entry_of_cell_at : Reader (Option Cell)
-entry_of_cell_at = option_at cell_at
-
-abbrev pub cell_parts_at : Reader (ℕ × (Position × (Option Cell × Option Cell)))
-cell_parts_at = number_at w32 ⊗ position_at ⊗ entry_of_cell_at ⊗ entry_of_cell_at
-
 unfoldable pub cell_diff_at : Reader Diff
-cell_diff_at = map_at cell_diff_made cell_parts_at
+cell_diff_at = map_at cell_diff_made (change_at cell_at)
+
+abbrev pub link_diff_made : ℕ × (Position × (Option Link × Option Link)) → Diff
+link_diff_made x = LinkDiff x.0 x.1.0 x.1.1.0 x.1.1.1
+
+unfoldable pub link_diff_at : Reader Diff
+link_diff_at = map_at link_diff_made (change_at link_at)
+
+abbrev pub merges_diff_made : ℕ × (List MergedCell × List MergedCell) → Diff
+merges_diff_made x = MergesDiff x.0 x.1.0 x.1.1
+
+unfoldable pub merges_diff_at : Reader Diff
+merges_diff_at = map_at merges_diff_made merges_change_at
 
 abbrev pub lines_diff_made : ℕ × (LineAxis × (EditKind × KeptLines)) → Diff
 lines_diff_made x = LinesDiff x.0 x.1.0 x.1.1.0 x.1.1.1
@@ -49,31 +59,33 @@ lines_diff_at = map_at lines_diff_made lines_parts_at
 abbrev pub diff_of : ℕ → Reader Diff
 diff_of tag =
     if tag == 1 then cell_diff_at
+    else if tag == 2 then link_diff_at
+    else if tag == 5 then merges_diff_at
     else if tag == 7 then lines_diff_at
     else refused
 
 unfoldable pub diff_at : Reader Diff
 diff_at = tagged_at diff_of
 
--- the parts of a cell diff, which bytes can carry
-pub record FitsCellDiff (id : ℕ) (position : Position) (before later : Option Cell) : Type 0 where
-  pub sheet : id < 2 ^ 32
-  pub place : FitsPosition position
-  pub old : IfSome before FitsCell
-  pub new : IfSome later FitsCell
-
+-- its parts are ones that bytes can carry
 abbrev pub FitsDiff : Diff → Type 0
-FitsDiff (CellDiff sheet place old new) = FitsCellDiff sheet place old new
+FitsDiff (CellDiff sheet place old new) = FitsChange FitsCell sheet place old new
+FitsDiff (LinkDiff sheet place old new) = FitsChange FitsLink sheet place old new
+FitsDiff (MergesDiff sheet old new) = FitsMergesChange sheet old new
 FitsDiff (LinesDiff sheet axis edit kept) = FitsLines sheet edit kept
 
 -- what encoding asks of a diff: its numbers are kept, and its formulas are at most 64 deep
 abbrev pub IsKnownDiff : Diff → Type 0
 IsKnownDiff (CellDiff sheet place old new) = IfSome old IsKnownCell × IfSome new IsKnownCell
+IsKnownDiff (LinkDiff sheet place old new) = Unit {0}
+IsKnownDiff (MergesDiff sheet old new) = Unit {0}
 IsKnownDiff (LinesDiff sheet axis edit kept) = IsKnownKept kept
 
 -- what a diff keeps, if it is one of lines, is what such an edit keeps
 abbrev pub IsKeptOfDiff : Diff → Type 0
 IsKeptOfDiff (CellDiff sheet place old new) = Unit {0}
+IsKeptOfDiff (LinkDiff sheet place old new) = Unit {0}
+IsKeptOfDiff (MergesDiff sheet old new) = Unit {0}
 IsKeptOfDiff (LinesDiff sheet axis edit kept) = IsKeptOfLines kept
 
 -- a list of diffs that bytes can carry

@@ -4,20 +4,24 @@ ghost use Rattle.std.specs.Prelude.{◌≡◌, ◌≢◌, IfErr, IfOk, List};
 ghost use Rattle.base_values.specs.Answers.{Answers, map_ok};
 ghost use Rattle.base_values.specs.declared.EditError.TheVariants.{NoMemory, ParseDiffs};
 ghost use Rattle.base_wire.specs.Reading.{code_at, rest_after};
+ghost use Rattle.sheet_wire.specs.ChangeBytes.{change_at};
 ghost use Rattle.sheet_wire.specs.LinesBytes.{axes, axis_code};
-ghost use Rattle.sheet_wire.specs.QueueBytes.{cell_diff_at, diff_at, direction_code, directions, entry_at, lines_diff_at, magic, queue_of, spell_queue, FitsQueue, IsNoQueue};
+ghost use Rattle.sheet_wire.specs.QueueBytes.{cell_diff_at, diff_at, direction_code, directions, entry_at, lines_diff_at, link_diff_at, magic, merges_diff_at, queue_of, spell_queue, FitsQueue, IsNoQueue};
 ghost use Rattle.sheet_history.specs.declared.QueueDiffs.{QueueDiffs};
 
 use crate::codes::{axis_of, direction_of};
 use crate::parts::{DiffPart, EntryPart};
 use base_shared::Shared;
 use base_styles::Style;
-use base_values::{EditError, Items};
+use base_values::{EditError, Items, Position};
 use base_wire::Part;
-use cell_wire::{CellPart, PositionPart};
+use cell_wire::{CellPart, LinkPart, MergeListPart, PositionPart};
 use lines_wire::{EditPart, KeptLinesPart};
 use sheet_history::{Diff, DiffType, LineAxis, QueueDiffs};
 use std::alloc::Global;
+
+/// The id of a sheet, a position, and what stands there before and after.
+type Change<T> = (u32, Position, Option<T>, Option<T>);
 
 /// A part at the front of bytes, by the steps of its reader, which proofs of this crate follow.
 fn read<'a, P: Part>(
@@ -30,7 +34,23 @@ fn read<'a, P: Part>(
     P::take(alloc, context, bytes)
 }
 
-#[tactic(auto, unfolding(crate::specs::QueueBytes::cell_diff_at, crate::specs::QueueBytes::entry_of_cell_at))]
+/// The id of a sheet, a position, and what stands there before and after.
+#[tactic(auto, unfolding(crate::specs::ChangeBytes::standing_at))]
+fn change_at<'a, P: Part>(
+    alloc: Global,
+    context: &P::Context,
+    bytes: &'a [u8],
+) -> Result<(Change<P::Value>, &'a [u8]), EditError>
+    ensures { Answers (map_ok (λ x. ((x.0.0, (x.0.1, (x.0.2, x.0.3))), x.1.now)) result) (change_at P.reading bytes.now) }
+{
+    let (sheet, rest) = read::<u32>(alloc, &(), bytes)?;
+    let (position, rest) = read::<PositionPart>(alloc, &(), rest)?;
+    let (old, rest) = read::<Option<P>>(alloc, context, rest)?;
+    let (new, rest) = read::<Option<P>>(alloc, context, rest)?;
+    Ok(((sheet, position, old, new), rest))
+}
+
+#[tactic(auto, unfolding(crate::specs::QueueBytes::cell_diff_at))]
 fn cell_diff_at<'a>(
     alloc: Global,
     plain: &Shared<Style>,
@@ -38,10 +58,7 @@ fn cell_diff_at<'a>(
 ) -> Result<(Diff, &'a [u8]), EditError>
     ensures { Answers (map_ok (λ x. (x.0, x.1.now)) result) (cell_diff_at bytes.now) }
 {
-    let (sheet, rest) = read::<u32>(alloc, &(), bytes)?;
-    let (position, rest) = read::<PositionPart>(alloc, &(), rest)?;
-    let (old, rest) = read::<Option<CellPart>>(alloc, plain, rest)?;
-    let (new, rest) = read::<Option<CellPart>>(alloc, plain, rest)?;
+    let ((sheet, position, old, new), rest) = change_at::<CellPart>(alloc, plain, bytes)?;
     let diff = Diff::Cell {
         sheet,
         position,
@@ -49,6 +66,30 @@ fn cell_diff_at<'a>(
         new,
     };
     Ok((diff, rest))
+}
+
+#[tactic(auto, unfolding(crate::specs::QueueBytes::link_diff_at))]
+fn link_diff_at(alloc: Global, bytes: &[u8]) -> Result<(Diff, &[u8]), EditError>
+    ensures { Answers (map_ok (λ x. (x.0, x.1.now)) result) (link_diff_at bytes.now) }
+{
+    let ((sheet, position, old, new), rest) = change_at::<LinkPart>(alloc, &(), bytes)?;
+    let diff = Diff::Link {
+        sheet,
+        position,
+        old,
+        new,
+    };
+    Ok((diff, rest))
+}
+
+#[tactic(auto, unfolding(crate::specs::QueueBytes::merges_diff_at))]
+fn merges_diff_at(alloc: Global, bytes: &[u8]) -> Result<(Diff, &[u8]), EditError>
+    ensures { Answers (map_ok (λ x. (x.0, x.1.now)) result) (merges_diff_at bytes.now) }
+{
+    let (sheet, rest) = read::<u32>(alloc, &(), bytes)?;
+    let (old, rest) = read::<MergeListPart>(alloc, &(), rest)?;
+    let (new, rest) = read::<MergeListPart>(alloc, &(), rest)?;
+    Ok((Diff::Merges { sheet, old, new }, rest))
 }
 
 fn axis_at(alloc: Global, bytes: &[u8]) -> Result<(LineAxis, &[u8]), EditError>
@@ -91,6 +132,8 @@ pub(crate) fn diff_at<'a>(
     let (tag, rest) = read::<u8>(alloc, &(), bytes)?;
     match tag {
         1 => cell_diff_at(alloc, plain, rest),
+        2 => link_diff_at(alloc, rest),
+        5 => merges_diff_at(alloc, rest),
         7 => lines_diff_at(alloc, plain, rest),
         _ => Err(EditError::ParseDiffs),
     }

@@ -1,22 +1,56 @@
 //! The bytes of queues.
 
-ghost use Rattle.std.specs.Prelude.{◌≡◌, ◌++◌, OnOk, IfOk, IsOkUnless};
+ghost use Rattle.std.specs.Prelude.{◌≡◌, ◌++◌, OnOk, IfOk, IfSome, IsOkUnless};
 ghost use Rattle.base_values.specs.declared.EditError.TheVariants.{NoMemory};
 ghost use Rattle.lines_wire.specs.KeptBytes.{IsKnownKept};
+ghost use Rattle.sheet_wire.specs.ChangeBytes.{spell_change, FitsChange, spell_merges_change, FitsMergesChange};
 ghost use Rattle.sheet_wire.specs.LinesBytes.{spell_lines, FitsLines};
 ghost use Rattle.sheet_wire.specs.QueueBytes.{spell_diff, spell_entry, spell_queue, FitsDiff, FitsEntry, FitsQueue, IsKnownDiff, IsKnownEntry, IsKnownQueue};
 
 use crate::codes::{axis_code, direction_code};
 use crate::parts::{DiffPart, EntryPart};
+use base_axis::MergeList;
 use base_shared::Shared;
-use base_values::{EditError, Items};
+use base_values::{EditError, Items, Position};
 use base_wire::{Part, put_items};
-use cell_wire::{CellPart, PositionPart};
+use cell_wire::{CellPart, LinkPart, MergeListPart, PositionPart};
 use line_map::EditKind;
 use lines_wire::{EditPart, KeptLinesPart};
 use sheet_history::{Diff, LineAxis, QueueDiffs};
 use sheet_lines::KeptLines;
 use std::alloc::{AllocError, Global};
+
+/// Adds the id of a sheet, a position, and what stands there before and after.
+fn put_change<P: Part>(
+    out: &mut Vec<u8>,
+    sheet: u32,
+    position: Position,
+    old: &Option<P::Value>,
+    new: &Option<P::Value>,
+) -> Result<(), AllocError>
+    ensures spelled { OnOk result (out.new.items ≡ out.old.items ++ spell_change P.spelling sheet position old.now new.now) }
+    ensures fits { OnOk result (IfSome old.now P.Known → IfSome new.now P.Known → FitsChange P.Fits sheet position old.now new.now) }
+{
+    out.extend_from_slice(&sheet.to_be_bytes())?;
+    PositionPart::put(out, &position)?;
+    Option::<P>::put(out, old)?;
+    Option::<P>::put(out, new)
+}
+
+/// Adds the id of a sheet, and its merges before and after.
+fn put_merges(
+    out: &mut Vec<u8>,
+    sheet: u32,
+    old: &MergeList,
+    new: &MergeList,
+) -> Result<(), AllocError>
+    ensures spelled { OnOk result (out.new.items ≡ out.old.items ++ spell_merges_change sheet old.now new.now) }
+    ensures fits { OnOk result (FitsMergesChange sheet old.now new.now) }
+{
+    out.extend_from_slice(&sheet.to_be_bytes())?;
+    MergeListPart::put(out, old)?;
+    MergeListPart::put(out, new)
+}
 
 /// Adds the id of a sheet, the byte of an axis, the edit, and what it keeps.
 fn put_lines(
@@ -48,10 +82,20 @@ pub(crate) fn put_diff(out: &mut Vec<u8>, diff: &Diff) -> Result<(), AllocError>
             new,
         } => {
             out.push(1)?;
-            out.extend_from_slice(&sheet.to_be_bytes())?;
-            PositionPart::put(out, position)?;
-            Option::<CellPart>::put(out, old)?;
-            Option::<CellPart>::put(out, new)?;
+            put_change::<CellPart>(out, *sheet, *position, old, new)?;
+        }
+        Diff::Link {
+            sheet,
+            position,
+            old,
+            new,
+        } => {
+            out.push(2)?;
+            put_change::<LinkPart>(out, *sheet, *position, old, new)?;
+        }
+        Diff::Merges { sheet, old, new } => {
+            out.push(5)?;
+            put_merges(out, *sheet, old, new)?;
         }
         Diff::Lines {
             sheet,

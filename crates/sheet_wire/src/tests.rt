@@ -1,8 +1,12 @@
 use super::*;
+use crate::parts::DiffPart;
+use base_axis::MergedCell;
 use base_shared::Shared;
 use base_styles::Style;
 use base_values::EditError;
+use base_wire::Part;
 use cell_wire::encode_style;
+use sheet_history::Diff;
 use std::test::*;
 
 /// One entry: a cell diff that puts the number 1 in the default style at row 1 and column 1 of the
@@ -20,6 +24,23 @@ const LINES: [u8; 77] = [
     0, 0, 0, 0, 0, 0, 0, 0, 0, 0, 0, 0, 0, 0, 0,
 ];
 
+/// At row 2 and column 3 of the sheet of id 1: an array of the tree `TRUE` in the default style, 2 wide
+/// and 5 high, is put, and a link to `a`. Each place was empty.
+const ARRAY: [u8; 56] = [
+    1, 0, 0, 0, 1, 0, 0, 0, 2, 0, 0, 0, 3, 0, 1, 7, 0, 1, 0, 0, 0, 2, 0, 0, 0, 5, 0, 0, 0, 0, 0, 0,
+    0, 13, 0, 0, 0, 0, 0, 0, 0, 0, 0, 0, 0, 0, 0, 7, 103, 101, 110, 101, 114, 97, 108, 0,
+];
+
+const LINK: [u8; 24] = [
+    2, 0, 0, 0, 1, 0, 0, 0, 2, 0, 0, 0, 3, 0, 1, 0, 0, 0, 0, 0, 0, 0, 1, 97,
+];
+
+/// The sheet of id 1 had no merges, and gets one at row 2 and column 3, which is 4 wide and -1 high.
+const MERGES: [u8; 37] = [
+    5, 0, 0, 0, 1, 0, 0, 0, 0, 0, 0, 0, 0, 0, 0, 0, 0, 0, 0, 0, 1, 0, 0, 0, 2, 0, 0, 0, 3, 0, 0, 0,
+    4, 255, 255, 255, 255,
+];
+
 /// A place in `LINES`, and the byte that is put there.
 const DAMAGED_LINES: [(usize, u8); 7] = [
     // Lines that are neither rows nor columns, and an edit that is none.
@@ -28,7 +49,7 @@ const DAMAGED_LINES: [(usize, u8); 7] = [
     // A kept cell, and a tree, that are not there.
     (43, 1),
     (67, 1),
-    // Merged cells, no option, and a rule.
+    // A list of merges in place of its absence, no option, and a rule.
     (68, 1),
     (68, 2),
     (76, 1),
@@ -141,5 +162,40 @@ fn queues_and_styles_are_written(rt: HostRuntime) -> Result<(), Fail> {
         .ok()
         .ok_or("there is memory")?;
     assert_eq!(rt; style.as_slice(), &ONE_CELL[54..]);
+    Ok(())
+}
+
+#[test]
+fn diffs_are_read_and_written(rt: HostRuntime) -> Result<(), Fail> {
+    let plain = plain_style(rt)?;
+    for bytes in [ARRAY.as_slice(), LINK.as_slice(), MERGES.as_slice()] {
+        let (diff, rest) = DiffPart::take(rt.alloc(), &plain, bytes)
+            .ok()
+            .ok_or("the bytes are a diff")?;
+        assert!(rt; rest.is_empty());
+        let mut out = Vec::new(rt.alloc());
+        DiffPart::put(&mut out, &diff)?;
+        assert_eq!(rt; out.as_slice(), bytes);
+    }
+    Ok(())
+}
+
+#[test]
+fn merges_are_read(rt: HostRuntime) -> Result<(), Fail> {
+    let (diff, _) = DiffPart::take(rt.alloc(), &plain_style(rt)?, &MERGES)
+        .ok()
+        .ok_or("the bytes are a diff")?;
+    let Diff::Merges { sheet, old, new } = diff else {
+        return Err("the diff is one of merges".into());
+    };
+    assert_eq!(rt; sheet, 1);
+    assert!(rt; old.as_slice().is_empty());
+    let merge = MergedCell {
+        row: 2,
+        column: 3,
+        width: 4,
+        height: -1,
+    };
+    assert!(rt; new.as_slice() == [merge].as_slice());
     Ok(())
 }

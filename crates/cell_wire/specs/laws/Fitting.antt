@@ -6,7 +6,7 @@ use Rattle.std.specs.Str.{IsAscii}
 use Rattle.std.proofs.lemmas.Str.{IsUtf8-from_ascii}
 use Rattle.base_styles.specs.DefaultStyle.{default_style}
 use Rattle.cell_content.specs.declared.Content.{Content}
-use Rattle.cell_content.specs.declared.Content.TheVariants.{Empty, Number, Boolean, Error as ErrorValue, Text, Formula, Dynamic}
+use Rattle.cell_content.specs.declared.Content.TheVariants.{Empty, Number, Boolean, Error as ErrorValue, Text, Formula, Dynamic, Array}
 use Rattle.sheet_grid.specs.declared.Cell.{Cell}
 use Rattle.cell_content.specs.KeptContent.{IsKeptContent}
 use Rattle.cell_content.specs.Fitting.{is_shallow}
@@ -43,6 +43,7 @@ kept_content_from_fits (ErrorValue error) fits = tt
 kept_content_from_fits (Text text) fits = tt
 kept_content_from_fits (Formula tree) fits = kept_from_carried tree fits.carried
 kept_content_from_fits (Dynamic tree) fits = kept_from_carried tree fits.carried
+kept_content_from_fits (Array tree width height) fits = kept_from_carried tree fits.tree.carried
 
 pub shallow_content_from_fits : (content : Content) → FitsContent content → IsTrue (is_shallow content)
 shallow_content_from_fits Empty fits = refl
@@ -52,6 +53,7 @@ shallow_content_from_fits (ErrorValue error) fits = refl
 shallow_content_from_fits (Text text) fits = refl
 shallow_content_from_fits (Formula tree) fits = fits.depth
 shallow_content_from_fits (Dynamic tree) fits = fits.depth
+shallow_content_from_fits (Array tree width height) fits = fits.tree.depth
 
 pub kept_cell_from_fits : (cell : Cell) → FitsCell cell → IsKeptCell cell
 kept_cell_from_fits cell fits = kept_content_from_fits cell.content fits.content

@@ -1,6 +1,7 @@
 -- What is spelled of styles and cells is read again.
-use Rattle.std.proofs.Common.{◌≡◌, ℕ, ◌+◌, List, ◌++◌, Option, Some, None, Ok, refl}
-use Rattle.std.specs.Prelude.{IfSome}
+use Rattle.std.proofs.Common.{◌≡◌, ℕ, List, ◌++◌, Option, Some, None, Ok, refl}
+use Rattle.std.specs.Prelude.{IfSome, FitsSigned}
+use Rattle.std.specs.Int.{w32}
 use Rattle.base_styles.specs.declared.ThemeColor.{ThemeColor}
 use Rattle.base_styles.specs.declared.ThemeColor.TheVariants.{Light1, Dark1, Light2, Dark2, Accent1, Accent2, Accent3, Accent4, Accent5, Accent6, Hyperlink, FollowedHyperlink}
 use Rattle.base_styles.specs.declared.Color.{Color}
@@ -12,9 +13,11 @@ use Rattle.base_styles.specs.declared.HorizontalAlignment.TheVariants as horizon
 use Rattle.base_styles.specs.declared.VerticalAlignment.{VerticalAlignment}
 use Rattle.base_styles.specs.declared.VerticalAlignment.TheVariants as vertical
 use Rattle.cell_content.specs.declared.Content.{Content}
-use Rattle.cell_content.specs.declared.Content.TheVariants.{Empty, Number, Boolean, Error as ErrorValue, Text, Formula, Dynamic}
-use Rattle.base_wire.specs.Reading.{decoded}
-use Rattle.base_wire.specs.Spelling.{spell_option}
+use Rattle.cell_content.specs.declared.Content.TheVariants.{Empty, Number, Boolean, Error as ErrorValue, Text, Formula, Dynamic, Array}
+use Rattle.base_wire.specs.Reading.{decoded, ◌⊗◌, signed_at}
+use Rattle.formula_wire.specs.NodeBytes.{spell_node, node_at}
+use Rattle.formula_wire.specs.Carried.{FitsNode}
+use Rattle.base_wire.specs.Spelling.{Both, spell_both, spell_option, spell_signed}
 use Rattle.cell_wire.specs.StyleBytes.{theme_code, theme_colors, spell_color, color_at, FitsColor, spell_font, font_made, font_at, FitsFont, border_code, border_styles, spell_border_item, border_item_made, border_item_at, FitsBorderItem, spell_border, border_made, side_at, border_at, FitsBorder, horizontal_code, horizontals, vertical_code, verticals, spell_alignment, alignment_made, alignment_at, alignment_option_at, spell_style, style_made, style_at, FitsStyle}
 use Rattle.cell_wire.specs.CellBytes.{spell_position, position_made, position_at, FitsPosition, spell_content, content_at, FitsContent, spell_cell, cell_made, cell_at, FitsCell}
 use Rattle.base_wire.specs.laws.Again.{ReadsAgain, both_again, map_again, code_again, wide32, signed_again, text_again, option_again}
@@ -145,6 +148,9 @@ position_again = record {
       position_made (λ place. (place.row, place.column)) (λ y. refl)).again x rest (fits.row, fits.column);
 }
 
+array_parts_again : ReadsAgain (Both FitsNode (Both (FitsSigned w32) (FitsSigned w32))) (spell_both spell_node (spell_both (spell_signed w32) (spell_signed w32))) (node_at ⊗ signed_at w32 ⊗ signed_at w32)
+array_parts_again = both_again node_again (both_again (signed_again wide32) (signed_again wide32))
+
 pub content_again : ReadsAgain FitsContent spell_content content_at
 unfolding content_at
 content_again = record { again = one }
@@ -157,6 +163,7 @@ content_again = record { again = one }
     one (Text text) rest fits = rw (text_again.again text rest fits) refl
     one (Formula tree) rest fits = rw (node_again.again tree rest fits) refl
     one (Dynamic tree) rest fits = rw (node_again.again tree rest fits) refl
+    one (Array tree width height) rest fits = rw (array_parts_again.again (tree, (width, height)) rest (fits.tree, (fits.width, fits.height))) refl
 
 pub cell_again : ReadsAgain FitsCell spell_cell cell_at
 unfolding cell_at

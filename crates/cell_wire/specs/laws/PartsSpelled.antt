@@ -1,14 +1,18 @@
 -- What is read of styles and cells was spelled so.
 use Rattle.std.proofs.Common.{refl}
-use Rattle.std.specs.Prelude.{IfSome}
+use Rattle.std.specs.Prelude.{IfSome, FitsSigned}
+use Rattle.std.specs.Int.{w32}
 use Rattle.base_styles.specs.declared.Color.TheVariants.{None as NoColor, Theme}
 use Rattle.cell_content.specs.declared.Content.TheVariants.{Empty, Number, Boolean, Error as ErrorValue, Text, Formula, Dynamic}
 use Rattle.base_wire.specs.Spelling.{spell_option}
 use Rattle.cell_wire.specs.StyleBytes.{theme_code, theme_colors, spell_color, color_at, FitsColor, spell_font, font_made, font_at, FitsFont, border_code, border_styles, spell_border_item, border_item_made, border_item_at, FitsBorderItem, spell_border, border_made, side_at, border_at, FitsBorder, horizontal_code, horizontals, vertical_code, verticals, spell_alignment, alignment_made, alignment_at, alignment_option_at, spell_style, style_made, style_at, FitsStyle}
 use Rattle.cell_wire.specs.CellBytes.{spell_position, position_made, position_at, FitsPosition, spell_content, content_at, FitsContent, spell_cell, cell_made, cell_at, FitsCell}
 use Rattle.cell_wire.specs.StyleBytes.{rgb, color_of}
-use Rattle.cell_wire.specs.CellBytes.{content_of}
-use Rattle.base_wire.specs.Spelling.{Any}
+use Rattle.cell_wire.specs.CellBytes.{array_made, content_of}
+use Rattle.base_wire.specs.Reading.{◌⊗◌, signed_at}
+use Rattle.base_wire.specs.Spelling.{Any, Both, spell_both, spell_signed}
+use Rattle.formula_wire.specs.NodeBytes.{spell_node, node_at}
+use Rattle.formula_wire.specs.Carried.{FitsNode}
 use Rattle.base_wire.specs.laws.Spelled.{ReadsSpelled, both_spelled, map_spelled, fits_otherwise, byte_spelled, code_spelled, tag_map, tag_plain, tag_refused, tag_if, tagged_spelled, option_spelled, back32, signed_spelled, text_spelled}
 use Rattle.base_wire.specs.laws.Parts.{boolean_spelled, error_spelled, decimal_spelled}
 use Rattle.formula_wire.specs.laws.NodeLaws.{node_spelled}
@@ -82,6 +86,9 @@ position_spelled =
     fits_otherwise (λ x fits. record { row = fits.0; column = fits.1 })
     (map_spelled (both_spelled (signed_spelled back32) (signed_spelled back32)) position_made (λ place. (place.row, place.column)) (λ x. refl))
 
+array_parts_spelled : ReadsSpelled (Both FitsNode (Both (FitsSigned w32) (FitsSigned w32))) (spell_both spell_node (spell_both (spell_signed w32) (spell_signed w32))) (node_at ⊗ signed_at w32 ⊗ signed_at w32)
+array_parts_spelled = both_spelled node_spelled (both_spelled (signed_spelled back32) (signed_spelled back32))
+
 pub content_spelled : ReadsSpelled FitsContent spell_content content_at
 unfolding content_at
 content_spelled =
@@ -93,7 +100,8 @@ content_spelled =
     (tag_if kind 4 (tag_map text_spelled Text FitsContent spell_content 4 (λ x. refl) (λ x fits. fits))
     (tag_if kind 5 (tag_map node_spelled Formula FitsContent spell_content 5 (λ x. refl) (λ x fits. fits))
     (tag_if kind 6 (tag_map node_spelled Dynamic FitsContent spell_content 6 (λ x. refl) (λ x fits. fits))
-    (tag_refused FitsContent spell_content kind))))))))
+    (tag_if kind 7 (tag_map array_parts_spelled array_made FitsContent spell_content 7 (λ x. refl) (λ x fits. record { tree = fits.0; width = fits.1.0; height = fits.1.1 }))
+    (tag_refused FitsContent spell_content kind)))))))))
 
 pub cell_spelled : ReadsSpelled FitsCell spell_cell cell_at
 unfolding cell_at

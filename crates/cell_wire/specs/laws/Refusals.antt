@@ -7,7 +7,7 @@ use Rattle.base_wire.specs.laws.Refusals.{IsPlain, both_plain, map_plain, byte_p
 use Rattle.base_wire.specs.laws.Parts.{boolean_plain, error_plain, decimal_plain}
 use Rattle.formula_wire.specs.laws.NodeLaws.{node_plain}
 use Rattle.cell_wire.specs.StyleBytes.{theme_code, theme_colors, rgb, color_of, color_at, font_made, font_at, border_code, border_styles, border_item_made, border_item_at, border_made, side_at, border_at, horizontal_code, horizontals, vertical_code, verticals, alignment_made, alignment_at, alignment_option_at, style_made, style_at}
-use Rattle.cell_wire.specs.CellBytes.{position_made, position_at, content_of, content_at, cell_made, cell_at}
+use Rattle.cell_wire.specs.CellBytes.{position_made, position_at, array_made, content_of, content_at, cell_made, cell_at}
 
 color_plain : IsPlain color_at
 unfolding color_at
@@ -59,7 +59,8 @@ content_plain =
     (if_plain (eqb kind 3) (map_plain ErrorValue error_plain)
     (if_plain (eqb kind 4) (map_plain Text text_plain)
     (if_plain (eqb kind 5) (map_plain Formula node_plain)
-    (if_plain (eqb kind 6) (map_plain Dynamic node_plain) refused_plain)))))))
+    (if_plain (eqb kind 6) (map_plain Dynamic node_plain)
+    (if_plain (eqb kind 7) (map_plain array_made (both_plain node_plain (both_plain (signed_plain w32) (signed_plain w32)))) refused_plain))))))))
 
 pub cell_plain : IsPlain cell_at
 unfolding cell_at

@@ -1,6 +1,6 @@
 -- The laws of the bytes of what line edits keep.
 use Rattle.std.proofs.Common.{◌≤◌, [], length, refl, subst, arith, ℕ, List}
-use Rattle.std.specs.Prelude.{FitsSigned}
+use Rattle.std.specs.Prelude.{FitsSigned, IfSome}
 use Rattle.std.specs.Cmp.{int_cmp_total}
 use Rattle.std.specs.Int.{w32}
 use Rattle.std.specs.Ordering.{int_cmp}
@@ -11,8 +11,8 @@ use Rattle.base_maps.specs.SheetPlaces.{sheet_place_cmp}
 use Rattle.base_maps.specs.laws.SheetPlaces.{sheet_place_total, exact_sheet_places}
 use Rattle.sheet_lines.specs.declared.KeptLines.{KeptLines}
 use Rattle.base_wire.specs.Reading.{plain}
-use Rattle.base_wire.specs.Spelling.{Any, spell_signed}
-use Rattle.base_wire.specs.laws.Format.{Format}
+use Rattle.base_wire.specs.Spelling.{Any, spell_option, spell_signed}
+use Rattle.base_wire.specs.laws.Format.{Format, option_format}
 use Rattle.base_wire.specs.laws.Formats.{both_format, after_format, made_format}
 use Rattle.base_wire.specs.laws.Parts.{signed_format}
 use Rattle.base_wire.specs.laws.Refusals.{plain_plain}
@@ -22,11 +22,14 @@ use Rattle.formula_wire.specs.Carried.{FitsNode}
 use Rattle.formula_wire.specs.laws.NodeLaws.{node_format}
 use Rattle.cell_wire.specs.CellBytes.{spell_position, FitsPosition, spell_cell, FitsCell}
 use Rattle.cell_wire.specs.laws.Formats.{position_format, position_some, cell_format}
+use Rattle.cell_wire.specs.LinkBytes.{spell_link, FitsLink}
+use Rattle.cell_wire.specs.MergeBytes.{spell_merges, FitsMerges}
+use Rattle.cell_wire.specs.laws.MergeLaws.{link_format, merges_format}
 use Rattle.lines_wire.specs.MapBytes.{spell_map, FitsMap}
-use Rattle.lines_wire.specs.PartBytes.{spell_sheet_place, FitsSheetPlace, spell_link, FitsLink, spell_line, FitsLine}
+use Rattle.lines_wire.specs.PartBytes.{spell_sheet_place, FitsSheetPlace, spell_line, FitsLine}
 use Rattle.lines_wire.specs.laws.MapLaws.{map_format}
-use Rattle.lines_wire.specs.laws.PartLaws.{sheet_place_format, sheet_place_some, link_format, line_format}
-use Rattle.lines_wire.specs.KeptBytes.{cells_at, links_at, lines_at, formulas_at, nothing_more, spell_kept, kept_made, kept_at, FitsKept}
+use Rattle.lines_wire.specs.laws.PartLaws.{sheet_place_format, sheet_place_some, line_format}
+use Rattle.lines_wire.specs.KeptBytes.{cells_at, links_at, lines_at, formulas_at, kept_merges_at, no_rules, spell_kept, kept_made, kept_at, FitsKept}
 
 -- ---- maps
 
@@ -46,6 +49,10 @@ formulas_format : Format (FitsMap {order = sheet_place_cmp} FitsSheetPlace FitsN
 unfolding formulas_at
 formulas_format = map_format sheet_place_total exact_sheet_places sheet_place_format node_format sheet_place_some (λ m. m) (λ m. m) (λ m. refl) (λ m. refl)
 
+kept_merges_format : Format (λ merges. IfSome merges FitsMerges) (spell_option spell_merges) kept_merges_at
+unfolding kept_merges_at
+kept_merges_format = option_format merges_format
+
 -- ---- what line edits keep
 
 -- what takes no bytes
@@ -64,10 +71,10 @@ nothing_format = record {
 pub kept_format : Format FitsKept spell_kept kept_at
 unfolding kept_at spell_kept
 kept_format =
-    made_format (both_format cells_format (both_format links_format (both_format lines_format (both_format formulas_format (after_format nothing_format nothing_more refl)))))
-    kept_made (λ kept. (kept.cells, (kept.links, (kept.lines, (kept.formulas, tt)))))
-    (λ kept fits. (refl, (fits.cells, (fits.links, (fits.lines, (fits.formulas, tt))))))
-    (λ x fits. (refl, record { cells = fits.0; links = fits.1.0; lines = fits.1.1.0; formulas = fits.1.1.1.0 }))
+    made_format (both_format cells_format (both_format links_format (both_format lines_format (both_format formulas_format (both_format kept_merges_format (after_format nothing_format no_rules refl))))))
+    kept_made (λ kept. (kept.cells, (kept.links, (kept.lines, (kept.formulas, (kept.merges, tt))))))
+    (λ kept fits. (refl, (fits.cells, (fits.links, (fits.lines, (fits.formulas, (fits.merges, tt)))))))
+    (λ x fits. (refl, record { cells = fits.0; links = fits.1.0; lines = fits.1.1.0; formulas = fits.1.1.1.0; merges = fits.1.1.1.1.0 }))
 
 pub kept_some : (kept : KeptLines) → 1 ≤ length (spell_kept kept)
 unfolding spell_kept

@@ -1,4 +1,4 @@
--- The laws of the bytes of places of a workbook, of links and of lines.
+-- The laws of the bytes of places of a workbook and of lines.
 use Rattle.std.proofs.Common.{◌≡◌, ◌≤◌, ◌++◌, length, Bool, true, false, refl, arith}
 use Rattle.std.proofs.lemmas.List.{length-append}
 use Rattle.std.specs.Prelude.{not}
@@ -9,10 +9,10 @@ use Rattle.sheet_grid.specs.declared.LineAttr.{LineAttr}
 use Rattle.base_wire.specs.Spelling.{spell_signed, spell_code, boolean_code, spell_option}
 use Rattle.base_wire.specs.laws.Format.{Format, option_format}
 use Rattle.base_wire.specs.laws.Formats.{both_format, check_format, made_format}
-use Rattle.base_wire.specs.laws.Parts.{short_format, signed_format, boolean_format, text_format, option_some}
+use Rattle.base_wire.specs.laws.Parts.{short_format, signed_format, boolean_format, option_some}
 use Rattle.cell_wire.specs.StyleBytes.{spell_style}
 use Rattle.cell_wire.specs.laws.Formats.{position_format, style_format}
-use Rattle.lines_wire.specs.PartBytes.{spell_sheet_place, sheet_place_made, sheet_place_at, FitsSheetPlace, spell_link, link_made, link_at, FitsLink, spell_line, line_made, size_at, own_style_at, line_at, FitsLine}
+use Rattle.lines_wire.specs.PartBytes.{spell_sheet_place, sheet_place_made, sheet_place_at, FitsSheetPlace, spell_line, line_made, size_at, own_style_at, line_at, FitsLine}
 
 pub sheet_place_format : Format FitsSheetPlace spell_sheet_place sheet_place_at
 unfolding sheet_place_at
@@ -22,10 +22,6 @@ sheet_place_format =
 
 pub sheet_place_some : (at : SheetPlace) → 1 ≤ length (spell_sheet_place at)
 sheet_place_some at = omega arith
-
-pub link_format : Format FitsLink spell_link link_at
-unfolding link_at
-link_format = made_format text_format link_made (λ link. link.target) (λ link fits. (refl, fits)) (λ x fits. (refl, fits))
 
 not_plain : (b : Bool) → b ≡ false → not b ≡ true
 not_plain true h = cc

@@ -1,9 +1,11 @@
 use super::{push_color, push_dump};
 use crate::english_input;
+use base_axis::MergedCell;
 use base_shared::Shared;
 use base_styles::{Color, Style, ThemeColor};
 use base_tables::{Locale, Zone};
-use base_values::{EditError, Position, Text};
+use base_values::{EditError, Items, Position, Text};
+use formula_tree::Node;
 use sheet_grid::{Cell, ColumnAttr, Link, RowAttr, Workbook, Worksheet};
 use std::alloc::Global;
 use std::test::Fail;
@@ -94,6 +96,56 @@ row 7 30 1 -
 column 16384 129 0 -
 cell C1 - empty
 link B3 C:\\\\x
+end
+"
+            .as_slice()
+    );
+    Ok(())
+}
+
+fn put_array(sheet: &mut Worksheet, alloc: Global) -> Result<(), EditError> {
+    let style = Shared::new(alloc, Style::new(alloc)?)?;
+    sheet.set_cell_with_array_formula(4, 2, Node::Boolean(true), &style, 3, 2)
+}
+
+/// Merges of four places, of one, and one that goes on behind the last row.
+const MERGES: [MergedCell; 3] = [
+    MergedCell {
+        row: 2,
+        column: 26,
+        width: 2,
+        height: 2,
+    },
+    MergedCell {
+        row: 1,
+        column: 1,
+        width: 1,
+        height: 1,
+    },
+    MergedCell {
+        row: 1_048_576,
+        column: 1,
+        width: 1,
+        height: 2,
+    },
+];
+
+#[test]
+fn merges_and_arrays_are_printed(rt: HostRuntime) -> Result<(), Fail> {
+    let mut workbook = Workbook::new_empty(rt.alloc(), "book", Locale::En, Zone::Utc)?;
+    let sheet = workbook.worksheet_mut(0)?;
+    put_array(sheet, rt.alloc())?;
+    sheet.set_merged_cells(Items::new(Vec::from_slice(rt.alloc(), &MERGES)?));
+    let mut out = Vec::new(rt.alloc());
+    push_dump(rt.alloc(), &mut out, &workbook)?;
+    assert_eq!(rt;
+        out.as_slice(),
+        b"book en UTC book
+sheet 1 visible 1 0 0 - Sheet1
+merge Z2:AA3
+merge A1
+merge #REF!
+cell B4 - array 3x2 =TRUE
 end
 "
             .as_slice()

@@ -6,11 +6,13 @@ use Rattle.std.specs.Cmp.Lexicographic.{pointwise_decides}
 use Rattle.std.proofs.lemmas.Bool.Decides.{Decides-like, Decides-and}
 use Rattle.base_values.specs.laws.Decided.{option_equals}
 use Rattle.base_values.specs.laws.PositionEquals.{position_equals}
+use Rattle.base_axis.specs.laws.MergedEquals.{merged_equals}
 use Rattle.sheet_grid.specs.laws.CellEquals.{cell_equals}
+use Rattle.sheet_grid.specs.laws.LineEquals.{link_equals}
 use Rattle.line_edits.specs.laws.Equals.{kind_equals}
 use Rattle.sheet_lines.specs.laws.KeptEquals.{kept_equals}
 use Rattle.sheet_history.specs.declared.diff.Diff.{Diff}
-use Rattle.sheet_history.specs.declared.diff.Diff.TheVariants.{Cell as CellDiff, Lines as LinesDiff}
+use Rattle.sheet_history.specs.declared.diff.Diff.TheVariants.{Cell as CellDiff, Link as LinkDiff, Merges as MergesDiff, Lines as LinesDiff}
 use Rattle.sheet_history.specs.declared.diff.DiffType.{DiffType}
 use Rattle.sheet_history.specs.declared.diff.DiffType.TheVariants.{Undo, Redo}
 use Rattle.sheet_history.specs.declared.diff.QueueDiffs.{QueueDiffs}
@@ -57,8 +59,34 @@ diff_equals (LinesDiff s x e k) (LinesDiff t y f l) =
 
     kept_of : LinesDiff s x e k ≡ LinesDiff t y f l → k ≡ l
     kept_of e = cc
-diff_equals (CellDiff _ _ _ _) (LinesDiff _ _ _ _) = (λ e. cc, λ e. cc)
-diff_equals (LinesDiff _ _ _ _) (CellDiff _ _ _ _) = (λ e. cc, λ e. cc)
+diff_equals (LinkDiff s p o n) (LinkDiff t q u v) =
+    Decides-like _ (λ h i. LinkDiff (h.0 i) (h.1.0 i) (h.1.1.0 i) (h.1.1.1 i)) (λ e. (sheet_of e, (place_of e, (old_of e, new_of e))))
+    (Decides-and _ _ (unsigned_Decides _ _) (Decides-and _ _ (position_equals _ _) (Decides-and _ _ (option_equals link_equals _ _) (option_equals link_equals _ _))))
+  where
+    sheet_of : LinkDiff s p o n ≡ LinkDiff t q u v → s ≡ t
+    sheet_of e = cc
+
+    place_of : LinkDiff s p o n ≡ LinkDiff t q u v → p ≡ q
+    place_of e = cc
+
+    old_of : LinkDiff s p o n ≡ LinkDiff t q u v → o ≡ u
+    old_of e = cc
+
+    new_of : LinkDiff s p o n ≡ LinkDiff t q u v → n ≡ v
+    new_of e = cc
+diff_equals (MergesDiff s o n) (MergesDiff t u v) =
+    Decides-like _ (λ h i. MergesDiff (h.0 i) (h.1.0 i) (h.1.1 i)) (λ e. (sheet_of e, (old_of e, new_of e)))
+    (Decides-and _ _ (unsigned_Decides _ _) (Decides-and _ _ (pointwise_decides merged_equals _ _) (pointwise_decides merged_equals _ _)))
+  where
+    sheet_of : MergesDiff s o n ≡ MergesDiff t u v → s ≡ t
+    sheet_of e = cc
+
+    old_of : MergesDiff s o n ≡ MergesDiff t u v → o ≡ u
+    old_of e = cc
+
+    new_of : MergesDiff s o n ≡ MergesDiff t u v → n ≡ v
+    new_of e = cc
+diff_equals _ _ = (λ e. cc, λ e. cc)
 
 pub diff_type_equals : (a b : DiffType) → Decides (diff_type.ghosts.eq a b) (a ≡ b)
 diff_type_equals Undo Undo = (λ _. refl, λ _. refl)

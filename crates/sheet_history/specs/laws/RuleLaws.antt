@@ -1,49 +1,89 @@
--- A cell that fits its place and has a font, put in a well-formed workbook, leaves a well-formed one.
-use Rattle.std.proofs.Common.{◌≡◌, ℕ, ℤ, pos, zero, suc, Bool, true, false, cond, ◌&&◌, List, [], ◌∷◌, length, map, Option, Some, None, Result, Ok, Err, refl, ap, sym, subst, ◌∙◌}
-use Rattle.std.specs.Prelude.{IsTrue, ◌==◌, nat_lt, slice_get, slice_set}
+-- What is put in a well-formed workbook leaves a well-formed one: a link, and a cell that has a font and may stand at its place.
+use Rattle.std.proofs.Common.{◌≡◌, ℕ, ℤ, pos, suc, Bool, true, false, cond, ◌&&◌, List, [], ◌∷◌, length, map, Option, Some, None, Result, refl, ap, sym, ◌∙◌}
+use Rattle.std.specs.Prelude.{IsTrue, ◌==◌, nat_lt, is_some}
 use Rattle.std.specs.List.{list_all}
 use Rattle.std.specs.FinMap.{entries}
-use Rattle.base_values.specs.declared.EditError.{EditError}
-use Rattle.base_values.specs.declared.EditError.TheVariants.{InvalidSheet, InvalidRow, InvalidColumn}
 use Rattle.base_values.specs.declared.Position.{Position}
-use Rattle.base_values.specs.Answers.{and_then, map_ok, ok_or}
-use Rattle.base_values.specs.Places.{is_line, place_of, position_cmp}
+use Rattle.base_values.specs.KeyMap.{with_entry}
+use Rattle.base_values.specs.Places.{is_line, position_cmp}
 use Rattle.base_values.specs.laws.Places.{position_total, exact_positions}
 use Rattle.base_tables.specs.Folding.{same_folded}
 use Rattle.sheet_grid.specs.declared.Cell.{Cell}
 use Rattle.sheet_grid.specs.declared.LineAttr.{LineAttr}
+use Rattle.sheet_grid.specs.declared.Link.{Link}
 use Rattle.sheet_grid.specs.FittingCells.{entry_fits_at}
 use Rattle.sheet_grid.specs.laws.FittingLaws.{cells_fit-put}
-use Rattle.sheet_grid.specs.Sheet.{Sheet, with_cell, cell_put}
-use Rattle.sheet_grid.specs.Book.{Book, index_of, sheet_edit, edit_by_id, with_sheet}
+use Rattle.sheet_grid.specs.Sheet.{Sheet, with_cell}
+use Rattle.sheet_grid.specs.Book.{Book}
 use Rattle.sheet_rules.specs.laws.EntryLaws.{both}
+use Rattle.sheet_rules.specs.laws.PutLaws.{arrays-put, merges-put, hidden-put}
+use Rattle.sheet_rules.specs.Occupied.{have_arrays, have_merges, are_hidden_blank, may_stand}
 use Rattle.sheet_rules.specs.SheetNames.{is_sheet_name}
 use Rattle.sheet_rules.specs.WellFormed.{are_distinct, ids_of, names_of, are_sheets, is_place, stands_inside, have_trees, have_attributes, are_frozen, is_row, is_column, IsWellFormed, has_font}
 use Rattle.sheet_rules.specs.laws.WellFormedLaws.{well_formed_parts, well_formed_from_parts, cells_fit_from_trees, have_trees_from_cells_fit}
-use Rattle.sheet_history.specs.Untested.{entry_has_font}
+use Rattle.sheet_lines.specs.Sheets.{sheet_of}
+use Rattle.sheet_history.specs.Entries.{EntryKey, EntryValue, cell_stands_at, value_fits, sheet_id_of, with_sheet_entry, with_changed, put_entry, accepts}
+use Rattle.sheet_history.specs.Entries.EntryKey.{CellKey, LinkKey}
+use Rattle.sheet_history.specs.Entries.EntryValue.{CellValue, LinkValue}
+use Rattle.sheet_history.specs.Untested.{entry_has_font, may_stand_on}
 use Rattle.sheet_history.specs.laws.Entries.{all_with_entry}
+use Rattle.sheet_history.specs.laws.EntryLaws.{decide, by_id, map-changed, id-with_sheet_entry, bare-with_sheet_entry}
 
--- a list in which one element is another one
-length-set : {X : Type 0} (xs : List X) (i : ℕ) (y : X) → length (slice_set xs i y) ≡ length xs
-length-set [] i y = refl
-length-set (x ∷ xs) zero y = refl
-length-set (x ∷ xs) (suc i) y = ap suc (length-set xs i y)
+-- ---- one sheet of a workbook
 
-map-set : {X Y : Type 0} (f : X → Y) (xs : List X) (i : ℕ) (x y : X) → slice_get xs i ≡ Some x → f y ≡ f x → map f (slice_set xs i y) ≡ map f xs
-map-set f [] i x y found same = refl
-map-set f (z ∷ xs) zero x y found same = let it : z ≡ x = cc in ap (λ w. w ∷ map f xs) (same ∙ ap f (sym it))
-map-set f (z ∷ xs) (suc i) x y found same = ap (λ ws. f z ∷ ws) (map-set f xs i x y found same)
+module _ (P : Sheet → Bool) (id : ℕ) where
+  -- what holds of all sheets holds of the one of an id
+  pub all-found : (ss : List Sheet) (s : Sheet) → by_id id ss ≡ Some s → list_all P ss ≡ true → P s ≡ true
+  all-found [] s found all = absurd (cc)
+  all-found (t ∷ ss) s found all =
+      let parts = both (P t) (list_all P ss) all in
+      decide (t.id == id)
+      (λ hit.
+      let is : ◌≡◌ {A = Option Sheet} (Some t) (Some s) = (λ i. cond (sym hit i) (Some t) (by_id id ss)) ∙ found in
+      let same : t ≡ s = cc in
+      ap P (sym same) ∙ parts.0)
+      (λ miss. all-found ss s ((λ i. cond (sym miss i) (Some t) (by_id id ss)) ∙ found) parts.1)
 
-module _ {X : Type 0} (P : X → Bool) where
-  all-set : (xs : List X) (i : ℕ) (y : X) → P y ≡ true → list_all P xs ≡ true → list_all P (slice_set xs i y) ≡ true
-  all-set [] i y h all = refl
-  all-set (x ∷ xs) zero y h all = λ i. h i && (both (P x) (list_all P xs) all).1 i
-  all-set (x ∷ xs) (suc n) y h all = λ i. (both (P x) (list_all P xs) all).0 i && all-set xs n y h (both (P x) (list_all P xs) all).1 i
+  -- it holds of all where the one of an id is changed, if it holds of that then
+  pub all-changed : (f : Sheet → Sheet) (ss : List Sheet) → ((s : Sheet) → by_id id ss ≡ Some s → P (f s) ≡ true) → list_all P ss ≡ true → list_all P (with_changed id f ss) ≡ true
+  all-changed f [] keeps all = refl
+  all-changed f (s ∷ ss) keeps all =
+      let parts = both (P s) (list_all P ss) all in
+      decide (s.id == id)
+      (λ hit. (λ i. list_all P (cond (hit i) (f s ∷ ss) (s ∷ with_changed id f ss))) ∙ (λ i. keeps s (λ j. cond (hit j) (Some s) (by_id id ss)) i && parts.1 i))
+      (λ miss. (λ i. list_all P (cond (miss i) (f s ∷ ss) (s ∷ with_changed id f ss)))
+      ∙ (λ i. parts.0 i && all-changed f ss (λ t found. keeps t ((λ j. cond (miss j) (Some s) (by_id id ss)) ∙ found)) parts.1 i))
 
-  all-get : (xs : List X) (i : ℕ) (x : X) → slice_get xs i ≡ Some x → list_all P xs ≡ true → P x ≡ true
-  all-get [] i x found all = absurd (cc)
-  all-get (y ∷ xs) zero x found all = let it : y ≡ x = cc in ap P (sym it) ∙ (both _ _ all).0
-  all-get (y ∷ xs) (suc i) x found all = all-get xs i x found (both _ _ all).1
+length-changed : (f : Sheet → Sheet) (id : ℕ) (ss : List Sheet) → length (with_changed id f ss) ≡ length ss
+length-changed f id [] = refl
+length-changed f id (s ∷ ss) =
+    decide (s.id == id)
+    (λ hit. λ i. length (cond (hit i) (f s ∷ ss) (s ∷ with_changed id f ss)))
+    (λ miss. (λ i. length (cond (miss i) (f s ∷ ss) (s ∷ with_changed id f ss))) ∙ ap suc (length-changed f id ss))
+
+-- the rules that are of one sheet
+pub record KeepsSheetRules (s : Sheet) : Type 0 where
+  pub inside : stands_inside s ≡ true
+  pub arrays : have_arrays s ≡ true
+  pub merges : have_merges s ≡ true
+  pub hidden : are_hidden_blank s ≡ true
+  pub trees : have_trees s ≡ true
+  pub attributes : have_attributes s ≡ true
+  pub frozen : are_frozen s ≡ true
+
+-- the sheet of an id of a well-formed workbook keeps them
+pub sheet_rules : (w : Book) → IsWellFormed w → (id : ℕ) (s : Sheet) → sheet_of w id ≡ Some s → KeepsSheetRules s
+sheet_rules w rules id s found =
+    let parts = well_formed_parts w rules in
+    record {
+      inside = all-found stands_inside id w.worksheets s found parts.inside;
+      arrays = all-found have_arrays id w.worksheets s found parts.arrays;
+      merges = all-found have_merges id w.worksheets s found parts.merges;
+      hidden = all-found are_hidden_blank id w.worksheets s found parts.hidden;
+      trees = all-found have_trees id w.worksheets s found parts.trees;
+      attributes = all-found have_attributes id w.worksheets s found parts.attributes;
+      frozen = all-found are_frozen id w.worksheets s found parts.frozen;
+    }
 
 -- ids and names decide whether the sheets keep their rule
 same_sheets : (xs ys : List Sheet) → length xs ≡ length ys → ids_of xs ≡ ids_of ys → names_of xs ≡ names_of ys → are_sheets xs ≡ are_sheets ys
@@ -65,17 +105,6 @@ attributes-put sheet place entry font all =
     let fonts = all_with_entry position_cmp position_total exact_positions (λ (e : Position × Cell). has_font e.1.style) sheet.cells place entry (λ cell is. font_there entry cell font is) parts.1 in
     λ i. parts.0 i && fonts i
 
--- the place at a row and a column is one of the sheet
-placed_inside : (row column : ℤ) (place : Position) → place_of row column ≡ Ok place → is_place place ≡ true
-unfolding place_of
-placed_inside row column place is = go (is_line (pos 1048576) row) (is_line (pos 16384) column) refl refl is
-  where
-    go : (a b : Bool) → is_line (pos 1048576) row ≡ a → is_line (pos 16384) column ≡ b
-        → ◌≡◌ {A = Result Position EditError} (cond a (cond b (Ok (record { row = row; column = column })) (Err InvalidColumn)) (Err InvalidRow)) (Ok place) → is_place place ≡ true
-    go true true one other e = let same : ◌≡◌ {A = Position} (record { row = row; column = column }) place = cc in ap is_place (sym same) ∙ (λ i. one i && other i)
-    go true false one other e = absurd (let never : ◌≡◌ {A = Result Position EditError} (Err InvalidColumn) (Ok place) = e in cc)
-    go false b one other e = absurd (let never : ◌≡◌ {A = Result Position EditError} (Err InvalidRow) (Ok place) = e in cc)
-
 inside-put : (sheet : Sheet) (place : Position) (entry : Option Cell) → is_place place ≡ true → stands_inside sheet ≡ true → stands_inside (with_cell sheet place entry) ≡ true
 unfolding stands_inside
 inside-put sheet place entry inside all =
@@ -85,47 +114,84 @@ inside-put sheet place entry inside all =
     let cells = all_with_entry position_cmp position_total exact_positions (λ (e : Position × Cell). is_place e.0) sheet.cells place entry (λ cell is. inside) inner.0 in
     λ i. cells i && inner.1 i && middle.1 i && outer.1 i
 
--- in a sheet of the workbook
-pub well_formed-set : (book : Book) (index : ℕ) (sheet : Sheet) (place : Position) (entry : Option Cell) → is_place place ≡ true → IsTrue (entry_fits_at place entry) → IsTrue (entry_has_font entry)
-    → slice_get book.worksheets index ≡ Some sheet → IsWellFormed book → IsWellFormed (with_sheet book index (with_cell sheet place entry))
-well_formed-set book index sheet place entry inside fits font found rules =
-    let parts = well_formed_parts book rules in
-    let next : Sheet = with_cell sheet place entry in
-    let sheets : List Sheet = book.worksheets in
-    let trees : have_trees next ≡ true = have_trees_from_cells_fit next (cells_fit-put sheet place entry fits (cells_fit_from_trees sheet (all-get have_trees sheets index sheet found parts.trees))) in
-    well_formed_from_parts (with_sheet book index next) (record {
-      sheets = same_sheets (slice_set sheets index next) sheets (length-set sheets index next) (map-set (λ (s : Sheet). s.id) sheets index sheet next found refl)
-          (map-set (λ (s : Sheet). s.name) sheets index sheet next found refl) ∙ parts.sheets;
-      inside = all-set stands_inside sheets index next (inside-put sheet place entry inside (all-get stands_inside sheets index sheet found parts.inside)) parts.inside;
-      trees = all-set have_trees sheets index next trees parts.trees;
-      attributes = all-set have_attributes sheets index next (attributes-put sheet place entry font (all-get have_attributes sheets index sheet found parts.attributes)) parts.attributes;
-      frozen = all-set are_frozen sheets index next (all-get are_frozen sheets index sheet found parts.frozen) parts.frozen;
-    })
+cell_keeps : (place : Position) (entry : Option Cell) → cell_stands_at place entry ≡ true → IsTrue (entry_fits_at place entry)
+cell_keeps place None h = refl
+cell_keeps place (Some cell) h = (both _ _ h).0
 
--- what holds of a workbook with a cell put in one of its sheets holds of what putting it leaves
-module _ (book : Book) (row column : ℤ) (entry : Option Cell) (Q : Book → Type 0)
-    (holds : (index : ℕ) (sheet : Sheet) (place : Position) → slice_get book.worksheets index ≡ Some sheet → place_of row column ≡ Ok place → Q (with_sheet book index (with_cell sheet place entry))) (next : Book) where
-  put_there : (index : ℕ) (sheet : Sheet) → slice_get book.worksheets index ≡ Some sheet → (r : Result Position EditError) → place_of row column ≡ r
-      → map_ok (with_sheet book index) (map_ok (λ place. with_cell sheet place entry) r) ≡ Ok next → Q next
-  put_there index sheet found (Ok place) named is =
-      let same : with_sheet book index (with_cell sheet place entry) ≡ next = cc in
-      subst Q same (holds index sheet place found named)
-  put_there index sheet found (Err error) named is = absurd (let never : ◌≡◌ {A = Result Book EditError} (Err error) (Ok next) = is in cc)
+-- a cell that may stand at its place keeps them
+cell-put : (s : Sheet) (place : Position) (entry : Option Cell) → is_place place ≡ true → cell_stands_at place entry ≡ true → entry_has_font entry ≡ true → may_stand s place entry ≡ true
+    → KeepsSheetRules s → KeepsSheetRules (with_cell s place entry)
+cell-put s place entry inside fits font stands h = record {
+  inside = inside-put s place entry inside h.inside;
+  arrays = arrays-put s place entry stands h.arrays;
+  merges = merges-put s place entry stands h.merges;
+  hidden = hidden-put s place entry stands h.hidden;
+  trees = have_trees_from_cells_fit (with_cell s place entry) (cells_fit-put s place entry (cell_keeps place entry fits) (cells_fit_from_trees s h.trees));
+  attributes = attributes-put s place entry font h.attributes;
+  frozen = h.frozen;
+}
 
-  put_in_sheet : (index : ℕ) (o : Option Sheet) → slice_get book.worksheets index ≡ o
-      → and_then (ok_or InvalidSheet o) (λ sheet. map_ok (with_sheet book index) (cell_put sheet row column entry)) ≡ Ok next → Q next
-  put_in_sheet index (Some sheet) found is = put_there index sheet found (place_of row column) refl is
-  put_in_sheet index None found is = absurd (let never : ◌≡◌ {A = Result Book EditError} (Err InvalidSheet) (Ok next) = is in cc)
+-- so does a link
+link-put : (s : Sheet) (place : Position) (entry : Option Link) → is_place place ≡ true → KeepsSheetRules s → KeepsSheetRules (record s { links = with_entry s.links place entry })
+unfolding stands_inside have_arrays have_merges are_hidden_blank have_trees have_attributes
+link-put s place entry inside h =
+    let outer = both _ _ h.inside in
+    let middle = both _ _ outer.0 in
+    let inner = both _ _ middle.0 in
+    let links = all_with_entry position_cmp position_total exact_positions (λ (e : Position × Link). is_place e.0) s.links place entry (λ link is. inside) inner.1 in
+    record {
+      inside = λ i. inner.0 i && links i && middle.1 i && outer.1 i;
+      arrays = h.arrays;
+      merges = h.merges;
+      hidden = h.hidden;
+      trees = h.trees;
+      attributes = h.attributes;
+      frozen = h.frozen;
+    }
 
-  by_id : (o : Option ℕ) → and_then (ok_or InvalidSheet o) (λ index. sheet_edit book index (λ sheet. cell_put sheet row column entry)) ≡ Ok next → Q next
-  by_id (Some index) is = put_in_sheet index (slice_get book.worksheets index) refl is
-  by_id None is = absurd (let never : ◌≡◌ {A = Result Book EditError} (Err InvalidSheet) (Ok next) = is in cc)
+-- ---- workbooks
 
-  pub holds-by_id : (id : ℕ) → edit_by_id book id (λ sheet. cell_put sheet row column entry) ≡ Ok next → Q next
-  holds-by_id id is = by_id (index_of book id) is
+module _ (w : Book) (rules : IsWellFormed w) (k : EntryKey) (v : EntryValue)
+    (keeps : (s : Sheet) → sheet_of w (sheet_id_of k) ≡ Some s → KeepsSheetRules s → KeepsSheetRules (with_sheet_entry k v s)) where
+  abbrev sheets : List Sheet
+  sheets = w.worksheets
 
--- a well-formed workbook stays so, in the sheet of an id
-pub well_formed-by_id : (book : Book) (row column : ℤ) (entry : Option Cell) (fits : (place : Position) → place_of row column ≡ Ok place → IsTrue (entry_fits_at place entry)) (font : IsTrue (entry_has_font entry))
-    (rules : IsWellFormed book) (next : Book) (id : ℕ) → edit_by_id book id (λ sheet. cell_put sheet row column entry) ≡ Ok next → IsWellFormed next
-well_formed-by_id book row column entry fits font rules next id is =
-    holds-by_id book row column entry IsWellFormed (λ index sheet place found named. well_formed-set book index sheet place entry (placed_inside row column place named) (fits place named) font found rules) next id is
+  abbrev next : List Sheet
+  next = with_changed (sheet_id_of k) (with_sheet_entry k v) w.worksheets
+
+  kept : (s : Sheet) → sheet_of w (sheet_id_of k) ≡ Some s → KeepsSheetRules (with_sheet_entry k v s)
+  kept s found = keeps s found (sheet_rules w rules (sheet_id_of k) s found)
+
+  -- an entry that keeps the rules of its sheet keeps those of the workbook
+  pub well_formed-put : IsWellFormed (put_entry w k v)
+  unfolding put_entry
+  well_formed-put =
+      let parts = well_formed_parts w rules in
+      well_formed_from_parts (record w { worksheets = next }) (record {
+        sheets = same_sheets next sheets (length-changed (with_sheet_entry k v) (sheet_id_of k) sheets)
+            (map-changed (with_sheet_entry k v) (id-with_sheet_entry k v) (λ (s : Sheet). s.id) (id-with_sheet_entry k v) (sheet_id_of k) sheets)
+            (map-changed (with_sheet_entry k v) (id-with_sheet_entry k v) (λ (s : Sheet). s.name) (λ s. ap (λ t. t.name) (bare-with_sheet_entry k v s)) (sheet_id_of k) sheets) ∙ parts.sheets;
+        inside = all-changed stands_inside (sheet_id_of k) (with_sheet_entry k v) sheets (λ s found. (kept s found).inside) parts.inside;
+        arrays = all-changed have_arrays (sheet_id_of k) (with_sheet_entry k v) sheets (λ s found. (kept s found).arrays) parts.arrays;
+        merges = all-changed have_merges (sheet_id_of k) (with_sheet_entry k v) sheets (λ s found. (kept s found).merges) parts.merges;
+        hidden = all-changed are_hidden_blank (sheet_id_of k) (with_sheet_entry k v) sheets (λ s found. (kept s found).hidden) parts.hidden;
+        trees = all-changed have_trees (sheet_id_of k) (with_sheet_entry k v) sheets (λ s found. (kept s found).trees) parts.trees;
+        attributes = all-changed have_attributes (sheet_id_of k) (with_sheet_entry k v) sheets (λ s found. (kept s found).attributes) parts.attributes;
+        frozen = all-changed are_frozen (sheet_id_of k) (with_sheet_entry k v) sheets (λ s found. (kept s found).frozen) parts.frozen;
+      })
+
+stands_found : (o : Option Sheet) (s : Sheet) (place : Position) (entry : Option Cell) → o ≡ Some s → may_stand_on o place entry ≡ true → may_stand s place entry ≡ true
+stands_found None s place entry is h = absurd (cc)
+stands_found (Some t) s place entry is h = let same : t ≡ s = cc in ap (λ x. may_stand x place entry) (sym same) ∙ h
+
+-- a cell that has a font and may stand at its place
+pub well_formed-cell : (w : Book) (id : ℕ) (place : Position) (entry : Option Cell) → IsWellFormed w → value_fits (CellKey id place) (CellValue entry) ≡ true → entry_has_font entry ≡ true
+    → may_stand_on (sheet_of w id) place entry ≡ true → IsWellFormed (put_entry w (CellKey id place) (CellValue entry))
+well_formed-cell w id place entry rules fits font stands =
+    let parts = both (is_place place) (cell_stands_at place entry) fits in
+    well_formed-put w rules (CellKey id place) (CellValue entry) (λ s found. cell-put s place entry parts.0 parts.1 font (stands_found (sheet_of w id) s place entry found stands))
+
+-- a link
+pub well_formed-link : (w : Book) (id : ℕ) (place : Position) (entry : Option Link) → IsWellFormed w → value_fits (LinkKey id place) (LinkValue entry) ≡ true
+    → IsWellFormed (put_entry w (LinkKey id place) (LinkValue entry))
+well_formed-link w id place entry rules inside = well_formed-put w rules (LinkKey id place) (LinkValue entry) (λ s found. link-put s place entry inside)

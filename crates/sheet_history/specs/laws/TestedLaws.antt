@@ -1,59 +1,69 @@
 -- Lists whose results are tested.
-use Rattle.std.proofs.Common.{◌≡◌, ℕ, Bool, true, false, cond, List, [], ◌∷◌, length, Option, Some, None, Result, Ok, Err, refl, ap, sym, subst, ◌∙◌}
-use Rattle.std.specs.Prelude.{IsTrue}
+use Rattle.std.proofs.Common.{◌≡◌, ℕ, Bool, true, false, cond, ◌&&◌, List, [], ◌∷◌, length, Option, Some, None, Result, Ok, Err, refl, ap, sym, subst, ◌∙◌}
+use Rattle.std.specs.Prelude.{IsTrue, is_some}
 use Rattle.base_values.specs.declared.EditError.{EditError}
 use Rattle.base_values.specs.declared.EditError.TheVariants.{DiffRefused}
 use Rattle.base_values.specs.declared.Position.{Position}
-use Rattle.base_values.specs.Answers.{Edits, ok_or, value_of}
-use Rattle.base_values.specs.Places.{place_of}
+use Rattle.base_values.specs.Answers.{Edits}
 use Rattle.sheet_grid.specs.declared.Cell.{Cell}
-use Rattle.sheet_grid.specs.Book.{Book, edit_by_id}
-use Rattle.sheet_grid.specs.FittingCells.{entry_fits_at}
-use Rattle.sheet_grid.specs.laws.FittingLaws.{place_is}
-use Rattle.sheet_grid.specs.Sheet.{cell_put}
+use Rattle.sheet_grid.specs.declared.Link.{Link}
+use Rattle.sheet_grid.specs.Book.{Book}
+use Rattle.sheet_rules.specs.laws.EntryLaws.{both}
 use Rattle.sheet_rules.specs.WellFormed.{broken_rule, IsWellFormed}
-use Rattle.sheet_history.specs.Untested.{entry_has_font, keeps_rules, keeps_rules_back}
-use Rattle.sheet_history.specs.laws.RuleLaws.{well_formed-by_id}
+use Rattle.sheet_lines.specs.Sheets.{sheet_of}
+use Rattle.sheet_history.specs.Entries.{EntryKey, EntryValue, sheet_id_of, value_fits, put_entry, accepts}
+use Rattle.sheet_history.specs.Entries.EntryKey.{CellKey, LinkKey}
+use Rattle.sheet_history.specs.Entries.EntryValue.{CellValue, LinkValue}
+use Rattle.sheet_history.specs.Untested.{cell_keeps_rules, entry_has_font, may_stand_on, keeps_rules, keeps_rules_back, hides_nothing}
+use Rattle.sheet_history.specs.laws.OpenLaws.{open-cell, open-link}
+use Rattle.sheet_history.specs.laws.RuleLaws.{well_formed-cell, well_formed-link}
 use Rattle.sheet_history.specs.declared.diff.Diff.{Diff}
-use Rattle.sheet_history.specs.declared.diff.Diff.TheVariants.{Cell as CellDiff, Lines as LinesDiff}
+use Rattle.sheet_history.specs.declared.diff.Diff.TheVariants.{Cell as CellDiff, Link as LinkDiff, Merges as MergesDiff, Lines as LinesDiff}
 use Rattle.sheet_history.specs.declared.diff.DiffType.{DiffType}
 use Rattle.sheet_history.specs.declared.diff.DiffType.TheVariants.{Undo, Redo}
 use Rattle.sheet_history.specs.Diffs.{put_in, by_rule, tested, made, taken_back, forwarded, backed, follow, of_entry, in_entry}
 use Rattle.sheet_history.specs.laws.ReplayLaws.{and_then-Ok}
 
--- what may stand at a place is not refused for what it is
-pub put_in-fitting : (at : ℕ) (book : Book) (id : ℕ) (place : Position) (entry : Option Cell) → entry_fits_at place entry ≡ true
-    → put_in at book id place entry ≡ ok_or (DiffRefused 0 at) (value_of (edit_by_id book id (λ sheet. cell_put sheet place.row place.column entry)))
+-- what is put was accepted, and is there
+pub put_in-done : (at : ℕ) (book : Book) (k : EntryKey) (v : EntryValue) (next : Book) → put_in at book k v ≡ Ok next → (accepts book k v ≡ true) × (put_entry book k v ≡ next)
 unfolding put_in
-put_in-fitting at book id place entry fits = rw fits refl
-
--- an answer that has a value
-value_is : {A E : Type 0} (error : E) (r : Result A E) (value : A) → ok_or error (value_of r) ≡ Ok value → r ≡ Ok value
-value_is error (Ok x) value is = cc
-value_is error (Err e) value is = cc
-
--- what is put fits its place, and is put there
-pub put_in-done : (at : ℕ) (book : Book) (id : ℕ) (place : Position) (entry : Option Cell) (next : Book) → put_in at book id place entry ≡ Ok next
-    → (entry_fits_at place entry ≡ true) × (edit_by_id book id (λ sheet. cell_put sheet place.row place.column entry) ≡ Ok next)
-unfolding put_in
-put_in-done at book id place entry next is = go (entry_fits_at place entry) refl is
+put_in-done at book k v next is = go (accepts book k v) refl is
   where
-    put : Result Book EditError
-    put = edit_by_id book id (λ sheet. cell_put sheet place.row place.column entry)
-
-    go : (b : Bool) → entry_fits_at place entry ≡ b → cond b (ok_or (DiffRefused 0 at) (value_of put)) (Err (DiffRefused 0 at)) ≡ Ok next → (entry_fits_at place entry ≡ true) × (put ≡ Ok next)
-    go true fits done = (fits, value_is (DiffRefused 0 at) put next done)
+    go : (b : Bool) → accepts book k v ≡ b → cond b (Ok (put_entry book k v)) (Err (DiffRefused 0 at)) ≡ Ok next → (accepts book k v ≡ true) × (put_entry book k v ≡ next)
+    go true fits done = (fits, cc)
     go false fits done = absurd (let never : ◌≡◌ {A = Result Book EditError} (Err (DiffRefused 0 at)) (Ok next) = done in cc)
 
--- where it fits its place, it fits the one at its row and its column
-pub fits_there : (place : Position) (entry : Option Cell) → entry_fits_at place entry ≡ true → (there : Position) → place_of place.row place.column ≡ Ok there → IsTrue (entry_fits_at there entry)
-fits_there place entry fits there named = subst (λ p. IsTrue (entry_fits_at p entry)) (place_is place.row place.column there named) fits
+-- it may stand at its key
+fits_of : (book : Book) (k : EntryKey) (v : EntryValue) → accepts book k v ≡ true → value_fits k v ≡ true
+unfolding accepts
+fits_of book k v h = (both (is_some (sheet_of book (sheet_id_of k))) (value_fits k v) h).1
 
--- what is put in a well-formed workbook, with a font, leaves one
-pub put_in-rules : (at : ℕ) (book : Book) (id : ℕ) (place : Position) (entry : Option Cell) (next : Book) → IsTrue (entry_has_font entry) → IsWellFormed book → put_in at book id place entry ≡ Ok next → IsWellFormed next
-put_in-rules at book id place entry next font rules is =
-    let done = put_in-done at book id place entry next is in
-    well_formed-by_id book place.row place.column entry (fits_there place entry done.0) font rules next id done.1
+-- a cell that is put in a well-formed workbook, and keeps the rules, leaves one
+cell_rules : (at : ℕ) (book : Book) (id : ℕ) (place : Position) (entry : Option Cell) (next : Book) → cell_keeps_rules (sheet_of book id) place entry ≡ true → IsWellFormed book
+    → put_in at book (CellKey id place) (CellValue entry) ≡ Ok next → IsWellFormed next
+cell_rules at book id place entry next keeps rules is =
+    let done = put_in-done at book (CellKey id place) (CellValue entry) next is in
+    let parts = both (entry_has_font entry) (may_stand_on (sheet_of book id) place entry) keeps in
+    subst IsWellFormed done.1 (well_formed-cell book id place entry rules (fits_of book (CellKey id place) (CellValue entry) done.0) parts.0 parts.1)
+
+-- so does a link
+link_rules : (at : ℕ) (book : Book) (id : ℕ) (place : Position) (entry : Option Link) (next : Book) → IsWellFormed book → put_in at book (LinkKey id place) (LinkValue entry) ≡ Ok next → IsWellFormed next
+link_rules at book id place entry next rules is =
+    let done = put_in-done at book (LinkKey id place) (LinkValue entry) next is in
+    subst IsWellFormed done.1 (well_formed-link book id place entry rules (fits_of book (LinkKey id place) (LinkValue entry) done.0))
+
+-- where no place was hidden, none is
+cell_open : (at : ℕ) (book : Book) (id : ℕ) (place : Position) (entry : Option Cell) (next : Book) → cell_keeps_rules (sheet_of book id) place entry ≡ true → hides_nothing book ≡ true
+    → put_in at book (CellKey id place) (CellValue entry) ≡ Ok next → hides_nothing next ≡ true
+cell_open at book id place entry next keeps shown is =
+    let done = put_in-done at book (CellKey id place) (CellValue entry) next is in
+    let parts = both (entry_has_font entry) (may_stand_on (sheet_of book id) place entry) keeps in
+    subst (λ (b : Book). hides_nothing b ≡ true) done.1 (open-cell book id place entry parts.1 shown)
+
+link_open : (at : ℕ) (book : Book) (id : ℕ) (place : Position) (entry : Option Link) (next : Book) → hides_nothing book ≡ true
+    → put_in at book (LinkKey id place) (LinkValue entry) ≡ Ok next → hides_nothing next ≡ true
+link_open at book id place entry next shown is =
+    subst (λ (b : Book). hides_nothing b ≡ true) (put_in-done at book (LinkKey id place) (LinkValue entry) next is).1 (open-link book id place entry shown)
 
 -- a workbook that breaks no rule passes
 pub by_rule-kept : (at : ℕ) (book : Book) → IsWellFormed book → by_rule at book (broken_rule book) ≡ Ok book
@@ -75,23 +85,47 @@ pub tested_same : (at : ℕ) (answer : Result Book EditError) → ((next : Book)
 tested_same at (Ok book) rules = by_rule-kept at book (rules book refl)
 tested_same at (Err error) rules = refl
 
-made_rules : (book : Book) (diffs : List Diff) → keeps_rules diffs ≡ true → IsWellFormed book → (next : Book) → made book diffs ≡ Ok next → IsWellFormed next
-made_rules book [] keeps rules next is = absurd (cc)
-made_rules book (CellDiff sheet place old new ∷ []) font rules next is = put_in-rules 0 book sheet place new next font rules (sym (and_then-Ok _) ∙ is)
-made_rules book (CellDiff sheet place old new ∷ second ∷ rest) keeps rules next is = absurd (cc)
-made_rules book (LinesDiff sheet axis edit kept ∷ rest) keeps rules next is = absurd (cc)
+same_of : (book next : Book) → ◌≡◌ {A = Result Book EditError} (Ok book) (Ok next) → book ≡ next
+same_of book next is = cc
 
-taken_back_rules : (book : Book) (diffs : List Diff) → keeps_rules_back diffs ≡ true → IsWellFormed book → (next : Book) → taken_back book diffs ≡ Ok next → IsWellFormed next
-taken_back_rules book [] keeps rules next is = absurd (cc)
-taken_back_rules book (CellDiff sheet place old new ∷ []) font rules next is = put_in-rules 0 book sheet place old next font rules is
-taken_back_rules book (CellDiff sheet place old new ∷ second ∷ rest) keeps rules next is = absurd (cc)
-taken_back_rules book (LinesDiff sheet axis edit kept ∷ rest) keeps rules next is = absurd (cc)
+made_rules : (book : Book) (diffs : List Diff) → keeps_rules book diffs ≡ true → IsWellFormed book → (next : Book) → made book diffs ≡ Ok next → IsWellFormed next
+made_rules book [] keeps rules next is = subst IsWellFormed (same_of book next is) rules
+made_rules book (CellDiff id place old new ∷ []) keeps rules next is = cell_rules 0 book id place new next keeps rules (sym (and_then-Ok _) ∙ is)
+made_rules book (LinkDiff id place old new ∷ []) keeps rules next is = link_rules 0 book id place new next rules (sym (and_then-Ok _) ∙ is)
+made_rules book (MergesDiff id old new ∷ []) keeps rules next is = absurd (cc)
+made_rules book (LinesDiff id axis edit kept ∷ []) keeps rules next is = absurd (cc)
+made_rules book (first ∷ second ∷ rest) keeps rules next is = absurd (cc)
+
+taken_back_rules : (book : Book) (diffs : List Diff) → keeps_rules_back book diffs ≡ true → IsWellFormed book → (next : Book) → taken_back book diffs ≡ Ok next → IsWellFormed next
+taken_back_rules book [] keeps rules next is = subst IsWellFormed (same_of book next is) rules
+taken_back_rules book (CellDiff id place old new ∷ []) keeps rules next is = cell_rules 0 book id place old next keeps rules is
+taken_back_rules book (LinkDiff id place old new ∷ []) keeps rules next is = link_rules 0 book id place old next rules is
+taken_back_rules book (MergesDiff id old new ∷ []) keeps rules next is = absurd (cc)
+taken_back_rules book (LinesDiff id axis edit kept ∷ []) keeps rules next is = absurd (cc)
+taken_back_rules book (first ∷ second ∷ rest) keeps rules next is = absurd (cc)
+
+-- where no place was hidden before such a list, none is after it
+pub made_open : (book : Book) (diffs : List Diff) → keeps_rules book diffs ≡ true → hides_nothing book ≡ true → (next : Book) → made book diffs ≡ Ok next → hides_nothing next ≡ true
+made_open book [] keeps shown next is = subst (λ (b : Book). hides_nothing b ≡ true) (same_of book next is) shown
+made_open book (CellDiff id place old new ∷ []) keeps shown next is = cell_open 0 book id place new next keeps shown (sym (and_then-Ok _) ∙ is)
+made_open book (LinkDiff id place old new ∷ []) keeps shown next is = link_open 0 book id place new next shown (sym (and_then-Ok _) ∙ is)
+made_open book (MergesDiff id old new ∷ []) keeps shown next is = absurd (cc)
+made_open book (LinesDiff id axis edit kept ∷ []) keeps shown next is = absurd (cc)
+made_open book (first ∷ second ∷ rest) keeps shown next is = absurd (cc)
+
+pub taken_back_open : (book : Book) (diffs : List Diff) → keeps_rules_back book diffs ≡ true → hides_nothing book ≡ true → (next : Book) → taken_back book diffs ≡ Ok next → hides_nothing next ≡ true
+taken_back_open book [] keeps shown next is = subst (λ (b : Book). hides_nothing b ≡ true) (same_of book next is) shown
+taken_back_open book (CellDiff id place old new ∷ []) keeps shown next is = cell_open 0 book id place old next keeps shown is
+taken_back_open book (LinkDiff id place old new ∷ []) keeps shown next is = link_open 0 book id place old next shown is
+taken_back_open book (MergesDiff id old new ∷ []) keeps shown next is = absurd (cc)
+taken_back_open book (LinesDiff id axis edit kept ∷ []) keeps shown next is = absurd (cc)
+taken_back_open book (first ∷ second ∷ rest) keeps shown next is = absurd (cc)
 
 -- the result of such a list needs no test
-pub forwarded-made : (book : Book) (diffs : List Diff) → keeps_rules diffs ≡ true → IsWellFormed book → forwarded book diffs ≡ made book diffs
+pub forwarded-made : (book : Book) (diffs : List Diff) → keeps_rules book diffs ≡ true → IsWellFormed book → forwarded book diffs ≡ made book diffs
 forwarded-made book diffs keeps rules = tested_same (length diffs) (made book diffs) (made_rules book diffs keeps rules)
 
-pub backed-taken_back : (book : Book) (diffs : List Diff) → keeps_rules_back diffs ≡ true → IsWellFormed book → backed book diffs ≡ taken_back book diffs
+pub backed-taken_back : (book : Book) (diffs : List Diff) → keeps_rules_back book diffs ≡ true → IsWellFormed book → backed book diffs ≡ taken_back book diffs
 backed-taken_back book diffs keeps rules = tested_same (length diffs) (taken_back book diffs) (taken_back_rules book diffs keeps rules)
 
 -- what follows a list is well-formed

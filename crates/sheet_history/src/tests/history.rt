@@ -4,7 +4,7 @@ ghost use Rattle.sheet_lines.specs.KeptNumbers.{AreKeptLines};
 ghost use Rattle.sheet_history.specs.Diffs.{IsKeptDiff, IsKeptList};
 
 use crate::{Diff, DiffList, LineAxis, back, forward};
-use base_axis::{Axis, ColumnAxis, RowAxis};
+use base_axis::{Axis, ColumnAxis, MergeList, MergedCell, RowAxis};
 use base_maps::{NumberMap, PositionMap, SheetPlaceMap};
 use base_shared::Shared;
 use base_styles::Style;
@@ -42,6 +42,7 @@ fn kept_with(alloc: Global, lines: NumberMap<LineAttr>) -> KeptLines
         links: PositionMap::new(alloc),
         lines,
         formulas: SheetPlaceMap::new(alloc),
+        merges: None,
     }
 }
 
@@ -210,5 +211,41 @@ fn diffs_are_refused_by_number(rt: HostRuntime) -> Result<(), Fail> {
     let list = cell_and_row(alloc)?;
     assert!(rt; is_refused(forward(alloc, &start, &list), 1));
     assert!(rt; is_refused(back(alloc, &start, &list), 1));
+    Ok(())
+}
+
+/// The merges of the sheet of id 1, which had none, and then one that is so many columns wide from
+/// A1 on.
+fn new_merge(alloc: Global, width: i32) -> Result<Diff, EditError>
+    ensures { IfOk result IsKeptDiff }
+{
+    let mut merges = Items::empty(alloc);
+    merges.push(MergedCell {
+        row: 1,
+        column: 1,
+        width,
+        height: 1,
+    })?;
+    Ok(Diff::Merges {
+        sheet: 1,
+        old: MergeList::empty(alloc),
+        new: MergeList::new(merges),
+    })
+}
+
+/// A merge goes and returns; one of one cell breaks a rule, and one that reaches past the last
+/// column is refused by its number.
+#[test]
+fn merges_go_and_return(rt: HostRuntime) -> Result<(), Fail> {
+    let alloc = rt.alloc();
+    let start = empty_book(alloc)?;
+    let list = only(alloc, new_merge(alloc, 16384)?)?;
+    let later = forward(alloc, &start, &list)?;
+    assert!(rt; is_well_formed(&later));
+    assert!(rt; back(alloc, &later, &list)? == start);
+    let one = only(alloc, new_merge(alloc, 1)?)?;
+    assert!(rt; is_refused(forward(alloc, &start, &one), 1));
+    let wide = only(alloc, new_merge(alloc, 16385)?)?;
+    assert!(rt; is_refused(forward(alloc, &start, &wide), 0));
     Ok(())
 }

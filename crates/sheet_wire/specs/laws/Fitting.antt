@@ -11,7 +11,7 @@ use Rattle.sheet_grid.specs.declared.Cell.{Cell}
 use Rattle.sheet_grid.specs.FittingCells.{is_shallow_entry}
 use Rattle.sheet_grid.specs.KeptCell.{IsKeptCell}
 use Rattle.sheet_history.specs.declared.Diff.{Diff}
-use Rattle.sheet_history.specs.declared.Diff.TheVariants.{Cell as CellDiff, Lines as LinesDiff}
+use Rattle.sheet_history.specs.declared.Diff.TheVariants.{Cell as CellDiff, Link as LinkDiff, Merges as MergesDiff, Lines as LinesDiff}
 use Rattle.sheet_history.specs.declared.QueueDiffs.{QueueDiffs}
 use Rattle.sheet_history.specs.Depth.{IsShallowDiff}
 use Rattle.sheet_history.specs.Diffs.{IsKeptDiff, IsKeptList, IsKeptQueue}
@@ -30,6 +30,8 @@ kept_option (Some cell) fits = kept_cell_from_fits cell fits
 pub kept_diff_from_fits : (diff : Diff) → FitsDiff diff → IsKeptDiff diff
 kept_diff_from_fits (CellDiff sheet place old new) fits =
     (kept_option old fits.old, kept_option new fits.new)
+kept_diff_from_fits (LinkDiff sheet place old new) fits = tt
+kept_diff_from_fits (MergesDiff sheet old new) fits = tt
 kept_diff_from_fits (LinesDiff sheet axis edit kept) fits = kept_lines_from_fits kept fits.kept
 
 kept_diffs : (diffs : List Diff) → AllByRecursion FitsDiff diffs → AllByRecursion IsKeptDiff diffs
@@ -61,6 +63,8 @@ known_tree (Some tree) kept shallow = record { kept = kept; depth = shallow }
 -- a diff whose numbers are kept, and whose formulas are at most 64 deep, can be encoded
 pub known_diff : (diff : Diff) → IsKeptDiff diff → IsShallowDiff diff → IsKeptOfDiff diff → IsKnownDiff diff
 known_diff (CellDiff sheet place old new) kept shallow of_lines = (known_entry old kept.0 shallow.0, known_entry new kept.1 shallow.1)
+known_diff (LinkDiff sheet place old new) kept shallow of_lines = tt
+known_diff (MergesDiff sheet old new) kept shallow of_lines = tt
 known_diff (LinesDiff sheet axis edit lines) kept shallow of_lines = record {
   cells = λ place. known_entry (get lines.cells place) (kept.cells place) (shallow.cells place);
   lines = of_lines;

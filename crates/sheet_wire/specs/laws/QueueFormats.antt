@@ -2,9 +2,9 @@
 use Rattle.std.proofs.Common.{◌≡◌, ℕ, ◌^◌, ◌<◌, ◌≤◌, eqb, List, ◌++◌, length, Option, Some, Ok, refl, arith}
 use Rattle.std.specs.Prelude.{IfSome}
 use Rattle.std.specs.Int.{w32, to_be_bytes}
-use Rattle.sheet_grid.specs.declared.Cell.{Cell}
+use Rattle.base_values.specs.declared.Position.{Position}
 use Rattle.sheet_history.specs.declared.Diff.{Diff}
-use Rattle.sheet_history.specs.declared.Diff.TheVariants.{Cell as CellDiff, Lines as LinesDiff}
+use Rattle.sheet_history.specs.declared.Diff.TheVariants.{Cell as CellDiff, Link as LinkDiff, Merges as MergesDiff, Lines as LinesDiff}
 use Rattle.sheet_history.specs.declared.DiffType.{DiffType}
 use Rattle.sheet_history.specs.declared.DiffType.TheVariants.{Undo, Redo}
 use Rattle.sheet_history.specs.declared.LineAxis.{LineAxis}
@@ -17,26 +17,34 @@ use Rattle.base_wire.specs.laws.Formats.{both_format, after_format, made_format}
 use Rattle.base_wire.specs.laws.Parts.{short_format}
 use Rattle.base_wire.specs.laws.Refusals.{IsPlain, code_plain, if_plain, map_plain, refused_plain, tagged_plain}
 use Rattle.base_wire.specs.laws.Spelled.{ReadsSpelled, code_spelled, tag_if, tag_map, tag_refused, tagged_spelled}
-use Rattle.cell_wire.specs.CellBytes.{spell_position, FitsPosition, spell_cell, FitsCell}
+use Rattle.cell_wire.specs.CellBytes.{spell_position, FitsPosition, spell_cell, cell_at}
+use Rattle.cell_wire.specs.LinkBytes.{spell_link, link_at}
+use Rattle.cell_wire.specs.MergeBytes.{spell_merges, FitsMerges}
 use Rattle.cell_wire.specs.laws.Formats.{position_format, cell_format}
+use Rattle.cell_wire.specs.laws.MergeLaws.{link_format, merges_format}
 use Rattle.lines_wire.specs.EditBytes.{spell_edit, FitsEdit}
 use Rattle.lines_wire.specs.KeptBytes.{spell_kept, FitsKept}
 use Rattle.lines_wire.specs.laws.EditLaws.{edit_format}
 use Rattle.lines_wire.specs.laws.KeptLaws.{kept_format}
+use Rattle.sheet_wire.specs.ChangeBytes.{spell_change, standing_at, change_at, spell_merges_change, merges_change_at}
 use Rattle.sheet_wire.specs.LinesBytes.{axis_code, axes, spell_lines, lines_parts_at}
-use Rattle.sheet_wire.specs.QueueBytes.{spell_diff, cell_diff_made, entry_of_cell_at, cell_parts_at, cell_diff_at, lines_diff_made, lines_diff_at, diff_of, diff_at, FitsDiff, FitsList, direction_code, directions, spell_entry, entry_made, list_of_diffs_at, entry_at, FitsEntry, magic, FitsQueue}
+use Rattle.sheet_wire.specs.QueueBytes.{spell_diff, cell_diff_made, cell_diff_at, link_diff_made, link_diff_at, merges_diff_made, merges_diff_at, lines_diff_made, lines_diff_at, diff_of, diff_at, FitsDiff, FitsList, direction_code, directions, spell_entry, entry_made, list_of_diffs_at, entry_at, FitsEntry, magic, FitsQueue}
 
 -- ---- diffs
 
-abbrev FitsCellEntry : Option Cell → Type 0
-FitsCellEntry entry = IfSome entry FitsCell
+-- what the parts of a change at a position spell, and what bytes can carry of them
+abbrev ChangeFits : {A : Type 0} → (A → Type 0) → ℕ × (Position × (Option A × Option A)) → Type 0
+ChangeFits F = Both (λ id. id < 2 ^ 32) (Both FitsPosition (Both (λ old. IfSome old F) (λ new. IfSome new F)))
 
-abbrev spell_cell_entry : Option Cell → List ℕ
-spell_cell_entry = spell_option spell_cell
+abbrev change_spelling : {A : Type 0} → (A → List ℕ) → ℕ × (Position × (Option A × Option A)) → List ℕ
+change_spelling s = spell_both (to_be_bytes w32) (spell_both spell_position (spell_both (spell_option s) (spell_option s)))
 
-cell_parts_format : Format (Both (λ id. id < 2 ^ 32) (Both FitsPosition (Both FitsCellEntry FitsCellEntry))) (spell_both (to_be_bytes w32) (spell_both spell_position (spell_both spell_cell_entry spell_cell_entry))) cell_parts_at
-unfolding entry_of_cell_at
-cell_parts_format = both_format short_format (both_format position_format (both_format (option_format cell_format) (option_format cell_format)))
+change_format : {A : Type 0} {F : A → Type 0} {s : A → List ℕ} {r : Reader A} → Format F s r → Format (ChangeFits F) (change_spelling s) (change_at r)
+unfolding standing_at
+change_format law = both_format short_format (both_format position_format (both_format (option_format law) (option_format law)))
+
+merges_change_format : Format (Both (λ id. id < 2 ^ 32) (Both FitsMerges FitsMerges)) (spell_both (to_be_bytes w32) (spell_both spell_merges spell_merges)) merges_change_at
+merges_change_format = both_format short_format (both_format merges_format merges_format)
 
 axis_known : (x : LineAxis) → decoded axis_code axes (axis_code x) ≡ Some x
 axis_known Rows = refl
@@ -52,34 +60,49 @@ map_reads : {A B : Type 0} (f : A → B) (r : Reader A) (bytes : List ℕ) (x : 
 map_reads f r bytes x rest h = rw h refl
 
 diff_again : ReadsAgain FitsDiff spell_diff diff_at
-unfolding diff_at cell_diff_at lines_diff_at
+unfolding diff_at cell_diff_at link_diff_at merges_diff_at lines_diff_at
 diff_again = record { again = one }
   where
     one : (x : Diff) (rest : List ℕ) → FitsDiff x → diff_at (spell_diff x ++ rest) ≡ Ok (x, rest)
     one (CellDiff sheet place old new) rest fits =
-        map_reads cell_diff_made cell_parts_at (spell_both (to_be_bytes w32) (spell_both spell_position (spell_both spell_cell_entry spell_cell_entry)) (sheet, (place, (old, new))) ++ rest) (sheet, (place, (old, new))) rest
-        (cell_parts_format.again.again (sheet, (place, (old, new))) rest (fits.sheet, (fits.place, (fits.old, fits.new))))
+        map_reads cell_diff_made (change_at cell_at) (spell_change spell_cell sheet place old new ++ rest) (sheet, (place, (old, new))) rest
+        ((change_format cell_format).again.again (sheet, (place, (old, new))) rest (fits.sheet, (fits.place, (fits.old, fits.new))))
+    one (LinkDiff sheet place old new) rest fits =
+        map_reads link_diff_made (change_at link_at) (spell_change spell_link sheet place old new ++ rest) (sheet, (place, (old, new))) rest
+        ((change_format link_format).again.again (sheet, (place, (old, new))) rest (fits.sheet, (fits.place, (fits.old, fits.new))))
+    one (MergesDiff sheet old new) rest fits =
+        map_reads merges_diff_made merges_change_at (spell_merges_change sheet old new ++ rest) (sheet, (old, new)) rest
+        (merges_change_format.again.again (sheet, (old, new)) rest (fits.sheet, (fits.old, fits.new)))
     one (LinesDiff sheet axis edit kept) rest fits =
         map_reads lines_diff_made lines_parts_at (spell_lines sheet axis edit kept ++ rest) (sheet, (axis, (edit, kept))) rest
         (lines_parts_format.again.again (sheet, (axis, (edit, kept))) rest (fits.sheet, (tt, (fits.edit, fits.kept))))
 
 diff_spelled : ReadsSpelled FitsDiff spell_diff diff_at
-unfolding diff_at cell_diff_at lines_diff_at
+unfolding diff_at cell_diff_at link_diff_at merges_diff_at lines_diff_at
 diff_spelled =
     tagged_spelled diff_of (λ tag.
-    tag_if tag 1 (tag_map cell_parts_format.spelled cell_diff_made FitsDiff spell_diff 1 (λ x. refl) (λ x fits. record { sheet = fits.0; place = fits.1.0; old = fits.1.1.0; new = fits.1.1.1 }))
+    tag_if tag 1 (tag_map (change_format cell_format).spelled cell_diff_made FitsDiff spell_diff 1 (λ x. refl) (λ x fits. record { sheet = fits.0; place = fits.1.0; old = fits.1.1.0; new = fits.1.1.1 }))
+    (tag_if tag 2 (tag_map (change_format link_format).spelled link_diff_made FitsDiff spell_diff 2 (λ x. refl) (λ x fits. record { sheet = fits.0; place = fits.1.0; old = fits.1.1.0; new = fits.1.1.1 }))
+    (tag_if tag 5 (tag_map merges_change_format.spelled merges_diff_made FitsDiff spell_diff 5 (λ x. refl) (λ x fits. record { sheet = fits.0; old = fits.1.0; new = fits.1.1 }))
     (tag_if tag 7 (tag_map lines_parts_format.spelled lines_diff_made FitsDiff spell_diff 7 (λ x. refl) (λ x fits. record { sheet = fits.0; edit = fits.1.1.0; kept = fits.1.1.1 }))
-    (tag_refused FitsDiff spell_diff tag)))
+    (tag_refused FitsDiff spell_diff tag)))))
 
 diff_plain : IsPlain diff_at
-unfolding diff_at cell_diff_at lines_diff_at
-diff_plain = tagged_plain diff_of (λ tag. if_plain (eqb tag 1) (map_plain cell_diff_made cell_parts_format.plain) (if_plain (eqb tag 7) (map_plain lines_diff_made lines_parts_format.plain) refused_plain))
+unfolding diff_at cell_diff_at link_diff_at merges_diff_at lines_diff_at
+diff_plain =
+    tagged_plain diff_of (λ tag.
+    if_plain (eqb tag 1) (map_plain cell_diff_made (change_format cell_format).plain)
+    (if_plain (eqb tag 2) (map_plain link_diff_made (change_format link_format).plain)
+    (if_plain (eqb tag 5) (map_plain merges_diff_made merges_change_format.plain)
+    (if_plain (eqb tag 7) (map_plain lines_diff_made lines_parts_format.plain) refused_plain))))
 
 pub diff_format : Format FitsDiff spell_diff diff_at
 diff_format = record { again = diff_again; spelled = diff_spelled; plain = diff_plain }
 
 pub diff_some : (x : Diff) → 1 ≤ length (spell_diff x)
 diff_some (CellDiff sheet place old new) = omega arith
+diff_some (LinkDiff sheet place old new) = omega arith
+diff_some (MergesDiff sheet old new) = omega arith
 diff_some (LinesDiff sheet axis edit kept) = omega arith
 
 -- ---- entries and queues

@@ -7,4 +7,5 @@ returns-clause-fits c = λ known. record {
   links = c.in_ok-put-2.ensures.fits (record { keys = λ key. tt; values = λ place. any_option _ });
   lines = c.in_ok-put-3.ensures.fits (record { keys = λ key. tt; values = known.lines });
   formulas = c.in_ok-put-4.ensures.fits (record { keys = λ key. tt; values = known.formulas });
+  merges = c.in_ok-put_kept_merges.ensures.fits;
 }

@@ -1,0 +1,131 @@
+-- A workbook as a map of entries: the cells and the links of its sheets, and the merges of each sheet.
+use Rattle.std.proofs.Common.{ℕ, ℤ, pos, Bool, true, false, ◌&&◌, List, [], ◌∷◌, map, Option, Some, None}
+use Rattle.std.specs.Prelude.{◌==◌, is_some, if◌then◌else◌}
+use Rattle.std.specs.Option.{option_map}
+use Rattle.std.specs.List.{list_all}
+use Rattle.std.specs.Ordering.{nat_cmp, int_cmp, ordering_then}
+use Rattle.std.specs.declared.cmp.Ordering.{Ordering}
+use Rattle.std.specs.FinMap as fin
+use Rattle.base_values.specs.declared.Position.{Position}
+use Rattle.base_values.specs.KeyMap.{with_entry}
+use Rattle.base_axis.specs.declared.MergedCell.{MergedCell}
+use Rattle.base_axis.specs.Rectangles.{is_inside}
+use Rattle.cell_content.specs.Fitting.{fits_at}
+use Rattle.sheet_grid.specs.declared.Cell.{Cell}
+use Rattle.sheet_grid.specs.declared.Link.{Link}
+use Rattle.sheet_grid.specs.Arrays.{array_at}
+use Rattle.sheet_grid.specs.Sheet.{Sheet}
+use Rattle.sheet_grid.specs.Book.{Book}
+use Rattle.sheet_rules.specs.WellFormed.{is_place}
+use Rattle.sheet_lines.specs.Sheets.{sheet_of}
+
+-- which entry of a workbook
+pub data EntryKey : Type 0 where
+  -- the cell at a place of the sheet of an id
+  CellKey : ℕ → Position → EntryKey
+  -- the link at a place of the sheet of an id
+  LinkKey : ℕ → Position → EntryKey
+  -- the merges of the sheet of an id
+  MergesKey : ℕ → EntryKey
+
+-- what an entry is
+pub data EntryValue : Type 0 where
+  -- a cell, or none
+  CellValue : Option Cell → EntryValue
+  -- a link, or none
+  LinkValue : Option Link → EntryValue
+  -- merges, in their order
+  MergesValue : List MergedCell → EntryValue
+
+-- ---- the order of keys
+
+-- where a key stands in the order of a record: the tag of its diff, its sheet, its row and its column
+pub record Rank : Type 0 where
+  pub tag : ℕ
+  pub sheet : ℕ
+  pub row : ℤ
+  pub column : ℤ
+
+abbrev pub rank_of : EntryKey → Rank
+rank_of (CellKey sheet place) = record { tag = 1; sheet = sheet; row = place.row; column = place.column }
+rank_of (LinkKey sheet place) = record { tag = 2; sheet = sheet; row = place.row; column = place.column }
+rank_of (MergesKey sheet) = record { tag = 5; sheet = sheet; row = pos 0; column = pos 0 }
+
+-- by tag, then by sheet id, then by row, then by column
+abbrev pub rank_cmp : Rank → Rank → Ordering
+rank_cmp a b = ordering_then (nat_cmp a.tag b.tag) (ordering_then (nat_cmp a.sheet b.sheet) (ordering_then (int_cmp a.row b.row) (int_cmp a.column b.column)))
+
+abbrev pub key_cmp : EntryKey → EntryKey → Ordering
+key_cmp a b = rank_cmp (rank_of a) (rank_of b)
+
+-- ---- the entries of a sheet
+
+-- the sheet that a key names
+abbrev pub sheet_id_of : EntryKey → ℕ
+sheet_id_of (CellKey sheet place) = sheet
+sheet_id_of (LinkKey sheet place) = sheet
+sheet_id_of (MergesKey sheet) = sheet
+
+-- what a sheet has at a key
+abbrev pub sheet_entry : EntryKey → Sheet → EntryValue
+sheet_entry (CellKey id place) sheet = CellValue (fin.get sheet.cells place)
+sheet_entry (LinkKey id place) sheet = LinkValue (fin.get sheet.links place)
+sheet_entry (MergesKey id) sheet = MergesValue sheet.merges
+
+-- the sheet with a value at a key. A value of another kind changes nothing
+abbrev pub with_sheet_entry : EntryKey → EntryValue → Sheet → Sheet
+with_sheet_entry (CellKey id place) (CellValue entry) sheet = record sheet { cells = with_entry sheet.cells place entry }
+with_sheet_entry (LinkKey id place) (LinkValue entry) sheet = record sheet { links = with_entry sheet.links place entry }
+with_sheet_entry (MergesKey id) (MergesValue merges) sheet = record sheet { merges = merges }
+with_sheet_entry _ _ sheet = sheet
+
+-- a rectangle, if there is one, lies inside the sheet
+abbrev pub lies_inside : Option MergedCell → Bool
+lies_inside None = true
+lies_inside (Some r) = is_inside r
+
+-- what is put at a place, a cell or none, may stand there: a formula fits its place, and an array lies inside the sheet
+abbrev pub cell_stands_at : Position → Option Cell → Bool
+cell_stands_at place None = true
+cell_stands_at place (Some cell) = fits_at place cell.content && lies_inside (array_at place cell.content)
+
+-- whether a value may stand at a key: it is one of the key's kind, the place lies inside the sheet, a cell may stand there, and each
+-- merge lies inside
+abbrev pub value_fits : EntryKey → EntryValue → Bool
+value_fits (CellKey id place) (CellValue entry) = is_place place && cell_stands_at place entry
+value_fits (LinkKey id place) (LinkValue entry) = is_place place
+value_fits (MergesKey id) (MergesValue merges) = list_all is_inside merges
+value_fits _ _ = false
+
+-- the value of a key that stands for nothing
+abbrev pub nothing_at : EntryKey → EntryValue
+nothing_at (CellKey id place) = CellValue None
+nothing_at (LinkKey id place) = LinkValue None
+nothing_at (MergesKey id) = MergesValue []
+
+-- ---- the entries of a workbook
+
+-- the sheets with the first one of an id changed
+abbrev pub with_changed : ℕ → (Sheet → Sheet) → List Sheet → List Sheet
+with_changed id change [] = []
+with_changed id change (sheet ∷ sheets) = if sheet.id == id then change sheet ∷ sheets else sheet ∷ with_changed id change sheets
+
+-- the entry at a key. There is none where there is no such sheet
+unfoldable pub entry_at : Book → EntryKey → Option EntryValue
+entry_at book key = option_map (sheet_entry key) (sheet_of book (sheet_id_of key))
+
+-- the workbook with a value at a key. Where there is no such sheet, it is as it was
+unfoldable pub put_entry : Book → EntryKey → EntryValue → Book
+put_entry book key value = record book { worksheets = with_changed (sheet_id_of key) (with_sheet_entry key value) book.worksheets }
+
+-- a value can be put at a key: the sheet is there, and the value may stand in it
+unfoldable pub accepts : Book → EntryKey → EntryValue → Bool
+accepts book key value = is_some (sheet_of book (sheet_id_of key)) && value_fits key value
+
+-- a sheet without its entries
+abbrev pub bare_sheet : Sheet → Sheet
+bare_sheet sheet = record sheet { cells = fin.empty; links = fin.empty; merges = [] }
+
+-- a workbook without its entries
+unfoldable pub frame_of : Book → Book
+frame_of book = record book { worksheets = map bare_sheet book.worksheets }

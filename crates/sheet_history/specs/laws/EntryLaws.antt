@@ -1,0 +1,279 @@
+-- The laws of entries of a workbook. What is said of lists of diffs rests on these alone, so that a further kind of entry joins by a case.
+use Rattle.std.proofs.Common.{◌≡◌, ◌≢◌, ℕ, ℤ, pos, Bool, true, false, cond, ◌&&◌, List, [], ◌∷◌, map, Option, Some, None, is_some, option_map, refl, ap, sym, subst, ◌∙◌, true≢false}
+use Rattle.std.specs.Prelude.{◌==◌, IsTrue}
+use Rattle.std.specs.List.{find, list_all, IsDistinct, AllByRecursion}
+use Rattle.std.specs.Cmp.{IsTotalOrder, unsigned_Decides, eq_by_cmp_equiv}
+use Rattle.std.specs.declared.cmp.Ordering.{Ordering}
+use Rattle.std.specs.FinMap as fin
+use Rattle.std.specs.FinMap.{FinMap}
+use Rattle.std.proofs.lemmas.Map.Lookups.{CmpEqualImpliesEq}
+use Rattle.std.proofs.lemmas.Map.Views.{tells_apart}
+use Rattle.base_values.specs.declared.Position.{Position}
+use Rattle.base_values.specs.KeyMap.{with_entry}
+use Rattle.base_values.specs.laws.KeyMap.{get-with_entry}
+use Rattle.base_values.specs.laws.Places.{position_total, exact_positions}
+use Rattle.base_axis.specs.declared.MergedCell.{MergedCell}
+use Rattle.base_axis.specs.Rectangles.{is_inside}
+use Rattle.sheet_grid.specs.declared.Cell.{Cell}
+use Rattle.sheet_grid.specs.declared.Link.{Link}
+use Rattle.sheet_grid.specs.Sheet.{Sheet}
+use Rattle.sheet_grid.specs.Book.{Book}
+use Rattle.sheet_rules.specs.WellFormed.{is_place}
+use Rattle.sheet_rules.specs.laws.EntryLaws.{both}
+use Rattle.sheet_lines.specs.Sheets.{sheet_of, HasDistinctIds}
+use Rattle.sheet_history.specs.Entries.{EntryKey, EntryValue, sheet_id_of, sheet_entry, with_sheet_entry, cell_stands_at, value_fits, nothing_at, with_changed, entry_at, put_entry, accepts, bare_sheet, frame_of}
+use Rattle.sheet_history.specs.Entries.EntryKey.{CellKey, LinkKey, MergesKey}
+use Rattle.sheet_history.specs.Entries.EntryValue.{CellValue, LinkValue, MergesValue}
+
+pub decide : {G : Type 0} (b : Bool) → (b ≡ true → G) → (b ≡ false → G) → G
+decide true hit miss = hit refl
+decide false hit miss = miss refl
+
+not_true : (b : Bool) → (b ≡ true → ⊥) → b ≡ false
+not_true true h = absurd (h refl)
+not_true false h = refl
+
+-- ---- one entry of a map
+
+module _ {K X : Type 0} {R : K → K → Ordering} (total : IsTotalOrder R) (exact : CmpEqualImpliesEq R) where
+  get-put : (m : FinMap R X) (key : K) (w : Option X) → fin.get (with_entry m key w) key ≡ w
+  get-put m key w = get-with_entry total m key w key ∙ ap (λ b. cond b w (fin.get m key)) ((eq_by_cmp_equiv total).refl key)
+
+  get-put_other : (m : FinMap R X) (key : K) (w : Option X) (q : K) → (q ≢ key) → fin.get (with_entry m key w) q ≡ fin.get m q
+  get-put_other m key w q apart =
+      get-with_entry total m key w q ∙ ap (λ b. cond b w (fin.get m q)) (not_true _ (λ tie. apart (tells_apart exact q key tie)))
+
+-- ---- one sheet
+
+entry-with_sheet_entry : (s : Sheet) (k : EntryKey) (v : EntryValue) → value_fits k v ≡ true → sheet_entry k (with_sheet_entry k v s) ≡ v
+entry-with_sheet_entry s (CellKey id place) (CellValue v) h = ap CellValue (get-put position_total exact_positions s.cells place v)
+entry-with_sheet_entry s (LinkKey id place) (LinkValue v) h = ap LinkValue (get-put position_total exact_positions s.links place v)
+entry-with_sheet_entry s (MergesKey id) (MergesValue v) h = refl
+entry-with_sheet_entry s _ _ h = absurd (let never : false ≡ true = h in cc)
+
+cell_apart : (s : Sheet) (id : ℕ) (place : Position) (v : Option Cell) (q : EntryKey) → sheet_id_of q ≡ id → (q ≢ CellKey id place)
+    → sheet_entry q (with_sheet_entry (CellKey id place) (CellValue v) s) ≡ sheet_entry q s
+cell_apart s id place v (CellKey j other) ids apart = ap CellValue (get-put_other position_total exact_positions s.cells place v other (λ e. apart (λ i. CellKey (ids i) (e i))))
+cell_apart s id place v _ ids apart = refl
+
+link_apart : (s : Sheet) (id : ℕ) (place : Position) (v : Option Link) (q : EntryKey) → sheet_id_of q ≡ id → (q ≢ LinkKey id place)
+    → sheet_entry q (with_sheet_entry (LinkKey id place) (LinkValue v) s) ≡ sheet_entry q s
+link_apart s id place v (LinkKey j other) ids apart = ap LinkValue (get-put_other position_total exact_positions s.links place v other (λ e. apart (λ i. LinkKey (ids i) (e i))))
+link_apart s id place v _ ids apart = refl
+
+merges_apart : (s : Sheet) (id : ℕ) (v : List MergedCell) (q : EntryKey) → sheet_id_of q ≡ id → (q ≢ MergesKey id)
+    → sheet_entry q (with_sheet_entry (MergesKey id) (MergesValue v) s) ≡ sheet_entry q s
+merges_apart s id v (MergesKey j) ids apart = absurd (apart (ap MergesKey ids))
+merges_apart s id v _ ids apart = refl
+
+entry-with_sheet_entry_other : (s : Sheet) (k : EntryKey) (v : EntryValue) (q : EntryKey) → sheet_id_of q ≡ sheet_id_of k → (q ≢ k) → sheet_entry q (with_sheet_entry k v s) ≡ sheet_entry q s
+entry-with_sheet_entry_other s (CellKey id place) (CellValue v) q ids apart = cell_apart s id place v q ids apart
+entry-with_sheet_entry_other s (LinkKey id place) (LinkValue v) q ids apart = link_apart s id place v q ids apart
+entry-with_sheet_entry_other s (MergesKey id) (MergesValue v) q ids apart = merges_apart s id v q ids apart
+entry-with_sheet_entry_other s _ _ q ids apart = refl
+
+-- what is no entry stays
+pub bare-with_sheet_entry : (k : EntryKey) (v : EntryValue) (s : Sheet) → bare_sheet (with_sheet_entry k v s) ≡ bare_sheet s
+bare-with_sheet_entry (CellKey id place) (CellValue v) s = refl
+bare-with_sheet_entry (LinkKey id place) (LinkValue v) s = refl
+bare-with_sheet_entry (MergesKey id) (MergesValue v) s = refl
+bare-with_sheet_entry _ _ s = refl
+
+pub id-with_sheet_entry : (k : EntryKey) (v : EntryValue) (s : Sheet) → (with_sheet_entry k v s).id ≡ s.id
+id-with_sheet_entry k v s = ap (λ t. t.id) (bare-with_sheet_entry k v s)
+
+nothing_fits : (k : EntryKey) (v : EntryValue) → value_fits k v ≡ true → value_fits k (nothing_at k) ≡ true
+nothing_fits (CellKey id place) (CellValue v) h = λ i. (both (is_place place) (cell_stands_at place v) h).0 i && true
+nothing_fits (LinkKey id place) (LinkValue v) h = h
+nothing_fits (MergesKey id) (MergesValue v) h = refl
+nothing_fits _ _ h = absurd (let never : false ≡ true = h in cc)
+
+abbrev cell_of : EntryValue → Option Cell
+cell_of (CellValue v) = v
+cell_of _ = None
+
+abbrev link_of : EntryValue → Option Link
+link_of (LinkValue v) = v
+link_of _ = None
+
+abbrev merges_of : EntryValue → List MergedCell
+merges_of (MergesValue v) = v
+merges_of _ = []
+
+-- a sheet is its entries and the rest
+same_sheet : (s t : Sheet) → bare_sheet s ≡ bare_sheet t → ((k : EntryKey) → sheet_id_of k ≡ s.id → sheet_entry k s ≡ sheet_entry k t) → s ≡ t
+same_sheet s t e entries =
+    let cells : s.cells ≡ t.cells = fin.same_map position_total exact_positions s.cells t.cells (λ place. ap cell_of (entries (CellKey s.id place) refl)) in
+    let links : s.links ≡ t.links = fin.same_map position_total exact_positions s.links t.links (λ place. ap link_of (entries (LinkKey s.id place) refl)) in
+    let merges : s.merges ≡ t.merges = ap merges_of (entries (MergesKey s.id) refl) in
+    λ i. record (e i) { cells = cells i; links = links i; merges = merges i }
+
+-- ---- sheets by their ids
+
+abbrev pub by_id : ℕ → List Sheet → Option Sheet
+by_id id sheets = find (λ (s : Sheet). s.id == id) sheets
+
+module _ (f : Sheet → Sheet) (keeps : (s : Sheet) → (f s).id ≡ s.id) where
+  -- the sheet of the id is changed
+  pub found-changed : (id : ℕ) (ss : List Sheet) → by_id id (with_changed id f ss) ≡ option_map f (by_id id ss)
+  found-changed id [] = refl
+  found-changed id (s ∷ ss) =
+      decide (s.id == id)
+      (λ hit. (λ i. by_id id (cond (hit i) (f s ∷ ss) (s ∷ with_changed id f ss)))
+      ∙ ap (λ b. cond b (Some (f s)) (by_id id ss)) (ap (λ n. n == id) (keeps s) ∙ hit)
+      ∙ ap (λ b. option_map f (cond b (Some s) (by_id id ss))) (sym hit))
+      (λ miss. (λ i. by_id id (cond (miss i) (f s ∷ ss) (s ∷ with_changed id f ss)))
+      ∙ ap (λ b. cond b (Some s) (by_id id (with_changed id f ss))) miss
+      ∙ found-changed id ss
+      ∙ ap (λ b. option_map f (cond b (Some s) (by_id id ss))) (sym miss))
+
+  -- those of other ids stay
+  pub found-changed_other : (id q : ℕ) → (q ≢ id) → (ss : List Sheet) → by_id q (with_changed id f ss) ≡ by_id q ss
+  found-changed_other id q apart [] = refl
+  found-changed_other id q apart (s ∷ ss) =
+      decide (s.id == id)
+      (λ hit.
+      let missed : s.id == q ≡ false = not_true _ (λ tie. apart (sym ((unsigned_Decides s.id q).0 tie) ∙ (unsigned_Decides s.id id).0 hit)) in
+      (λ i. by_id q (cond (hit i) (f s ∷ ss) (s ∷ with_changed id f ss)))
+      ∙ ap (λ b. cond b (Some (f s)) (by_id q ss)) (ap (λ n. n == q) (keeps s) ∙ missed)
+      ∙ ap (λ b. cond b (Some s) (by_id q ss)) (sym missed))
+      (λ miss. (λ i. by_id q (cond (miss i) (f s ∷ ss) (s ∷ with_changed id f ss)))
+      ∙ ap (cond (s.id == q) (Some s)) (found-changed_other id q apart ss))
+
+  -- what does not look at the change stays
+  pub map-changed : {Y : Type 0} (see : Sheet → Y) → ((s : Sheet) → see (f s) ≡ see s) → (id : ℕ) (ss : List Sheet) → map see (with_changed id f ss) ≡ map see ss
+  map-changed see same id [] = refl
+  map-changed see same id (s ∷ ss) =
+      decide (s.id == id)
+      (λ hit. (λ i. map see (cond (hit i) (f s ∷ ss) (s ∷ with_changed id f ss))) ∙ ap (λ t. t ∷ map see ss) (same s))
+      (λ miss. (λ i. map see (cond (miss i) (f s ∷ ss) (s ∷ with_changed id f ss))) ∙ ap (λ ts. see s ∷ ts) (map-changed see same id ss))
+
+is_some-bare : (id : ℕ) (ss : List Sheet) → is_some (by_id id ss) ≡ is_some (by_id id (map bare_sheet ss))
+is_some-bare id [] = refl
+is_some-bare id (s ∷ ss) = elim (s.id == id) as (λ b. is_some (cond b (Some s) (by_id id ss)) ≡ is_some (cond b (Some (bare_sheet s)) (by_id id (map bare_sheet ss)))) [ true ↦ refl | false ↦ is_some-bare id ss ]
+
+is_some-map : {A B : Type 0} (f : A → B) (o : Option A) → is_some (option_map f o) ≡ is_some o
+is_some-map f None = refl
+is_some-map f (Some x) = refl
+
+map_twice : {A B C : Type 0} (f : A → B) (g : B → C) (o : Option A) → option_map g (option_map f o) ≡ option_map (λ x. g (f x)) o
+map_twice f g None = refl
+map_twice f g (Some x) = refl
+
+map_same : {A B : Type 0} (f g : A → B) → ((x : A) → f x ≡ g x) → (o : Option A) → option_map f o ≡ option_map g o
+map_same f g e None = refl
+map_same f g e (Some x) = ap Some (e x)
+
+map_constant : {A B : Type 0} (f : A → B) (y : B) → ((x : A) → f x ≡ y) → (o : Option A) → is_some o ≡ true → option_map f o ≡ Some y
+map_constant f y e None h = absurd (cc)
+map_constant f y e (Some x) h = ap Some (e x)
+
+-- ---- the laws
+
+-- what was put is got
+pub entry_at-put_entry : (w : Book) (k : EntryKey) (v : EntryValue) → accepts w k v ≡ true → entry_at (put_entry w k v) k ≡ Some v
+unfolding entry_at put_entry accepts
+entry_at-put_entry w k v h =
+    let id : ℕ = sheet_id_of k in
+    let parts = both (is_some (by_id id w.worksheets)) (value_fits k v) h in
+    ap (option_map (sheet_entry k)) (found-changed (with_sheet_entry k v) (id-with_sheet_entry k v) id w.worksheets)
+    ∙ map_twice (with_sheet_entry k v) (sheet_entry k) (by_id id w.worksheets)
+    ∙ map_constant (λ s. sheet_entry k (with_sheet_entry k v s)) v (λ s. entry-with_sheet_entry s k v parts.1) (by_id id w.worksheets) parts.0
+
+-- the entry of every other key stays
+pub entry_at-put_entry_other : (w : Book) (k : EntryKey) (v : EntryValue) (q : EntryKey) → (q ≢ k) → entry_at (put_entry w k v) q ≡ entry_at w q
+unfolding entry_at put_entry
+entry_at-put_entry_other w k v q apart =
+    let id : ℕ = sheet_id_of k in
+    let other : ℕ = sheet_id_of q in
+    let change : Sheet → Sheet = with_sheet_entry k v in
+    decide (other == id)
+    (λ hit.
+    let same : other ≡ id = (unsigned_Decides other id).0 hit in
+    (λ i. option_map (sheet_entry q) (by_id (same i) (with_changed id change w.worksheets)))
+    ∙ ap (option_map (sheet_entry q)) (found-changed change (id-with_sheet_entry k v) id w.worksheets)
+    ∙ map_twice change (sheet_entry q) (by_id id w.worksheets)
+    ∙ map_same (λ s. sheet_entry q (change s)) (sheet_entry q) (λ s. entry-with_sheet_entry_other s k v q same apart) (by_id id w.worksheets)
+    ∙ (λ i. option_map (sheet_entry q) (by_id (sym same i) w.worksheets)))
+    (λ miss.
+    let ids : (other ≢ id) = λ e. true≢false (sym ((unsigned_Decides other id).1 e) ∙ miss) in
+    ap (option_map (sheet_entry q)) (found-changed_other change (id-with_sheet_entry k v) id other ids w.worksheets))
+
+-- what is no entry stays
+pub frame_of-put_entry : (w : Book) (k : EntryKey) (v : EntryValue) → frame_of (put_entry w k v) ≡ frame_of w
+unfolding frame_of put_entry
+frame_of-put_entry w k v = λ i. record w { worksheets = map-changed (with_sheet_entry k v) (id-with_sheet_entry k v) bare_sheet (bare-with_sheet_entry k v) (sheet_id_of k) w.worksheets i }
+
+is_there-frame_of : (w w2 : Book) (id : ℕ) → frame_of w ≡ frame_of w2 → is_some (by_id id w.worksheets) ≡ is_some (by_id id w2.worksheets)
+unfolding frame_of
+is_there-frame_of w w2 id e = is_some-bare id w.worksheets ∙ ap (λ (b : Book). is_some (by_id id b.worksheets)) e ∙ sym (is_some-bare id w2.worksheets)
+
+-- what can be put, and which entries are there, is a matter of the frame
+pub accepts-frame_of : (w w2 : Book) (k : EntryKey) (v : EntryValue) → frame_of w ≡ frame_of w2 → accepts w k v ≡ accepts w2 k v
+unfolding accepts
+accepts-frame_of w w2 k v e = ap (λ b. b && value_fits k v) (is_there-frame_of w w2 (sheet_id_of k) e)
+
+pub is_some-entry_at : (w w2 : Book) (k : EntryKey) → frame_of w ≡ frame_of w2 → is_some (entry_at w k) ≡ is_some (entry_at w2 k)
+unfolding entry_at
+is_some-entry_at w w2 k e =
+    is_some-map (sheet_entry k) (by_id (sheet_id_of k) w.worksheets) ∙ is_there-frame_of w w2 (sheet_id_of k) e
+    ∙ sym (is_some-map (sheet_entry k) (by_id (sheet_id_of k) w2.worksheets))
+
+-- where something can be put, so can nothing
+pub accepts-nothing_at : (w : Book) (k : EntryKey) (v : EntryValue) → accepts w k v ≡ true → accepts w k (nothing_at k) ≡ true
+unfolding accepts
+accepts-nothing_at w k v h =
+    let parts = both (is_some (by_id (sheet_id_of k) w.worksheets)) (value_fits k v) h in
+    λ i. parts.0 i && nothing_fits k v parts.1 i
+
+none_there : (id : ℕ) (ss ts : List Sheet) → map bare_sheet ss ≡ map bare_sheet ts → by_id id ss ≡ None → by_id id ts ≡ None
+none_there id ss ts e none = go (by_id id ts) (sym (is_some-bare id ts ∙ ap (λ l. is_some (by_id id l)) (sym e) ∙ sym (is_some-bare id ss) ∙ ap is_some none))
+  where
+    go : (o : Option Sheet) → false ≡ is_some o → o ≡ None
+    go None h = refl
+    go (Some s) h = absurd (true≢false (sym h))
+
+-- an id that differs from all others is not found among them
+not_found : (id : ℕ) (ss : List Sheet) → AllByRecursion (λ n. (id == n) ≡ false) (map (λ (s : Sheet). s.id) ss) → by_id id ss ≡ None
+not_found id [] others = refl
+not_found id (s ∷ ss) others =
+    let missed : s.id == id ≡ false = not_true _ (λ tie. true≢false (sym ((unsigned_Decides id s.id).1 (sym ((unsigned_Decides s.id id).0 tie))) ∙ others.0)) in
+    (λ i. cond (missed i) (Some s) (by_id id ss)) ∙ not_found id ss others.1
+
+same_sheets : (ss ts : List Sheet) → IsDistinct ◌==◌ (map (λ (s : Sheet). s.id) ss) → map bare_sheet ss ≡ map bare_sheet ts
+    → ((k : EntryKey) → option_map (sheet_entry k) (by_id (sheet_id_of k) ss) ≡ option_map (sheet_entry k) (by_id (sheet_id_of k) ts)) → ss ≡ ts
+unfolding IsDistinct
+same_sheets [] [] own e entries = refl
+same_sheets [] (t ∷ ts) own e entries = absurd (cc)
+same_sheets (s ∷ ss) [] own e entries = absurd (cc)
+same_sheets (s ∷ ss) (t ∷ ts) own e entries =
+    let heads : bare_sheet s ≡ bare_sheet t = cc in
+    let tails : map bare_sheet ss ≡ map bare_sheet ts = cc in
+    let ids : s.id ≡ t.id = ap (λ x. x.id) heads in
+    let mine : s.id == s.id ≡ true = (unsigned_Decides s.id s.id).1 refl in
+    let other : t.id == s.id ≡ true = (unsigned_Decides t.id s.id).1 (sym ids) in
+    let one : s ≡ t = same_sheet s t heads (λ k own_key.
+    let here : Some (sheet_entry k s) ≡ Some (sheet_entry k t) =
+    (λ i. option_map (sheet_entry k) (cond (sym mine i) (Some s) (by_id s.id ss)))
+    ∙ (λ i. option_map (sheet_entry k) (by_id (sym own_key i) (s ∷ ss))) ∙ entries k
+    ∙ (λ i. option_map (sheet_entry k) (by_id (own_key i) (t ∷ ts)))
+    ∙ (λ i. option_map (sheet_entry k) (cond (other i) (Some t) (by_id s.id ts))) in
+    cc) in
+    let rest : ss ≡ ts = same_sheets ss ts own.1 tails (λ k.
+    decide (s.id == sheet_id_of k)
+    (λ hit.
+    let is : s.id ≡ sheet_id_of k = (unsigned_Decides s.id (sheet_id_of k)).0 hit in
+    let none : by_id (sheet_id_of k) ss ≡ None = subst (λ n. by_id n ss ≡ None) is (not_found s.id ss own.0) in
+    ap (option_map (sheet_entry k)) (none ∙ sym (none_there (sheet_id_of k) ss ts tails none)))
+    (λ miss.
+    let missed : t.id == sheet_id_of k ≡ false = ap (λ n. n == sheet_id_of k) (sym ids) ∙ miss in
+    (λ i. option_map (sheet_entry k) (cond (sym miss i) (Some s) (by_id (sheet_id_of k) ss))) ∙ entries k
+    ∙ (λ i. option_map (sheet_entry k) (cond (missed i) (Some t) (by_id (sheet_id_of k) ts))))) in
+    λ i. one i ∷ rest i
+
+-- a workbook is its frame and its entries
+pub same_book : (w w2 : Book) → HasDistinctIds w → frame_of w ≡ frame_of w2 → ((k : EntryKey) → entry_at w k ≡ entry_at w2 k) → w ≡ w2
+unfolding frame_of entry_at
+same_book w w2 own e entries =
+    let sheets : w.worksheets ≡ w2.worksheets = same_sheets w.worksheets w2.worksheets own (ap (λ (b : Book). b.worksheets) e) entries in
+    λ i. record (e i) { worksheets = sheets i }

@@ -1,0 +1,189 @@
+//! Entries of a workbook: a cell, a link and the merges of a sheet, put by the id of their sheet.
+
+ghost use Rattle.std.specs.Prelude.{◌≡◌, IfOk, IfSome, IsOkUnless, OnOk};
+ghost use Rattle.std.specs.List.{list_all};
+ghost use Rattle.base_axis.specs.Rectangles.{is_inside};
+ghost use Rattle.base_values.specs.Answers.{Edits};
+ghost use Rattle.base_values.specs.declared.EditError.TheVariants.{NoMemory};
+ghost use Rattle.sheet_grid.specs.Arrays.{array_at};
+ghost use Rattle.sheet_grid.specs.Book.{index_of};
+ghost use Rattle.sheet_grid.specs.KeptCell.{IsKeptCell};
+ghost use Rattle.sheet_lines.specs.Sheets.{IsPlacedBook};
+ghost use Rattle.sheet_history.specs.Entries.{cell_stands_at, lies_inside};
+ghost use Rattle.sheet_history.specs.Entries.EntryKey.{CellKey, LinkKey, MergesKey};
+ghost use Rattle.sheet_history.specs.Entries.EntryValue.{CellValue, LinkValue, MergesValue};
+ghost use Rattle.sheet_history.specs.Diffs.{put_in, sheet_put};
+
+use base_axis::{MergeList, MergedCell};
+use base_shared::Shared;
+use base_values::{EditError, Position, copy_of};
+use cell_content::fits_at;
+use sheet_grid::{Cell, Link, Workbook, Worksheet, array_at};
+
+fn lies_inside(rectangle: Option<MergedCell>) -> bool
+    ensures { result ≡ lies_inside rectangle }
+{
+    match rectangle {
+        Some(rectangle) => rectangle.is_inside(),
+        None => true,
+    }
+}
+
+/// Whether an array, if the cell is one, lies inside the sheet.
+pub(crate) fn array_lies_inside(place: Position, cell: &Cell) -> bool
+    ensures { result ≡ lies_inside (array_at place cell.now.content) }
+{
+    lies_inside(array_at(place, &cell.content))
+}
+
+/// Whether each merge lies inside the sheet.
+pub(crate) fn merges_lie_inside(merges: &MergeList) -> bool
+    ensures { result ≡ list_all is_inside merges.now }
+{
+    merges.as_slice().iter().all(|merge| merge.is_inside())
+}
+
+/// Whether what is put at a place, a cell or none, may stand there.
+fn cell_stands_at(place: Position, entry: &Option<Shared<Cell>>) -> bool
+    ensures { result ≡ cell_stands_at place entry.now }
+{
+    match entry {
+        Some(cell) => {
+            fits_at(place, &cell.get().content) && array_lies_inside(place, cell.get())
+        }
+        None => true,
+    }
+}
+
+fn index_of(workbook: &Workbook, id: u32) -> Option<usize>
+    ensures { result ≡ index_of workbook.now id }
+{
+    workbook
+        .worksheets()
+        .iter()
+        .position(|sheet| sheet.get_sheet_id() == id)
+}
+
+/// The index of the first sheet of an id. One that 32 bits do not count is not found for want of
+/// memory, since no machine holds so many sheets.
+fn sheet_index(workbook: &Workbook, id: u32) -> Result<Option<u32>, EditError>
+    ensures index { IfOk result (λ index. index ≡ index_of workbook.now id) }
+    ensures only { IsOkUnless result NoMemory }
+{
+    match index_of(workbook, id) {
+        Some(index) => match u32::try_from(index) {
+            Ok(index) => Ok(Some(index)),
+            Err(_) => Err(EditError::NoMemory),
+        },
+        None => Ok(None),
+    }
+}
+
+/// Puts a cell, or none, at a place of a sheet, where it may stand there.
+#[tactic(auto, unfolding(base_values::specs::Places::place_of))]
+fn put_cell_in(
+    sheet: &mut Worksheet,
+    place: Position,
+    entry: &Option<Shared<Cell>>,
+    at: u64,
+) -> Result<(), EditError>
+    requires { IfSome entry.now IsKeptCell }
+    ensures { Edits result sheet.old sheet.new (sheet_put at (CellKey sheet.old.id place) (CellValue entry.now) sheet.old) }
+{
+    let refused = EditError::DiffRefused { entry: 0, diff: at };
+    if !cell_stands_at(place, entry) {
+        return Err(refused);
+    }
+    match sheet.put_shared_cell(place.row, place.column, copy_of(entry)?) {
+        Ok(()) => Ok(()),
+        Err(EditError::NoMemory) => Err(EditError::NoMemory),
+        Err(_) => Err(refused),
+    }
+}
+
+/// Puts a link, or none, at a place of a sheet.
+#[tactic(auto, unfolding(base_values::specs::Places::place_of))]
+fn put_link_in(
+    sheet: &mut Worksheet,
+    place: Position,
+    entry: &Option<Link>,
+    at: u64,
+) -> Result<(), EditError>
+    ensures { Edits result sheet.old sheet.new (sheet_put at (LinkKey sheet.old.id place) (LinkValue entry.now) sheet.old) }
+{
+    match sheet.put_link(place.row, place.column, copy_of(entry)?) {
+        Ok(()) => Ok(()),
+        Err(EditError::NoMemory) => Err(EditError::NoMemory),
+        Err(_) => Err(EditError::DiffRefused { entry: 0, diff: at }),
+    }
+}
+
+/// Puts merges in place of those of a sheet, where each lies inside.
+fn put_merges_in(sheet: &mut Worksheet, merges: &MergeList, at: u64) -> Result<(), EditError>
+    ensures { Edits result sheet.old sheet.new (sheet_put at (MergesKey sheet.old.id) (MergesValue merges.now) sheet.old) }
+{
+    if !merges_lie_inside(merges) {
+        return Err(EditError::DiffRefused { entry: 0, diff: at });
+    }
+    sheet.set_merged_cells(copy_of(merges)?.into_items());
+    Ok(())
+}
+
+/// Puts a cell, or none, at a place of the sheet of an id, where it may stand there. `at` is the
+/// number of its diff.
+pub(crate) fn put_cell(
+    workbook: &mut Workbook,
+    id: u32,
+    place: Position,
+    entry: &Option<Shared<Cell>>,
+    at: u64,
+) -> Result<(), EditError>
+    requires kept { IfSome entry.now IsKeptCell }
+    requires placed { IsPlacedBook workbook.old }
+    ensures edits { Edits result workbook.old workbook.new (put_in at workbook.old (CellKey id place) (CellValue entry.now)) }
+    ensures placed { OnOk result (IsPlacedBook workbook.new) }
+{
+    let Some(index) = sheet_index(workbook, id)? else {
+        return Err(EditError::DiffRefused { entry: 0, diff: at });
+    };
+    let sheet = workbook.worksheet_mut(index)?;
+    put_cell_in(sheet, place, entry, at)
+}
+
+/// Puts a link, or none, at a place of the sheet of an id. `at` is the number of its diff.
+pub(crate) fn put_link(
+    workbook: &mut Workbook,
+    id: u32,
+    place: Position,
+    entry: &Option<Link>,
+    at: u64,
+) -> Result<(), EditError>
+    requires { IsPlacedBook workbook.old }
+    ensures edits { Edits result workbook.old workbook.new (put_in at workbook.old (LinkKey id place) (LinkValue entry.now)) }
+    ensures placed { OnOk result (IsPlacedBook workbook.new) }
+{
+    let Some(index) = sheet_index(workbook, id)? else {
+        return Err(EditError::DiffRefused { entry: 0, diff: at });
+    };
+    let sheet = workbook.worksheet_mut(index)?;
+    put_link_in(sheet, place, entry, at)
+}
+
+/// Puts merges in place of those of the sheet of an id, where each lies inside. `at` is the number
+/// of their diff.
+pub(crate) fn put_merges(
+    workbook: &mut Workbook,
+    id: u32,
+    merges: &MergeList,
+    at: u64,
+) -> Result<(), EditError>
+    requires { IsPlacedBook workbook.old }
+    ensures edits { Edits result workbook.old workbook.new (put_in at workbook.old (MergesKey id) (MergesValue merges.now)) }
+    ensures placed { OnOk result (IsPlacedBook workbook.new) }
+{
+    let Some(index) = sheet_index(workbook, id)? else {
+        return Err(EditError::DiffRefused { entry: 0, diff: at });
+    };
+    let sheet = workbook.worksheet_mut(index)?;
+    put_merges_in(sheet, merges, at)
+}

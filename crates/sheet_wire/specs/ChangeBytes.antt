@@ -1,0 +1,44 @@
+-- The bytes of changes of what stands at a position, and of the merges of a sheet.
+use Rattle.std.specs.Prelude.{ℕ, ◌<◌, ◌^◌, List, ◌++◌, Option, IfSome}
+use Rattle.std.specs.Int.{w32, to_be_bytes}
+use Rattle.base_axis.specs.declared.MergedCell.{MergedCell}
+use Rattle.base_values.specs.declared.Position.{Position}
+use Rattle.base_wire.specs.Reading.{Reader, ◌⊗◌, number_at, option_at}
+use Rattle.base_wire.specs.Spelling.{spell_option}
+use Rattle.cell_wire.specs.CellBytes.{spell_position, position_at, FitsPosition}
+use Rattle.cell_wire.specs.MergeBytes.{spell_merges, merges_at, FitsMerges}
+
+-- ---- at a position
+
+-- the id of a sheet, a position, and what stands there before and after
+abbrev pub spell_change : {A : Type 0} → (A → List ℕ) → ℕ → Position → Option A → Option A → List ℕ
+spell_change spell id place old new = to_be_bytes w32 id ++ (spell_position place ++ (spell_option spell old ++ spell_option spell new))
+
+-- what stands at a position, or nothing
+unfoldable pub standing_at : {A : Type 0} → Reader A → Reader (Option A)
+standing_at read = option_at read
+
+abbrev pub change_at : {A : Type 0} → Reader A → Reader (ℕ × (Position × (Option A × Option A)))
+change_at read = number_at w32 ⊗ position_at ⊗ standing_at read ⊗ standing_at read
+
+-- the parts of such a change, which bytes can carry
+pub record FitsChange {A : Type 0} (Fits : A → Type 0) (id : ℕ) (position : Position) (before later : Option A) : Type 0 where
+  pub sheet : id < 2 ^ 32
+  pub place : FitsPosition position
+  pub old : IfSome before Fits
+  pub new : IfSome later Fits
+
+-- ---- merges
+
+-- the id of a sheet, and its merges before and after
+abbrev pub spell_merges_change : ℕ → List MergedCell → List MergedCell → List ℕ
+spell_merges_change id old new = to_be_bytes w32 id ++ (spell_merges old ++ spell_merges new)
+
+abbrev pub merges_change_at : Reader (ℕ × (List MergedCell × List MergedCell))
+merges_change_at = number_at w32 ⊗ merges_at ⊗ merges_at
+
+-- the parts of such a change, which bytes can carry
+pub record FitsMergesChange (id : ℕ) (before later : List MergedCell) : Type 0 where
+  pub sheet : id < 2 ^ 32
+  pub old : FitsMerges before
+  pub new : FitsMerges later

@@ -3,4 +3,5 @@ pub mod Edited
 pub mod GreatestLine
 pub mod Planned
 pub mod Shown
+pub mod Whole
 pub mod laws

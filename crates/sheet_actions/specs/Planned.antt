@@ -1,37 +1,63 @@
 -- Which line edits a workbook allows.
 use Rattle.std.proofs.Common.{ℕ, ℤ, pos, ◌+ℤ◌, Bool, true, false, Option, Some, None, Result, Ok, Err}
-use Rattle.std.specs.Prelude.{int_lt, not, if◌then◌else◌}
+use Rattle.std.specs.Prelude.{int_lt, not, ◌&&◌, if◌then◌else◌}
+use Rattle.std.specs.List.{list_any}
 use Rattle.base_values.specs.declared.EditError.{EditError}
-use Rattle.base_values.specs.declared.EditError.TheVariants.{InvalidRow, InvalidColumn, BadCount, OverEdge, TargetOutOfBounds}
+use Rattle.base_values.specs.declared.EditError.TheVariants.{InvalidRow, InvalidColumn, BadCount, OverEdge, TargetOutOfBounds, SplitsArray, SplitsMerge}
 use Rattle.base_values.specs.Answers.{and_then}
 use Rattle.base_values.specs.Places.{is_line}
 use Rattle.base_axis.specs.Along.{Along}
-use Rattle.sheet_grid.specs.Sheet.{Sheet}
-use Rattle.sheet_grid.specs.Book.{Book, sheet_at}
+use Rattle.base_axis.specs.declared.MergedCell.{MergedCell}
+use Rattle.base_axis.specs.Rectangles.{is_inside, first_line, last_line, last_of}
 use Rattle.line_edits.specs.declared.EditKind.{EditKind}
 use Rattle.line_edits.specs.declared.EditKind.TheVariants.{Insert, Delete, Move}
-use Rattle.line_map.specs.Areas.{last_line}
 use Rattle.line_edits.specs.Edit.{is_valid}
+use Rattle.line_edits.specs.Splits.{splits}
+use Rattle.sheet_grid.specs.Arrays.{arrays_of}
+use Rattle.sheet_grid.specs.Sheet.{Sheet}
+use Rattle.sheet_grid.specs.Book.{Book, sheet_at}
 use Rattle.sheet_actions.specs.GreatestLine.{greatest_line}
 
 -- the refusal of a line that is not one of the axis
 abbrev pub outside : Along → EditError
 outside a = if a.of true false then InvalidRow else InvalidColumn
 
--- the first refusal of so many lines to be inserted or deleted from a first one on, with what is refused of lines that reach too far
-abbrev pub refusal_from : Along → ℤ → ℤ → Bool → EditError → Option EditError
-refusal_from a first count too_far refusal =
+-- whether an edit splits a rectangle that lies inside the sheet
+abbrev pub splits_rectangle : Along → EditKind → MergedCell → Bool
+splits_rectangle a kind r = is_inside r && splits kind (first_line a r) (last_line a r)
+
+-- whether it splits an array of a sheet
+abbrev pub splits_array : Along → EditKind → Sheet → Bool
+splits_array a kind sheet = list_any (splits_rectangle a kind) (arrays_of sheet)
+
+-- whether it splits a merge
+abbrev pub splits_merge : Along → EditKind → Sheet → Bool
+splits_merge a kind sheet = list_any (splits_rectangle a kind) sheet.merges
+
+-- whether an insertion of so many lines could push a cell, or what an array fills, past the last line
+abbrev pub pushes_past : Along → ℤ → Sheet → Bool
+pushes_past a count sheet = int_lt a.last (greatest_line a sheet +ℤ count)
+
+-- the first refusal of an edit of a sheet's lines. A deletion reaches too far by its own lines, a move by its block or by where that
+-- goes; only a move may not split a merge
+unfoldable pub refusal_of : Along → EditKind → Sheet → Option EditError
+refusal_of a (Insert first count) sheet =
     if int_lt count (pos 1) then Some BadCount
     else if not (is_line a.last first) then Some (outside a)
-    else if too_far then Some refusal
+    else if splits_array a (Insert first count) sheet then Some SplitsArray
+    else if pushes_past a count sheet then Some OverEdge
     else None
-
--- the first refusal of an edit of a sheet's lines: an insertion reaches too far by the cells that it could push past the last line, a
--- deletion by its own lines, and a move by its block or by where that goes
-unfoldable pub refusal_of : Along → EditKind → Sheet → Option EditError
-refusal_of a (Insert first count) sheet = refusal_from a first count (int_lt a.last (greatest_line a sheet +ℤ count)) OverEdge
-refusal_of a (Delete first count) sheet = refusal_from a first count (int_lt a.last (last_line first count)) TargetOutOfBounds
-refusal_of a (Move first count delta) sheet = if is_valid a.last (Move first count delta) then None else Some TargetOutOfBounds
+refusal_of a (Delete first count) sheet =
+    if int_lt count (pos 1) then Some BadCount
+    else if not (is_line a.last first) then Some (outside a)
+    else if int_lt a.last (last_of first count) then Some TargetOutOfBounds
+    else if splits_array a (Delete first count) sheet then Some SplitsArray
+    else None
+refusal_of a (Move first count delta) sheet =
+    if not (is_valid a.last (Move first count delta)) then Some TargetOutOfBounds
+    else if splits_array a (Move first count delta) sheet then Some SplitsArray
+    else if splits_merge a (Move first count delta) sheet then Some SplitsMerge
+    else None
 
 -- a value, unless there is a refusal
 abbrev pub unless_refused : {T : Type 0} → Option EditError → T → Result T EditError

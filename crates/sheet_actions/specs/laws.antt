@@ -1,8 +1,14 @@
 pub mod PlannedLaws
 pub mod GreatestLaws
+pub mod Sources
+pub mod MergedSources
+pub mod FollowingRectangles
+pub mod FollowedRectangles
+pub mod FollowedShapes
 pub mod FollowedEntries
 pub mod FollowedLines
 pub mod FollowedSheets
 pub mod FollowedWellFormed
+pub mod OwnSheets
 pub mod Placed
 pub mod WellFormedProp

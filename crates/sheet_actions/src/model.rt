@@ -8,6 +8,7 @@ ghost use Rattle.sheet_lines.specs.Followed.{book_followed};
 ghost use Rattle.sheet_actions.specs.Checked.{checked};
 ghost use Rattle.sheet_actions.specs.laws.WellFormedProp.{well_formed_prop};
 ghost use Rattle.sheet_actions.specs.Edited.{lines_edited, lines_moved};
+ghost use Rattle.sheet_actions.specs.Whole.{IsAllowed};
 
 use crate::plan::{plan_delete, plan_insert, plan_move};
 use base_axis::{Axis, ColumnAxis, RowAxis};
@@ -50,7 +51,8 @@ impl Model {
 
     /// Edits lines of the sheet of an id.
     fn edit_lines<A: Axis>(&mut self, id: u32, edit: &LineEdit<A>) -> Result<(), EditError>
-        requires { IsValid A.along.last edit.now.kind }
+        requires valid { IsValid A.along.last edit.now.kind }
+        requires allowed { IsAllowed A.along edit.now.kind id (book_of self.now) }
         ensures { Changes result (book_of self.old) (book_of self.new) (Ok (book_followed A.along edit.now.kind id (book_of self.old))) }
     {
         self.workbook = followed_book(self.alloc, &self.workbook, id, edit)?;

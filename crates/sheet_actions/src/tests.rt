@@ -9,13 +9,14 @@ use base_tables::{Error, Locale, Zone};
 use base_values::{EditError, Items, LAST_COLUMN, LAST_ROW, Text, same};
 use cell_content::Content;
 use formula_tree::{Corner, Node, has_kept_numbers};
-use line_map::EditKind;
+use line_edits::EditKind;
 use sheet_grid::{Cell, DefaultStyle, Link, RowAttr, Workbook, Worksheet};
 use std::alloc::{AllocError, Global};
 use std::process::Abort;
 use std::test::Fail;
 
 mod lines;
+mod rectangles;
 
 fn text(alloc: Global, word: &str) -> Result<Text, AllocError> {
     Ok(Text::new(String::from_str(alloc, word)?))

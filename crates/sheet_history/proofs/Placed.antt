@@ -5,6 +5,10 @@ use Rattle.std.specs.List.{AllByRecursion, list_all}
 use Rattle.std.specs.Option.{option_map_or}
 use Rattle.std.specs.Ordering.{eq_by_cmp}
 use Rattle.std.specs.FinMap.{get}
+use Rattle.std.proofs.lemmas.List.Elements.{All-from_recursion}
+use Rattle.base_axis.specs.declared.MergedCell.{MergedCell}
+use Rattle.base_axis.specs.Rectangles.{IsInside, is_inside}
+use Rattle.base_axis.specs.laws.RectangleLaws.{inside_found}
 use Rattle.base_values.specs.declared.EditError.{EditError}
 use Rattle.base_values.specs.declared.Position.{Position}
 use Rattle.base_values.specs.Answers.{Edits}
@@ -22,6 +26,8 @@ use Rattle.sheet_grid.specs.Sheet.{Sheet, with_cell}
 use Rattle.sheet_grid.specs.Book.{Book}
 use Rattle.sheet_rules.specs.laws.EntryLaws.{both}
 use Rattle.sheet_rules.specs.laws.WellFormedLaws.{well_formed_parts, cells_fit_from_trees}
+use Rattle.line_map.specs.Merges.{MergesLie}
+use Rattle.sheet_rules.specs.Occupied.{have_merges}
 use Rattle.sheet_rules.specs.WellFormed.{is_place, have_trees, IsWellFormed}
 use Rattle.sheet_lines.specs.Sheets.{IsPlacedCell, IsPlacedSheet, IsPlacedBook, sheet_of}
 use Rattle.sheet_history.specs.Entries.{EntryKey, EntryValue, cell_stands_at, value_fits, sheet_id_of, with_sheet_entry, with_changed, put_entry, accepts}
@@ -29,6 +35,7 @@ use Rattle.sheet_history.specs.Entries.EntryKey.{CellKey, LinkKey, MergesKey}
 use Rattle.sheet_history.specs.Entries.EntryValue.{CellValue, LinkValue, MergesValue}
 use Rattle.sheet_history.specs.Diffs.{put_in}
 use Rattle.sheet_history.specs.laws.EntryLaws.{decide}
+use Rattle.sheet_history.specs.laws.SoundEntries.{sheet_merges_inside}
 use Rattle.sheet_history.specs.laws.TestedLaws.{put_in-done}
 
 -- of a tree that fits
@@ -44,23 +51,40 @@ placed_cell place cell fits = go (tree_of cell.content) fits
     go None fits = tt
     go (Some tree) fits = placed_tree place tree fits
 
-placed_sheet : (sheet : Sheet) → have_trees sheet ≡ true → IsPlacedSheet sheet
-placed_sheet sheet trees place cell found = placed_cell place cell (sym (ap (entry_fits_at place) found) ∙ cells_fit_from_trees sheet trees place)
+each_inside : (merges : List MergedCell) → list_all is_inside merges ≡ true → AllByRecursion IsInside merges
+each_inside [] all = tt
+each_inside (merge ∷ merges) all = let parts = both (is_inside merge) (list_all is_inside merges) all in (inside_found merge parts.0, each_inside merges parts.1)
 
-placed_sheets : (sheets : List Sheet) → list_all have_trees sheets ≡ true → AllByRecursion IsPlacedSheet sheets
-placed_sheets [] trees = tt
-placed_sheets (sheet ∷ sheets) trees = let parts = both (have_trees sheet) (list_all have_trees sheets) trees in (placed_sheet sheet parts.0, placed_sheets sheets parts.1)
+-- of merges that pass the test
+pub merges_lie : (merges : List MergedCell) → list_all is_inside merges ≡ true → MergesLie merges
+merges_lie merges all = All-from_recursion IsInside merges (each_inside merges all)
+
+placed_sheet : (sheet : Sheet) → have_trees sheet ≡ true → have_merges sheet ≡ true → IsPlacedSheet sheet
+placed_sheet sheet trees merges = record {
+  cells = λ place cell found. placed_cell place cell (sym (ap (entry_fits_at place) found) ∙ cells_fit_from_trees sheet trees place);
+  merges = merges_lie sheet.merges (sheet_merges_inside sheet merges);
+}
+
+placed_sheets : (sheets : List Sheet) → list_all have_trees sheets ≡ true → list_all have_merges sheets ≡ true → AllByRecursion IsPlacedSheet sheets
+placed_sheets [] trees merges = tt
+placed_sheets (sheet ∷ sheets) trees merges =
+    let own = both (have_trees sheet) (list_all have_trees sheets) trees in
+    let apart = both (have_merges sheet) (list_all have_merges sheets) merges in
+    (placed_sheet sheet own.0 apart.0, placed_sheets sheets own.1 apart.1)
 
 -- of a well-formed workbook
 pub placed_by_rules : (book : Book) → IsWellFormed book → IsPlacedBook book
-placed_by_rules book rules = placed_sheets book.worksheets (well_formed_parts book rules).trees
+placed_by_rules book rules = let parts = well_formed_parts book rules in placed_sheets book.worksheets parts.trees parts.merges
 
 placed-put : (sheet : Sheet) (place : Position) (entry : Option Cell) → entry_fits_at place entry ≡ true → IsPlacedSheet sheet → IsPlacedSheet (with_cell sheet place entry)
-placed-put sheet place entry fits all q cell found = go (eq_by_cmp position_cmp q place) refl (sym (get-with_entry position_total sheet.cells place entry q) ∙ found)
+placed-put sheet place entry fits all = record {
+  cells = λ q cell found. go q cell (eq_by_cmp position_cmp q place) refl (sym (get-with_entry position_total sheet.cells place entry q) ∙ found);
+  merges = all.merges;
+}
   where
-    go : (b : Bool) → eq_by_cmp position_cmp q place ≡ b → cond b entry (get sheet.cells q) ≡ Some cell → IsPlacedCell q cell
-    go true same it = placed_cell q cell (sym (λ i. entry_fits_at (sym (one_key position_cmp position_total exact_positions q place same) i) (it i)) ∙ fits)
-    go false other it = all q cell it
+    go : (q : Position) (cell : Cell) (b : Bool) → eq_by_cmp position_cmp q place ≡ b → cond b entry (get sheet.cells q) ≡ Some cell → IsPlacedCell q cell
+    go q cell true same it = placed_cell q cell (sym (λ i. entry_fits_at (sym (one_key position_cmp position_total exact_positions q place same) i) (it i)) ∙ fits)
+    go q cell false other it = all.cells q cell it
 
 fits_there : (place : Position) (entry : Option Cell) → cell_stands_at place entry ≡ true → entry_fits_at place entry ≡ true
 fits_there place None fits = refl
@@ -69,8 +93,8 @@ fits_there place (Some cell) fits = (both _ _ fits).0
 -- of a sheet with an entry that fits
 placed_entry : (s : Sheet) (k : EntryKey) (v : EntryValue) → value_fits k v ≡ true → IsPlacedSheet s → IsPlacedSheet (with_sheet_entry k v s)
 placed_entry s (CellKey id place) (CellValue entry) fits all = placed-put s place entry (fits_there place entry (both (is_place place) (cell_stands_at place entry) fits).1) all
-placed_entry s (LinkKey id place) (LinkValue entry) fits all = all
-placed_entry s (MergesKey id) (MergesValue merges) fits all = all
+placed_entry s (LinkKey id place) (LinkValue entry) fits all = record { cells = all.cells; merges = all.merges }
+placed_entry s (MergesKey id) (MergesValue merges) fits all = record { cells = all.cells; merges = merges_lie merges fits }
 placed_entry s _ _ fits all = absurd (let never : false ≡ true = fits in cc)
 
 each_changed : (P : Sheet → Type 0) (f : Sheet → Sheet) → ((s : Sheet) → P s → P (f s)) → (id : ℕ) (ss : List Sheet) → AllByRecursion P ss → AllByRecursion P (with_changed id f ss)

@@ -1,10 +1,12 @@
 -- What the tests of a diff of lines say of what is kept.
 use Rattle.std.proofs.Common.{◌≡◌, ℕ, Bool, true, ◌&&◌, List, [], ◌∷◌, Option, Some, None, refl}
+use Rattle.std.specs.Prelude.{IfSome}
 use Rattle.std.specs.List.{list_all}
 use Rattle.std.specs.FinMap.{entries}
 use Rattle.base_values.specs.declared.Position.{Position}
 use Rattle.base_values.specs.Places.{is_line, position_cmp}
 use Rattle.base_values.specs.laws.Places.{position_total, exact_positions}
+use Rattle.base_axis.specs.declared.MergedCell.{MergedCell}
 use Rattle.base_axis.specs.Along.{Along}
 use Rattle.base_maps.specs.declared.SheetPlace.{SheetPlace}
 use Rattle.base_maps.specs.SheetPlaces.{sheet_place_cmp}
@@ -12,6 +14,7 @@ use Rattle.base_maps.specs.laws.SheetPlaces.{sheet_place_total, exact_sheet_plac
 use Rattle.formula_tree.specs.declared.Node.{Node}
 use Rattle.cell_content.specs.Fitting.{fits_at, tree_fits_at}
 use Rattle.line_edits.specs.declared.EditKind.{EditKind}
+use Rattle.line_map.specs.Merges.{MergesLie}
 use Rattle.sheet_grid.specs.declared.Cell.{Cell}
 use Rattle.sheet_grid.specs.Book.{Book}
 use Rattle.sheet_grid.specs.Sheet.{Sheet}
@@ -21,23 +24,28 @@ use Rattle.sheet_rules.specs.WellFormed.{is_place}
 use Rattle.sheet_lines.specs.declared.KeptLines.{KeptLines}
 use Rattle.sheet_lines.specs.Back.{LieInside, ArePlacedLines}
 use Rattle.sheet_lines.specs.Sheets.{sheet_of}
-use Rattle.sheet_history.specs.LineDiffs.{stand_on_lost, cells_fit, tree_stands, formulas_stand}
+use Rattle.sheet_history.specs.LineDiffs.{stand_on_lost, merges_inside, lie_inside, cells_fit, tree_stands, formulas_stand}
 use Rattle.sheet_history.specs.laws.Entries.{entry_holds}
-use Rattle.sheet_history.proofs.Placed.{placed_cell, placed_tree}
+use Rattle.sheet_history.proofs.Placed.{placed_cell, placed_tree, merges_lie}
 
 first_tests : {X : Type 0} (f g : X → Bool) (xs : List X) → list_all (λ x. f x && g x) xs ≡ true → list_all f xs ≡ true
 first_tests f g [] all = refl
 first_tests f g (x ∷ xs) all = let parts = both (f x && g x) (list_all (λ x. f x && g x) xs) all in λ i. (both (f x) (g x) parts.0).0 i && first_tests f g xs parts.1 i
 
--- what stands on lost lines lies inside
-pub inside_of_lost : (a : Along) (e : EditKind) (kept : KeptLines) → stand_on_lost a e kept ≡ true → LieInside a kept
-unfolding stand_on_lost
-inside_of_lost a e kept all =
+kept_merges_lie : (merges : Option (List MergedCell)) → merges_inside merges ≡ true → IfSome merges MergesLie
+kept_merges_lie None all = tt
+kept_merges_lie (Some merges) all = merges_lie merges all
+
+-- what stands on lost lines, and whose merges lie inside, lies inside
+pub inside_of_lost : (a : Along) (e : EditKind) (kept : KeptLines) → stand_on_lost a e kept ≡ true → lie_inside kept ≡ true → LieInside a kept
+unfolding stand_on_lost lie_inside
+inside_of_lost a e kept all inside =
     let places = both _ _ (both _ _ all).0 in
     record {
       cells = places_from_test kept.cells (first_tests (λ e. is_place e.0) _ (entries kept.cells) places.0);
       links = places_from_test kept.links (first_tests (λ e. is_place e.0) _ (entries kept.links) places.1);
       lines = lines_from_test a.last kept.lines (first_tests (λ e. is_line a.last e.0) _ (entries kept.lines) (both _ _ (both _ _ all).1).0);
+      merges = kept_merges_lie kept.merges (both _ _ inside).1;
     }
 
 tree_fits : (a : Along) (e : EditKind) (id : ℕ) (o : Option Sheet) (place : Position) (tree : Node) → tree_stands a e id o place tree ≡ true → tree_fits_at place tree ≡ true

@@ -128,8 +128,7 @@ fn are_on_places<V>(map: &SheetPlaceMap<V>) -> bool
 /// tree inside a sheet.
 #[tactic(auto, unfolding(crate::specs::LineDiffs::stand_on_lost))]
 fn stand_on_lost<A: Axis>(edit: &LineEdit<A>, kept: &KeptLines) -> bool
-    ensures value { result ≡ stand_on_lost A.along edit.now.kind kept.now }
-    ensures inside { IsTrue result → LieInside A.along kept.now }
+    ensures { result ≡ stand_on_lost A.along edit.now.kind kept.now }
 {
     (are_lost_places(edit, &kept.cells) && are_lost_places(edit, &kept.links))
         && (are_lost_lines(edit, &kept.lines) && are_on_places(&kept.formulas))
@@ -158,6 +157,14 @@ fn lie_inside(kept: &KeptLines) -> bool
     ensures { result ≡ lie_inside kept.now }
 {
     arrays_inside(&kept.cells) && merges_inside(&kept.merges)
+}
+
+/// Both: what is kept lies inside the sheet.
+fn kept_lies_inside<A: Axis>(edit: &LineEdit<A>, kept: &KeptLines) -> bool
+    ensures value { result ≡ (stand_on_lost A.along edit.now.kind kept.now && lie_inside kept.now) }
+    ensures inside { IsTrue result → LieInside A.along kept.now }
+{
+    stand_on_lost(edit, kept) && lie_inside(kept)
 }
 
 /// Whether the formula of each cell fits its place.
@@ -262,9 +269,7 @@ fn goes_forward<A: Axis>(edit: &LineEdit<A>, id: u32, kept: &KeptLines, workbook
     ensures value { result ≡ goes_forward A.along id edit.now.kind kept.now workbook.now }
     ensures valid { IsTrue result → IsValid A.along.last edit.now.kind }
 {
-    edit.is_valid()
-        && is_there_inside(edit, workbook, id)
-        && (stand_on_lost(edit, kept) && lie_inside(kept))
+    edit.is_valid() && is_there_inside(edit, workbook, id) && kept_lies_inside(edit, kept)
 }
 
 /// Makes an edit of lines, where it can be made. `at` is the number of its diff.
@@ -314,7 +319,7 @@ fn goes_back<A: Axis>(edit: &LineEdit<A>, id: u32, kept: &KeptLines, workbook: &
 {
     edit.is_valid()
         && is_there_inside_back(edit, workbook, id)
-        && (stand_on_lost(edit, kept) && lie_inside(kept))
+        && kept_lies_inside(edit, kept)
         && may_stand(edit, id, kept, workbook)
 }
 

@@ -1,9 +1,10 @@
 //! Entries of a workbook: a cell, a link and the merges of a sheet, put by the id of their sheet.
 
-ghost use Rattle.std.specs.Prelude.{◌≡◌, IfSome, OnOk, Ok};
+ghost use Rattle.std.specs.Prelude.{◌≡◌, IfOk, IfSome, IsOkUnless, OnOk};
 ghost use Rattle.std.specs.List.{list_all};
 ghost use Rattle.base_axis.specs.Rectangles.{is_inside};
-ghost use Rattle.base_values.specs.Answers.{Answers, Edits};
+ghost use Rattle.base_values.specs.Answers.{Edits};
+ghost use Rattle.base_values.specs.declared.EditError.TheVariants.{NoMemory};
 ghost use Rattle.sheet_grid.specs.Arrays.{array_at};
 ghost use Rattle.sheet_grid.specs.Book.{index_of};
 ghost use Rattle.sheet_grid.specs.KeptCell.{IsKeptCell};
@@ -54,16 +55,22 @@ fn cell_stands_at(place: Position, entry: &Option<Shared<Cell>>) -> bool
     }
 }
 
-/// The index of the first sheet of an id. One that 32 bits do not count is not found for want of
-/// memory, since no machine holds so many sheets.
-fn index_of(workbook: &Workbook, id: u32) -> Result<Option<u32>, EditError>
-    ensures { Answers result (Ok (index_of workbook.now id)) }
+fn index_of(workbook: &Workbook, id: u32) -> Option<usize>
+    ensures { result ≡ index_of workbook.now id }
 {
-    let found = workbook
+    workbook
         .worksheets()
         .iter()
-        .position(|sheet| sheet.get_sheet_id() == id);
-    match found {
+        .position(|sheet| sheet.get_sheet_id() == id)
+}
+
+/// The index of the first sheet of an id. One that 32 bits do not count is not found for want of
+/// memory, since no machine holds so many sheets.
+fn sheet_index(workbook: &Workbook, id: u32) -> Result<Option<u32>, EditError>
+    ensures index { IfOk result (λ index. index ≡ index_of workbook.now id) }
+    ensures only { IsOkUnless result NoMemory }
+{
+    match index_of(workbook, id) {
         Some(index) => match u32::try_from(index) {
             Ok(index) => Ok(Some(index)),
             Err(_) => Err(EditError::NoMemory),
@@ -136,10 +143,11 @@ pub(crate) fn put_cell(
     ensures edits { Edits result workbook.old workbook.new (put_in at workbook.old (CellKey id place) (CellValue entry.now)) }
     ensures placed { OnOk result (IsPlacedBook workbook.new) }
 {
-    let Some(index) = index_of(workbook, id)? else {
+    let Some(index) = sheet_index(workbook, id)? else {
         return Err(EditError::DiffRefused { entry: 0, diff: at });
     };
-    put_cell_in(workbook.worksheet_mut(index)?, place, entry, at)
+    let sheet = workbook.worksheet_mut(index)?;
+    put_cell_in(sheet, place, entry, at)
 }
 
 /// Puts a link, or none, at a place of the sheet of an id. `at` is the number of its diff.
@@ -154,10 +162,11 @@ pub(crate) fn put_link(
     ensures edits { Edits result workbook.old workbook.new (put_in at workbook.old (LinkKey id place) (LinkValue entry.now)) }
     ensures placed { OnOk result (IsPlacedBook workbook.new) }
 {
-    let Some(index) = index_of(workbook, id)? else {
+    let Some(index) = sheet_index(workbook, id)? else {
         return Err(EditError::DiffRefused { entry: 0, diff: at });
     };
-    put_link_in(workbook.worksheet_mut(index)?, place, entry, at)
+    let sheet = workbook.worksheet_mut(index)?;
+    put_link_in(sheet, place, entry, at)
 }
 
 /// Puts merges in place of those of the sheet of an id, where each lies inside. `at` is the number
@@ -172,8 +181,9 @@ pub(crate) fn put_merges(
     ensures edits { Edits result workbook.old workbook.new (put_in at workbook.old (MergesKey id) (MergesValue merges.now)) }
     ensures placed { OnOk result (IsPlacedBook workbook.new) }
 {
-    let Some(index) = index_of(workbook, id)? else {
+    let Some(index) = sheet_index(workbook, id)? else {
         return Err(EditError::DiffRefused { entry: 0, diff: at });
     };
-    put_merges_in(workbook.worksheet_mut(index)?, merges, at)
+    let sheet = workbook.worksheet_mut(index)?;
+    put_merges_in(sheet, merges, at)
 }

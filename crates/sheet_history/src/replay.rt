@@ -55,9 +55,7 @@ fn has_no_merge(merges: &[MergedCell]) -> bool
 fn has_no_array(sheet: &Worksheet) -> bool
     ensures { result ≡ list_all (λ (entry : Place × CellValue). is_none (array_at entry.0 entry.1.content)) (entries sheet.now.cells) }
 {
-    sheet
-        .cells()
-        .all(|(place, cell)| array_at(*place, &cell.get().content).is_none())
+    sheet.cells().all(|(place, cell)| array_at(*place, &cell.get().content).is_none())
 }
 
 #[tactic(auto, unfolding(crate::specs::Untested::shows_all))]
@@ -182,9 +180,9 @@ fn follow_forward(
 ) -> Result<(), EditError>
     requires kept { IsKeptList list.now }
     requires rules { IsWellFormed workbook.old }
-    requires open { IsTrue is_open.old → IsTrue (hides_nothing workbook.old) }
+    requires shown { IsTrue is_open.old → IsTrue (hides_nothing workbook.old) }
     ensures followed { Edits result workbook.old workbook.new (forwarded workbook.old list.now) }
-    ensures open { IsTrue is_open.new → IsTrue (hides_nothing workbook.new) }
+    ensures shown { IsTrue is_open.new → IsTrue (hides_nothing workbook.new) }
 {
     if keeps_rules(workbook, list, *is_open) {
         return forward_in_place(alloc, workbook, list);
@@ -204,9 +202,9 @@ fn follow_back(
 ) -> Result<(), EditError>
     requires kept { IsKeptList list.now }
     requires rules { IsWellFormed workbook.old }
-    requires open { IsTrue is_open.old → IsTrue (hides_nothing workbook.old) }
+    requires shown { IsTrue is_open.old → IsTrue (hides_nothing workbook.old) }
     ensures followed { Edits result workbook.old workbook.new (backed workbook.old list.now) }
-    ensures open { IsTrue is_open.new → IsTrue (hides_nothing workbook.new) }
+    ensures shown { IsTrue is_open.new → IsTrue (hides_nothing workbook.new) }
 {
     if keeps_rules_back(workbook, list, *is_open) {
         return back_in_place(alloc, workbook, list);
@@ -226,9 +224,9 @@ fn follow_entry(
 ) -> Result<(), EditError>
     requires kept { IsKeptList entry.now.list }
     requires rules { IsWellFormed workbook.old }
-    requires open { IsTrue is_open.old → IsTrue (hides_nothing workbook.old) }
+    requires shown { IsTrue is_open.old → IsTrue (hides_nothing workbook.old) }
     ensures followed { Edits result workbook.old workbook.new (in_entry at (follow entry.now.kind workbook.old entry.now.list)) }
-    ensures open { IsTrue is_open.new → IsTrue (hides_nothing workbook.new) }
+    ensures shown { IsTrue is_open.new → IsTrue (hides_nothing workbook.new) }
 {
     let followed = match entry.kind {
         DiffType::Undo => follow_back(alloc, workbook, &entry.list, is_open),
@@ -252,10 +250,10 @@ fn follow_by_rule(
 ) -> Result<(), EditError>
     requires kept { IsKeptList entry.now.list }
     requires rules { IsWellFormed workbook.old }
-    requires open { IsTrue is_open.old → IsTrue (hides_nothing workbook.old) }
+    requires shown { IsTrue is_open.old → IsTrue (hides_nothing workbook.old) }
     ensures followed { Edits result workbook.old workbook.new (in_entry at (follow entry.now.kind workbook.old entry.now.list)) }
     ensures rules { IsWellFormed workbook.new }
-    ensures open { IsTrue is_open.new → IsTrue (hides_nothing workbook.new) }
+    ensures shown { IsTrue is_open.new → IsTrue (hides_nothing workbook.new) }
 {
     follow_entry(alloc, workbook, entry, at, is_open)
 }

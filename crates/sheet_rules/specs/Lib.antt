@@ -1,3 +1,4 @@
+pub mod Compared
 pub mod DefaultParts
 pub mod Distinct
 pub mod Occupied

@@ -1,4 +1,10 @@
+pub mod ComparedLaws
 pub mod DefaultPartLaws
 pub mod EntryLaws
+pub mod FollowedLists
+pub mod HiddenLaws
 pub mod InsideLaws
+pub mod OccupiedLaws
+pub mod PutLaws
+pub mod ShownLaws
 pub mod WellFormedLaws

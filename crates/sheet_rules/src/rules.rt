@@ -2,11 +2,13 @@ ghost use Rattle.std.specs.Prelude.{◌≡◌, is_none};
 ghost use Rattle.std.specs.List.{list_all};
 ghost use Rattle.std.specs.FinMap.{entries};
 ghost use Rattle.base_values.specs.Places.{is_line};
+ghost use Rattle.sheet_rules.specs.Occupied.{have_arrays, have_merges, are_hidden_blank};
 ghost use Rattle.sheet_rules.specs.WellFormed.{are_sheets, is_place, stands_inside, have_trees, have_attributes, is_count, are_frozen, broken_rule};
 
 use crate::attributes::have_attributes;
 use crate::ids::have_distinct_ids;
 use crate::names::{have_distinct_names, have_names};
+use crate::occupied::{are_hidden_blank, have_arrays, have_merges};
 use base_axis::{Axis, AxisMap};
 use base_values::{LAST_COLUMN, LAST_ROW, PlaceMap};
 use cell_content::fits_at;
@@ -54,6 +56,24 @@ fn all_stand_inside(sheets: &[Worksheet]) -> bool
     ensures { result ≡ list_all stands_inside sheets.now }
 {
     sheets.iter().all(stands_inside)
+}
+
+fn all_have_arrays(sheets: &[Worksheet]) -> bool
+    ensures { result ≡ list_all have_arrays sheets.now }
+{
+    sheets.iter().all(have_arrays)
+}
+
+fn all_have_merges(sheets: &[Worksheet]) -> bool
+    ensures { result ≡ list_all have_merges sheets.now }
+{
+    sheets.iter().all(have_merges)
+}
+
+fn all_are_hidden_blank(sheets: &[Worksheet]) -> bool
+    ensures { result ≡ list_all are_hidden_blank sheets.now }
+{
+    sheets.iter().all(are_hidden_blank)
 }
 
 /// Rule 6: each formula may stand at its place.
@@ -107,6 +127,12 @@ pub fn broken_rule(workbook: &Workbook) -> Option<u8>
         Some(1)
     } else if !all_stand_inside(sheets) {
         Some(2)
+    } else if !all_have_arrays(sheets) {
+        Some(3)
+    } else if !all_have_merges(sheets) {
+        Some(4)
+    } else if !all_are_hidden_blank(sheets) {
+        Some(5)
     } else if !all_have_trees(sheets) {
         Some(6)
     } else if !all_have_attributes(sheets) {

@@ -1,5 +1,6 @@
 // Which rule workbooks break. What is expected was taken from the rules of docs/MODEL.md.
 use crate::broken_rule;
+use base_axis::MergedCell;
 use base_shared::Shared;
 use base_styles::Style;
 use base_tables::{Locale, Zone};
@@ -159,6 +160,124 @@ fn entries(rt: HostRuntime) -> Result<(), Fail> {
         (Entry::Font(0), Some(7)),
     ] {
         assert_eq!(rt; broken_by(rt.alloc(), entry)?, rule);
+    }
+    Ok(())
+}
+
+/// What stands in a sheet beside other pieces.
+#[derive(Clone, Copy)]
+enum Piece {
+    Nothing,
+    Merge(MergedCell),
+    Array(MergedCell),
+    /// A content at a row and a column.
+    Content(i32, i32),
+    /// A style alone at a row and a column.
+    Style(i32, i32),
+}
+
+fn add_merge(alloc: Global, sheet: &mut Worksheet, merge: MergedCell) -> Result<(), EditError> {
+    let mut merges = Items::empty(alloc);
+    for other in sheet.merged_cells() {
+        merges.push(*other)?;
+    }
+    merges.push(merge)?;
+    sheet.set_merged_cells(merges);
+    Ok(())
+}
+
+fn put_array(alloc: Global, sheet: &mut Worksheet, array: MergedCell) -> Result<(), EditError> {
+    let style = DefaultStyle::new(alloc)?;
+    let tree = Node::Boolean(true);
+    if has_kept_numbers(&tree) {
+        sheet.set_cell_with_array_formula(
+            array.row,
+            array.column,
+            tree,
+            style.shared(),
+            array.width,
+            array.height,
+        )?;
+    }
+    Ok(())
+}
+
+fn put_content(
+    alloc: Global,
+    sheet: &mut Worksheet,
+    row: i32,
+    column: i32,
+) -> Result<(), EditError> {
+    let style = DefaultStyle::new(alloc)?;
+    sheet.set_cell_with_boolean(row, column, true, style.shared())
+}
+
+fn put_style(alloc: Global, sheet: &mut Worksheet, row: i32, column: i32) -> Result<(), EditError> {
+    let style = DefaultStyle::new(alloc)?;
+    sheet.cell_clear_contents_with_style(row, column, style.shared())
+}
+
+fn put_piece(alloc: Global, sheet: &mut Worksheet, piece: Piece) -> Result<(), EditError> {
+    match piece {
+        Piece::Nothing => Ok(()),
+        Piece::Merge(merge) => add_merge(alloc, sheet, merge),
+        Piece::Array(array) => put_array(alloc, sheet, array),
+        Piece::Content(row, column) => put_content(alloc, sheet, row, column),
+        Piece::Style(row, column) => put_style(alloc, sheet, row, column),
+    }
+}
+
+/// The rule that a workbook of one sheet with these two in it breaks.
+fn broken_by_two(alloc: Global, first: Piece, second: Piece) -> Result<Option<u8>, EditError> {
+    let mut sheet = Worksheet::new(alloc, 1, "Sheet1")?;
+    put_piece(alloc, &mut sheet, first)?;
+    put_piece(alloc, &mut sheet, second)?;
+    let mut sheets = Items::empty(alloc);
+    sheets.push(sheet)?;
+    broken(alloc, sheets)
+}
+
+fn merge(row: i32, column: i32, width: i32, height: i32) -> Piece {
+    Piece::Merge(MergedCell {
+        row,
+        column,
+        width,
+        height,
+    })
+}
+
+fn array(row: i32, column: i32, width: i32, height: i32) -> Piece {
+    Piece::Array(MergedCell {
+        row,
+        column,
+        width,
+        height,
+    })
+}
+
+/// Where arrays and merges may stand, and what may stand at the places that they cover.
+#[test]
+fn occupied(rt: HostRuntime) -> Result<(), Fail> {
+    for (first, second, rule) in [
+        (array(1, 1, 2, 2), Piece::Nothing, None),
+        (array(1, 1, 0, 1), Piece::Nothing, Some(3)),
+        (array(1, 16384, 2, 1), Piece::Nothing, Some(3)),
+        (array(1, 1, 2, 2), array(2, 2, 1, 2), Some(3)),
+        (array(1, 1, 2, 2), array(1, 3, 2, 2), None),
+        (merge(1, 1, 2, 2), Piece::Nothing, None),
+        (merge(1, 1, 1, 1), Piece::Nothing, Some(4)),
+        (merge(1048576, 1, 1, 2), Piece::Nothing, Some(4)),
+        (merge(1, 1, 2, 2), merge(2, 2, 2, 2), Some(4)),
+        (merge(1, 1, 2, 1), merge(2, 1, 2, 1), None),
+        (merge(1, 1, 2, 2), array(1, 1, 1, 1), None),
+        (merge(1, 1, 2, 2), array(1, 1, 1, 2), Some(4)),
+        (merge(1, 1, 2, 2), Piece::Content(1, 1), None),
+        (merge(1, 1, 2, 2), Piece::Content(2, 2), Some(5)),
+        (merge(1, 1, 2, 2), Piece::Style(2, 2), None),
+        (array(1, 1, 2, 2), Piece::Content(1, 2), Some(5)),
+        (array(1, 1, 2, 2), array(2, 1, 1, 1), Some(5)),
+    ] {
+        assert_eq!(rt; broken_by_two(rt.alloc(), first, second)?, rule);
     }
     Ok(())
 }

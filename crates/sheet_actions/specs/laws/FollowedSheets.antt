@@ -14,7 +14,7 @@ use Rattle.formula_tree.specs.Placed.{is_placed}
 use Rattle.formula_tree.specs.laws.MovedLaws.{depth-moved}
 use Rattle.cell_content.specs.Fitting.{tree_fits_at, fits_at}
 use Rattle.cell_content.specs.declared.Content.{Content}
-use Rattle.cell_content.specs.declared.Content.TheVariants.{Empty, Number, Boolean, Error, Text, Formula, Dynamic}
+use Rattle.cell_content.specs.declared.Content.TheVariants.{Empty, Number, Boolean, Error, Text, Formula, Dynamic, Array}
 use Rattle.line_map.specs.Attributes.{lines_carried}
 use Rattle.line_map.specs.Contents.{content_carried, cell_carried}
 use Rattle.line_map.specs.Trees.{following, tree_carried}
@@ -62,6 +62,7 @@ content_fits w is (Error error) fits = refl
 content_fits w is (Text text) fits = refl
 content_fits w is (Formula tree) fits = tree_fits w is tree fits
 content_fits w is (Dynamic tree) fits = tree_fits w is tree fits
+content_fits w is (Array tree width height) fits = tree_fits w is tree fits
 
 module _ (w : Way) (is : IsWay w) where
   -- the lines that have something are lines of the sheet

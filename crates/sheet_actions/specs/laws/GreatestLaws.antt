@@ -1,57 +1,69 @@
--- The greatest line of a sheet is that of its dimension.
-use Rattle.std.proofs.Common.{◌≡◌, ◌≢◌, ℤ, pos, ◌≤ℤ◌, List, [], ◌∷◌, map, refl, sym, ap, subst, arith, ⊎_elim}
-use Rattle.std.proofs.lemmas.Int.{ints, fold-int_max_bounds, fold-int_max_reached}
-use Rattle.std.specs.Int.{int_max}
-use Rattle.std.specs.List.{fold}
-use Rattle.std.proofs.lemmas.List.Elements.{All-contains}
-use Rattle.std.specs.FinMap.{keys}
+-- The greatest line of a sheet: it is at least 1, and no array ends behind it.
+use Rattle.std.proofs.Common.{◌≡◌, ℤ, pos, ◌≤ℤ◌, Bool, true, List, [], ◌∷◌, map, Option, Some, None, refl, ap, sym, ◌∙◌, arith}
+use Rattle.std.specs.Prelude.{◌&&◌, int_le}
+use Rattle.std.specs.List.{list_all, AllByRecursion}
+use Rattle.std.proofs.lemmas.Int.{ints, fold-int_max_bounds}
+use Rattle.std.proofs.lemmas.List.Elements.{recursion_from_All}
+use Rattle.std.specs.FinMap.{entries, get}
 use Rattle.base_values.specs.declared.Position.{Position}
+use Rattle.base_values.specs.Places.{position_cmp}
+use Rattle.base_values.specs.laws.Places.{position_total, exact_positions}
 use Rattle.base_axis.specs.Along.{Along, IsAxis}
+use Rattle.base_axis.specs.declared.MergedCell.{MergedCell}
+use Rattle.base_axis.specs.Rectangles.{IsInside, last_of, last_line}
+use Rattle.sheet_grid.specs.declared.Cell.{Cell}
 use Rattle.sheet_grid.specs.declared.WorksheetDimension.{WorksheetDimension}
-use Rattle.sheet_grid.specs.Dimension.{IsGreatest, IsLeastRectangle, IsRectangle, first_place}
+use Rattle.sheet_grid.specs.Arrays.{array_at}
+use Rattle.sheet_grid.specs.Dimension.{reached, extent_at, extent_of, extents_of, last_corner}
 use Rattle.sheet_grid.specs.Sheet.{Sheet}
+use Rattle.sheet_rules.specs.laws.EntryLaws.{passes_at_from_all}
 use Rattle.sheet_actions.specs.GreatestLine.{greatest_line}
+use Rattle.sheet_actions.specs.laws.FollowingRectangles.{by_axis}
 
--- the greatest of numbers is the greatest of them and 1, where it is at least 1
-greatest_is : (numbers : List ℤ) (g : ℤ) → pos 1 ≤ℤ g → IsGreatest numbers g → g ≡ fold int_max (pos 1) numbers
-greatest_is numbers g one h =
-    let f : ℤ = fold int_max (pos 1) numbers in
-    let bounds = fold-int_max_bounds (pos 1) numbers f refl in
-    let up : g ≤ℤ f = All-contains (λ k. k ≤ℤ f) numbers g bounds.1 h.among in
-    ⊎_elim (λ is. omega (arith, ints)) (λ among. let down : f ≤ℤ g = All-contains (λ k. k ≤ℤ g) numbers f h.above among in omega (arith, ints)) (fold-int_max_reached (pos 1) numbers f refl)
+-- where what a cell takes of the sheet ends
+abbrev end_of : Along → WorksheetDimension → ℤ
+end_of a extent = a.line (last_corner extent)
 
 -- a sheet's greatest line is at least 1
 pub at_least_one : (a : Along) (sheet : Sheet) → pos 1 ≤ℤ greatest_line a sheet
 unfolding greatest_line
-at_least_one a sheet = (fold-int_max_bounds (pos 1) (map a.line (keys sheet.cells)) _ refl).0
+at_least_one a sheet = (fold-int_max_bounds (pos 1) (map (end_of a) (extents_of sheet.cells)) _ refl).0
 
--- the last place of a rectangle
-abbrev pub last_place : WorksheetDimension → Position
-last_place rectangle = record { row = rectangle.max_row; column = rectangle.max_column }
+le_test : (m n : ℤ) → m ≤ℤ n → int_le m n ≡ true
+le_test m n h = grind (arith, ints)
 
-abbrev IsLast : List Position → WorksheetDimension → Along → Type 0
-IsLast places rectangle a = a.line (last_place rectangle) ≡ fold int_max (pos 1) (map a.line places)
+le_from : (m n : ℤ) → int_le m n ≡ true → m ≤ℤ n
+le_from m n h = grind (arith, ints)
 
--- of the least rectangle of places, which lies inside the sheet
-last_of : (places : List Position) (rectangle : WorksheetDimension) → IsRectangle rectangle → IsLeastRectangle places rectangle → (a : Along) → IsAxis a → IsLast places rectangle a
-last_of places rectangle inside least a l = ⊎_elim
-    (λ is. subst (IsLast places rectangle) (sym is) (greatest_is _ _ inside.last.0.0 least.max_row))
-    (λ is. subst (IsLast places rectangle) (sym is) (greatest_is _ _ inside.last.1.0 least.max_column))
-    l.one_of
+-- what lies inside reaches its own last line
+reaches : (last first count : ℤ) → pos 1 ≤ℤ count → last_of first count ≤ℤ last → reached last first count ≡ last_of first count
+reaches last first count some inside = grind (arith, ints)
 
--- of no places
-last_of_none : (rectangle : WorksheetDimension) → rectangle ≡ first_place → (a : Along) → IsAxis a → IsLast [] rectangle a
-last_of_none rectangle first a l = ⊎_elim
-    (λ is. subst (IsLast [] rectangle) (sym is) (ap (λ r. r.max_row) first))
-    (λ is. subst (IsLast [] rectangle) (sym is) (ap (λ r. r.max_column) first))
-    l.one_of
+none_behind : (a : Along) (most : ℤ) (es : List (Position × Cell)) → AllByRecursion (λ line. line ≤ℤ most) (map (end_of a) (map extent_of es)) → list_all (λ e. int_le (end_of a (extent_of e)) most) es ≡ true
+none_behind a most [] h = refl
+none_behind a most (e ∷ es) h = λ i. le_test (end_of a (extent_of e)) most h.0 i && none_behind a most es h.1 i
 
-last_of_places : (places : List Position) (rectangle : WorksheetDimension) → IsRectangle rectangle → (places ≡ [] → rectangle ≡ first_place) → (places ≢ [] → IsLeastRectangle places rectangle) → (a : Along) → IsAxis a → IsLast places rectangle a
-last_of_places [] rectangle inside none some = last_of_none rectangle (none refl)
-last_of_places (place ∷ places) rectangle inside none some = last_of (place ∷ places) rectangle inside (some (λ e. absurd (cc)))
+module _ (a : Along) (is : IsAxis a) (sheet : Sheet) where
+  abbrev ends : Position → Option Cell → Bool
+  ends place None = true
+  ends place (Some cell) = int_le (end_of a (extent_of (place, cell))) (greatest_line a sheet)
 
--- where the last place of the dimension stands
-pub greatest_of_dimension : (a : Along) → IsAxis a → (sheet : Sheet) (rectangle : WorksheetDimension) → IsRectangle rectangle → (keys sheet.cells ≡ [] → rectangle ≡ first_place) → (keys sheet.cells ≢ [] → IsLeastRectangle (keys sheet.cells) rectangle) →
-    a.line (last_place rectangle) ≡ greatest_line a sheet
-unfolding greatest_line
-greatest_of_dimension a l sheet rectangle inside none some = last_of_places (keys sheet.cells) rectangle inside none some a l
+  each_ends : (place : Position) → ends place (get sheet.cells place) ≡ true
+  unfolding greatest_line
+  each_ends place =
+      passes_at_from_all position_cmp position_total exact_positions ends (λ _. refl) sheet.cells
+      (none_behind a (greatest_line a sheet) (entries sheet.cells)
+      (recursion_from_All (λ line. line ≤ℤ greatest_line a sheet) (map (end_of a) (extents_of sheet.cells)) (fold-int_max_bounds (pos 1) (map (end_of a) (extents_of sheet.cells)) _ refl).1)) place
+
+  end_of_array : (r : MergedCell) → IsInside r → end_of a (extent_at (record { row = r.row; column = r.column }) (Some r)) ≡ last_line a r
+  end_of_array r inside =
+      by_axis (λ b. end_of b (extent_at (record { row = r.row; column = r.column }) (Some r)) ≡ last_line b r)
+      (reaches (pos 1048576) r.row r.height inside.high inside.last.0.1) (reaches (pos 16384) r.column r.width inside.wide inside.last.1.1) a is
+
+  -- an array that lies inside does not end behind it
+  pub array_ends : (place : Position) (cell : Cell) (r : MergedCell) → get sheet.cells place ≡ Some cell → array_at place cell.content ≡ Some r → place ≡ record { row = r.row; column = r.column } → IsInside r →
+      last_line a r ≤ℤ greatest_line a sheet
+  array_ends place cell r held shows at inside =
+      let passes : int_le (end_of a (extent_of (place, cell))) (greatest_line a sheet) ≡ true = sym (ap (ends place) held) ∙ each_ends place in
+      let there : end_of a (extent_of (place, cell)) ≡ last_line a r = (λ i. end_of a (extent_at (at i) (shows i))) ∙ end_of_array r inside in
+      le_from (last_line a r) (greatest_line a sheet) (ap (λ n. int_le n (greatest_line a sheet)) (sym there) ∙ passes)

@@ -1,9 +1,13 @@
--- The corners of the formulas of a well-formed workbook lie inside the sheet.
+-- The corners of the formulas of a well-formed workbook lie inside the sheet, and so do its merges.
 use Rattle.std.proofs.Common.{◌≡◌, true, List, [], ◌∷◌, Option, Some, None, ap, sym, ◌∙◌}
 use Rattle.std.specs.Prelude.{IfSome}
 use Rattle.std.specs.List.{list_all, AllByRecursion}
 use Rattle.std.specs.Option.{option_map_or}
 use Rattle.base_values.specs.declared.Position.{Position}
+use Rattle.std.proofs.lemmas.List.Elements.{All-from_recursion}
+use Rattle.base_axis.specs.declared.MergedCell.{MergedCell}
+use Rattle.base_axis.specs.Rectangles.{IsInside, is_inside, has_many}
+use Rattle.base_axis.specs.laws.RectangleLaws.{inside_found}
 use Rattle.formula_tree.specs.declared.Node.{Node}
 use Rattle.formula_tree.specs.Placed.{is_placed}
 use Rattle.cell_content.specs.Fitting.{tree_fits_at}
@@ -12,7 +16,9 @@ use Rattle.sheet_grid.specs.FittingCells.{entry_fits_at}
 use Rattle.sheet_grid.specs.Sheet.{Sheet}
 use Rattle.sheet_grid.specs.Book.{Book}
 use Rattle.sheet_rules.specs.WellFormed.{have_trees, IsWellFormed}
+use Rattle.sheet_rules.specs.Occupied.{have_merges, is_merge}
 use Rattle.sheet_rules.specs.laws.EntryLaws.{both}
+use Rattle.sheet_rules.specs.laws.OccupiedLaws.{keeps_merges}
 use Rattle.sheet_rules.specs.laws.WellFormedLaws.{well_formed_parts, cells_fit_from_trees}
 use Rattle.sheet_lines.specs.Sheets.{IsPlacedSheet, IsPlacedBook}
 
@@ -21,12 +27,25 @@ unfolding tree_fits_at
 tree_placed place None fits = tt
 tree_placed place (Some tree) fits = (both _ _ (both _ _ fits).0).0
 
-sheet_placed : (sheet : Sheet) → have_trees sheet ≡ true → IsPlacedSheet sheet
-sheet_placed sheet h place cell held = tree_placed place (tree_of cell.content) (sym (ap (entry_fits_at place) held) ∙ cells_fit_from_trees sheet h place)
+-- a merge of two cells or more that lies inside lies inside
+merges_inside : (merges : List MergedCell) → list_all is_merge merges ≡ true → AllByRecursion IsInside merges
+merges_inside [] h = tt
+merges_inside (merge ∷ merges) h =
+    let parts = both _ _ h in
+    (inside_found merge (both (has_many merge) (is_inside merge) parts.0).1, merges_inside merges parts.1)
 
-each_placed : (sheets : List Sheet) → list_all have_trees sheets ≡ true → AllByRecursion IsPlacedSheet sheets
-each_placed [] h = tt
-each_placed (sheet ∷ sheets) h = let parts = both _ _ h in (sheet_placed sheet parts.0, each_placed sheets parts.1)
+sheet_placed : (sheet : Sheet) → have_trees sheet ≡ true → have_merges sheet ≡ true → IsPlacedSheet sheet
+sheet_placed sheet trees merges = record {
+  cells = λ place cell held. tree_placed place (tree_of cell.content) (sym (ap (entry_fits_at place) held) ∙ cells_fit_from_trees sheet trees place);
+  merges = All-from_recursion IsInside sheet.merges (merges_inside sheet.merges (keeps_merges sheet merges).merges);
+}
+
+each_placed : (sheets : List Sheet) → list_all have_trees sheets ≡ true → list_all have_merges sheets ≡ true → AllByRecursion IsPlacedSheet sheets
+each_placed [] trees merges = tt
+each_placed (sheet ∷ sheets) trees merges =
+    let x = both _ _ trees in
+    let y = both _ _ merges in
+    (sheet_placed sheet x.0 y.0, each_placed sheets x.1 y.1)
 
 pub placed_from_well_formed : (book : Book) → IsWellFormed book → IsPlacedBook book
-placed_from_well_formed book h = each_placed book.worksheets (well_formed_parts book h).trees
+placed_from_well_formed book h = let rules = well_formed_parts book h in each_placed book.worksheets rules.trees rules.merges

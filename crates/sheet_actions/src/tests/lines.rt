@@ -3,22 +3,22 @@ use super::{edit, empty_book};
 use crate::Model;
 use base_values::EditError;
 use cell_content::Content;
-use line_map::EditKind;
+use line_edits::EditKind;
 use sheet_grid::{DefaultStyle, Worksheet};
 use std::alloc::Global;
 use std::test::Fail;
 
 const LETTERS: [(i32, &str); 6] = [(1, "a"), (2, "b"), (3, "c"), (4, "d"), (5, "e"), (6, "f")];
 
-fn inserted(first: i32, count: i32) -> EditKind {
+pub(super) fn inserted(first: i32, count: i32) -> EditKind {
     EditKind::Insert { first, count }
 }
 
-fn deleted(first: i32, count: i32) -> EditKind {
+pub(super) fn deleted(first: i32, count: i32) -> EditKind {
     EditKind::Delete { first, count }
 }
 
-fn moved(first: i32, count: i32, delta: i32) -> EditKind {
+pub(super) fn moved(first: i32, count: i32, delta: i32) -> EditKind {
     EditKind::Move {
         first,
         count,

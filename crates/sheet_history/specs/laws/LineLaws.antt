@@ -12,6 +12,9 @@ use Rattle.base_values.specs.declared.EditError.TheVariants.{DiffRefused}
 use Rattle.base_values.specs.declared.Position.{Position}
 use Rattle.base_values.specs.Places.{is_line, position_cmp}
 use Rattle.base_values.specs.laws.Places.{position_total, exact_positions}
+use Rattle.base_axis.specs.declared.MergedCell.{MergedCell}
+use Rattle.base_axis.specs.contracts.merge_list.MergeListPartialEq.TheImpl as equality
+use Rattle.base_axis.specs.Rectangles.{is_inside}
 use Rattle.base_axis.specs.Along.{Along, IsAxis, rows, columns}
 use Rattle.base_maps.specs.declared.SheetPlace.{SheetPlace}
 use Rattle.base_maps.specs.SheetPlaces.{sheet_place_cmp}
@@ -29,11 +32,14 @@ use Rattle.line_edits.specs.Edit.{image_at, goes_to, within, opposite_of, IsVali
 use Rattle.base_maps.specs.Carried.{if_there, lost_map}
 use Rattle.line_map.specs.Contents.{cell_carried, cell_part}
 use Rattle.line_map.specs.Maps.{places_carried}
+use Rattle.line_map.specs.Merges.{merges_carried, merges_part}
+use Rattle.line_map.specs.Trial.{comes_back, part_by_trial}
 use Rattle.line_edits.specs.Moves.{at_line, edit_moves, place_image}
 use Rattle.line_map.specs.Way.{Way, at, back, place_goes}
 use Rattle.base_maps.specs.laws.Gathering.{get-lost_map}
 use Rattle.base_maps.specs.laws.CarriedLaws.{get-carried_map}
 use Rattle.line_map.specs.laws.WayLaws.{goes_inverse}
+use Rattle.sheet_grid.specs.Arrays.{array_at}
 use Rattle.sheet_grid.specs.declared.Cell.{Cell}
 use Rattle.sheet_grid.specs.declared.LineAttr.{LineAttr}
 use Rattle.sheet_grid.specs.declared.Link.{Link}
@@ -47,28 +53,17 @@ use Rattle.sheet_rules.specs.laws.WellFormedLaws.{well_formed_parts, cells_fit_f
 use Rattle.sheet_lines.specs.declared.KeptLines.{KeptLines}
 use Rattle.sheet_lines.specs.Sheets.{sheet_of, name_of}
 use Rattle.sheet_lines.specs.Followed.{way_of, sheet_followed, book_followed}
-use Rattle.sheet_lines.specs.Kept.{lines_of, of_sheet, kept_lines}
+use Rattle.sheet_lines.specs.Kept.{lines_of, of_sheet, merges_kept, kept_lines}
 use Rattle.sheet_lines.specs.Back.{book_back}
 use Rattle.sheet_lines.specs.laws.Regained.{book_regained, formulas_at}
 use Rattle.sheet_lines.specs.laws.Stays.{way_is}
 use Rattle.sheet_history.specs.Depth.{AreShallowLines}
-use Rattle.sheet_history.specs.LineDiffs.{is_pushed_past, stays_inside, is_there_inside, is_lost_place, is_lost_line, all_keys, stand_on_lost, cells_fit, tree_stands, formulas_stand, goes_on, goes_forward, goes_back, lines_forward, lines_back}
+use Rattle.sheet_history.specs.LineDiffs.{is_pushed_past, stays_inside, is_there_inside, is_lost_place, is_lost_line, all_keys, stand_on_lost, merges_inside, lie_inside, cells_fit, tree_stands, formulas_stand, goes_on, goes_forward, goes_back, lines_forward, lines_back}
+use Rattle.sheet_history.specs.Entries.{lies_inside}
 use Rattle.sheet_history.specs.laws.Entries.{all_entries, entry_holds}
+use Rattle.sheet_history.specs.laws.RuleLaws.{KeepsSheetRules, sheet_rules}
+use Rattle.sheet_history.specs.laws.SoundEntries.{array_inside, sheet_merges_inside}
 use Rattle.sheet_history.specs.laws.KeptTrees.{IsTreeThere, tree_there, kept_fits, formula_there}
-
--- what holds of all holds of what is found
-module _ {X : Type 0} (p : X → Bool) where
-  found_of_each : (P : X → Type 0) (xs : List X) (x : X) → find p xs ≡ Some x → AllByRecursion P xs → P x
-  found_of_each P [] x h all = absurd (cc)
-  found_of_each P (y ∷ ys) x h all = go (λ it. found_of_each P ys x it all.1) (p y) h
-    where
-      go : (find p ys ≡ Some x → P x) → (b : Bool) → cond b (Some y) (find p ys) ≡ Some x → P x
-      go rest true it = let same : y ≡ x = cc in subst P same all.0
-      go rest false it = rest it
-
-each_passes : {X : Type 0} (P : X → Bool) (xs : List X) → list_all P xs ≡ true → AllByRecursion (λ x. P x ≡ true) xs
-each_passes P [] all = tt
-each_passes P (x ∷ xs) all = ((both (P x) (list_all P xs) all).0, each_passes P xs (both (P x) (list_all P xs) all).1)
 
 module _ {K X : Type 0} (R : K → K → Ordering) (total : IsTotalOrder R) (exact : CmpEqualImpliesEq R) (to : K → Option K) (m : FinMap R X) where
   -- a lost entry is one of the map, and its key goes nowhere
@@ -84,6 +79,19 @@ module _ {K X : Type 0} (R : K → K → Ordering) (total : IsTotalOrder R) (exa
   lost_keys test all = all_entries R total exact (λ e. test e.0 && is_none (to e.0)) (lost_map to m) (λ k x found.
       let it = lost_entry k x found in
       λ i. entry_holds R total exact (λ e. test e.0) m all k x it.0 i && it.1 i)
+
+-- whether the array of an entry, if it is one, lies inside
+abbrev array_lies : Position × Cell → Bool
+array_lies entry = lies_inside (array_at entry.0 entry.1.content)
+
+either_inside : (b : Bool) (merges : List MergedCell) → list_all is_inside merges ≡ true → merges_inside (cond b None (Some merges)) ≡ true
+either_inside true merges all = refl
+either_inside false merges all = all
+
+-- what is kept of merges that lie inside does too
+part_inside : (w : Way) (merges : List MergedCell) → list_all is_inside merges ≡ true → merges_inside (merges_part w merges) ≡ true
+unfolding part_by_trial
+part_inside w merges all = either_inside (comes_back equality.ghosts.eq merges_carried w merges) merges all
 
 -- what a sheet has stands inside it, map by map
 record StandsInside (sheet : Sheet) : Type 0 where
@@ -179,10 +187,10 @@ module _ (a : Along) (l : IsAxis a) (e : EditKind) (valid : IsValid a.last e) (i
     way_in sheet = way_on (name_of (sheet_of book id)) sheet
 
     sheet_fits : (n : ℕ) (s : Sheet) → sheet_of book n ≡ Some s → CellsFit s
-    sheet_fits n s h = cells_fit_from_trees s (found_of_each (λ s. s.id == n) (λ s. have_trees s ≡ true) book.worksheets s h (each_passes have_trees book.worksheets (well_formed_parts book rules).trees))
+    sheet_fits n s h = cells_fit_from_trees s (sheet_rules book rules n s h).trees
 
     sheet_inside : (n : ℕ) (s : Sheet) → sheet_of book n ≡ Some s → StandsInside s
-    sheet_inside n s h = inside_parts s (found_of_each (λ s. s.id == n) (λ s. stands_inside s ≡ true) book.worksheets s h (each_passes stands_inside book.worksheets (well_formed_parts book rules).inside))
+    sheet_inside n s h = inside_parts s (sheet_rules book rules n s h).inside
 
     -- a kept tree is one of a cell of a sheet
     record IsOfSheet (key : SheetPlace) (tree : Node) : Type 0 where
@@ -258,11 +266,28 @@ module _ (a : Along) (l : IsAxis a) (e : EditKind) (valid : IsValid a.last e) (i
           ∙ lost_keys int_cmp int_cmp_total exact_signed (image_at a.last e) (lines_of a sheet) (is_line a.last) (lines_inside a l sheet inside)) i
           && trees_inside i)
 
+      -- kept arrays and merges lie inside
+      kept_lie_inside : lie_inside kept ≡ true
+      unfolding lie_inside
+      kept_lie_inside = λ i. arrays i && merges i
+        where
+          keeps : KeepsSheetRules sheet
+          keeps = sheet_rules book rules id sheet found
+
+          arrays : list_all array_lies (entries kept.cells) ≡ true
+          arrays =
+              ap (λ o. list_all array_lies (entries (of_sheet (λ (s : Sheet). lost_map (place_image a (image_at a.last e)) s.cells) o))) found
+              ∙ all_entries position_cmp position_total exact_positions array_lies (lost_map (place_image a (image_at a.last e)) sheet.cells)
+              (λ p cell there. array_inside sheet keeps.arrays p cell (lost_entry position_cmp position_total exact_positions (place_image a (image_at a.last e)) sheet.cells p cell there).0)
+
+          merges : merges_inside kept.merges ≡ true
+          merges = ap (λ o. merges_inside (merges_kept a (edit_moves a.last e) id (name_of (sheet_of book id)) o)) found ∙ part_inside (way_in sheet) sheet.merges (sheet_merges_inside sheet keeps.merges)
+
       -- the edit is made
       pub lines_made : (at : ℕ) → is_there_inside a e (sheet_of book id) ≡ true → lines_forward at a id e kept book ≡ Ok later
       unfolding lines_forward
       lines_made at there =
-          let goes : goes_forward a id e kept book ≡ true = λ i. valid i && there i && kept_on_lost i in
+          let goes : goes_forward a id e kept book ≡ true = λ i. valid i && there i && (kept_on_lost i && kept_lie_inside i) in
           ap (λ b. if b then Ok later else Err (DiffRefused 0 at)) goes
 
       -- the edit is taken back
@@ -274,5 +299,5 @@ module _ (a : Along) (l : IsAxis a) (e : EditKind) (valid : IsValid a.last e) (i
           ap (is_there_inside a (opposite_of e)) (later_found id sheet found) ∙ back_inside (name_of (sheet_of book id)) sheet it e refl in
           let fit : cells_fit kept.cells ≡ true =
           ap (λ o. cells_fit (of_sheet (λ (s : Sheet). lost_map (place_image a (image_at a.last e)) s.cells) o)) found ∙ kept_fit sheet (sheet_fits id sheet found) in
-          let goes : goes_back a id e kept later ≡ true = λ i. valid i && inside i && kept_on_lost i && (fit i && kept_formulas_stand i) in
+          let goes : goes_back a id e kept later ≡ true = λ i. valid i && inside i && (kept_on_lost i && kept_lie_inside i) && (fit i && kept_formulas_stand i) in
           ap (λ b. if b then Ok (book_back a e id kept later) else Err (DiffRefused 0 at)) goes ∙ ap Ok (book_regained a l e valid id book (distinct_ids_from_well_formed book rules))

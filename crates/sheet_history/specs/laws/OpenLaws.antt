@@ -1,7 +1,7 @@
 -- Where no sheet has a merge or an array, no place is hidden.
 use Rattle.std.proofs.Common.{◌≡◌, ℕ, Bool, true, false, ◌&&◌, ◌||◌, List, [], ◌∷◌, Option, Some, None, refl, ap, sym, ◌∙◌}
 use Rattle.std.specs.Prelude.{not, is_none}
-use Rattle.std.specs.List.{list_all, list_any, filter_map}
+use Rattle.std.specs.List.{list_all, list_any, filter_map, cons_option}
 use Rattle.std.specs.FinMap.{entries}
 use Rattle.base_values.specs.declared.Position.{Position}
 use Rattle.base_values.specs.KeyMap.{with_entry}
@@ -34,11 +34,7 @@ no_arrays : (es : List (Position × Cell)) → list_all (λ (e : Position × Cel
 no_arrays [] all = refl
 no_arrays (e ∷ es) all =
     let parts = both _ _ all in
-    ap (λ o. keep o) (none_large (array_at e.0 e.1.content) parts.0) ∙ no_arrays es parts.1
-  where
-    keep : Option MergedCell → List MergedCell
-    keep None = filter_map (λ (f : Position × Cell). large_array_at f.0 f.1.content) es
-    keep (Some r) = r ∷ filter_map (λ (f : Position × Cell). large_array_at f.0 f.1.content) es
+    ap (λ o. cons_option o (filter_map (λ (f : Position × Cell). large_array_at f.0 f.1.content) es)) (none_large (array_at e.0 e.1.content) parts.0) ∙ no_arrays es parts.1
 
 no_merges : (merges : List MergedCell) → has_no_merge merges ≡ true → merges ≡ []
 no_merges [] h = refl
@@ -66,11 +62,11 @@ stands_open s place (Some cell) shown =
 
 -- what is no array may stand anywhere
 pub may_stand_open : (book : Book) → hides_nothing book ≡ true → (id : ℕ) (place : Position) (entry : Option Cell) → is_no_array place entry ≡ may_stand_on (sheet_of book id) place entry
-may_stand_open book open id place entry = go (sheet_of book id) refl
+may_stand_open book shown id place entry = go (sheet_of book id) refl
   where
     go : (o : Option Sheet) → sheet_of book id ≡ o → is_no_array place entry ≡ may_stand_on o place entry
     go None found = refl
-    go (Some s) found = sym (stands_open s place entry (shown_place s (all-found shows_all id book.worksheets s found open) place))
+    go (Some s) found = sym (stands_open s place entry (shown_place s (all-found shows_all id book.worksheets s found shown) place))
 
 -- ---- it stays so
 
@@ -97,11 +93,11 @@ no_array_on (Some s) place (Some cell) h = (both _ _ h).0
 pub open-cell : (book : Book) (id : ℕ) (place : Position) (entry : Option Cell) → may_stand_on (sheet_of book id) place entry ≡ true → hides_nothing book ≡ true
     → hides_nothing (put_entry book (CellKey id place) (CellValue entry)) ≡ true
 unfolding put_entry
-open-cell book id place entry stands open =
+open-cell book id place entry stands shown =
     all-changed shows_all id (with_sheet_entry (CellKey id place) (CellValue entry)) book.worksheets
-    (λ s found. shows-cell s place entry (no_array_on (sheet_of book id) place entry stands) (all-found shows_all id book.worksheets s found open)) open
+    (λ s found. shows-cell s place entry (no_array_on (sheet_of book id) place entry stands) (all-found shows_all id book.worksheets s found shown)) shown
 
 pub open-link : (book : Book) (id : ℕ) (place : Position) (entry : Option Link) → hides_nothing book ≡ true → hides_nothing (put_entry book (LinkKey id place) (LinkValue entry)) ≡ true
 unfolding put_entry
-open-link book id place entry open =
-    all-changed shows_all id (with_sheet_entry (LinkKey id place) (LinkValue entry)) book.worksheets (λ s found. shows-link s place entry (all-found shows_all id book.worksheets s found open)) open
+open-link book id place entry shown =
+    all-changed shows_all id (with_sheet_entry (LinkKey id place) (LinkValue entry)) book.worksheets (λ s found. shows-link s place entry (all-found shows_all id book.worksheets s found shown)) shown

@@ -133,7 +133,7 @@ cell-put s place entry inside fits font stands h = record {
 
 -- so does a link
 link-put : (s : Sheet) (place : Position) (entry : Option Link) → is_place place ≡ true → KeepsSheetRules s → KeepsSheetRules (record s { links = with_entry s.links place entry })
-unfolding stands_inside have_arrays have_merges are_hidden_blank have_trees have_attributes are_frozen
+unfolding stands_inside have_arrays have_merges are_hidden_blank have_trees have_attributes
 link-put s place entry inside h =
     let outer = both _ _ h.inside in
     let middle = both _ _ outer.0 in

@@ -33,7 +33,7 @@ use Rattle.sheet_history.specs.laws.RuleLaws.{KeepsSheetRules, sheet_rules}
 use Rattle.sheet_history.specs.laws.TestedLaws.{by_rule-kept}
 
 -- the array of a cell lies inside the sheet
-array_inside : (s : Sheet) → have_arrays s ≡ true → (place : Position) (cell : Cell) → fin.get s.cells place ≡ Some cell → lies_inside (array_at place cell.content) ≡ true
+pub array_inside : (s : Sheet) → have_arrays s ≡ true → (place : Position) (cell : Cell) → fin.get s.cells place ≡ Some cell → lies_inside (array_at place cell.content) ≡ true
 array_inside s h place cell found = go (array_at place cell.content) refl
   where
     go : (o : Option MergedCell) → array_at place cell.content ≡ o → lies_inside o ≡ true

@@ -15,27 +15,27 @@ pub both : (a b : Bool) → (a && b) ≡ true → (a ≡ true) × (b ≡ true)
 both true b h = (refl, h)
 both false b h = cc
 
-left : (a b : Bool) → T (a && b) → T a
+pub left : (a b : Bool) → T (a && b) → T a
 left true b h = tt
 left false b h = absurd h
 
-right : (a b : Bool) → T (a && b) → T b
+pub right : (a b : Bool) → T (a && b) → T b
 right true b h = h
 right false b h = absurd h
 
-less : (o : Ordering) → T (is_lt o) → is_eq o ≡ false
+pub less : (o : Ordering) → T (is_lt o) → is_eq o ≡ false
 less Less h = refl
 less Equal h = absurd h
 less Greater h = absurd h
 
-equal : (o : Ordering) → is_eq o ≡ true → o ≡ Equal
+pub equal : (o : Ordering) → is_eq o ≡ true → o ≡ Equal
 equal Less h = cc
 equal Equal h = refl
 equal Greater h = cc
 
 module _ {K X : Type 0} (R : K → K → Ordering) (total : IsTotalOrder R) (exact : CmpEqualImpliesEq R) (passes : K → Option X → Bool) (none : (key : K) → passes key None ≡ true) where
   -- the value that is found passes, where all entries do
-  found_passes : (es : List (K × X)) → list_all (λ e. passes e.0 (Some e.1)) es ≡ true → (key : K) → passes key (find R key es) ≡ true
+  pub found_passes : (es : List (K × X)) → list_all (λ e. passes e.0 (Some e.1)) es ≡ true → (key : K) → passes key (find R key es) ≡ true
   found_passes [] all key = none key
   found_passes (e ∷ es) all key = either (eq_by_cmp R key e.0) refl (found_passes es (both _ _ all).1 key)
     where
@@ -44,12 +44,12 @@ module _ {K X : Type 0} (R : K → K → Ordering) (total : IsTotalOrder R) (exa
       either false is later = later
 
   -- a key below all others is not found among them
-  not_found : (key : K) (es : List (K × X)) → T (below_all R key es) → find R key es ≡ None
+  pub not_found : (key : K) (es : List (K × X)) → T (below_all R key es) → find R key es ≡ None
   not_found key [] below = refl
   not_found key (e ∷ es) below = ap (λ b. cond b (Some e.1) (find R key es)) (less (R key e.0) (left _ _ below)) ∙ not_found key es (right _ _ below)
 
   -- all entries pass, where what is found at each key does
-  entries_pass : (es : List (K × X)) → T (is_sorted R es) → ((key : K) → passes key (find R key es) ≡ true) → list_all (λ e. passes e.0 (Some e.1)) es ≡ true
+  pub entries_pass : (es : List (K × X)) → T (is_sorted R es) → ((key : K) → passes key (find R key es) ≡ true) → list_all (λ e. passes e.0 (Some e.1)) es ≡ true
   entries_pass [] sorted found = refl
   entries_pass (e ∷ es) sorted found =
       ap (λ b. b && list_all (λ f. passes f.0 (Some f.1)) es) first ∙ entries_pass es (right _ _ sorted) (λ key. later key (eq_by_cmp R key e.0) refl)

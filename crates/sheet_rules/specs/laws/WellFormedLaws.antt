@@ -1,7 +1,7 @@
 -- What a workbook has that breaks no rule.
 use Rattle.std.proofs.Common.{◌≡◌, ℕ, ℤ, pos, Bool, true, false, not, ◌&&◌, ◌||◌, List, [], ◌∷◌, map, length, Option, Some, None, refl, ap, sym, ◌∙◌, arith}
 use Rattle.std.specs.Prelude.{◌↔◌, ◌==◌, codes, if◌then◌else◌}
-use Rattle.std.specs.List.{list_all, list_any, IsDistinct, AllByRecursion}
+use Rattle.std.specs.List.{list_all, list_any, filter_map, IsDistinct, AllByRecursion}
 use Rattle.std.specs.Str.{chars}
 use Rattle.std.specs.Ordering.{int_cmp}
 use Rattle.std.specs.declared.cmp.Ordering.{Ordering}
@@ -16,41 +16,64 @@ use Rattle.cell_content.specs.Fitting.{fits_at}
 use Rattle.sheet_grid.specs.declared.Cell.{Cell}
 use Rattle.sheet_grid.specs.declared.LineAttr.{LineAttr}
 use Rattle.sheet_grid.specs.declared.Link.{Link}
+use Rattle.base_axis.specs.Rectangles.{is_inside}
+use Rattle.sheet_grid.specs.Arrays.{array_at, large_array_at}
 use Rattle.sheet_grid.specs.Sheet.{Sheet, new_sheet}
 use Rattle.sheet_grid.specs.Book.{Book, new_book}
 use Rattle.sheet_grid.specs.FittingCells.{entry_fits_at, CellsFit, SheetsFit}
+use Rattle.sheet_rules.specs.Occupied.{are_apart, have_arrays, meets_any, have_merges, covers_blanks, are_hidden_blank}
 use Rattle.sheet_rules.specs.SheetNames.{is_sheet_name}
 use Rattle.sheet_rules.specs.laws.EntryLaws.{both, passes_at_from_all, all_from_passes_at}
+use Rattle.sheet_rules.specs.laws.ShownLaws.{not_true}
 use Rattle.sheet_rules.specs.WellFormed.{are_distinct, are_sheets, is_place, stands_inside, have_trees, is_row, is_column, has_font, have_attributes, are_frozen, IsWellFormed, ids_of}
 
 -- the rules of a workbook, each for all of its sheets
 pub record KeepsRules (book : Book) : Type 0 where
   pub sheets : are_sheets book.worksheets ≡ true
   pub inside : list_all stands_inside book.worksheets ≡ true
+  pub arrays : list_all have_arrays book.worksheets ≡ true
+  pub merges : list_all have_merges book.worksheets ≡ true
+  pub hidden : list_all are_hidden_blank book.worksheets ≡ true
   pub trees : list_all have_trees book.worksheets ≡ true
   pub attributes : list_all have_attributes book.worksheets ≡ true
   pub frozen : list_all are_frozen book.worksheets ≡ true
 
-abbrev first_of : Bool → Bool → Bool → Bool → Bool → Option ℕ
-first_of a i b c d = if not a then Some 1 else if not i then Some 2 else if not b then Some 6 else if not c then Some 7 else if not d then Some 9 else None
+abbrev first_of : Bool → Bool → Bool → Bool → Bool → Bool → Bool → Bool → Option ℕ
+first_of s i a m h t b f =
+    if not s then Some 1
+    else if not i then Some 2
+    else if not a then Some 3
+    else if not m then Some 4
+    else if not h then Some 5
+    else if not t then Some 6
+    else if not b then Some 7
+    else if not f then Some 9
+    else None
 
-rules_kept : (a i b c d : Bool) → first_of a i b c d ≡ None → (a ≡ true) × (i ≡ true) × (b ≡ true) × (c ≡ true) × (d ≡ true)
-rules_kept true true true true true h = (refl, refl, refl, refl, refl)
-rules_kept true true true true false h = absurd (let never : ◌≡◌ {A = Option ℕ} (Some 9) None = h in cc)
-rules_kept true true true false d h = absurd (let never : ◌≡◌ {A = Option ℕ} (Some 7) None = h in cc)
-rules_kept true true false c d h = absurd (let never : ◌≡◌ {A = Option ℕ} (Some 6) None = h in cc)
-rules_kept true false b c d h = absurd (let never : ◌≡◌ {A = Option ℕ} (Some 2) None = h in cc)
-rules_kept false i b c d h = absurd (let never : ◌≡◌ {A = Option ℕ} (Some 1) None = h in cc)
+broken : {n : ℕ} {A : Type 0} → Some n ≡ None → A
+broken h = absurd (cc)
+
+rules_kept : (s i a m h t b f : Bool) → first_of s i a m h t b f ≡ None → (s ≡ true) × (i ≡ true) × (a ≡ true) × (m ≡ true) × (h ≡ true) × (t ≡ true) × (b ≡ true) × (f ≡ true)
+rules_kept true true true true true true true true none = (refl, refl, refl, refl, refl, refl, refl, refl)
+rules_kept true true true true true true true false none = broken none
+rules_kept true true true true true true false f none = broken none
+rules_kept true true true true true false b f none = broken none
+rules_kept true true true true false t b f none = broken none
+rules_kept true true true false h t b f none = broken none
+rules_kept true true false m h t b f none = broken none
+rules_kept true false a m h t b f none = broken none
+rules_kept false i a m h t b f none = broken none
 
 -- a well-formed workbook keeps each rule
 pub well_formed_parts : (book : Book) → IsWellFormed book → KeepsRules book
 well_formed_parts book h =
-    let kept = rules_kept (are_sheets book.worksheets) (list_all stands_inside book.worksheets) (list_all have_trees book.worksheets) (list_all have_attributes book.worksheets) (list_all are_frozen book.worksheets) h in
-    record { sheets = kept.0; inside = kept.1; trees = kept.2; attributes = kept.3; frozen = kept.4 }
+    let kept = rules_kept (are_sheets book.worksheets) (list_all stands_inside book.worksheets) (list_all have_arrays book.worksheets) (list_all have_merges book.worksheets)
+    (list_all are_hidden_blank book.worksheets) (list_all have_trees book.worksheets) (list_all have_attributes book.worksheets) (list_all are_frozen book.worksheets) h in
+    record { sheets = kept.0; inside = kept.1; arrays = kept.2; merges = kept.3; hidden = kept.4; trees = kept.5; attributes = kept.6; frozen = kept.7 }
 
 -- and one that keeps each rule is well-formed
 pub well_formed_from_parts : (book : Book) → KeepsRules book → IsWellFormed book
-well_formed_from_parts book h = λ i. first_of (h.sheets i) (h.inside i) (h.trees i) (h.attributes i) (h.frozen i)
+well_formed_from_parts book h = λ i. first_of (h.sheets i) (h.inside i) (h.arrays i) (h.merges i) (h.hidden i) (h.trees i) (h.attributes i) (h.frozen i)
 
 -- the cells of a sheet fit where their trees may stand at their places
 pub cells_fit_from_trees : (sheet : Sheet) → have_trees sheet ≡ true → CellsFit sheet
@@ -73,10 +96,6 @@ each_fits (sheet ∷ sheets) h = (cells_fit_from_trees sheet (both _ _ h).0, eac
 -- the cells of a well-formed workbook fit
 pub sheets_fit_from_well_formed : (book : Book) → IsWellFormed book → SheetsFit book
 sheets_fit_from_well_formed book h = All-from_recursion CellsFit book.worksheets (each_fits book.worksheets (well_formed_parts book h).trees)
-
-not_true : (b : Bool) → not b ≡ true → b ≡ false
-not_true false h = refl
-not_true true h = cc
 
 module _ {X : Type 0} (same : X → X → Bool) where
   differs : (x : X) (xs : List X) → list_any (same x) xs ≡ false → AllByRecursion (λ y. same x y ≡ false) xs
@@ -129,6 +148,20 @@ new_inside name =
     λ i. list_all (λ (entry : Position × Cell). is_place entry.0) (entries-empty position_cmp i) && list_all (λ (entry : Position × Link). is_place entry.0) (entries-empty position_cmp i)
     && list_all (λ (entry : ℤ × LineAttr). is_line (pos 1048576) entry.0) (entries-empty int_cmp i) && list_all (λ (entry : ℤ × LineAttr). is_line (pos 16384) entry.0) (entries-empty int_cmp i)
 
+new_arrays : (name : List ℕ) → have_arrays (new_sheet 1 name) ≡ true
+unfolding have_arrays
+new_arrays name =
+    λ i. list_all is_inside (filter_map (λ (entry : Position × Cell). array_at entry.0 entry.1.content) (entries-empty position_cmp i))
+    && are_apart (filter_map (λ (entry : Position × Cell). large_array_at entry.0 entry.1.content) (entries-empty position_cmp i))
+
+new_merges : (name : List ℕ) → have_merges (new_sheet 1 name) ≡ true
+unfolding have_merges
+new_merges name = ap (λ es. not (list_any (meets_any []) (filter_map (λ (entry : Position × Cell). large_array_at entry.0 entry.1.content) es))) (entries-empty position_cmp)
+
+new_hidden : (name : List ℕ) → are_hidden_blank (new_sheet 1 name) ≡ true
+unfolding are_hidden_blank
+new_hidden name = ap (λ es. list_all (covers_blanks (new_sheet 1 name)) (filter_map (λ (entry : Position × Cell). large_array_at entry.0 entry.1.content) es)) (entries-empty position_cmp)
+
 -- a new workbook is well-formed
 pub well_formed-new : (name : List ℕ) (locale : Locale) (zone : Zone) → IsWellFormed (new_book name locale zone)
 well_formed-new name locale zone =
@@ -136,6 +169,9 @@ well_formed-new name locale zone =
     (record {
       sheets = new_sheets;
       inside = ap (λ b. b && true) (new_inside (codes "Sheet1"));
+      arrays = ap (λ b. b && true) (new_arrays (codes "Sheet1"));
+      merges = ap (λ b. b && true) (new_merges (codes "Sheet1"));
+      hidden = ap (λ b. b && true) (new_hidden (codes "Sheet1"));
       trees = ap (λ b. b && true) (new_trees (codes "Sheet1"));
       attributes = ap (λ b. b && true) (new_attributes (codes "Sheet1"));
       frozen = refl;

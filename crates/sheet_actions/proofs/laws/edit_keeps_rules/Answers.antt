@@ -7,4 +7,4 @@ edit_and_back-requires-clause-distinct g c = distinct_ids_from_well_formed c.arg
 
 pub returns-clause-rules : goal.returns-clause-rules
 returns-clause-rules g c =
-    followed_well_formed g.A.Axis.along g.met.A.Axis.lawful c.args.edit.now.kind c.requires.valid c.args.sheet_id c.args.workbook.now c.requires.rules
+    followed_well_formed g.A.Axis.along g.met.A.Axis.lawful c.args.edit.now.kind c.requires.valid c.args.sheet_id c.args.workbook.now c.requires.rules c.requires.allowed

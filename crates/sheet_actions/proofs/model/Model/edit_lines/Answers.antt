@@ -10,5 +10,5 @@ followed_book-requires-clause-placed g c = placed_from_well_formed c.args.self.n
 pub invariant_of-self : goal.invariant_of-self
 invariant_of-self g c = record {
   rules = subst IsWellFormed (sym (c.in_ok-self.ensures {u = _}).book)
-      (followed_well_formed g.A.Axis.along g.met.A.Axis.lawful c.args.edit.now.kind c.requires c.args.id c.args.self.now.workbook c.args.self.now.rules);
+      (followed_well_formed g.A.Axis.along g.met.A.Axis.lawful c.args.edit.now.kind c.requires.valid c.args.id c.args.self.now.workbook c.args.self.now.rules c.requires.allowed);
 }

@@ -1,0 +1,215 @@
+//! Where the arrays and the merges of a sheet may stand, and what may stand at the places that they
+//! take. Rectangles are compared in pairs, and each of them with each cell, which takes no memory:
+//! merges and arrays of more than one cell are few.
+
+ghost use Rattle.std.specs.Prelude.{◌≡◌, false};
+ghost use Rattle.std.specs.List.{list_all, list_any};
+ghost use Rattle.std.specs.FinMap.{entries};
+ghost use Rattle.std.specs.Option.{option_map_or};
+ghost use Rattle.base_values.specs.declared.Position.{Position};
+ghost use Rattle.base_axis.specs.Rectangles.{is_inside, meets};
+ghost use Rattle.sheet_grid.specs.declared.Cell.{Cell};
+ghost use Rattle.sheet_grid.specs.Arrays.{large_array_at, arrays_of, large_arrays_of};
+ghost use Rattle.sheet_grid.specs.Merges.{is_empty};
+ghost use Rattle.sheet_rules.specs.Compared.{meets_another, stands_apart};
+ghost use Rattle.sheet_rules.specs.Occupied.{are_apart, meets_any, have_arrays, is_merge, have_merges, covers, covers_blanks, are_hidden_blank, is_hidden_place, array_over};
+
+use base_axis::MergedCell;
+use base_values::Position;
+use cell_content::Content;
+use sheet_grid::{Cell, Worksheet, array_at, large_array_at};
+
+fn arrays_lie_inside(sheet: &Worksheet) -> bool
+    ensures { result ≡ list_all is_inside (arrays_of sheet.now) }
+{
+    sheet
+        .cells()
+        .filter_map(|(place, cell)| array_at(*place, &cell.get().content))
+        .all(|array| array.is_inside())
+}
+
+/// Whether a rectangle meets the array of more than one cell that stands at a place, if one does.
+fn meets_array(rectangle: MergedCell, other: Position, cell: &Cell) -> bool
+    ensures { result ≡ option_map_or (meets rectangle) (large_array_at other cell.now.content) false }
+{
+    match large_array_at(other, &cell.content) {
+        Some(array) => rectangle.meets(array),
+        None => false,
+    }
+}
+
+/// Whether a rectangle meets an array of more than one cell that stands at another place.
+fn meets_another(sheet: &Worksheet, place: Position, rectangle: MergedCell) -> bool
+    ensures { result ≡ meets_another sheet.now place rectangle }
+{
+    sheet.cells().any(|(other, cell)| *other != place && meets_array(rectangle, *other, cell.get()))
+}
+
+fn stands_apart(sheet: &Worksheet, place: Position, cell: &Cell) -> bool
+    ensures { result ≡ stands_apart sheet.now place cell.now }
+{
+    match large_array_at(place, &cell.content) {
+        Some(array) => !meets_another(sheet, place, array),
+        None => true,
+    }
+}
+
+fn each_stands_apart(sheet: &Worksheet) -> bool
+    ensures { result ≡ list_all (λ (entry : Position × Cell). stands_apart sheet.now entry.0 entry.1) (entries sheet.now.cells) }
+{
+    sheet
+        .cells()
+        .all(|(place, cell)| stands_apart(sheet, *place, cell.get()))
+}
+
+/// Whether no two arrays of more than one cell meet.
+#[tactic(auto, using(crate::specs::laws::ComparedLaws::all_stand_apart))]
+fn arrays_are_apart(sheet: &Worksheet) -> bool
+    ensures { result ≡ are_apart (large_arrays_of sheet.now) }
+{
+    each_stands_apart(sheet)
+}
+
+/// Rule 3: each array lies inside the sheet, and no two of more than one cell meet.
+#[tactic(auto, unfolding(crate::specs::Occupied::have_arrays))]
+pub(crate) fn have_arrays(sheet: &Worksheet) -> bool
+    ensures { result ≡ have_arrays sheet.now }
+{
+    arrays_lie_inside(sheet) && arrays_are_apart(sheet)
+}
+
+fn is_merge(merge: MergedCell) -> bool
+    ensures { result ≡ is_merge merge }
+{
+    merge.has_many() && merge.is_inside()
+}
+
+fn are_merges(merges: &[MergedCell]) -> bool
+    ensures { result ≡ list_all is_merge merges.now }
+{
+    merges.iter().all(|merge| is_merge(*merge))
+}
+
+fn meets_any(others: &[MergedCell], rectangle: MergedCell) -> bool
+    ensures { result ≡ meets_any others.now rectangle }
+{
+    others.iter().any(|other| rectangle.meets(*other))
+}
+
+/// Whether no two merges meet.
+fn merges_are_apart(merges: &[MergedCell]) -> bool
+    ensures { result ≡ are_apart merges.now }
+{
+    let mut rest = merges;
+    while let Some((first, others)) = rest.split_first() {
+        if meets_any(others, *first) {
+            return false;
+        }
+        rest = others;
+    }
+    true
+}
+
+/// Whether an array of more than one cell meets a merge.
+fn arrays_meet_merges(sheet: &Worksheet) -> bool
+    ensures { result ≡ list_any (meets_any sheet.now.merges) (large_arrays_of sheet.now) }
+{
+    sheet
+        .cells()
+        .filter_map(|(place, cell)| large_array_at(*place, &cell.get().content))
+        .any(|array| meets_any(sheet.merged_cells(), array))
+}
+
+/// Rule 4: each merge has two cells or more and lies inside the sheet, no two meet, and none meets
+/// an array of more than one cell.
+#[tactic(auto, unfolding(crate::specs::Occupied::have_merges))]
+pub(crate) fn have_merges(sheet: &Worksheet) -> bool
+    ensures { result ≡ have_merges sheet.now }
+{
+    let merges = sheet.merged_cells();
+    are_merges(merges) && merges_are_apart(merges) && !arrays_meet_merges(sheet)
+}
+
+fn is_empty(content: &Content) -> bool
+    ensures { result ≡ is_empty content.now }
+{
+    matches!(content, Content::Empty)
+}
+
+/// Whether a place is one of a rectangle's places, and not its first.
+fn covers(rectangle: MergedCell, place: Position) -> bool
+    ensures { result ≡ covers rectangle place }
+{
+    rectangle.holds(place) && rectangle.anchor_place() != place
+}
+
+/// Whether each cell that a rectangle covers is without content.
+fn covers_blanks(sheet: &Worksheet, rectangle: MergedCell) -> bool
+    ensures { result ≡ covers_blanks sheet.now rectangle }
+{
+    sheet.cells().all(|(place, cell)| is_empty(&cell.get().content) || !covers(rectangle, *place))
+}
+
+fn merges_cover_blanks(sheet: &Worksheet) -> bool
+    ensures { result ≡ list_all (covers_blanks sheet.now) sheet.now.merges }
+{
+    sheet
+        .merged_cells()
+        .iter()
+        .all(|merge| covers_blanks(sheet, *merge))
+}
+
+fn arrays_cover_blanks(sheet: &Worksheet) -> bool
+    ensures { result ≡ list_all (covers_blanks sheet.now) (large_arrays_of sheet.now) }
+{
+    sheet
+        .cells()
+        .filter_map(|(place, cell)| large_array_at(*place, &cell.get().content))
+        .all(|array| covers_blanks(sheet, array))
+}
+
+/// Rule 5: the cells that merges and arrays cover are without content.
+#[tactic(auto, unfolding(crate::specs::Occupied::are_hidden_blank))]
+pub(crate) fn are_hidden_blank(sheet: &Worksheet) -> bool
+    ensures { result ≡ are_hidden_blank sheet.now }
+{
+    merges_cover_blanks(sheet) && arrays_cover_blanks(sheet)
+}
+
+fn is_merged_away(sheet: &Worksheet, place: Position) -> bool
+    ensures { result ≡ list_any (λ merge. covers merge place) sheet.now.merges }
+{
+    sheet
+        .merged_cells()
+        .iter()
+        .any(|merge| covers(*merge, place))
+}
+
+fn is_array_child(sheet: &Worksheet, place: Position) -> bool
+    ensures { result ≡ list_any (λ array. covers array place) (large_arrays_of sheet.now) }
+{
+    sheet
+        .cells()
+        .filter_map(|(other, cell)| large_array_at(*other, &cell.get().content))
+        .any(|array| covers(array, place))
+}
+
+/// Whether no content may stand at a place: a merge or an array holds it and begins elsewhere. It
+/// looks at each cell, and takes no memory. docs/MODEL.md has the rule.
+#[tactic(auto, unfolding(crate::specs::Occupied::is_hidden_place))]
+pub fn is_hidden_place(sheet: &Worksheet, place: Position) -> bool
+    ensures { result ≡ is_hidden_place sheet.now place }
+{
+    is_merged_away(sheet, place) || is_array_child(sheet, place)
+}
+
+/// The first array of more than one cell, by row and then by column, that holds a place; the place
+/// where the array stands counts. It looks at each cell, and takes no memory.
+pub fn array_over(sheet: &Worksheet, place: Position) -> Option<MergedCell>
+    ensures { result ≡ array_over sheet.now place }
+{
+    sheet
+        .cells()
+        .filter_map(|(other, cell)| large_array_at(*other, &cell.get().content))
+        .find(|array| array.holds(place))
+}

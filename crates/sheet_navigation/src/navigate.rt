@@ -59,6 +59,7 @@ fn shows_nothing(sheet: &Worksheet, place: Position) -> bool
     requires place { IsPlace place }
     ensures { result ≡ shows_nothing sheet.now place }
 {
+    // An anchor is a place of the sheet, so this is no refusal.
     let (row, column) = sheet.merge_anchor(place.row, place.column);
     sheet.is_empty_cell(row, column).unwrap_or(true)
 }

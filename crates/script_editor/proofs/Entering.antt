@@ -65,14 +65,14 @@ pub record Found (w : Book) (index : ℕ) (row column : ℤ) (content : Content)
 pub accepted : (w : Book) (index : ℕ) (row column : ℤ) (content : Content) (later : Book) → input_put index row column content w ≡ Ok later → Found w index row column content later
 accepted w index row column content later is = go (sheet_at w index) refl is
   where
-    place : (sheet : Sheet) → sheet_at w index ≡ Ok sheet → (q : Result Position EditError) → input_place sheet row column ≡ q
+    at_place : (sheet : Sheet) → sheet_at w index ≡ Ok sheet → (q : Result Position EditError) → input_place sheet row column ≡ q
         → map_ok (with_sheet w index) (map_ok (with_input sheet content) q) ≡ Ok later → Found w index row column content later
-    place sheet one (Ok place) two e = record { sheet = sheet; place = place; at = one; goes = two; made = let same : with_sheet w index (with_input sheet content place) ≡ later = cc in same }
-    place sheet one (Err error) two e = absurd (let never : ◌≡◌ {A = Result Book EditError} (Err error) (Ok later) = e in cc)
+    at_place sheet one (Ok place) two e = record { sheet = sheet; place = place; at = one; goes = two; made = let same : with_sheet w index (with_input sheet content place) ≡ later = cc in same }
+    at_place sheet one (Err error) two e = absurd (let never : ◌≡◌ {A = Result Book EditError} (Err error) (Ok later) = e in cc)
 
     go : (r : Result Sheet EditError) → sheet_at w index ≡ r → and_then r (λ sheet. map_ok (with_sheet w index) (map_ok (with_input sheet content) (input_place sheet row column))) ≡ Ok later
         → Found w index row column content later
-    go (Ok sheet) one e = place sheet one (input_place sheet row column) refl e
+    go (Ok sheet) one e = at_place sheet one (input_place sheet row column) refl e
     go (Err error) one e = absurd (let never : ◌≡◌ {A = Result Book EditError} (Err error) (Ok later) = e in cc)
 
 -- a place that was found is found again at its own row and column
@@ -118,17 +118,23 @@ record Planned (w : Book) (index : ℕ) (row column : ℤ) (content : Content) (
 planned : (w : Book) (index : ℕ) (row column : ℤ) (content : Content) (new : Option Cell) (list : List Diff) → input_plan index row column content w ≡ Ok (new, list) → Planned w index row column content new list
 planned w index row column content new list is = go (sheet_at w index) refl is
   where
-    place : (sheet : Sheet) → sheet_at w index ≡ Ok sheet → (q : Result Position EditError) → input_place sheet row column ≡ q
+    at_place : (sheet : Sheet) → sheet_at w index ≡ Ok sheet → (q : Result Position EditError) → input_place sheet row column ≡ q
         → map_ok (plan_at sheet content) q ≡ Ok (new, list) → Planned w index row column content new list
-    place sheet one (Ok place) two e =
+    at_place sheet one (Ok place) two e =
         let both : plan_at sheet content place ≡ (new, list) = cc in
         record { sheet = sheet; place = place; at = one; goes = two; entry = ap (λ p. p.0) both; changes = ap (λ p. p.1) both }
-    place sheet one (Err error) two e = absurd (let never : ◌≡◌ {A = Result (Option Cell × List Diff) EditError} (Err error) (Ok (new, list)) = e in cc)
+    at_place sheet one (Err error) two e = absurd (let never : ◌≡◌ {A = Result (Option Cell × List Diff) EditError} (Err error) (Ok (new, list)) = e in cc)
 
     go : (r : Result Sheet EditError) → sheet_at w index ≡ r → and_then r (λ sheet. map_ok (plan_at sheet content) (input_place sheet row column)) ≡ Ok (new, list)
         → Planned w index row column content new list
-    go (Ok sheet) one e = place sheet one (input_place sheet row column) refl e
+    go (Ok sheet) one e = at_place sheet one (input_place sheet row column) refl e
     go (Err error) one e = absurd (let never : ◌≡◌ {A = Result (Option Cell × List Diff) EditError} (Err error) (Ok (new, list)) = e in cc)
+
+-- an input whose place is refused has no plan
+pub refused_plan : (w : Book) (index : ℕ) (row column : ℤ) (content : Content) (sheet : Sheet) (error : EditError) → sheet_at w index ≡ Ok sheet → input_place sheet row column ≡ Err error
+    → input_plan index row column content w ≡ Err error
+refused_plan w index row column content sheet error at refused =
+    ap (λ r. and_then r (λ s. map_ok (plan_at s content) (input_place s row column))) at ∙ ap (map_ok (plan_at sheet content)) refused
 
 module _ (w : Book) (index : ℕ) (row column : ℤ) (content : Content) (new : Option Cell) (list : List Diff) (plan : input_plan index row column content w ≡ Ok (new, list)) where
   abbrev it : Planned w index row column content new list
@@ -173,28 +179,28 @@ pub refused_input : (doc : Document) (index : ℕ) (row column : ℤ) (content :
     → input_plan index row column content doc.book ≡ Err error → document_edit (Input index row column content) doc ≡ Err error
 refused_input doc index row column content error plan = go (sheet_at doc.book index) plan
   where
-    place : (sheet : Sheet) (q : Result Position EditError) → map_ok (plan_at sheet content) q ≡ Err error
+    at_place : (sheet : Sheet) (q : Result Position EditError) → map_ok (plan_at sheet content) q ≡ Err error
         → map_ok (λ later. recorded (record_of (Input index row column content) doc.book later) doc later) (map_ok (with_sheet doc.book index) (map_ok (with_input sheet content) q)) ≡ Err error
-    place sheet (Ok place) e = absurd (let never : ◌≡◌ {A = Result (Option Cell × List Diff) EditError} (Ok (plan_at sheet content place)) (Err error) = e in cc)
-    place sheet (Err other) e = cc
+    at_place sheet (Ok place) e = absurd (let never : ◌≡◌ {A = Result (Option Cell × List Diff) EditError} (Ok (plan_at sheet content place)) (Err error) = e in cc)
+    at_place sheet (Err other) e = cc
 
     go : (r : Result Sheet EditError) → and_then r (λ sheet. map_ok (plan_at sheet content) (input_place sheet row column)) ≡ Err error
         → map_ok (λ later. recorded (record_of (Input index row column content) doc.book later) doc later)
         (and_then r (λ sheet. map_ok (with_sheet doc.book index) (map_ok (with_input sheet content) (input_place sheet row column)))) ≡ Err error
-    go (Ok sheet) e = place sheet (input_place sheet row column) e
+    go (Ok sheet) e = at_place sheet (input_place sheet row column) e
     go (Err other) e = cc
 
 -- and one whose plan is not refused is accepted
 pub accepted_input : (doc : Document) (index : ℕ) (row column : ℤ) (content : Content) → IsOk (input_plan index row column content doc.book) → IsOk (document_edit (Input index row column content) doc)
 accepted_input doc index row column content = go (sheet_at doc.book index)
   where
-    place : (sheet : Sheet) (q : Result Position EditError) → IsOk (map_ok (plan_at sheet content) q)
+    at_place : (sheet : Sheet) (q : Result Position EditError) → IsOk (map_ok (plan_at sheet content) q)
         → IsOk (map_ok (λ later. recorded (record_of (Input index row column content) doc.book later) doc later) (map_ok (with_sheet doc.book index) (map_ok (with_input sheet content) q)))
-    place sheet (Ok place) h = refl
-    place sheet (Err error) h = h
+    at_place sheet (Ok place) h = refl
+    at_place sheet (Err error) h = h
 
     go : (r : Result Sheet EditError) → IsOk (and_then r (λ sheet. map_ok (plan_at sheet content) (input_place sheet row column)))
         → IsOk (map_ok (λ later. recorded (record_of (Input index row column content) doc.book later) doc later)
         (and_then r (λ sheet. map_ok (with_sheet doc.book index) (map_ok (with_input sheet content) (input_place sheet row column)))))
-    go (Ok sheet) h = place sheet (input_place sheet row column) h
+    go (Ok sheet) h = at_place sheet (input_place sheet row column) h
     go (Err error) h = h

@@ -199,6 +199,7 @@ fn input_place(sheet: &Worksheet, row: i32, column: i32) -> Result<Position, Edi
     requires { shows_all sheet.now ≡ true }
     ensures place { result ≡ input_place sheet.now row column }
     ensures named { IfOk result (λ place. place_of row column ≡ Ok place) }
+    ensures sure { result ≢ Err NoMemory }
 {
     place_of(row, column)
 }

@@ -1,14 +1,29 @@
-use Rattle.std.proofs.Common.{w32, SFits, sym, subst}
+use Rattle.std.proofs.Common.{w32, SFits, Err, ap, sym, subst}
 use Rattle.std.specs.Prelude.{IsTrue}
 use Rattle.std.proofs.lemmas.Int.{to_z-of_z}
+use Rattle.std.proofs.lemmas.Result.{err_from_is_err_and}
 use Rattle.sheet_grid.specs.FittingCells.{is_shallow_entry}
 use Rattle.sheet_grid.specs.laws.FittingLaws.{shallow_entry, shallow-found}
 use Rattle.sheet_rules.specs.laws.WellFormedLaws.{sheets_fit_from_well_formed}
+use Rattle.script_editor.proofs.Entering.{refused_plan}
 use Rattle.script_editor.proofs.Open.{sheet_open}
 use Rattle.script_editor.proofs.open_book.OpenBook.plan.Goals as goal
 
 pub input_place-requires : goal.input_place-requires
 input_place-requires c = sheet_open c.args.self.now.workbook c.args.sheet c.in_ok-found.found.now c.requires.shown (sym (c.in_ok-found.ensures {u = _}))
+
+pub returns-in_err-place-clause-made : goal.returns-in_err-place-clause-made
+returns-in_err-place-clause-made c =
+    let row_fits : SFits w32 c.args.row = c.ranges.row in
+    let column_fits : SFits w32 c.args.column = c.ranges.column in
+    let p = err_from_is_err_and c.from_residual-in_err-place.result c.from_residual-in_err-place.ensures.1 in
+    let refused = simp to_z-of_z at c.in_err-place.ensures.place in
+    rw (p.1, p.2) (record {
+      done = tt;
+      refused = λ other. refused_plan c.args.self.now.workbook c.args.sheet c.args.row c.args.column c.args.content c.in_ok-found.found.now c.in_err-place.field-0.0
+          (sym (c.in_ok-found.ensures {u = _})) (sym refused);
+      memory = λ short. absurd (c.in_err-place.ensures.sure (ap Err short));
+    })
 
 pub cell_change-requires-clause-old_shallow : goal.cell_change-requires-clause-old_shallow
 cell_change-requires-clause-old_shallow c =

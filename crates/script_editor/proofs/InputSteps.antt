@@ -1,13 +1,12 @@
 -- An input that is accepted is a sound step.
 use Rattle.std.proofs.Common.{◌≡◌, ◌&&◌, ℕ, ℤ, Bool, true, false, List, Option, Some, None, Result, Ok, refl, ap, sym, subst, ◌∙◌}
-use Rattle.std.specs.Prelude.{IsTrue, OnOk, is_none, not, slice_get, length, ◌||◌}
+use Rattle.std.specs.Prelude.{IsTrue, OnOk, is_none, not, slice_get, ◌||◌}
 use Rattle.std.specs.FinMap as fin
 use Rattle.base_values.specs.Answers.{Changes}
 use Rattle.base_values.specs.declared.EditError.{EditError}
 use Rattle.base_values.specs.declared.EditError.TheVariants.{InvalidSheet}
 use Rattle.base_values.specs.declared.Position.{Position}
-use Rattle.base_values.specs.Places.{place_of}
-use Rattle.base_axis.specs.declared.MergedCell.{MergedCell}
+use Rattle.base_styles.specs.declared.Style.{Style}
 use Rattle.cell_content.specs.declared.Content.{Content}
 use Rattle.cell_content.specs.declared.Content.TheVariants.{Empty, Number, Boolean, Error, Text, Formula, Dynamic, Array}
 use Rattle.cell_content.specs.Fitting.{fits_at}
@@ -17,7 +16,7 @@ use Rattle.sheet_grid.specs.Merges.{is_empty}
 use Rattle.sheet_grid.specs.laws.FittingLaws.{place_is}
 use Rattle.sheet_grid.specs.Sheet.{Sheet, shown_style}
 use Rattle.sheet_grid.specs.Book.{Book, sheet_at, index_of}
-use Rattle.sheet_rules.specs.WellFormed.{is_place, IsWellFormed}
+use Rattle.sheet_rules.specs.WellFormed.{IsWellFormed}
 use Rattle.sheet_rules.specs.Occupied.{is_hidden_place, may_stand}
 use Rattle.sheet_rules.specs.laws.HiddenLaws.{shown_where_free}
 use Rattle.sheet_lines.specs.Sheets.{sheet_of}
@@ -26,7 +25,7 @@ use Rattle.sheet_history.specs.declared.Diff.{Diff}
 use Rattle.sheet_history.specs.Entries.{EntryKey, EntryValue, lies_inside, cell_stands_at, value_fits, put_entry}
 use Rattle.sheet_history.specs.Entries.EntryKey.{CellKey}
 use Rattle.sheet_history.specs.Entries.EntryValue.{CellValue}
-use Rattle.sheet_history.specs.Records.{IsRecord, entry_record}
+use Rattle.sheet_history.specs.Records.{IsRecord}
 use Rattle.sheet_history.specs.Untested.{entry_has_font, may_stand_on, hides_nothing}
 use Rattle.sheet_history.specs.laws.OneEntry.{put_record}
 use Rattle.sheet_history.specs.laws.OpenLaws.{open-cell}
@@ -34,7 +33,7 @@ use Rattle.sheet_history.specs.laws.PutLaws.{put_entry-found}
 use Rattle.sheet_history.specs.laws.RuleLaws.{sheet_rules, well_formed-cell}
 use Rattle.sheet_history.specs.laws.SoundEntries.{entries_forwarded, entries_backed}
 use Rattle.script_editor.specs.Document.{Document, document_edit}
-use Rattle.script_editor.specs.Inputs.{IsInput, entered, new_cell, input_place, cell_change, place_change}
+use Rattle.script_editor.specs.Inputs.{IsInput, entered, new_cell, input_place, cell_change}
 use Rattle.script_editor.specs.Machine.{State, changed, record_of, edit_of}
 use Rattle.script_editor.specs.Machine.Edit.{Input}
 use Rattle.script_editor.specs.Sound.{IsSendable, IsSoundStep, IsSound}
@@ -53,7 +52,7 @@ none_of o h = ap is_none h
 fits_no_array : (place : Position) (content : Content) → fits_at place content ≡ true → array_at place content ≡ None → (fits_at place content && lies_inside (array_at place content)) ≡ true
 fits_no_array place content fits plain = λ i. fits i && lies_inside (plain i)
 
-new_stands : (place : Position) (content : Content) (style : _) → fits_at place content ≡ true → array_at place content ≡ None → cell_stands_at place (new_cell content style) ≡ true
+new_stands : (place : Position) (content : Content) (style : Style) → fits_at place content ≡ true → array_at place content ≡ None → cell_stands_at place (new_cell content style) ≡ true
 new_stands place Empty style fits plain = refl
 new_stands place (Number number) style fits plain = fits_no_array place (Number number) fits plain
 new_stands place (Boolean value) style fits plain = fits_no_array place (Boolean value) fits plain
@@ -63,7 +62,7 @@ new_stands place (Formula tree) style fits plain = fits_no_array place (Formula 
 new_stands place (Dynamic tree) style fits plain = fits_no_array place (Dynamic tree) fits plain
 new_stands place (Array tree width height) style fits plain = fits_no_array place (Array tree width height) fits plain
 
-entered_stands : (place : Position) (old : Option Cell) (content : Content) (style : _) → fits_at place content ≡ true → array_at place content ≡ None → cell_stands_at place (entered old content style) ≡ true
+entered_stands : (place : Position) (old : Option Cell) (content : Content) (style : Style) → fits_at place content ≡ true → array_at place content ≡ None → cell_stands_at place (entered old content style) ≡ true
 entered_stands place None content style fits plain = new_stands place content style fits plain
 entered_stands place (Some cell) content style fits plain = fits_no_array place content fits plain
 
@@ -75,7 +74,7 @@ module _ (sheet : Sheet) (place : Position) (shown : is_hidden_place sheet place
       either true = refl
       either false = refl
 
-  new_may : (content : Content) (style : _) → array_at place content ≡ None → may_stand sheet place (new_cell content style) ≡ true
+  new_may : (content : Content) (style : Style) → array_at place content ≡ None → may_stand sheet place (new_cell content style) ≡ true
   new_may Empty style plain = refl
   new_may (Number number) style plain = cell_may (Number number) plain
   new_may (Boolean value) style plain = cell_may (Boolean value) plain
@@ -85,7 +84,7 @@ module _ (sheet : Sheet) (place : Position) (shown : is_hidden_place sheet place
   new_may (Dynamic tree) style plain = cell_may (Dynamic tree) plain
   new_may (Array tree width height) style plain = cell_may (Array tree width height) plain
 
-  entered_may : (old : Option Cell) (content : Content) (style : _) → array_at place content ≡ None → may_stand sheet place (entered old content style) ≡ true
+  entered_may : (old : Option Cell) (content : Content) (style : Style) → array_at place content ≡ None → may_stand sheet place (entered old content style) ≡ true
   entered_may None content style plain = new_may content style plain
   entered_may (Some cell) content style plain = cell_may content plain
 

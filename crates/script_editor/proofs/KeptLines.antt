@@ -1,5 +1,5 @@
 -- What an edit of lines keeps of a well-formed workbook.
-use Rattle.std.proofs.Common.{◌≡◌, ℕ, ℤ, Bool, true, false, cond, not, Option, Some, None, refl, ap, sym, subst, ◌∙◌}
+use Rattle.std.proofs.Common.{◌≡◌, ℕ, ℤ, Bool, true, false, cond, not, Option, Some, None, refl, sym, subst}
 use Rattle.std.specs.Prelude.{IfSome, ◌&&◌, is_none}
 use Rattle.std.specs.List.{list_all}
 use Rattle.std.specs.Ordering.{int_cmp}

@@ -1,6 +1,6 @@
 -- An edit of lines that is planned is one whose record can be made and taken back.
 use Rattle.std.proofs.Common.{◌≡◌, ℕ, ℤ, pos, ◌+ℤ◌, ◌≤ℤ◌, Bool, true, false, List, [], ◌∷◌, map, Option, Some, None, Result, Ok, Err, refl, ap, sym, ◌∙◌, arith}
-use Rattle.std.specs.Prelude.{◌&&◌, not, int_le, int_lt, IsTrue, is_some, slice_get, if◌then◌else◌}
+use Rattle.std.specs.Prelude.{◌&&◌, not, int_le, int_lt, IsTrue, is_some, slice_get}
 use Rattle.std.specs.List.{list_all, AllByRecursion}
 use Rattle.std.specs.FinMap.{entries}
 use Rattle.std.proofs.lemmas.Int.{ints, fold-int_max_bounds}
@@ -12,7 +12,6 @@ use Rattle.base_values.specs.Answers.{and_then}
 use Rattle.base_values.specs.Places.{is_line}
 use Rattle.base_axis.specs.Along.{Along}
 use Rattle.base_axis.specs.declared.MergedCell.{MergedCell}
-use Rattle.base_axis.specs.Rectangles.{last_of}
 use Rattle.line_edits.specs.declared.EditKind.{EditKind}
 use Rattle.line_edits.specs.declared.EditKind.TheVariants.{Insert, Delete, Move}
 use Rattle.sheet_grid.specs.declared.Cell.{Cell}

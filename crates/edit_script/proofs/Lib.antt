@@ -3,3 +3,4 @@ mod Lines
 mod Onlys
 mod Runs
 mod Syncs
+mod Typed

@@ -1,8 +1,9 @@
-ghost use Rattle.std.specs.Prelude.{◌≡◌, List, IfOk, OnOk, IsOkUnless};
+ghost use Rattle.std.specs.Prelude.{◌≡◌, List, IfOk, OnOk, IsTrue, IsOkUnless};
 ghost use Rattle.base_values.specs.declared.EditError.TheVariants.{NoMemory};
 ghost use Rattle.std.proofs.Props.{props};
 ghost use Rattle.sheet_grid.specs.Book.{Book};
 ghost use Rattle.sheet_rules.specs.WellFormed.{IsWellFormed};
+ghost use Rattle.sheet_history.specs.Untested.{hides_nothing};
 ghost use Rattle.sheet_history.specs.declared.QueueDiffs.{QueueDiffs as Entry};
 ghost use Rattle.sheet_wire.specs.QueueBytes.{FitsQueue};
 ghost use Rattle.script_editor.specs.Sound.{Carries};
@@ -10,14 +11,18 @@ ghost use Rattle.script_editor.specs.Sound.{Carries};
 use base_values::{EditError, copy_of};
 use script_editor::replay_bytes;
 use sheet_grid::{DefaultStyle, Workbook};
+use sheet_history::hides_nothing;
 use std::alloc::Global;
 
 /// A workbook that has the bytes of `sync` alone. It is well-formed, as replaying asks.
 #[derive(Drop)]
 pub(crate) struct SecondCopy {
     pub(crate) workbook: Workbook,
+    /// Whether it is known that no place is hidden, so that replaying a cell looks at no other one.
+    is_open: bool,
     plain: DefaultStyle,
     ghost rules: { IsWellFormed workbook } by { Prim.hlevel props },
+    ghost shown: { IsTrue is_open → IsTrue (hides_nothing workbook) } by { Prim.hlevel props },
 }
 
 impl SecondCopy {
@@ -28,8 +33,13 @@ impl SecondCopy {
         ensures only { IsOkUnless result NoMemory }
     {
         let workbook = copy_of(workbook)?;
+        let is_open = hides_nothing(&workbook);
         let plain = DefaultStyle::new(alloc)?;
-        Ok(SecondCopy { workbook, plain })
+        Ok(SecondCopy {
+            workbook,
+            is_open,
+            plain,
+        })
     }
 
     /// The workbook as it is now.
@@ -44,6 +54,12 @@ impl SecondCopy {
         ensures done { (entries : List Entry) (later : Book) → FitsQueue entries → Carries entries bytes.now self.old.workbook later → OnOk result (self.new.workbook ≡ later) }
         ensures only { (entries : List Entry) (later : Book) → FitsQueue entries → Carries entries bytes.now self.old.workbook later → IsOkUnless result NoMemory }
     {
-        replay_bytes(alloc, &self.plain, &mut self.workbook, bytes)
+        replay_bytes(
+            alloc,
+            &self.plain,
+            &mut self.workbook,
+            &mut self.is_open,
+            bytes,
+        )
     }
 }

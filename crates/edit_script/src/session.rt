@@ -1,9 +1,9 @@
-ghost use Rattle.std.specs.Prelude.{◌≡◌, ◌≢◌, ◌++◌, [], codes, Ok, OnOk, IfOk, IfErr, IsTrue, IsOkUnless};
+ghost use Rattle.std.specs.Prelude.{◌≡◌, ◌≢◌, ◌++◌, [], codes, Ok, OnOk, IfOk, IfErr, IsOkUnless};
 ghost use Rattle.base_values.specs.Answers.{Returns, map_ok};
 ghost use Rattle.base_values.specs.declared.EditError.TheVariants.{NoMemory};
-ghost use Rattle.cell_content.specs.Fitting.{fits_at};
 ghost use Rattle.cell_content.specs.KeptContent.{IsKeptContent};
 ghost use Rattle.script_dump.specs.Text.{line, hex};
+ghost use Rattle.script_editor.specs.Inputs.{IsInput};
 ghost use Rattle.edit_script.specs.Script.{content_of, content_at, refusal, outcome, got, typed};
 
 use crate::second_copy::SecondCopy;
@@ -124,7 +124,7 @@ fn push_sync(out: &mut Vec<u8>, bytes: &[u8]) -> Result<(), EditError>
 fn typed(alloc: Global, row: i32, column: i32, text: &str) -> Result<Content, EditError>
     ensures value { IfOk result (λ content. content ≡ typed row column text.now) }
     ensures kept { IfOk result IsKeptContent }
-    ensures fits { IfOk result (λ content. IsTrue (fits_at (record { row = row; column = column }) content)) }
+    ensures input { IfOk result (IsInput row column) }
     ensures memory { IsOkUnless result NoMemory }
 {
     match place_of(row, column) {

@@ -5,7 +5,6 @@ ghost use Rattle.line_edits.specs.Edit.{image_at, goes_to, within, is_in_block, 
 ghost use Rattle.line_edits.specs.Lost.{pushed_from, lost_from, lost_to, beside_lost};
 ghost use Rattle.line_edits.specs.Moves.{inserted_by, edit_moves};
 ghost use Rattle.line_edits.specs.Splits.{splits};
-ghost use Rattle.line_edits.specs.laws.Images.{IsMove};
 
 use crate::line_map::LineMap;
 use base_axis::Axis;
@@ -115,6 +114,7 @@ fn is_in_block(first: i64, count: i64, line: i32) -> bool
 }
 
 /// Whether a line is one that a block passes on its way down.
+#[tactic(auto, using(crate::proofs::Casts::casts))]
 fn is_passed_down(first: i32, count: i32, delta: i32, line: i32) -> bool
     ensures { result ≡ is_in_block (first +ℤ count) delta line }
 {
@@ -122,6 +122,7 @@ fn is_passed_down(first: i32, count: i32, delta: i32, line: i32) -> bool
 }
 
 /// Whether a line is one that a block passes on its way up.
+#[tactic(auto, using(crate::proofs::Casts::casts))]
 fn is_passed_up(first: i32, delta: i32, line: i32) -> bool
     ensures { result ≡ is_in_block (first +ℤ delta) (pos 0 -ℤ delta) line }
 {
@@ -133,7 +134,7 @@ fn is_passed_up(first: i32, delta: i32, line: i32) -> bool
 }
 
 /// Where a line of the axis goes when a block of lines moves.
-#[tactic(auto, unfolding(crate::specs::Edit::goes_to))]
+#[tactic(auto, using(crate::proofs::Casts::casts), unfolding(crate::specs::Edit::goes_to, crate::specs::Edit::moved_by))]
 pub(crate) fn passed(last: i32, first: i32, count: i32, delta: i32, line: i32) -> Option<i32>
     ensures value { result ≡ goes_to last (EditKind.Move first count delta) line }
     ensures inside { IfSome result (IsLine last) }
@@ -196,10 +197,10 @@ fn goes_to(last: i32, kind: EditKind, line: i32) -> Option<i32>
 }
 
 /// The move that takes the lines of a move back.
-#[tactic(auto, unfolding(crate::specs::Edit::opposite_of))]
+#[tactic(auto, unfolding(crate::specs::Edit::is_valid, crate::specs::Edit::opposite_of))]
 fn moved_back(last: i32, first: i32, count: i32, delta: i32) -> EditKind
     requires last { last ≤ℤ pos 1048576 }
-    requires valid { IsMove last first count delta }
+    requires valid { IsValid last (EditKind.Move first count delta) }
     ensures { result ≡ opposite_of (EditKind.Move first count delta) }
 {
     EditKind::Move {

@@ -78,7 +78,6 @@ fn is_split(of_one: bool, of_other: bool, whole_of_one: bool, whole_of_other: bo
 }
 
 /// Whether a move takes some of its lines along, and it does not go as a whole.
-#[tactic(auto, unfolding(crate::specs::Splits::splits))]
 fn is_split_by_move(start: i32, count: i32, delta: i32, first: i32, last: i32) -> bool
     ensures { result ≡ splits (EditKind.Move start count delta) first last }
 {
@@ -168,7 +167,7 @@ fn moved_line(last: i32, start: i32, count: i32, delta: i32, line: i32) -> i32
 }
 
 /// What an insertion makes of a merge.
-#[tactic(auto, unfolding(crate::specs::Edit::is_valid, crate::specs::Merged::merged_by))]
+#[tactic(auto, unfolding(crate::specs::Edit::is_valid))]
 fn inserted(
     axis_last: i32,
     start: i32,
@@ -186,7 +185,7 @@ fn inserted(
 }
 
 /// What a deletion makes of a merge.
-#[tactic(auto, unfolding(crate::specs::Edit::is_valid, crate::specs::Merged::merged_by))]
+#[tactic(auto, unfolding(crate::specs::Edit::is_valid))]
 fn deleted(
     axis_last: i32,
     start: i32,

@@ -95,3 +95,108 @@ fn first_images_are_found(rt: HostRuntime) -> Result<(), Fail> {
     }
     Ok(())
 }
+
+/// What a valid edit of rows makes of a merge, which stands from a first to a last row and is so
+/// many columns wide.
+fn merged(
+    kind: EditKind,
+    (first, last): (i32, i32),
+    across: i32,
+) -> Result<Option<(i32, i32)>, EditError> {
+    let edit = LineEdit::<RowAxis>::new(kind);
+    if !edit.is_valid() || first < 1 || last < first || RowAxis::LAST < last {
+        return Err(EditError::InvalidRow);
+    }
+    Ok(edit.merged(first, last, across))
+}
+
+#[test]
+fn merges_go(rt: HostRuntime) -> Result<(), Fail> {
+    for (kind, lines, across, there) in [
+        (insert(5, 2), (2, 4), 1, Some((2, 4))),
+        (insert(5, 2), (3, 6), 1, Some((3, 8))),
+        (insert(5, 2), (5, 6), 1, Some((7, 8))),
+        (insert(5, 2), (7, 9), 1, Some((9, 11))),
+        (
+            insert(5, 2),
+            (1_048_570, 1_048_575),
+            1,
+            Some((1_048_572, 1_048_576)),
+        ),
+        (
+            insert(5, 2),
+            (1_048_574, 1_048_575),
+            2,
+            Some((1_048_576, 1_048_576)),
+        ),
+        (insert(5, 2), (1_048_574, 1_048_575), 1, None),
+        (insert(5, 2), (1_048_575, 1_048_576), 2, None),
+        (delete(5, 3), (2, 4), 1, Some((2, 4))),
+        (delete(5, 3), (3, 6), 1, Some((3, 4))),
+        (delete(5, 3), (4, 6), 1, None),
+        (delete(5, 3), (4, 6), 2, Some((4, 4))),
+        (delete(5, 3), (6, 6), 2, None),
+        (delete(5, 3), (5, 7), 2, None),
+        (delete(5, 3), (6, 9), 1, Some((5, 6))),
+        (delete(5, 3), (3, 9), 1, Some((3, 6))),
+        (delete(5, 3), (8, 9), 1, Some((5, 6))),
+        (delete(5, 1), (5, 6), 2, Some((5, 5))),
+        (
+            delete(1_048_575, 9),
+            (1_048_570, 1_048_576),
+            1,
+            Some((1_048_570, 1_048_574)),
+        ),
+        (shift(5, 3, 2), (2, 4), 1, Some((2, 4))),
+        (shift(5, 3, 2), (4, 6), 1, Some((4, 6))),
+        (shift(5, 3, 2), (5, 6), 1, Some((7, 8))),
+        (shift(5, 3, 2), (5, 7), 1, Some((7, 9))),
+        (shift(5, 3, 2), (7, 8), 1, Some((7, 8))),
+        (shift(5, 3, 2), (8, 9), 1, Some((5, 6))),
+        (shift(5, 3, 2), (5, 9), 1, Some((5, 9))),
+        (shift(5, 3, 2), (10, 12), 1, Some((10, 12))),
+        (shift(8, 2, -3), (8, 9), 1, Some((5, 6))),
+        (shift(8, 2, -3), (5, 7), 1, Some((7, 9))),
+        (shift(8, 2, -3), (4, 5), 1, Some((4, 5))),
+    ] {
+        assert_eq!(rt;
+            merged(kind, lines, across)?,
+            there,
+            "{kind:?} {lines:?} {across}"
+        );
+    }
+    Ok(())
+}
+
+#[test]
+fn edits_split(rt: HostRuntime) -> Result<(), Fail> {
+    for (kind, first, last, is_split) in [
+        (insert(5, 2), 2, 4, false),
+        (insert(5, 2), 4, 5, true),
+        (insert(5, 2), 5, 6, false),
+        (delete(5, 3), 2, 4, false),
+        (delete(5, 3), 3, 6, true),
+        (delete(5, 3), 5, 7, false),
+        (delete(5, 3), 6, 9, true),
+        (delete(5, 3), 3, 9, true),
+        (delete(5, 3), 8, 9, false),
+        (shift(5, 3, 2), 4, 6, true),
+        (shift(5, 3, 2), 5, 7, false),
+        (shift(5, 3, 2), 7, 8, true),
+        (shift(5, 3, 2), 8, 9, false),
+        (shift(5, 3, 2), 5, 9, true),
+        (shift(5, 3, 2), 9, 10, true),
+        (shift(5, 3, 2), 10, 12, false),
+        (shift(8, 2, -3), 4, 5, true),
+        (shift(8, 2, -3), 5, 7, false),
+        (shift(8, 2, -3), 4, 9, true),
+    ] {
+        let edit = LineEdit::<RowAxis>::new(kind);
+        assert_eq!(rt;
+            edit.splits(first, last),
+            is_split,
+            "{kind:?} {first} {last}"
+        );
+    }
+    Ok(())
+}

@@ -1,12 +1,17 @@
-//! Displacing a formula's references and editing lines take each line to the same one.
+//! Laws of line edits that join several crates: displacing a formula's references and editing lines
+//! take each line to the same one, and a range goes on denoting what is left of it.
 #![tactic(auto)]
 
-ghost use Rattle.std.specs.Prelude.{◌≡◌, ◌-ℤ◌, ℤ, pos};
+ghost use Rattle.std.specs.Prelude.{◌≡◌, ◌-ℤ◌, ℤ, pos, true};
 ghost use Rattle.formula_move.specs.Lines.{shifted, stepped};
 ghost use Rattle.line_edits.specs.declared.EditKind.TheVariants.{Insert, Delete, Move};
 ghost use Rattle.line_edits.specs.Edit.{image_at, IsValid};
+ghost use Rattle.line_laws.specs.Ranges.{is_insertion_or_deletion, GoesByNodes, RangesHoldImages};
+ghost use Rattle.line_map.specs.Way.{way};
 
 use base_axis::Axis;
+use line_edits::LineEdit;
+use line_map::Route;
 
 /// The law of line maps: an edit of lines takes each number where displacing its first line by its
 /// count takes it, or by minus its count for a deletion; and the move of one line takes it where
@@ -18,3 +23,16 @@ pub fn displaced_as_edited<A: Axis>()
     ensures deletions { (first count n : ℤ) → IsValid A.along.last (Delete first count) → shifted A.along.last first (pos 0 -ℤ count) n ≡ image_at A.along.last (Delete first count) n }
     ensures moves { (line delta n : ℤ) → IsValid A.along.last (Move line (pos 1) delta) → stepped A.along.last line delta n ≡ image_at A.along.last (Move line (pos 1) delta) n }
 {}
+
+/// The law of ranges: after an insertion or a deletion of lines, take a range of a formula that
+/// survives. Where the range is on the edited sheet and isn't whole along the axis, and both of its
+/// corners survive, it then denotes the least rectangle that holds the images of its surviving
+/// places. The range may stand anywhere in the formula, since a tree goes node by node.
+/// docs/MODEL.md has the rules.
+pub fn ranges_hold_images<A: Axis>(route: &Route<'_, A, LineEdit<A>>)
+    requires { is_insertion_or_deletion route.now.map.now.kind ≡ true }
+    ensures ranges { RangesHoldImages (way route.now) }
+    ensures nodes { GoesByNodes (way route.now) }
+{
+    route.is_way();
+}

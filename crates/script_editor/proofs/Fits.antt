@@ -1,5 +1,5 @@
--- The entry that an input makes may stand at its place, and has a font.
-use Rattle.std.proofs.Common.{◌≡◌, ℕ, ℤ, Bool, true, List, zero, suc, ◌∷◌, [], Option, Some, None, refl, ap, sym, ◌∙◌}
+-- The place of an input lies inside the sheet, and the entry that it makes has a font.
+use Rattle.std.proofs.Common.{◌≡◌, ℕ, ℤ, pos, Bool, true, false, cond, Option, Some, None, Result, Ok, Err, refl, ap, sym, ◌∙◌}
 use Rattle.std.specs.Prelude.{IsTrue, IfSome, slice_get, ◌&&◌, not}
 use Rattle.std.specs.Option.{option_or, unwrap_or}
 use Rattle.std.specs.List.{list_all}
@@ -10,40 +10,40 @@ use Rattle.std.specs.Cmp.{int_cmp_total}
 use Rattle.std.proofs.lemmas.Map.Lookups.{exact_signed}
 use Rattle.base_styles.specs.declared.Style.{Style}
 use Rattle.base_styles.specs.DefaultStyle.{default_style}
+use Rattle.base_values.specs.declared.EditError.{EditError}
+use Rattle.base_values.specs.declared.EditError.TheVariants.{InvalidRow, InvalidColumn}
 use Rattle.base_values.specs.declared.Position.{Position}
-use Rattle.base_values.specs.Places.{position_cmp}
+use Rattle.base_values.specs.Places.{is_line, place_of, position_cmp}
 use Rattle.base_values.specs.laws.Places.{position_total, exact_positions}
 use Rattle.cell_content.specs.declared.Content.{Content}
-use Rattle.cell_content.specs.declared.Content.TheVariants.{Empty, Number, Boolean, Error, Text, Formula, Dynamic}
-use Rattle.cell_content.specs.Fitting.{fits_at}
+use Rattle.cell_content.specs.declared.Content.TheVariants.{Empty, Number, Boolean, Error, Text, Formula, Dynamic, Array}
 use Rattle.sheet_grid.specs.declared.Cell.{Cell}
 use Rattle.sheet_grid.specs.declared.LineAttr.{LineAttr}
-use Rattle.sheet_grid.specs.FittingCells.{entry_fits_at}
 use Rattle.sheet_grid.specs.Lines.{is_plain, own_line_style}
 use Rattle.sheet_grid.specs.Sheet.{Sheet, cell_style, line_style, own_style, shown_style}
 use Rattle.sheet_grid.specs.Book.{Book}
 use Rattle.sheet_rules.specs.laws.EntryLaws.{both}
-use Rattle.sheet_rules.specs.WellFormed.{have_attributes, is_size, is_width, is_default, is_row, is_row_style, is_column, is_column_style, has_font, IsWellFormed}
+use Rattle.sheet_rules.specs.WellFormed.{is_place, have_attributes, is_size, is_width, is_default, is_row, is_row_style, is_column, is_column_style, has_font, IsWellFormed}
 use Rattle.sheet_rules.specs.laws.WellFormedLaws.{well_formed_parts}
 use Rattle.sheet_history.specs.laws.Entries.{entry_holds}
 use Rattle.sheet_history.specs.Untested.{entry_has_font}
 use Rattle.script_editor.specs.Inputs.{new_cell, entered}
+use Rattle.script_editor.proofs.Lists.{passes_at}
 
 -- ---- places
 
-new_placed : (place : Position) (content : Content) (style : Style) → IsTrue (fits_at place content) → IsTrue (entry_fits_at place (new_cell content style))
-new_placed place Empty style fits = refl
-new_placed place (Number number) style fits = fits
-new_placed place (Boolean value) style fits = fits
-new_placed place (Error error) style fits = fits
-new_placed place (Text text) style fits = fits
-new_placed place (Formula tree) style fits = fits
-new_placed place (Dynamic tree) style fits = fits
-
--- an entry may stand where its content may
-pub entered_placed : (place : Position) (old : Option Cell) (content : Content) (style : Style) → IsTrue (fits_at place content) → IsTrue (entry_fits_at place (entered old content style))
-entered_placed place None content style fits = new_placed place content style fits
-entered_placed place (Some cell) content style fits = fits
+-- a place that is found lies inside the sheet
+pub place_inside : (row column : ℤ) (place : Position) → place_of row column ≡ Ok place → is_place place ≡ true
+unfolding place_of
+place_inside row column place is = go (is_line (pos 1048576) row) refl (is_line (pos 16384) column) refl is
+  where
+    go : (a : Bool) → is_line (pos 1048576) row ≡ a → (b : Bool) → is_line (pos 16384) column ≡ b
+        → ◌≡◌ {A = Result Position EditError} (cond a (cond b (Ok (record { row = row; column = column })) (Err InvalidColumn)) (Err InvalidRow)) (Ok place) → is_place place ≡ true
+    go true one true two e =
+        let same : ◌≡◌ {A = Position} (record { row = row; column = column }) place = cc in
+        ap is_place (sym same) ∙ (λ i. one i && two i)
+    go true one false two e = absurd (let never : ◌≡◌ {A = Result Position EditError} (Err InvalidColumn) (Ok place) = e in cc)
+    go false one b two e = absurd (let never : ◌≡◌ {A = Result Position EditError} (Err InvalidRow) (Ok place) = e in cc)
 
 -- ---- fonts
 
@@ -55,16 +55,12 @@ new_font (Error error) style font = font
 new_font (Text text) style font = font
 new_font (Formula tree) style font = font
 new_font (Dynamic tree) style font = font
+new_font (Array tree width height) style font = font
 
 -- it has the font that its place shows
 pub entered_font : (old : Option Cell) (content : Content) (style : Style) → IsTrue (has_font style) → IsTrue (entry_has_font (entered old content style))
 entered_font None content style font = new_font content style font
 entered_font (Some cell) content style font = font
-
-list_at : (sheets : List Sheet) (index : ℕ) (sheet : Sheet) → slice_get sheets index ≡ Some sheet → list_all have_attributes sheets ≡ true → have_attributes sheet ≡ true
-list_at [] index sheet found all = absurd (cc)
-list_at (s ∷ sheets) zero sheet found all = let same : s ≡ sheet = cc in ap have_attributes (sym same) ∙ (both _ _ all).0
-list_at (s ∷ sheets) (suc index) sheet found all = list_at sheets index sheet found (both _ _ all).1
 
 -- what rows, columns and cells have of their own
 pub record Attributes (sheet : Sheet) : Type 0 where
@@ -115,7 +111,7 @@ shown_font book rules index sheet found place =
     (either_font (own_line_style (fin.get sheet.rows place.row)) (own_line_style (fin.get sheet.columns place.column)) (of_row (fin.get sheet.rows place.row) refl) (of_column (fin.get sheet.columns place.column) refl)))
   where
     fonts : Attributes sheet
-    fonts = attributes_of sheet (list_at book.worksheets index sheet found (well_formed_parts book rules).attributes)
+    fonts = attributes_of sheet (passes_at have_attributes book.worksheets index sheet found (well_formed_parts book rules).attributes)
 
     of_cell : (o : Option Cell) → fin.get sheet.cells place ≡ o → HasFont (cell_style o)
     of_cell None is = tt

@@ -1,7 +1,7 @@
 -- What an edit of lines keeps of a well-formed workbook.
-use Rattle.std.proofs.Common.{◌≡◌, ℕ, ℤ, Bool, true, false, cond, not, List, [], ◌∷◌, Option, Some, None, refl, ap, sym, subst, ◌∙◌}
-use Rattle.std.specs.Prelude.{IfSome, ◌==◌, ◌&&◌, is_none}
-use Rattle.std.specs.List.{list_all, find}
+use Rattle.std.proofs.Common.{◌≡◌, ℕ, ℤ, Bool, true, false, cond, not, Option, Some, None, refl, ap, sym, subst, ◌∙◌}
+use Rattle.std.specs.Prelude.{IfSome, ◌&&◌, is_none}
+use Rattle.std.specs.List.{list_all}
 use Rattle.std.specs.Ordering.{int_cmp}
 use Rattle.std.specs.Cmp.{int_cmp_total}
 use Rattle.std.specs.FinMap.{FinMap, entries, get, get-empty}
@@ -17,10 +17,10 @@ use Rattle.sheet_grid.specs.Sheet.{Sheet}
 use Rattle.sheet_grid.specs.Book.{Book}
 use Rattle.sheet_rules.specs.laws.EntryLaws.{both}
 use Rattle.sheet_rules.specs.WellFormed.{have_attributes, is_row, is_column, is_size, is_width, is_row_style, is_column_style, IsWellFormed}
-use Rattle.sheet_rules.specs.laws.WellFormedLaws.{well_formed_parts}
 use Rattle.sheet_lines.specs.Kept.{lines_of, of_sheet, kept_lines}
 use Rattle.sheet_lines.specs.Sheets.{sheet_of}
 use Rattle.sheet_history.specs.laws.Entries.{entry_holds}
+use Rattle.sheet_history.specs.laws.RuleLaws.{sheet_rules}
 use Rattle.sheet_wire.specs.LinesBytes.{IsKeptOfLines}
 use Rattle.script_editor.proofs.Fits.{attributes_of}
 
@@ -49,16 +49,6 @@ own_lines : (sheet : Sheet) → have_attributes sheet ≡ true → (b : Bool) (l
 own_lines sheet all true line = own_at is_row row_own sheet.rows (attributes_of sheet all).rows line
 own_lines sheet all false line = own_at is_column column_own sheet.columns (attributes_of sheet all).columns line
 
-found_sheet : (id : ℕ) (sheets : List Sheet) (sheet : Sheet) → find (λ (s : Sheet). s.id == id) sheets ≡ Some sheet → list_all have_attributes sheets ≡ true → have_attributes sheet ≡ true
-found_sheet id [] sheet found all = absurd (cc)
-found_sheet id (s ∷ sheets) sheet found all =
-    go (s.id == id) found (λ later. found_sheet id sheets sheet later (both (have_attributes s) (list_all have_attributes sheets) all).1)
-  where
-    go : (b : Bool) → cond b (Some s) (find (λ (t : Sheet). t.id == id) sheets) ≡ Some sheet
-        → (find (λ (t : Sheet). t.id == id) sheets ≡ Some sheet → have_attributes sheet ≡ true) → have_attributes sheet ≡ true
-    go true is rest = let same : s ≡ sheet = cc in ap have_attributes (sym same) ∙ (both (have_attributes s) (list_all have_attributes sheets) all).0
-    go false is rest = rest is
-
 some_or_none : (b : Bool) (o : Option LineAttr) → IfSome o IsOwn → IfSome (cond b o None) IsOwn
 some_or_none true o own = own
 some_or_none false o own = tt
@@ -71,4 +61,4 @@ lost_own a to (Some sheet) all line =
 
 -- of each line it keeps something of its own
 pub kept_of_lines : (a : Along) (e : EditKind) (id : ℕ) (book : Book) → IsWellFormed book → IsKeptOfLines (kept_lines a e id book)
-kept_of_lines a e id book rules = lost_own a (image_at a.last e) (sheet_of book id) (λ sheet found. found_sheet id book.worksheets sheet found (well_formed_parts book rules).attributes)
+kept_of_lines a e id book rules = lost_own a (image_at a.last e) (sheet_of book id) (λ sheet found. (sheet_rules book rules id sheet found).attributes)

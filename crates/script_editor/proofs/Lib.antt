@@ -1,11 +1,11 @@
 mod Entering
 mod Fits
-mod InputLaws
-mod InputRecord
 mod InputSteps
 mod KeptLines
 mod LinePlans
 mod LineSteps
+mod Lists
+mod Open
 mod Own
 mod Recording
 mod Refusals

@@ -1,5 +1,5 @@
 -- Lines that are inserted, deleted or moved are a sound step.
-use Rattle.std.proofs.Common.{◌≡◌, ℕ, List, [], ◌∷◌, length, Result, Ok, Err, refl, ap, sym, subst, ◌∙◌}
+use Rattle.std.proofs.Common.{◌≡◌, ℕ, true, List, [], ◌∷◌, length, Result, Ok, Err, refl, ap, sym, subst, ◌∙◌}
 use Rattle.std.specs.Prelude.{OnOk}
 use Rattle.base_values.specs.declared.EditError.{EditError}
 use Rattle.base_values.specs.Answers.{Changes, map_ok}
@@ -18,7 +18,9 @@ use Rattle.sheet_history.specs.LineDiffs.{along_of}
 use Rattle.sheet_history.specs.Diffs.{made, taken_back}
 use Rattle.sheet_history.specs.Records.{IsLineEdit, line_record}
 use Rattle.sheet_actions.specs.Planned.{lines_planned}
+use Rattle.sheet_actions.specs.Whole.{IsAllowed}
 use Rattle.sheet_actions.specs.laws.FollowedWellFormed.{followed_well_formed}
+use Rattle.sheet_history.specs.Untested.{hides_nothing}
 use Rattle.sheet_history.specs.laws.LineRecords.{along_lawful, record_made, record_taken_back}
 use Rattle.script_editor.specs.Document.{Document, document_edit, recorded, lines_recorded}
 use Rattle.script_editor.specs.Machine.{Edit, State, changed, lines_record, record_of, edit_of}
@@ -28,6 +30,7 @@ use Rattle.script_editor.specs.Sound.{IsSendable, IsSoundStep, IsSound}
 use Rattle.script_editor.specs.BothWays.{GoesBothWays}
 use Rattle.script_editor.specs.Stands.{StandsFor, Moves}
 use Rattle.script_editor.proofs.LinePlans.{IsPlanned, lines_plan}
+use Rattle.script_editor.proofs.Open.{followed_open}
 use Rattle.script_editor.proofs.Sounds.{sound_edit, edit_moves, on_ok_map, sendable_in}
 use Rattle.script_editor.proofs.Tested.{passes}
 
@@ -92,6 +95,7 @@ record IsAccepted (w : Book) (index : ℕ) (axis : LineAxis) (kind : EditKind) (
   sheet : Sheet
   at : sheet_at w index ≡ Ok sheet
   edit : IsLineEdit axis kind sheet.id w
+  allowed : IsAllowed (along_of axis) kind sheet.id w
   followed : book_followed (along_of axis) kind sheet.id w ≡ later
 
 module _ (index : ℕ) (axis : LineAxis) (kind : EditKind) where
@@ -105,7 +109,7 @@ module _ (index : ℕ) (axis : LineAxis) (kind : EditKind) where
       go (Ok p) plan h =
           let found = lines_plan w rules index axis kind p plan in
           let same : book_followed (along_of axis) p.1 p.0 w ≡ later = cc in
-          record { sheet = found.sheet; at = found.at; edit = found.edit; followed = ap (λ (p : ℕ × EditKind). book_followed (along_of axis) p.1 p.0 w) found.plan_is ∙ same }
+          record { sheet = found.sheet; at = found.at; edit = found.edit; allowed = found.allowed; followed = ap (λ (p : ℕ × EditKind). book_followed (along_of axis) p.1 p.0 w) found.plan_is ∙ same }
       go (Err error) plan h = absurd (let never : ◌≡◌ {A = Result Book EditError} (Err error) (Ok later) = h in cc)
 
   lines_both : (w later : Book) → IsAccepted w index axis kind later → GoesBothWays edit w later
@@ -113,7 +117,7 @@ module _ (index : ℕ) (axis : LineAxis) (kind : EditKind) where
       let id : ℕ = found.sheet.id in
       let list : List Diff = record_of edit w later in
       let recorded_is : list ≡ line_record axis kind id w = ap (lines_record axis kind w) found.at in
-      let later_rules : IsWellFormed later = subst IsWellFormed found.followed (followed_well_formed (along_of axis) (along_lawful axis) kind found.edit.valid id w found.edit.rules) in
+      let later_rules : IsWellFormed later = subst IsWellFormed found.followed (followed_well_formed (along_of axis) (along_lawful axis) kind found.edit.valid id w found.edit.rules found.allowed) in
       record {
         rules = later_rules;
         forth = passes (length list) (made w list) later (ap (made w) recorded_is ∙ record_made axis kind id w found.edit ∙ ap Ok found.followed) later_rules;
@@ -126,14 +130,16 @@ module _ (index : ℕ) (axis : LineAxis) (kind : EditKind) where
   pub lines_go_both_ways : (earlier later : Book) → IsWellFormed earlier → changed edit earlier ≡ Ok later → GoesBothWays edit earlier later
   lines_go_both_ways earlier later rules how = lines_both earlier later (accepted earlier later rules how)
 
-  lines_step : (w later : Book) → IsWellFormed w → changed edit w ≡ Ok later → AreSpellable (record_of edit w later) → IsSoundStep (record { edit = edit; before = w; after = later })
-  lines_step w later rules how spellable =
+  lines_step : (w later : Book) → IsWellFormed w → hides_nothing w ≡ true → changed edit w ≡ Ok later → AreSpellable (record_of edit w later) → IsSoundStep (record { edit = edit; before = w; after = later })
+  lines_step w later rules shown how spellable =
       let both = lines_go_both_ways w later rules how in
-      record { before = rules; after = both.rules; forth = both.forth; back = both.back; exact = both.exact; spellable = spellable }
+      let found = accepted w later rules how in
+      let shown_after = ap hides_nothing (sym found.followed) ∙ followed_open (along_of axis) (along_lawful axis) kind found.edit.valid found.sheet.id w shown in
+      record { before = rules; after = both.rules; shown_before = shown; shown_after = shown_after; forth = both.forth; back = both.back; exact = both.exact; spellable = spellable }
 
   -- the state after it is sound
   sound_lines : (s next : State) → IsSound s → IsSendable edit s.present → edit_of edit s ≡ Ok next → IsSound next
-  sound_lines s next sound sendable is = sound_edit edit s next sound (λ later how. lines_step s.present later sound.present how (sendable later how)) is
+  sound_lines s next sound sendable is = sound_edit edit s next sound (λ later how. lines_step s.present later sound.present sound.shown how (sendable later how)) is
 
   -- a call that edits lines in the document moves as the machine does
   pub lines_moves : (old new : Document) (result : Result (Unit {0}) EditError) → Changes result old new (document_edit edit old) → OnOk result (IsSendable edit old.book)

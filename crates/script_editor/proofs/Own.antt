@@ -1,14 +1,13 @@
--- A sheet of a well-formed workbook is the one of its id.
+-- A sheet of a well-formed workbook is the one of its id at its index.
 use Rattle.std.proofs.Common.{◌≡◌, ℕ, ◌+◌, zero, suc, ◌<◌, true, false, cond, not, List, [], ◌∷◌, length, map, Some, None, ap, sym, ◌∙◌, arith}
 use Rattle.std.specs.Prelude.{◌==◌, slice_get, nat_lt}
-use Rattle.std.specs.List.{AllByRecursion, IsDistinct, find, position_or_len}
+use Rattle.std.specs.List.{AllByRecursion, IsDistinct, position_or_len}
 use Rattle.std.specs.Cmp.{unsigned_Decides}
 use Rattle.std.proofs.lemmas.Bool.{lt-ltb}
 use Rattle.sheet_grid.specs.Sheet.{Sheet}
 use Rattle.sheet_grid.specs.Book.{Book, index_of}
 use Rattle.sheet_rules.specs.WellFormed.{IsWellFormed}
 use Rattle.sheet_rules.specs.laws.WellFormedLaws.{distinct_ids_from_well_formed}
-use Rattle.sheet_lines.specs.Sheets.{sheet_of}
 
 abbrev ids : List Sheet → List ℕ
 ids sheets = map (λ (s : Sheet). s.id) sheets
@@ -38,23 +37,9 @@ inside [] index sheet found = absurd (cc)
 inside (s ∷ sheets) zero sheet found = omega arith
 inside (s ∷ sheets) (suc index) sheet found = let rest = inside sheets index sheet found in omega (arith, rest)
 
-own_sheet : (sheets : List Sheet) → IsDistinct ◌==◌ (ids sheets) → (index : ℕ) (sheet : Sheet) → slice_get sheets index ≡ Some sheet → find (λ (s : Sheet). s.id == sheet.id) sheets ≡ Some sheet
-unfolding IsDistinct
-own_sheet [] distinct index sheet found = absurd (cc)
-own_sheet (s ∷ sheets) distinct zero sheet found =
-    let same : s ≡ sheet = cc in
-    ap (λ b. cond b (Some s) (find (λ (t : Sheet). t.id == sheet.id) sheets)) (own_id s sheet same) ∙ ap Some same
-own_sheet (s ∷ sheets) distinct (suc index) sheet found =
-    ap (λ b. cond b (Some s) (find (λ (t : Sheet). t.id == sheet.id) sheets)) (apart s sheets distinct.0 index sheet found) ∙ own_sheet sheets distinct.1 index sheet found
-
 module _ (book : Book) (rules : IsWellFormed book) (index : ℕ) (sheet : Sheet) (found : slice_get book.worksheets index ≡ Some sheet) where
-  -- at its index
   pub own_index : index_of book sheet.id ≡ Some index
   own_index =
       let place = own_place book.worksheets (distinct_ids_from_well_formed book rules) index sheet found in
       ap (λ n. cond (nat_lt n (length book.worksheets)) (Some n) None) place
       ∙ ap (λ b. cond b (Some index) None) (lt-ltb index (length book.worksheets) (inside book.worksheets index sheet found))
-
-  -- and as itself
-  pub own_found : sheet_of book sheet.id ≡ Some sheet
-  own_found = own_sheet book.worksheets (distinct_ids_from_well_formed book rules) index sheet found

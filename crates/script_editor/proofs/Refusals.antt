@@ -2,23 +2,22 @@
 use Rattle.std.proofs.Common.{◌≡◌, ℕ, ◌+◌, Bool, true, false, cond, List, [], ◌∷◌, length, Option, Some, None, Result, Ok, Err, subst}
 use Rattle.base_values.specs.declared.EditError.{EditError}
 use Rattle.base_values.specs.declared.EditError.TheVariants.{DiffRefused, ParseDiffs}
-use Rattle.base_values.specs.declared.Position.{Position}
-use Rattle.base_values.specs.Answers.{and_then, ok_or, value_of}
+use Rattle.base_values.specs.Answers.{and_then}
 use Rattle.base_axis.specs.Along.{Along}
 use Rattle.line_edits.specs.declared.EditKind.{EditKind}
-use Rattle.sheet_grid.specs.declared.Cell.{Cell}
-use Rattle.sheet_grid.specs.Book.{Book, edit_by_id}
-use Rattle.sheet_grid.specs.FittingCells.{entry_fits_at}
-use Rattle.sheet_grid.specs.Sheet.{cell_put}
+use Rattle.sheet_grid.specs.Book.{Book}
 use Rattle.sheet_rules.specs.WellFormed.{broken_rule}
 use Rattle.sheet_lines.specs.declared.KeptLines.{KeptLines}
 use Rattle.sheet_lines.specs.Followed.{book_followed}
 use Rattle.sheet_lines.specs.Back.{book_back}
 use Rattle.sheet_history.specs.declared.Diff.{Diff}
-use Rattle.sheet_history.specs.declared.Diff.TheVariants.{Cell as CellDiff, Lines as LinesDiff}
+use Rattle.sheet_history.specs.declared.Diff.TheVariants.{Cell as CellDiff, Link as LinkDiff, Merges as MergesDiff, Lines as LinesDiff}
 use Rattle.sheet_history.specs.declared.DiffType.{DiffType}
 use Rattle.sheet_history.specs.declared.DiffType.TheVariants.{Undo, Redo}
 use Rattle.sheet_history.specs.declared.QueueDiffs.{QueueDiffs}
+use Rattle.sheet_history.specs.Entries.{EntryKey, EntryValue, accepts, put_entry}
+use Rattle.sheet_history.specs.Entries.EntryKey.{CellKey, LinkKey, MergesKey}
+use Rattle.sheet_history.specs.Entries.EntryValue.{CellValue, LinkValue, MergesValue}
 use Rattle.sheet_history.specs.LineDiffs.{along_of, goes_forward, goes_back, lines_forward, lines_back}
 use Rattle.sheet_history.specs.Diffs.{put_in, step_forward, step_back, forward_from, back_from, by_rule, tested, follow, in_entry, replayed_from, replayed}
 
@@ -34,19 +33,13 @@ then_only : (r : Result Book EditError) (f : Book → Result Book EditError) →
 then_only (Ok book) f h g = g book
 then_only (Err error) f h g = h
 
-some_only : (at : ℕ) (o : Option Book) → Only (ok_or (DiffRefused 0 at) o)
-some_only at None = tt
-some_only at (Some book) = tt
-
 either_only : (b : Bool) (x y : Result Book EditError) → Only x → Only y → Only (cond b x y)
 either_only true x y h k = h
 either_only false x y h k = k
 
-put_only : (at : ℕ) (book : Book) (id : ℕ) (place : Position) (entry : Option Cell) → Only (put_in at book id place entry)
+put_only : (at : ℕ) (book : Book) (key : EntryKey) (value : EntryValue) → Only (put_in at book key value)
 unfolding put_in
-put_only at book id place entry =
-    either_only (entry_fits_at place entry) (ok_or (DiffRefused 0 at) (value_of (edit_by_id book id (λ sheet. cell_put sheet place.row place.column entry)))) (Err (DiffRefused 0 at))
-    (some_only at (value_of (edit_by_id book id (λ sheet. cell_put sheet place.row place.column entry)))) tt
+put_only at book key value = either_only (accepts book key value) (Ok (put_entry book key value)) (Err (DiffRefused 0 at)) tt tt
 
 forward_only : (at : ℕ) (a : Along) (id : ℕ) (e : EditKind) (kept : KeptLines) (book : Book) → Only (lines_forward at a id e kept book)
 unfolding lines_forward
@@ -57,11 +50,15 @@ unfolding lines_back
 back_only at a id e kept book = either_only (goes_back a id e kept book) (Ok (book_back a e id kept book)) (Err (DiffRefused 0 at)) tt tt
 
 step_only : (at : ℕ) (book : Book) (diff : Diff) → Only (step_forward at book diff)
-step_only at book (CellDiff sheet place old new) = put_only at book sheet place new
+step_only at book (CellDiff sheet place old new) = put_only at book (CellKey sheet place) (CellValue new)
+step_only at book (LinkDiff sheet place old new) = put_only at book (LinkKey sheet place) (LinkValue new)
+step_only at book (MergesDiff sheet old new) = put_only at book (MergesKey sheet) (MergesValue new)
 step_only at book (LinesDiff sheet axis edit kept) = forward_only at (along_of axis) sheet edit kept book
 
 step_back_only : (at : ℕ) (book : Book) (diff : Diff) → Only (step_back at book diff)
-step_back_only at book (CellDiff sheet place old new) = put_only at book sheet place old
+step_back_only at book (CellDiff sheet place old new) = put_only at book (CellKey sheet place) (CellValue old)
+step_back_only at book (LinkDiff sheet place old new) = put_only at book (LinkKey sheet place) (LinkValue old)
+step_back_only at book (MergesDiff sheet old new) = put_only at book (MergesKey sheet) (MergesValue old)
 step_back_only at book (LinesDiff sheet axis edit kept) = back_only at (along_of axis) sheet edit kept book
 
 made_only : (at : ℕ) (book : Book) (diffs : List Diff) → Only (forward_from at book diffs)

@@ -1,5 +1,5 @@
 -- Every step of the machine keeps it sound, and an editor's documents go along.
-use Rattle.std.proofs.Common.{◌≡◌, ℕ, ◌+◌, List, [], ◌∷◌, ◌++◌, map, length, Result, Ok, Err, refl, ap, sym, subst, ◌∙◌}
+use Rattle.std.proofs.Common.{◌≡◌, ℕ, ◌+◌, true, List, [], ◌∷◌, ◌++◌, map, length, Result, Ok, Err, refl, ap, sym, subst, ◌∙◌}
 use Rattle.std.specs.Prelude.{OnOk, IfErr, IsOk, codes}
 use Rattle.std.specs.List.{AllByRecursion}
 use Rattle.std.proofs.lemmas.List.{map_push}
@@ -14,6 +14,7 @@ use Rattle.sheet_rules.specs.laws.WellFormedLaws.{well_formed-new}
 use Rattle.sheet_history.specs.declared.DiffType.TheVariants.{Undo, Redo}
 use Rattle.sheet_history.specs.declared.QueueDiffs.{QueueDiffs}
 use Rattle.sheet_history.specs.Diffs.{made, taken_back, forwarded, backed, follow, in_entry, replayed}
+use Rattle.sheet_history.specs.Untested.{hides_nothing}
 use Rattle.sheet_history.specs.laws.ReplayLaws.{replayed_from-push}
 use Rattle.sheet_wire.specs.QueueBytes.{IsKnownEntry, IsKnownQueue, FitsQueue, spell_queue}
 use Rattle.script_editor.specs.Document.{Document, document, document_edit, document_undo, undo_at, document_redo, redo_at, recorded, undone, redone}
@@ -21,10 +22,11 @@ use Rattle.script_editor.specs.Machine.{Edit, Step, Sent, State, start, changed,
 use Rattle.script_editor.specs.Sound.{IsSendable, IsSoundStep, Leads, Follows, Carries, IsSound}
 use Rattle.script_editor.specs.Spellable.{AreSpellable}
 use Rattle.script_editor.specs.Stands.{StandsFor, IsReached, Moves}
+use Rattle.script_editor.proofs.Open.{first_open}
 use Rattle.script_editor.proofs.Tested.{passed}
 
 pub sound_start : IsSound start
-sound_start = record { present = well_formed-new (codes "workbook") En Utc; past = tt; undone = tt; sync = record { spelled = refl; led = refl }; spellable = tt }
+sound_start = record { present = well_formed-new (codes "workbook") En Utc; shown = first_open; past = tt; undone = tt; sync = record { spelled = refl; led = refl }; spellable = tt }
 
 -- ---- what is sent
 
@@ -58,6 +60,7 @@ step_of edit s later = record { edit = edit; before = s.present; after = later }
 pub sound_edited : (edit : Edit) (s : State) (later : Book) → IsSound s → IsSoundStep (step_of edit s later) → IsSound (edited edit s later)
 sound_edited edit s later sound step = record {
   present = step.after;
+  shown = step.shown_after;
   past = (refl, step, sound.past);
   undone = tt;
   sync = carries_more s sound (record { kind = Redo; step = step_of edit s later }) later step.forth;
@@ -88,6 +91,7 @@ undo_sound : (s : State) (past : List Step) → IsSound s → Leads past s.prese
 undo_sound s [] sound leads = sound
 undo_sound s (step ∷ past) sound leads = record {
   present = leads.1.before;
+  shown = leads.1.shown_before;
   past = leads.2;
   undone = (refl, leads.1, subst (Follows s.undone) (sym leads.0) sound.undone);
   sync = carries_more s sound (record { kind = Undo; step = step }) step.before (ap (λ book. backed book (step_record step)) (sym leads.0) ∙ leads.1.back);
@@ -114,6 +118,7 @@ redo_sound : (s : State) (undone : List Step) → IsSound s → Follows undone s
 redo_sound s [] sound follows = sound
 redo_sound s (step ∷ undone) sound follows = record {
   present = follows.1.after;
+  shown = follows.1.shown_after;
   past = (refl, follows.1, subst (Leads s.past) (sym follows.0) sound.past);
   undone = follows.2;
   sync = carries_more s sound (record { kind = Redo; step = step }) step.after (ap (λ book. forwarded book (step_record step)) (sym follows.0) ∙ follows.1.forth);
@@ -137,7 +142,7 @@ document_redone s sound = redo_along s s.undone sound.undone
 -- ---- sync
 
 pub sound_sync : (s : State) → IsSound s → IsSound (synced_of s)
-sound_sync s sound = record { present = sound.present; past = sound.past; undone = sound.undone; sync = record { spelled = refl; led = refl }; spellable = tt }
+sound_sync s sound = record { present = sound.present; shown = sound.shown; past = sound.past; undone = sound.undone; sync = record { spelled = refl; led = refl }; spellable = tt }
 
 -- ---- from documents to states
 
@@ -242,6 +247,10 @@ reached_on result old new step goes is = moved result old new is.0 (step is.0) i
 -- a document that stands for some state has a well-formed workbook
 pub reached_rules : (doc : Document) → IsReached doc → IsWellFormed doc.book
 reached_rules doc is = subst IsWellFormed (sym (ap (λ (d : Document). d.book) is.1.document)) is.1.sound.present
+
+-- which hides no place
+pub reached_open : (doc : Document) → IsReached doc → hides_nothing doc.book ≡ true
+reached_open doc is = ap (λ (d : Document). hides_nothing d.book) is.1.document ∙ is.1.sound.shown
 
 -- the document with an empty queue stands for the state after a sync
 pub synced_document : (doc new : Document) (s : State) → StandsFor doc s → new.book ≡ doc.book → new.undo ≡ doc.undo → new.redo ≡ doc.redo → new.queue ≡ [] → StandsFor new (synced_of s)

@@ -1,8 +1,9 @@
 -- What the input of a content does to a workbook.
-use Rattle.std.proofs.Common.{ℕ, ℤ, List, [], ◌∷◌, Option, Some, None, Result, Ok}
-use Rattle.std.specs.Prelude.{if◌then◌else◌}
+use Rattle.std.proofs.Common.{◌≡◌, ℕ, ℤ, List, [], ◌∷◌, Option, Some, None, Result, Ok, Err}
+use Rattle.std.specs.Prelude.{if◌then◌else◌, is_some, IsTrue}
 use Rattle.std.specs.FinMap as fin
 use Rattle.base_values.specs.declared.EditError.{EditError}
+use Rattle.base_values.specs.declared.EditError.TheVariants.{CoveredCell, ArrayCell}
 use Rattle.base_values.specs.declared.Position.{Position}
 use Rattle.base_values.specs.Answers.{and_then, map_ok}
 use Rattle.base_values.specs.Places.{place_of}
@@ -10,9 +11,13 @@ use Rattle.base_styles.specs.declared.Style.{Style}
 use Rattle.sheet_grid.specs.declared.Cell.{Cell}
 use Rattle.cell_content.specs.declared.Content.{Content}
 use Rattle.cell_content.specs.declared.Content.TheVariants.{Empty}
+use Rattle.cell_content.specs.Fitting.{fits_at}
+use Rattle.sheet_grid.specs.Arrays.{array_at}
+use Rattle.sheet_grid.specs.Merges.{is_covered}
 use Rattle.sheet_grid.specs.SameEntry.{same_entry}
 use Rattle.sheet_grid.specs.Sheet.{Sheet, with_cell, shown_style}
 use Rattle.sheet_grid.specs.Book.{Book, sheet_at, sheet_edit}
+use Rattle.sheet_rules.specs.Occupied.{array_over}
 use Rattle.sheet_history.specs.declared.Diff.{Diff}
 use Rattle.sheet_history.specs.declared.Diff.TheVariants.{Cell as CellDiff}
 
@@ -30,9 +35,21 @@ entered (Some cell) content style = Some (record { content = content; style = st
 abbrev pub with_input : Sheet → Content → Position → Sheet
 with_input sheet content place = with_cell sheet place (entered (fin.get sheet.cells place) content (shown_style sheet place))
 
--- the workbook after an input, or the first refusal: no such sheet, the row outside, the column outside
+-- a place that no merge covers, and that no array of more than one cell holds
+abbrev pub free_place : Sheet → Position → Result Position EditError
+free_place sheet place =
+    if is_covered sheet.merges place then Err CoveredCell
+    else if is_some (array_over sheet place) then Err ArrayCell
+    else Ok place
+
+-- the place at a row and a column to which an input may go, or the first refusal: the row outside, the column outside, a covered
+-- cell, a cell of an array
+abbrev pub input_place : Sheet → ℤ → ℤ → Result Position EditError
+input_place sheet row column = and_then (place_of row column) (free_place sheet)
+
+-- the workbook after an input, or the first refusal: no such sheet, or no place to which it may go
 abbrev pub input_put : ℕ → ℤ → ℤ → Content → Book → Result Book EditError
-input_put index row column content book = sheet_edit book index (λ sheet. map_ok (with_input sheet content) (place_of row column))
+input_put index row column content book = sheet_edit book index (λ sheet. map_ok (with_input sheet content) (input_place sheet row column))
 
 -- the diff of one cell, or none where it stays
 abbrev pub cell_change : ℕ → Position → Option Cell → Option Cell → List Diff
@@ -51,4 +68,9 @@ plan_at sheet content place =
 
 -- what an input makes of a place: the new entry, and its record. The refusals are those of the input
 abbrev pub input_plan : ℕ → ℤ → ℤ → Content → Book → Result (Option Cell × List Diff) EditError
-input_plan index row column content book = and_then (sheet_at book index) (λ sheet. map_ok (plan_at sheet content) (place_of row column))
+input_plan index row column content book = and_then (sheet_at book index) (λ sheet. map_ok (plan_at sheet content) (input_place sheet row column))
+
+-- what an input may be: a content that may stand at its place, and no array
+pub record IsInput (row column : ℤ) (content : Content) : Type 0 where
+  pub fits : IsTrue (fits_at (record { row = row; column = column }) content)
+  pub plain : array_at (record { row = row; column = column }) content ≡ None

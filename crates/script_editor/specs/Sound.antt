@@ -1,5 +1,5 @@
 -- What holds of every state that the machine reaches.
-use Rattle.std.proofs.Common.{◌≡◌, ℕ, List, [], ◌∷◌, Ok}
+use Rattle.std.proofs.Common.{◌≡◌, ℕ, true, List, [], ◌∷◌, Ok}
 use Rattle.line_edits.specs.declared.EditKind.{EditKind}
 use Rattle.sheet_grid.specs.Sheet.{Sheet}
 use Rattle.sheet_grid.specs.Book.{Book, sheet_at}
@@ -11,6 +11,7 @@ use Rattle.sheet_history.specs.declared.QueueDiffs.{QueueDiffs}
 use Rattle.sheet_history.specs.LineDiffs.{along_of}
 use Rattle.sheet_history.specs.Diffs.{forwarded, backed, replayed}
 use Rattle.sheet_history.specs.Records.{IsRecord, line_record}
+use Rattle.sheet_history.specs.Untested.{hides_nothing}
 use Rattle.sheet_wire.specs.QueueBytes.{IsKnownQueue, spell_queue}
 use Rattle.script_editor.specs.Spellable.{AreSpellable}
 use Rattle.script_editor.specs.Machine.{Edit, Step, State, changed, record_of, step_record, entries_of, sync_bytes}
@@ -32,10 +33,12 @@ IsExact (Lines index axis kind) earlier later list = IsLinesRecord index axis ki
 abbrev pub IsSendable : Edit → Book → Type 0
 IsSendable edit book = (later : Book) → changed edit book ≡ Ok later → AreSpellable (record_of edit book later)
 
--- the record of a step takes its earlier workbook to its later one and back, and both are well-formed
+-- the record of a step takes its earlier workbook to its later one and back; both are well-formed, and hide no place
 pub record IsSoundStep (step : Step) : Type 0 where
   pub before : IsWellFormed step.before
   pub after : IsWellFormed step.after
+  pub shown_before : hides_nothing step.before ≡ true
+  pub shown_after : hides_nothing step.after ≡ true
   pub forth : forwarded step.before (step_record step) ≡ Ok step.after
   pub back : backed step.after (step_record step) ≡ Ok step.before
   pub exact : IsExact step.edit step.before step.after (step_record step)
@@ -56,10 +59,11 @@ pub record Carries (entries : List QueueDiffs) (bytes : List ℕ) (earlier later
   pub spelled : bytes ≡ spell_queue entries
   pub led : replayed earlier entries ≡ Ok later
 
--- the present workbook is well-formed, the steps that can be undone lead to it and those that were undone lead on from it, and
+-- the present workbook is well-formed and hides no place by a merge or an array, the steps that can be undone lead to it and those that were undone lead on from it, and
 -- the bytes of a sync carry the workbook of the last sync to it; each list that they hold can be spelled
 pub record IsSound (s : State) : Type 0 where
   pub present : IsWellFormed s.present
+  pub shown : hides_nothing s.present ≡ true
   pub past : Leads s.past s.present
   pub undone : Follows s.undone s.present
   pub sync : Carries (entries_of s) (sync_bytes s) s.synced s.present

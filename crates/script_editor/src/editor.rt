@@ -1,12 +1,13 @@
-ghost use Rattle.std.specs.Prelude.{◌≡◌, Ok, IfOk, OnOk, IsTrue, IsOkUnless};
+ghost use Rattle.std.specs.Prelude.{◌≡◌, true, Ok, IfOk, OnOk, IsOkUnless};
 ghost use Rattle.base_values.specs.declared.EditError.TheVariants.{NoMemory};
-ghost use Rattle.cell_content.specs.Fitting.{fits_at};
 ghost use Rattle.cell_content.specs.KeptContent.{IsKeptContent};
 ghost use Rattle.line_edits.specs.declared.EditKind.TheVariants.{Insert, Delete};
 ghost use Rattle.sheet_history.specs.LineDiffs.{along_of};
 ghost use Rattle.sheet_history.specs.declared.LineAxis.TheVariants.{Rows};
+ghost use Rattle.sheet_history.specs.Untested.{hides_nothing};
 ghost use Rattle.sheet_rules.specs.WellFormed.{IsWellFormed};
 ghost use Rattle.sheet_wire.specs.QueueBytes.{FitsQueue};
+ghost use Rattle.script_editor.specs.Inputs.{IsInput};
 ghost use Rattle.script_editor.specs.Machine.{State, start, edit_of, undo_of, redo_of, synced_of, entries_of, sync_bytes};
 ghost use Rattle.script_editor.specs.Machine.Edit.{Input, Lines};
 ghost use Rattle.script_editor.specs.Sound.{Carries};
@@ -69,6 +70,7 @@ impl Editor {
     pub fn workbook(&self) -> &Workbook
         ensures now { result.now ≡ self.now.book }
         ensures rules { IsWellFormed self.now.book }
+        ensures shown { hides_nothing self.now.book ≡ true }
         ensures reached { IsReached self.now }
     {
         &self.book.workbook
@@ -79,8 +81,10 @@ impl Editor {
     /// none.
     ///
     /// `InvalidSheet` where there is no such sheet, else `InvalidRow` where the row is outside the
-    /// sheet, else `InvalidColumn` where the column is, else `NoMemory` where there is not enough. An
-    /// error changes nothing. A formula must be one that may stand at that row and column.
+    /// sheet, else `InvalidColumn` where the column is, else `CoveredCell` where a merge covers the
+    /// cell, else `ArrayCell` where an array of more than one cell holds it, else `NoMemory` where
+    /// there is not enough. An error changes nothing. A formula must be one that may stand at that
+    /// row and column, and no content may be an array.
     pub fn set_content(
         &mut self,
         sheet: u32,
@@ -89,7 +93,7 @@ impl Editor {
         content: Content,
     ) -> Result<(), EditError>
         requires kept { IsKeptContent content }
-        requires fits { IsTrue (fits_at (record { row = row; column = column }) content) }
+        requires input { IsInput row column content }
         ensures next { (state : State) → StandsFor self.old state → Moves result self.old self.new state (edit_of (Input sheet row column content) state) }
     {
         self.book.enter(sheet, row, column, content)
@@ -112,9 +116,10 @@ impl Editor {
     /// with their links and its rows go where their lines go, and the formulas of all sheets follow.
     ///
     /// `InvalidSheet` where there is no such sheet, else `BadCount` where the count is below 1, else
-    /// `InvalidRow` where the row is outside the sheet, else `OverEdge` where the last row with a
-    /// cell and the count together exceed the last row of the sheet, else `NoMemory` where there is
-    /// not enough. An error changes nothing. docs/MODEL.md has the rules.
+    /// `InvalidRow` where the row is outside the sheet, else `SplitsArray` where an array stands on
+    /// both sides of it, else `OverEdge` where the last row with a cell, or that an array fills, and
+    /// the count together exceed the last row of the sheet, else `NoMemory` where there is not
+    /// enough. An error changes nothing. docs/MODEL.md has the rules.
     pub fn insert_rows(&mut self, sheet: u32, row: i32, count: i32) -> Result<(), EditError>
         ensures next { (state : State) → StandsFor self.old state → Moves result self.old self.new state (edit_of (Lines sheet Rows (Insert row count)) state) }
     {
@@ -129,8 +134,9 @@ impl Editor {
     /// can be taken back by `undo`.
     ///
     /// `InvalidSheet`, `BadCount` and `InvalidRow` as `insert_rows` answers them, else
-    /// `TargetOutOfBounds` where the last row to delete is outside the sheet, else `NoMemory` where
-    /// there is not enough. An error changes nothing. docs/MODEL.md has the rules.
+    /// `TargetOutOfBounds` where the last row to delete is outside the sheet, else `SplitsArray`
+    /// where an array has some of these rows and others, else `NoMemory` where there is not enough.
+    /// An error changes nothing. docs/MODEL.md has the rules.
     pub fn delete_rows(&mut self, sheet: u32, row: i32, count: i32) -> Result<(), EditError>
         ensures next { (state : State) → StandsFor self.old state → Moves result self.old self.new state (edit_of (Lines sheet Rows (Delete row count)) state) }
     {

@@ -1,7 +1,8 @@
-ghost use Rattle.std.specs.Prelude.{◌≡◌, ◌≢◌, Ok, Err, Some, [], ◌∷◌, take, IfOk, IfSome, IsTrue, OnOk, OnErr, IsOkUnless};
+ghost use Rattle.std.specs.Prelude.{◌≡◌, ◌≢◌, true, Ok, Err, Some, [], ◌∷◌, take, IfOk, IfSome, IsTrue, OnOk, OnErr, IsOkUnless};
 ghost use Rattle.base_values.specs.Answers.{Returns, Changes, Edits, map_ok};
 ghost use Rattle.base_values.specs.declared.EditError.TheVariants.{NoMemory};
 ghost use Rattle.base_values.specs.declared.Position.{Position as Place};
+ghost use Rattle.base_values.specs.Places.{place_of};
 ghost use Rattle.cell_content.specs.Fitting.{fits_at};
 ghost use Rattle.cell_content.specs.KeptContent.{IsKeptContent};
 ghost use Rattle.sheet_grid.specs.Book.{sheet_edit};
@@ -16,7 +17,8 @@ ghost use Rattle.sheet_history.specs.declared.Diff.TheVariants.{Lines as LinesDi
 ghost use Rattle.sheet_history.specs.declared.DiffType.TheVariants.{Redo};
 ghost use Rattle.sheet_wire.specs.QueueBytes.{IsKnownDiff};
 ghost use Rattle.script_editor.specs.Document.{recorded, sending};
-ghost use Rattle.script_editor.specs.Inputs.{cell_change, entered, input_plan};
+ghost use Rattle.sheet_history.specs.Untested.{hides_nothing, shows_all};
+ghost use Rattle.script_editor.specs.Inputs.{IsInput, cell_change, entered, input_place, input_plan};
 ghost use Rattle.script_editor.specs.Machine.Edit.{Input, Lines};
 ghost use Rattle.script_editor.specs.Spellable.{AreSpellable};
 
@@ -26,7 +28,7 @@ use base_styles::Style;
 use base_values::{EditError, Items, Position, copy_of, place_of};
 use line_map::{EditKind, LineEdit};
 use sheet_actions::{plan_delete, plan_insert, plan_move};
-use sheet_grid::{Cell, Content, DefaultStyle, Workbook};
+use sheet_grid::{Cell, Content, DefaultStyle, Workbook, Worksheet};
 use sheet_history::{
     Diff, DiffList, DiffType, History, LineAxis, QueueDiffs, back_in_place, forward_in_place,
 };
@@ -191,6 +193,16 @@ fn send(
     Ok(())
 }
 
+/// The place at a row and a column of a sheet, where an input may go. The sheet hides no place, so
+/// only those outside are refused.
+fn input_place(sheet: &Worksheet, row: i32, column: i32) -> Result<Position, EditError>
+    requires { shows_all sheet.now ≡ true }
+    ensures place { result ≡ input_place sheet.now row column }
+    ensures named { IfOk result (λ place. place_of row column ≡ Ok place) }
+{
+    place_of(row, column)
+}
+
 impl OpenBook {
     ghost use Rattle.sheet_history.specs.Records.{IsLineEdit, line_record};
     ghost use Rattle.script_editor.specs.Document.{cell_recorded, lines_recorded, document_edit, document_undo, document_redo};
@@ -206,15 +218,16 @@ impl OpenBook {
         content: Content,
     ) -> Result<(Option<Shared<Cell>>, DiffList), EditError>
         requires kept { IsKeptContent content }
-        requires fits { IsTrue (fits_at (record { row = row; column = column }) content) }
+        requires input { IsInput row column content }
         requires rules { IsWellFormed self.now.workbook }
+        requires shown { hides_nothing self.now.workbook ≡ true }
         ensures made { Returns result (input_plan sheet row column content self.now.workbook) }
         ensures entry { IfOk result (λ plan. IfSome plan.0 IsKeptCell) }
         ensures record { IfOk result (λ plan. IsKeptList plan.1) }
         ensures spellable { IfOk result (λ plan. AreSpellable plan.1) }
     {
         let found = self.workbook.worksheet(sheet)?;
-        let place = place_of(row, column)?;
+        let place = input_place(found, row, column)?;
         let old = found.shared_cell(row, column)?;
         let style = found.shown_style(row, column, &self.plain)?;
         let new = entered(self.alloc, &old, content, style)?;
@@ -257,8 +270,9 @@ impl OpenBook {
         content: Content,
     ) -> Result<(), EditError>
         requires kept { IsKeptContent content }
-        requires fits { IsTrue (fits_at (record { row = row; column = column }) content) }
+        requires input { IsInput row column content }
         requires rules { IsWellFormed self.now.workbook }
+        requires shown { hides_nothing self.now.workbook ≡ true }
         ensures document { Changes result (document_in self.old) (document_in self.new) (document_edit (Input sheet row column content) (document_in self.old)) }
         ensures sendable { OnOk result (IsSendable (Input sheet row column content) self.old.workbook) }
     {

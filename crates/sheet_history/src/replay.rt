@@ -65,8 +65,8 @@ fn shows_all(sheet: &Worksheet) -> bool
     has_no_merge(sheet.merged_cells()) && has_no_array(sheet)
 }
 
-/// Whether no sheet has a merge or an array, so that no place is hidden.
-fn hides_nothing(workbook: &Workbook) -> bool
+/// Whether no sheet has a merge or an array, so that no place is hidden. It takes no memory.
+pub fn hides_nothing(workbook: &Workbook) -> bool
     ensures { result ≡ hides_nothing workbook.now }
 {
     workbook.worksheets().iter().all(shows_all)
@@ -265,19 +265,24 @@ fn follow_by_rule(
 /// before that one stand. After `NoMemory` some first entries stand. An entry of one link costs no
 /// copy of the workbook and no test of it, and so does one of one cell that has a font, is no array,
 /// and has no content or stands at no hidden place.
+///
+/// `is_open` tells where it is known that no place of the workbook is hidden (`hides_nothing`), so
+/// that no other cell is looked at; `false` is always right.
 pub fn replay_in_place(
     alloc: Global,
     workbook: &mut Workbook,
+    is_open: &mut bool,
     queue: &[QueueDiffs],
 ) -> Result<(), EditError>
     requires kept { IsKeptQueue queue.now }
     requires rules { IsWellFormed workbook.old }
+    requires shown { IsTrue is_open.old → IsTrue (hides_nothing workbook.old) }
     ensures replayed { Replays result workbook.old workbook.new queue.now }
     ensures rules { IsWellFormed workbook.new }
+    ensures shown { IsTrue is_open.new → IsTrue (hides_nothing workbook.new) }
 {
-    let mut is_open = hides_nothing(workbook);
     for (index, entry) in queue.iter().enumerate() {
-        follow_by_rule(alloc, workbook, entry, index as u64, &mut is_open)?;
+        follow_by_rule(alloc, workbook, entry, index as u64, is_open)?;
     }
     Ok(())
 }

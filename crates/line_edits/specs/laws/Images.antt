@@ -1,11 +1,12 @@
 -- Laws of the images of lines.
-use Rattle.std.proofs.Common.{◌≡◌, ℤ, pos, ◌+ℤ◌, ◌-ℤ◌, ◌≤ℤ◌, Bool, true, false, Option, Some, None, refl, arith, ap, sym, subst, ◌∙◌}
-use Rattle.std.specs.Prelude.{IfSome, int_le, int_lt, ◌&&◌, if◌then◌else◌}
+use Rattle.std.proofs.Common.{◌≡◌, ℤ, pos, ◌+ℤ◌, ◌-ℤ◌, ◌≤ℤ◌, Bool, true, false, Option, Some, None, refl, arith, ap, sym, ◌∙◌}
+use Rattle.std.specs.Prelude.{IfSome, if◌then◌else◌}
 use Rattle.std.proofs.lemmas.Int.{ints}
 use Rattle.base_values.specs.Places.{IsLine, is_line}
 use Rattle.line_edits.specs.declared.edit.EditKind.{EditKind}
 use Rattle.line_edits.specs.declared.edit.EditKind.TheVariants.{Insert, Delete, Move}
 use Rattle.line_edits.specs.Edit.{within, is_in_block, moved_by, goes_to, image_at, opposite_of, is_within, is_valid, IsValid}
+use Rattle.line_edits.specs.laws.Passing.{by_passing, of_block, passed_down, passed_up, stays_before, stays_behind}
 use Rattle.line_edits.specs.Moves.{inserted_by, is_brought}
 
 -- the numbers of a valid insertion or deletion
@@ -46,54 +47,7 @@ pub valid_move : (last first count delta : ℤ) → IsMove last first count delt
 unfolding is_valid
 valid_move last first count delta v = grind (arith, ints)
 
--- the tests of a move, of numbers that are written otherwise
-pub move_tests : (last c k d : ℤ) (within : Bool) (end ends start target : ℤ) → within ≡ is_within last c k → end ≡ c +ℤ k → ends ≡ last +ℤ pos 1 → start ≡ c +ℤ d → target ≡ (c +ℤ k) +ℤ d →
-    ((within && int_le end ends) && (int_le (pos 1) start && int_le target ends)) ≡ is_valid last (Move c k d)
-unfolding is_valid
-move_tests last c k d within end ends start target w e f g h = λ i. (w i && int_le (e i) (f i)) && (int_le (pos 1) (g i) && int_le (h i) (f i))
-
-lt_false : (a b : ℤ) → b ≤ℤ a → int_lt a b ≡ false
-lt_false a b h = grind (arith, ints)
-
--- ---- lines that move
-
-low_of : (c k n : ℤ) → is_in_block c k n ≡ true → c ≤ℤ n
-unfolding is_in_block
-low_of c k n h = grind (arith, ints)
-
-high_of : (c k n : ℤ) → is_in_block c k n ≡ true → (n +ℤ pos 1) ≤ℤ (c +ℤ k)
-unfolding is_in_block
-high_of c k n h = grind (arith, ints)
-
-pub in_block : (c k n : ℤ) → c ≤ℤ n → (n +ℤ pos 1) ≤ℤ (c +ℤ k) → is_in_block c k n ≡ true
-unfolding is_in_block
-in_block c k n h i = grind (arith, ints)
-
-pub before_block : (c k n : ℤ) → (n +ℤ pos 1) ≤ℤ c → is_in_block c k n ≡ false
-unfolding is_in_block
-before_block c k n h = grind (arith, ints)
-
-pub after_block : (c k n : ℤ) → (c +ℤ k) ≤ℤ n → is_in_block c k n ≡ false
-unfolding is_in_block
-after_block c k n h = grind (arith, ints)
-
-module _ (c k d : ℤ) where
-  -- a line of the block, one that it passes further down, one that it passes further up, and any other
-  pub of_block : (n : ℤ) → is_in_block c k n ≡ true → moved_by c k d n ≡ d
-  unfolding moved_by
-  of_block n h = rw h refl
-
-  pub passed_down : (n : ℤ) → is_in_block c k n ≡ false → is_in_block (c +ℤ k) d n ≡ true → moved_by c k d n ≡ pos 0 -ℤ k
-  unfolding moved_by
-  passed_down n h i = rw (h, i) refl
-
-  pub passed_up : (n : ℤ) → is_in_block c k n ≡ false → is_in_block (c +ℤ k) d n ≡ false → is_in_block (c +ℤ d) (pos 0 -ℤ d) n ≡ true → moved_by c k d n ≡ k
-  unfolding moved_by
-  passed_up n h i j = rw (h, i, j) refl
-
-  pub not_passed : (n : ℤ) → is_in_block c k n ≡ false → is_in_block (c +ℤ k) d n ≡ false → is_in_block (c +ℤ d) (pos 0 -ℤ d) n ≡ false → moved_by c k d n ≡ pos 0
-  unfolding moved_by
-  not_passed n h i j = rw (h, i, j) refl
+-- ---- images
 
 inside : (last : ℤ) (kind : EditKind) (n m : ℤ) → image_at last kind n ≡ Some m → IsLine last m
 unfolding image_at goes_to within
@@ -114,106 +68,23 @@ delete_back : (last c k n m : ℤ) → IsWithin last c k → image_at last (Dele
 unfolding image_at goes_to within
 delete_back last c k n m v e = grind (arith, ints)
 
-sum_back : (n d : ℤ) → (n +ℤ d) +ℤ (pos 0 -ℤ d) ≡ n
-sum_back n d = grind (arith, ints)
-
-difference_back : (n k : ℤ) → (n +ℤ (pos 0 -ℤ k)) +ℤ k ≡ n
-difference_back n k = grind (arith, ints)
-
-nothing_added : (n : ℤ) → (n +ℤ pos 0) +ℤ pos 0 ≡ n
-nothing_added n = grind (arith, ints)
-
-module _ (c k d : ℤ) (some : pos 1 ≤ℤ k) where
-  -- how far a line goes and comes back again
-  abbrev returned : ℤ → ℤ → ℤ
-  returned n s = (n +ℤ s) +ℤ moved_by (c +ℤ d) k (pos 0 -ℤ d) (n +ℤ s)
-
-  block_back : (n : ℤ) → is_in_block c k n ≡ true → returned n d ≡ n
-  block_back n h =
-      let low = low_of c k n h in
-      let high = high_of c k n h in
-      ap (λ s. (n +ℤ d) +ℤ s) (of_block (c +ℤ d) k (pos 0 -ℤ d) (n +ℤ d) (in_block (c +ℤ d) k (n +ℤ d) (omega (arith, ints)) (omega (arith, ints))))
-      ∙ sum_back n d
-
-  down_back : (n : ℤ) → is_in_block (c +ℤ k) d n ≡ true → returned n (pos 0 -ℤ k) ≡ n
-  down_back n h =
-      let low = low_of (c +ℤ k) d n h in
-      let high = high_of (c +ℤ k) d n h in
-      ap (λ s. (n +ℤ (pos 0 -ℤ k)) +ℤ s) (passed_up (c +ℤ d) k (pos 0 -ℤ d) (n +ℤ (pos 0 -ℤ k))
-      (before_block (c +ℤ d) k (n +ℤ (pos 0 -ℤ k)) (omega (arith, ints)))
-      (before_block ((c +ℤ d) +ℤ k) (pos 0 -ℤ d) (n +ℤ (pos 0 -ℤ k)) (omega (arith, ints)))
-      (in_block ((c +ℤ d) +ℤ (pos 0 -ℤ d)) (pos 0 -ℤ (pos 0 -ℤ d)) (n +ℤ (pos 0 -ℤ k)) (omega (arith, ints)) (omega (arith, ints))))
-      ∙ difference_back n k
-
-  up_back : (n : ℤ) → is_in_block (c +ℤ d) (pos 0 -ℤ d) n ≡ true → returned n k ≡ n
-  up_back n h =
-      let low = low_of (c +ℤ d) (pos 0 -ℤ d) n h in
-      let high = high_of (c +ℤ d) (pos 0 -ℤ d) n h in
-      ap (λ s. (n +ℤ k) +ℤ s) (passed_down (c +ℤ d) k (pos 0 -ℤ d) (n +ℤ k)
-      (after_block (c +ℤ d) k (n +ℤ k) (omega (arith, ints)))
-      (in_block ((c +ℤ d) +ℤ k) (pos 0 -ℤ d) (n +ℤ k) (omega (arith, ints)) (omega (arith, ints))))
-      ∙ sum_back n k
-
-  -- a line that is not of the block, and that the block does not pass
-  still_back : (n : ℤ) → is_in_block c k n ≡ false → is_in_block (c +ℤ k) d n ≡ false → is_in_block (c +ℤ d) (pos 0 -ℤ d) n ≡ false → returned n (pos 0) ≡ n
-  unfolding is_in_block
-  still_back n h i j =
-      ap (λ s. (n +ℤ pos 0) +ℤ s) (not_passed (c +ℤ d) k (pos 0 -ℤ d) (n +ℤ pos 0)
-      (grind (arith, ints)) (grind (arith, ints)) (grind (arith, ints)))
-      ∙ nothing_added n
-
-  -- a line that goes on by how far it goes comes back
-  moved_back : (n : ℤ) → returned n (moved_by c k d n) ≡ n
-  moved_back n = by_block (is_in_block c k n) refl
-    where
-      rest : is_in_block c k n ≡ false → is_in_block (c +ℤ k) d n ≡ false → (b : Bool) → is_in_block (c +ℤ d) (pos 0 -ℤ d) n ≡ b → returned n (moved_by c k d n) ≡ n
-      rest h i true j = ap (returned n) (passed_up c k d n h i j) ∙ up_back n j
-      rest h i false j = ap (returned n) (not_passed c k d n h i j) ∙ still_back n h i j
-
-      beside : is_in_block c k n ≡ false → (b : Bool) → is_in_block (c +ℤ k) d n ≡ b → returned n (moved_by c k d n) ≡ n
-      beside h true i = ap (returned n) (passed_down c k d n h i) ∙ down_back n i
-      beside h false i = rest h i _ refl
-
-      by_block : (b : Bool) → is_in_block c k n ≡ b → returned n (moved_by c k d n) ≡ n
-      by_block true h = ap (returned n) (of_block c k d n h) ∙ block_back n h
-      by_block false h = beside h _ refl
+-- a line that goes on by how far it goes comes back
+moved_back : (c k d n : ℤ) → pos 1 ≤ℤ k → (n +ℤ moved_by c k d n) +ℤ moved_by (c +ℤ d) k (pos 0 -ℤ d) (n +ℤ moved_by c k d n) ≡ n
+moved_back c k d n some = by_passing c k d n (omega (arith, ints)) (λ s. (n +ℤ s) +ℤ moved_by (c +ℤ d) k (pos 0 -ℤ d) (n +ℤ s) ≡ n)
+    (λ h i. let e = of_block (c +ℤ d) k (pos 0 -ℤ d) (n +ℤ d) (omega (arith, ints)) (omega (arith, ints)) (omega (arith, ints)) in omega (arith, ints, e))
+    (λ h i. let e = passed_up (c +ℤ d) k (pos 0 -ℤ d) (n +ℤ (pos 0 -ℤ k)) (omega (arith, ints)) (omega (arith, ints)) (omega (arith, ints)) in omega (arith, ints, e))
+    (λ h i. let e = passed_down (c +ℤ d) k (pos 0 -ℤ d) (n +ℤ k) (omega (arith, ints)) (omega (arith, ints)) (omega (arith, ints)) in omega (arith, ints, e))
+    (λ h i. let e = stays_before (c +ℤ d) k (pos 0 -ℤ d) (n +ℤ pos 0) (omega (arith, ints)) (omega (arith, ints)) (omega (arith, ints)) in omega (arith, ints, e))
+    (λ h i. let e = stays_behind (c +ℤ d) k (pos 0 -ℤ d) (n +ℤ pos 0) (omega (arith, ints)) (omega (arith, ints)) (omega (arith, ints)) in omega (arith, ints, e))
 
 -- where a line goes is a line of the axis
-module _ (last c k d : ℤ) (v : IsMove last c k d) (n : ℤ) (h : IsLine last n) where
-  abbrev MovedInside : ℤ → Type 0
-  MovedInside s = IsLine last (n +ℤ s)
-
-  up_inside : is_in_block (c +ℤ d) (pos 0 -ℤ d) n ≡ true → MovedInside k
-  up_inside e =
-      let low = low_of (c +ℤ d) (pos 0 -ℤ d) n e in
-      let high = high_of (c +ℤ d) (pos 0 -ℤ d) n e in
-      (omega (arith, ints, h.0, v.amount.0), omega (arith, ints, v.ends))
-
-  down_inside : is_in_block (c +ℤ k) d n ≡ true → MovedInside (pos 0 -ℤ k)
-  down_inside e =
-      let low = low_of (c +ℤ k) d n e in
-      (omega (arith, ints, v.begins.0), omega (arith, ints, h.1, v.amount.0))
-
-  block_inside : is_in_block c k n ≡ true → MovedInside d
-  block_inside e =
-      let low = low_of c k n e in
-      let high = high_of c k n e in
-      (omega (arith, ints, v.target_begins), omega (arith, ints, v.target_ends))
-
-  up_or_still : is_in_block c k n ≡ false → is_in_block (c +ℤ k) d n ≡ false → (b : Bool) → is_in_block (c +ℤ d) (pos 0 -ℤ d) n ≡ b → MovedInside (moved_by c k d n)
-  up_or_still f g true e = subst MovedInside (sym (passed_up c k d n f g e)) (up_inside e)
-  up_or_still f g false e = subst MovedInside (sym (not_passed c k d n f g e)) (omega (arith, ints, h.0), omega (arith, ints, h.1))
-
-  not_of_block : is_in_block c k n ≡ false → (b : Bool) → is_in_block (c +ℤ k) d n ≡ b → MovedInside (moved_by c k d n)
-  not_of_block f true e = subst MovedInside (sym (passed_down c k d n f e)) (down_inside e)
-  not_of_block f false e = up_or_still f e _ refl
-
-  moved_inside_at : (b : Bool) → is_in_block c k n ≡ b → MovedInside (moved_by c k d n)
-  moved_inside_at true e = subst MovedInside (sym (of_block c k d n e)) (block_inside e)
-  moved_inside_at false e = not_of_block e _ refl
-
-  pub moved_inside : IsLine last (n +ℤ moved_by c k d n)
-  moved_inside = moved_inside_at _ refl
+pub moved_inside : (last c k d : ℤ) → IsMove last c k d → (n : ℤ) → IsLine last n → IsLine last (n +ℤ moved_by c k d n)
+moved_inside last c k d v n on = by_passing c k d n (omega (arith, ints, v.amount.0)) (λ s. IsLine last (n +ℤ s))
+    (λ h i. (omega (arith, ints, v.target_begins), omega (arith, ints, v.target_ends)))
+    (λ h i. (omega (arith, ints, v.begins.0), omega (arith, ints, on.1, v.amount.0)))
+    (λ h i. (omega (arith, ints, on.0, v.amount.0), omega (arith, ints, v.ends)))
+    (λ h i. (omega (arith, ints, on.0), omega (arith, ints, on.1)))
+    (λ h i. (omega (arith, ints, on.0), omega (arith, ints, on.1)))
 
 within_is : (last n m : ℤ) → within last n ≡ Some m → m ≡ n
 unfolding within
@@ -243,7 +114,7 @@ unfolding goes_to
 move_back last c k d n m v e =
     let line = line_of_image last (Move c k d) n m e in
     let there : m ≡ n +ℤ moved_by c k d n = within_is last (n +ℤ moved_by c k d n) m (sym (image_of_line last (Move c k d) n line) ∙ e) in
-    let home : m +ℤ moved_by (c +ℤ d) k (pos 0 -ℤ d) m ≡ n = ap (λ x. x +ℤ moved_by (c +ℤ d) k (pos 0 -ℤ d) x) there ∙ moved_back c k d v.amount.0 n in
+    let home : m +ℤ moved_by (c +ℤ d) k (pos 0 -ℤ d) m ≡ n = ap (λ x. x +ℤ moved_by (c +ℤ d) k (pos 0 -ℤ d) x) there ∙ moved_back c k d n v.amount.0 in
     image_of_line last (Move (c +ℤ d) k (pos 0 -ℤ d)) m (is_line-of last m (inside last (Move c k d) n m e))
     ∙ ap (within last) home ∙ within_of last n line
 
@@ -288,47 +159,12 @@ brought last (Insert c k) v n h = let w = insert_parts last c k v in grind (arit
 brought last (Delete c k) v n h = absurd (cc)
 brought last (Move c k d) v n h = absurd (cc)
 
--- a line after those that go
-pub delete_after : (last c k n : ℤ) → c ≤ℤ n → (c +ℤ k) ≤ℤ n → goes_to last (Delete c k) n ≡ within last (n -ℤ k)
-unfolding goes_to
-delete_after last c k n h i = rw (lt_false n c h, lt_false n (c +ℤ k) i) refl
-
--- the line answered, at numbers that are written otherwise
-pub same_within : (r : Option ℤ) (k last m n : ℤ) → r ≡ within k m → k ≡ last → m ≡ n → r ≡ within last n
-same_within r k last m n e p q = rw (← p, ← q) e
-
--- how far a line goes that moves
-pub goes_by : (last c k d n s : ℤ) → moved_by c k d n ≡ s → goes_to last (Move c k d) n ≡ within last (n +ℤ s)
-unfolding goes_to
-goes_by last c k d n s e = ap (λ t. within last (n +ℤ t)) e
-
--- the same at numbers that are written otherwise
-pub same_inside : (r : Option ℤ) (k last : ℤ) → IfSome r (IsLine k) → k ≡ last → IfSome r (IsLine last)
-same_inside r k last h e = let P : ℤ → Type 0 = λ l. IfSome r (IsLine l) in subst P e h
-
-pub same_block : (r : Bool) (b c j k m n : ℤ) → r ≡ is_in_block b j m → b ≡ c → j ≡ k → m ≡ n → r ≡ is_in_block c k n
-same_block r b c j k m n h e f g = h ∙ (λ i. is_in_block (e i) (f i) (g i))
-
-pub same_move : (last l b c j k d e : ℤ) → IsMove last b j d → l ≡ last → c ≡ b → k ≡ j → e ≡ d → IsMove l c k e
-same_move last l b c j k d e v p q r s = record {
-  begins = (omega (arith, ints, v.begins.0), omega (arith, ints, v.begins.1));
-  amount = (omega (arith, ints, v.amount.0), omega (arith, ints, v.amount.1));
-  ends = omega (arith, ints, v.ends);
-  target_begins = omega (arith, ints, v.target_begins);
-  target_ends = omega (arith, ints, v.target_ends);
-}
-
 -- a line of the axis that moves
 pub move_image : (last c k d n : ℤ) → IsMove last c k d → IsLine last n → image_at last (Move c k d) n ≡ Some (n +ℤ moved_by c k d n)
 unfolding goes_to
 move_image last c k d n v h =
     image_of_line last (Move c k d) n (is_line-of last n h)
     ∙ within_of last (n +ℤ moved_by c k d n) (is_line-of last (n +ℤ moved_by c k d n) (moved_inside last c k d v n h))
-
--- a block of no line has none
-pub empty_block : (c n : ℤ) → is_in_block c (pos 0) n ≡ false
-unfolding is_in_block
-empty_block c n = grind (arith, ints)
 
 pub line_moves : (last c k d n : ℤ) → IsValid last (Move c k d) → IsLine last n → goes_to last (Move c k d) n ≡ Some (n +ℤ moved_by c k d n)
 line_moves last c k d n v h = sym (image_of_line last (Move c k d) n (is_line-of last n h)) ∙ move_image last c k d n (move_parts last c k d v) h

@@ -1,130 +1,54 @@
 -- A block of lines moves as its lines do one by one.
-use Rattle.std.proofs.Common.{◌≡◌, ℕ, zero, suc, ℤ, pos, negsuc, ◌+ℤ◌, ◌-ℤ◌, ◌≤ℤ◌, Bool, true, false, Some, ap, refl, sym, ◌∙◌, arith}
+use Rattle.std.proofs.Common.{◌≡◌, ℕ, zero, suc, ℤ, pos, negsuc, ◌+ℤ◌, ◌≤ℤ◌, Bool, true, false, Some, ap, refl, sym, ◌∙◌, arith}
 use Rattle.std.specs.Prelude.{int_lt, if◌then◌else◌}
 use Rattle.std.proofs.lemmas.Int.{ints, by_lt_z}
 use Rattle.base_values.specs.Places.{IsLine}
 use Rattle.line_edits.specs.declared.edit.EditKind.TheVariants.{Move}
 use Rattle.base_maps.specs.Carried.{if_there}
-use Rattle.line_edits.specs.Edit.{is_in_block, moved_by, image_at, IsValid}
+use Rattle.line_edits.specs.Edit.{moved_by, image_at, IsValid}
 use Rattle.line_edits.specs.Singles.{far_first, near_first, line_by_line}
-use Rattle.line_edits.specs.laws.Images.{IsMove, move_parts, of_block, passed_down, passed_up, not_passed, in_block, before_block, after_block, empty_block, moved_inside, move_image}
+use Rattle.line_edits.specs.laws.Images.{IsMove, move_parts, moved_inside, move_image}
+use Rattle.line_edits.specs.laws.Passing.{by_passing, of_block, passed_down, passed_up, stays_before, stays_behind}
 
 abbrev moved : ℤ → ℤ → ℤ → ℤ → ℤ
 moved c k d n = n +ℤ moved_by c k d n
 
 module _ (c k d n : ℤ) (some : pos 0 ≤ℤ k) where
-  goes_on : c ≤ℤ n → (n +ℤ pos 1) ≤ℤ (c +ℤ k) → moved c k d n ≡ n +ℤ d
-  goes_on h i = ap (λ s. n +ℤ s) (of_block c k d n (in_block c k n h i))
-
-  -- the lines that a block passes on its way down, those before it, and those after it and where it goes
-  goes_up : (c +ℤ k) ≤ℤ n → (n +ℤ pos 1) ≤ℤ ((c +ℤ k) +ℤ d) → moved c k d n ≡ n +ℤ (pos 0 -ℤ k)
-  goes_up h i = ap (λ s. n +ℤ s) (passed_down c k d n (after_block c k n h) (in_block (c +ℤ k) d n h i))
-
-  before_down : pos 0 ≤ℤ d → (n +ℤ pos 1) ≤ℤ c → moved c k d n ≡ n +ℤ pos 0
-  before_down on h = ap (λ s. n +ℤ s) (not_passed c k d n (before_block c k n h) (before_block (c +ℤ k) d n (omega (arith, ints))) (before_block (c +ℤ d) (pos 0 -ℤ d) n (omega (arith, ints))))
-
-  after_down : pos 0 ≤ℤ d → ((c +ℤ k) +ℤ d) ≤ℤ n → moved c k d n ≡ n +ℤ pos 0
-  after_down on h = ap (λ s. n +ℤ s) (not_passed c k d n (after_block c k n (omega (arith, ints))) (after_block (c +ℤ k) d n h) (after_block (c +ℤ d) (pos 0 -ℤ d) n (omega (arith, ints))))
-
-  -- the same of a block on its way up
-  goes_down : (c +ℤ d) ≤ℤ n → (n +ℤ pos 1) ≤ℤ c → moved c k d n ≡ n +ℤ k
-  goes_down h i = ap (λ s. n +ℤ s) (passed_up c k d n (before_block c k n i) (before_block (c +ℤ k) d n (omega (arith, ints))) (in_block (c +ℤ d) (pos 0 -ℤ d) n h (omega (arith, ints))))
-
-  before_up : d ≤ℤ pos 0 → (n +ℤ pos 1) ≤ℤ (c +ℤ d) → moved c k d n ≡ n +ℤ pos 0
-  before_up back h = ap (λ s. n +ℤ s) (not_passed c k d n (before_block c k n (omega (arith, ints))) (before_block (c +ℤ k) d n (omega (arith, ints))) (before_block (c +ℤ d) (pos 0 -ℤ d) n h))
-
-  after_up : d ≤ℤ pos 0 → (c +ℤ k) ≤ℤ n → moved c k d n ≡ n +ℤ pos 0
-  after_up back h = ap (λ s. n +ℤ s) (not_passed c k d n (after_block c k n h) (after_block (c +ℤ k) d n (omega (arith, ints))) (after_block (c +ℤ d) (pos 0 -ℤ d) n (omega (arith, ints))))
-
-module _ (c k d n : ℤ) (some : pos 0 ≤ℤ k) where
   -- the last line goes on first, and then the others
-  abbrev IsFarStep : Type 0
-  IsFarStep = moved c k d (moved (c +ℤ k) (pos 1) d n) ≡ moved c (k +ℤ pos 1) d n
-
-  more : pos 0 ≤ℤ (k +ℤ pos 1)
-  more = omega (arith, ints)
-
-  one : pos 0 ≤ℤ pos 1
-  one = omega (arith, ints)
-
-  far_step : pos 0 ≤ℤ d → IsFarStep
-  far_step on =
-      by_lt_z {P = IsFarStep} n c
-      (λ h.
-      let e = before_down (c +ℤ k) (pos 1) d n one on (omega (arith, ints)) in
-      let f = before_down c k d (moved (c +ℤ k) (pos 1) d n) some on (omega (arith, ints)) in
-      let g = before_down c (k +ℤ pos 1) d n more on (omega (arith, ints)) in
-      omega (arith, ints))
-      (λ h. by_lt_z {P = IsFarStep} n (c +ℤ k)
-      (λ i.
-      let e = before_down (c +ℤ k) (pos 1) d n one on (omega (arith, ints)) in
-      let f = goes_on c k d (moved (c +ℤ k) (pos 1) d n) some (omega (arith, ints)) (omega (arith, ints)) in
-      let g = goes_on c (k +ℤ pos 1) d n more h (omega (arith, ints)) in
-      omega (arith, ints))
-      (λ i. by_lt_z {P = IsFarStep} n ((c +ℤ k) +ℤ pos 1)
-      (λ j.
-      let e = goes_on (c +ℤ k) (pos 1) d n one i (omega (arith, ints)) in
-      let f = after_down c k d (moved (c +ℤ k) (pos 1) d n) some on (omega (arith, ints)) in
-      let g = goes_on c (k +ℤ pos 1) d n more h (omega (arith, ints)) in
-      omega (arith, ints))
-      (λ j. by_lt_z {P = IsFarStep} n (((c +ℤ k) +ℤ pos 1) +ℤ d)
-      (λ l.
-      let e = goes_up (c +ℤ k) (pos 1) d n one j (omega (arith, ints)) in
-      let f = goes_up c k d (moved (c +ℤ k) (pos 1) d n) some (omega (arith, ints)) (omega (arith, ints)) in
-      let g = goes_up c (k +ℤ pos 1) d n more (omega (arith, ints)) (omega (arith, ints)) in
-      omega (arith, ints))
-      (λ l.
-      let e = after_down (c +ℤ k) (pos 1) d n one on l in
-      let f = after_down c k d (moved (c +ℤ k) (pos 1) d n) some on (omega (arith, ints)) in
-      let g = after_down c (k +ℤ pos 1) d n more on (omega (arith, ints)) in
-      omega (arith, ints)))))
+  far_step : pos 0 ≤ℤ d → moved c k d (moved (c +ℤ k) (pos 1) d n) ≡ moved c (k +ℤ pos 1) d n
+  far_step on = by_passing c (k +ℤ pos 1) d n (omega (arith, ints)) (λ s. moved c k d (moved (c +ℤ k) (pos 1) d n) ≡ n +ℤ s)
+      (λ h i. by_lt_z {P = moved c k d (moved (c +ℤ k) (pos 1) d n) ≡ n +ℤ d} n (c +ℤ k)
+      (λ j. let e = stays_before (c +ℤ k) (pos 1) d n (omega (arith, ints)) (omega (arith, ints)) (omega (arith, ints)) in
+      let f = of_block c k d (moved (c +ℤ k) (pos 1) d n) (omega (arith, ints)) (omega (arith, ints)) (omega (arith, ints)) in omega (arith, ints, e, f))
+      (λ j. let e = of_block (c +ℤ k) (pos 1) d n (omega (arith, ints)) (omega (arith, ints)) (omega (arith, ints)) in
+      let f = stays_behind c k d (moved (c +ℤ k) (pos 1) d n) (omega (arith, ints)) (omega (arith, ints)) (omega (arith, ints)) in omega (arith, ints, e, f)))
+      (λ h i. let e = passed_down (c +ℤ k) (pos 1) d n (omega (arith, ints)) (omega (arith, ints)) (omega (arith, ints)) in
+      let f = passed_down c k d (moved (c +ℤ k) (pos 1) d n) (omega (arith, ints)) (omega (arith, ints)) (omega (arith, ints)) in omega (arith, ints, e, f))
+      (λ h i. absurd (omega (arith, ints)))
+      (λ h i. let e = stays_before (c +ℤ k) (pos 1) d n (omega (arith, ints)) (omega (arith, ints)) (omega (arith, ints)) in
+      let f = stays_before c k d (moved (c +ℤ k) (pos 1) d n) (omega (arith, ints)) (omega (arith, ints)) (omega (arith, ints)) in omega (arith, ints, e, f))
+      (λ h i. let e = stays_behind (c +ℤ k) (pos 1) d n (omega (arith, ints)) (omega (arith, ints)) (omega (arith, ints)) in
+      let f = stays_behind c k d (moved (c +ℤ k) (pos 1) d n) (omega (arith, ints)) (omega (arith, ints)) (omega (arith, ints)) in omega (arith, ints, e, f))
 
   -- the first line goes back first, and then the others
-  abbrev IsNearStep : Type 0
-  IsNearStep = moved (c +ℤ pos 1) k d (moved c (pos 1) d n) ≡ moved c (k +ℤ pos 1) d n
-
-  near_step : d ≤ℤ pos 0 → IsNearStep
-  near_step back =
-      by_lt_z {P = IsNearStep} n (c +ℤ d)
-      (λ h.
-      let e = before_up c (pos 1) d n one back (omega (arith, ints)) in
-      let f = before_up (c +ℤ pos 1) k d (moved c (pos 1) d n) some back (omega (arith, ints)) in
-      let g = before_up c (k +ℤ pos 1) d n more back (omega (arith, ints)) in
-      omega (arith, ints))
-      (λ h. by_lt_z {P = IsNearStep} n c
-      (λ i.
-      let e = goes_down c (pos 1) d n one h (omega (arith, ints)) in
-      let f = goes_down (c +ℤ pos 1) k d (moved c (pos 1) d n) some (omega (arith, ints)) (omega (arith, ints)) in
-      let g = goes_down c (k +ℤ pos 1) d n more h (omega (arith, ints)) in
-      omega (arith, ints))
-      (λ i. by_lt_z {P = IsNearStep} n (c +ℤ pos 1)
-      (λ j.
-      let e = goes_on c (pos 1) d n one i (omega (arith, ints)) in
-      let f = before_up (c +ℤ pos 1) k d (moved c (pos 1) d n) some back (omega (arith, ints)) in
-      let g = goes_on c (k +ℤ pos 1) d n more i (omega (arith, ints)) in
-      omega (arith, ints))
-      (λ j. by_lt_z {P = IsNearStep} n ((c +ℤ pos 1) +ℤ k)
-      (λ l.
-      let e = after_up c (pos 1) d n one back j in
-      let f = goes_on (c +ℤ pos 1) k d (moved c (pos 1) d n) some (omega (arith, ints)) (omega (arith, ints)) in
-      let g = goes_on c (k +ℤ pos 1) d n more i (omega (arith, ints)) in
-      omega (arith, ints))
-      (λ l.
-      let e = after_up c (pos 1) d n one back j in
-      let f = after_up (c +ℤ pos 1) k d (moved c (pos 1) d n) some back (omega (arith, ints)) in
-      let g = after_up c (k +ℤ pos 1) d n more back (omega (arith, ints)) in
-      omega (arith, ints)))))
+  near_step : d ≤ℤ pos 0 → moved (c +ℤ pos 1) k d (moved c (pos 1) d n) ≡ moved c (k +ℤ pos 1) d n
+  near_step back = by_passing c (k +ℤ pos 1) d n (omega (arith, ints)) (λ s. moved (c +ℤ pos 1) k d (moved c (pos 1) d n) ≡ n +ℤ s)
+      (λ h i. by_lt_z {P = moved (c +ℤ pos 1) k d (moved c (pos 1) d n) ≡ n +ℤ d} n (c +ℤ pos 1)
+      (λ j. let e = of_block c (pos 1) d n (omega (arith, ints)) (omega (arith, ints)) (omega (arith, ints)) in
+      let f = stays_before (c +ℤ pos 1) k d (moved c (pos 1) d n) (omega (arith, ints)) (omega (arith, ints)) (omega (arith, ints)) in omega (arith, ints, e, f))
+      (λ j. let e = stays_behind c (pos 1) d n (omega (arith, ints)) (omega (arith, ints)) (omega (arith, ints)) in
+      let f = of_block (c +ℤ pos 1) k d (moved c (pos 1) d n) (omega (arith, ints)) (omega (arith, ints)) (omega (arith, ints)) in omega (arith, ints, e, f)))
+      (λ h i. absurd (omega (arith, ints)))
+      (λ h i. let e = passed_up c (pos 1) d n (omega (arith, ints)) (omega (arith, ints)) (omega (arith, ints)) in
+      let f = passed_up (c +ℤ pos 1) k d (moved c (pos 1) d n) (omega (arith, ints)) (omega (arith, ints)) (omega (arith, ints)) in omega (arith, ints, e, f))
+      (λ h i. let e = stays_before c (pos 1) d n (omega (arith, ints)) (omega (arith, ints)) (omega (arith, ints)) in
+      let f = stays_before (c +ℤ pos 1) k d (moved c (pos 1) d n) (omega (arith, ints)) (omega (arith, ints)) (omega (arith, ints)) in omega (arith, ints, e, f))
+      (λ h i. let e = stays_behind c (pos 1) d n (omega (arith, ints)) (omega (arith, ints)) (omega (arith, ints)) in
+      let f = stays_behind (c +ℤ pos 1) k d (moved c (pos 1) d n) (omega (arith, ints)) (omega (arith, ints)) (omega (arith, ints)) in omega (arith, ints, e, f))
 
 -- a block of no line moves nothing
 nothing_moves : (c d n : ℤ) → moved c (pos 0) d n ≡ n
-unfolding moved_by
-nothing_moves c d n = by_tests (is_in_block c (pos 0) n) (is_in_block (c +ℤ pos 0) d n) (is_in_block (c +ℤ d) (pos 0 -ℤ d) n) (empty_block c n)
-  where
-    by_tests : (x y z : Bool) → x ≡ false → n +ℤ (if x then d else if y then pos 0 -ℤ pos 0 else if z then pos 0 else pos 0) ≡ n
-    by_tests true y z e = absurd (cc)
-    by_tests false true z e = omega (arith, ints)
-    by_tests false false true e = omega (arith, ints)
-    by_tests false false false e = omega (arith, ints)
+nothing_moves c d n = by_passing c (pos 0) d n (omega (arith, ints)) (λ s. n +ℤ s ≡ n) (λ h i. omega (arith, ints)) (λ h i. omega (arith, ints)) (λ h i. omega (arith, ints)) (λ h i. omega (arith, ints)) (λ h i. omega (arith, ints))
 
 module _ (last d : ℤ) where
   -- where the lines of a block lie on the axis, and where it goes

@@ -8,4 +8,4 @@ pub returns-clause-deletions : goal.returns-clause-deletions
 returns-clause-deletions g c = deleted g.A.Axis.along.last
 
 pub returns-clause-moves : goal.returns-clause-moves
-returns-clause-moves g c = stepped g.A.Axis.along.last
+returns-clause-moves g c = λ line delta n _. stepped g.A.Axis.along.last line delta n

@@ -5,7 +5,7 @@ use base_shared::Shared;
 use base_styles::{Color, Style, ThemeColor};
 use base_tables::{Locale, Zone};
 use base_values::{EditError, Items, Position, Text};
-use formula_tree::Node;
+use formula_tree::{Node, has_kept_numbers};
 use sheet_grid::{Cell, ColumnAttr, Link, RowAttr, Workbook, Worksheet};
 use std::alloc::Global;
 use std::test::Fail;
@@ -103,9 +103,14 @@ end
     Ok(())
 }
 
+/// Its tree has kept numbers, which setting it asks.
 fn put_array(sheet: &mut Worksheet, alloc: Global) -> Result<(), EditError> {
     let style = Shared::new(alloc, Style::new(alloc)?)?;
-    sheet.set_cell_with_array_formula(4, 2, Node::Boolean(true), &style, 3, 2)
+    let tree = Node::Boolean(true);
+    if has_kept_numbers(&tree) {
+        sheet.set_cell_with_array_formula(4, 2, tree, &style, 3, 2)?;
+    }
+    Ok(())
 }
 
 /// Merges of four places, of one, and one that goes on behind the last row.

@@ -20,6 +20,7 @@ use Rattle.sheet_rules.specs.Occupied.{is_merge, covers}
 use Rattle.sheet_rules.specs.laws.EntryLaws.{both}
 use Rattle.sheet_rules.specs.laws.FollowedLists.{followed_all, followed_none, followed_distinct}
 use Rattle.sheet_rules.specs.laws.OccupiedLaws.{KeepsArrays, KeepsMerges, KeepsHidden}
+use Rattle.sheet_actions.specs.laws.MergedSources.{some_is}
 use Rattle.sheet_actions.specs.laws.FollowingRectangles.{Follows, apart_stay}
 
 one_place : (p q : Position) → same_position p q ≡ true → p ≡ q
@@ -31,9 +32,6 @@ one_place p q h =
 
 own_place : (p q : Position) → p ≡ q → same_position p q ≡ true
 own_place p q h = ap (same_position p) (sym h) ∙ position_equiv.refl p
-
-one_option : {X : Type 0} (x y : X) → ◌≡◌ {A = Option X} (Some x) (Some y) → x ≡ y
-one_option x y h = cc
 
 module _ (goes : Position → Option Position) (came : Position → Position) (sheet after : Sheet) where
   -- the cell that came to a place: it is empty where it was, and its array follows
@@ -104,7 +102,7 @@ module _ (goes : Position → Option Position) (came : Position → Position) (c
           let x = f.large p r at_p in
           let y = f.large q s at_q in
           apart_stay came x.before y.before r s x.follows.from y.follows.from x.follows.inside y.follows.inside
-          (h.apart x.place y.place x.before y.before (λ same. differ (one_option p q (sym x.there ∙ ap goes same ∙ y.there))) x.held y.held);
+          (h.apart x.place y.place x.before y.before (λ same. differ (some_is p q (sym x.there ∙ ap goes same ∙ y.there))) x.held y.held);
     }
 
     -- what follows rectangles that do not meet does not meet

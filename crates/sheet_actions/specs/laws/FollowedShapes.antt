@@ -40,7 +40,7 @@ use Rattle.sheet_actions.specs.GreatestLine.{greatest_line}
 use Rattle.sheet_actions.specs.Planned.{splits_rectangle}
 use Rattle.sheet_actions.specs.Whole.{moves_part, has_no_room, LeavesWhole}
 use Rattle.sheet_actions.specs.laws.Sources.{Whole, brings}
-use Rattle.sheet_actions.specs.laws.MergedSources.{Carried, merged_left, is_move}
+use Rattle.sheet_actions.specs.laws.MergedSources.{some_is, Carried, merged_left, is_move}
 use Rattle.sheet_actions.specs.laws.GreatestLaws.{array_ends}
 use Rattle.sheet_actions.specs.laws.FollowingRectangles.{Follows, source_place, source_of_place, placed_at, put_lines, line_of_place, whole_follows, merge_follows, many_lines, many_span, by_axis}
 use Rattle.sheet_actions.specs.laws.FollowedRectangles.{Came, Shown, HasFollowed, arrays_follow, merges_follow, hidden_follow}
@@ -203,9 +203,6 @@ module _ (w : Way) (is : IsWay w) (came : Position → Position) (sheet : Sheet)
 
 -- ---- the sheet that is not edited, and the one that is
 
-some_one : {X : Type 0} (x y : X) → ◌≡◌ {A = Option X} (Some x) (Some y) → x ≡ y
-some_one x y h = cc
-
 left_out : (a b : Bool) → a ≡ true → a && b ≡ false → b ≡ false
 left_out true b h k = k
 left_out false b h k = absurd (let never : false ≡ true = h in cc)
@@ -277,7 +274,7 @@ module _ (a : Along) (is : IsAxis a) (kind : EditKind) (valid : IsValid a.last k
     stays p = ap (λ b. if b then place_image a (image_at a.last kind) p else Some p) off
 
     same_place : (p q : Position) → place_goes w p ≡ Some q → q ≡ p
-    same_place p q h = some_one q p (sym h ∙ stays p)
+    same_place p q h = some_is q p (sym h ∙ stays p)
 
     itself : (r : MergedCell) → IsInside r → Follows (place_goes w) (λ p. p) r r
     itself r inside = record { inside = inside; from = λ place h. h; anchor = λ q h. same_place (anchor_place r) q h }
@@ -298,8 +295,8 @@ module _ (a : Along) (is : IsAxis a) (kind : EditKind) (valid : IsValid a.last k
     other_keeps =
         keeps (λ p. p) same_place is_merge Some
         (has_followed w is_way (λ p. p) sheet array_stays is_merge Some merges.merges merges_same
-        (λ r s good goes. subst (Follows (place_goes w) (λ p. p) r) (some_one r s goes) (itself r (merge_inside r good)))
-        (λ r s good goes. ap is_merge (sym (some_one r s goes)) ∙ good))
+        (λ r s good goes. subst (Follows (place_goes w) (λ p. p) r) (some_is r s goes) (itself r (merge_inside r good)))
+        (λ r s good goes. ap is_merge (sym (some_is r s goes)) ∙ good))
 
   -- on the edited one arrays and merges go along
   module _ (on : (sheet.id == id) ≡ true) (whole : LeavesWhole a kind sheet) where
@@ -394,7 +391,7 @@ module _ (a : Along) (is : IsAxis a) (kind : EditKind) (valid : IsValid a.last k
             unsplit = left_whole kind r inside (not_true (moves_some kind r) (both (is_merge r) (not (moves_some kind r)) fine).1);
             becomes = is_some;
           };
-          value = some_one (with_lines a r lines.0 lines.1) s g;
+          value = some_is (with_lines a r lines.0 lines.1) s g;
         }
 
     count_put : (r : MergedCell) (f l : ℤ) → line_count a (with_lines a r f l) ≡ line_span f l

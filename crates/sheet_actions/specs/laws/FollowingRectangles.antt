@@ -10,8 +10,9 @@ use Rattle.base_axis.specs.laws.RectangleLaws.{shared_meets, meets_shared, first
 use Rattle.line_edits.specs.declared.EditKind.{EditKind}
 use Rattle.line_edits.specs.Edit.{image_at, IsValid}
 use Rattle.line_edits.specs.Moves.{place_image, at_line}
+use Rattle.sheet_rules.specs.laws.EntryLaws.{both}
 use Rattle.sheet_actions.specs.laws.Sources.{source, Stood, Whole, whole_stood, whole_inside, source_of_image}
-use Rattle.sheet_actions.specs.laws.MergedSources.{Carried, merged_stood, merged_first, merged_left}
+use Rattle.sheet_actions.specs.laws.MergedSources.{some_is, Carried, merged_stood, merged_first, merged_left}
 
 -- each place of a rectangle came from one of another
 abbrev pub CameFrom : (Position → Position) → MergedCell → MergedCell → Type 0
@@ -29,18 +30,12 @@ module _ (came : Position → Position) where
   -- rectangles that did not meet do not meet where they come to lie
   pub apart_stay : (r s t u : MergedCell) → CameFrom came r t → CameFrom came s u → IsInside t → IsInside u → meets r s ≡ false → meets t u ≡ false
   apart_stay r s t u from_r from_s in_t in_u apart = false_unless (meets t u) (λ h.
-      let both = meets_shared t u in_t in_u h in
-      not_both (meets r s) (shared_meets r s (came both.place) (from_r both.place both.here) (from_s both.place both.there)) apart)
+      let shared = meets_shared t u in_t in_u h in
+      not_both (meets r s) (shared_meets r s (came shared.place) (from_r shared.place shared.here) (from_s shared.place shared.there)) apart)
 
 -- the place where one stood
 abbrev pub source_place : Along → EditKind → Position → Position
 source_place a kind place = a.with_line place (source kind (a.line place))
-
-parts : (a b : Bool) → (a && b) ≡ true → (a ≡ true) × (b ≡ true)
-parts a b h = (grind arith, grind arith)
-
-passes : (a b : Bool) → a ≡ true → b ≡ true → (a && b) ≡ true
-passes a b p q = grind arith
 
 between_from : (first last n : ℤ) → first ≤ℤ n → n ≤ℤ last → is_between first last n ≡ true
 between_from first last n p q = grind (arith, ints)
@@ -55,7 +50,7 @@ module _ (a : Along) (is : IsAxis a) (kind : EditKind) where
   -- one whose lines came from its own, on the same cross lines
   pub put_came_from : (r : MergedCell) (f l : ℤ) → ((m : ℤ) → f ≤ℤ m → m ≤ℤ l → Stood kind (first_line a r) (last_line a r) m) → CameFrom (source_place a kind) r (with_lines a r f l)
   put_came_from r f l stood place h =
-      let split = parts (is_between (first_line a (with_lines a r f l)) (last_line a (with_lines a r f l)) (a.line place))
+      let split = both (is_between (first_line a (with_lines a r f l)) (last_line a (with_lines a r f l)) (a.line place))
       (is_between (first_cross a (with_lines a r f l)) (last_cross a (with_lines a r f l)) (a.cross place)) (sym (holds_along a is (with_lines a r f l) place) ∙ h) in
       let on_line : is_between f l (a.line place) ≡ true = sym (λ i. is_between (first_put a is r f l i) (last_put a is r f l i) (a.line place)) ∙ split.0 in
       let on_cross : is_between (first_cross a r) (last_cross a r) (a.cross place) ≡ true =
@@ -66,7 +61,7 @@ module _ (a : Along) (is : IsAxis a) (kind : EditKind) where
       ap (is_between (first_line a r) (last_line a r)) (is.line_put place (source kind (a.line place))) ∙ between_from (first_line a r) (last_line a r) (source kind (a.line place)) own.low own.high in
       let cross_back : is_between (first_cross a r) (last_cross a r) (a.cross back) ≡ true =
       ap (is_between (first_cross a r) (last_cross a r)) (is.cross_stays place (source kind (a.line place))) ∙ on_cross in
-      holds_along a is r back ∙ passes (is_between (first_line a r) (last_line a r) (a.line back)) (is_between (first_cross a r) (last_cross a r) (a.cross back)) line_back cross_back
+      holds_along a is r back ∙ (λ i. line_back i && cross_back i)
 
   -- a place that went somewhere came from where it was
   pub source_of_place : IsValid a.last kind → (p q : Position) → place_image a (image_at a.last kind) p ≡ Some q → source_place a kind q ≡ p
@@ -107,13 +102,11 @@ many_lines first count across h = grind (arith, ints)
 pub many_span : (f l across : ℤ) → (int_lt f l || int_lt (pos 1) across) ≡ true → (int_lt (pos 1) across || int_lt (pos 1) (line_span f l)) ≡ true
 many_span f l across h = grind (arith, ints)
 
-some_at : {X : Type 0} (x y : X) → ◌≡◌ {A = Option X} (Some x) (Some y) → x ≡ y
-some_at x y h = cc
-
 module _ (a : Along) (is : IsAxis a) (kind : EditKind) (valid : IsValid a.last kind) where
   abbrev goes : Position → Option Position
   goes = place_image a (image_at a.last kind)
 
+  -- a rectangle of as many lines from a line on
   pub put_lines : (r : MergedCell) (n : ℤ) → placed_at (a.with_line (anchor_place r) n) r ≡ with_lines a r n (n +ℤ (last_line a r -ℤ first_line a r))
   put_lines r n = sym (by_axis (λ b. with_lines b r n (n +ℤ (last_line b r -ℤ first_line b r)) ≡ placed_at (b.with_line (anchor_place r) n) r)
       (λ i. record r { row = n; height = same_span n r.row r.height i }) (λ i. record r { column = n; width = same_span n r.column r.width i }) a is)
@@ -140,7 +133,7 @@ module _ (a : Along) (is : IsAxis a) (kind : EditKind) (valid : IsValid a.last k
         from = put_came_from a is kind r n l (whole_stood a.last (first_line a r) (last_line a r) n kind valid whole);
         anchor = λ q h.
             let found = line_of_place (anchor_place r) q h in
-            sym found.2 ∙ ap (a.with_line (anchor_place r)) (some_at found.0 n (sym found.1 ∙ whole.goes));
+            sym found.2 ∙ ap (a.with_line (anchor_place r)) (some_is found.0 n (sym found.1 ∙ whole.goes));
       }
 
   -- a merge that is left follows, and has more than one cell

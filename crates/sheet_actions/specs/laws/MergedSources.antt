@@ -12,6 +12,7 @@ use Rattle.line_edits.specs.laws.Images.{IsWithin, IsMove, insert_parts, delete_
 use Rattle.line_edits.specs.laws.MergedLaws.{goes_whole}
 use Rattle.sheet_actions.specs.laws.Sources.{source, Stood, Whole, whole_stood, whole_inside}
 
+-- whether an edit is a move
 abbrev pub is_move : EditKind → Bool
 is_move (Insert c k) = false
 is_move (Delete c k) = false
@@ -84,8 +85,9 @@ module _ (most c k first end across f l : ℤ) (v : IsWithin most c k) (a : IsLi
 same_pair : (a b c d : ℤ) → ◌≡◌ {A = Option (ℤ × ℤ)} (Some (a, b)) (Some (c, d)) → (a ≡ c) × (b ≡ d)
 same_pair a b c d h = let p : ◌≡◌ {A = ℤ × ℤ} (a, b) (c, d) = cc in (ap (λ t. t.0) p, ap (λ t. t.1) p)
 
-some_is : (m n : ℤ) → ◌≡◌ {A = Option ℤ} (Some m) (Some n) → m ≡ n
-some_is m n h = cc
+-- what two options hold that are equal
+pub some_is : {X : Type 0} (x y : X) → ◌≡◌ {A = Option X} (Some x) (Some y) → x ≡ y
+some_is x y h = cc
 
 shifted : (first end across f l s : ℤ) → (int_lt first end || int_lt (pos 1) across) ≡ true → (first +ℤ s) ≡ f → (end +ℤ s) ≡ l → (int_lt f l || int_lt (pos 1) across) ≡ true
 shifted first end across f l s h p q = grind (arith, ints)

@@ -30,13 +30,13 @@ none_large : (o : Option MergedCell) → is_none o ≡ true → where_large o �
 none_large None h = refl
 none_large (Some r) h = absurd (cc)
 
-no_arrays : (es : List (Position × Cell)) → list_all (λ (e : Position × Cell). is_none (array_at e.0 e.1.content)) es ≡ true → filter_map (λ (e : Position × Cell). large_array_at e.0 e.1.content) es ≡ []
+pub no_arrays : (es : List (Position × Cell)) → list_all (λ (e : Position × Cell). is_none (array_at e.0 e.1.content)) es ≡ true → filter_map (λ (e : Position × Cell). large_array_at e.0 e.1.content) es ≡ []
 no_arrays [] all = refl
 no_arrays (e ∷ es) all =
     let parts = both _ _ all in
     ap (λ o. cons_option o (filter_map (λ (f : Position × Cell). large_array_at f.0 f.1.content) es)) (none_large (array_at e.0 e.1.content) parts.0) ∙ no_arrays es parts.1
 
-no_merges : (merges : List MergedCell) → has_no_merge merges ≡ true → merges ≡ []
+pub no_merges : (merges : List MergedCell) → has_no_merge merges ≡ true → merges ≡ []
 no_merges [] h = refl
 no_merges (m ∷ merges) h = absurd (cc)
 

@@ -1,0 +1,4 @@
+mod Walks
+mod Picks
+mod Steps
+mod Edges

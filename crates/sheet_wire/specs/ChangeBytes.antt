@@ -1,12 +1,10 @@
--- The bytes of changes of what stands at a position, and of the merges of a sheet.
+-- The bytes of changes of what stands at a position, and of what a sheet has.
 use Rattle.std.specs.Prelude.{ℕ, ◌<◌, ◌^◌, List, ◌++◌, Option, IfSome}
 use Rattle.std.specs.Int.{w32, to_be_bytes}
-use Rattle.base_axis.specs.declared.MergedCell.{MergedCell}
 use Rattle.base_values.specs.declared.Position.{Position}
 use Rattle.base_wire.specs.Reading.{Reader, ◌⊗◌, number_at, option_at}
 use Rattle.base_wire.specs.Spelling.{spell_option}
 use Rattle.cell_wire.specs.CellBytes.{spell_position, position_at, FitsPosition}
-use Rattle.cell_wire.specs.MergeBytes.{spell_merges, merges_at, FitsMerges}
 
 -- ---- at a position
 
@@ -28,17 +26,17 @@ pub record FitsChange {A : Type 0} (Fits : A → Type 0) (id : ℕ) (position : 
   pub old : IfSome before Fits
   pub new : IfSome later Fits
 
--- ---- merges
+-- ---- of a sheet
 
--- the id of a sheet, and its merges before and after
-abbrev pub spell_merges_change : ℕ → List MergedCell → List MergedCell → List ℕ
-spell_merges_change id old new = to_be_bytes w32 id ++ (spell_merges old ++ spell_merges new)
+-- the id of a sheet, and what it had before and has after
+unfoldable pub spell_sheet_change : {A : Type 0} → (A → List ℕ) → ℕ → A → A → List ℕ
+spell_sheet_change spell id old new = to_be_bytes w32 id ++ (spell old ++ spell new)
 
-abbrev pub merges_change_at : Reader (ℕ × (List MergedCell × List MergedCell))
-merges_change_at = number_at w32 ⊗ merges_at ⊗ merges_at
+abbrev pub sheet_change_at : {A : Type 0} → Reader A → Reader (ℕ × (A × A))
+sheet_change_at read = number_at w32 ⊗ read ⊗ read
 
 -- the parts of such a change, which bytes can carry
-pub record FitsMergesChange (id : ℕ) (before later : List MergedCell) : Type 0 where
+pub record FitsSheetChange {A : Type 0} (Fits : A → Type 0) (id : ℕ) (before later : A) : Type 0 where
   pub sheet : id < 2 ^ 32
-  pub old : FitsMerges before
-  pub new : FitsMerges later
+  pub old : Fits before
+  pub new : Fits later

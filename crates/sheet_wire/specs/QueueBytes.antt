@@ -18,8 +18,9 @@ use Rattle.base_wire.specs.Reading.{Reader, refused, map_at, ◌⊗◌, tagged_a
 use Rattle.base_wire.specs.Spelling.{spell_code, spell_list, FitsItems}
 use Rattle.cell_wire.specs.CellBytes.{spell_cell, cell_at, FitsCell, IsKnownCell}
 use Rattle.cell_wire.specs.LinkBytes.{spell_link, link_at, FitsLink}
+use Rattle.cell_wire.specs.MergeBytes.{spell_merges, merges_at, FitsMerges}
 use Rattle.lines_wire.specs.KeptBytes.{IsKnownKept}
-use Rattle.sheet_wire.specs.ChangeBytes.{spell_change, change_at, FitsChange, spell_merges_change, merges_change_at, FitsMergesChange}
+use Rattle.sheet_wire.specs.ChangeBytes.{spell_change, change_at, FitsChange, spell_sheet_change, sheet_change_at, FitsSheetChange}
 use Rattle.sheet_wire.specs.LinesBytes.{spell_lines, lines_parts_at, FitsLines, IsKeptOfLines}
 
 -- ---- diffs
@@ -28,7 +29,7 @@ use Rattle.sheet_wire.specs.LinesBytes.{spell_lines, lines_parts_at, FitsLines, 
 abbrev pub spell_diff : Diff → List ℕ
 spell_diff (CellDiff sheet place old new) = 1 ∷ spell_change spell_cell sheet place old new
 spell_diff (LinkDiff sheet place old new) = 2 ∷ spell_change spell_link sheet place old new
-spell_diff (MergesDiff sheet old new) = 5 ∷ spell_merges_change sheet old new
+spell_diff (MergesDiff sheet old new) = 5 ∷ spell_sheet_change spell_merges sheet old new
 spell_diff (LinesDiff sheet axis edit kept) = 7 ∷ spell_lines sheet axis edit kept
 
 abbrev pub cell_diff_made : ℕ × (Position × (Option Cell × Option Cell)) → Diff
@@ -47,7 +48,7 @@ abbrev pub merges_diff_made : ℕ × (List MergedCell × List MergedCell) → Di
 merges_diff_made x = MergesDiff x.0 x.1.0 x.1.1
 
 unfoldable pub merges_diff_at : Reader Diff
-merges_diff_at = map_at merges_diff_made merges_change_at
+merges_diff_at = map_at merges_diff_made (sheet_change_at merges_at)
 
 abbrev pub lines_diff_made : ℕ × (LineAxis × (EditKind × KeptLines)) → Diff
 lines_diff_made x = LinesDiff x.0 x.1.0 x.1.1.0 x.1.1.1
@@ -71,7 +72,7 @@ diff_at = tagged_at diff_of
 abbrev pub FitsDiff : Diff → Type 0
 FitsDiff (CellDiff sheet place old new) = FitsChange FitsCell sheet place old new
 FitsDiff (LinkDiff sheet place old new) = FitsChange FitsLink sheet place old new
-FitsDiff (MergesDiff sheet old new) = FitsMergesChange sheet old new
+FitsDiff (MergesDiff sheet old new) = FitsSheetChange FitsMerges sheet old new
 FitsDiff (LinesDiff sheet axis edit kept) = FitsLines sheet edit kept
 
 -- what encoding asks of a diff: its numbers are kept, and its formulas are at most 64 deep

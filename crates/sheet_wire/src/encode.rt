@@ -3,13 +3,12 @@
 ghost use Rattle.std.specs.Prelude.{◌≡◌, ◌++◌, OnOk, IfOk, IfSome, IsOkUnless};
 ghost use Rattle.base_values.specs.declared.EditError.TheVariants.{NoMemory};
 ghost use Rattle.lines_wire.specs.KeptBytes.{IsKnownKept};
-ghost use Rattle.sheet_wire.specs.ChangeBytes.{spell_change, FitsChange, spell_merges_change, FitsMergesChange};
+ghost use Rattle.sheet_wire.specs.ChangeBytes.{spell_change, FitsChange, spell_sheet_change, FitsSheetChange};
 ghost use Rattle.sheet_wire.specs.LinesBytes.{spell_lines, FitsLines};
 ghost use Rattle.sheet_wire.specs.QueueBytes.{spell_diff, spell_entry, spell_queue, FitsDiff, FitsEntry, FitsQueue, IsKnownDiff, IsKnownEntry, IsKnownQueue};
 
 use crate::codes::{axis_code, direction_code};
 use crate::parts::{DiffPart, EntryPart};
-use base_axis::MergeList;
 use base_shared::Shared;
 use base_values::{EditError, Items, Position};
 use base_wire::{Part, put_items};
@@ -37,19 +36,20 @@ fn put_change<P: Part>(
     Option::<P>::put(out, new)
 }
 
-/// Adds the id of a sheet, and its merges before and after.
-fn put_merges(
+/// Adds the id of a sheet, and what it had before and has after.
+#[tactic(auto, unfolding(crate::specs::ChangeBytes::spell_sheet_change))]
+fn put_sheet_change<P: Part>(
     out: &mut Vec<u8>,
     sheet: u32,
-    old: &MergeList,
-    new: &MergeList,
+    old: &P::Value,
+    new: &P::Value,
 ) -> Result<(), AllocError>
-    ensures spelled { OnOk result (out.new.items ≡ out.old.items ++ spell_merges_change sheet old.now new.now) }
-    ensures fits { OnOk result (FitsMergesChange sheet old.now new.now) }
+    ensures spelled { OnOk result (out.new.items ≡ out.old.items ++ spell_sheet_change P.spelling sheet old.now new.now) }
+    ensures fits { OnOk result (P.Known old.now → P.Known new.now → FitsSheetChange P.Fits sheet old.now new.now) }
 {
     out.extend_from_slice(&sheet.to_be_bytes())?;
-    MergeListPart::put(out, old)?;
-    MergeListPart::put(out, new)
+    P::put(out, old)?;
+    P::put(out, new)
 }
 
 /// Adds the id of a sheet, the byte of an axis, the edit, and what it keeps.
@@ -95,7 +95,7 @@ pub(crate) fn put_diff(out: &mut Vec<u8>, diff: &Diff) -> Result<(), AllocError>
         }
         Diff::Merges { sheet, old, new } => {
             out.push(5)?;
-            put_merges(out, *sheet, old, new)?;
+            put_sheet_change::<MergeListPart>(out, *sheet, old, new)?;
         }
         Diff::Lines {
             sheet,

@@ -19,14 +19,14 @@ use Rattle.base_wire.specs.laws.Refusals.{IsPlain, code_plain, if_plain, map_pla
 use Rattle.base_wire.specs.laws.Spelled.{ReadsSpelled, code_spelled, tag_if, tag_map, tag_refused, tagged_spelled}
 use Rattle.cell_wire.specs.CellBytes.{spell_position, FitsPosition, spell_cell, cell_at}
 use Rattle.cell_wire.specs.LinkBytes.{spell_link, link_at}
-use Rattle.cell_wire.specs.MergeBytes.{spell_merges, FitsMerges}
+use Rattle.cell_wire.specs.MergeBytes.{spell_merges, merges_at, FitsMerges}
 use Rattle.cell_wire.specs.laws.Formats.{position_format, cell_format}
 use Rattle.cell_wire.specs.laws.MergeLaws.{link_format, merges_format}
 use Rattle.lines_wire.specs.EditBytes.{spell_edit, FitsEdit}
 use Rattle.lines_wire.specs.KeptBytes.{spell_kept, FitsKept}
 use Rattle.lines_wire.specs.laws.EditLaws.{edit_format}
 use Rattle.lines_wire.specs.laws.KeptLaws.{kept_format}
-use Rattle.sheet_wire.specs.ChangeBytes.{spell_change, standing_at, change_at, spell_merges_change, merges_change_at}
+use Rattle.sheet_wire.specs.ChangeBytes.{spell_change, standing_at, change_at, spell_sheet_change, sheet_change_at}
 use Rattle.sheet_wire.specs.LinesBytes.{axis_code, axes, spell_lines, lines_parts_at}
 use Rattle.sheet_wire.specs.QueueBytes.{spell_diff, cell_diff_made, cell_diff_at, link_diff_made, link_diff_at, merges_diff_made, merges_diff_at, lines_diff_made, lines_diff_at, diff_of, diff_at, FitsDiff, FitsList, direction_code, directions, spell_entry, entry_made, list_of_diffs_at, entry_at, FitsEntry, magic, FitsQueue}
 
@@ -43,7 +43,7 @@ change_format : {A : Type 0} {F : A → Type 0} {s : A → List ℕ} {r : Reader
 unfolding standing_at
 change_format law = both_format short_format (both_format position_format (both_format (option_format law) (option_format law)))
 
-merges_change_format : Format (Both (λ id. id < 2 ^ 32) (Both FitsMerges FitsMerges)) (spell_both (to_be_bytes w32) (spell_both spell_merges spell_merges)) merges_change_at
+merges_change_format : Format (Both (λ id. id < 2 ^ 32) (Both FitsMerges FitsMerges)) (spell_both (to_be_bytes w32) (spell_both spell_merges spell_merges)) (sheet_change_at merges_at)
 merges_change_format = both_format short_format (both_format merges_format merges_format)
 
 axis_known : (x : LineAxis) → decoded axis_code axes (axis_code x) ≡ Some x
@@ -60,7 +60,7 @@ map_reads : {A B : Type 0} (f : A → B) (r : Reader A) (bytes : List ℕ) (x : 
 map_reads f r bytes x rest h = rw h refl
 
 diff_again : ReadsAgain FitsDiff spell_diff diff_at
-unfolding diff_at cell_diff_at link_diff_at merges_diff_at lines_diff_at
+unfolding spell_sheet_change diff_at cell_diff_at link_diff_at merges_diff_at lines_diff_at
 diff_again = record { again = one }
   where
     one : (x : Diff) (rest : List ℕ) → FitsDiff x → diff_at (spell_diff x ++ rest) ≡ Ok (x, rest)
@@ -71,14 +71,14 @@ diff_again = record { again = one }
         map_reads link_diff_made (change_at link_at) (spell_change spell_link sheet place old new ++ rest) (sheet, (place, (old, new))) rest
         ((change_format link_format).again.again (sheet, (place, (old, new))) rest (fits.sheet, (fits.place, (fits.old, fits.new))))
     one (MergesDiff sheet old new) rest fits =
-        map_reads merges_diff_made merges_change_at (spell_merges_change sheet old new ++ rest) (sheet, (old, new)) rest
+        map_reads merges_diff_made (sheet_change_at merges_at) (spell_sheet_change spell_merges sheet old new ++ rest) (sheet, (old, new)) rest
         (merges_change_format.again.again (sheet, (old, new)) rest (fits.sheet, (fits.old, fits.new)))
     one (LinesDiff sheet axis edit kept) rest fits =
         map_reads lines_diff_made lines_parts_at (spell_lines sheet axis edit kept ++ rest) (sheet, (axis, (edit, kept))) rest
         (lines_parts_format.again.again (sheet, (axis, (edit, kept))) rest (fits.sheet, (tt, (fits.edit, fits.kept))))
 
 diff_spelled : ReadsSpelled FitsDiff spell_diff diff_at
-unfolding diff_at cell_diff_at link_diff_at merges_diff_at lines_diff_at
+unfolding spell_sheet_change diff_at cell_diff_at link_diff_at merges_diff_at lines_diff_at
 diff_spelled =
     tagged_spelled diff_of (λ tag.
     tag_if tag 1 (tag_map (change_format cell_format).spelled cell_diff_made FitsDiff spell_diff 1 (λ x. refl) (λ x fits. record { sheet = fits.0; place = fits.1.0; old = fits.1.1.0; new = fits.1.1.1 }))

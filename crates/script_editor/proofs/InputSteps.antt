@@ -22,7 +22,7 @@ use Rattle.sheet_rules.specs.laws.HiddenLaws.{shown_where_free}
 use Rattle.sheet_lines.specs.Sheets.{sheet_of}
 use Rattle.sheet_actions.specs.laws.OwnSheets.{own_found}
 use Rattle.sheet_history.specs.declared.Diff.{Diff}
-use Rattle.sheet_history.specs.Entries.{EntryKey, lies_inside, cell_stands_at, value_fits, put_entry}
+use Rattle.sheet_history.specs.Entries.{EntryKey, EntryValue, lies_inside, cell_stands_at, value_fits, put_entry}
 use Rattle.sheet_history.specs.Entries.EntryKey.{CellKey}
 use Rattle.sheet_history.specs.Entries.EntryValue.{CellValue}
 use Rattle.sheet_history.specs.Records.{IsRecord}

@@ -5,3 +5,4 @@ pub mod Keys
 pub mod Gathering
 pub mod CarriedLaws
 pub mod Turns
+pub mod Loops

@@ -1,3 +1,4 @@
 pub mod SheetPlaces
 pub mod Carried
+pub mod Lists
 pub mod laws

@@ -6,3 +6,4 @@ pub mod Gathering
 pub mod CarriedLaws
 pub mod Turns
 pub mod Loops
+pub mod Lists

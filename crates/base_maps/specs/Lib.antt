@@ -1,4 +1,5 @@
 pub mod SheetPlaces
 pub mod Carried
 pub mod Tagged
+pub mod Lists
 pub mod laws

@@ -8,3 +8,5 @@ pub mod Turns
 pub mod Each
 pub mod Found
 pub mod Tagged
+pub mod Loops
+pub mod Lists

@@ -46,9 +46,13 @@ column_letters n =
 unfoldable pub column_name : ℤ → Option (List ℕ)
 column_name column = if is_line (pos 16384) column then Some (column_letters (unsigned_abs column)) else None
 
+-- one to three letters whose number is a column inside the sheet
+abbrev pub number_a_column : List ℕ → Bool
+number_a_column letters = is_between 1 3 (length letters) && nat_le (letters_number letters) 16384
+
 -- one to three letters in either case that name a column inside the sheet
 unfoldable pub is_column_name : List ℕ → Bool
-is_column_name text = list_all is_letter text && (is_between 1 3 (length text) && nat_le (letters_number text) 16384)
+is_column_name text = list_all is_letter text && number_a_column text
 
 -- the column that the text names
 unfoldable pub column_of_name : List ℕ → Option ℤ

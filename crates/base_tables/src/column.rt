@@ -2,7 +2,7 @@ ghost use Rattle.std.specs.Prelude.{◌≡◌, ◌<◌, ◌≤◌, ◌*◌, ◌+
 ghost use Rattle.std.specs.List.{list_all};
 ghost use Rattle.std.specs.Char.{to_ascii_uppercase};
 ghost use Rattle.base_values.specs.declared.error.EditError.TheVariants.{NoMemory};
-ghost use Rattle.base_tables.specs.Column.{is_between, is_letter, letter_value, letter_of, letters_number, column_letters, column_name, column_of_name, is_column_name};
+ghost use Rattle.base_tables.specs.Column.{is_letter, letter_value, letter_of, letters_number, column_letters, column_name, column_of_name, is_column_name, number_a_column};
 
 use base_values::{EditError, LAST_COLUMN};
 use std::alloc::{AllocError, Global};
@@ -89,7 +89,7 @@ fn are_letters(text: &[u8]) -> bool
 
 fn number_of_letters(letters: &[u8]) -> Option<u32>
     requires { list_all is_letter letters.now ≡ true }
-    ensures value { result ≡ (if is_between 1 3 (length letters.now) && nat_le (letters_number letters.now) 16384 then Some (letters_number letters.now) else None) }
+    ensures value { result ≡ (if number_a_column letters.now then Some (letters_number letters.now) else None) }
     ensures inside { IfSome result (λ number. number ≤ 16384) }
 {
     let number = match letters {

@@ -4,4 +4,5 @@ pub mod Images
 pub mod FirstImages
 pub mod MergedLaws
 pub mod OneToOne
+pub mod PlaceLaws
 pub mod Singles

@@ -1,12 +1,7 @@
 -- Lists whose items are carried along.
-use Rattle.std.specs.Prelude.{List, [], ◌∷◌, Option}
+use Rattle.std.specs.Prelude.{List, Option}
 use Rattle.base_maps.specs.Carried.{settled}
-
--- item by item, as long as both lists have one
-abbrev pub zip_by : {F K G : Type 0} → (F → K → G) → List F → List K → List G
-zip_by f [] ks = []
-zip_by f (x ∷ xs) [] = []
-zip_by f (x ∷ xs) (k ∷ ks) = f x k ∷ zip_by f xs ks
+use Rattle.base_maps.specs.Lists.{zip_by}
 
 -- each item: what is restored from its part, if it has one, else what is carried back
 abbrev pub items_restored : {F P : Type 0} → (F → F) → (F → P → F) → List F → List (Option P) → List F

@@ -3,8 +3,6 @@ use Rattle.std.proofs.Common.{◌≡◌, ◌∙◌, ap, ◌++◌, ℕ, ◌+◌, 
 use Rattle.std.specs.Prelude.{IfSome, if◌then◌else◌}
 use Rattle.std.specs.Cmp.Lexicographic.{pointwise_decides}
 use Rattle.std.specs.List.{All, AllByRecursion, filter_map, cons_option}
-use Rattle.std.proofs.lemmas.List.{take_more}
-use Rattle.std.proofs.lemmas.List.Elements.{recursion_from_All, All-from_recursion, filter_map-append}
 use Rattle.base_axis.specs.Along.{Along, IsAxis}
 use Rattle.base_axis.specs.declared.MergedCell.{MergedCell}
 use Rattle.base_axis.specs.contracts.merge_list.MergeListPartialEq.TheImpl as equality
@@ -12,6 +10,7 @@ use Rattle.base_axis.specs.Rectangles.{IsInside, first_line, last_line, across, 
 use Rattle.base_axis.specs.laws.MergedEquals.{merged_equals}
 use Rattle.base_axis.specs.laws.RectangleLaws.{first_inside, last_inside, lines_in_order, put_lines_inside}
 use Rattle.base_maps.specs.Carried.{if_there}
+use Rattle.base_maps.specs.laws.Lists.{all_found}
 use Rattle.line_edits.specs.Merged.{AreLines}
 use Rattle.line_map.specs.Merges.{merge_carried, merges_carried, merges_part, MergesLie}
 use Rattle.line_map.specs.Way.{Way, IsWay, back}
@@ -29,24 +28,8 @@ merge_stays w is merge h =
     put_inside a is.axis merge h _
     (is.one_to_one.merged_inside (first_line a merge) (last_line a merge) (across a merge) (first_inside a is.axis merge h, last_inside a is.axis merge h, lines_in_order a is.axis merge h))
 
-module _ {X Y : Type 0} (P : X → Type 0) (Q : Y → Type 0) (f : X → Option Y) (h : (x : X) → P x → IfSome (f x) Q) where
-  one_more : (o : Option Y) (ys : List Y) → IfSome o Q → AllByRecursion Q ys → AllByRecursion Q (cons_option o ys)
-  one_more None ys i all = all
-  one_more (Some y) ys i all = (i, all)
-
-  found : (xs : List X) → AllByRecursion P xs → AllByRecursion Q (filter_map f xs)
-  found [] all = tt
-  found (x ∷ xs) all = one_more (f x) (filter_map f xs) (h x all.0) (found xs all.1)
-
-  all_found : (xs : List X) → All P xs → All Q (filter_map f xs)
-  all_found xs all = All-from_recursion Q (filter_map f xs) (found xs (recursion_from_All P xs all))
-
 pub left_stay : (w : Way) → IsWay w → (merges : List MergedCell) → MergesLie merges → MergesLie (filter_map (merge_carried w) merges)
 left_stay w is merges h = all_found IsInside IsInside (merge_carried w) (merge_stays w is) merges h
-
--- one more item
-pub one_left : {X Y : Type 0} (f : X → Option Y) (xs : List X) (i : ℕ) (d : X) → i < length xs → filter_map f (take (i + 1) xs) ≡ filter_map f (take i xs) ++ cons_option (f (get_or xs i d)) []
-one_left f xs i d h = ap (filter_map f) (take_more xs i d h) ∙ filter_map-append f (take i xs) (get_or xs i d ∷ [])
 
 pub merges_stay : (w : Way) → IsWay w → (merges : List MergedCell) → MergesLie merges → MergesLie (merges_carried w merges)
 unfolding merges_carried

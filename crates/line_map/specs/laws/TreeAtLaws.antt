@@ -12,7 +12,7 @@ use Rattle.line_map.specs.Way.{Way, IsWay, back}
 use Rattle.line_map.specs.laws.TreeAtEquals.{tree_at_equals}
 use Rattle.line_map.specs.laws.TreeLaws.{tree_placed}
 use Rattle.line_map.specs.laws.TrialLaws.{trial_comes_back, trial_part}
-use Rattle.line_map.specs.laws.WayLaws.{image_inside}
+use Rattle.line_edits.specs.laws.PlaceLaws.{image_inside}
 
 cell_inside : (w : Way) → IsWay w → (t : TreeAt) → IsPlace t.place → IfSome (tree_goes w t) IsPlace
 unfolding tree_goes

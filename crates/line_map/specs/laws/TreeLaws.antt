@@ -19,7 +19,7 @@ use Rattle.line_map.specs.Trees.{corner_of, target, following, tree_carried, tre
 use Rattle.line_map.specs.Trial.{part_by_trial}
 use Rattle.line_map.specs.Way.{Way, IsWay, back}
 use Rattle.line_map.specs.laws.TrialLaws.{trial_comes_back, trial_part}
-use Rattle.line_map.specs.laws.WayLaws.{image_inside}
+use Rattle.line_edits.specs.laws.PlaceLaws.{image_inside}
 
 inside_at : (b : Bool) (row column : ℤ) → (is_line (pos 1048576) row && is_line (pos 16384) column) ≡ b → IfSome (if b then Some (record { row = row; column = column }) else None) IsPlace
 inside_at true row column h = ((grind (arith, ints), grind (arith, ints)), (grind (arith, ints), grind (arith, ints)))

@@ -1,12 +1,10 @@
-use Rattle.std.proofs.Common.{◌≡◌, ◌++◌, map, Some}
-use Rattle.std.specs.List.{All, filter_map}
-use Rattle.std.specs.FinMap.{entries, from_entries}
+use Rattle.std.proofs.Common.{Some}
 use Rattle.std.specs.Map.Iter.{deref_pair}
+use Rattle.std.specs.List.{All}
 use Rattle.base_values.specs.Places.{IsLine}
-use Rattle.base_maps.specs.Carried.{entry_made, if_lost}
+use Rattle.base_maps.specs.Carried.{if_lost}
+use Rattle.base_maps.specs.laws.Loops.{Made}
 use Rattle.line_map.proofs.axis_map.lost_lines.Given as goal
 
--- what is left of the entries, and what those so far have made
 abbrev pub invariant-loop-line : goal.invariant-loop-line
-invariant-loop-line g l =
-    (map deref_pair l.yielded ++ l.line-iterator ≡ entries l.fn.map) × (l.lost ≡ from_entries (filter_map (entry_made Some (if_lost (g.M.LineMap.moves l.fn.lines).to)) (map deref_pair l.yielded))) × All (λ entry. IsLine g.B.Axis.along.last entry.0) l.line-iterator
+invariant-loop-line g l = Made deref_pair Some (if_lost (g.M.LineMap.moves l.fn.lines).to) l.fn.map l.yielded l.line-iterator l.lost × All (λ entry. IsLine g.B.Axis.along.last entry.0) l.line-iterator

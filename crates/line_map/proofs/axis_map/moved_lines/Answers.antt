@@ -1,28 +1,26 @@
 use Rattle.std.proofs.Common.{◌≡◌, ℤ, Some, ap, ◌∙◌, w32, to_z, of_z, arith}
-use Rattle.std.proofs.lemmas.Map.Iter.{rest_more, rest_all}
+use Rattle.std.proofs.lemmas.Map.Iter.{rest_more}
 use Rattle.std.specs.Map.Iter.{deref_pair}
 use Rattle.std.proofs.lemmas.Int.{ints}
-use Rattle.std.specs.Ordering.{int_cmp}
 use Rattle.std.specs.Cmp.{int_cmp_total}
 use Rattle.std.specs.FinMap.{int_cmp-IsAntisymmetric}
 use Rattle.base_values.specs.Places.{IsLine}
 use Rattle.base_maps.specs.Carried.{entry_made}
 use Rattle.base_maps.specs.laws.Gathering.{with_made}
-use Rattle.base_maps.specs.laws.Turns.{turn_seen, turn_made, end_made, first_holds, rest_hold}
+use Rattle.base_maps.specs.laws.Loops.{made_on, made_all}
+use Rattle.base_maps.specs.laws.Turns.{first_holds, rest_hold}
 use Rattle.line_map.proofs.axis_map.moved_lines.Goals as goal
 
 pub loop-line-preserved : goal.loop-line-preserved
 loop-line-preserved g c =
     let moves = g.M.LineMap.moves c.args.lines.now in
-    let on : IsLine g.B.Axis.along.last c.in-Some.line.now = first_holds (λ e. IsLine g.B.Axis.along.last e.0) c.loop-line.invariant.2 (rest_more deref_pair c.loop-line.line-iterator c.next.new.self c.next.result (c.in-Some.line, c.in-Some.value) c.in-Some.is c.next.ensures.steps) in
+    let on : IsLine g.B.Axis.along.last c.in-Some.line.now = first_holds (λ e. IsLine g.B.Axis.along.last e.0) c.loop-line.invariant.1 (rest_more deref_pair c.loop-line.line-iterator c.next.new.self c.next.result (c.in-Some.line, c.in-Some.value) c.in-Some.is c.next.ensures.steps) in
     let last = g.met.B.Axis.lawful.last_high in
     let key : to_z w32 (of_z w32 c.in-Some.line.now) ≡ c.in-Some.line.now = omega (arith, ints, on.0, on.1, last) in (
-      turn_seen int_cmp int_cmp_total int_cmp-IsAntisymmetric deref_pair c.args.map.now c.loop-line.yielded (c.in-Some.line, c.in-Some.value) c.loop-line.line-iterator c.next.new.self c.loop-line.invariant.0 (rest_more deref_pair c.loop-line.line-iterator c.next.new.self c.next.result (c.in-Some.line, c.in-Some.value) c.in-Some.is c.next.ensures.steps),
-      turn_made int_cmp int_cmp_total int_cmp-IsAntisymmetric deref_pair c.args.map.now c.loop-line.yielded (c.in-Some.line, c.in-Some.value) c.loop-line.line-iterator c.next.new.self c.loop-line.invariant.0 (rest_more deref_pair c.loop-line.line-iterator c.next.new.self c.next.result (c.in-Some.line, c.in-Some.value) c.in-Some.is c.next.ensures.steps)
-          moves.to moves.from (g.met.M.LineMap.one_to_one c.args.lines.now c.requires.valid).inverse (λ _ _ x. Some x) _ _ c.loop-line.invariant.1
+      made_on int_cmp_total int_cmp-IsAntisymmetric c.loop-line.invariant.0 (g.met.M.LineMap.one_to_one c.args.lines.now c.requires.valid).inverse (c.in-Some.line, c.in-Some.value) c.in-Some.is c.next.ensures.steps
           (c.in_ok-move_entry.ensures.made ∙ ap (λ (n : ℤ). with_made (entry_made moves.to (λ _ _ x. Some x) (n, c.in-Some.value.now)) c.loop-line.made) key),
-      rest_hold (λ e. IsLine g.B.Axis.along.last e.0) c.loop-line.invariant.2 (rest_more deref_pair c.loop-line.line-iterator c.next.new.self c.next.result (c.in-Some.line, c.in-Some.value) c.in-Some.is c.next.ensures.steps),
+      rest_hold (λ e. IsLine g.B.Axis.along.last e.0) c.loop-line.invariant.1 (rest_more deref_pair c.loop-line.line-iterator c.next.new.self c.next.result (c.in-Some.line, c.in-Some.value) c.in-Some.is c.next.ensures.steps),
     )
 
 pub returns-clause-map : goal.returns-clause-map
-returns-clause-map g c = c.loop-line.invariant.1 ∙ end_made int_cmp int_cmp_total int_cmp-IsAntisymmetric deref_pair c.args.map.now c.loop-line.yielded c.loop-line.line-iterator c.loop-line.invariant.0 (rest_all deref_pair c.loop-line.line-iterator c.next.new.self c.next.result c.in-None.is c.next.ensures.steps) (g.M.LineMap.moves c.args.lines.now).to (λ _ _ x. Some x)
+returns-clause-map g c = made_all int_cmp_total int_cmp-IsAntisymmetric c.loop-line.invariant.0 c.next.new.self c.in-None.is c.next.ensures.steps

@@ -1,28 +1,18 @@
-use Rattle.std.proofs.Common.{Some, ◌∙◌}
-use Rattle.std.proofs.lemmas.Map.Iter.{rest_more, rest_all}
-use Rattle.std.specs.Map.Iter.{deref_pair}
-use Rattle.base_values.specs.Places.{position_cmp}
 use Rattle.base_values.specs.laws.Places.{position_total, exact_positions}
-use Rattle.line_map.specs.Way.{at, back, place_goes, way}
+use Rattle.base_maps.specs.laws.Loops.{made_held, made_on, made_all}
+use Rattle.line_map.specs.Way.{way}
 use Rattle.line_map.specs.laws.WayLaws.{goes_inverse}
-use Rattle.base_maps.specs.laws.Turns.{turn_seen, turn_held, turn_made, end_made}
 use Rattle.line_map.proofs.place_map.carried_places.Goals as goal
 
 pub carry_entry-requires-clause-inside : goal.carry_entry-requires-clause-inside
-carry_entry-requires-clause-inside g c = c.requires.places c.in-Some.from.now c.in-Some.item.now (turn_held position_cmp position_total exact_positions deref_pair c.args.map.now c.loop-from.yielded (c.in-Some.from, c.in-Some.item) c.loop-from.from-iterator c.next.new.self c.loop-from.invariant.0 (rest_more deref_pair c.loop-from.from-iterator c.next.new.self c.next.result (c.in-Some.from, c.in-Some.item) c.in-Some.is c.next.ensures.steps))
+carry_entry-requires-clause-inside g c = c.requires.places _ _ (made_held position_total exact_positions c.loop-from.invariant c.next.new.self (c.in-Some.from, c.in-Some.item) c.in-Some.is c.next.ensures.steps)
 
 pub carry_entry-requires-clause-lies : goal.carry_entry-requires-clause-lies
-carry_entry-requires-clause-lies g c = λ to there. c.requires.items c.in-Some.from.now to c.in-Some.item.now (turn_held position_cmp position_total exact_positions deref_pair c.args.map.now c.loop-from.yielded (c.in-Some.from, c.in-Some.item) c.loop-from.from-iterator c.next.new.self c.loop-from.invariant.0 (rest_more deref_pair c.loop-from.from-iterator c.next.new.self c.next.result (c.in-Some.from, c.in-Some.item) c.in-Some.is c.next.ensures.steps)) there
+carry_entry-requires-clause-lies g c = λ to there. c.requires.items _ to _ (made_held position_total exact_positions c.loop-from.invariant c.next.new.self (c.in-Some.from, c.in-Some.item) c.in-Some.is c.next.ensures.steps) there
 
 pub loop-from-preserved : goal.loop-from-preserved
 loop-from-preserved g c =
-    let w = way c.args.route.now in (
-      turn_seen position_cmp position_total exact_positions deref_pair c.args.map.now c.loop-from.yielded (c.in-Some.from, c.in-Some.item) c.loop-from.from-iterator c.next.new.self c.loop-from.invariant.0 (rest_more deref_pair c.loop-from.from-iterator c.next.new.self c.next.result (c.in-Some.from, c.in-Some.item) c.in-Some.is c.next.ensures.steps),
-      turn_made position_cmp position_total exact_positions deref_pair c.args.map.now c.loop-from.yielded (c.in-Some.from, c.in-Some.item) c.loop-from.from-iterator c.next.new.self c.loop-from.invariant.0 (rest_more deref_pair c.loop-from.from-iterator c.next.new.self c.next.result (c.in-Some.from, c.in-Some.item) c.in-Some.is c.next.ensures.steps)
-          (place_goes w) (place_goes (back w)) (goes_inverse w c.is_way.ensures) (λ p q x. Some (g.F.Follower.carry_of (at w p q) x)) _ _ c.loop-from.invariant.1 c.in_ok-carry_entry.ensures.made,
-    )
+    made_on position_total exact_positions c.loop-from.invariant (goes_inverse (way c.args.route.now) c.is_way.ensures) (c.in-Some.from, c.in-Some.item) c.in-Some.is c.next.ensures.steps c.in_ok-carry_entry.ensures.made
 
 pub returns-clause-map : goal.returns-clause-map
-returns-clause-map g c =
-    let w = way c.args.route.now in
-    c.loop-from.invariant.1 ∙ end_made position_cmp position_total exact_positions deref_pair c.args.map.now c.loop-from.yielded c.loop-from.from-iterator c.loop-from.invariant.0 (rest_all deref_pair c.loop-from.from-iterator c.next.new.self c.next.result c.in-None.is c.next.ensures.steps) (place_goes w) (λ p q x. Some (g.F.Follower.carry_of (at w p q) x))
+returns-clause-map g c = made_all position_total exact_positions c.loop-from.invariant c.next.new.self c.in-None.is c.next.ensures.steps

@@ -1,12 +1,8 @@
-use Rattle.std.proofs.Common.{◌≡◌, ◌++◌, map, Some}
-use Rattle.std.specs.List.{filter_map}
-use Rattle.std.specs.FinMap.{entries, from_entries}
+use Rattle.std.proofs.Common.{Some}
 use Rattle.std.specs.Map.Iter.{deref_pair}
-use Rattle.base_maps.specs.Carried.{entry_made}
+use Rattle.base_maps.specs.laws.Loops.{Made}
 use Rattle.line_map.specs.Way.{at, place_goes, way}
 use Rattle.line_map.proofs.place_map.carried_places.Given as goal
 
--- what is left of the entries, and what those so far have made
 abbrev pub invariant-loop-from : goal.invariant-loop-from
-invariant-loop-from g l =
-    (map deref_pair l.yielded ++ l.from-iterator ≡ entries l.fn.map) × (l.made ≡ from_entries (filter_map (entry_made (place_goes (way l.fn.route)) (λ p q x. Some (g.F.Follower.carry_of (at (way l.fn.route) p q) x))) (map deref_pair l.yielded)))
+invariant-loop-from g l = Made deref_pair (place_goes (way l.fn.route)) (λ p q x. Some (g.F.Follower.carry_of (at (way l.fn.route) p q) x)) l.fn.map l.yielded l.from-iterator l.made

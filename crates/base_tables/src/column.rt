@@ -1,4 +1,4 @@
-ghost use Rattle.std.specs.Prelude.{◌≡◌, ◌<◌, ◌≤◌, ◌*◌, ◌+◌, ◌^◌, ◌++◌, ◌∷◌, [], pos, IfOk, OnOk, IfSome, IsOkUnless, string_bytes, option_map, length, nat_le, map, Some, ◌&&◌, true, if◌then◌else◌};
+ghost use Rattle.std.specs.Prelude.{◌≡◌, ◌<◌, ◌≤◌, ◌*◌, ◌+◌, ◌^◌, ◌++◌, ◌∷◌, [], pos, IfOk, OnOk, IfSome, IsOkUnless, string_bytes, option_map, length, map, Some, ◌&&◌, true, if◌then◌else◌};
 ghost use Rattle.std.specs.List.{list_all};
 ghost use Rattle.std.specs.Char.{to_ascii_uppercase};
 ghost use Rattle.base_values.specs.declared.error.EditError.TheVariants.{NoMemory};

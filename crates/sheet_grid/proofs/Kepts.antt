@@ -1,5 +1,5 @@
--- Maps of cells whose numbers are kept.
-use Rattle.std.proofs.Common.{◌≡◌, Bool, true, false, cond, Option, Result, Ok, Err, sym, subst}
+-- Maps of cells whose numbers are kept, and their arrays.
+use Rattle.std.proofs.Common.{◌≡◌, Bool, true, false, cond, Option, Result, Ok, Err, ap, sym, subst, ◌∙◌}
 use Rattle.std.specs.Prelude.{IfSome, OnOk, OnErr}
 use Rattle.std.specs.Ordering.{eq_by_cmp}
 use Rattle.std.specs.FinMap as fin
@@ -9,11 +9,15 @@ use Rattle.base_values.specs.declared.Position.{Position}
 use Rattle.base_values.specs.KeyMap.{with_entry}
 use Rattle.base_values.specs.laws.KeyMap.{get-with_entry}
 use Rattle.base_values.specs.Places.{position_cmp}
-use Rattle.base_values.specs.laws.Places.{position_total}
+use Rattle.base_values.specs.laws.Places.{position_total, exact_positions}
+use Rattle.base_axis.specs.declared.MergedCell.{MergedCell}
+use Rattle.sheet_grid.specs.ArrayIndex.{IsIndexed, arrays_by_place, large_array_of}
+use Rattle.sheet_grid.specs.Arrays.{large_array_at}
+use Rattle.sheet_grid.proofs.Indexes.{index-empty, index-put}
 use Rattle.sheet_grid.specs.declared.cell.Cell.{Cell}
 use Rattle.sheet_grid.specs.KeptCell.{IsKeptCell, KeptCells}
 
-pub kept_empty : KeptCells fin.empty
+kept_empty : KeptCells fin.empty
 kept_empty place = subst (λ o. IfSome o IsKeptCell) (sym (fin.get-empty position_cmp place)) tt
 
 kept_put : (cells : FinMap position_cmp Cell) (place : Position) (entry : Option Cell) → KeptCells cells → IfSome entry IsKeptCell → KeptCells (with_entry cells place entry)
@@ -23,8 +27,20 @@ kept_put cells place entry kept one q = subst (λ o. IfSome o IsKeptCell) (sym (
     either true = one
     either false = kept q
 
--- after a put that may have failed
-pub kept_after : (result : Result (Unit {0}) EditError) (old new : FinMap position_cmp Cell) (place : Position) (entry : Option Cell)
-    → KeptCells old → IfSome entry IsKeptCell → OnOk result (new ≡ with_entry old place entry) → OnErr result (new ≡ old) → KeptCells new
-kept_after (Ok done) old new place entry kept one ok err = subst KeptCells (sym ok) (kept_put old place entry kept one)
-kept_after (Err error) old new place entry kept one ok err = subst KeptCells (sym err) kept
+-- no cells have no arrays
+pub indexed_empty : IsIndexed fin.empty fin.empty
+indexed_empty = record { kept = kept_empty; index = sym (index-empty position_cmp (λ place cell. large_array_at place cell.content) position_total exact_positions) }
+
+-- the index after a put that may have failed
+pub indexed_after : (result : Result (Unit {0}) EditError) (old new : FinMap position_cmp Cell) (before after : FinMap position_cmp MergedCell) (place : Position) (entry : Option Cell)
+    → IsIndexed old before → IfSome entry IsKeptCell → OnOk result (new ≡ with_entry old place entry) → OnOk result (after ≡ with_entry before place (large_array_of place entry))
+    → OnErr result (new ≡ old) → OnErr result (after ≡ before) → IsIndexed new after
+indexed_after (Ok done) old new before after place entry is one cells arrays cells_stay arrays_stay = record {
+  kept = subst KeptCells (sym cells) (kept_put old place entry is.kept one);
+  index = arrays ∙ ap (λ m. with_entry m place (large_array_of place entry)) is.index
+      ∙ sym (index-put position_cmp (λ place cell. large_array_at place cell.content) position_total exact_positions old place entry) ∙ ap arrays_by_place (sym cells);
+}
+indexed_after (Err error) old new before after place entry is one cells arrays cells_stay arrays_stay = record {
+  kept = subst KeptCells (sym cells_stay) is.kept;
+  index = arrays_stay ∙ is.index ∙ ap arrays_by_place (sym cells_stay);
+}

@@ -1,4 +1,5 @@
 mod BookLemmas
+mod Indexes
 mod Kepts
 mod LineLemmas
 mod Rectangles

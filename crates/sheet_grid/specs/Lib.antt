@@ -1,3 +1,4 @@
+pub mod ArrayIndex
 pub mod Arrays
 pub mod Book
 pub mod Computed

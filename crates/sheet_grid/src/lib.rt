@@ -7,6 +7,7 @@
 
 mod arrays;
 mod cell;
+mod cell_map;
 mod column_attr;
 mod computed;
 mod default_style;

@@ -1,4 +1,4 @@
-ghost use Rattle.std.specs.Prelude.{◌≡◌, ◌≢◌, [], None, Ok, Err, IfOk, IfSome, IsTrue, All};
+ghost use Rattle.std.specs.Prelude.{◌≡◌, ◌≢◌, [], None, Ok, Err, IfOk, IfSome, IsTrue, All, map};
 ghost use Rattle.std.specs.FinMap as fin;
 ghost use Rattle.base_values.specs.Answers.{Returns, Changes};
 ghost use Rattle.base_values.specs.declared.EditError.TheVariants.{NoMemory};
@@ -8,6 +8,7 @@ ghost use Rattle.formula_tree.specs.Numbers.{has_kept_numbers};
 ghost use Rattle.cell_content.specs.KeptContent.{IsKeptContent};
 ghost use Rattle.sheet_grid.specs.Dimension.{IsLeastRectangle, IsRectangle, first_place, extents_of};
 ghost use Rattle.sheet_grid.specs.KeptCell.{IsKeptCell};
+ghost use Rattle.sheet_grid.specs.Arrays.{large_arrays_of};
 ghost use Rattle.sheet_grid.specs.Sheet.{Sheet, new_sheet, cell_at, cell_put, content_put, content_cleared};
 ghost use Rattle.cell_content.specs.declared.Content.TheVariants.{Empty, Number, Boolean, Error as ErrorValue, Text as TextValue, Formula, Dynamic, Array};
 
@@ -18,11 +19,12 @@ mod sizes;
 mod styles;
 
 use crate::cell::Cell;
+use crate::cell_map::CellMap;
 use crate::dimension::WorksheetDimension;
 use crate::line_attr::LineAttr;
 use crate::link::Link;
 use crate::state::SheetState;
-use base_axis::{AxisMap, ColumnAxis, MergeList, RowAxis};
+use base_axis::{AxisMap, ColumnAxis, MergeList, MergedCell, RowAxis};
 use base_decimal::Decimal;
 use base_shared::Shared;
 use base_styles::{Color, Style};
@@ -45,7 +47,7 @@ pub struct Worksheet {
     show_grid_lines: bool,
     frozen_rows: i32,
     frozen_columns: i32,
-    cells: PlaceMap<Shared<Cell>>,
+    cells: CellMap,
     links: PlaceMap<Link>,
     rows: AxisMap<RowAxis, LineAttr>,
     columns: AxisMap<ColumnAxis, LineAttr>,
@@ -53,7 +55,6 @@ pub struct Worksheet {
 }
 
 impl Model for Worksheet {
-    ghost use Rattle.sheet_grid.specs.KeptCell.{KeptCells};
     ghost use Rattle.sheet_grid.specs.Sheet.{Sheet};
     ghost use Rattle.std.specs.Coded.{codes};
     ghost use Rattle.std.specs.FinMap as fin;
@@ -93,8 +94,6 @@ impl Model for Worksheet {
       columns = s.columns;
       merges = s.merges;
     } };
-
-    ghost invariant = { λ s. KeptCells s.cells };
 }
 
 impl Worksheet {
@@ -117,7 +116,7 @@ impl Worksheet {
             show_grid_lines: true,
             frozen_rows: 0,
             frozen_columns: 0,
-            cells: PlaceMap::new(alloc),
+            cells: CellMap::new(alloc),
             links: PlaceMap::new(alloc),
             rows: AxisMap::new(alloc),
             columns: AxisMap::new(alloc),
@@ -179,7 +178,7 @@ impl Worksheet {
         ensures entries { result ≡ fin.entries self.now.cells }
         ensures inside { All (λ entry. IsPlace entry.0) result }
     {
-        self.cells.iter()
+        self.cells.as_map().iter()
     }
 
     /// A copy of the cell at a row and a column, if there is one.
@@ -190,7 +189,7 @@ impl Worksheet {
         ensures kept { IfOk result (λ found. IfSome found IsKeptCell) }
     {
         let place = place_of(row, column)?;
-        match self.cells.get(place) {
+        match self.cells.as_map().get(place) {
             Some(cell) => Ok(Some(copy_of(cell.get())?)),
             None => Ok(None),
         }
@@ -205,10 +204,18 @@ impl Worksheet {
         ensures kept { IfOk result (λ found. IfSome found IsKeptCell) }
     {
         let place = place_of(row, column)?;
-        match self.cells.get(place) {
+        match self.cells.as_map().get(place) {
             Some(cell) => Ok(Some(copy_of(cell)?)),
             None => Ok(None),
         }
+    }
+
+    /// The places where arrays of more than one cell stand, by row and then by column, with the
+    /// rectangles that they fill. It takes no memory, and looks at no other cell.
+    pub fn large_arrays(&self) -> Iter<'_, Position, MergedCell>
+        ensures { map (λ array. array.1) result ≡ large_arrays_of self.now }
+    {
+        self.cells.large_arrays()
     }
 
     /// The least rectangle that holds the cells, with or without content, and what arrays fill of

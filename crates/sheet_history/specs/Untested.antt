@@ -1,9 +1,6 @@
 -- Lists whose results need no test: nothing, one link, or one cell that cannot break a rule.
 use Rattle.std.proofs.Common.{Bool, true, false, ◌&&◌, List, [], ◌∷◌, Option, Some, None}
 use Rattle.std.specs.Prelude.{is_none}
-use Rattle.std.specs.List.{list_all}
-use Rattle.std.specs.FinMap.{entries}
-use Rattle.base_axis.specs.declared.MergedCell.{MergedCell}
 use Rattle.base_values.specs.declared.Position.{Position}
 use Rattle.sheet_grid.specs.Arrays.{array_at}
 use Rattle.sheet_grid.specs.declared.Cell.{Cell}
@@ -51,16 +48,3 @@ keeps_rules_back book (LinkDiff id place old new ∷ []) = true
 keeps_rules_back book (MergesDiff id old new ∷ []) = false
 keeps_rules_back book (LinesDiff id axis edit kept ∷ []) = false
 keeps_rules_back book (first ∷ second ∷ rest) = false
-
--- no merges
-abbrev pub has_no_merge : List MergedCell → Bool
-has_no_merge [] = true
-has_no_merge (merge ∷ merges) = false
-
--- a sheet without a merge and without an array
-unfoldable pub shows_all : Sheet → Bool
-shows_all sheet = has_no_merge sheet.merges && list_all (λ (entry : Position × Cell). is_none (array_at entry.0 entry.1.content)) (entries sheet.cells)
-
--- a workbook of such sheets, so that no place is hidden
-abbrev pub hides_nothing : Book → Bool
-hides_nothing book = list_all shows_all book.worksheets

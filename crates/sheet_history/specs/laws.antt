@@ -11,7 +11,6 @@ pub mod BothWays
 pub mod OneEntry
 pub mod ReplayLaws
 pub mod RuleLaws
-pub mod OpenLaws
 pub mod TestedLaws
 pub mod SoundEntries
 pub mod HistoryEquals

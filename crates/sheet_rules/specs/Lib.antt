@@ -1,4 +1,3 @@
-pub mod Compared
 pub mod DefaultParts
 pub mod Distinct
 pub mod Occupied

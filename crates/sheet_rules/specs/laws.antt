@@ -1,4 +1,3 @@
-pub mod ComparedLaws
 pub mod DefaultPartLaws
 pub mod EntryLaws
 pub mod FollowedLists

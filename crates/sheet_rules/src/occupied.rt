@@ -1,23 +1,19 @@
 //! Where the arrays and the merges of a sheet may stand, and what may stand at the places that they
-//! take. Rectangles are compared in pairs, and each of them with each cell, which takes no memory:
-//! merges and arrays of more than one cell are few.
+//! take. Merges and arrays of more than one cell are compared in pairs, which takes no memory: they
+//! are few. Only rules 3 and 5 look at each cell, for its own array and for those that cover it.
 
-ghost use Rattle.std.specs.Prelude.{◌≡◌, false};
+ghost use Rattle.std.specs.Prelude.{◌≡◌, map};
 ghost use Rattle.std.specs.List.{list_all, list_any};
-ghost use Rattle.std.specs.FinMap.{entries};
-ghost use Rattle.std.specs.Option.{option_map_or};
-ghost use Rattle.base_values.specs.declared.Position.{Position};
-ghost use Rattle.base_axis.specs.Rectangles.{is_inside, meets};
-ghost use Rattle.sheet_grid.specs.declared.Cell.{Cell};
-ghost use Rattle.sheet_grid.specs.Arrays.{large_array_at, arrays_of, large_arrays_of};
+ghost use Rattle.base_axis.specs.Rectangles.{is_inside};
+ghost use Rattle.sheet_grid.specs.Arrays.{arrays_of, large_arrays_of};
 ghost use Rattle.sheet_grid.specs.Merges.{is_empty};
-ghost use Rattle.sheet_rules.specs.Compared.{meets_another, stands_apart};
 ghost use Rattle.sheet_rules.specs.Occupied.{are_apart, meets_any, have_arrays, is_merge, have_merges, covers, covers_blanks, are_hidden_blank, is_hidden_place, array_over};
 
 use base_axis::MergedCell;
 use base_values::Position;
 use cell_content::Content;
-use sheet_grid::{Cell, Worksheet, array_at, large_array_at};
+use sheet_grid::{Worksheet, array_at};
+use std::collections::btree_map::Iter;
 
 fn arrays_lie_inside(sheet: &Worksheet) -> bool
     ensures { result ≡ list_all is_inside (arrays_of sheet.now) }
@@ -28,46 +24,27 @@ fn arrays_lie_inside(sheet: &Worksheet) -> bool
         .all(|array| array.is_inside())
 }
 
-/// Whether a rectangle meets the array of more than one cell that stands at a place, if one does.
-fn meets_array(rectangle: MergedCell, other: Position, cell: &Cell) -> bool
-    ensures { result ≡ option_map_or (meets rectangle) (large_array_at other cell.now.content) false }
+/// Whether a rectangle meets one of some arrays.
+fn meets_any_array(arrays: &Iter<'_, Position, MergedCell>, rectangle: MergedCell) -> bool
+    ensures { result ≡ meets_any (map (λ array. array.1) arrays.entry) rectangle }
 {
-    match large_array_at(other, &cell.content) {
-        Some(array) => rectangle.meets(array),
-        None => false,
+    match arrays.clone() {
+        Ok(arrays) => arrays.map(|(_, array)| *array).any(|array| rectangle.meets(array)),
+        Err(_) => unreachable!(),
     }
-}
-
-/// Whether a rectangle meets an array of more than one cell that stands at another place.
-fn meets_another(sheet: &Worksheet, place: Position, rectangle: MergedCell) -> bool
-    ensures { result ≡ meets_another sheet.now place rectangle }
-{
-    sheet.cells().any(|(other, cell)| *other != place && meets_array(rectangle, *other, cell.get()))
-}
-
-fn stands_apart(sheet: &Worksheet, place: Position, cell: &Cell) -> bool
-    ensures { result ≡ stands_apart sheet.now place cell.now }
-{
-    match large_array_at(place, &cell.content) {
-        Some(array) => !meets_another(sheet, place, array),
-        None => true,
-    }
-}
-
-fn each_stands_apart(sheet: &Worksheet) -> bool
-    ensures { result ≡ list_all (λ (entry : Position × Cell). stands_apart sheet.now entry.0 entry.1) (entries sheet.now.cells) }
-{
-    sheet
-        .cells()
-        .all(|(place, cell)| stands_apart(sheet, *place, cell.get()))
 }
 
 /// Whether no two arrays of more than one cell meet.
-#[tactic(auto, using(crate::specs::laws::ComparedLaws::all_stand_apart))]
 fn arrays_are_apart(sheet: &Worksheet) -> bool
     ensures { result ≡ are_apart (large_arrays_of sheet.now) }
 {
-    each_stands_apart(sheet)
+    let mut rest = sheet.large_arrays();
+    while let Some((_, first)) = rest.next() {
+        if meets_any_array(&rest, *first) {
+            return false;
+        }
+    }
+    true
 }
 
 /// Rule 3: each array lies inside the sheet, and no two of more than one cell meet.
@@ -115,8 +92,8 @@ fn arrays_meet_merges(sheet: &Worksheet) -> bool
     ensures { result ≡ list_any (meets_any sheet.now.merges) (large_arrays_of sheet.now) }
 {
     sheet
-        .cells()
-        .filter_map(|(place, cell)| large_array_at(*place, &cell.get().content))
+        .large_arrays()
+        .map(|(_, array)| *array)
         .any(|array| meets_any(sheet.merged_cells(), array))
 }
 
@@ -163,8 +140,8 @@ fn arrays_cover_blanks(sheet: &Worksheet) -> bool
     ensures { result ≡ list_all (covers_blanks sheet.now) (large_arrays_of sheet.now) }
 {
     sheet
-        .cells()
-        .filter_map(|(place, cell)| large_array_at(*place, &cell.get().content))
+        .large_arrays()
+        .map(|(_, array)| *array)
         .all(|array| covers_blanks(sheet, array))
 }
 
@@ -189,13 +166,14 @@ fn is_array_child(sheet: &Worksheet, place: Position) -> bool
     ensures { result ≡ list_any (λ array. covers array place) (large_arrays_of sheet.now) }
 {
     sheet
-        .cells()
-        .filter_map(|(other, cell)| large_array_at(*other, &cell.get().content))
+        .large_arrays()
+        .map(|(_, array)| *array)
         .any(|array| covers(array, place))
 }
 
 /// Whether no content may stand at a place: a merge or an array holds it and begins elsewhere. It
-/// looks at each cell, and takes no memory. docs/MODEL.md has the rule.
+/// looks at the merges and at the arrays of more than one cell alone, and takes no memory.
+/// docs/MODEL.md has the rule.
 #[tactic(auto, unfolding(crate::specs::Occupied::is_hidden_place))]
 pub fn is_hidden_place(sheet: &Worksheet, place: Position) -> bool
     ensures { result ≡ is_hidden_place sheet.now place }
@@ -204,12 +182,12 @@ pub fn is_hidden_place(sheet: &Worksheet, place: Position) -> bool
 }
 
 /// The first array of more than one cell, by row and then by column, that holds a place; the place
-/// where the array stands counts. It looks at each cell, and takes no memory.
+/// where the array stands counts. It looks at such arrays alone, and takes no memory.
 pub fn array_over(sheet: &Worksheet, place: Position) -> Option<MergedCell>
     ensures { result ≡ array_over sheet.now place }
 {
     sheet
-        .cells()
-        .filter_map(|(other, cell)| large_array_at(*other, &cell.get().content))
+        .large_arrays()
+        .map(|(_, array)| *array)
         .find(|array| array.holds(place))
 }

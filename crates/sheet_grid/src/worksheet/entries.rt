@@ -8,6 +8,7 @@ ghost use Rattle.sheet_grid.specs.KeptCell.{KeptCells};
 
 use super::Worksheet;
 use crate::cell::Cell;
+use crate::cell_map::CellMap;
 use crate::line_attr::LineAttr;
 use crate::link::Link;
 use base_axis::{AxisMap, ColumnAxis, MergeList, RowAxis};
@@ -20,7 +21,7 @@ impl Worksheet {
         ensures map { result.now ≡ self.now.cells }
         ensures kept { KeptCells result.now }
     {
-        &self.cells
+        self.cells.as_map()
     }
 
     /// The links by their places.
@@ -48,7 +49,7 @@ impl Worksheet {
     pub fn cell_keys(&self) -> Result<Items<Position>, EditError>
         ensures { Returns result (Ok (fin.keys self.now.cells)) }
     {
-        self.cells.places(self.name.allocator())
+        self.cells.as_map().places(self.name.allocator())
     }
 
     /// The places of the links, by row and then by column. `NoMemory` alone is an error.
@@ -74,7 +75,7 @@ impl Worksheet {
     }
 
     /// A copy of the sheet that holds these in place of its own cells, links, rows, columns and
-    /// merges. `NoMemory` alone is an error.
+    /// merges. The arrays among the cells are found in one pass. `NoMemory` alone is an error.
     pub fn with_entries(
         &self,
         cells: PlaceMap<Shared<Cell>>,
@@ -87,6 +88,7 @@ impl Worksheet {
         ensures sheet { IfOk result (λ sheet. sheet ≡ record self.now { cells = cells; links = links; rows = rows; columns = columns; merges = merges }) }
         ensures only { IsOkUnless result NoMemory }
     {
+        let alloc = self.name.allocator();
         Ok(Worksheet {
             id: self.id,
             name: copy_of(&self.name)?,
@@ -95,7 +97,7 @@ impl Worksheet {
             show_grid_lines: self.show_grid_lines,
             frozen_rows: self.frozen_rows,
             frozen_columns: self.frozen_columns,
-            cells,
+            cells: CellMap::from_cells(alloc, cells)?,
             links,
             rows,
             columns,

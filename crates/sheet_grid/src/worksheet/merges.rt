@@ -95,6 +95,6 @@ impl Worksheet {
         ensures { result ≡ blank_at self.now row column }
     {
         let place = place_of(row, column)?;
-        Ok(is_blank_entry(self.cells.get(place)))
+        Ok(is_blank_entry(self.cells.as_map().get(place)))
     }
 }

@@ -38,7 +38,7 @@ impl Worksheet {
     fn own_style(&self, place: Position) -> Option<&Shared<Style>>
         ensures { option_copied result ≡ own_style self.now place }
     {
-        match self.cells.get(place) {
+        match self.cells.as_map().get(place) {
             Some(cell) => Some(&cell.get().style),
             None => self.line_style(place),
         }

@@ -14,8 +14,7 @@ use Rattle.sheet_lines.specs.Sheets.{sheet_of}
 use Rattle.sheet_history.specs.Entries.{EntryKey, EntryValue, sheet_id_of, value_fits, put_entry, accepts}
 use Rattle.sheet_history.specs.Entries.EntryKey.{CellKey, LinkKey}
 use Rattle.sheet_history.specs.Entries.EntryValue.{CellValue, LinkValue}
-use Rattle.sheet_history.specs.Untested.{cell_keeps_rules, entry_has_font, may_stand_on, keeps_rules, keeps_rules_back, hides_nothing}
-use Rattle.sheet_history.specs.laws.OpenLaws.{open-cell, open-link}
+use Rattle.sheet_history.specs.Untested.{cell_keeps_rules, entry_has_font, may_stand_on, keeps_rules, keeps_rules_back}
 use Rattle.sheet_history.specs.laws.RuleLaws.{well_formed-cell, well_formed-link}
 use Rattle.sheet_history.specs.declared.diff.Diff.{Diff}
 use Rattle.sheet_history.specs.declared.diff.Diff.TheVariants.{Cell as CellDiff, Link as LinkDiff, Merges as MergesDiff, Lines as LinesDiff}
@@ -51,19 +50,6 @@ link_rules : (at : ℕ) (book : Book) (id : ℕ) (place : Position) (entry : Opt
 link_rules at book id place entry next rules is =
     let done = put_in-done at book (LinkKey id place) (LinkValue entry) next is in
     subst IsWellFormed done.1 (well_formed-link book id place entry rules (fits_of book (LinkKey id place) (LinkValue entry) done.0))
-
--- where no place was hidden, none is
-cell_open : (at : ℕ) (book : Book) (id : ℕ) (place : Position) (entry : Option Cell) (next : Book) → cell_keeps_rules (sheet_of book id) place entry ≡ true → hides_nothing book ≡ true
-    → put_in at book (CellKey id place) (CellValue entry) ≡ Ok next → hides_nothing next ≡ true
-cell_open at book id place entry next keeps shown is =
-    let done = put_in-done at book (CellKey id place) (CellValue entry) next is in
-    let parts = both (entry_has_font entry) (may_stand_on (sheet_of book id) place entry) keeps in
-    subst (λ (b : Book). hides_nothing b ≡ true) done.1 (open-cell book id place entry parts.1 shown)
-
-link_open : (at : ℕ) (book : Book) (id : ℕ) (place : Position) (entry : Option Link) (next : Book) → hides_nothing book ≡ true
-    → put_in at book (LinkKey id place) (LinkValue entry) ≡ Ok next → hides_nothing next ≡ true
-link_open at book id place entry next shown is =
-    subst (λ (b : Book). hides_nothing b ≡ true) (put_in-done at book (LinkKey id place) (LinkValue entry) next is).1 (open-link book id place entry shown)
 
 -- a workbook that breaks no rule passes
 pub by_rule-kept : (at : ℕ) (book : Book) → IsWellFormed book → by_rule at book (broken_rule book) ≡ Ok book
@@ -103,23 +89,6 @@ taken_back_rules book (LinkDiff id place old new ∷ []) keeps rules next is = l
 taken_back_rules book (MergesDiff id old new ∷ []) keeps rules next is = absurd (cc)
 taken_back_rules book (LinesDiff id axis edit kept ∷ []) keeps rules next is = absurd (cc)
 taken_back_rules book (first ∷ second ∷ rest) keeps rules next is = absurd (cc)
-
--- where no place was hidden before such a list, none is after it
-pub made_open : (book : Book) (diffs : List Diff) → keeps_rules book diffs ≡ true → hides_nothing book ≡ true → (next : Book) → made book diffs ≡ Ok next → hides_nothing next ≡ true
-made_open book [] keeps shown next is = subst (λ (b : Book). hides_nothing b ≡ true) (same_of book next is) shown
-made_open book (CellDiff id place old new ∷ []) keeps shown next is = cell_open 0 book id place new next keeps shown (sym (and_then-Ok _) ∙ is)
-made_open book (LinkDiff id place old new ∷ []) keeps shown next is = link_open 0 book id place new next shown (sym (and_then-Ok _) ∙ is)
-made_open book (MergesDiff id old new ∷ []) keeps shown next is = absurd (cc)
-made_open book (LinesDiff id axis edit kept ∷ []) keeps shown next is = absurd (cc)
-made_open book (first ∷ second ∷ rest) keeps shown next is = absurd (cc)
-
-pub taken_back_open : (book : Book) (diffs : List Diff) → keeps_rules_back book diffs ≡ true → hides_nothing book ≡ true → (next : Book) → taken_back book diffs ≡ Ok next → hides_nothing next ≡ true
-taken_back_open book [] keeps shown next is = subst (λ (b : Book). hides_nothing b ≡ true) (same_of book next is) shown
-taken_back_open book (CellDiff id place old new ∷ []) keeps shown next is = cell_open 0 book id place old next keeps shown is
-taken_back_open book (LinkDiff id place old new ∷ []) keeps shown next is = link_open 0 book id place old next shown is
-taken_back_open book (MergesDiff id old new ∷ []) keeps shown next is = absurd (cc)
-taken_back_open book (LinesDiff id axis edit kept ∷ []) keeps shown next is = absurd (cc)
-taken_back_open book (first ∷ second ∷ rest) keeps shown next is = absurd (cc)
 
 -- the result of such a list needs no test
 pub forwarded-made : (book : Book) (diffs : List Diff) → keeps_rules book diffs ≡ true → IsWellFormed book → forwarded book diffs ≡ made book diffs

@@ -32,6 +32,17 @@ fn set_formulas(sheet: &mut Worksheet, style: &Shared<Style>) -> Result<(), Edit
     Ok(())
 }
 
+/// An array, one in its place of another size, and one that a boolean takes the place of.
+fn set_arrays(sheet: &mut Worksheet, style: &Shared<Style>) -> Result<(), EditError> {
+    for (row, width, height) in [(3, 2, 1), (3, 1, 2), (4, 2, 2)] {
+        let tree = Node::EmptyArgument;
+        if has_kept_numbers(&tree) {
+            sheet.set_cell_with_array_formula(row, 1, tree, style, width, height)?;
+        }
+    }
+    sheet.set_cell_with_boolean(4, 1, true, style)
+}
+
 /// A link, a row with a height and a column with a style.
 fn put_lines(sheet: &mut Worksheet, alloc: Global, style: Shared<Style>) -> Result<(), EditError> {
     let target = Text::new(String::from_str(alloc, "https://example.org")?);
@@ -54,6 +65,7 @@ fn fill(sheet: &mut Worksheet, alloc: Global) -> Result<(), EditError> {
     let style = Shared::new(alloc, Style::new(alloc)?)?;
     set_values(sheet, &style)?;
     set_formulas(sheet, &style)?;
+    set_arrays(sheet, &style)?;
     put_lines(sheet, alloc, style)
 }
 
@@ -62,7 +74,8 @@ fn fill(sheet: &mut Worksheet, alloc: Global) -> Result<(), EditError> {
 fn sheets_with_ample_memory(rt: HostRuntime) -> Result<(), Fail> {
     let mut sheet = Worksheet::new(rt.alloc(), 1, "one")?;
     fill(&mut sheet, rt.alloc())?;
-    assert_eq!(rt; sheet.cells().count(), 6);
+    assert_eq!(rt; sheet.cells().count(), 8);
+    assert_eq!(rt; sheet.large_arrays().count(), 1);
     assert_eq!(rt; sheet.links().count(), 1);
     assert_eq!(rt; sheet.rows().count(), 1);
     assert_eq!(rt; sheet.columns().count(), 1);

@@ -15,5 +15,4 @@ loop-index-preserved c =
       sym (replayed_from-drop at c.loop-index.workbook c.args.queue.now at entry within c.index-queue-index.is ∙ ap (λ r. and_then r (λ next. replayed_from (at + 1) next (drop (at + 1) c.args.queue.now))) followed)
           ∙ c.loop-index.invariant.1,
       c.follow_by_rule.ensures.rules,
-      c.follow_by_rule.ensures.shown,
     )

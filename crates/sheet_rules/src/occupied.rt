@@ -28,7 +28,9 @@ fn arrays_lie_inside(sheet: &Worksheet) -> bool
 fn meets_one(arrays: Iter<'_, Position, MergedCell>, rectangle: MergedCell) -> bool
     ensures { result ≡ meets_any (map (λ array. array.1) arrays.entry) rectangle }
 {
-    arrays.map(|(_, array)| *array).any(|array| rectangle.meets(array))
+    arrays
+        .map(|(_, array)| *array)
+        .any(|array| rectangle.meets(array))
 }
 
 /// The same of arrays that are still to be listed.
@@ -40,7 +42,6 @@ fn meets_later(arrays: &Iter<'_, Position, MergedCell>, rectangle: MergedCell) -
         Err(_) => unreachable!(),
     }
 }
-
 
 /// Whether no two arrays of more than one cell meet.
 fn arrays_are_apart(sheet: &Worksheet) -> bool
@@ -99,7 +100,9 @@ fn merges_are_apart(merges: &[MergedCell]) -> bool
 fn one_meets(arrays: Iter<'_, Position, MergedCell>, merges: &[MergedCell]) -> bool
     ensures { result ≡ list_any (meets_any merges.now) (map (λ array. array.1) arrays.entry) }
 {
-    arrays.map(|(_, array)| *array).any(|array| meets_any(merges, array))
+    arrays
+        .map(|(_, array)| *array)
+        .any(|array| meets_any(merges, array))
 }
 
 /// Whether an array of more than one cell meets a merge.
@@ -152,7 +155,9 @@ fn merges_cover_blanks(sheet: &Worksheet) -> bool
 fn each_covers_blanks(sheet: &Worksheet, arrays: Iter<'_, Position, MergedCell>) -> bool
     ensures { result ≡ list_all (covers_blanks sheet.now) (map (λ array. array.1) arrays.entry) }
 {
-    arrays.map(|(_, array)| *array).all(|array| covers_blanks(sheet, array))
+    arrays
+        .map(|(_, array)| *array)
+        .all(|array| covers_blanks(sheet, array))
 }
 
 fn arrays_cover_blanks(sheet: &Worksheet) -> bool
@@ -182,7 +187,9 @@ fn is_merged_away(sheet: &Worksheet, place: Position) -> bool
 fn one_covers(arrays: Iter<'_, Position, MergedCell>, place: Position) -> bool
     ensures { result ≡ list_any (λ array. covers array place) (map (λ array. array.1) arrays.entry) }
 {
-    arrays.map(|(_, array)| *array).any(|array| covers(array, place))
+    arrays
+        .map(|(_, array)| *array)
+        .any(|array| covers(array, place))
 }
 
 fn is_array_child(sheet: &Worksheet, place: Position) -> bool
@@ -205,7 +212,9 @@ pub fn is_hidden_place(sheet: &Worksheet, place: Position) -> bool
 fn first_holding(arrays: Iter<'_, Position, MergedCell>, place: Position) -> Option<MergedCell>
     ensures { result ≡ find (λ array. holds array place) (map (λ array. array.1) arrays.entry) }
 {
-    arrays.map(|(_, array)| *array).find(|array| array.holds(place))
+    arrays
+        .map(|(_, array)| *array)
+        .find(|array| array.holds(place))
 }
 
 /// The first array of more than one cell, by row and then by column, that holds a place; the place

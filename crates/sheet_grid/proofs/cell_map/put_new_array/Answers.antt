@@ -15,6 +15,6 @@ returns-then-is_err-clause-arrays_stay c =
     let old = c.args.arrays.now in
     let place = c.args.place in
     on_err c.put-put.result _ (
-      c.remove-array.ensures.removed ∙ ap (λ m. remove m place) c.in_ok-_before.ensures.ok
-      ∙ subst (λ o. with_entry (with_entry old place (Some c.args.array)) place o ≡ old) c.requires.new (with_entry-back position_total exact_positions old place (Some c.args.array))
+    c.remove-array.ensures.removed ∙ ap (λ m. remove m place) c.in_ok-_before.ensures.ok
+    ∙ subst (λ o. with_entry (with_entry old place (Some c.args.array)) place o ≡ old) c.requires.new (with_entry-back position_total exact_positions old place (Some c.args.array))
     )

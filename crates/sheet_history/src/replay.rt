@@ -59,12 +59,7 @@ fn may_stand(sheet: &Worksheet, place: Position, entry: &Option<Shared<Cell>>) -
 }
 
 /// The same of the sheet of an id, if it is there.
-fn may_stand_on(
-    workbook: &Workbook,
-    id: u32,
-    place: Position,
-    entry: &Option<Shared<Cell>>,
-) -> bool
+fn may_stand_on(workbook: &Workbook, id: u32, place: Position, entry: &Option<Shared<Cell>>) -> bool
     ensures { result ≡ may_stand_on (sheet_of workbook.now id) place entry.now }
 {
     match sheet_of(workbook, id) {
@@ -126,11 +121,7 @@ fn keeps_rules_back(workbook: &Workbook, list: &DiffList) -> bool
 }
 
 /// Makes the changes of a list in a well-formed workbook, and tests the result where it has to.
-fn follow_forward(
-    alloc: Global,
-    workbook: &mut Workbook,
-    list: &DiffList,
-) -> Result<(), EditError>
+fn follow_forward(alloc: Global, workbook: &mut Workbook, list: &DiffList) -> Result<(), EditError>
     requires kept { IsKeptList list.now }
     requires rules { IsWellFormed workbook.old }
     ensures { Edits result workbook.old workbook.new (forwarded workbook.old list.now) }
@@ -144,11 +135,7 @@ fn follow_forward(
 
 /// Takes the changes of a list back in a well-formed workbook, and tests the result where it has
 /// to.
-fn follow_back(
-    alloc: Global,
-    workbook: &mut Workbook,
-    list: &DiffList,
-) -> Result<(), EditError>
+fn follow_back(alloc: Global, workbook: &mut Workbook, list: &DiffList) -> Result<(), EditError>
     requires kept { IsKeptList list.now }
     requires rules { IsWellFormed workbook.old }
     ensures { Edits result workbook.old workbook.new (backed workbook.old list.now) }

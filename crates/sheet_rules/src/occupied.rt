@@ -3,8 +3,8 @@
 //! are few. Only rules 3 and 5 look at each cell, for its own array and for those that cover it.
 
 ghost use Rattle.std.specs.Prelude.{◌≡◌, map};
-ghost use Rattle.std.specs.List.{list_all, list_any};
-ghost use Rattle.base_axis.specs.Rectangles.{is_inside};
+ghost use Rattle.std.specs.List.{find, list_all, list_any};
+ghost use Rattle.base_axis.specs.Rectangles.{holds, is_inside};
 ghost use Rattle.sheet_grid.specs.Arrays.{arrays_of, large_arrays_of};
 ghost use Rattle.sheet_grid.specs.Merges.{is_empty};
 ghost use Rattle.sheet_rules.specs.Occupied.{are_apart, meets_any, have_arrays, is_merge, have_merges, covers, covers_blanks, are_hidden_blank, is_hidden_place, array_over};
@@ -24,12 +24,21 @@ fn arrays_lie_inside(sheet: &Worksheet) -> bool
         .all(|array| array.is_inside())
 }
 
-/// Whether a rectangle meets one of some arrays.
-fn meets_any_array(arrays: &Iter<'_, Position, MergedCell>, rectangle: MergedCell) -> bool
+/// Whether a rectangle meets one of some arrays, as a sheet lists them.
+fn meets_one(arrays: Iter<'_, Position, MergedCell>, rectangle: MergedCell) -> bool
     ensures { result ≡ meets_any (map (λ array. array.1) arrays.entry) rectangle }
 {
+    arrays
+        .map(|(_, array)| *array)
+        .any(|array| rectangle.meets(array))
+}
+
+/// The same of arrays that are still to be listed.
+fn meets_later(arrays: &Iter<'_, Position, MergedCell>, rectangle: MergedCell) -> bool
+    ensures { result ≡ meets_any (map (λ array. array.1) arrays.now) rectangle }
+{
     match arrays.clone() {
-        Ok(arrays) => arrays.map(|(_, array)| *array).any(|array| rectangle.meets(array)),
+        Ok(arrays) => meets_one(arrays, rectangle),
         Err(_) => unreachable!(),
     }
 }
@@ -40,7 +49,7 @@ fn arrays_are_apart(sheet: &Worksheet) -> bool
 {
     let mut rest = sheet.large_arrays();
     while let Some((_, first)) = rest.next() {
-        if meets_any_array(&rest, *first) {
+        if meets_later(&rest, *first) {
             return false;
         }
     }
@@ -87,14 +96,20 @@ fn merges_are_apart(merges: &[MergedCell]) -> bool
     true
 }
 
+/// Whether one of some arrays meets a merge.
+fn one_meets(arrays: Iter<'_, Position, MergedCell>, merges: &[MergedCell]) -> bool
+    ensures { result ≡ list_any (meets_any merges.now) (map (λ array. array.1) arrays.entry) }
+{
+    arrays
+        .map(|(_, array)| *array)
+        .any(|array| meets_any(merges, array))
+}
+
 /// Whether an array of more than one cell meets a merge.
 fn arrays_meet_merges(sheet: &Worksheet) -> bool
     ensures { result ≡ list_any (meets_any sheet.now.merges) (large_arrays_of sheet.now) }
 {
-    sheet
-        .large_arrays()
-        .map(|(_, array)| *array)
-        .any(|array| meets_any(sheet.merged_cells(), array))
+    one_meets(sheet.large_arrays(), sheet.merged_cells())
 }
 
 /// Rule 4: each merge has two cells or more and lies inside the sheet, no two meet, and none meets
@@ -136,13 +151,19 @@ fn merges_cover_blanks(sheet: &Worksheet) -> bool
         .all(|merge| covers_blanks(sheet, *merge))
 }
 
+/// Whether each cell that one of some arrays covers is without content.
+fn each_covers_blanks(sheet: &Worksheet, arrays: Iter<'_, Position, MergedCell>) -> bool
+    ensures { result ≡ list_all (covers_blanks sheet.now) (map (λ array. array.1) arrays.entry) }
+{
+    arrays
+        .map(|(_, array)| *array)
+        .all(|array| covers_blanks(sheet, array))
+}
+
 fn arrays_cover_blanks(sheet: &Worksheet) -> bool
     ensures { result ≡ list_all (covers_blanks sheet.now) (large_arrays_of sheet.now) }
 {
-    sheet
-        .large_arrays()
-        .map(|(_, array)| *array)
-        .all(|array| covers_blanks(sheet, array))
+    each_covers_blanks(sheet, sheet.large_arrays())
 }
 
 /// Rule 5: the cells that merges and arrays cover are without content.
@@ -162,13 +183,19 @@ fn is_merged_away(sheet: &Worksheet, place: Position) -> bool
         .any(|merge| covers(*merge, place))
 }
 
+/// Whether one of some arrays covers a place.
+fn one_covers(arrays: Iter<'_, Position, MergedCell>, place: Position) -> bool
+    ensures { result ≡ list_any (λ array. covers array place) (map (λ array. array.1) arrays.entry) }
+{
+    arrays
+        .map(|(_, array)| *array)
+        .any(|array| covers(array, place))
+}
+
 fn is_array_child(sheet: &Worksheet, place: Position) -> bool
     ensures { result ≡ list_any (λ array. covers array place) (large_arrays_of sheet.now) }
 {
-    sheet
-        .large_arrays()
-        .map(|(_, array)| *array)
-        .any(|array| covers(array, place))
+    one_covers(sheet.large_arrays(), place)
 }
 
 /// Whether no content may stand at a place: a merge or an array holds it and begins elsewhere. It
@@ -181,13 +208,19 @@ pub fn is_hidden_place(sheet: &Worksheet, place: Position) -> bool
     is_merged_away(sheet, place) || is_array_child(sheet, place)
 }
 
+/// The first of some arrays that holds a place.
+fn first_holding(arrays: Iter<'_, Position, MergedCell>, place: Position) -> Option<MergedCell>
+    ensures { result ≡ find (λ array. holds array place) (map (λ array. array.1) arrays.entry) }
+{
+    arrays
+        .map(|(_, array)| *array)
+        .find(|array| array.holds(place))
+}
+
 /// The first array of more than one cell, by row and then by column, that holds a place; the place
 /// where the array stands counts. It looks at such arrays alone, and takes no memory.
 pub fn array_over(sheet: &Worksheet, place: Position) -> Option<MergedCell>
     ensures { result ≡ array_over sheet.now place }
 {
-    sheet
-        .large_arrays()
-        .map(|(_, array)| *array)
-        .find(|array| array.holds(place))
+    first_holding(sheet.large_arrays(), place)
 }

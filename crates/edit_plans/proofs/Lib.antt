@@ -1,0 +1,3 @@
+mod LineCounts
+mod Counting
+mod Widened

@@ -22,6 +22,7 @@ use std::alloc::Global;
 /// The place at a row and a column, which a merge holds. It takes no memory.
 fn merged_place(sheet: &Worksheet, row: i32, column: i32) -> Result<Position, EditError>
     ensures place { map_ok (λ place. without_merge sheet.now place) result ≡ and_then (place_of row column) (λ place. unmerged_at sheet.now place (merge_holding sheet.now.merges place)) }
+    ensures named { IfOk result (λ place. place_of row column ≡ Ok place) }
     ensures sure { result ≢ Err NoMemory }
 {
     let place = place_of(row, column)?;

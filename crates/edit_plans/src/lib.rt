@@ -2,6 +2,11 @@
 //! its change, and changes nothing. `specs/Edits.antt` has what each edit changes.
 #![tactic(auto)]
 
+mod blanked;
 mod hidden;
+mod merge;
+mod unmerge;
 
 pub use hidden::grown_delta;
+pub use merge::plan_merge;
+pub use unmerge::plan_unmerge;

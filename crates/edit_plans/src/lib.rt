@@ -1,3 +1,10 @@
 //! Edits of a workbook as plans: each tests its refusals in their order and returns the record of
 //! its change, and changes nothing. `specs/Edits.antt` has what each edit changes.
 #![tactic(auto)]
+
+mod input;
+mod link;
+mod list;
+
+pub use input::plan_input;
+pub use link::plan_link;

@@ -3,8 +3,13 @@
 #![tactic(auto)]
 
 mod blanked;
+mod input;
+mod link;
+mod list;
 mod merge;
 mod unmerge;
 
+pub use input::plan_input;
+pub use link::plan_link;
 pub use merge::plan_merge;
 pub use unmerge::plan_unmerge;

@@ -16,13 +16,12 @@ use Rattle.sheet_grid.specs.declared.Cell.{Cell}
 use Rattle.sheet_grid.specs.Arrays.{large_array_at, large_arrays_of}
 use Rattle.sheet_grid.specs.Merges.{is_empty, merge_holding}
 use Rattle.sheet_grid.specs.Sheet.{Sheet}
-use Rattle.sheet_grid.specs.Book.{Book, with_sheet}
+use Rattle.sheet_grid.specs.Book.{Book, sheet_at, with_sheet}
 use Rattle.sheet_rules.specs.Occupied.{are_apart, is_merge, meets_any, have_arrays, have_merges, covers, are_hidden_blank}
 use Rattle.sheet_rules.specs.WellFormed.{stands_inside, have_trees, have_attributes, IsWellFormed}
 use Rattle.sheet_rules.specs.laws.EntryLaws.{both}
 use Rattle.sheet_rules.specs.laws.OccupiedLaws.{keeps_arrays, keeps_merges, have_merges_from, keeps_hidden, are_hidden_blank_from}
 use Rattle.sheet_rules.specs.laws.ShownLaws.{neither, not_true, none_in}
-use Rattle.sheet_actions.specs.laws.OwnSheets.{own_found}
 use Rattle.sheet_history.specs.declared.Diff.TheVariants.{Merges as MergesDiff}
 use Rattle.sheet_history.specs.Entries.{EntryKey, key_cmp}
 use Rattle.sheet_history.specs.Entries.EntryKey.{CellKey, MergesKey}
@@ -30,6 +29,7 @@ use Rattle.sheet_history.specs.Records.{IsRecord}
 use Rattle.sheet_history.specs.laws.RuleLaws.{KeepsSheetRules}
 use Rattle.edit_plans.specs.Blanked.{blank_diffs, blanked, blanked_sheet}
 use Rattle.edit_plans.specs.Merging.{with_merge, merge_diffs, merges_without, without_merge}
+use Rattle.edit_plans.specs.laws.AtIndex.{there}
 use Rattle.edit_plans.specs.laws.BlankedLaws.{content_left, large_left, rules_stay}
 use Rattle.edit_plans.specs.laws.BlankRecord.{blank_changes, blank_record, made_changes, blank_below}
 use Rattle.edit_plans.specs.laws.MergeRecords.{merges_differ, made_more, no_changes, merges_change, merges_record}
@@ -42,10 +42,10 @@ longer : {X : Type 0} (xs : List X) (x : X) → xs ≢ xs ++ x ∷ []
 longer xs x same = let lengths : length xs ≡ length xs + 1 = ap length same ∙ length-append xs (x ∷ []) in absurd (omega (arith, lengths))
 
 none_more : {X : Type 0} (test : X → Bool) (xs : List X) (x : X) → list_any test xs ≡ false → test x ≡ false → list_any test (xs ++ x ∷ []) ≡ false
-none_more test xs x none last = list_any-append test xs (x ∷ []) ∙ (λ i. none i || last i || false)
+none_more test xs x none last = list_any-append test xs (x ∷ []) ∙ (λ i. none i || (last i || false))
 
 all_more : {X : Type 0} (test : X → Bool) (xs : List X) (x : X) → list_all test xs ≡ true → test x ≡ true → list_all test (xs ++ x ∷ []) ≡ true
-all_more test xs x all last = list_all-append test xs (x ∷ []) ∙ (λ i. all i && last i && true)
+all_more test xs x all last = list_all-append test xs (x ∷ []) ∙ (λ i. all i && (last i && true))
 
 apart_more : (xs : List MergedCell) (r : MergedCell) → are_apart xs ≡ true → list_any (meets r) xs ≡ false → are_apart (xs ++ r ∷ []) ≡ true
 apart_more [] r apart none = refl
@@ -151,11 +151,11 @@ unmerge_rules sheet place h =
 
 -- ---- the record of the workbook
 
-module _ (w : Book) (rules : IsWellFormed w) (index : ℕ) (sheet : Sheet) (at : slice_get w.worksheets index ≡ Some sheet) where
+module _ (w : Book) (rules : IsWellFormed w) (index : ℕ) (sheet : Sheet) (at : sheet_at w index ≡ Ok sheet) where
   -- a merge that is not refused leaves a well-formed workbook, and its record
   pub merge_well_formed : (r : MergedCell) → is_merge r ≡ true → meets_any sheet.merges r ≡ false → meets_any (large_arrays_of sheet) r ≡ false → IsWellFormed (with_sheet w index (with_merge sheet r))
-  merge_well_formed r is free clear = sheet_keeps (λ s. with_merge s r) (λ s. refl) w rules index sheet at (λ s there h.
-      let same : s ≡ sheet = same_Some s sheet (sym there ∙ own_found w rules index sheet at) in
+  merge_well_formed r is free clear = sheet_keeps (λ s. with_merge s r) (λ s. refl) w rules index sheet at (λ s found h.
+      let same : s ≡ sheet = same_Some s sheet (sym found ∙ there w rules index sheet at) in
       subst (λ t. KeepsSheetRules (with_merge t r)) (sym same) (merge_rules r sheet is free clear (subst KeepsSheetRules same h)))
 
   pub merge_exact : (r : MergedCell) → IsRecord w (with_sheet w index (with_merge sheet r)) (merge_diffs r sheet)

@@ -1,7 +1,12 @@
-pub mod MappedMaps
+pub mod Appended
+pub mod ArrayPut
+pub mod AtIndex
 pub mod BlankedLaws
 pub mod BlankRecord
+pub mod Fonts
+pub mod InputLaws
+pub mod LinkLaws
+pub mod MappedMaps
 pub mod MergeRecords
-pub mod OwnIndex
 pub mod PlanLaws
 pub mod SheetRecords

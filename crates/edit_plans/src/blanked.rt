@@ -1,15 +1,15 @@
 //! Cells that a rectangle covers, without their contents.
 
-ghost use Rattle.std.specs.Prelude.{◌≡◌, ◌++◌, [], Ok, IfOk, OnOk, IsOkUnless};
-ghost use Rattle.std.specs.List.{cons_option};
+ghost use Rattle.std.specs.Prelude.{◌≡◌, ◌++◌, Ok, IfOk, IfSome, OnOk, IsOkUnless};
 ghost use Rattle.base_values.specs.Answers.{Returns};
 ghost use Rattle.base_values.specs.declared.EditError.TheVariants.{NoMemory};
 ghost use Rattle.sheet_grid.specs.KeptCell.{IsKeptCell};
 ghost use Rattle.sheet_grid.specs.Merges.{is_empty};
-ghost use Rattle.sheet_history.specs.Diffs.{IsKeptList};
+ghost use Rattle.sheet_history.specs.Diffs.{IsKeptDiff, IsKeptList};
 ghost use Rattle.sheet_rules.specs.Occupied.{covers};
 ghost use Rattle.edit_plans.specs.Blanked.{blank_cell, blank_diff, blank_diffs, loses};
 
+use crate::list::push_diff;
 use base_axis::MergedCell;
 use base_shared::Shared;
 use base_values::{EditError, Items, Position, copy_of};
@@ -48,49 +48,48 @@ fn blank_cell(alloc: Global, cell: &Cell) -> Result<Shared<Cell>, EditError>
     Ok(Shared::new(alloc, Cell { content, style })?)
 }
 
-/// Adds the diff of a cell, if it loses its content.
-fn add_blank_diff(
+/// The diff of a cell, if it loses its content.
+fn blank_diff(
     alloc: Global,
     sheet: u32,
     area: MergedCell,
-    place: Position,
+    position: Position,
     cell: &Shared<Cell>,
-    diffs: &mut Items<Diff>,
-) -> Result<(), EditError>
-    requires kept { IsKeptCell cell.now }
-    requires before { IsKeptList diffs.now }
-    ensures added { OnOk result (diffs.new ≡ diffs.old ++ cons_option (blank_diff sheet area (place, cell.now)) []) }
-    ensures kept { OnOk result (IsKeptList diffs.new) }
+) -> Result<Option<Diff>, EditError>
+    requires { IsKeptCell cell.now }
+    ensures made { IfOk result (λ diff. diff ≡ blank_diff sheet area (position, cell.now)) }
+    ensures kept { IfOk result (λ diff. IfSome diff IsKeptDiff) }
     ensures only { IsOkUnless result NoMemory }
 {
-    if !loses(area, place, cell.get()) {
-        return Ok(());
+    if !loses(area, position, cell.get()) {
+        return Ok(None);
     }
-    diffs.push(Diff::Cell {
+    let new = blank_cell(alloc, cell.get())?;
+    Ok(Some(Diff::Cell {
         sheet,
-        position: place,
+        position,
         old: Some(copy_of(cell)?),
-        new: Some(blank_cell(alloc, cell.get())?),
-    })?;
-    Ok(())
+        new: Some(new),
+    }))
 }
 
-/// Adds the diffs of the cells of a sheet that a rectangle covers and that lose their contents, by
-/// place. It goes over the cells that the sheet has. `NoMemory` alone is an error.
-pub(crate) fn add_blank_diffs(
+/// Puts the diffs of the cells of a sheet that a rectangle covers and that lose their contents, by
+/// place, behind others. It goes over the cells that the sheet has. `NoMemory` alone is an error.
+pub(crate) fn push_blank_diffs(
     alloc: Global,
     sheet: &Worksheet,
     area: MergedCell,
-    diffs: &mut Items<Diff>,
+    list: &mut Items<Diff>,
 ) -> Result<(), EditError>
-    requires kept { IsKeptList diffs.now }
-    ensures added { OnOk result (diffs.new ≡ diffs.old ++ blank_diffs area sheet.now) }
-    ensures kept { OnOk result (IsKeptList diffs.new) }
+    requires { IsKeptList list.old }
+    ensures made { OnOk result (list.new ≡ list.old ++ blank_diffs area sheet.now) }
+    ensures kept { OnOk result (IsKeptList list.new) }
     ensures only { IsOkUnless result NoMemory }
 {
     let id = sheet.get_sheet_id();
-    for (place, cell) in sheet.cell_map().iter() {
-        add_blank_diff(alloc, id, area, *place, cell, diffs)?;
+    let cells = sheet.cell_map();
+    for (place, cell) in cells.iter() {
+        push_diff(list, blank_diff(alloc, id, area, *place, cell)?)?;
     }
     Ok(())
 }

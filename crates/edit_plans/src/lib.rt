@@ -4,9 +4,14 @@
 
 mod blanked;
 mod hidden;
+mod input;
+mod link;
+mod list;
 mod merge;
 mod unmerge;
 
 pub use hidden::grown_delta;
+pub use input::plan_input;
+pub use link::plan_link;
 pub use merge::plan_merge;
 pub use unmerge::plan_unmerge;

@@ -13,12 +13,12 @@ ghost use Rattle.sheet_rules.specs.WellFormed.{IsWellFormed};
 ghost use Rattle.edit_plans.specs.Merging.{merge_diffs, merge_made, merged_in, with_merge};
 ghost use Rattle.edit_plans.specs.Plans.{Plans};
 
-use crate::blanked::add_blank_diffs;
+use crate::blanked::push_blank_diffs;
+use crate::list::{list_of, merges_diff, push_diff};
 use base_axis::{MergeList, MergedCell};
-use base_shared::Shared;
 use base_values::{EditError, Items, copy_of};
 use sheet_grid::{Workbook, Worksheet, large_array_at};
-use sheet_history::{Diff, DiffList};
+use sheet_history::DiffList;
 use std::alloc::Global;
 
 fn is_merge(area: MergedCell) -> bool
@@ -78,14 +78,10 @@ fn merge_record(alloc: Global, sheet: &Worksheet, area: MergedCell) -> Result<Di
     ensures only { IsOkUnless result NoMemory }
 {
     let mut diffs = Items::empty(alloc);
-    add_blank_diffs(alloc, sheet, area, &mut diffs)?;
-    diffs.push(Diff::Merges {
-        sheet: sheet.get_sheet_id(),
-        old: copy_of(sheet.merge_list())?,
-        new: one_more(sheet, area)?,
-    })?;
-    diffs.fit();
-    Ok(Shared::new(alloc, diffs)?)
+    push_blank_diffs(alloc, sheet, area, &mut diffs)?;
+    let merges = merges_diff(sheet, one_more(sheet, area)?)?;
+    push_diff(&mut diffs, Some(merges))?;
+    list_of(alloc, diffs)
 }
 
 /// Merges the cells of a rectangle of the sheet at an index: the record of the change. The cells

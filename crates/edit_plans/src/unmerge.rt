@@ -1,6 +1,6 @@
 //! Merges that are dissolved.
 
-ghost use Rattle.std.specs.Prelude.{◌≡◌, ◌≢◌, ◌∷◌, [], Ok, Err, IfOk, IsOkUnless};
+ghost use Rattle.std.specs.Prelude.{◌≡◌, ◌≢◌, ◌∷◌, [], Ok, Err, IfOk, IsOkUnless, is_none};
 ghost use Rattle.base_values.specs.Answers.{and_then, map_ok};
 ghost use Rattle.base_values.specs.Places.{place_of};
 ghost use Rattle.base_values.specs.declared.EditError.TheVariants.{NoMemory};
@@ -12,12 +12,21 @@ ghost use Rattle.sheet_rules.specs.WellFormed.{IsWellFormed};
 ghost use Rattle.edit_plans.specs.Merging.{merge_undone, merges_without, unmerged_at, without_merge};
 ghost use Rattle.edit_plans.specs.Plans.{Plans};
 
+use crate::list::{list_of_two, merges_diff};
 use base_axis::{MergeList, MergedCell};
-use base_shared::Shared;
-use base_values::{EditError, Items, Position, copy_of, place_of};
+use base_values::{EditError, Items, Position, place_of};
 use sheet_grid::{Workbook, Worksheet};
-use sheet_history::{Diff, DiffList};
+use sheet_history::DiffList;
 use std::alloc::Global;
+
+/// Whether no merge holds a place.
+fn holds_none(sheet: &Worksheet, place: Position) -> bool
+    ensures { result ≡ is_none (merge_holding sheet.now.merges place) }
+{
+    sheet
+        .merged_cell_containing(place.row, place.column)
+        .is_none()
+}
 
 /// The place at a row and a column, which a merge holds. It takes no memory.
 fn merged_place(sheet: &Worksheet, row: i32, column: i32) -> Result<Position, EditError>
@@ -26,10 +35,10 @@ fn merged_place(sheet: &Worksheet, row: i32, column: i32) -> Result<Position, Ed
     ensures sure { result ≢ Err NoMemory }
 {
     let place = place_of(row, column)?;
-    match sheet.merged_cell_containing(place.row, place.column) {
-        Some(_) => Ok(place),
-        None => Err(EditError::NoMerge),
+    if holds_none(sheet, place) {
+        return Err(EditError::NoMerge);
     }
+    Ok(place)
 }
 
 /// The merges that do not hold a place.
@@ -55,13 +64,8 @@ fn unmerge_record(alloc: Global, sheet: &Worksheet, place: Position) -> Result<D
     ensures kept { IfOk result IsKeptList }
     ensures only { IsOkUnless result NoMemory }
 {
-    let mut diffs = Items::with_room(alloc, 1)?;
-    diffs.push(Diff::Merges {
-        sheet: sheet.get_sheet_id(),
-        old: copy_of(sheet.merge_list())?,
-        new: merges_without(alloc, sheet.merged_cells(), place)?,
-    })?;
-    Ok(Shared::new(alloc, diffs)?)
+    let merges = merges_without(alloc, sheet.merged_cells(), place)?;
+    list_of_two(alloc, Some(merges_diff(sheet, merges)?), None)
 }
 
 /// Dissolves the merge that holds the place at a row and a column of the sheet at an index: the

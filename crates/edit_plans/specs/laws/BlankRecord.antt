@@ -65,7 +65,7 @@ module _ (r : MergedCell) where
       go true false is = sym (ap (λ b. cond b None (Some (CellValue (Some cell), CellValue (Some (blank_cell cell))))) (filled_differs cell is))
 
   module _ (id : ℕ) where
-    order : (a b : Position) → key_cmp (CellKey id a) (CellKey id b) ≡ position_cmp a b
+    pub order : (a b : Position) → key_cmp (CellKey id a) (CellKey id b) ≡ position_cmp a b
     order a b = ap (λ o. ordering_then o (ordering_then (int_cmp a.row b.row) (int_cmp a.column b.column))) (tied_itself nat_cmp_total id)
 
     -- the changes that entries make

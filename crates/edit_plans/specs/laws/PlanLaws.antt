@@ -1,44 +1,51 @@
--- How a plan is shown: its refusal, and its record.
-use Rattle.std.proofs.Common.{◌≡◌, ◌≢◌, ℕ, List, Result, Ok, Err, ap, sym, subst, ◌∙◌}
-use Rattle.std.specs.Prelude.{IfOk, IsOkUnless, IsOk, is_ok, IsOkAnd}
+-- When a call returns a plan.
+use Rattle.std.proofs.Common.{◌≡◌, ◌≢◌, ℕ, ℤ, List, Option, Some, None, Result, Ok, Err, refl, ap, sym, subst, ◌∙◌}
+use Rattle.std.specs.Prelude.{IfOk, IsOk, IsOkAnd, IsOkUnless, slice_get}
 use Rattle.base_values.specs.declared.EditError.{EditError}
-use Rattle.base_values.specs.declared.EditError.TheVariants.{NoMemory}
-use Rattle.base_values.specs.Answers.{and_then, map_ok}
+use Rattle.base_values.specs.declared.EditError.TheVariants.{InvalidSheet, NoMemory}
+use Rattle.base_values.specs.declared.Position.{Position}
+use Rattle.base_values.specs.Answers.{and_then, map_ok, ok_or}
+use Rattle.base_values.specs.Places.{place_of}
 use Rattle.sheet_grid.specs.Sheet.{Sheet}
 use Rattle.sheet_grid.specs.Book.{Book, sheet_at, sheet_edit, with_sheet}
-use Rattle.sheet_rules.specs.WellFormed.{IsWellFormed}
+use Rattle.sheet_grid.specs.laws.FittingLaws.{place_is}
 use Rattle.sheet_history.specs.declared.Diff.{Diff}
-use Rattle.sheet_history.specs.Diffs.{IsKeptList}
-use Rattle.sheet_history.specs.Records.{IsRecord}
 use Rattle.edit_plans.specs.Plans.{IsPlan, Plans}
 
--- a refusal that is the expected one
-pub plan_refused : (error : EditError) (book : Book) (expected : Result Book EditError) → error ≢ NoMemory → expected ≡ Err error → Plans (Err error) book expected
-plan_refused error book expected other is = record { planned = tt; refused = λ _. is; memory = λ short. absurd (other short) }
+-- a refusal that is expected
+pub plan_refused : (book : Book) (expected : Result Book EditError) (error : EditError) → expected ≡ Err error → error ≢ NoMemory → Plans (Err error) book expected
+plan_refused book expected error is sure = record { planned = tt; refused = λ other. is; memory = λ short. absurd (sure short) }
 
--- the record of a later workbook that is well-formed, or no memory for it
-pub plan_made : (book later : Book) (diffs : List Diff) (expected : Result Book EditError) → expected ≡ Ok later → IsWellFormed later → IsRecord book later diffs
-    → (result : Result (List Diff) EditError) → IfOk result (λ list. list ≡ diffs) → IfOk result IsKeptList → IsOkUnless result NoMemory → Plans result book expected
-plan_made book later diffs expected is rules exact (Ok list) made kept only = record {
-  planned = subst (λ r. IsOkAnd r (IsPlan book list)) (sym is) (record { exact = subst (IsRecord book later) (sym made) exact; rules = rules; kept = kept });
-  refused = tt;
-  memory = tt;
-}
-plan_made book later diffs expected is rules exact (Err error) made kept only = record {
-  planned = tt;
-  refused = λ other. absurd (other only);
-  memory = λ _. ap is_ok is;
-}
+-- a record of the change that is expected, or want of memory
+pub plan_made : (book later : Book) (expected : Result Book EditError) (result : Result (List Diff) EditError) → expected ≡ Ok later → IsOkUnless result NoMemory
+    → IfOk result (λ list. IsPlan book list later) → Plans result book expected
+plan_made book later expected (Ok list) is only plan = record { planned = subst (λ e. IsOkAnd e (IsPlan book list)) (sym is) plan; refused = tt; memory = tt }
+plan_made book later expected (Err error) is only plan = record { planned = tt; refused = λ other. absurd (other only); memory = λ short. subst IsOk (sym is) refl }
 
--- ---- the edit of the sheet at an index
+-- ---- edits of the sheet at an index
 
-module _ (book : Book) (index : ℕ) where
-  pub no_sheet : (edit : Sheet → Result Sheet EditError) (error : EditError) → sheet_at book index ≡ Err error → sheet_edit book index edit ≡ Err error
-  no_sheet edit error none = ap (λ s. and_then s (λ sheet. map_ok (with_sheet book index) (edit sheet))) none
+-- an edit of a sheet that is not there is refused
+pub no_sheet : (book : Book) (index : ℕ) (edit : Sheet → Result Sheet EditError) (error : EditError) → sheet_at book index ≡ Err error → sheet_edit book index edit ≡ Err error
+no_sheet book index edit error missing = ap (λ r. and_then r (λ sheet. map_ok (with_sheet book index) (edit sheet))) missing
 
-  module _ (sheet : Sheet) (edit : Sheet → Result Sheet EditError) (at : sheet_at book index ≡ Ok sheet) where
-    pub edit_refused : (error : EditError) → edit sheet ≡ Err error → sheet_edit book index edit ≡ Err error
-    edit_refused error is = ap (λ s. and_then s (λ sheet. map_ok (with_sheet book index) (edit sheet))) at ∙ ap (map_ok (with_sheet book index)) is
+-- and one that the sheet refuses
+pub sheet_refuses : (book : Book) (index : ℕ) (edit : Sheet → Result Sheet EditError) (sheet : Sheet) (error : EditError) → sheet_at book index ≡ Ok sheet → edit sheet ≡ Err error
+    → sheet_edit book index edit ≡ Err error
+sheet_refuses book index edit sheet error at refused = ap (λ r. and_then r (λ s. map_ok (with_sheet book index) (edit s))) at ∙ ap (map_ok (with_sheet book index)) refused
 
-    pub edit_made : (next : Sheet) → edit sheet ≡ Ok next → sheet_edit book index edit ≡ Ok (with_sheet book index next)
-    edit_made next is = ap (λ s. and_then s (λ sheet. map_ok (with_sheet book index) (edit sheet))) at ∙ ap (map_ok (with_sheet book index)) is
+-- an edit that the sheet takes
+pub sheet_takes : (book : Book) (index : ℕ) (edit : Sheet → Result Sheet EditError) (sheet next : Sheet) → sheet_at book index ≡ Ok sheet → edit sheet ≡ Ok next
+    → sheet_edit book index edit ≡ Ok (with_sheet book index next)
+sheet_takes book index edit sheet next at taken = ap (λ r. and_then r (λ s. map_ok (with_sheet book index) (edit s))) at ∙ ap (map_ok (with_sheet book index)) taken
+
+-- no sheet is missing for want of memory
+pub sheet_sure : (book : Book) (index : ℕ) (error : EditError) → sheet_at book index ≡ Err error → error ≢ NoMemory
+sheet_sure book index error missing short = go (slice_get book.worksheets index) missing
+  where
+    go : (o : Option Sheet) → ok_or InvalidSheet o ≡ Err error → ⊥
+    go None is = absurd (let never : ◌≡◌ {A = Result Sheet EditError} (Err InvalidSheet) (Err NoMemory) = is ∙ ap Err short in cc)
+    go (Some sheet) is = absurd (let never : ◌≡◌ {A = Result Sheet EditError} (Ok sheet) (Err error) = is in cc)
+
+-- a place that was found is found again at its own row and column
+pub place_again : (row column : ℤ) (place : Position) → place_of row column ≡ Ok place → place_of place.row place.column ≡ Ok place
+place_again row column place named = ap (λ (p : Position). place_of p.row p.column) (sym (place_is row column place named)) ∙ named

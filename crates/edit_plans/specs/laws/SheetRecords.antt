@@ -1,23 +1,20 @@
 -- A change of one sheet of a well-formed workbook: its record, and its rules.
-use Rattle.std.proofs.Common.{◌≡◌, ◌≢◌, ℕ, List, Some, None, option_map, map, ap, sym, subst, ◌∙◌}
-use Rattle.std.specs.Prelude.{◌==◌, slice_get, slice_set, IsTrue}
+use Rattle.std.proofs.Common.{◌≡◌, ◌≢◌, ℕ, List, Some, None, Ok, option_map, map, ap, sym, subst, ◌∙◌, true≢false}
+use Rattle.std.specs.Prelude.{◌==◌, IsTrue}
 use Rattle.std.specs.Cmp.{unsigned_Decides}
 use Rattle.std.specs.FinMap as fin
-use Rattle.std.proofs.lemmas.Option.{same_Some}
-use Rattle.std.proofs.Common.{true≢false}
 use Rattle.sheet_grid.specs.Sheet.{Sheet}
-use Rattle.sheet_grid.specs.Book.{Book, with_sheet}
+use Rattle.sheet_grid.specs.Book.{Book, sheet_at, with_sheet}
 use Rattle.sheet_rules.specs.WellFormed.{IsWellFormed}
 use Rattle.sheet_lines.specs.Sheets.{sheet_of}
-use Rattle.sheet_actions.specs.laws.OwnSheets.{own_found}
 use Rattle.sheet_history.specs.declared.Diff.{Diff}
 use Rattle.sheet_history.specs.Entries.{EntryKey, key_cmp, sheet_id_of, sheet_entry, with_changed, entry_at, bare_sheet, frame_of}
 use Rattle.sheet_history.specs.Records.{Change, change_of, changed_entry, IsRecord}
 use Rattle.sheet_history.specs.laws.EntryLaws.{decide, found-changed, found-changed_other, map-changed}
 use Rattle.sheet_history.specs.laws.OneEntry.{changed_entry-same}
-use Rattle.sheet_history.specs.laws.PutLaws.{found as stands_at, entry_at-found}
+use Rattle.sheet_history.specs.laws.PutLaws.{entry_at-found}
 use Rattle.sheet_history.specs.laws.RuleLaws.{KeepsSheetRules, well_formed-changed}
-use Rattle.edit_plans.specs.laws.OwnIndex.{own_index}
+use Rattle.edit_plans.specs.laws.AtIndex.{there, changed_at}
 
 -- some changes are those of the entries of a sheet, in the order of their keys
 pub record IsSheetRecord (change : Sheet → Sheet) (sheet : Sheet) (changes : List Change) : Type 0 where
@@ -26,34 +23,25 @@ pub record IsSheetRecord (change : Sheet → Sheet) (sheet : Sheet) (changes : L
   pub elsewhere : (key : EntryKey) → sheet_id_of key ≢ sheet.id → fin.find key_cmp key changes ≡ None
 
 module _ (change : Sheet → Sheet) (bare : (s : Sheet) → bare_sheet (change s) ≡ bare_sheet s) (w : Book) (rules : IsWellFormed w)
-    (index : ℕ) (sheet : Sheet) (at : slice_get w.worksheets index ≡ Some sheet) where
+    (index : ℕ) (sheet : Sheet) (at : sheet_at w index ≡ Ok sheet) where
   keeps_id : (s : Sheet) → (change s).id ≡ s.id
   keeps_id s = ap (λ (t : Sheet). t.id) (bare s)
 
   abbrev after : Book
   after = with_sheet w index (change sheet)
 
-  there : sheet_of w sheet.id ≡ Some sheet
-  there = own_found w rules index sheet at
-
-  sheets_are : slice_set w.worksheets index (change sheet) ≡ with_changed sheet.id change w.worksheets
-  sheets_are =
-      let it = stands_at w sheet.id index (own_index w rules index sheet at) in
-      let same : it.sheet ≡ sheet = same_Some it.sheet sheet (sym it.at ∙ at) in
-      ap (λ (s : Sheet). slice_set w.worksheets index (change s)) (sym same) ∙ it.put change
-
   book_is : after ≡ record w { worksheets = with_changed sheet.id change w.worksheets }
-  book_is = λ i. record w { worksheets = sheets_are i }
+  book_is = sym (changed_at w rules index sheet at change)
 
   entry_before : (key : EntryKey) → sheet_id_of key ≡ sheet.id → entry_at w key ≡ Some (sheet_entry key sheet)
-  entry_before key own = entry_at-found w key sheet (ap (sheet_of w) own ∙ there)
+  entry_before key own = entry_at-found w key sheet (ap (sheet_of w) own ∙ there w rules index sheet at)
 
   entry_after : (key : EntryKey) → sheet_id_of key ≡ sheet.id → entry_at after key ≡ Some (sheet_entry key (change sheet))
   entry_after key own =
       entry_at-found after key (change sheet)
       (ap (λ (b : Book). sheet_of b (sheet_id_of key)) book_is
       ∙ ap (sheet_of (record w { worksheets = with_changed sheet.id change w.worksheets })) own
-      ∙ found-changed change keeps_id sheet.id w.worksheets ∙ ap (option_map change) there)
+      ∙ found-changed change keeps_id sheet.id w.worksheets ∙ ap (option_map change) (there w rules index sheet at))
 
   entry_other : (key : EntryKey) → sheet_id_of key ≢ sheet.id → entry_at after key ≡ entry_at w key
   unfolding entry_at
@@ -73,7 +61,7 @@ module _ (change : Sheet → Sheet) (bare : (s : Sheet) → bare_sheet (change s
     ordered = is.ordered;
     exact = λ key. decide (sheet_id_of key == sheet.id)
         (λ hit. let own = (unsigned_Decides (sheet_id_of key) sheet.id).0 hit in is.here key own ∙ sym (λ i. changed_entry (entry_before key own i) (entry_after key own i)))
-        (λ miss. let other = λ same. true≢false (sym ((unsigned_Decides (sheet_id_of key) sheet.id).1 same) ∙ miss) in
+        (λ miss. let other = λ (same : sheet_id_of key ≡ sheet.id). true≢false (sym ((unsigned_Decides (sheet_id_of key) sheet.id).1 same) ∙ miss) in
         is.elsewhere key other ∙ sym (ap (changed_entry (entry_at w key)) (entry_other key other) ∙ changed_entry-same (entry_at w key)));
   }
 

@@ -1,5 +1,7 @@
 pub mod Appended
 pub mod ArrayPut
+pub mod ArrayRecords
+pub mod ArrayRules
 pub mod AtIndex
 pub mod BlankedLaws
 pub mod BlankRecord

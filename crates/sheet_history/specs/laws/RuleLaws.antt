@@ -95,7 +95,7 @@ font_there : (entry : Option Cell) (cell : Cell) → entry_has_font entry ≡ tr
 font_there None cell font is = absurd (cc)
 font_there (Some other) cell font is = let it : other ≡ cell = cc in ap (λ c. has_font c.style) (sym it) ∙ font
 
-attributes-put : (sheet : Sheet) (place : Position) (entry : Option Cell) → entry_has_font entry ≡ true → have_attributes sheet ≡ true → have_attributes (with_cell sheet place entry) ≡ true
+pub attributes-put : (sheet : Sheet) (place : Position) (entry : Option Cell) → entry_has_font entry ≡ true → have_attributes sheet ≡ true → have_attributes (with_cell sheet place entry) ≡ true
 unfolding have_attributes
 attributes-put sheet place entry font all =
     let row_test : Bool = list_all (λ (e : ℤ × LineAttr). is_row e.1) (entries sheet.rows) in
@@ -105,7 +105,7 @@ attributes-put sheet place entry font all =
     let fonts = all_with_entry position_cmp position_total exact_positions (λ (e : Position × Cell). has_font e.1.style) sheet.cells place entry (λ cell is. font_there entry cell font is) parts.1 in
     λ i. parts.0 i && fonts i
 
-inside-put : (sheet : Sheet) (place : Position) (entry : Option Cell) → is_place place ≡ true → stands_inside sheet ≡ true → stands_inside (with_cell sheet place entry) ≡ true
+pub inside-put : (sheet : Sheet) (place : Position) (entry : Option Cell) → is_place place ≡ true → stands_inside sheet ≡ true → stands_inside (with_cell sheet place entry) ≡ true
 unfolding stands_inside
 inside-put sheet place entry inside all =
     let outer = both _ _ all in

@@ -2,6 +2,7 @@
 //! its change, and changes nothing. `specs/Edits.antt` has what each edit changes.
 #![tactic(auto)]
 
+mod array;
 mod blanked;
 mod hidden;
 mod input;
@@ -10,6 +11,7 @@ mod list;
 mod merge;
 mod unmerge;
 
+pub use array::plan_array;
 pub use hidden::grown_delta;
 pub use input::plan_input;
 pub use link::plan_link;

@@ -27,14 +27,14 @@ fn is_merge(area: MergedCell) -> bool
     area.has_many() && area.is_inside()
 }
 
-fn meets_merge(sheet: &Worksheet, area: MergedCell) -> bool
+pub(crate) fn meets_merge(sheet: &Worksheet, area: MergedCell) -> bool
     ensures { result ≡ meets_any sheet.now.merges area }
 {
     sheet.merged_cells().iter().any(|other| area.meets(*other))
 }
 
 /// Whether a rectangle meets an array of more than one cell. It looks at each cell.
-fn meets_array(sheet: &Worksheet, area: MergedCell) -> bool
+pub(crate) fn meets_array(sheet: &Worksheet, area: MergedCell) -> bool
     ensures { result ≡ meets_any (large_arrays_of sheet.now) area }
 {
     sheet

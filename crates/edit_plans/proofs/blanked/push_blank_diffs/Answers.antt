@@ -9,7 +9,7 @@ use Rattle.edit_plans.proofs.blanked.push_blank_diffs.Goals as goal
 pub loop-place-init : goal.loop-place-init
 loop-place-init c =
     let all : c.into_iter-place-iterator.result ≡ entries c.args.sheet.now.cells = search rules in
-    record { all = all; now = ap (λ es. c.args.list.old ++ filter_map (blank_diff c.args.sheet.now.id c.args.area) es) all; kept = c.requires }
+    record { all = all; now = ap (λ es. c.args.list.now ++ filter_map (blank_diff c.args.sheet.now.id c.args.area) es) all; kept = c.requires }
 
 pub blank_diff-requires : goal.blank_diff-requires
 blank_diff-requires c =

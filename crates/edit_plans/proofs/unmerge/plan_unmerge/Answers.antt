@@ -6,8 +6,8 @@ use Rattle.edit_plans.proofs.unmerge.plan_unmerge.Goals as goal
 
 pub returns-in_err-found : goal.returns-in_err-found
 returns-in_err-found c =
-    let p = err_from_is_err_and c.from_residual-in_err-found.result c.from_residual-in_err-found.ensures.1 in
-    rw (p.1, p.2) (unmerge_no_sheet c.args.workbook.now c.args.sheet c.args.row c.args.column c.in_err-found.field-0.0 (sym c.in_err-found.ensures))
+    let p = err_from_is_err_and c.from_residual.result c.from_residual.ensures.1 in
+    rw (p.1, p.2) (record { planned = unmerge_no_sheet c.args.workbook.now c.args.sheet c.args.row c.args.column c.in_err-found.field-0.0 (sym c.in_err-found.ensures) })
 
 pub returns-in_err-place : goal.returns-in_err-place
 returns-in_err-place c =
@@ -16,8 +16,8 @@ returns-in_err-place c =
     let p = err_from_is_err_and c.from_residual-in_err-place.result c.from_residual-in_err-place.ensures.1 in
     let refused = simp to_z-of_z at c.in_err-place.ensures.place in
     rw (p.1, p.2)
-    (unmerge_refused c.args.workbook.now c.args.sheet c.in_ok-found.found.now (sym (c.in_ok-found.ensures {u = _})) c.args.row c.args.column c.in_err-place.field-0.0
-    (λ short. c.in_err-place.ensures.sure (ap Err short)) (sym refused))
+    (record { planned = unmerge_refused c.args.workbook.now c.args.sheet c.in_ok-found.found.now (sym (c.in_ok-found.ensures {u = _})) c.args.row c.args.column c.in_err-place.field-0.0
+    (λ short. c.in_err-place.ensures.sure (ap Err short)) (sym refused) })
 
 pub returns : goal.returns
 returns c =
@@ -25,5 +25,5 @@ returns c =
     let column_fits : SFits w32 c.args.column = c.ranges.column in
     let goes = simp to_z-of_z at (c.in_ok-place.ensures {u = _}).place in
     let named = simp to_z-of_z at (c.in_ok-place.ensures {u = _}).named in
-    unmerge_planned c.args.workbook.now c.args.sheet c.in_ok-found.found.now (sym (c.in_ok-found.ensures {u = _})) c.requires
-    c.unmerge_record.result c.unmerge_record.ensures.kept c.unmerge_record.ensures.only c.args.row c.args.column c.in_ok-place.place named (sym goes) c.unmerge_record.ensures.made
+    record { planned = unmerge_planned c.args.workbook.now c.args.sheet c.in_ok-found.found.now (sym (c.in_ok-found.ensures {u = _})) c.requires.rules
+    c.unmerge_record.result c.unmerge_record.ensures.kept c.unmerge_record.ensures.only c.args.row c.args.column c.in_ok-place.place named (sym goes) c.unmerge_record.ensures.made }

@@ -89,7 +89,8 @@ pub(crate) fn push_blank_diffs(
     let id = sheet.get_sheet_id();
     let cells = sheet.cell_map();
     for (place, cell) in cells.iter() {
-        push_diff(list, blank_diff(alloc, id, area, *place, cell)?)?;
+        let diff = blank_diff(alloc, id, area, *place, cell)?;
+        push_diff(list, diff)?;
     }
     Ok(())
 }

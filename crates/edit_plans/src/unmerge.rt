@@ -1,10 +1,9 @@
 //! Merges that are dissolved.
 
-ghost use Rattle.std.specs.Prelude.{◌≡◌, ◌≢◌, ◌∷◌, [], Ok, Err, IfOk, IsOkUnless, is_none};
+ghost use Rattle.std.specs.Prelude.{◌≡◌, ◌≢◌, ◌∷◌, [], Ok, Err, IfOk, IsOkUnless};
 ghost use Rattle.base_values.specs.Answers.{and_then, map_ok};
 ghost use Rattle.base_values.specs.Places.{place_of};
 ghost use Rattle.base_values.specs.declared.EditError.TheVariants.{NoMemory};
-ghost use Rattle.base_values.specs.declared.Position.{Position as Place};
 ghost use Rattle.sheet_grid.specs.Merges.{merge_holding};
 ghost use Rattle.sheet_history.specs.Diffs.{IsKeptList};
 ghost use Rattle.sheet_history.specs.declared.Diff.TheVariants.{Merges as MergesDiff};
@@ -19,13 +18,23 @@ use sheet_grid::{Workbook, Worksheet};
 use sheet_history::DiffList;
 use std::alloc::Global;
 
-/// Whether no merge holds a place.
-fn holds_none(sheet: &Worksheet, place: Position) -> bool
-    ensures { result ≡ is_none (merge_holding sheet.now.merges place) }
+/// The first merge that holds a place.
+fn merge_holding(sheet: &Worksheet, place: Position) -> Option<MergedCell>
+    ensures { result ≡ merge_holding sheet.now.merges place }
 {
-    sheet
-        .merged_cell_containing(place.row, place.column)
-        .is_none()
+    sheet.merged_cell_containing(place.row, place.column)
+}
+
+/// A place that a merge holds.
+fn held_place(sheet: &Worksheet, place: Position) -> Result<Position, EditError>
+    ensures held { map_ok (λ held. without_merge sheet.now held) result ≡ unmerged_at sheet.now place (merge_holding sheet.now.merges place) }
+    ensures same { IfOk result (λ held. held ≡ place) }
+    ensures sure { result ≢ Err NoMemory }
+{
+    match merge_holding(sheet, place) {
+        Some(_) => Ok(place),
+        None => Err(EditError::NoMerge),
+    }
 }
 
 /// The place at a row and a column, which a merge holds. It takes no memory.
@@ -35,10 +44,7 @@ fn merged_place(sheet: &Worksheet, row: i32, column: i32) -> Result<Position, Ed
     ensures sure { result ≢ Err NoMemory }
 {
     let place = place_of(row, column)?;
-    if holds_none(sheet, place) {
-        return Err(EditError::NoMerge);
-    }
-    Ok(place)
+    held_place(sheet, place)
 }
 
 /// The merges that do not hold a place.
@@ -55,7 +61,9 @@ fn merges_without(
         .copied()
         .filter(|merge| !merge.holds(place))
         .collect(alloc)?;
-    Ok(MergeList::new(Items::new(left)))
+    let mut left = Items::new(left);
+    left.fit();
+    Ok(MergeList::new(left))
 }
 
 /// The record of a merge that is dissolved.

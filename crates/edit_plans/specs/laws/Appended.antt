@@ -123,7 +123,7 @@ map-append f (x ∷ xs) ys = ap (λ zs. f x ∷ zs) (map-append f xs ys)
 
 -- ---- records
 
-changed_pair : (b : Bool) (old new : EntryValue) → same_entry_value old new ≡ b → cond b None (Some (old, new)) ≡ None → old ≡ new
+changed_pair : (b : Bool) (old new : EntryValue) → same_entry_value old new ≡ b → ◌≡◌ {A = Option (EntryValue × EntryValue)} (cond b None (Some (old, new))) None → old ≡ new
 changed_pair true old new same none = (same_value_decides old new).0 same
 changed_pair false old new same none = absurd (cc)
 

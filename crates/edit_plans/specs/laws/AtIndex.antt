@@ -63,15 +63,15 @@ module _ (w : Book) (rules : IsWellFormed w) (index : ℕ) (sheet : Sheet) (at :
 
 -- changes of one sheet, one after another
 changed_twice : (id : ℕ) (first second : Sheet → Sheet) → ((s : Sheet) → (first s).id ≡ s.id) → (ss : List Sheet) → with_changed id second (with_changed id first ss) ≡ with_changed id (λ s. second (first s)) ss
-changed_twice id first second keeps [] = refl
-changed_twice id first second keeps (s ∷ ss) =
+changed_twice id first second same_ids [] = refl
+changed_twice id first second same_ids (s ∷ ss) =
     decide (s.id == id)
     (λ hit. (λ i. with_changed id second (cond (hit i) (first s ∷ ss) (s ∷ with_changed id first ss)))
-    ∙ ap (λ b. cond b (second (first s) ∷ ss) (first s ∷ with_changed id second ss)) (ap (λ n. n == id) (keeps s) ∙ hit)
+    ∙ ap (λ b. cond b (second (first s) ∷ ss) (first s ∷ with_changed id second ss)) (ap (λ n. n == id) (same_ids s) ∙ hit)
     ∙ ap (λ b. cond b (second (first s) ∷ ss) (s ∷ with_changed id (λ t. second (first t)) ss)) (sym hit))
     (λ miss. (λ i. with_changed id second (cond (miss i) (first s ∷ ss) (s ∷ with_changed id first ss)))
     ∙ ap (λ b. cond b (second s ∷ with_changed id first ss) (s ∷ with_changed id second (with_changed id first ss))) miss
-    ∙ ap (λ ts. s ∷ ts) (changed_twice id first second keeps ss)
+    ∙ ap (λ ts. s ∷ ts) (changed_twice id first second same_ids ss)
     ∙ ap (λ b. cond b (second (first s) ∷ ss) (s ∷ with_changed id (λ t. second (first t)) ss)) (sym miss))
 
 -- an entry that is put changes the sheet of its id

@@ -1,5 +1,5 @@
 -- Entries put in the sheet at an index of a well-formed workbook.
-use Rattle.std.proofs.Common.{◌≡◌, ℕ, zero, suc, true, false, cond, List, [], ◌∷◌, map, Option, Some, Ok, option_map, refl, ap, sym, ◌∙◌}
+use Rattle.std.proofs.Common.{◌≡◌, ℕ, zero, suc, true, false, cond, List, [], ◌∷◌, map, Some, Ok, option_map, refl, ap, sym, ◌∙◌}
 use Rattle.std.specs.Prelude.{◌==◌, slice_get, slice_set}
 use Rattle.std.specs.List.{AllByRecursion, IsDistinct}
 use Rattle.std.specs.Cmp.{unsigned_Decides}
@@ -11,7 +11,7 @@ use Rattle.sheet_rules.specs.laws.WellFormedLaws.{distinct_ids_from_well_formed}
 use Rattle.sheet_lines.specs.Sheets.{sheet_of}
 use Rattle.sheet_actions.specs.laws.OwnSheets.{own_found}
 use Rattle.sheet_history.specs.Entries.{EntryKey, EntryValue, sheet_id_of, with_sheet_entry, with_changed, put_entry}
-use Rattle.sheet_history.specs.laws.EntryLaws.{decide, by_id, found-changed, id-with_sheet_entry}
+use Rattle.sheet_history.specs.laws.EntryLaws.{decide, found-changed, id-with_sheet_entry}
 use Rattle.sheet_history.specs.laws.PutLaws.{ok_or-some}
 use Rattle.sheet_history.specs.laws.RuleLaws.{KeepsSheetRules, sheet_rules}
 

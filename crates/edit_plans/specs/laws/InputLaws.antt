@@ -26,7 +26,7 @@ use Rattle.sheet_lines.specs.Sheets.{sheet_of}
 use Rattle.sheet_history.specs.declared.Diff.{Diff}
 use Rattle.sheet_history.specs.declared.Diff.TheVariants.{Cell as CellDiff}
 use Rattle.sheet_history.specs.Diffs.{IsKeptList}
-use Rattle.sheet_history.specs.Entries.{EntryKey, EntryValue, lies_inside, cell_stands_at, value_fits, with_sheet_entry, put_entry}
+use Rattle.sheet_history.specs.Entries.{EntryKey, lies_inside, cell_stands_at, value_fits, with_sheet_entry, put_entry}
 use Rattle.sheet_history.specs.Entries.EntryKey.{CellKey, LinkKey}
 use Rattle.sheet_history.specs.Entries.EntryValue.{CellValue, LinkValue}
 use Rattle.sheet_history.specs.Records.{same_entry_value, IsRecord}

@@ -13,7 +13,7 @@ use Rattle.sheet_grid.specs.Book.{Book, sheet_at, with_sheet}
 use Rattle.sheet_rules.specs.WellFormed.{is_place, IsWellFormed}
 use Rattle.sheet_history.specs.declared.Diff.{Diff}
 use Rattle.sheet_history.specs.Diffs.{IsKeptList}
-use Rattle.sheet_history.specs.Entries.{EntryKey, EntryValue, with_sheet_entry, put_entry}
+use Rattle.sheet_history.specs.Entries.{EntryKey, with_sheet_entry, put_entry}
 use Rattle.sheet_history.specs.Entries.EntryKey.{LinkKey}
 use Rattle.sheet_history.specs.Entries.EntryValue.{LinkValue}
 use Rattle.sheet_history.specs.Records.{IsRecord}

@@ -1,4 +1,4 @@
-use Rattle.std.proofs.Common.{w32, SFits, Err, sym}
+use Rattle.std.proofs.Common.{w32, SFits, sym}
 use Rattle.std.proofs.lemmas.Int.{to_z-of_z}
 use Rattle.std.proofs.lemmas.Result.{err_from_is_err_and}
 use Rattle.edit_plans.specs.laws.InputLaws.{input_named, input_no_sheet, input_refused, input_planned}

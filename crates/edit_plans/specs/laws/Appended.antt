@@ -1,6 +1,5 @@
 -- Records one after another are a record, where the keys of the second come behind those of the first.
-use Rattle.std.proofs.Common.{◌≡◌, ℕ, Bool, true, false, cond, ◌&&◌, List, [], ◌∷◌, ◌++◌, map, Option, Some, None, is_some, refl, ap, sym, subst, ◌∙◌}
-use Rattle.std.specs.Prelude.{IsTrue}
+use Rattle.std.proofs.Common.{◌≡◌, Bool, true, false, cond, ◌&&◌, List, [], ◌∷◌, ◌++◌, map, Option, Some, None, is_some, refl, ap, sym, ◌∙◌}
 use Rattle.std.specs.List.{list_all}
 use Rattle.std.specs.Ordering.{is_eq, is_lt, eq_by_cmp}
 use Rattle.std.specs.Cmp.{IsTotalOrder}
@@ -123,7 +122,7 @@ map-append f (x ∷ xs) ys = ap (λ zs. f x ∷ zs) (map-append f xs ys)
 
 -- ---- records
 
-changed_pair : (b : Bool) (old new : EntryValue) → same_entry_value old new ≡ b → cond b None (Some (old, new)) ≡ None → old ≡ new
+changed_pair : (b : Bool) (old new : EntryValue) → same_entry_value old new ≡ b → ◌≡◌ {A = Option (EntryValue × EntryValue)} (cond b None (Some (old, new))) None → old ≡ new
 changed_pair true old new same none = (same_value_decides old new).0 same
 changed_pair false old new same none = absurd (cc)
 

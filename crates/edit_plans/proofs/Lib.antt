@@ -1,0 +1,7 @@
+mod LineCounts
+mod Counting
+mod Widened
+pub mod ArrayPlans
+pub mod Blanks
+pub mod MergePlans
+pub mod Merges

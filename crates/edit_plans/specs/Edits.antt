@@ -1,0 +1,73 @@
+-- The edits of a workbook: what each changes, when it is refused, and its record.
+use Rattle.std.proofs.Common.{ℕ, ℤ, pos, List, [], ◌∷◌, Bool, false, Option, Result, Ok, Err}
+use Rattle.std.specs.Prelude.{int_lt, ◌||◌}
+use Rattle.std.specs.Ordering.{int_eq}
+use Rattle.base_values.specs.declared.EditError.{EditError}
+use Rattle.base_values.specs.Answers.{and_then}
+use Rattle.base_axis.specs.declared.MergedCell.{MergedCell}
+use Rattle.formula_tree.specs.declared.Node.{Node}
+use Rattle.cell_content.specs.declared.Content.{Content}
+use Rattle.line_edits.specs.declared.EditKind.{EditKind}
+use Rattle.line_edits.specs.declared.EditKind.TheVariants.{Move}
+use Rattle.sheet_grid.specs.declared.Link.{Link}
+use Rattle.sheet_grid.specs.Sheet.{Sheet}
+use Rattle.sheet_grid.specs.Book.{Book, sheet_at}
+use Rattle.sheet_actions.specs.Edited.{lines_edited}
+use Rattle.sheet_history.specs.declared.Diff.{Diff}
+use Rattle.sheet_history.specs.declared.LineAxis.{LineAxis}
+use Rattle.sheet_history.specs.LineDiffs.{along_of}
+use Rattle.sheet_history.specs.Records.{line_record, record_between}
+use Rattle.edit_plans.specs.Inputs.{input_put}
+use Rattle.edit_plans.specs.ArrayInputs.{array_put}
+use Rattle.edit_plans.specs.Links.{link_set}
+use Rattle.edit_plans.specs.Merging.{merge_made, merge_undone}
+use Rattle.edit_plans.specs.HiddenLines.{grown}
+
+-- an edit with its arguments. The first is the index of its sheet
+pub data Edit : Type 0 where
+  -- the content that goes to a row and a column
+  Input : ℕ → ℤ → ℤ → Content → Edit
+  -- the formula whose values fill a rectangle
+  ArrayInput : ℕ → MergedCell → Node → Edit
+  -- the link, or none, that goes to a row and a column
+  SetLink : ℕ → ℤ → ℤ → Option Link → Edit
+  -- the rectangle that is merged
+  Merge : ℕ → MergedCell → Edit
+  -- the row and the column whose merge is dissolved
+  Unmerge : ℕ → ℤ → ℤ → Edit
+  -- the rows or columns that are inserted or deleted
+  Lines : ℕ → LineAxis → EditKind → Edit
+  -- the first row or column of those that are moved, how many, and by how many, hidden ones in the way aside
+  MoveLines : ℕ → LineAxis → ℤ → ℤ → ℤ → Edit
+
+-- the move of lines of a sheet, by the hidden ones in the way too
+abbrev pub grown_move : LineAxis → ℤ → ℤ → ℤ → Sheet → EditKind
+grown_move axis first count delta sheet = Move first count (grown (along_of axis) sheet first count delta)
+
+-- where no line moves, or by none, a move does nothing, whatever else is asked
+abbrev pub is_silent : Edit → Bool
+is_silent (MoveLines index axis first count delta) = int_eq delta (pos 0) || int_lt count (pos 1)
+is_silent edit = false
+
+-- the workbook after an edit, or the edit's first refusal
+abbrev pub changed : Edit → Book → Result Book EditError
+changed (Input index row column content) book = input_put index row column content book
+changed (ArrayInput index r tree) book = array_put index r tree book
+changed (SetLink index row column entry) book = link_set index row column entry book
+changed (Merge index r) book = merge_made index r book
+changed (Unmerge index row column) book = merge_undone index row column book
+changed (Lines index axis kind) book = lines_edited (along_of axis) kind index book
+changed (MoveLines index axis first count delta) book =
+    and_then (sheet_at book index) (λ sheet. lines_edited (along_of axis) (grown_move axis first count delta sheet) index book)
+
+-- the record of an edit of lines of a sheet, if it is there
+abbrev pub lines_record : LineAxis → (Sheet → EditKind) → Book → Result Sheet EditError → List Diff
+lines_record axis kind book (Ok sheet) = line_record axis (kind sheet) sheet.id book
+lines_record axis kind book (Err error) = []
+
+-- the record of an edit that led from one workbook to another: the edit of lines with what taking it back does not give, else the entries
+-- that differ
+abbrev pub record_of : Edit → Book → Book → List Diff
+record_of (Lines index axis kind) earlier later = lines_record axis (λ sheet. kind) earlier (sheet_at earlier index)
+record_of (MoveLines index axis first count delta) earlier later = lines_record axis (grown_move axis first count delta) earlier (sheet_at earlier index)
+record_of edit earlier later = record_between earlier later

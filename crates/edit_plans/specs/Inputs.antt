@@ -1,0 +1,80 @@
+-- The input of a content at a place.
+use Rattle.std.proofs.Common.{◌≡◌, ℕ, ℤ, List, [], ◌++◌, Option, Some, None, Result, Ok, Err}
+use Rattle.std.specs.Prelude.{if◌then◌else◌, is_some, IsTrue}
+use Rattle.std.specs.FinMap as fin
+use Rattle.base_values.specs.declared.EditError.{EditError}
+use Rattle.base_values.specs.declared.EditError.TheVariants.{CoveredCell, ArrayCell}
+use Rattle.base_values.specs.declared.Position.{Position}
+use Rattle.base_values.specs.Answers.{and_then, map_ok}
+use Rattle.base_values.specs.KeyMap.{with_entry}
+use Rattle.base_values.specs.Places.{place_of}
+use Rattle.base_styles.specs.declared.Style.{Style}
+use Rattle.cell_content.specs.declared.Content.{Content}
+use Rattle.cell_content.specs.declared.Content.TheVariants.{Empty}
+use Rattle.cell_content.specs.Fitting.{fits_at}
+use Rattle.sheet_grid.specs.declared.Cell.{Cell}
+use Rattle.sheet_grid.specs.Arrays.{array_at}
+use Rattle.sheet_grid.specs.Merges.{is_covered, is_empty}
+use Rattle.sheet_grid.specs.Sheet.{Sheet, with_cell, shown_style}
+use Rattle.sheet_grid.specs.Book.{Book, sheet_edit}
+use Rattle.sheet_rules.specs.Occupied.{array_over}
+use Rattle.sheet_history.specs.declared.Diff.{Diff}
+use Rattle.sheet_history.specs.Entries.EntryKey.{CellKey}
+use Rattle.sheet_history.specs.Entries.EntryValue.{CellValue}
+use Rattle.sheet_history.specs.Records.{entry_record}
+use Rattle.edit_plans.specs.Links.{link_change}
+
+-- a new cell, with the style that its place shows; an empty input makes none
+abbrev pub new_cell : Content → Style → Option Cell
+new_cell Empty style = None
+new_cell content style = Some (record { content = content; style = style })
+
+-- a present cell gets the content, and shows its own style as before
+abbrev pub entered : Option Cell → Content → Style → Option Cell
+entered None content style = new_cell content style
+entered (Some cell) content style = Some (record { content = content; style = style })
+
+-- the cell at a place after the input of a content there
+abbrev pub cell_entered : Sheet → Position → Content → Option Cell
+cell_entered sheet place content = entered (fin.get sheet.cells place) content (shown_style sheet place)
+
+-- an empty input takes the link of a place away, also where there is no cell
+abbrev pub link_left : Content → Sheet → Position → Sheet
+link_left content sheet place = if is_empty content then record sheet { links = with_entry sheet.links place None } else sheet
+
+-- the sheet after the input of a content at a place
+abbrev pub with_input : Sheet → Content → Position → Sheet
+with_input sheet content place = link_left content (with_cell sheet place (cell_entered sheet place content)) place
+
+-- a place that no merge covers, and that no array of more than one cell holds
+abbrev pub free_place : Sheet → Position → Result Position EditError
+free_place sheet place =
+    if is_covered sheet.merges place then Err CoveredCell
+    else if is_some (array_over sheet place) then Err ArrayCell
+    else Ok place
+
+-- the place at a row and a column to which an input may go, or the first refusal: the row outside, the column outside, a covered
+-- cell, a cell of an array
+abbrev pub input_place : Sheet → ℤ → ℤ → Result Position EditError
+input_place sheet row column = and_then (place_of row column) (free_place sheet)
+
+-- the workbook after an input, or the first refusal: no such sheet, or no place to which it may go
+unfoldable pub input_put : ℕ → ℤ → ℤ → Content → Book → Result Book EditError
+input_put index row column content book = sheet_edit book index (λ sheet. map_ok (with_input sheet content) (input_place sheet row column))
+
+-- the change of the cell at a place that gets a content
+abbrev pub cell_record : Content → Sheet → Position → List Diff
+cell_record content sheet place = entry_record (CellKey sheet.id place) (CellValue (fin.get sheet.cells place)) (CellValue (cell_entered sheet place content))
+
+-- the change of its link
+abbrev pub link_record : Content → Sheet → Position → List Diff
+link_record content sheet place = if is_empty content then link_change sheet place None else []
+
+-- the record of an input at a place
+abbrev pub input_record : Content → Sheet → Position → List Diff
+input_record content sheet place = cell_record content sheet place ++ link_record content sheet place
+
+-- what an input may be: a content that may stand at its place, and no array
+pub record IsInput (row column : ℤ) (content : Content) : Type 0 where
+  pub fits : IsTrue (fits_at (record { row = row; column = column }) content)
+  pub plain : array_at (record { row = row; column = column }) content ≡ None

@@ -1,0 +1,9 @@
+pub mod Plans
+pub mod Inputs
+pub mod Links
+pub mod Blanked
+pub mod Merging
+pub mod ArrayInputs
+pub mod HiddenLines
+pub mod Edits
+pub mod laws

@@ -1,0 +1,22 @@
+-- What a plan of an edit returns: the record of its change.
+use Rattle.std.proofs.Common.{◌≡◌, ◌≢◌, List, Result, Err}
+use Rattle.std.specs.Prelude.{IfOk, IfErr, IsOk, IsOkAnd}
+use Rattle.base_values.specs.declared.EditError.{EditError}
+use Rattle.base_values.specs.declared.EditError.TheVariants.{NoMemory}
+use Rattle.sheet_grid.specs.Book.{Book}
+use Rattle.sheet_rules.specs.WellFormed.{IsWellFormed}
+use Rattle.sheet_history.specs.declared.Diff.{Diff}
+use Rattle.sheet_history.specs.Diffs.{IsKeptList}
+use Rattle.sheet_history.specs.Records.{IsRecord}
+
+-- the later workbook is well-formed, and a list has exactly the entries in which it differs from the earlier one
+pub record IsPlan (earlier : Book) (list : List Diff) (later : Book) : Type 0 where
+  pub exact : IsRecord earlier later list
+  pub rules : IsWellFormed later
+  pub kept : IsKeptList list
+
+-- a plan returns the record of the edit's change, or the edit's first refusal. Only where a change is expected may it be out of memory
+pub record Plans (result : Result (List Diff) EditError) (book : Book) (expected : Result Book EditError) : Type 0 where
+  pub planned : IfOk result (λ list. IsOkAnd expected (IsPlan book list))
+  pub refused : IfErr result (λ error. error ≢ NoMemory → expected ≡ Err error)
+  pub memory : IfErr result (λ error. error ≡ NoMemory → IsOk expected)

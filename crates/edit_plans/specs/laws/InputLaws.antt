@@ -2,6 +2,7 @@
 use Rattle.std.proofs.Common.{◌≡◌, ◌≢◌, ◌&&◌, ℕ, ℤ, Bool, true, false, cond, List, [], ◌∷◌, ◌++◌, Option, Some, None, Result, Ok, Err, refl, ap, sym, subst, ◌∙◌}
 use Rattle.std.specs.Prelude.{IsTrue, IfOk, IsOkUnless, is_none, is_some, not, ◌||◌}
 use Rattle.std.specs.FinMap as fin
+use Rattle.std.proofs.lemmas.List.{append-nil}
 use Rattle.base_values.specs.declared.EditError.{EditError}
 use Rattle.base_values.specs.declared.EditError.TheVariants.{CoveredCell, ArrayCell, NoMemory}
 use Rattle.base_values.specs.declared.Position.{Position}
@@ -124,10 +125,6 @@ module _ (sheet : Sheet) (place : Position) (shown : is_hidden_place sheet place
   entered_may None content style plain = new_may content style plain
   entered_may (Some cell) content style plain = cell_may content plain
 
-no_more : {A : Type 0} (xs : List A) → xs ++ [] ≡ xs
-no_more [] = refl
-no_more (x ∷ xs) = ap (λ ys. x ∷ ys) (no_more xs)
-
 -- the change of a cell comes before that of a link
 cell_first : (id : ℕ) (place : Position) (old new : Option Cell) (same : Bool) → come_before (LinkKey id place) (cond same [] (CellDiff id place old new ∷ [])) ≡ true
 cell_first id place old new true = refl
@@ -223,7 +220,7 @@ module _ (w : Book) (index : ℕ) (row column : ℤ) (content : Content) (rules 
   exact_by : (empty : Bool) → IsRecord w (with_sheet w index (cond empty unlinked celled)) (cell_record content sheet place ++ cond empty (link_change sheet place None) [])
   exact_by true = subst (λ later. IsRecord w later (cell_record content sheet place ++ link_change sheet place None)) put_both_is both_exact
   exact_by false =
-      subst (IsRecord w (with_sheet w index celled)) (sym (no_more (cell_record content sheet place)))
+      subst (IsRecord w (with_sheet w index celled)) (sym (append-nil (cell_record content sheet place)))
       (subst (λ later. IsRecord w later (cell_record content sheet place)) put_cell_is cell_exact)
 
   pub input_well_formed : IsWellFormed after

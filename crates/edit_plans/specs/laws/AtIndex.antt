@@ -21,7 +21,8 @@ abbrev ids : List Sheet → List ℕ
 ids sheets = map (λ (s : Sheet). s.id) sheets
 
 -- a later sheet has another id than the first one
-apart : (first : Sheet) (sheets : List Sheet) → AllByRecursion (λ id. (first.id == id) ≡ false) (ids sheets) → (index : ℕ) (sheet : Sheet) → slice_get sheets index ≡ Some sheet → (first.id == sheet.id) ≡ false
+apart : (first : Sheet) (sheets : List Sheet) → AllByRecursion (λ id. (first.id == id) ≡ false) (ids sheets) → (index : ℕ) (sheet : Sheet)
+    → slice_get sheets index ≡ Some sheet → (first.id == sheet.id) ≡ false
 apart first [] others index sheet found = absurd (cc)
 apart first (s ∷ sheets) others zero sheet found = let same : s ≡ sheet = cc in ap (λ (t : Sheet). first.id == t.id) (sym same) ∙ others.0
 apart first (s ∷ sheets) others (suc index) sheet found = apart first sheets others.1 index sheet found
@@ -30,7 +31,8 @@ own_id : (s sheet : Sheet) → s ≡ sheet → (s.id == sheet.id) ≡ true
 own_id s sheet same = (unsigned_Decides s.id sheet.id).1 (ap (λ (t : Sheet). t.id) same)
 
 -- a sheet that is changed by its index is changed by its id
-own_changed : (change : Sheet → Sheet) (sheets : List Sheet) → IsDistinct ◌==◌ (ids sheets) → (index : ℕ) (sheet : Sheet) → slice_get sheets index ≡ Some sheet
+own_changed : (change : Sheet → Sheet) (sheets : List Sheet) → IsDistinct ◌==◌ (ids sheets) → (index : ℕ) (sheet : Sheet)
+    → slice_get sheets index ≡ Some sheet
     → with_changed sheet.id change sheets ≡ slice_set sheets index (change sheet)
 unfolding IsDistinct
 own_changed change [] distinct index sheet found = absurd (cc)
@@ -56,13 +58,15 @@ module _ (w : Book) (rules : IsWellFormed w) (index : ℕ) (sheet : Sheet) (at :
   keeps = sheet_rules w rules sheet.id sheet there
 
   -- a change of the sheet of its id is one of it
-  pub changed_at : (change : Sheet → Sheet) → ◌≡◌ {A = Book} (record w { worksheets = with_changed sheet.id change w.worksheets }) (with_sheet w index (change sheet))
+  pub changed_at : (change : Sheet → Sheet)
+      → ◌≡◌ {A = Book} (record w { worksheets = with_changed sheet.id change w.worksheets }) (with_sheet w index (change sheet))
   changed_at change = ap (λ ss. record w { worksheets = ss }) (own_changed change w.worksheets (distinct_ids_from_well_formed w rules) index sheet found)
 
 -- ---- entries that are put one after another
 
 -- changes of one sheet, one after another
-changed_twice : (id : ℕ) (first second : Sheet → Sheet) → ((s : Sheet) → (first s).id ≡ s.id) → (ss : List Sheet) → with_changed id second (with_changed id first ss) ≡ with_changed id (λ s. second (first s)) ss
+changed_twice : (id : ℕ) (first second : Sheet → Sheet) → ((s : Sheet) → (first s).id ≡ s.id) → (ss : List Sheet)
+    → with_changed id second (with_changed id first ss) ≡ with_changed id (λ s. second (first s)) ss
 changed_twice id first second same_ids [] = refl
 changed_twice id first second same_ids (s ∷ ss) =
     decide (s.id == id)
@@ -75,7 +79,8 @@ changed_twice id first second same_ids (s ∷ ss) =
     ∙ ap (λ b. cond b (second (first s) ∷ ss) (s ∷ with_changed id (λ t. second (first t)) ss)) (sym miss))
 
 -- an entry that is put changes the sheet of its id
-pub put_changed : (w : Book) (k : EntryKey) (v : EntryValue) → put_entry w k v ≡ record w { worksheets = with_changed (sheet_id_of k) (with_sheet_entry k v) w.worksheets }
+pub put_changed : (w : Book) (k : EntryKey) (v : EntryValue)
+    → put_entry w k v ≡ record w { worksheets = with_changed (sheet_id_of k) (with_sheet_entry k v) w.worksheets }
 unfolding put_entry
 put_changed w k v = refl
 
@@ -85,10 +90,12 @@ pub put_twice : (w : Book) (k l : EntryKey) (v u : EntryValue) → sheet_id_of l
 unfolding put_entry
 put_twice w k l v u one =
     (λ i. record w { worksheets = with_changed (one i) (with_sheet_entry l u) (with_changed (sheet_id_of k) (with_sheet_entry k v) w.worksheets) })
-    ∙ ap (λ ss. record w { worksheets = ss }) (changed_twice (sheet_id_of k) (with_sheet_entry k v) (with_sheet_entry l u) (id-with_sheet_entry k v) w.worksheets)
+    ∙ ap (λ ss. record w { worksheets = ss })
+    (changed_twice (sheet_id_of k) (with_sheet_entry k v) (with_sheet_entry l u) (id-with_sheet_entry k v) w.worksheets)
 
 -- the sheet of an entry that was put
-pub sheet_of-put : (w : Book) (k : EntryKey) (v : EntryValue) (sheet : Sheet) → sheet_of w (sheet_id_of k) ≡ Some sheet → sheet_of (put_entry w k v) (sheet_id_of k) ≡ Some (with_sheet_entry k v sheet)
+pub sheet_of-put : (w : Book) (k : EntryKey) (v : EntryValue) (sheet : Sheet) → sheet_of w (sheet_id_of k) ≡ Some sheet
+    → sheet_of (put_entry w k v) (sheet_id_of k) ≡ Some (with_sheet_entry k v sheet)
 unfolding put_entry
 sheet_of-put w k v sheet there =
     found-changed (with_sheet_entry k v) (id-with_sheet_entry k v) (sheet_id_of k) w.worksheets ∙ ap (option_map (with_sheet_entry k v)) there

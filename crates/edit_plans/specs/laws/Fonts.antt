@@ -31,7 +31,8 @@ unfolding place_of
 place_inside row column place is = go (is_line (pos 1048576) row) refl (is_line (pos 16384) column) refl is
   where
     go : (a : Bool) → is_line (pos 1048576) row ≡ a → (b : Bool) → is_line (pos 16384) column ≡ b
-        → ◌≡◌ {A = Result Position EditError} (cond a (cond b (Ok (record { row = row; column = column })) (Err InvalidColumn)) (Err InvalidRow)) (Ok place) → is_place place ≡ true
+        → ◌≡◌ {A = Result Position EditError} (cond a (cond b (Ok (record { row = row; column = column })) (Err InvalidColumn)) (Err InvalidRow)) (Ok place)
+        → is_place place ≡ true
     go true one true two e =
         let same : ◌≡◌ {A = Position} (record { row = row; column = column }) place = cc in
         ap is_place (sym same) ∙ (λ i. one i && two i)
@@ -86,19 +87,24 @@ pub shown_font : (sheet : Sheet) → have_attributes sheet ≡ true → (place :
 shown_font sheet all place =
     shown (own_style sheet place)
     (either_font (cell_style (fin.get sheet.cells place)) (line_style sheet place) (of_cell (fin.get sheet.cells place) refl)
-    (either_font (own_line_style (fin.get sheet.rows place.row)) (own_line_style (fin.get sheet.columns place.column)) (of_row (fin.get sheet.rows place.row) refl) (of_column (fin.get sheet.columns place.column) refl)))
+    (either_font (own_line_style (fin.get sheet.rows place.row)) (own_line_style (fin.get sheet.columns place.column))
+    (of_row (fin.get sheet.rows place.row) refl) (of_column (fin.get sheet.columns place.column) refl)))
   where
     fonts : Attributes sheet
     fonts = attributes_of sheet all
 
     of_cell : (o : Option Cell) → fin.get sheet.cells place ≡ o → HasFont (cell_style o)
     of_cell None is = tt
-    of_cell (Some cell) is = entry_holds position_cmp position_total exact_positions (λ (entry : Position × Cell). has_font entry.1.style) sheet.cells fonts.cells place cell is
+    of_cell (Some cell) is =
+        entry_holds position_cmp position_total exact_positions (λ (entry : Position × Cell). has_font entry.1.style) sheet.cells fonts.cells place cell is
 
     of_row : (o : Option LineAttr) → fin.get sheet.rows place.row ≡ o → HasFont (own_line_style o)
     of_row None is = tt
-    of_row (Some attr) is = row_font attr (entry_holds int_cmp int_cmp_total exact_signed (λ (entry : ℤ × LineAttr). is_row entry.1) sheet.rows fonts.rows place.row attr is)
+    of_row (Some attr) is =
+        row_font attr (entry_holds int_cmp int_cmp_total exact_signed (λ (entry : ℤ × LineAttr). is_row entry.1) sheet.rows fonts.rows place.row attr is)
 
     of_column : (o : Option LineAttr) → fin.get sheet.columns place.column ≡ o → HasFont (own_line_style o)
     of_column None is = tt
-    of_column (Some attr) is = column_font attr (entry_holds int_cmp int_cmp_total exact_signed (λ (entry : ℤ × LineAttr). is_column entry.1) sheet.columns fonts.columns place.column attr is)
+    of_column (Some attr) is =
+        column_font attr
+        (entry_holds int_cmp int_cmp_total exact_signed (λ (entry : ℤ × LineAttr). is_column entry.1) sheet.columns fonts.columns place.column attr is)

@@ -1,7 +1,9 @@
 -- An input that goes to a place leaves a well-formed workbook, and its changes are the record.
-use Rattle.std.proofs.Common.{◌≡◌, ◌≢◌, ◌&&◌, ℕ, ℤ, Bool, true, false, cond, List, [], ◌∷◌, ◌++◌, Option, Some, None, Result, Ok, Err, refl, ap, sym, subst, ◌∙◌}
+use Rattle.std.proofs.Common.{◌≡◌, ◌≢◌, ◌&&◌, ℕ, ℤ, Bool, true, false, cond, List, [], ◌∷◌, ◌++◌, Option, Some, None, Result, Ok, Err}
+use Rattle.std.proofs.Common.{refl, ap, sym, subst, ◌∙◌}
 use Rattle.std.specs.Prelude.{IsTrue, IfOk, IsOkUnless, is_none, is_some, not, ◌||◌}
 use Rattle.std.specs.FinMap as fin
+use Rattle.std.proofs.lemmas.List.{append-nil}
 use Rattle.base_values.specs.declared.EditError.{EditError}
 use Rattle.base_values.specs.declared.EditError.TheVariants.{CoveredCell, ArrayCell, NoMemory}
 use Rattle.base_values.specs.declared.Position.{Position}
@@ -52,7 +54,8 @@ pub record IsFree (sheet : Sheet) (row column : ℤ) (place : Position) : Type 0
 pub is_free : (sheet : Sheet) (row column : ℤ) (place : Position) → input_place sheet row column ≡ Ok place → IsFree sheet row column place
 is_free sheet row column place is = go (place_of row column) refl is
   where
-    tests : (p : Position) → place_of row column ≡ Ok p → (b : Bool) → is_covered sheet.merges p ≡ b → (o : Option MergedCell) → array_over sheet p ≡ o
+    tests : (p : Position) → place_of row column ≡ Ok p → (b : Bool) → is_covered sheet.merges p ≡ b → (o : Option MergedCell)
+        → array_over sheet p ≡ o
         → cond b (Err CoveredCell) (cond (is_some o) (Err ArrayCell) (Ok p)) ≡ Ok place → IsFree sheet row column place
     tests p found false one None two e =
         let same : p ≡ place = cc in
@@ -60,12 +63,14 @@ is_free sheet row column place is = go (place_of row column) refl is
     tests p found false one (Some array) two e = absurd (let never : ◌≡◌ {A = Result Position EditError} (Err ArrayCell) (Ok place) = e in cc)
     tests p found true one o two e = absurd (let never : ◌≡◌ {A = Result Position EditError} (Err CoveredCell) (Ok place) = e in cc)
 
-    go : (r : Result Position EditError) → place_of row column ≡ r → and_then r (free_place sheet) ≡ Ok place → IsFree sheet row column place
+    go : (r : Result Position EditError) → place_of row column ≡ r → and_then r (free_place sheet) ≡ Ok place
+        → IsFree sheet row column place
     go (Ok p) found e = tests p found (is_covered sheet.merges p) refl (array_over sheet p) refl e
     go (Err error) found e = absurd (let never : ◌≡◌ {A = Result Position EditError} (Err error) (Ok place) = e in cc)
 
 -- it is found again at its own row and column
-pub input_named : (sheet : Sheet) (row column : ℤ) (place : Position) → input_place sheet row column ≡ Ok place → place_of place.row place.column ≡ Ok place
+pub input_named : (sheet : Sheet) (row column : ℤ) (place : Position) → input_place sheet row column ≡ Ok place
+    → place_of place.row place.column ≡ Ok place
 input_named sheet row column place goes = place_again row column place (is_free sheet row column place goes).named
 
 -- ---- what an input may be may stand where it goes
@@ -81,14 +86,17 @@ new_font (Dynamic tree) style font = font
 new_font (Array tree width height) style font = font
 
 -- the new entry has the font that its place shows
-pub entered_font : (old : Option Cell) (content : Content) (style : Style) → IsTrue (has_font style) → IsTrue (entry_has_font (entered old content style))
+pub entered_font : (old : Option Cell) (content : Content) (style : Style) → IsTrue (has_font style)
+    → IsTrue (entry_has_font (entered old content style))
 entered_font None content style font = new_font content style font
 entered_font (Some cell) content style font = font
 
-fits_no_array : (place : Position) (content : Content) → fits_at place content ≡ true → array_at place content ≡ None → (fits_at place content && lies_inside (array_at place content)) ≡ true
+fits_no_array : (place : Position) (content : Content) → fits_at place content ≡ true → array_at place content ≡ None
+    → (fits_at place content && lies_inside (array_at place content)) ≡ true
 fits_no_array place content fits plain = λ i. fits i && lies_inside (plain i)
 
-new_stands : (place : Position) (content : Content) (style : Style) → fits_at place content ≡ true → array_at place content ≡ None → cell_stands_at place (new_cell content style) ≡ true
+new_stands : (place : Position) (content : Content) (style : Style) → fits_at place content ≡ true → array_at place content ≡ None
+    → cell_stands_at place (new_cell content style) ≡ true
 new_stands place Empty style fits plain = refl
 new_stands place (Number number) style fits plain = fits_no_array place (Number number) fits plain
 new_stands place (Boolean value) style fits plain = fits_no_array place (Boolean value) fits plain
@@ -98,12 +106,14 @@ new_stands place (Formula tree) style fits plain = fits_no_array place (Formula 
 new_stands place (Dynamic tree) style fits plain = fits_no_array place (Dynamic tree) fits plain
 new_stands place (Array tree width height) style fits plain = fits_no_array place (Array tree width height) fits plain
 
-entered_stands : (place : Position) (old : Option Cell) (content : Content) (style : Style) → fits_at place content ≡ true → array_at place content ≡ None → cell_stands_at place (entered old content style) ≡ true
+entered_stands : (place : Position) (old : Option Cell) (content : Content) (style : Style) → fits_at place content ≡ true
+    → array_at place content ≡ None → cell_stands_at place (entered old content style) ≡ true
 entered_stands place None content style fits plain = new_stands place content style fits plain
 entered_stands place (Some cell) content style fits plain = fits_no_array place content fits plain
 
 module _ (sheet : Sheet) (place : Position) (shown : is_hidden_place sheet place ≡ false) where
-  cell_may : (content : Content) → array_at place content ≡ None → (is_none (array_at place content) && (is_empty content || not (is_hidden_place sheet place))) ≡ true
+  cell_may : (content : Content) → array_at place content ≡ None
+      → (is_none (array_at place content) && (is_empty content || not (is_hidden_place sheet place))) ≡ true
   cell_may content plain = (λ i. is_none (plain i) && (is_empty content || not (shown i))) ∙ either (is_empty content)
     where
       either : (b : Bool) → (b || true) ≡ true
@@ -120,16 +130,14 @@ module _ (sheet : Sheet) (place : Position) (shown : is_hidden_place sheet place
   new_may (Dynamic tree) style plain = cell_may (Dynamic tree) plain
   new_may (Array tree width height) style plain = cell_may (Array tree width height) plain
 
-  entered_may : (old : Option Cell) (content : Content) (style : Style) → array_at place content ≡ None → may_stand sheet place (entered old content style) ≡ true
+  entered_may : (old : Option Cell) (content : Content) (style : Style) → array_at place content ≡ None
+      → may_stand sheet place (entered old content style) ≡ true
   entered_may None content style plain = new_may content style plain
   entered_may (Some cell) content style plain = cell_may content plain
 
-no_more : {A : Type 0} (xs : List A) → xs ++ [] ≡ xs
-no_more [] = refl
-no_more (x ∷ xs) = ap (λ ys. x ∷ ys) (no_more xs)
-
 -- the change of a cell comes before that of a link
-cell_first : (id : ℕ) (place : Position) (old new : Option Cell) (same : Bool) → come_before (LinkKey id place) (cond same [] (CellDiff id place old new ∷ [])) ≡ true
+cell_first : (id : ℕ) (place : Position) (old new : Option Cell) (same : Bool)
+    → come_before (LinkKey id place) (cond same [] (CellDiff id place old new ∷ [])) ≡ true
 cell_first id place old new true = refl
 cell_first id place old new false = refl
 
@@ -171,7 +179,8 @@ module _ (w : Book) (index : ℕ) (row column : ℤ) (content : Content) (rules 
   stands : may_stand_on (sheet_of w sheet.id) place new ≡ true
   stands =
       ap (λ o. may_stand_on o place new) is_there
-      ∙ entered_may sheet place (shown_where_free place sheet (keeps w rules index sheet at).merges free.uncovered free.apart) old content (shown_style sheet place) plain
+      ∙ entered_may sheet place (shown_where_free place sheet (keeps w rules index sheet at).merges free.uncovered free.apart) old content
+      (shown_style sheet place) plain
 
   -- ---- the cell
 
@@ -208,7 +217,8 @@ module _ (w : Book) (index : ℕ) (row column : ℤ) (content : Content) (rules 
 
   both_exact : IsRecord w put_both (cell_record content sheet place ++ link_change sheet place None)
   both_exact =
-      put_after w put_cell (cell_record content sheet place) cell_exact link_key (LinkValue None) celled (sheet_of-put w cell_key (CellValue new) sheet is_there) inside
+      put_after w put_cell (cell_record content sheet place) cell_exact link_key (LinkValue None) celled
+      (sheet_of-put w cell_key (CellValue new) sheet is_there) inside
       (cell_first sheet.id place old new (same_entry_value (CellValue old) (CellValue new)))
 
   -- ---- the workbook after the input
@@ -220,10 +230,11 @@ module _ (w : Book) (index : ℕ) (row column : ℤ) (content : Content) (rules 
   rules_by true = subst IsWellFormed put_both_is both_rules
   rules_by false = subst IsWellFormed put_cell_is cell_rules
 
-  exact_by : (empty : Bool) → IsRecord w (with_sheet w index (cond empty unlinked celled)) (cell_record content sheet place ++ cond empty (link_change sheet place None) [])
+  exact_by : (empty : Bool)
+      → IsRecord w (with_sheet w index (cond empty unlinked celled)) (cell_record content sheet place ++ cond empty (link_change sheet place None) [])
   exact_by true = subst (λ later. IsRecord w later (cell_record content sheet place ++ link_change sheet place None)) put_both_is both_exact
   exact_by false =
-      subst (IsRecord w (with_sheet w index celled)) (sym (no_more (cell_record content sheet place)))
+      subst (IsRecord w (with_sheet w index celled)) (sym (append-nil (cell_record content sheet place)))
       (subst (λ later. IsRecord w later (cell_record content sheet place)) put_cell_is cell_exact)
 
   pub input_well_formed : IsWellFormed after
@@ -238,7 +249,9 @@ module _ (w : Book) (index : ℕ) (row column : ℤ) (content : Content) (rules 
 
   pub input_expected : input_put index row column content w ≡ Ok after
   unfolding input_put
-  input_expected = sheet_takes w index (λ s. map_ok (with_input s content) (input_place s row column)) sheet (with_input sheet content place) at (ap (map_ok (with_input sheet content)) goes)
+  input_expected =
+      sheet_takes w index (λ s. map_ok (with_input s content) (input_place s row column)) sheet (with_input sheet content place) at
+      (ap (map_ok (with_input sheet content)) goes)
 
 -- ---- what the plan returns
 
@@ -256,22 +269,28 @@ input_sure sheet row column error is short = go (place_of row column) refl is
     go (Err other) found e = let same : other ≡ error = cc in place_sure row column other found (same ∙ short)
 
 -- where no such sheet is there
-pub input_no_sheet : (w : Book) (index : ℕ) (row column : ℤ) (content : Content) (error : EditError) → sheet_at w index ≡ Err error → Plans (Err error) w (input_put index row column content w)
+pub input_no_sheet : (w : Book) (index : ℕ) (row column : ℤ) (content : Content) (error : EditError) → sheet_at w index ≡ Err error
+    → Plans (Err error) w (input_put index row column content w)
 unfolding input_put
 input_no_sheet w index row column content error missing =
-    plan_refused w (input_put index row column content w) error (no_sheet w index (λ s. map_ok (with_input s content) (input_place s row column)) error missing) (sheet_sure w index error missing)
+    plan_refused w (input_put index row column content w) error (no_sheet w index (λ s. map_ok (with_input s content) (input_place s row column)) error missing)
+    (sheet_sure w index error missing)
 
 -- where no input may go to the place
-pub input_refused : (w : Book) (index : ℕ) (row column : ℤ) (content : Content) (sheet : Sheet) (error : EditError) → sheet_at w index ≡ Ok sheet → input_place sheet row column ≡ Err error
+pub input_refused : (w : Book) (index : ℕ) (row column : ℤ) (content : Content) (sheet : Sheet) (error : EditError)
+    → sheet_at w index ≡ Ok sheet → input_place sheet row column ≡ Err error
     → Plans (Err error) w (input_put index row column content w)
 unfolding input_put
 input_refused w index row column content sheet error at refused =
     plan_refused w (input_put index row column content w) error
-    (sheet_refuses w index (λ s. map_ok (with_input s content) (input_place s row column)) sheet error at (ap (map_ok (with_input sheet content)) refused)) (input_sure sheet row column error refused)
+    (sheet_refuses w index (λ s. map_ok (with_input s content) (input_place s row column)) sheet error at (ap (map_ok (with_input sheet content)) refused))
+    (input_sure sheet row column error refused)
 
 -- and else
-pub input_planned : (w : Book) (index : ℕ) (row column : ℤ) (content : Content) → IsWellFormed w → IsInput row column content → (sheet : Sheet) (place : Position) → sheet_at w index ≡ Ok sheet
-    → input_place sheet row column ≡ Ok place → (result : Result (List Diff) EditError) → IfOk result (λ list. list ≡ input_record content sheet place) → IfOk result IsKeptList
+pub input_planned : (w : Book) (index : ℕ) (row column : ℤ) (content : Content) → IsWellFormed w → IsInput row column content
+    → (sheet : Sheet) (place : Position) → sheet_at w index ≡ Ok sheet
+    → input_place sheet row column ≡ Ok place → (result : Result (List Diff) EditError)
+    → IfOk result (λ list. list ≡ input_record content sheet place) → IfOk result IsKeptList
     → IsOkUnless result NoMemory → Plans result w (input_put index row column content w)
 input_planned w index row column content rules may sheet place at goes result made kept only =
     plan_made w (after w index row column content rules may sheet place at goes) (input_put index row column content w) result

@@ -47,38 +47,50 @@ module _ (w : Book) (index : ℕ) (row column : ℤ) (entry : Option Link) (rule
 
   pub link_plan : (list : List Diff) → list ≡ link_change sheet place entry → IsKeptList list → IsPlan w list after
   link_plan list is kept = record {
-    exact = subst (λ later. IsRecord w later list) put_is (subst (IsRecord w (put_entry w key (LinkValue entry))) (sym is) (put_record w key (LinkValue entry) sheet (there w rules index sheet at) inside));
+    exact = subst (λ later. IsRecord w later list) put_is
+        (subst (IsRecord w (put_entry w key (LinkValue entry))) (sym is) (put_record w key (LinkValue entry) sheet (there w rules index sheet at) inside));
     rules = link_well_formed;
     kept = kept;
   }
 
   pub link_expected : link_set index row column entry w ≡ Ok after
   unfolding link_set
-  link_expected = sheet_takes w index (λ s. link_put s row column entry) sheet linked at (ap (map_ok (λ p. record sheet { links = with_entry sheet.links p entry })) named)
+  link_expected =
+      sheet_takes w index (λ s. link_put s row column entry) sheet linked at
+      (ap (map_ok (λ p. record sheet { links = with_entry sheet.links p entry })) named)
 
 -- ---- what the plan returns
 
 -- where no such sheet is there
-pub link_no_sheet : (w : Book) (index : ℕ) (row column : ℤ) (entry : Option Link) (error : EditError) → sheet_at w index ≡ Err error → Plans (Err error) w (link_set index row column entry w)
+pub link_no_sheet : (w : Book) (index : ℕ) (row column : ℤ) (entry : Option Link) (error : EditError) → sheet_at w index ≡ Err error
+    → Plans (Err error) w (link_set index row column entry w)
 unfolding link_set
 link_no_sheet w index row column entry error missing =
-    plan_refused w (link_set index row column entry w) error (no_sheet w index (λ s. link_put s row column entry) error missing) (sheet_sure w index error missing)
+    plan_refused w (link_set index row column entry w) error (no_sheet w index (λ s. link_put s row column entry) error missing)
+    (sheet_sure w index error missing)
 
 -- where the place is outside
-pub link_refused : (w : Book) (index : ℕ) (row column : ℤ) (entry : Option Link) (sheet : Sheet) (error : EditError) → sheet_at w index ≡ Ok sheet → place_of row column ≡ Err error
+pub link_refused : (w : Book) (index : ℕ) (row column : ℤ) (entry : Option Link) (sheet : Sheet) (error : EditError)
+    → sheet_at w index ≡ Ok sheet → place_of row column ≡ Err error
     → Plans (Err error) w (link_set index row column entry w)
 unfolding link_set
 link_refused w index row column entry sheet error at outside =
     plan_refused w (link_set index row column entry w) error
-    (sheet_refuses w index (λ s. link_put s row column entry) sheet error at (ap (map_ok (λ p. record sheet { links = with_entry sheet.links p entry })) outside)) (place_sure row column error outside)
+    (sheet_refuses w index (λ s. link_put s row column entry) sheet error at
+    (ap (map_ok (λ p. record sheet { links = with_entry sheet.links p entry })) outside))
+    (place_sure row column error outside)
 
 -- and else
-pub link_planned : (w : Book) (index : ℕ) (row column : ℤ) (entry : Option Link) → IsWellFormed w → (sheet : Sheet) (place : Position) → sheet_at w index ≡ Ok sheet → place_of row column ≡ Ok place
-    → (result : Result (List Diff) EditError) → IfOk result (λ list. list ≡ link_change sheet place entry) → IfOk result IsKeptList → IsOkUnless result NoMemory
+pub link_planned : (w : Book) (index : ℕ) (row column : ℤ) (entry : Option Link) → IsWellFormed w → (sheet : Sheet) (place : Position)
+    → sheet_at w index ≡ Ok sheet → place_of row column ≡ Ok place
+    → (result : Result (List Diff) EditError) → IfOk result (λ list. list ≡ link_change sheet place entry) → IfOk result IsKeptList
+    → IsOkUnless result NoMemory
     → Plans result w (link_set index row column entry w)
 link_planned w index row column entry rules sheet place at named result made kept only =
-    plan_made w (after w index row column entry rules sheet place at named) (link_set index row column entry w) result (link_expected w index row column entry rules sheet place at named) only (plan result made kept)
+    plan_made w (after w index row column entry rules sheet place at named) (link_set index row column entry w) result
+    (link_expected w index row column entry rules sheet place at named) only (plan result made kept)
   where
-    plan : (r : Result (List Diff) EditError) → IfOk r (λ list. list ≡ link_change sheet place entry) → IfOk r IsKeptList → IfOk r (λ list. IsPlan w list (after w index row column entry rules sheet place at named))
+    plan : (r : Result (List Diff) EditError) → IfOk r (λ list. list ≡ link_change sheet place entry) → IfOk r IsKeptList
+        → IfOk r (λ list. IsPlan w list (after w index row column entry rules sheet place at named))
     plan (Ok list) is all = link_plan w index row column entry rules sheet place at named list is all
     plan (Err error) is all = tt

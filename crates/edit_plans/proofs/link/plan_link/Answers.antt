@@ -8,7 +8,9 @@ use Rattle.edit_plans.proofs.link.plan_link.Goals as goal
 pub returns-in_err-found : goal.returns-in_err-found
 returns-in_err-found c =
     let p = err_from_is_err_and c.from_residual.result c.from_residual.ensures.1 in
-    rw (p.1, p.2) (record { planned = link_no_sheet c.args.workbook.now c.args.sheet c.args.row c.args.column c.args.link c.in_err-found.field-0.0 (sym c.in_err-found.ensures) })
+    let refused = link_no_sheet c.args.workbook.now c.args.sheet c.args.row c.args.column c.args.link
+        c.in_err-found.field-0.0 (sym c.in_err-found.ensures) in
+    rw (p.1, p.2) (record { planned = refused })
 
 pub returns-in_err-place : goal.returns-in_err-place
 returns-in_err-place c =
@@ -16,8 +18,9 @@ returns-in_err-place c =
     let column_fits : SFits w32 c.args.column = c.ranges.column in
     let p = err_from_is_err_and c.from_residual-in_err-place.result c.from_residual-in_err-place.ensures.1 in
     let refused = simp to_z-of_z at c.in_err-place.ensures.place in
-    rw (p.1, p.2)
-    (record { planned = link_refused c.args.workbook.now c.args.sheet c.args.row c.args.column c.args.link c.in_ok-found.found.now c.in_err-place.field-0.0 (sym (c.in_ok-found.ensures {u = _})) (sym refused) })
+    let planned = link_refused c.args.workbook.now c.args.sheet c.args.row c.args.column c.args.link
+        c.in_ok-found.found.now c.in_err-place.field-0.0 (sym (c.in_ok-found.ensures {u = _})) (sym refused) in
+    rw (p.1, p.2) (record { planned = planned })
 
 pub link_list-requires : goal.link_list-requires
 link_list-requires c =

@@ -1,12 +1,14 @@
 -- Records one after another are a record, where the keys of the second come behind those of the first.
-use Rattle.std.proofs.Common.{◌≡◌, ℕ, Bool, true, false, cond, ◌&&◌, List, [], ◌∷◌, ◌++◌, map, Option, Some, None, is_some, refl, ap, sym, subst, ◌∙◌}
-use Rattle.std.specs.Prelude.{IsTrue}
+use Rattle.std.proofs.Common.{◌≡◌, Bool, true, false, cond, ◌&&◌, List, [], ◌∷◌, ◌++◌, map, Option, Some, None, is_some, refl, ap, sym, ◌∙◌}
 use Rattle.std.specs.List.{list_all}
+use Rattle.std.specs.Option.{option_or}
 use Rattle.std.specs.Ordering.{is_eq, is_lt, eq_by_cmp}
 use Rattle.std.specs.Cmp.{IsTotalOrder}
 use Rattle.std.specs.declared.cmp.Ordering.{Ordering}
 use Rattle.std.specs.declared.cmp.Ordering.TheVariants.{Less, Equal, Greater}
 use Rattle.std.specs.FinMap.Entries.{find, is_sorted, below_all}
+use Rattle.std.proofs.lemmas.List.{map-append}
+use Rattle.std.proofs.lemmas.List.Folds.{list_all-map}
 use Rattle.std.proofs.lemmas.Map.Lookups.{CmpEqualImpliesEq}
 use Rattle.base_maps.specs.laws.Keys.{one_key}
 use Rattle.sheet_grid.specs.Sheet.{Sheet}
@@ -30,10 +32,6 @@ not_tied Less h = refl
 not_tied Equal h = absurd (cc)
 not_tied Greater h = absurd (cc)
 
-abbrev first_of : {X : Type 0} → Option X → Option X → Option X
-first_of (Some x) other = Some x
-first_of None other = other
-
 module _ {K X : Type 0} (R : K → K → Ordering) where
   -- every key of a list is below every key of another
   abbrev all_below : List (K × X) → List (K × X) → Bool
@@ -50,9 +48,9 @@ module _ {K X : Type 0} (R : K → K → Ordering) where
       let lower = both (below_all R e.0 fs) (all_below es fs) below in
       λ i. below-append e.0 es fs parts.0 lower.0 i && sorted-append es fs parts.1 two lower.1 i
 
-  find-append : (es fs : List (K × X)) (q : K) → find R q (es ++ fs) ≡ first_of (find R q es) (find R q fs)
+  find-append : (es fs : List (K × X)) (q : K) → find R q (es ++ fs) ≡ option_or (find R q es) (find R q fs)
   find-append [] fs q = refl
-  find-append (e ∷ es) fs q = elim (eq_by_cmp R q e.0) as (λ b. cond b (Some e.1) (find R q (es ++ fs)) ≡ first_of (cond b (Some e.1) (find R q es)) (find R q fs))
+  find-append (e ∷ es) fs q = elim (eq_by_cmp R q e.0) as (λ b. cond b (Some e.1) (find R q (es ++ fs)) ≡ option_or (cond b (Some e.1) (find R q es)) (find R q fs))
       [ true ↦ refl | false ↦ find-append es fs q ]
 
   below_none : (p : K) (fs : List (K × X)) → below_all R p fs ≡ true → find R p fs ≡ None
@@ -92,10 +90,6 @@ is_behind first (Some change) = is_before change.0 first
 abbrev pub are_before : List Diff → List Diff → Bool
 are_before diffs later = list_all (λ diff. list_all (λ next. is_behind (change_of diff) (change_of next)) later) diffs
 
-list_all-map : {A B : Type 0} (P : B → Bool) (f : A → B) (xs : List A) → list_all P (map f xs) ≡ list_all (λ x. P (f x)) xs
-list_all-map P f [] = refl
-list_all-map P f (x ∷ xs) = ap (λ b. P (f x) && b) (list_all-map P f xs)
-
 list_all-same : {A : Type 0} (P Q : A → Bool) → ((x : A) → P x ≡ Q x) → (xs : List A) → list_all P xs ≡ list_all Q xs
 list_all-same P Q same [] = refl
 list_all-same P Q same (x ∷ xs) = λ i. same x i && list_all-same P Q same xs i
@@ -117,13 +111,9 @@ changes_below xs ys es fs one two before =
     (λ x. list_all-map (is_behind (change_of x)) change_of ys) xs
     ∙ before
 
-map-append : {A B : Type 0} (f : A → B) (xs ys : List A) → map f (xs ++ ys) ≡ map f xs ++ map f ys
-map-append f [] ys = refl
-map-append f (x ∷ xs) ys = ap (λ zs. f x ∷ zs) (map-append f xs ys)
-
 -- ---- records
 
-changed_pair : (b : Bool) (old new : EntryValue) → same_entry_value old new ≡ b → cond b None (Some (old, new)) ≡ None → old ≡ new
+changed_pair : (b : Bool) (old new : EntryValue) → same_entry_value old new ≡ b → ◌≡◌ {A = Option (EntryValue × EntryValue)} (cond b None (Some (old, new))) None → old ≡ new
 changed_pair true old new same none = (same_value_decides old new).0 same
 changed_pair false old new same none = absurd (cc)
 
@@ -144,7 +134,7 @@ module _ (a b c : Book) (xs ys : List Diff) (one : IsRecord a b xs) (two : IsRec
   below : all_below key_cmp es fs ≡ true
   below = changes_below xs ys es fs one.made_of two.made_of before
 
-  exact_at : (key : EntryKey) (o : Option (EntryValue × EntryValue)) → find key_cmp key es ≡ o → first_of o (find key_cmp key fs) ≡ changed_entry (entry_at a key) (entry_at c key)
+  exact_at : (key : EntryKey) (o : Option (EntryValue × EntryValue)) → find key_cmp key es ≡ o → option_or o (find key_cmp key fs) ≡ changed_entry (entry_at a key) (entry_at c key)
   exact_at key (Some values) found =
       let none : find key_cmp key fs ≡ None = found_below key_cmp key_total exact_keys es fs below key values found in
       let same : entry_at b key ≡ entry_at c key = stays (entry_at b key) (entry_at c key) (is_some-entry_at b c key (sym two.frame)) (sym (two.exact key) ∙ none) in

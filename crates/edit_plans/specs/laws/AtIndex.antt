@@ -1,5 +1,5 @@
 -- Entries put in the sheet at an index of a well-formed workbook.
-use Rattle.std.proofs.Common.{◌≡◌, ℕ, zero, suc, true, false, cond, List, [], ◌∷◌, map, Option, Some, Ok, option_map, refl, ap, sym, ◌∙◌}
+use Rattle.std.proofs.Common.{◌≡◌, ℕ, zero, suc, true, false, cond, List, [], ◌∷◌, map, Some, Ok, option_map, refl, ap, sym, ◌∙◌}
 use Rattle.std.specs.Prelude.{◌==◌, slice_get, slice_set}
 use Rattle.std.specs.List.{AllByRecursion, IsDistinct}
 use Rattle.std.specs.Cmp.{unsigned_Decides}
@@ -11,7 +11,7 @@ use Rattle.sheet_rules.specs.laws.WellFormedLaws.{distinct_ids_from_well_formed}
 use Rattle.sheet_lines.specs.Sheets.{sheet_of}
 use Rattle.sheet_actions.specs.laws.OwnSheets.{own_found}
 use Rattle.sheet_history.specs.Entries.{EntryKey, EntryValue, sheet_id_of, with_sheet_entry, with_changed, put_entry}
-use Rattle.sheet_history.specs.laws.EntryLaws.{decide, by_id, found-changed, id-with_sheet_entry}
+use Rattle.sheet_history.specs.laws.EntryLaws.{decide, found-changed, id-with_sheet_entry}
 use Rattle.sheet_history.specs.laws.PutLaws.{ok_or-some}
 use Rattle.sheet_history.specs.laws.RuleLaws.{KeepsSheetRules, sheet_rules}
 
@@ -63,15 +63,15 @@ module _ (w : Book) (rules : IsWellFormed w) (index : ℕ) (sheet : Sheet) (at :
 
 -- changes of one sheet, one after another
 changed_twice : (id : ℕ) (first second : Sheet → Sheet) → ((s : Sheet) → (first s).id ≡ s.id) → (ss : List Sheet) → with_changed id second (with_changed id first ss) ≡ with_changed id (λ s. second (first s)) ss
-changed_twice id first second keeps [] = refl
-changed_twice id first second keeps (s ∷ ss) =
+changed_twice id first second same_ids [] = refl
+changed_twice id first second same_ids (s ∷ ss) =
     decide (s.id == id)
     (λ hit. (λ i. with_changed id second (cond (hit i) (first s ∷ ss) (s ∷ with_changed id first ss)))
-    ∙ ap (λ b. cond b (second (first s) ∷ ss) (first s ∷ with_changed id second ss)) (ap (λ n. n == id) (keeps s) ∙ hit)
+    ∙ ap (λ b. cond b (second (first s) ∷ ss) (first s ∷ with_changed id second ss)) (ap (λ n. n == id) (same_ids s) ∙ hit)
     ∙ ap (λ b. cond b (second (first s) ∷ ss) (s ∷ with_changed id (λ t. second (first t)) ss)) (sym hit))
     (λ miss. (λ i. with_changed id second (cond (miss i) (first s ∷ ss) (s ∷ with_changed id first ss)))
     ∙ ap (λ b. cond b (second s ∷ with_changed id first ss) (s ∷ with_changed id second (with_changed id first ss))) miss
-    ∙ ap (λ ts. s ∷ ts) (changed_twice id first second keeps ss)
+    ∙ ap (λ ts. s ∷ ts) (changed_twice id first second same_ids ss)
     ∙ ap (λ b. cond b (second (first s) ∷ ss) (s ∷ with_changed id (λ t. second (first t)) ss)) (sym miss))
 
 -- an entry that is put changes the sheet of its id

@@ -1,9 +1,10 @@
 -- An input that goes to a place leaves a well-formed workbook, and its changes are the record.
-use Rattle.std.proofs.Common.{◌≡◌, ◌&&◌, ℕ, ℤ, Bool, true, false, cond, List, [], ◌∷◌, ◌++◌, Option, Some, None, Result, Ok, Err, refl, ap, sym, subst, ◌∙◌}
-use Rattle.std.specs.Prelude.{IsTrue, is_none, is_some, not, ◌||◌}
+use Rattle.std.proofs.Common.{◌≡◌, ◌≢◌, ◌&&◌, ℕ, ℤ, Bool, true, false, cond, List, [], ◌∷◌, ◌++◌, Option, Some, None, Result, Ok, Err, refl, ap, sym, subst, ◌∙◌}
+use Rattle.std.specs.Prelude.{IsTrue, IfOk, IsOkUnless, is_none, is_some, not, ◌||◌}
 use Rattle.std.specs.FinMap as fin
+use Rattle.std.proofs.lemmas.List.{append-nil}
 use Rattle.base_values.specs.declared.EditError.{EditError}
-use Rattle.base_values.specs.declared.EditError.TheVariants.{CoveredCell, ArrayCell}
+use Rattle.base_values.specs.declared.EditError.TheVariants.{CoveredCell, ArrayCell, NoMemory}
 use Rattle.base_values.specs.declared.Position.{Position}
 use Rattle.base_values.specs.Answers.{and_then, map_ok}
 use Rattle.base_values.specs.KeyMap.{with_entry}
@@ -26,20 +27,20 @@ use Rattle.sheet_lines.specs.Sheets.{sheet_of}
 use Rattle.sheet_history.specs.declared.Diff.{Diff}
 use Rattle.sheet_history.specs.declared.Diff.TheVariants.{Cell as CellDiff}
 use Rattle.sheet_history.specs.Diffs.{IsKeptList}
-use Rattle.sheet_history.specs.Entries.{EntryKey, EntryValue, lies_inside, cell_stands_at, value_fits, with_sheet_entry, put_entry}
+use Rattle.sheet_history.specs.Entries.{EntryKey, lies_inside, cell_stands_at, value_fits, with_sheet_entry, put_entry}
 use Rattle.sheet_history.specs.Entries.EntryKey.{CellKey, LinkKey}
 use Rattle.sheet_history.specs.Entries.EntryValue.{CellValue, LinkValue}
 use Rattle.sheet_history.specs.Records.{same_entry_value, IsRecord}
 use Rattle.sheet_history.specs.Untested.{entry_has_font, may_stand_on}
 use Rattle.sheet_history.specs.laws.OneEntry.{put_record}
 use Rattle.sheet_history.specs.laws.RuleLaws.{well_formed-cell, well_formed-link}
-use Rattle.edit_plans.specs.Plans.{IsPlan}
+use Rattle.edit_plans.specs.Plans.{IsPlan, Plans}
 use Rattle.edit_plans.specs.Inputs.{IsInput, new_cell, entered, cell_entered, with_input, free_place, input_place, input_put, cell_record, input_record}
 use Rattle.edit_plans.specs.Links.{link_change}
 use Rattle.edit_plans.specs.laws.Appended.{come_before, put_after}
 use Rattle.edit_plans.specs.laws.AtIndex.{there, keeps, changed_at, put_changed, put_twice, sheet_of-put}
 use Rattle.edit_plans.specs.laws.Fonts.{place_inside, shown_font}
-use Rattle.edit_plans.specs.laws.PlanLaws.{sheet_takes}
+use Rattle.edit_plans.specs.laws.PlanLaws.{plan_refused, plan_made, no_sheet, sheet_refuses, sheet_takes, sheet_sure, place_sure, place_again}
 
 -- ---- the place of an input
 
@@ -63,6 +64,10 @@ is_free sheet row column place is = go (place_of row column) refl is
     go : (r : Result Position EditError) → place_of row column ≡ r → and_then r (free_place sheet) ≡ Ok place → IsFree sheet row column place
     go (Ok p) found e = tests p found (is_covered sheet.merges p) refl (array_over sheet p) refl e
     go (Err error) found e = absurd (let never : ◌≡◌ {A = Result Position EditError} (Err error) (Ok place) = e in cc)
+
+-- it is found again at its own row and column
+pub input_named : (sheet : Sheet) (row column : ℤ) (place : Position) → input_place sheet row column ≡ Ok place → place_of place.row place.column ≡ Ok place
+input_named sheet row column place goes = place_again row column place (is_free sheet row column place goes).named
 
 -- ---- what an input may be may stand where it goes
 
@@ -119,10 +124,6 @@ module _ (sheet : Sheet) (place : Position) (shown : is_hidden_place sheet place
   entered_may : (old : Option Cell) (content : Content) (style : Style) → array_at place content ≡ None → may_stand sheet place (entered old content style) ≡ true
   entered_may None content style plain = new_may content style plain
   entered_may (Some cell) content style plain = cell_may content plain
-
-no_more : {A : Type 0} (xs : List A) → xs ++ [] ≡ xs
-no_more [] = refl
-no_more (x ∷ xs) = ap (λ ys. x ∷ ys) (no_more xs)
 
 -- the change of a cell comes before that of a link
 cell_first : (id : ℕ) (place : Position) (old new : Option Cell) (same : Bool) → come_before (LinkKey id place) (cond same [] (CellDiff id place old new ∷ [])) ≡ true
@@ -219,7 +220,7 @@ module _ (w : Book) (index : ℕ) (row column : ℤ) (content : Content) (rules 
   exact_by : (empty : Bool) → IsRecord w (with_sheet w index (cond empty unlinked celled)) (cell_record content sheet place ++ cond empty (link_change sheet place None) [])
   exact_by true = subst (λ later. IsRecord w later (cell_record content sheet place ++ link_change sheet place None)) put_both_is both_exact
   exact_by false =
-      subst (IsRecord w (with_sheet w index celled)) (sym (no_more (cell_record content sheet place)))
+      subst (IsRecord w (with_sheet w index celled)) (sym (append-nil (cell_record content sheet place)))
       (subst (λ later. IsRecord w later (cell_record content sheet place)) put_cell_is cell_exact)
 
   pub input_well_formed : IsWellFormed after
@@ -235,3 +236,45 @@ module _ (w : Book) (index : ℕ) (row column : ℤ) (content : Content) (rules 
   pub input_expected : input_put index row column content w ≡ Ok after
   unfolding input_put
   input_expected = sheet_takes w index (λ s. map_ok (with_input s content) (input_place s row column)) sheet (with_input sheet content place) at (ap (map_ok (with_input sheet content)) goes)
+
+-- ---- what the plan returns
+
+-- no place is refused for want of memory
+input_sure : (sheet : Sheet) (row column : ℤ) (error : EditError) → input_place sheet row column ≡ Err error → error ≢ NoMemory
+input_sure sheet row column error is short = go (place_of row column) refl is
+  where
+    tests : (p : Position) (covered large : Bool) → cond covered (Err CoveredCell) (cond large (Err ArrayCell) (Ok p)) ≡ Err error → ⊥
+    tests p false false e = absurd (let never : ◌≡◌ {A = Result Position EditError} (Ok p) (Err error) = e in cc)
+    tests p false true e = absurd (let never : ◌≡◌ {A = Result Position EditError} (Err ArrayCell) (Err NoMemory) = e ∙ ap Err short in cc)
+    tests p true large e = absurd (let never : ◌≡◌ {A = Result Position EditError} (Err CoveredCell) (Err NoMemory) = e ∙ ap Err short in cc)
+
+    go : (r : Result Position EditError) → place_of row column ≡ r → and_then r (free_place sheet) ≡ Err error → ⊥
+    go (Ok p) found e = tests p (is_covered sheet.merges p) (is_some (array_over sheet p)) e
+    go (Err other) found e = let same : other ≡ error = cc in place_sure row column other found (same ∙ short)
+
+-- where no such sheet is there
+pub input_no_sheet : (w : Book) (index : ℕ) (row column : ℤ) (content : Content) (error : EditError) → sheet_at w index ≡ Err error → Plans (Err error) w (input_put index row column content w)
+unfolding input_put
+input_no_sheet w index row column content error missing =
+    plan_refused w (input_put index row column content w) error (no_sheet w index (λ s. map_ok (with_input s content) (input_place s row column)) error missing) (sheet_sure w index error missing)
+
+-- where no input may go to the place
+pub input_refused : (w : Book) (index : ℕ) (row column : ℤ) (content : Content) (sheet : Sheet) (error : EditError) → sheet_at w index ≡ Ok sheet → input_place sheet row column ≡ Err error
+    → Plans (Err error) w (input_put index row column content w)
+unfolding input_put
+input_refused w index row column content sheet error at refused =
+    plan_refused w (input_put index row column content w) error
+    (sheet_refuses w index (λ s. map_ok (with_input s content) (input_place s row column)) sheet error at (ap (map_ok (with_input sheet content)) refused)) (input_sure sheet row column error refused)
+
+-- and else
+pub input_planned : (w : Book) (index : ℕ) (row column : ℤ) (content : Content) → IsWellFormed w → IsInput row column content → (sheet : Sheet) (place : Position) → sheet_at w index ≡ Ok sheet
+    → input_place sheet row column ≡ Ok place → (result : Result (List Diff) EditError) → IfOk result (λ list. list ≡ input_record content sheet place) → IfOk result IsKeptList
+    → IsOkUnless result NoMemory → Plans result w (input_put index row column content w)
+input_planned w index row column content rules may sheet place at goes result made kept only =
+    plan_made w (after w index row column content rules may sheet place at goes) (input_put index row column content w) result
+    (input_expected w index row column content rules may sheet place at goes) only (plan result made kept)
+  where
+    plan : (r : Result (List Diff) EditError) → IfOk r (λ list. list ≡ input_record content sheet place) → IfOk r IsKeptList
+        → IfOk r (λ list. IsPlan w list (after w index row column content rules may sheet place at goes))
+    plan (Ok list) is all = input_plan w index row column content rules may sheet place at goes list is all
+    plan (Err error) is all = tt

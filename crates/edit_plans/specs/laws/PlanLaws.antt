@@ -1,11 +1,11 @@
 -- When a call returns a plan.
-use Rattle.std.proofs.Common.{◌≡◌, ◌≢◌, ℕ, ℤ, List, Option, Some, None, Result, Ok, Err, refl, ap, sym, subst, ◌∙◌}
+use Rattle.std.proofs.Common.{◌≡◌, ◌≢◌, ℕ, ℤ, pos, Bool, true, false, cond, List, Option, Some, None, Result, Ok, Err, refl, ap, sym, subst, ◌∙◌}
 use Rattle.std.specs.Prelude.{IfOk, IsOk, IsOkAnd, IsOkUnless, slice_get}
 use Rattle.base_values.specs.declared.EditError.{EditError}
-use Rattle.base_values.specs.declared.EditError.TheVariants.{InvalidSheet, NoMemory}
+use Rattle.base_values.specs.declared.EditError.TheVariants.{InvalidSheet, InvalidRow, InvalidColumn, NoMemory}
 use Rattle.base_values.specs.declared.Position.{Position}
 use Rattle.base_values.specs.Answers.{and_then, map_ok, ok_or}
-use Rattle.base_values.specs.Places.{place_of}
+use Rattle.base_values.specs.Places.{is_line, place_of}
 use Rattle.sheet_grid.specs.Sheet.{Sheet}
 use Rattle.sheet_grid.specs.Book.{Book, sheet_at, sheet_edit, with_sheet}
 use Rattle.sheet_grid.specs.laws.FittingLaws.{place_is}
@@ -45,6 +45,16 @@ sheet_sure book index error missing short = go (slice_get book.worksheets index)
     go : (o : Option Sheet) → ok_or InvalidSheet o ≡ Err error → ⊥
     go None is = absurd (let never : ◌≡◌ {A = Result Sheet EditError} (Err InvalidSheet) (Err NoMemory) = is ∙ ap Err short in cc)
     go (Some sheet) is = absurd (let never : ◌≡◌ {A = Result Sheet EditError} (Ok sheet) (Err error) = is in cc)
+
+-- nor is a place
+pub place_sure : (row column : ℤ) (error : EditError) → place_of row column ≡ Err error → error ≢ NoMemory
+unfolding place_of
+place_sure row column error is short = go (is_line (pos 1048576) row) (is_line (pos 16384) column) is
+  where
+    go : (a b : Bool) → ◌≡◌ {A = Result Position EditError} (cond a (cond b (Ok (record { row = row; column = column })) (Err InvalidColumn)) (Err InvalidRow)) (Err error) → ⊥
+    go true true e = absurd (let never : ◌≡◌ {A = Result Position EditError} (Ok (record { row = row; column = column })) (Err error) = e in cc)
+    go true false e = absurd (let never : ◌≡◌ {A = Result Position EditError} (Err InvalidColumn) (Err NoMemory) = e ∙ ap Err short in cc)
+    go false b e = absurd (let never : ◌≡◌ {A = Result Position EditError} (Err InvalidRow) (Err NoMemory) = e ∙ ap Err short in cc)
 
 -- a place that was found is found again at its own row and column
 pub place_again : (row column : ℤ) (place : Position) → place_of row column ≡ Ok place → place_of place.row place.column ≡ Ok place

@@ -10,7 +10,7 @@ use Rattle.base_axis.specs.declared.MergedCell.{MergedCell}
 use Rattle.sheet_grid.specs.Arrays.{large_arrays_of}
 use Rattle.sheet_grid.specs.Merges.{merge_holding}
 use Rattle.sheet_grid.specs.Sheet.{Sheet}
-use Rattle.sheet_grid.specs.Book.{Book, sheet_at, sheet_edit, with_sheet}
+use Rattle.sheet_grid.specs.Book.{Book, sheet_at, with_sheet}
 use Rattle.sheet_rules.specs.Occupied.{is_merge, meets_any}
 use Rattle.sheet_rules.specs.WellFormed.{IsWellFormed}
 use Rattle.sheet_history.specs.declared.Diff.{Diff}

@@ -1,8 +1,7 @@
 -- What a merge and its end leave.
-use Rattle.std.proofs.Common.{◌≡◌, ◌≢◌, ℕ, Bool, true, false, not, cond, ◌&&◌, ◌||◌, List, [], ◌∷◌, ◌++◌, map, length, ◌+◌, Option, Some, None, Result, Ok, Err, refl, ap, sym, subst, ◌∙◌, true≢false, arith}
-use Rattle.std.specs.Prelude.{IsTrue, slice_get, IfOk, IsOkUnless, IfSome, All}
-use Rattle.std.specs.List.{filter, find, list_all, list_any, AllByRecursion}
-use Rattle.std.specs.FinMap.{get, entries}
+use Rattle.std.proofs.Common.{◌≡◌, ◌≢◌, ℕ, Bool, true, false, not, cond, ◌&&◌, ◌||◌, List, [], ◌∷◌, ◌++◌, length, ◌+◌, Option, Some, None, Ok, refl, ap, sym, subst, ◌∙◌, true≢false, arith}
+use Rattle.std.specs.List.{filter, list_all, list_any}
+use Rattle.std.specs.FinMap.{entries}
 use Rattle.std.proofs.lemmas.List.{length-append}
 use Rattle.std.proofs.lemmas.List.Folds.{list_all-append, list_any-append}
 use Rattle.std.proofs.lemmas.Option.{same_Some}
@@ -14,20 +13,18 @@ use Rattle.base_axis.specs.Rectangles.{holds, meets}
 use Rattle.base_axis.specs.laws.RectangleLaws.{meets_turned}
 use Rattle.sheet_grid.specs.declared.Cell.{Cell}
 use Rattle.sheet_grid.specs.Arrays.{large_array_at, large_arrays_of}
-use Rattle.sheet_grid.specs.Merges.{is_empty, merge_holding}
+use Rattle.sheet_grid.specs.Merges.{merge_holding}
 use Rattle.sheet_grid.specs.Sheet.{Sheet}
 use Rattle.sheet_grid.specs.Book.{Book, sheet_at, with_sheet}
-use Rattle.sheet_rules.specs.Occupied.{are_apart, is_merge, meets_any, have_arrays, have_merges, covers, are_hidden_blank}
+use Rattle.sheet_rules.specs.Occupied.{are_apart, is_merge, meets_any, have_arrays, covers}
 use Rattle.sheet_rules.specs.WellFormed.{stands_inside, have_trees, have_attributes, IsWellFormed}
 use Rattle.sheet_rules.specs.laws.EntryLaws.{both}
-use Rattle.sheet_rules.specs.laws.OccupiedLaws.{keeps_arrays, keeps_merges, have_merges_from, keeps_hidden, are_hidden_blank_from}
+use Rattle.sheet_rules.specs.laws.OccupiedLaws.{keeps_merges, have_merges_from, keeps_hidden, are_hidden_blank_from}
 use Rattle.sheet_rules.specs.laws.ShownLaws.{neither, not_true, none_in}
 use Rattle.sheet_history.specs.declared.Diff.TheVariants.{Merges as MergesDiff}
-use Rattle.sheet_history.specs.Entries.{EntryKey, key_cmp}
-use Rattle.sheet_history.specs.Entries.EntryKey.{CellKey, MergesKey}
 use Rattle.sheet_history.specs.Records.{IsRecord}
 use Rattle.sheet_history.specs.laws.RuleLaws.{KeepsSheetRules}
-use Rattle.edit_plans.specs.Blanked.{blank_diffs, blanked, blanked_sheet}
+use Rattle.edit_plans.specs.Blanked.{blank_diffs, blanked_sheet}
 use Rattle.edit_plans.specs.Merging.{with_merge, merge_diffs, merges_without, without_merge}
 use Rattle.edit_plans.specs.laws.AtIndex.{there}
 use Rattle.edit_plans.specs.laws.BlankedLaws.{content_left, large_left, rules_stay}

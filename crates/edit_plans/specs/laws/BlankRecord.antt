@@ -4,7 +4,7 @@ use Rattle.std.specs.Prelude.{IsTrue}
 use Rattle.std.specs.List.{filter_map, cons_option, AllByRecursion}
 use Rattle.std.specs.Option.{option_and_then}
 use Rattle.std.specs.Cmp.{tied_itself, nat_cmp_total}
-use Rattle.std.specs.Ordering.{eq_by_cmp, is_lt, ordering_then, int_cmp, nat_cmp}
+use Rattle.std.specs.Ordering.{eq_by_cmp, is_lt, ordering_then, int_cmp}
 use Rattle.std.specs.FinMap as fin
 use Rattle.std.specs.FinMap.{get, entries, get-entries}
 use Rattle.std.proofs.lemmas.Map.Views.{tells_apart}
@@ -28,7 +28,7 @@ use Rattle.sheet_history.specs.laws.EntryLaws.{decide}
 use Rattle.sheet_history.specs.laws.OneEntry.{changed_entry-same}
 use Rattle.sheet_history.specs.laws.RecordLaws.{exact_keys}
 use Rattle.sheet_history.specs.laws.ValueEquals.{same_value_decides}
-use Rattle.edit_plans.specs.Blanked.{blank_cell, blanked_cell, blanked, loses, blank_diff, blank_diffs, blanked_sheet}
+use Rattle.edit_plans.specs.Blanked.{blank_cell, blanked_cell, blanked, loses, blank_diff, blanked_sheet}
 use Rattle.edit_plans.specs.laws.BlankedLaws.{get-blanked}
 use Rattle.edit_plans.specs.laws.MappedMaps.{tagged, find-tagged, sorted-tagged, no_tag, tagged_below, rising}
 use Rattle.edit_plans.specs.laws.SheetRecords.{IsSheetRecord}

@@ -1,7 +1,7 @@
 -- What stands in a sheet after a rectangle took away the contents that it covers. Such a sheet keeps each rule.
-use Rattle.std.proofs.Common.{◌≡◌, Bool, true, false, not, cond, ◌&&◌, List, [], ◌∷◌, map, Option, Some, None, option_map, refl, ap, sym, subst, ◌∙◌}
+use Rattle.std.proofs.Common.{◌≡◌, Bool, true, false, not, cond, ◌&&◌, List, [], ◌∷◌, Option, Some, None, option_map, refl, ap, sym, subst, ◌∙◌}
 use Rattle.std.specs.Prelude.{IsTrue, IfSome}
-use Rattle.std.specs.List.{filter, filter_map, cons_option, list_all, list_any}
+use Rattle.std.specs.List.{filter, filter_map, cons_option, list_all}
 use Rattle.std.specs.Option.{option_and_then}
 use Rattle.std.specs.FinMap.{FinMap, entries, get}
 use Rattle.base_values.specs.declared.Position.{Position}
@@ -14,7 +14,7 @@ use Rattle.cell_content.specs.declared.Content.{Content}
 use Rattle.cell_content.specs.declared.Content.TheVariants.{Array}
 use Rattle.sheet_grid.specs.declared.Cell.{Cell}
 use Rattle.sheet_grid.specs.Arrays.{array_at, where_large, large_array_at, arrays_of, large_arrays_of}
-use Rattle.sheet_grid.specs.FittingCells.{entry_fits_at, CellsFit}
+use Rattle.sheet_grid.specs.FittingCells.{entry_fits_at}
 use Rattle.sheet_grid.specs.KeptCell.{IsKeptCell, KeptCells}
 use Rattle.sheet_grid.specs.Merges.{is_empty}
 use Rattle.sheet_grid.specs.Sheet.{Sheet}

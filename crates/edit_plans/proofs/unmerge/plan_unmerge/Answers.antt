@@ -16,8 +16,10 @@ returns-in_err-place c =
     let p = err_from_is_err_and c.from_residual-in_err-place.result c.from_residual-in_err-place.ensures.1 in
     let refused = simp to_z-of_z at c.in_err-place.ensures.place in
     rw (p.1, p.2)
-    (record { planned = unmerge_refused c.args.workbook.now c.args.sheet c.in_ok-found.found.now (sym (c.in_ok-found.ensures {u = _})) c.args.row c.args.column c.in_err-place.field-0.0
-    (λ short. c.in_err-place.ensures.sure (ap Err short)) (sym refused) })
+    (record {
+      planned = unmerge_refused c.args.workbook.now c.args.sheet c.in_ok-found.found.now (sym (c.in_ok-found.ensures {u = _})) c.args.row c.args.column c.in_err-place.field-0.0
+          (λ short. c.in_err-place.ensures.sure (ap Err short)) (sym refused);
+    })
 
 pub returns : goal.returns
 returns c =
@@ -25,5 +27,7 @@ returns c =
     let column_fits : SFits w32 c.args.column = c.ranges.column in
     let goes = simp to_z-of_z at (c.in_ok-place.ensures {u = _}).place in
     let named = simp to_z-of_z at (c.in_ok-place.ensures {u = _}).named in
-    record { planned = unmerge_planned c.args.workbook.now c.args.sheet c.in_ok-found.found.now (sym (c.in_ok-found.ensures {u = _})) c.requires.rules
-    c.unmerge_record.result c.unmerge_record.ensures.kept c.unmerge_record.ensures.only c.args.row c.args.column c.in_ok-place.place named (sym goes) c.unmerge_record.ensures.made }
+    record {
+      planned = unmerge_planned c.args.workbook.now c.args.sheet c.in_ok-found.found.now (sym (c.in_ok-found.ensures {u = _})) c.requires.rules
+          c.unmerge_record.result c.unmerge_record.ensures.kept c.unmerge_record.ensures.only c.args.row c.args.column c.in_ok-place.place named (sym goes) c.unmerge_record.ensures.made;
+    }

@@ -4,6 +4,7 @@ use Rattle.std.specs.Prelude.{int_lt, ◌||◌}
 use Rattle.std.specs.Ordering.{int_eq}
 use Rattle.base_values.specs.declared.EditError.{EditError}
 use Rattle.base_values.specs.Answers.{and_then}
+use Rattle.base_axis.specs.Along.{Along}
 use Rattle.base_axis.specs.declared.MergedCell.{MergedCell}
 use Rattle.formula_tree.specs.declared.Node.{Node}
 use Rattle.cell_content.specs.declared.Content.{Content}
@@ -41,8 +42,8 @@ pub data Edit : Type 0 where
   MoveLines : ℕ → LineAxis → ℤ → ℤ → ℤ → Edit
 
 -- the move of lines of a sheet, by the hidden ones in the way too
-abbrev pub grown_move : LineAxis → ℤ → ℤ → ℤ → Sheet → EditKind
-grown_move axis first count delta sheet = Move first count (grown (along_of axis) sheet first count delta)
+abbrev pub grown_move : Along → ℤ → ℤ → ℤ → Sheet → EditKind
+grown_move a first count delta sheet = Move first count (grown a sheet first count delta)
 
 -- where no line moves, or by none, a move does nothing, whatever else is asked
 abbrev pub is_silent : Edit → Bool
@@ -58,7 +59,7 @@ changed (Merge index r) book = merge_made index r book
 changed (Unmerge index row column) book = merge_undone index row column book
 changed (Lines index axis kind) book = lines_edited (along_of axis) kind index book
 changed (MoveLines index axis first count delta) book =
-    and_then (sheet_at book index) (λ sheet. lines_edited (along_of axis) (grown_move axis first count delta sheet) index book)
+    and_then (sheet_at book index) (λ sheet. lines_edited (along_of axis) (grown_move (along_of axis) first count delta sheet) index book)
 
 -- the record of an edit of lines of a sheet, if it is there
 abbrev pub lines_record : LineAxis → (Sheet → EditKind) → Book → Result Sheet EditError → List Diff
@@ -69,5 +70,5 @@ lines_record axis kind book (Err error) = []
 -- that differ
 abbrev pub record_of : Edit → Book → Book → List Diff
 record_of (Lines index axis kind) earlier later = lines_record axis (λ sheet. kind) earlier (sheet_at earlier index)
-record_of (MoveLines index axis first count delta) earlier later = lines_record axis (grown_move axis first count delta) earlier (sheet_at earlier index)
+record_of (MoveLines index axis first count delta) earlier later = lines_record axis (grown_move (along_of axis) first count delta) earlier (sheet_at earlier index)
 record_of edit earlier later = record_between earlier later

@@ -1,5 +1,6 @@
 -- The plan of an edit of lines that is told from the sheet.
-use Rattle.std.proofs.Common.{ℕ, Result}
+use Rattle.std.proofs.Common.{ℕ, ℤ, pos, negsuc, Bool, Result}
+use Rattle.std.specs.Prelude.{int_lt, ◌||◌}
 use Rattle.base_values.specs.declared.EditError.{EditError}
 use Rattle.base_values.specs.Answers.{and_then}
 use Rattle.base_axis.specs.Along.{Along}
@@ -11,3 +12,7 @@ use Rattle.sheet_actions.specs.Planned.{refusal_of, unless_refused}
 -- the id of the sheet at an index and the edit of its lines, or the first refusal
 abbrev pub lines_planned_by : Along → (Sheet → EditKind) → ℕ → Book → Result (ℕ × EditKind) EditError
 lines_planned_by a kind index book = and_then (sheet_at book index) (λ sheet. unless_refused (refusal_of a (kind sheet) sheet) (sheet.id, kind sheet))
+
+-- whether a distance is farther than any between lines, so that no `i32` has it
+abbrev pub is_far : ℤ → Bool
+is_far delta = int_lt delta (negsuc 2147483647) || int_lt (pos 2147483647) delta

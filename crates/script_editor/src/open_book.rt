@@ -1,4 +1,4 @@
-ghost use Rattle.std.specs.Prelude.{◌≡◌, ◌≢◌, true, Ok, Err, [], ◌∷◌, take, IfOk, IsTrue, OnOk, OnErr, IsOkUnless};
+ghost use Rattle.std.specs.Prelude.{◌≡◌, ◌≢◌, true, Ok, Err, [], ◌∷◌, take, IfOk, IfNone, IfSome, IsTrue, OnOk, OnErr, IsOkUnless};
 ghost use Rattle.base_values.specs.Answers.{Returns, Changes, Edits, map_ok};
 ghost use Rattle.base_values.specs.declared.EditError.TheVariants.{NoMemory};
 ghost use Rattle.sheet_rules.specs.WellFormed.{IsWellFormed};
@@ -11,7 +11,7 @@ ghost use Rattle.sheet_wire.specs.QueueBytes.{IsKnownDiff};
 ghost use Rattle.edit_plans.specs.Edits.{Edit as AnyEdit, grown_move};
 ghost use Rattle.edit_plans.specs.Edits.Edit.{Lines, MoveLines};
 ghost use Rattle.script_editor.specs.Document.{recorded, sending};
-ghost use Rattle.script_editor.specs.PlannedBy.{lines_planned_by};
+ghost use Rattle.script_editor.specs.PlannedBy.{is_far, lines_planned_by};
 ghost use Rattle.script_editor.specs.Spellable.{AreSpellable};
 
 use base_axis::Axis;
@@ -97,6 +97,17 @@ fn plan_lines<A: Axis>(
     }
 }
 
+/// A distance as an `i32`, if it is one.
+fn distance(delta: i64) -> Option<i32>
+    ensures near { IfSome result (λ small. small ≡ delta) }
+    ensures far { IfNone result (IsTrue (is_far delta)) }
+{
+    if delta < -2_147_483_648 || 2_147_483_647 < delta {
+        return None;
+    }
+    Some(delta as i32)
+}
+
 /// The move of the lines of the sheet at an index past the hidden ones in the way, and the id of that
 /// sheet. It takes no memory.
 fn plan_grown<A: Axis>(
@@ -110,9 +121,9 @@ fn plan_grown<A: Axis>(
     ensures sure { result ≢ Err NoMemory }
 {
     let found = workbook.worksheet(sheet)?;
-    match i32::try_from(grown_delta::<A>(found, first, count, delta)) {
-        Ok(delta) => plan_move(workbook, sheet, first, count, delta),
-        Err(_) => Err(EditError::TargetOutOfBounds),
+    match distance(grown_delta::<A>(found, first, count, delta)) {
+        Some(delta) => plan_move(workbook, sheet, first, count, delta),
+        None => Err(EditError::TargetOutOfBounds),
     }
 }
 
@@ -143,7 +154,7 @@ impl OpenBook {
     ghost use Rattle.script_editor.specs.Document.{list_recorded, lines_recorded, document_edit, document_undo, document_redo};
     ghost use Rattle.script_editor.specs.Opened.{document_in};
     ghost use Rattle.script_editor.specs.Sound.{IsSoundChange};
-    ghost use Rattle.script_editor.specs.Stands.{IsPlan, IsPlanOf};
+    ghost use Rattle.script_editor.specs.Stands.{IsAnyPlan, IsPlanOf};
 
     /// Makes the changes of a list in the workbook, and puts the list on the undo stack and in the
     /// queue. An error changes nothing.
@@ -166,7 +177,7 @@ impl OpenBook {
 
     /// Makes what the plan of an edit by entries says, and records it, or refuses as the plan does.
     pub(crate) fn make(&mut self, plan: Result<DiffList, EditError>) -> Result<(), EditError>
-        requires plan { IsPlan plan (document_in self.now) }
+        requires plan { IsAnyPlan plan (document_in self.now) }
         requires rules { IsWellFormed self.now.workbook }
         ensures document { (edit : AnyEdit) → IsPlanOf edit plan (document_in self.old) → Changes result (document_in self.old) (document_in self.new) (document_edit edit (document_in self.old)) }
         ensures sound { (edit : AnyEdit) → IsPlanOf edit plan (document_in self.old) → OnOk result (IsSoundChange edit self.old.workbook) }

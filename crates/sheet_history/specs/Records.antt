@@ -1,14 +1,17 @@
 -- The record of an edit: the entries in which two workbooks differ.
-use Rattle.std.proofs.Common.{◌≡◌, ℕ, Bool, false, List, [], ◌∷◌, map, Option, Some, None}
+use Rattle.std.proofs.Common.{◌≡◌, ℕ, Bool, false, List, [], ◌∷◌, ◌++◌, map, Option, Some, None}
 use Rattle.std.specs.Prelude.{if◌then◌else◌, IsTrue}
-use Rattle.std.specs.Option.{option_eq}
+use Rattle.std.specs.List.{flat_map, filter_map}
+use Rattle.std.specs.Option.{option_eq, option_map}
 use Rattle.std.specs.Cmp.Lexicographic.{pointwise}
 use Rattle.std.specs.FinMap as fin
+use Rattle.std.specs.FinMap.{FinMap}
 use Rattle.base_axis.specs.contracts.merged_cell.MergedCellPartialEq.TheImpl as merged
 use Rattle.line_edits.specs.declared.EditKind.{EditKind}
 use Rattle.line_edits.specs.Edit.{IsValid}
 use Rattle.sheet_grid.specs.SameEntry.{same_entry}
 use Rattle.sheet_grid.specs.contracts.link.LinkPartialEq.TheImpl as link
+use Rattle.sheet_grid.specs.Sheet.{Sheet}
 use Rattle.sheet_grid.specs.Book.{Book}
 use Rattle.sheet_rules.specs.WellFormed.{IsWellFormed}
 use Rattle.sheet_lines.specs.Sheets.{sheet_of}
@@ -78,7 +81,7 @@ pub record IsLineEdit (axis : LineAxis) (e : EditKind) (id : ℕ) (book : Book) 
 
 -- the keys of all that a sheet has
 abbrev pub sheet_keys : Sheet → List EntryKey
-sheet_keys sheet = map (CellKey sheet.id) (keys sheet.cells) ++ map (LinkKey sheet.id) (keys sheet.links) ++ MergesKey sheet.id ∷ []
+sheet_keys sheet = map (CellKey sheet.id) (fin.keys sheet.cells) ++ map (LinkKey sheet.id) (fin.keys sheet.links) ++ MergesKey sheet.id ∷ []
 
 -- and of all that a workbook has
 abbrev pub book_keys : Book → List EntryKey
@@ -90,7 +93,7 @@ change_at earlier later key = option_map (λ values. (key, values)) (changed_ent
 
 -- the entries in which a later workbook differs from an earlier one, by their keys
 abbrev pub changes_between : Book → Book → FinMap key_cmp (EntryValue × EntryValue)
-changes_between earlier later = from_entries (filter_map (change_at earlier later) (book_keys earlier ++ book_keys later))
+changes_between earlier later = fin.from_entries (filter_map (change_at earlier later) (book_keys earlier ++ book_keys later))
 
 -- a diff of each, in the order of their keys: by tag, then by sheet id, then by row, then by column
 unfoldable pub record_between : Book → Book → List Diff

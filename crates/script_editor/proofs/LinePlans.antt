@@ -34,6 +34,8 @@ use Rattle.sheet_actions.specs.Planned.{refusal_of, splits_array, splits_merge, 
 use Rattle.sheet_actions.specs.Whole.{LeavesWhole, IsAllowed}
 use Rattle.sheet_actions.specs.laws.OwnSheets.{own_found}
 use Rattle.sheet_actions.specs.laws.PlannedLaws.{valid_unrefused, whole_unrefused, planned_allowed}
+use Rattle.edit_plans.specs.HiddenLines.{grown}
+use Rattle.edit_plans.specs.Edits.{grown_move}
 use Rattle.script_editor.specs.PlannedBy.{is_far, lines_planned_by}
 use Rattle.script_editor.proofs.Lists.{passes_at}
 
@@ -157,3 +159,23 @@ unfolding refusal_of is_valid
 far_refused a axis first count delta sheet far =
     let invalid : is_valid a.last (Move first count delta) ≡ false = far_invalid a.last first count delta axis.last_high far in
     ap (λ b. cond (not b) (Some TargetOutOfBounds) (cond (splits_array a (Move first count delta) sheet) (Some SplitsArray) (cond (splits_merge a (Move first count delta) sheet) (Some SplitsMerge) None))) invalid
+
+module _ (a : Along) (axis : IsAxis a) (first count delta : ℤ) (index : ℕ) (w : Book) (sheet : Sheet) (at : Ok sheet ≡ sheet_at w index) where
+  abbrev distance : ℤ
+  distance = grown a sheet first count delta
+
+  abbrev planned_at : (Sheet → EditKind) → Result Sheet EditError → Result (ℕ × EditKind) EditError
+  planned_at kind r = and_then r (λ s. unless_refused (refusal_of a (kind s) s) (s.id, kind s))
+
+  -- a move whose distance is told from the sheet is the move by that distance
+  pub near_plan : (near : ℤ) → near ≡ distance → lines_planned_by a (λ s. Move first count near) index w ≡ lines_planned_by a (grown_move a first count delta) index w
+  near_plan near same =
+      ap (planned_at (λ s. Move first count near)) (sym at)
+      ∙ ap (λ d. unless_refused (refusal_of a (Move first count d) sheet) (sheet.id, Move first count d)) same
+      ∙ ap (planned_at (grown_move a first count delta)) at
+
+  -- and is refused where it is too far
+  pub far_plan : is_far distance ≡ true → ◌≡◌ {A = Result (ℕ × EditKind) EditError} (Err TargetOutOfBounds) (lines_planned_by a (grown_move a first count delta) index w)
+  far_plan far =
+      ap (λ o. unless_refused o (sheet.id, Move first count distance)) (sym (far_refused a axis first count distance sheet far))
+      ∙ ap (planned_at (grown_move a first count delta)) at

@@ -2,6 +2,7 @@ mod EntrySteps
 mod KeptLines
 mod LinePlans
 mod LineSteps
+mod MoveSteps
 mod Lists
 mod Recording
 mod Refusals

@@ -1,20 +1,19 @@
 -- An edit of lines that is planned is one whose record can be made and taken back.
-use Rattle.std.proofs.Common.{◌≡◌, ℕ, ℤ, pos, ◌+ℤ◌, ◌≤ℤ◌, Bool, true, false, cond, List, [], ◌∷◌, map, Option, Some, None, Result, Ok, Err, refl, ap, sym, ◌∙◌, arith}
+use Rattle.std.proofs.Common.{◌≡◌, ℕ, ℤ, pos, ◌+ℤ◌, ◌≤ℤ◌, Bool, true, false, List, [], ◌∷◌, map, Option, Some, None, Result, Ok, Err, refl, ap, sym, ◌∙◌, arith}
 use Rattle.std.specs.Prelude.{◌&&◌, not, int_le, int_lt, IsTrue, is_some, slice_get}
 use Rattle.std.specs.List.{list_all, AllByRecursion}
 use Rattle.std.specs.FinMap.{entries}
 use Rattle.std.proofs.lemmas.Int.{ints, fold-int_max_bounds}
 use Rattle.std.proofs.lemmas.List.Elements.{recursion_from_All}
 use Rattle.base_values.specs.declared.EditError.{EditError}
-use Rattle.base_values.specs.declared.EditError.TheVariants.{InvalidSheet, SplitsArray, SplitsMerge, TargetOutOfBounds}
+use Rattle.base_values.specs.declared.EditError.TheVariants.{InvalidSheet}
 use Rattle.base_values.specs.declared.Position.{Position}
 use Rattle.base_values.specs.Answers.{and_then}
 use Rattle.base_values.specs.Places.{is_line}
-use Rattle.base_axis.specs.Along.{Along, IsAxis}
+use Rattle.base_axis.specs.Along.{Along}
 use Rattle.base_axis.specs.declared.MergedCell.{MergedCell}
 use Rattle.line_edits.specs.declared.EditKind.{EditKind}
 use Rattle.line_edits.specs.declared.EditKind.TheVariants.{Insert, Delete, Move}
-use Rattle.line_edits.specs.Edit.{is_valid, is_within}
 use Rattle.sheet_grid.specs.declared.Cell.{Cell}
 use Rattle.sheet_grid.specs.declared.WorksheetDimension.{WorksheetDimension}
 use Rattle.sheet_grid.specs.Arrays.{array_at}
@@ -30,13 +29,10 @@ use Rattle.sheet_history.specs.LineDiffs.{along_of, is_pushed_past, stays_inside
 use Rattle.sheet_history.specs.Records.{IsLineEdit}
 use Rattle.sheet_history.specs.laws.PutLaws.{ok_or-some}
 use Rattle.sheet_actions.specs.GreatestLine.{greatest_line}
-use Rattle.sheet_actions.specs.Planned.{refusal_of, splits_array, splits_merge, unless_refused}
+use Rattle.sheet_actions.specs.Planned.{refusal_of, unless_refused, lines_planned}
 use Rattle.sheet_actions.specs.Whole.{LeavesWhole, IsAllowed}
 use Rattle.sheet_actions.specs.laws.OwnSheets.{own_found}
 use Rattle.sheet_actions.specs.laws.PlannedLaws.{valid_unrefused, whole_unrefused, planned_allowed}
-use Rattle.edit_plans.specs.HiddenLines.{grown}
-use Rattle.edit_plans.specs.Edits.{grown_move}
-use Rattle.script_editor.specs.PlannedBy.{is_far, lines_planned_by}
 use Rattle.script_editor.proofs.Lists.{passes_at}
 
 -- ---- no cell is pushed past the last line
@@ -107,18 +103,18 @@ stays_whole axis (Move first count delta) sheet inside whole = refl
 -- ---- plans
 
 -- what the plan of an edit of lines found: the edit is one of its sheet
-pub record IsPlanned (w : Book) (index : ℕ) (axis : LineAxis) (kind : Sheet → EditKind) (plan : ℕ × EditKind) : Type 0 where
+pub record IsPlanned (w : Book) (index : ℕ) (axis : LineAxis) (kind : EditKind) (plan : ℕ × EditKind) : Type 0 where
   pub sheet : Sheet
   pub at : sheet_at w index ≡ Ok sheet
-  pub plan_is : ◌≡◌ {A = ℕ × EditKind} (sheet.id, kind sheet) plan
-  pub edit : IsLineEdit axis (kind sheet) sheet.id w
-  pub allowed : IsAllowed (along_of axis) (kind sheet) sheet.id w
+  pub plan_is : ◌≡◌ {A = ℕ × EditKind} (sheet.id, kind) plan
+  pub edit : IsLineEdit axis kind sheet.id w
+  pub allowed : IsAllowed (along_of axis) kind sheet.id w
 
-module _ (w : Book) (rules : IsWellFormed w) (index : ℕ) (axis : LineAxis) (kind : Sheet → EditKind) (plan : ℕ × EditKind) where
+module _ (w : Book) (rules : IsWellFormed w) (index : ℕ) (axis : LineAxis) (kind : EditKind) (plan : ℕ × EditKind) where
   abbrev a : Along
   a = along_of axis
 
-  of_sheet : (sheet : Sheet) → sheet_at w index ≡ Ok sheet → (o : Option EditError) → refusal_of a (kind sheet) sheet ≡ o → unless_refused o (sheet.id, kind sheet) ≡ Ok plan → IsPlanned w index axis kind plan
+  of_sheet : (sheet : Sheet) → sheet_at w index ≡ Ok sheet → (o : Option EditError) → refusal_of a kind sheet ≡ o → unless_refused o (sheet.id, kind) ≡ Ok plan → IsPlanned w index axis kind plan
   of_sheet sheet at None free h =
       let found = ok_or-some InvalidSheet (slice_get w.worksheets index) sheet at in
       let inside = passes_at stands_inside w.worksheets index sheet found (well_formed_parts w rules).inside in
@@ -127,55 +123,22 @@ module _ (w : Book) (rules : IsWellFormed w) (index : ℕ) (axis : LineAxis) (ki
         at = at;
         plan_is = cc;
         edit = record {
-          valid = valid_unrefused a (kind sheet) sheet free;
+          valid = valid_unrefused a kind sheet free;
           rules = rules;
-          there = ap (is_there_inside a (kind sheet)) (own_found w rules index sheet found) ∙ stays_whole axis (kind sheet) sheet inside (whole_unrefused a (kind sheet) sheet free);
+          there = ap (is_there_inside a kind) (own_found w rules index sheet found) ∙ stays_whole axis kind sheet inside (whole_unrefused a kind sheet free);
         };
-        allowed = planned_allowed a (kind sheet) w index sheet (sym at) free rules;
+        allowed = planned_allowed a kind w index sheet (sym at) free rules;
       }
   of_sheet sheet at (Some error) refused h = absurd (let never : ◌≡◌ {A = Result (ℕ × EditKind) EditError} (Err error) (Ok plan) = h in cc)
 
-  of_index : (r : Result Sheet EditError) → sheet_at w index ≡ r → and_then r (λ sheet. unless_refused (refusal_of a (kind sheet) sheet) (sheet.id, kind sheet)) ≡ Ok plan → IsPlanned w index axis kind plan
-  of_index (Ok sheet) at h = of_sheet sheet at (refusal_of a (kind sheet) sheet) refl h
+  of_index : (r : Result Sheet EditError) → sheet_at w index ≡ r → and_then r (λ sheet. unless_refused (refusal_of a kind sheet) (sheet.id, kind)) ≡ Ok plan → IsPlanned w index axis kind plan
+  of_index (Ok sheet) at h = of_sheet sheet at (refusal_of a kind sheet) refl h
   of_index (Err error) at h = absurd (let never : ◌≡◌ {A = Result (ℕ × EditKind) EditError} (Err error) (Ok plan) = h in cc)
 
-  pub lines_plan : lines_planned_by a kind index w ≡ Ok plan → IsPlanned w index axis kind plan
+  pub lines_plan : lines_planned a kind index w ≡ Ok plan → IsPlanned w index axis kind plan
   lines_plan h = of_index (sheet_at w index) refl h
 
 -- a sheet that keeps its cells inside is there
 pub sheet_there : (a : Along) (kind : EditKind) (o : Option Sheet) → IsTrue (is_there_inside a kind o) → IsTrue (is_some o)
 sheet_there a kind None there = there
 sheet_there a kind (Some sheet) there = refl
-
--- ---- a distance that no number of the code has
-
-far_invalid : (last first count delta : ℤ) → last ≤ℤ pos 1048576 → is_far delta ≡ true
-    → ((is_within last first count && int_le (first +ℤ count) (last +ℤ pos 1)) && (int_le (pos 1) (first +ℤ delta) && int_le ((first +ℤ count) +ℤ delta) (last +ℤ pos 1))) ≡ false
-far_invalid last first count delta low far = grind (arith, ints)
-
--- a move so far is refused
-pub far_refused : (a : Along) → IsAxis a → (first count delta : ℤ) (sheet : Sheet) → is_far delta ≡ true → refusal_of a (Move first count delta) sheet ≡ Some TargetOutOfBounds
-unfolding refusal_of is_valid
-far_refused a axis first count delta sheet far =
-    let invalid : is_valid a.last (Move first count delta) ≡ false = far_invalid a.last first count delta axis.last_high far in
-    ap (λ b. cond (not b) (Some TargetOutOfBounds) (cond (splits_array a (Move first count delta) sheet) (Some SplitsArray) (cond (splits_merge a (Move first count delta) sheet) (Some SplitsMerge) None))) invalid
-
-module _ (a : Along) (axis : IsAxis a) (first count delta : ℤ) (index : ℕ) (w : Book) (sheet : Sheet) (at : Ok sheet ≡ sheet_at w index) where
-  abbrev distance : ℤ
-  distance = grown a sheet first count delta
-
-  abbrev planned_at : (Sheet → EditKind) → Result Sheet EditError → Result (ℕ × EditKind) EditError
-  planned_at kind r = and_then r (λ s. unless_refused (refusal_of a (kind s) s) (s.id, kind s))
-
-  -- a move whose distance is told from the sheet is the move by that distance
-  pub near_plan : (near : ℤ) → near ≡ distance → lines_planned_by a (λ s. Move first count near) index w ≡ lines_planned_by a (grown_move a first count delta) index w
-  near_plan near same =
-      ap (planned_at (λ s. Move first count near)) (sym at)
-      ∙ ap (λ d. unless_refused (refusal_of a (Move first count d) sheet) (sheet.id, Move first count d)) same
-      ∙ ap (planned_at (grown_move a first count delta)) at
-
-  -- and is refused where it is too far
-  pub far_plan : is_far distance ≡ true → ◌≡◌ {A = Result (ℕ × EditKind) EditError} (Err TargetOutOfBounds) (lines_planned_by a (grown_move a first count delta) index w)
-  far_plan far =
-      ap (λ o. unless_refused o (sheet.id, Move first count distance)) (sym (far_refused a axis first count distance sheet far))
-      ∙ ap (planned_at (grown_move a first count delta)) at

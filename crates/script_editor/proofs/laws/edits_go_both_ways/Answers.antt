@@ -6,7 +6,8 @@ use Rattle.edit_plans.specs.Edits.{Edit, IsGiven, changed, is_of_entries}
 use Rattle.edit_plans.specs.Edits.Edit.{Input, ArrayInput, SetLink, Merge, Unmerge, Lines, MoveLines}
 use Rattle.script_editor.specs.BothWays.{GoesBothWays}
 use Rattle.script_editor.proofs.EntrySteps.{of_entries, entries_both}
-use Rattle.script_editor.proofs.LineSteps.{lines_edit, lines_go_both_ways, move_edit}
+use Rattle.script_editor.proofs.LineSteps.{lines_go_both_ways}
+use Rattle.script_editor.proofs.MoveSteps.{moves_go_both_ways}
 use Rattle.script_editor.proofs.laws.edits_go_both_ways.Goals as goal
 
 pub returns : goal.returns
@@ -27,6 +28,6 @@ returns c = go
     go (Unmerge index row column) earlier later rules given how =
         by_record (Unmerge index row column) earlier later refl rules (c.edits_have_records.ensures.unmerges index row column earlier later rules how)
     go (Lines index axis kind) earlier later rules given how =
-        lines_go_both_ways (Lines index axis kind) index axis (λ sheet. kind) (lines_edit index axis kind) earlier later rules how
+        lines_go_both_ways index axis kind earlier later rules how
     go (MoveLines index axis first count delta) earlier later rules given how =
-        lines_go_both_ways (MoveLines index axis first count delta) index axis _ (move_edit index axis first count delta) earlier later rules how
+        moves_go_both_ways index axis first count delta earlier later rules how

@@ -1,10 +1,10 @@
 -- A move past hidden lines is the move by a distance that is told from the sheet.
 use Rattle.std.proofs.Common.{◌≡◌, ℕ, ℤ, pos, ◌+ℤ◌, ◌≤ℤ◌, Bool, true, false, cond, not, ◌&&◌, Option, Some, None, Result, Ok, Err, refl, ap, sym, subst, ◌∙◌, arith}
-use Rattle.std.specs.Prelude.{int_le}
+use Rattle.std.specs.Prelude.{int_le, slice_get}
 use Rattle.std.proofs.lemmas.Int.{ints}
 use Rattle.base_values.specs.declared.EditError.{EditError}
-use Rattle.base_values.specs.declared.EditError.TheVariants.{SplitsArray, SplitsMerge, TargetOutOfBounds}
-use Rattle.base_values.specs.Answers.{and_then, map_ok}
+use Rattle.base_values.specs.declared.EditError.TheVariants.{InvalidSheet, NoMemory, SplitsArray, SplitsMerge, TargetOutOfBounds}
+use Rattle.base_values.specs.Answers.{and_then, map_ok, ok_or}
 use Rattle.base_axis.specs.Along.{Along, IsAxis}
 use Rattle.line_edits.specs.declared.EditKind.{EditKind}
 use Rattle.line_edits.specs.declared.EditKind.TheVariants.{Move}
@@ -41,6 +41,14 @@ unfolding refusal_of is_valid
 far_refused a axis first count delta sheet far =
     ap (λ b. cond (not b) (Some TargetOutOfBounds) (cond (splits_array a (Move first count delta) sheet) (Some SplitsArray) (cond (splits_merge a (Move first count delta) sheet) (Some SplitsMerge) None)))
     (far_invalid a.last first count delta axis.last_high far)
+
+-- a sheet that is not there is no want of memory
+pub never_short : (w : Book) (index : ℕ) (error : EditError) → sheet_at w index ≡ Err error → error ≡ NoMemory → ⊥
+never_short w index error at short = go (slice_get w.worksheets index) at
+  where
+    go : (o : Option Sheet) → ok_or InvalidSheet o ≡ Err error → ⊥
+    go None e = let never : ◌≡◌ {A = Result Sheet EditError} (Err InvalidSheet) (Err NoMemory) = e ∙ ap Err short in cc
+    go (Some sheet) e = let never : ◌≡◌ {A = Result Sheet EditError} (Ok sheet) (Err error) = e in cc
 
 -- ---- the move of a sheet that is there
 

@@ -13,7 +13,7 @@ use Rattle.edit_plans.specs.laws.StandInBetween.{record_computed}
 use Rattle.sheet_history.specs.laws.SoundEntries.{entries_made, entries_forwarded, entries_backed}
 use Rattle.edit_plans.specs.Edits.{Edit, changed, is_of_entries, is_silent, record_of}
 use Rattle.edit_plans.specs.Edits.Edit.{Input, ArrayInput, SetLink, Merge, Unmerge, Lines, MoveLines}
-use Rattle.edit_plans.specs.Plans.{IsPlan}
+use Rattle.edit_plans.specs.Plans.{IsPlan, Plans}
 use Rattle.script_editor.specs.BothWays.{GoesBothWays}
 use Rattle.script_editor.specs.Document.{Document, document_edit, list_recorded, recorded}
 use Rattle.script_editor.specs.Sound.{IsExact, IsSoundChange, IsSoundStep}
@@ -99,6 +99,11 @@ module _ (edit : Edit) (it : IsOfEntries edit) where
       ok_by (Err error) plan = absurd plan
 
 -- ---- the plan of an edit by entries
+
+-- a plan of the workbook inside is one of the document that callers see
+pub is_plan : (edit : Edit) (plan : Result (List Diff) EditError) (inside seen : Document) → inside ≡ seen → IsTrue (is_of_entries edit) → Plans plan inside.book (changed edit inside.book)
+    → IsPlanOf edit plan seen
+is_plan edit plan inside seen same is plans = subst (IsPlanOf edit plan) same (record { of_entries = is; plans = plans })
 
 module _ (edit : Edit) (doc : Document) (rules : IsWellFormed doc.book) where
   module _ (list : List Diff) (it : IsPlanOf edit (Ok list) doc) where

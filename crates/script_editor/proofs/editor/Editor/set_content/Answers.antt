@@ -6,19 +6,19 @@ use Rattle.script_editor.proofs.EntrySteps.{is_plan}
 use Rattle.script_editor.proofs.Sounds.{reached_rules}
 use Rattle.script_editor.proofs.editor.Editor.set_content.Goals as goal
 
-pub plan_input-requires-clause-rules : goal.plan_input-requires-clause-rules
-plan_input-requires-clause-rules c = reached_rules (document_in c.self.inside.book) c.self.invariant
+pub plan_input-plan-requires-clause-rules : goal.plan_input-plan-requires-clause-rules
+plan_input-plan-requires-clause-rules c = reached_rules (document_in c.self.inside.book) c.self.invariant
 
 pub make-requires : goal.make-requires
 make-requires c =
     let row_fits : SFits w32 c.args.row = c.ranges.row in
     let column_fits : SFits w32 c.args.column = c.ranges.column in
-    (Input c.args.sheet c.args.row c.args.column c.args.content, is_plan _ c.plan_input.result (document_in c.self.inside.book) _ c.self.view_is refl (simp to_z-of_z at c.plan_input.ensures.planned))
+    (Input c.args.sheet c.args.row c.args.column c.args.content, is_plan _ c.plan_input-plan.result (document_in c.self.inside.book) _ c.self.view_is refl (simp to_z-of_z at c.plan_input-plan.ensures.planned))
 
 pub returns : goal.returns
 returns c =
     let row_fits : SFits w32 c.args.row = c.ranges.row in
     let column_fits : SFits w32 c.args.column = c.ranges.column in
     record {
-      next = λ state. c.make.ensures.next _ state (is_plan (Input c.args.sheet c.args.row c.args.column c.args.content) c.plan_input.result (document_in c.self.inside.book) _ c.self.view_is refl (simp to_z-of_z at c.plan_input.ensures.planned));
+      next = λ state. c.make.ensures.next _ state (is_plan (Input c.args.sheet c.args.row c.args.column c.args.content) c.plan_input-plan.result (document_in c.self.inside.book) _ c.self.view_is refl (simp to_z-of_z at c.plan_input-plan.ensures.planned));
     }

@@ -6,7 +6,7 @@ use Rattle.script_editor.proofs.Sounds.{reached_rules}
 use Rattle.script_editor.proofs.editor.Editor.merge_cells.Goals as goal
 
 pub plan_merge-plan-requires : goal.plan_merge-plan-requires
-plan_merge-plan-requires c = reached_rules (document_in c.self.inside.book) c.self.invariant
+plan_merge-plan-requires c = record { rules = reached_rules (document_in c.self.inside.book) c.self.invariant }
 
 pub make-requires : goal.make-requires
 make-requires c =

@@ -7,7 +7,7 @@ use Rattle.script_editor.proofs.Sounds.{reached_rules}
 use Rattle.script_editor.proofs.editor.Editor.set_link.Goals as goal
 
 pub plan_link-plan-requires : goal.plan_link-plan-requires
-plan_link-plan-requires c = reached_rules (document_in c.self.inside.book) c.self.invariant
+plan_link-plan-requires c = record { rules = reached_rules (document_in c.self.inside.book) c.self.invariant }
 
 pub make-requires : goal.make-requires
 make-requires c =

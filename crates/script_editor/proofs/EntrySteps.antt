@@ -1,12 +1,12 @@
 -- An edit whose plan has its record is a sound step.
-use Rattle.std.proofs.Common.{◌≡◌, ◌≢◌, Bool, true, false, cond, List, Result, Ok, Err, refl, ap, sym, subst, ◌∙◌}
+use Rattle.std.proofs.Common.{◌≡◌, true, false, cond, List, Result, Ok, Err, refl, ap, sym, subst, ◌∙◌}
 use Rattle.std.specs.Prelude.{IsOk, IsOkAnd, IsTrue}
 use Rattle.base_values.specs.declared.EditError.{EditError}
 use Rattle.base_values.specs.Answers.{map_ok}
 use Rattle.sheet_grid.specs.Book.{Book}
 use Rattle.sheet_rules.specs.WellFormed.{IsWellFormed}
 use Rattle.sheet_history.specs.declared.Diff.{Diff}
-use Rattle.sheet_history.specs.Diffs.{IsKeptList, backed, forwarded, made}
+use Rattle.sheet_history.specs.Diffs.{IsKeptList, backed, forwarded}
 use Rattle.sheet_history.specs.Records.{IsRecord}
 use Rattle.edit_plans.specs.StandInRecords.{record_between}
 use Rattle.edit_plans.specs.laws.StandInBetween.{record_computed}

@@ -115,8 +115,7 @@ impl Editor {
         requires { A.along ≡ along_of axis }
         ensures next { (state : State) → StandsFor self.old state → Moves result self.old self.new state (edit_of (MoveLines sheet axis first count delta) state) }
     {
-        self.book
-            .move_lines::<A>(sheet, axis, first, count, delta)
+        self.book.move_lines::<A>(sheet, axis, first, count, delta)
     }
 
     /// Puts a content at a row and a column of the sheet at an index, and records the change. The
@@ -260,7 +259,10 @@ impl Editor {
         self.edit_lines::<ColumnAxis>(
             sheet,
             LineAxis::Columns,
-            EditKind::Insert { first: column, count },
+            EditKind::Insert {
+                first: column,
+                count,
+            },
         )
     }
 
@@ -294,7 +296,10 @@ impl Editor {
         self.edit_lines::<ColumnAxis>(
             sheet,
             LineAxis::Columns,
-            EditKind::Delete { first: column, count },
+            EditKind::Delete {
+                first: column,
+                count,
+            },
         )
     }
 

@@ -111,12 +111,7 @@ fn distance(delta: i64) -> Option<i32>
 }
 
 /// The move of lines of a sheet past the hidden ones in the way, if an `i32` has its distance.
-fn grown_kind<A: Axis>(
-    sheet: &Worksheet,
-    first: i32,
-    count: i32,
-    delta: i32,
-) -> Option<EditKind>
+fn grown_kind<A: Axis>(sheet: &Worksheet, first: i32, count: i32, delta: i32) -> Option<EditKind>
     ensures near { IfSome result (λ kind. kind ≡ grown_move A.along first count delta sheet.now) }
     ensures far { IfNone result (IsTrue (is_far (grown A.along sheet.now first count delta))) }
 {

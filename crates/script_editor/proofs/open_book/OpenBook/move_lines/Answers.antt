@@ -2,7 +2,6 @@ use Rattle.std.proofs.Common.{◌≡◌, false, true, ap, refl, subst, sym, w32,
 use Rattle.std.proofs.lemmas.Int.{to_z-of_z}
 use Rattle.std.proofs.lemmas.Result.{err_from_is_err_and}
 use Rattle.base_values.specs.Answers.{Changes}
-use Rattle.sheet_history.specs.LineDiffs.{along_of}
 use Rattle.edit_plans.specs.HiddenLines.{grown}
 use Rattle.edit_plans.specs.Edits.{grown_move, is_silent}
 use Rattle.edit_plans.specs.Edits.Edit.{Lines, MoveLines}

@@ -20,8 +20,7 @@ use Rattle.sheet_actions.specs.Edited.{lines_edited}
 use Rattle.sheet_history.specs.declared.Diff.{Diff}
 use Rattle.sheet_history.specs.declared.LineAxis.{LineAxis}
 use Rattle.sheet_history.specs.LineDiffs.{along_of}
-use Rattle.sheet_history.specs.Records.{line_record}
-use Rattle.edit_plans.specs.StandInRecords.{record_between}
+use Rattle.sheet_history.specs.Records.{line_record, record_between}
 use Rattle.edit_plans.specs.Inputs.{IsInput, input_put}
 use Rattle.edit_plans.specs.ArrayInputs.{array_put}
 use Rattle.edit_plans.specs.Links.{link_set}

@@ -1,4 +1,3 @@
-pub mod StandInRecords
 pub mod Plans
 pub mod Inputs
 pub mod Links

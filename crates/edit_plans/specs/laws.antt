@@ -1,4 +1,0 @@
-pub mod StandInRecordLaws
-pub mod StandInBetween
-pub mod StandInBothWays
-pub mod StandInSound

@@ -7,9 +7,8 @@ use Rattle.sheet_grid.specs.Book.{Book}
 use Rattle.sheet_rules.specs.WellFormed.{IsWellFormed}
 use Rattle.sheet_history.specs.declared.Diff.{Diff}
 use Rattle.sheet_history.specs.Diffs.{IsKeptList, backed, forwarded}
-use Rattle.sheet_history.specs.Records.{IsRecord}
-use Rattle.edit_plans.specs.StandInRecords.{record_between}
-use Rattle.edit_plans.specs.laws.StandInBetween.{record_computed}
+use Rattle.sheet_history.specs.Records.{IsRecord, record_between}
+use Rattle.sheet_history.specs.laws.RecordBetween.{record_computed}
 use Rattle.sheet_history.specs.laws.SoundEntries.{entries_made, entries_forwarded, entries_backed}
 use Rattle.edit_plans.specs.Edits.{Edit, changed, is_of_entries, is_silent, record_of}
 use Rattle.edit_plans.specs.Edits.Edit.{Input, ArrayInput, SetLink, Merge, Unmerge, Lines, MoveLines}

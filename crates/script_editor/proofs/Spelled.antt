@@ -20,8 +20,8 @@ use Rattle.sheet_history.specs.Entries.{lies_inside, cell_stands_at, value_fits,
 use Rattle.sheet_history.specs.Entries.EntryKey.{CellKey}
 use Rattle.sheet_history.specs.Entries.EntryValue.{CellValue}
 use Rattle.sheet_history.specs.Records.{Change, change_of, IsRecord}
-use Rattle.edit_plans.specs.laws.StandInBothWays.{AllFit}
-use Rattle.edit_plans.specs.laws.StandInSound.{entries_fit}
+use Rattle.sheet_history.specs.laws.BothWays.{AllFit}
+use Rattle.sheet_history.specs.laws.SoundEntries.{entries_fit}
 use Rattle.sheet_wire.specs.QueueBytes.{IsKnownDiff}
 use Rattle.sheet_wire.specs.laws.Fitting.{known_diff}
 use Rattle.script_editor.specs.Spellable.{AreSpellable}

@@ -7,6 +7,7 @@ pub mod KeptTrees
 pub mod LineLaws
 pub mod LineRecords
 pub mod RecordLaws
+pub mod RecordBetween
 pub mod BothWays
 pub mod OneEntry
 pub mod ReplayLaws

@@ -7,11 +7,17 @@ ghost use Rattle.sheet_history.specs.declared.diff.Diff.{Diff};
 ghost use Rattle.sheet_history.specs.declared.diff.LineAxis.{LineAxis};
 ghost use Rattle.sheet_history.specs.LineDiffs.{along_of};
 ghost use Rattle.sheet_history.specs.Diffs.{backed, forwarded, made, taken_back};
-ghost use Rattle.sheet_history.specs.Records.{IsRecord, IsLineEdit, line_record};
+ghost use Rattle.sheet_history.specs.Records.{IsRecord, IsLineEdit, line_record, record_between};
 
 /// A law about records, with no work at run time: two workbooks have one record at most.
 pub fn records_are_unique()
     ensures { (earlier later : Book) (one two : List Diff) → IsRecord earlier later one → IsRecord earlier later two → one ≡ two }
+{}
+
+/// A law about records, with no work at run time: the record of two workbooks is what they differ
+/// in, computed from both.
+pub fn records_are_computed()
+    ensures { (earlier later : Book) (list : List Diff) → IsRecord earlier later list → list ≡ record_between earlier later }
 {}
 
 /// A law about records, with no work at run time: the record of two well-formed workbooks that

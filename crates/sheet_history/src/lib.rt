@@ -15,7 +15,9 @@ mod replay;
 pub use apply::{back, back_in_place, forward, forward_in_place};
 pub use diff::{Diff, DiffList, DiffType, LineAxis, QueueDiffs};
 pub use history::History;
-pub use laws::{line_records_go_both_ways, records_are_unique, records_go_both_ways};
+pub use laws::{
+    line_records_go_both_ways, records_are_computed, records_are_unique, records_go_both_ways,
+};
 pub use replay::{hides_nothing, replay_in_place};
 
 #[cfg(test)]

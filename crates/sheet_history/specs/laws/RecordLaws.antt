@@ -42,11 +42,11 @@ exact_ranks a b h =
 pub exact_keys : CmpEqualImpliesEq key_cmp
 exact_keys a b h = sym (key_of-rank_of a) ∙ ap key_of (exact_ranks (rank_of a) (rank_of b) h) ∙ key_of-rank_of b
 
-holds : (b : Bool) → b ≡ true → T b
+pub holds : (b : Bool) → b ≡ true → T b
 holds b e = subst T (sym e) tt
 
 -- a diff is the one of its change
-diff_of-change_of : (diff : Diff) (change : Change) → change_of diff ≡ Some change → diff_of change.0 change.1.0 change.1.1 ≡ diff ∷ []
+pub diff_of-change_of : (diff : Diff) (change : Change) → change_of diff ≡ Some change → diff_of change.0 change.1.0 change.1.1 ≡ diff ∷ []
 diff_of-change_of (CellDiff sheet place old new) change h =
     let same : ◌≡◌ {A = Change} (CellKey sheet place, (CellValue old, CellValue new)) change = cc in
     ap (λ (c : Change). diff_of c.0 c.1.0 c.1.1) (sym same)

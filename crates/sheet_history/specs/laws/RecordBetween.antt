@@ -18,14 +18,13 @@ use Rattle.base_maps.specs.laws.Keys.{one_key, own_key}
 use Rattle.sheet_grid.specs.Sheet.{Sheet}
 use Rattle.sheet_grid.specs.Book.{Book}
 use Rattle.sheet_lines.specs.Sheets.{sheet_of}
-use Rattle.sheet_history.specs.declared.Diff.{Diff}
+use Rattle.sheet_history.specs.declared.diff.Diff.{Diff}
 use Rattle.sheet_history.specs.Entries.{EntryKey, EntryValue, key_cmp, sheet_id_of, sheet_entry, nothing_at, entry_at}
 use Rattle.sheet_history.specs.Entries.EntryKey.{CellKey, LinkKey, MergesKey}
 use Rattle.sheet_history.specs.Entries.EntryValue.{CellValue, LinkValue, MergesValue}
-use Rattle.sheet_history.specs.Records.{same_entry_value, changed_entry, Change, change_of, IsRecord, diff_of}
-use Rattle.edit_plans.specs.StandInRecords.{sheet_keys, book_keys, change_at, changes_between, record_between}
+use Rattle.sheet_history.specs.Records.{same_entry_value, changed_entry, Change, change_of, IsRecord, diff_of, sheet_keys, book_keys, change_at, changes_between, record_between}
 use Rattle.sheet_history.specs.laws.EntryLaws.{decide, by_id}
-use Rattle.edit_plans.specs.laws.StandInRecordLaws.{holds, key_total, exact_keys, diff_of-change_of}
+use Rattle.sheet_history.specs.laws.RecordLaws.{holds, key_total, exact_keys, diff_of-change_of}
 use Rattle.sheet_history.specs.laws.ValueEquals.{same_value_decides}
 
 neither : (a b : Bool) → (a || b) ≡ false → (a ≡ false) × (b ≡ false)

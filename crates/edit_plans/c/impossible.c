@@ -1,1 +1,0 @@
-void impossible(void) { for (;;) { } }

@@ -1,0 +1,11 @@
+pub mod Appended
+pub mod AtIndex
+pub mod BlankedLaws
+pub mod BlankRecord
+pub mod Fonts
+pub mod InputLaws
+pub mod LinkLaws
+pub mod MappedMaps
+pub mod MergeRecords
+pub mod PlanLaws
+pub mod SheetRecords

@@ -1,3 +1,15 @@
 //! Edits of a workbook as plans: each tests its refusals in their order and returns the record of
 //! its change, and changes nothing. `specs/Edits.antt` has what each edit changes.
 #![tactic(auto)]
+
+mod blanked;
+mod input;
+mod link;
+mod list;
+mod merge;
+mod unmerge;
+
+pub use input::plan_input;
+pub use link::plan_link;
+pub use merge::plan_merge;
+pub use unmerge::plan_unmerge;

@@ -25,7 +25,7 @@ diff_is (MergesKey id) s (MergesValue v) h = refl
 diff_is _ s _ h = absurd (let never : false ≡ true = h in cc)
 
 -- an entry does not differ from itself
-changed_entry-same : (entry : Option EntryValue) → changed_entry entry entry ≡ None
+pub changed_entry-same : (entry : Option EntryValue) → changed_entry entry entry ≡ None
 changed_entry-same None = refl
 changed_entry-same (Some v) = ap (λ b. cond b None (Some (v, v))) ((same_value_decides v v).1 refl)
 

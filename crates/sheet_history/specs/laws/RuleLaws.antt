@@ -22,12 +22,12 @@ use Rattle.sheet_rules.specs.SheetNames.{is_sheet_name}
 use Rattle.sheet_rules.specs.WellFormed.{are_distinct, ids_of, names_of, are_sheets, is_place, stands_inside, have_trees, have_attributes, are_frozen, is_row, is_column, IsWellFormed, has_font}
 use Rattle.sheet_rules.specs.laws.WellFormedLaws.{well_formed_parts, well_formed_from_parts, cells_fit_from_trees, have_trees_from_cells_fit}
 use Rattle.sheet_lines.specs.Sheets.{sheet_of}
-use Rattle.sheet_history.specs.Entries.{EntryKey, EntryValue, cell_stands_at, value_fits, sheet_id_of, with_sheet_entry, with_changed, put_entry, accepts}
+use Rattle.sheet_history.specs.Entries.{EntryKey, EntryValue, cell_stands_at, value_fits, sheet_id_of, with_sheet_entry, with_changed, bare_sheet, put_entry, accepts}
 use Rattle.sheet_history.specs.Entries.EntryKey.{CellKey, LinkKey}
 use Rattle.sheet_history.specs.Entries.EntryValue.{CellValue, LinkValue}
 use Rattle.sheet_history.specs.Untested.{entry_has_font, may_stand_on}
 use Rattle.sheet_history.specs.laws.Entries.{all_with_entry}
-use Rattle.sheet_history.specs.laws.EntryLaws.{decide, by_id, map-changed, id-with_sheet_entry, bare-with_sheet_entry}
+use Rattle.sheet_history.specs.laws.EntryLaws.{decide, by_id, map-changed, bare-with_sheet_entry}
 
 -- ---- one sheet of a workbook
 
@@ -151,34 +151,42 @@ link-put s place entry inside h =
 
 -- ---- workbooks
 
-module _ (w : Book) (rules : IsWellFormed w) (k : EntryKey) (v : EntryValue)
-    (keeps : (s : Sheet) → sheet_of w (sheet_id_of k) ≡ Some s → KeepsSheetRules s → KeepsSheetRules (with_sheet_entry k v s)) where
+module _ (w : Book) (rules : IsWellFormed w) (id : ℕ) (change : Sheet → Sheet) (bare : (s : Sheet) → bare_sheet (change s) ≡ bare_sheet s)
+    (keeps : (s : Sheet) → sheet_of w id ≡ Some s → KeepsSheetRules s → KeepsSheetRules (change s)) where
   abbrev sheets : List Sheet
   sheets = w.worksheets
 
   abbrev next : List Sheet
-  next = with_changed (sheet_id_of k) (with_sheet_entry k v) w.worksheets
+  next = with_changed id change w.worksheets
 
-  kept : (s : Sheet) → sheet_of w (sheet_id_of k) ≡ Some s → KeepsSheetRules (with_sheet_entry k v s)
-  kept s found = keeps s found (sheet_rules w rules (sheet_id_of k) s found)
+  kept : (s : Sheet) → sheet_of w id ≡ Some s → KeepsSheetRules (change s)
+  kept s found = keeps s found (sheet_rules w rules id s found)
 
-  -- an entry that keeps the rules of its sheet keeps those of the workbook
-  pub well_formed-put : IsWellFormed (put_entry w k v)
-  unfolding put_entry
-  well_formed-put =
+  keeps_id : (s : Sheet) → (change s).id ≡ s.id
+  keeps_id s = ap (λ (t : Sheet). t.id) (bare s)
+
+  -- a change of one sheet that keeps its rules keeps those of the workbook
+  pub well_formed-changed : IsWellFormed (record w { worksheets = with_changed id change w.worksheets })
+  well_formed-changed =
       let parts = well_formed_parts w rules in
       well_formed_from_parts (record w { worksheets = next }) (record {
-        sheets = same_sheets next sheets (length-changed (with_sheet_entry k v) (sheet_id_of k) sheets)
-            (map-changed (with_sheet_entry k v) (id-with_sheet_entry k v) (λ (s : Sheet). s.id) (id-with_sheet_entry k v) (sheet_id_of k) sheets)
-            (map-changed (with_sheet_entry k v) (id-with_sheet_entry k v) (λ (s : Sheet). s.name) (λ s. ap (λ t. t.name) (bare-with_sheet_entry k v s)) (sheet_id_of k) sheets) ∙ parts.sheets;
-        inside = all-changed stands_inside (sheet_id_of k) (with_sheet_entry k v) sheets (λ s found. (kept s found).inside) parts.inside;
-        arrays = all-changed have_arrays (sheet_id_of k) (with_sheet_entry k v) sheets (λ s found. (kept s found).arrays) parts.arrays;
-        merges = all-changed have_merges (sheet_id_of k) (with_sheet_entry k v) sheets (λ s found. (kept s found).merges) parts.merges;
-        hidden = all-changed are_hidden_blank (sheet_id_of k) (with_sheet_entry k v) sheets (λ s found. (kept s found).hidden) parts.hidden;
-        trees = all-changed have_trees (sheet_id_of k) (with_sheet_entry k v) sheets (λ s found. (kept s found).trees) parts.trees;
-        attributes = all-changed have_attributes (sheet_id_of k) (with_sheet_entry k v) sheets (λ s found. (kept s found).attributes) parts.attributes;
-        frozen = all-changed are_frozen (sheet_id_of k) (with_sheet_entry k v) sheets (λ s found. (kept s found).frozen) parts.frozen;
+        sheets = same_sheets next sheets (length-changed change id sheets)
+            (map-changed change keeps_id (λ (s : Sheet). s.id) keeps_id id sheets)
+            (map-changed change keeps_id (λ (s : Sheet). s.name) (λ s. ap (λ (t : Sheet). t.name) (bare s)) id sheets) ∙ parts.sheets;
+        inside = all-changed stands_inside id change sheets (λ s found. (kept s found).inside) parts.inside;
+        arrays = all-changed have_arrays id change sheets (λ s found. (kept s found).arrays) parts.arrays;
+        merges = all-changed have_merges id change sheets (λ s found. (kept s found).merges) parts.merges;
+        hidden = all-changed are_hidden_blank id change sheets (λ s found. (kept s found).hidden) parts.hidden;
+        trees = all-changed have_trees id change sheets (λ s found. (kept s found).trees) parts.trees;
+        attributes = all-changed have_attributes id change sheets (λ s found. (kept s found).attributes) parts.attributes;
+        frozen = all-changed are_frozen id change sheets (λ s found. (kept s found).frozen) parts.frozen;
       })
+
+-- an entry that keeps the rules of its sheet keeps those of the workbook
+pub well_formed-put : (w : Book) → IsWellFormed w → (k : EntryKey) (v : EntryValue)
+    → ((s : Sheet) → sheet_of w (sheet_id_of k) ≡ Some s → KeepsSheetRules s → KeepsSheetRules (with_sheet_entry k v s)) → IsWellFormed (put_entry w k v)
+unfolding put_entry
+well_formed-put w rules k v keeps = well_formed-changed w rules (sheet_id_of k) (with_sheet_entry k v) (bare-with_sheet_entry k v) keeps
 
 stands_found : (o : Option Sheet) (s : Sheet) (place : Position) (entry : Option Cell) → o ≡ Some s → may_stand_on o place entry ≡ true → may_stand s place entry ≡ true
 stands_found None s place entry is h = absurd (cc)

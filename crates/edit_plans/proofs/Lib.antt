@@ -1,3 +1,4 @@
+mod Accepted
 pub mod Blanks
 pub mod MergePlans
 pub mod Merges

@@ -4,12 +4,14 @@
 
 mod blanked;
 mod input;
+mod laws;
 mod link;
 mod list;
 mod merge;
 mod unmerge;
 
 pub use input::plan_input;
+pub use laws::edits_have_records;
 pub use link::plan_link;
 pub use merge::plan_merge;
 pub use unmerge::plan_unmerge;

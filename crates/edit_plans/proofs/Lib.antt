@@ -2,6 +2,7 @@ mod LineCounts
 mod Counting
 mod Widened
 pub mod ArrayPlans
+mod Accepted
 pub mod Blanks
 pub mod MergePlans
 pub mod Merges

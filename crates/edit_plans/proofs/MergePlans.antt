@@ -23,12 +23,12 @@ use Rattle.edit_plans.specs.laws.PlanLaws.{plan_refused, plan_made, no_sheet, sh
 use Rattle.edit_plans.proofs.Merges.{merge_well_formed, merge_exact, unmerge_well_formed, unmerge_exact}
 
 -- what a rectangle has that may be merged
-record MayMerge (sheet : Sheet) (r : MergedCell) : Type 0 where
-  is : is_merge r ≡ true
-  free : meets_any sheet.merges r ≡ false
-  clear : meets_any (large_arrays_of sheet) r ≡ false
+pub record MayMerge (sheet : Sheet) (r : MergedCell) : Type 0 where
+  pub is : is_merge r ≡ true
+  pub free : meets_any sheet.merges r ≡ false
+  pub clear : meets_any (large_arrays_of sheet) r ≡ false
 
-may_merge : (sheet : Sheet) (r : MergedCell) (next : Sheet) → merged_in r sheet ≡ Ok next → MayMerge sheet r
+pub may_merge : (sheet : Sheet) (r : MergedCell) (next : Sheet) → merged_in r sheet ≡ Ok next → MayMerge sheet r
 may_merge sheet r next done = go (is_merge r) refl (meets_any sheet.merges r) refl (meets_any (large_arrays_of sheet) r) refl done
   where
     go : (a : Bool) → is_merge r ≡ a → (b : Bool) → meets_any sheet.merges r ≡ b → (c : Bool) → meets_any (large_arrays_of sheet) r ≡ c

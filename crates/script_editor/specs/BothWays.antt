@@ -3,7 +3,7 @@ use Rattle.std.proofs.Common.{◌≡◌, Ok}
 use Rattle.sheet_grid.specs.Book.{Book}
 use Rattle.sheet_rules.specs.WellFormed.{IsWellFormed}
 use Rattle.sheet_history.specs.Diffs.{forwarded, backed}
-use Rattle.script_editor.specs.Machine.{Edit, record_of}
+use Rattle.edit_plans.specs.Edits.{Edit, record_of}
 use Rattle.script_editor.specs.Sound.{IsExact}
 
 -- the later workbook is well-formed, and the record of the edit, which is exact, takes the earlier one to it and it back

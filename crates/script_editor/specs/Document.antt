@@ -1,11 +1,10 @@
 -- What an editor keeps: the workbook, and diffs of what was there before.
-use Rattle.std.proofs.Common.{ℕ, ℤ, List, [], ◌∷◌, ◌++◌, map, Option, Result, Ok}
+use Rattle.std.proofs.Common.{ℕ, List, [], ◌∷◌, ◌++◌, map, Result, Ok}
+use Rattle.std.specs.Prelude.{if◌then◌else◌}
 use Rattle.base_values.specs.declared.EditError.{EditError}
 use Rattle.base_values.specs.Answers.{map_ok}
 use Rattle.line_edits.specs.declared.EditKind.{EditKind}
-use Rattle.sheet_grid.specs.declared.Cell.{Cell}
-use Rattle.sheet_grid.specs.Sheet.{cell_put}
-use Rattle.sheet_grid.specs.Book.{Book, sheet_edit}
+use Rattle.sheet_grid.specs.Book.{Book}
 use Rattle.sheet_lines.specs.Followed.{book_followed}
 use Rattle.sheet_history.specs.declared.Diff.{Diff}
 use Rattle.sheet_history.specs.declared.DiffType.{DiffType}
@@ -15,7 +14,8 @@ use Rattle.sheet_history.specs.declared.QueueDiffs.{QueueDiffs}
 use Rattle.sheet_history.specs.Diffs.{made, taken_back}
 use Rattle.sheet_history.specs.LineDiffs.{along_of}
 use Rattle.sheet_history.specs.Records.{line_record}
-use Rattle.script_editor.specs.Machine.{Edit, State, changed, record_of, step_record, entry_of}
+use Rattle.edit_plans.specs.Edits.{Edit, changed, is_silent, record_of}
+use Rattle.script_editor.specs.Machine.{State, step_record, entry_of}
 
 pub record Document : Type 0 where
   pub book : Book
@@ -37,17 +37,17 @@ sending kind list queue = queue ++ record { kind = kind; list = list } ∷ []
 abbrev pub recorded : List Diff → Document → Book → Document
 recorded list doc later = record { book = later; undo = list ∷ doc.undo; redo = []; queue = sending Redo list doc.queue }
 
--- a cell, or none, put at a place, and a record of it
-abbrev pub cell_recorded : ℕ → ℤ → ℤ → Option Cell → List Diff → Document → Result Document EditError
-cell_recorded index row column entry list doc = map_ok (recorded list doc) (sheet_edit doc.book index (λ sheet. cell_put sheet row column entry))
+-- the changes of a list made, and recorded
+abbrev pub list_recorded : List Diff → Document → Result Document EditError
+list_recorded list doc = map_ok (recorded list doc) (made doc.book list)
 
 -- lines of the sheet of an id inserted, deleted or moved, and their record
 abbrev pub lines_recorded : LineAxis → EditKind → ℕ → Document → Document
 lines_recorded axis kind id doc = recorded (line_record axis kind id doc.book) doc (book_followed (along_of axis) kind id doc.book)
 
--- an edit of a document
+-- an edit of a document. A silent one does nothing
 abbrev pub document_edit : Edit → Document → Result Document EditError
-document_edit edit doc = map_ok (λ later. recorded (record_of edit doc.book later) doc later) (changed edit doc.book)
+document_edit edit doc = if is_silent edit then Ok doc else map_ok (λ later. recorded (record_of edit doc.book later) doc later) (changed edit doc.book)
 
 -- a document after the newest list to undo was taken back
 abbrev pub undone : List Diff → List (List Diff) → Document → Book → Document

@@ -1,4 +1,4 @@
-pub mod Inputs
+pub mod Far
 pub mod Spellable
 pub mod Machine
 pub mod Document

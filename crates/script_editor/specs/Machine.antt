@@ -1,47 +1,17 @@
 -- The machine that keeps whole earlier and later workbooks.
-use Rattle.std.proofs.Common.{ℕ, ℤ, List, [], ◌∷◌, ◌++◌, map, Result, Ok, Err}
-use Rattle.std.specs.Prelude.{codes}
+use Rattle.std.proofs.Common.{ℕ, List, [], ◌∷◌, ◌++◌, map, Result, Ok}
+use Rattle.std.specs.Prelude.{codes, if◌then◌else◌}
 use Rattle.base_values.specs.declared.EditError.{EditError}
 use Rattle.base_values.specs.Answers.{map_ok}
-use Rattle.base_values.specs.Places.{place_of}
 use Rattle.base_tables.specs.declared.Locale.TheVariants.{En}
 use Rattle.base_tables.specs.declared.Zone.TheVariants.{Utc}
-use Rattle.cell_content.specs.declared.Content.{Content}
-use Rattle.line_edits.specs.declared.EditKind.{EditKind}
-use Rattle.sheet_grid.specs.Sheet.{Sheet}
-use Rattle.sheet_grid.specs.Book.{Book, new_book, sheet_at}
+use Rattle.sheet_grid.specs.Book.{Book, new_book}
 use Rattle.sheet_history.specs.declared.Diff.{Diff}
 use Rattle.sheet_history.specs.declared.DiffType.{DiffType}
 use Rattle.sheet_history.specs.declared.DiffType.TheVariants.{Undo, Redo}
-use Rattle.sheet_history.specs.declared.LineAxis.{LineAxis}
 use Rattle.sheet_history.specs.declared.QueueDiffs.{QueueDiffs}
-use Rattle.sheet_history.specs.LineDiffs.{along_of}
-use Rattle.sheet_history.specs.Records.{line_record}
-use Rattle.sheet_actions.specs.Edited.{lines_edited}
 use Rattle.sheet_wire.specs.QueueBytes.{spell_queue}
-use Rattle.script_editor.specs.Inputs.{input_put, place_change}
-
--- an edit with its arguments
-pub data Edit : Type 0 where
-  -- the content that goes to a row and a column of the sheet at an index
-  Input : ℕ → ℤ → ℤ → Content → Edit
-  -- the rows or columns that are inserted in the sheet at an index, deleted from it or moved
-  Lines : ℕ → LineAxis → EditKind → Edit
-
--- the workbook after an edit, or the edit's first refusal
-abbrev pub changed : Edit → Book → Result Book EditError
-changed (Input index row column content) book = input_put index row column content book
-changed (Lines index axis kind) book = lines_edited (along_of axis) kind index book
-
--- the record of an edit of lines of a sheet, if it is there
-abbrev pub lines_record : LineAxis → EditKind → Book → Result Sheet EditError → List Diff
-lines_record axis kind book (Ok sheet) = line_record axis kind sheet.id book
-lines_record axis kind book (Err error) = []
-
--- the record of an edit that led from one workbook to another
-abbrev pub record_of : Edit → Book → Book → List Diff
-record_of (Input index row column content) earlier later = place_change (sheet_at earlier index) (sheet_at later index) (place_of row column)
-record_of (Lines index axis kind) earlier later = lines_record axis kind earlier (sheet_at earlier index)
+use Rattle.edit_plans.specs.Edits.{Edit, changed, is_silent, record_of}
 
 -- an accepted edit, with the whole workbook before it and the whole workbook after it
 pub record Step : Type 0 where
@@ -81,9 +51,9 @@ edited edit s later =
     let step : Step = record { edit = edit; before = s.present; after = later } in
     record { present = later; past = step ∷ s.past; undone = []; synced = s.synced; sent = s.sent ++ record { kind = Redo; step = step } ∷ [] }
 
--- an edit makes its change, or is refused
+-- an edit makes its change, or is refused. A silent one does nothing
 abbrev pub edit_of : Edit → State → Result State EditError
-edit_of edit s = map_ok (edited edit s) (changed edit s.present)
+edit_of edit s = if is_silent edit then Ok s else map_ok (edited edit s) (changed edit s.present)
 
 abbrev pub undo_from : List Step → State → State
 undo_from [] s = s

@@ -1,14 +1,7 @@
-ghost use Rattle.std.specs.Prelude.{◌≡◌, ◌≢◌, true, Ok, Err, Some, [], ◌∷◌, take, IfOk, IfSome, IsTrue, OnOk, OnErr, IsOkUnless};
+ghost use Rattle.std.specs.Prelude.{◌≡◌, ◌≢◌, ◌||◌, true, Ok, Err, [], ◌∷◌, pos, take, int_lt, IfOk, IfNone, IfSome, IsTrue, OnOk, OnErr, IsOkUnless};
+ghost use Rattle.std.specs.Ordering.{int_eq};
 ghost use Rattle.base_values.specs.Answers.{Returns, Changes, Edits, map_ok};
 ghost use Rattle.base_values.specs.declared.EditError.TheVariants.{NoMemory};
-ghost use Rattle.base_values.specs.declared.Position.{Position as Place};
-ghost use Rattle.base_values.specs.Places.{place_of};
-ghost use Rattle.cell_content.specs.Fitting.{fits_at};
-ghost use Rattle.cell_content.specs.KeptContent.{IsKeptContent};
-ghost use Rattle.sheet_grid.specs.Book.{sheet_edit};
-ghost use Rattle.sheet_grid.specs.FittingCells.{entry_fits_at, is_shallow_entry};
-ghost use Rattle.sheet_grid.specs.KeptCell.{IsKeptCell};
-ghost use Rattle.sheet_grid.specs.Sheet.{cell_put};
 ghost use Rattle.sheet_rules.specs.WellFormed.{IsWellFormed};
 ghost use Rattle.sheet_actions.specs.Planned.{lines_planned};
 ghost use Rattle.sheet_history.specs.Diffs.{IsKeptDiff, IsKeptList};
@@ -16,19 +9,20 @@ ghost use Rattle.sheet_history.specs.LineDiffs.{along_of};
 ghost use Rattle.sheet_history.specs.declared.Diff.TheVariants.{Lines as LinesDiff};
 ghost use Rattle.sheet_history.specs.declared.DiffType.TheVariants.{Redo};
 ghost use Rattle.sheet_wire.specs.QueueBytes.{IsKnownDiff};
+ghost use Rattle.edit_plans.specs.Edits.{Edit as AnyEdit, grown_move};
+ghost use Rattle.edit_plans.specs.HiddenLines.{grown};
+ghost use Rattle.edit_plans.specs.Edits.Edit.{Lines, MoveLines};
 ghost use Rattle.script_editor.specs.Document.{recorded, sending};
-ghost use Rattle.sheet_history.specs.Untested.{hides_nothing, shows_all};
-ghost use Rattle.script_editor.specs.Inputs.{IsInput, cell_change, entered, input_place, input_plan};
-ghost use Rattle.script_editor.specs.Machine.Edit.{Input, Lines};
+ghost use Rattle.script_editor.specs.Far.{is_far};
 ghost use Rattle.script_editor.specs.Spellable.{AreSpellable};
 
 use base_axis::Axis;
 use base_shared::Shared;
-use base_styles::Style;
-use base_values::{EditError, Items, Position, copy_of, place_of};
+use base_values::{EditError, Items, copy_of};
+use edit_plans::grown_delta;
 use line_map::{EditKind, LineEdit};
 use sheet_actions::{plan_delete, plan_insert, plan_move};
-use sheet_grid::{Cell, Content, DefaultStyle, Workbook, Worksheet};
+use sheet_grid::{DefaultStyle, Workbook, Worksheet};
 use sheet_history::{
     Diff, DiffList, DiffType, History, LineAxis, QueueDiffs, back_in_place, forward_in_place,
 };
@@ -46,28 +40,6 @@ pub(crate) struct OpenBook {
     pub(crate) queue: Items<QueueDiffs>,
 }
 
-/// The cell after the input of a content: it has the style that its place shows. An empty input
-/// where there is no cell makes none.
-fn entered(
-    alloc: Global,
-    old: &Option<Shared<Cell>>,
-    content: Content,
-    style: &Shared<Style>,
-) -> Result<Option<Shared<Cell>>, EditError>
-    requires { IsKeptContent content }
-    ensures made { Returns result (Ok (entered old.now content style.now)) }
-    ensures kept { IfOk result (λ new. IfSome new IsKeptCell) }
-    ensures fits { (place : Place) → IsTrue (fits_at place content) → IfOk result (λ new. IsTrue (entry_fits_at place new)) }
-{
-    if old.is_none() {
-        if let Content::Empty = content {
-            return Ok(None);
-        }
-    }
-    let style = copy_of(style)?;
-    Ok(Some(Shared::new(alloc, Cell { content, style })?))
-}
-
 /// A record of one diff.
 fn list_of(alloc: Global, diff: Diff) -> Result<DiffList, EditError>
     requires kept { IsKeptDiff diff }
@@ -79,36 +51,6 @@ fn list_of(alloc: Global, diff: Diff) -> Result<DiffList, EditError>
     let mut list = Items::with_room(alloc, 1)?;
     list.push(diff)?;
     Ok(Shared::new(alloc, list)?)
-}
-
-/// The record of one cell: its change, or nothing where it stays.
-fn cell_change(
-    alloc: Global,
-    sheet: u32,
-    position: Position,
-    old: Option<Shared<Cell>>,
-    new: Option<Shared<Cell>>,
-) -> Result<DiffList, EditError>
-    requires old { IfSome old IsKeptCell }
-    requires new { IfSome new IsKeptCell }
-    requires old_shallow { IsTrue (is_shallow_entry old) }
-    requires new_shallow { IsTrue (is_shallow_entry new) }
-    ensures made { Returns result (Ok (cell_change sheet position old new)) }
-    ensures kept { IfOk result IsKeptList }
-    ensures spellable { IfOk result AreSpellable }
-{
-    if old == new {
-        return Ok(Shared::new(alloc, Items::empty(alloc))?);
-    }
-    list_of(
-        alloc,
-        Diff::Cell {
-            sheet,
-            position,
-            old,
-            new,
-        },
-    )
 }
 
 /// The record of an edit of lines: the edit, and what taking it back does not give.
@@ -157,18 +99,37 @@ fn plan_lines<A: Axis>(
     }
 }
 
-/// Puts a cell, or none.
-fn put_cell(
-    workbook: &mut Workbook,
-    sheet: u32,
-    row: i32,
-    column: i32,
-    entry: Option<Shared<Cell>>,
-) -> Result<(), EditError>
-    requires { IfSome entry IsKeptCell }
-    ensures { Edits result workbook.old workbook.new (sheet_edit workbook.old sheet (λ old. cell_put old row column entry)) }
+/// A distance as an `i32`, if it is one.
+fn distance(delta: i64) -> Option<i32>
+    ensures near { IfSome result (λ small. small ≡ delta) }
+    ensures far { IfNone result (IsTrue (is_far delta)) }
 {
-    workbook.put_shared_cell(sheet, row, column, entry)
+    if delta < -2_147_483_648 || 2_147_483_647 < delta {
+        return None;
+    }
+    Some(delta as i32)
+}
+
+/// The move of lines of a sheet past the hidden ones in the way, if an `i32` has its distance.
+fn grown_kind<A: Axis>(sheet: &Worksheet, first: i32, count: i32, delta: i32) -> Option<EditKind>
+    ensures near { IfSome result (λ kind. kind ≡ grown_move A.along first count delta sheet.now) }
+    ensures far { IfNone result (IsTrue (is_far (grown A.along sheet.now first count delta))) }
+{
+    match distance(grown_delta::<A>(sheet, first, count, delta)) {
+        Some(delta) => Some(EditKind::Move {
+            first,
+            count,
+            delta,
+        }),
+        None => None,
+    }
+}
+
+/// Whether a move is of no lines, or by none.
+fn is_silent(count: i32, delta: i32) -> bool
+    ensures { result ≡ (int_eq delta (pos 0) || int_lt count (pos 1)) }
+{
+    delta == 0 || count < 1
 }
 
 /// Makes room for a list on the stacks, and puts it in the queue as one that was made. It holds the
@@ -193,65 +154,23 @@ fn send(
     Ok(())
 }
 
-/// The place at a row and a column of a sheet, where an input may go. The sheet hides no place, so
-/// only those outside are refused.
-fn input_place(sheet: &Worksheet, row: i32, column: i32) -> Result<Position, EditError>
-    requires { shows_all sheet.now ≡ true }
-    ensures place { result ≡ input_place sheet.now row column }
-    ensures named { IfOk result (λ place. place_of row column ≡ Ok place) }
-    ensures sure { result ≢ Err NoMemory }
-{
-    place_of(row, column)
-}
-
 impl OpenBook {
     ghost use Rattle.sheet_history.specs.Records.{IsLineEdit, line_record};
-    ghost use Rattle.script_editor.specs.Document.{cell_recorded, lines_recorded, document_edit, document_undo, document_redo};
+    ghost use Rattle.script_editor.specs.Document.{list_recorded, lines_recorded, document_edit, document_undo, document_redo};
     ghost use Rattle.script_editor.specs.Opened.{document_in};
-    ghost use Rattle.script_editor.specs.Sound.{IsSendable};
+    ghost use Rattle.script_editor.specs.Sound.{IsSoundChange};
+    ghost use Rattle.script_editor.specs.Stands.{IsAnyPlan, IsPlanOf};
 
-    /// The entry that an input makes at a place, and its record.
-    fn plan(
-        &self,
-        sheet: u32,
-        row: i32,
-        column: i32,
-        content: Content,
-    ) -> Result<(Option<Shared<Cell>>, DiffList), EditError>
-        requires kept { IsKeptContent content }
-        requires input { IsInput row column content }
+    /// Makes the changes of a list in the workbook, and puts the list on the undo stack and in the
+    /// queue. An error changes nothing.
+    fn apply(&mut self, list: DiffList) -> Result<(), EditError>
+        requires kept { IsKeptList list }
         requires rules { IsWellFormed self.now.workbook }
-        requires shown { hides_nothing self.now.workbook ≡ true }
-        ensures made { Returns result (input_plan sheet row column content self.now.workbook) }
-        ensures entry { IfOk result (λ plan. IfSome plan.0 IsKeptCell) }
-        ensures record { IfOk result (λ plan. IsKeptList plan.1) }
-        ensures spellable { IfOk result (λ plan. AreSpellable plan.1) }
-    {
-        let found = self.workbook.worksheet(sheet)?;
-        let place = input_place(found, row, column)?;
-        let old = found.shared_cell(row, column)?;
-        let style = found.shown_style(row, column, &self.plain)?;
-        let new = entered(self.alloc, &old, content, style)?;
-        let list = cell_change(self.alloc, found.get_sheet_id(), place, old, copy_of(&new)?)?;
-        Ok((new, list))
-    }
-
-    /// Puts a cell, or none, in the workbook, and its record on the undo stack and in the queue.
-    fn put_recorded(
-        &mut self,
-        sheet: u32,
-        row: i32,
-        column: i32,
-        new: Option<Shared<Cell>>,
-        list: DiffList,
-    ) -> Result<(), EditError>
-        requires kept { IfSome new IsKeptCell }
-        requires record { IsKeptList list }
-        ensures document { Edits result (document_in self.old) (document_in self.new) (cell_recorded sheet row column new list (document_in self.old)) }
+        ensures document { Edits result (document_in self.old) (document_in self.new) (list_recorded list (document_in self.old)) }
     {
         let length = self.queue.len();
         send(&mut self.history, &mut self.queue, &list)?;
-        if let Err(error) = put_cell(&mut self.workbook, sheet, row, column, new) {
+        if let Err(error) = forward_in_place(self.alloc, &mut self.workbook, &list) {
             self.queue.truncate(length);
             return Err(error);
         }
@@ -261,24 +180,15 @@ impl OpenBook {
         }
     }
 
-    /// Puts a content in the workbook, and its record on the undo stack and in the queue. The
-    /// refusals are those of `Editor::set_content`.
-    pub(crate) fn enter(
-        &mut self,
-        sheet: u32,
-        row: i32,
-        column: i32,
-        content: Content,
-    ) -> Result<(), EditError>
-        requires kept { IsKeptContent content }
-        requires input { IsInput row column content }
+    /// Makes what the plan of an edit by entries says, and records it, or refuses as the plan does.
+    pub(crate) fn make(&mut self, plan: Result<DiffList, EditError>) -> Result<(), EditError>
+        requires plan { IsAnyPlan plan (document_in self.now) }
         requires rules { IsWellFormed self.now.workbook }
-        requires shown { hides_nothing self.now.workbook ≡ true }
-        ensures document { Changes result (document_in self.old) (document_in self.new) (document_edit (Input sheet row column content) (document_in self.old)) }
-        ensures sendable { OnOk result (IsSendable (Input sheet row column content) self.old.workbook) }
+        ensures document { (edit : AnyEdit) → IsPlanOf edit plan (document_in self.old) → Changes result (document_in self.old) (document_in self.new) (document_edit edit (document_in self.old)) }
+        ensures sound { (edit : AnyEdit) → IsPlanOf edit plan (document_in self.old) → OnOk result (IsSoundChange edit self.old.workbook) }
     {
-        let (new, list) = self.plan(sheet, row, column, content)?;
-        self.put_recorded(sheet, row, column, new, list)
+        let list = plan?;
+        self.apply(list)
     }
 
     /// Puts a workbook in place of this one, and the record of what leads there on the undo stack
@@ -324,10 +234,36 @@ impl OpenBook {
         requires along { A.along ≡ along_of axis }
         requires rules { IsWellFormed self.now.workbook }
         ensures document { Changes result (document_in self.old) (document_in self.new) (document_edit (Lines sheet axis kind) (document_in self.old)) }
-        ensures sendable { OnOk result (IsSendable (Lines sheet axis kind) self.old.workbook) }
+        ensures sound { OnOk result (IsSoundChange (Lines sheet axis kind) self.old.workbook) }
     {
         let (id, edit) = plan_lines::<A>(&self.workbook, sheet, kind)?;
         self.make_lines(axis, id, &edit)
+    }
+
+    /// Moves lines in the sheet at an index, past the hidden ones in the way, and puts the record on
+    /// the undo stack and in the queue. It does nothing where none moves, or by none. The refusals are
+    /// those of `Editor::move_rows`.
+    pub(crate) fn move_lines<A: Axis>(
+        &mut self,
+        sheet: u32,
+        axis: LineAxis,
+        first: i32,
+        count: i32,
+        delta: i32,
+    ) -> Result<(), EditError>
+        requires along { A.along ≡ along_of axis }
+        requires rules { IsWellFormed self.now.workbook }
+        ensures document { Changes result (document_in self.old) (document_in self.new) (document_edit (MoveLines sheet axis first count delta) (document_in self.old)) }
+        ensures sound { OnOk result (IsSoundChange (MoveLines sheet axis first count delta) self.old.workbook) }
+    {
+        if is_silent(count, delta) {
+            return Ok(());
+        }
+        let found = self.workbook.worksheet(sheet)?;
+        match grown_kind::<A>(found, first, count, delta) {
+            Some(kind) => self.edit_lines::<A>(sheet, axis, kind),
+            None => Err(EditError::TargetOutOfBounds),
+        }
     }
 
     /// Takes the newest list of the undo stack back in the workbook, and sends it.

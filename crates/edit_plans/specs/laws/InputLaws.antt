@@ -240,9 +240,12 @@ module _ (w : Book) (index : ℕ) (row column : ℤ) (content : Content) (rules 
   pub input_well_formed : IsWellFormed after
   input_well_formed = rules_by (is_empty content)
 
+  pub input_exact : IsRecord w after (input_record content sheet place)
+  input_exact = exact_by (is_empty content)
+
   pub input_plan : (list : List Diff) → list ≡ input_record content sheet place → IsKeptList list → IsPlan w list after
   input_plan list is kept = record {
-    exact = subst (IsRecord w after) (sym is) (exact_by (is_empty content));
+    exact = subst (IsRecord w after) (sym is) input_exact;
     rules = input_well_formed;
     kept = kept;
   }

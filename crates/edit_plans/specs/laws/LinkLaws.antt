@@ -45,10 +45,12 @@ module _ (w : Book) (index : ℕ) (row column : ℤ) (entry : Option Link) (rule
   pub link_well_formed : IsWellFormed after
   link_well_formed = subst IsWellFormed put_is (well_formed-link w sheet.id place entry rules inside)
 
+  pub link_exact : IsRecord w after (link_change sheet place entry)
+  link_exact = subst (λ later. IsRecord w later (link_change sheet place entry)) put_is (put_record w key (LinkValue entry) sheet (there w rules index sheet at) inside)
+
   pub link_plan : (list : List Diff) → list ≡ link_change sheet place entry → IsKeptList list → IsPlan w list after
   link_plan list is kept = record {
-    exact = subst (λ later. IsRecord w later list) put_is
-        (subst (IsRecord w (put_entry w key (LinkValue entry))) (sym is) (put_record w key (LinkValue entry) sheet (there w rules index sheet at) inside));
+    exact = subst (IsRecord w after) (sym is) link_exact;
     rules = link_well_formed;
     kept = kept;
   }

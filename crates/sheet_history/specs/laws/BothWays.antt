@@ -57,7 +57,7 @@ put_olds w [] = w
 put_olds w (c ∷ cs) = put_entry (put_olds w cs) c.0 c.1.0
 
 -- each change can be put, forward and back
-abbrev AllFit : Book → List Change → Type 0
+abbrev pub AllFit : Book → List Change → Type 0
 AllFit w [] = Unit {0}
 AllFit w (c ∷ cs) = (accepts w c.0 c.1.1 ≡ true) × (accepts w c.0 c.1.0 ≡ true) × AllFit w cs
 
@@ -243,7 +243,8 @@ module _ (w w2 : Book) (frames : frame_of w ≡ frame_of w2) (sound : IsSound w)
       )
 
   module _ (own : HasDistinctIds w) (own2 : HasDistinctIds w2) (ds : List Diff) (is : IsRecord w w2 ds) where
-    fit : AllFit w is.changes
+    -- its changes can be put in either workbook
+    pub fit : AllFit w is.changes
     fit = all_fit is.changes is.ordered (λ k c e. differs (entry_at w k) (entry_at w2 k) c (sym (is.exact k) ∙ e))
 
     -- a record takes the earlier workbook to the later one

@@ -27,7 +27,7 @@ use Rattle.sheet_history.specs.Entries.EntryKey.{CellKey, LinkKey, MergesKey}
 use Rattle.sheet_history.specs.Entries.EntryValue.{CellValue, LinkValue, MergesValue}
 use Rattle.sheet_history.specs.Diffs.{made, taken_back, forwarded, backed, tested}
 use Rattle.sheet_history.specs.Records.{IsRecord}
-use Rattle.sheet_history.specs.laws.BothWays.{IsSound, record_forward, record_back}
+use Rattle.sheet_history.specs.laws.BothWays.{AllFit, IsSound, fit, record_forward, record_back}
 use Rattle.sheet_history.specs.laws.Entries.{entry_holds}
 use Rattle.sheet_history.specs.laws.RuleLaws.{KeepsSheetRules, sheet_rules}
 use Rattle.sheet_history.specs.laws.TestedLaws.{by_rule-kept}
@@ -98,6 +98,11 @@ sound_by_rules w rules k v is = go (sheet_of w (sheet_id_of k)) refl is
 -- ---- the record of two well-formed workbooks
 
 module _ (earlier later : Book) (list : List Diff) (before : IsWellFormed earlier) (after : IsWellFormed later) (is : IsRecord earlier later list) where
+  -- has changes that can be put
+  pub entries_fit : AllFit earlier is.changes
+  entries_fit =
+      fit earlier later (sym is.frame) (sound_by_rules earlier before) (sound_by_rules later after) (distinct_ids_from_well_formed earlier before) (distinct_ids_from_well_formed later after) list is
+
   -- takes the earlier one to the later one
   pub entries_made : made earlier list ≡ Ok later
   entries_made =

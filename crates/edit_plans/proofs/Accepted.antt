@@ -1,0 +1,106 @@
+-- An accepted edit by entries has a record.
+use Rattle.std.proofs.Common.{◌≡◌, ℕ, ℤ, true, false, cond, not, List, [], ◌∷◌, Option, Some, None, Result, Ok, Err, refl, ap, sym, subst, ◌∙◌}
+use Rattle.base_values.specs.declared.EditError.{EditError}
+use Rattle.base_values.specs.declared.EditError.TheVariants.{InvalidArea, MergeOverlap, ArrayCell, NoMerge}
+use Rattle.base_values.specs.declared.Position.{Position}
+use Rattle.base_values.specs.Answers.{and_then, map_ok}
+use Rattle.base_values.specs.KeyMap.{with_entry}
+use Rattle.base_values.specs.Places.{place_of}
+use Rattle.base_axis.specs.declared.MergedCell.{MergedCell}
+use Rattle.cell_content.specs.declared.Content.{Content}
+use Rattle.sheet_grid.specs.declared.Link.{Link}
+use Rattle.sheet_grid.specs.Merges.{merge_holding}
+use Rattle.sheet_grid.specs.Sheet.{Sheet, link_put}
+use Rattle.sheet_grid.specs.Book.{Book, sheet_at, sheet_edit, with_sheet}
+use Rattle.sheet_grid.specs.Arrays.{large_arrays_of}
+use Rattle.sheet_rules.specs.Occupied.{is_merge, meets_any}
+use Rattle.sheet_rules.specs.WellFormed.{IsWellFormed}
+use Rattle.sheet_history.specs.declared.Diff.{Diff}
+use Rattle.sheet_history.specs.declared.Diff.TheVariants.{Merges as MergesDiff}
+use Rattle.sheet_history.specs.Records.{IsRecord}
+use Rattle.edit_plans.specs.Plans.{HasRecord}
+use Rattle.edit_plans.specs.Inputs.{IsInput, input_place, input_put, with_input}
+use Rattle.edit_plans.specs.Links.{link_set}
+use Rattle.edit_plans.specs.Merging.{merge_diffs, merge_made, merge_undone, merged_in, merges_without, unmerged_at, with_merge, without_merge}
+use Rattle.edit_plans.specs.laws.InputLaws.{input_exact, input_well_formed}
+use Rattle.edit_plans.specs.laws.LinkLaws.{link_exact, link_well_formed}
+use Rattle.edit_plans.proofs.Merges.{merge_exact, merge_well_formed, unmerge_exact, unmerge_well_formed}
+use Rattle.edit_plans.proofs.MergePlans.{may_merge}
+
+-- what was found by an accepted edit of the sheet at an index
+record IsEdited (w : Book) (index : ℕ) (edit : Sheet → Result Sheet EditError) (later : Book) : Type 0 where
+  sheet : Sheet
+  at : sheet_at w index ≡ Ok sheet
+  next : Sheet
+  done : edit sheet ≡ Ok next
+  later_is : with_sheet w index next ≡ later
+
+edited : (w : Book) (index : ℕ) (edit : Sheet → Result Sheet EditError) (later : Book) → sheet_edit w index edit ≡ Ok later → IsEdited w index edit later
+edited w index edit later how = on_index (sheet_at w index) refl how
+  where
+    on_sheet : (sheet : Sheet) → sheet_at w index ≡ Ok sheet → (r : Result Sheet EditError) → edit sheet ≡ r → map_ok (with_sheet w index) r ≡ Ok later → IsEdited w index edit later
+    on_sheet sheet at (Ok next) done e = record { sheet = sheet; at = at; next = next; done = done; later_is = let same : with_sheet w index next ≡ later = cc in same }
+    on_sheet sheet at (Err error) done e = absurd (let never : ◌≡◌ {A = Result Book EditError} (Err error) (Ok later) = e in cc)
+
+    on_index : (r : Result Sheet EditError) → sheet_at w index ≡ r → and_then r (λ sheet. map_ok (with_sheet w index) (edit sheet)) ≡ Ok later → IsEdited w index edit later
+    on_index (Ok sheet) at e = on_sheet sheet at (edit sheet) refl e
+    on_index (Err error) at e = absurd (let never : ◌≡◌ {A = Result Book EditError} (Err error) (Ok later) = e in cc)
+
+-- a record of the workbook that an edit leaves is one of the later workbook
+has_record : (w : Book) (index : ℕ) (next made : Sheet) (later : Book) (list : List Diff) → ◌≡◌ {A = Result Sheet EditError} (Ok made) (Ok next) → with_sheet w index next ≡ later
+    → IsRecord w (with_sheet w index made) list → IsWellFormed (with_sheet w index made) → HasRecord w later
+has_record w index next made later list done is exact rules =
+    let same : made ≡ next = cc in
+    let book : with_sheet w index made ≡ later = ap (with_sheet w index) same ∙ is in
+    record { list = list; exact = subst (λ b. IsRecord w b list) book exact; rules = subst IsWellFormed book rules }
+
+module _ (index : ℕ) (row column : ℤ) where
+  pub input_has_record : (content : Content) (w later : Book) → IsWellFormed w → IsInput row column content → input_put index row column content w ≡ Ok later → HasRecord w later
+  unfolding input_put
+  input_has_record content w later rules may how =
+      let it = edited w index (λ s. map_ok (with_input s content) (input_place s row column)) later how in
+      go it.sheet it.next it.at it.later_is (input_place it.sheet row column) refl it.done
+    where
+      go : (sheet next : Sheet) → sheet_at w index ≡ Ok sheet → with_sheet w index next ≡ later → (r : Result Position EditError) → input_place sheet row column ≡ r → map_ok (with_input sheet content) r ≡ Ok next → HasRecord w later
+      go sheet next at is (Ok place) goes e =
+          has_record w index next (with_input sheet content place) later _ e is (input_exact w index row column content rules may sheet place at goes) (input_well_formed w index row column content rules may sheet place at goes)
+      go sheet next at is (Err error) goes e = absurd (let never : ◌≡◌ {A = Result Sheet EditError} (Err error) (Ok next) = e in cc)
+
+  pub link_has_record : (entry : Option Link) (w later : Book) → IsWellFormed w → link_set index row column entry w ≡ Ok later → HasRecord w later
+  unfolding link_set
+  link_has_record entry w later rules how =
+      let it = edited w index (λ s. link_put s row column entry) later how in
+      go it.sheet it.next it.at it.later_is (place_of row column) refl it.done
+    where
+      go : (sheet next : Sheet) → sheet_at w index ≡ Ok sheet → with_sheet w index next ≡ later → (r : Result Position EditError) → place_of row column ≡ r
+          → map_ok (λ p. record sheet { links = with_entry sheet.links p entry }) r ≡ Ok next → HasRecord w later
+      go sheet next at is (Ok place) named e =
+          has_record w index next (record sheet { links = with_entry sheet.links place entry }) later _ e is (link_exact w index row column entry rules sheet place at named) (link_well_formed w index row column entry rules sheet place at named)
+      go sheet next at is (Err error) named e = absurd (let never : ◌≡◌ {A = Result Sheet EditError} (Err error) (Ok next) = e in cc)
+
+  pub unmerge_has_record : (w later : Book) → IsWellFormed w → merge_undone index row column w ≡ Ok later → HasRecord w later
+  unfolding merge_undone
+  unmerge_has_record w later rules how =
+      let it = edited w index (λ s. and_then (place_of row column) (λ p. unmerged_at s p (merge_holding s.merges p))) later how in
+      on_place it.sheet it.next it.at it.later_is (place_of row column) it.done
+    where
+      on_merge : (sheet next : Sheet) → sheet_at w index ≡ Ok sheet → with_sheet w index next ≡ later → (place : Position) (o : Option MergedCell) → merge_holding sheet.merges place ≡ o → unmerged_at sheet place o ≡ Ok next → HasRecord w later
+      on_merge sheet next at is place (Some merge) found e =
+          has_record w index next (without_merge sheet place) later _ e is (unmerge_exact w rules index sheet at place merge found) (unmerge_well_formed w rules index sheet at place)
+      on_merge sheet next at is place None found e = absurd (let never : ◌≡◌ {A = Result Sheet EditError} (Err NoMerge) (Ok next) = e in cc)
+
+      on_place : (sheet next : Sheet) → sheet_at w index ≡ Ok sheet → with_sheet w index next ≡ later → (r : Result Position EditError) → and_then r (λ p. unmerged_at sheet p (merge_holding sheet.merges p)) ≡ Ok next → HasRecord w later
+      on_place sheet next at is (Ok place) e = on_merge sheet next at is place (merge_holding sheet.merges place) refl e
+      on_place sheet next at is (Err error) e = absurd (let never : ◌≡◌ {A = Result Sheet EditError} (Err error) (Ok next) = e in cc)
+
+pub merge_has_record : (index : ℕ) (r : MergedCell) (w later : Book) → IsWellFormed w → merge_made index r w ≡ Ok later → HasRecord w later
+unfolding merge_made
+merge_has_record index r w later rules how =
+    let it = edited w index (merged_in r) later how in
+    let may = may_merge it.sheet r it.next it.done in
+    let done : merged_in r it.sheet ≡ Ok (with_merge it.sheet r) = merged it.sheet may.is may.free may.clear in
+    has_record w index it.next (with_merge it.sheet r) later (merge_diffs r it.sheet) (sym done ∙ it.done) it.later_is (merge_exact w rules index it.sheet it.at r)
+    (merge_well_formed w rules index it.sheet it.at r may.is may.free may.clear)
+  where
+    merged : (sheet : Sheet) → is_merge r ≡ true → meets_any sheet.merges r ≡ false → meets_any (large_arrays_of sheet) r ≡ false → merged_in r sheet ≡ Ok (with_merge sheet r)
+    merged sheet is free clear = λ i. cond (not (is i)) (Err InvalidArea) (cond (free i) (Err MergeOverlap) (cond (clear i) (Err ArrayCell) (Ok (with_merge sheet r))))

@@ -21,13 +21,13 @@ use Rattle.script_lines.specs.Parts.{parts_at, without_return}
 use Rattle.script_lines.specs.Escapes.{escaped}
 use Rattle.script_lines.specs.Commands.{command_of}
 use Rattle.script_lines.specs.declared.Command.{Command}
-use Rattle.script_lines.specs.declared.Command.TheVariants.{Set, Get, Array, Link, Unlink, Merge, Unmerge, InsertRows, InsertColumns, DeleteRows, DeleteColumns, MoveRows, MoveColumns, Undo, Redo, Sync, Show}
+use Rattle.script_lines.specs.declared.Command.TheVariants as command
 use Rattle.cell_input.specs.Inputs.{input_of, input_text}
 use Rattle.script_dump.specs.English.{english, english_tree}
 use Rattle.script_dump.specs.Text.{line, hex}
 use Rattle.script_dump.specs.Dump.{dump}
 use Rattle.edit_plans.specs.Edits.{Edit}
-use Rattle.edit_plans.specs.Edits.Edit as edit
+use Rattle.edit_plans.specs.Edits.Edit.{Input, ArrayInput, SetLink, Merge, Unmerge, Lines, MoveLines}
 use Rattle.script_editor.specs.Machine.{State, start, edit_of, undo_of, redo_of, synced_of, sync_bytes}
 
 -- ---- answers
@@ -74,19 +74,19 @@ typed_tree area text = tree_at (place_of area.row area.column) text
 
 -- the edit that a command asks for, if it asks for one
 abbrev pub edit_for : Command → Option Edit
-edit_for (Set cell text) = Some (edit.Input cell.sheet cell.row cell.column (typed cell.row cell.column text))
-edit_for (Array named text) = Some (edit.ArrayInput named.sheet named.area (typed_tree named.area text))
-edit_for (Link cell text) = Some (edit.SetLink cell.sheet cell.row cell.column (Some (record { target = text })))
-edit_for (Unlink cell) = Some (edit.SetLink cell.sheet cell.row cell.column None)
-edit_for (Merge named) = Some (edit.Merge named.sheet named.area)
-edit_for (Unmerge cell) = Some (edit.Unmerge cell.sheet cell.row cell.column)
-edit_for (InsertRows lines) = Some (edit.Lines lines.sheet Rows (Insert lines.first lines.count))
-edit_for (InsertColumns lines) = Some (edit.Lines lines.sheet Columns (Insert lines.first lines.count))
-edit_for (DeleteRows lines) = Some (edit.Lines lines.sheet Rows (Delete lines.first lines.count))
-edit_for (DeleteColumns lines) = Some (edit.Lines lines.sheet Columns (Delete lines.first lines.count))
-edit_for (MoveRows move) = Some (edit.MoveLines move.sheet Rows move.first move.count move.delta)
-edit_for (MoveColumns move) = Some (edit.MoveLines move.sheet Columns move.first move.count move.delta)
-edit_for command = None
+edit_for (command.Set cell text) = Some (Input cell.sheet cell.row cell.column (typed cell.row cell.column text))
+edit_for (command.Array named text) = Some (ArrayInput named.sheet named.area (typed_tree named.area text))
+edit_for (command.Link cell text) = Some (SetLink cell.sheet cell.row cell.column (Some (record { target = text })))
+edit_for (command.Unlink cell) = Some (SetLink cell.sheet cell.row cell.column None)
+edit_for (command.Merge named) = Some (Merge named.sheet named.area)
+edit_for (command.Unmerge cell) = Some (Unmerge cell.sheet cell.row cell.column)
+edit_for (command.InsertRows lines) = Some (Lines lines.sheet Rows (Insert lines.first lines.count))
+edit_for (command.InsertColumns lines) = Some (Lines lines.sheet Columns (Insert lines.first lines.count))
+edit_for (command.DeleteRows lines) = Some (Lines lines.sheet Rows (Delete lines.first lines.count))
+edit_for (command.DeleteColumns lines) = Some (Lines lines.sheet Columns (Delete lines.first lines.count))
+edit_for (command.MoveRows move) = Some (MoveLines move.sheet Rows move.first move.count move.delta)
+edit_for (command.MoveColumns move) = Some (MoveLines move.sheet Columns move.first move.count move.delta)
+edit_for other = None
 
 -- a refused edit leaves all as it was
 abbrev pub state_after : Result State EditError → State → State
@@ -97,25 +97,25 @@ state_after (Err error) s = s
 
 -- the answer to a command that asks for no edit
 abbrev pub other_reply : Command → State → List ℕ
-other_reply (Get cell) s = got (record { row = cell.row; column = cell.column }) (content_at cell.sheet cell.row cell.column s.present)
-other_reply Sync s = line (codes "sync " ++ hex (sync_bytes s))
-other_reply Show s = dump s.present
-other_reply command s = line (codes "ok")
+other_reply (command.Get cell) s = got (record { row = cell.row; column = cell.column }) (content_at cell.sheet cell.row cell.column s.present)
+other_reply command.Sync s = line (codes "sync " ++ hex (sync_bytes s))
+other_reply command.Show s = dump s.present
+other_reply other s = line (codes "ok")
 
 -- the state after a command that asks for no edit
 abbrev pub other_next : Command → State → State
-other_next Undo s = undo_of s
-other_next Redo s = redo_of s
-other_next Sync s = synced_of s
-other_next command s = s
+other_next command.Undo s = undo_of s
+other_next command.Redo s = redo_of s
+other_next command.Sync s = synced_of s
+other_next other s = s
 
 -- the answer to a command
 abbrev pub reply_to : Command → State → List ℕ
-reply_to command s = option_map_or (λ asked. outcome (edit_of asked s)) (edit_for command) (other_reply command s)
+reply_to asked s = option_map_or (λ edit. outcome (edit_of edit s)) (edit_for asked) (other_reply asked s)
 
 -- the state after a command
 abbrev pub next_of : Command → State → State
-next_of command s = option_map_or (λ asked. state_after (edit_of asked s) s) (edit_for command) (other_next command s)
+next_of asked s = option_map_or (λ edit. state_after (edit_of edit s) s) (edit_for asked) (other_next asked s)
 
 -- ---- lines
 

@@ -16,9 +16,11 @@ use Rattle.cell_content.specs.declared.Content.TheVariants.{Number, Boolean, Err
 use Rattle.cell_content.specs.Fitting.{fits_at, tree_fits_at}
 use Rattle.cell_input.specs.Inputs.{value_of_text, input_of}
 use Rattle.formula_tree.specs.declared.Node.TheVariants.{EmptyArgument}
-use Rattle.formula_tree.specs.Depth.{is_within, depth_of}
-use Rattle.formula_tree.specs.Numbers.{numbers_follow, has_kept_numbers}
-use Rattle.formula_tree.specs.Placed.{is_placed}
+use Rattle.formula_tree.specs.Depth.{is_within}
+use Rattle.formula_tree.specs.Numbers.{has_kept_numbers, has_no_negative_number}
+use Rattle.formula_tree.specs.laws.DepthEquations.{depth_empty_argument}
+use Rattle.formula_tree.specs.laws.NumbersEquations.{numbers_empty_argument}
+use Rattle.formula_tree.specs.laws.PlacedEquations.{placed_empty_argument}
 use Rattle.formula_grammar.specs.declared.Profile.{Profile}
 use Rattle.formula_read.specs.Formula.{formula_of}
 use Rattle.script_dump.specs.English.{english}
@@ -58,10 +60,13 @@ typed_input row column text (Ok content) is fits =
     record { fits = fits; plain = (λ i. array_at here (is i)) ∙ read_plain here (place_of row column) text }
 
 -- an empty argument may stand anywhere
-pub empty_fits : (place : Position) → IsTrue (tree_fits_at place EmptyArgument)
-unfolding tree_fits_at is_placed is_within depth_of numbers_follow
-empty_fits place = refl
-
 pub empty_kept : IsTrue (has_kept_numbers EmptyArgument)
-unfolding numbers_follow
-empty_kept = refl
+empty_kept = numbers_empty_argument _
+
+pub empty_fits : (place : Position) → IsTrue (tree_fits_at place EmptyArgument)
+unfolding tree_fits_at is_within
+empty_fits place =
+    let placed = placed_empty_argument place in
+    let depth = depth_empty_argument in
+    let positive : has_no_negative_number EmptyArgument ≡ true = numbers_empty_argument _ in
+    rw (placed, depth, positive) refl

@@ -7,7 +7,6 @@ use Rattle.base_values.specs.Answers.{and_then, map_ok}
 use Rattle.base_values.specs.ErrorNames.{name_of}
 use Rattle.base_values.specs.declared.Position.{Position}
 use Rattle.base_values.specs.Places.{place_of}
-use Rattle.base_axis.specs.declared.MergedCell.{MergedCell}
 use Rattle.formula_tree.specs.declared.Node.{Node}
 use Rattle.formula_tree.specs.declared.Node.TheVariants.{EmptyArgument}
 use Rattle.line_edits.specs.declared.EditKind.TheVariants.{Insert, Delete}
@@ -66,16 +65,15 @@ abbrev pub tree_at : Result Position EditError → List ℕ → Node
 tree_at (Ok place) text = english_tree place text
 tree_at (Err error) text = EmptyArgument
 
--- an array's formula is read at its first place
-abbrev pub typed_tree : MergedCell → List ℕ → Node
-typed_tree area text = tree_at (place_of area.row area.column) text
+abbrev pub typed_tree : ℤ → ℤ → List ℕ → Node
+typed_tree row column text = tree_at (place_of row column) text
 
 -- ---- edits
 
 -- the edit that a command asks for, if it asks for one
 abbrev pub edit_for : Command → Option Edit
 edit_for (command.Set cell text) = Some (Input cell.sheet cell.row cell.column (typed cell.row cell.column text))
-edit_for (command.Array named text) = Some (ArrayInput named.sheet named.area (typed_tree named.area text))
+edit_for (command.Array named text) = Some (ArrayInput named.sheet named.area (typed_tree named.area.row named.area.column text))
 edit_for (command.Link cell text) = Some (SetLink cell.sheet cell.row cell.column (Some (record { target = text })))
 edit_for (command.Unlink cell) = Some (SetLink cell.sheet cell.row cell.column None)
 edit_for (command.Merge named) = Some (Merge named.sheet named.area)

@@ -3,7 +3,6 @@ ghost use Rattle.base_values.specs.Answers.{Returns, map_ok};
 ghost use Rattle.base_values.specs.declared.EditError.TheVariants.{NoMemory};
 ghost use Rattle.base_values.specs.declared.Position.{Position as Place};
 ghost use Rattle.base_values.specs.Places.{IsPlace};
-ghost use Rattle.base_axis.specs.Rectangles.{anchor_place};
 ghost use Rattle.formula_tree.specs.Numbers.{has_kept_numbers};
 ghost use Rattle.formula_tree.specs.declared.Node.TheVariants.{EmptyArgument};
 ghost use Rattle.cell_content.specs.Fitting.{tree_fits_at};
@@ -14,7 +13,6 @@ ghost use Rattle.script_dump.specs.Text.{line, hex};
 ghost use Rattle.edit_script.specs.Script.{content_of, content_at, refusal, outcome, got, typed, typed_tree};
 
 use crate::second_copy::SecondCopy;
-use base_axis::MergedCell;
 use base_shared::Shared;
 use base_values::{EditError, Position, Text, place_of};
 use formula_tree::Node;
@@ -166,15 +164,15 @@ fn no_formula(alloc: Global) -> Result<Shared<Node>, EditError>
     Ok(Shared::new(alloc, Node::EmptyArgument)?)
 }
 
-/// The tree that a formula's text is read as at the first place of an area. Where that is outside the
-/// sheet nothing is read: the array is refused there.
-fn typed_tree(alloc: Global, area: MergedCell, text: &str) -> Result<Shared<Node>, EditError>
-    ensures value { IfOk result (λ tree. tree ≡ typed_tree area text.now) }
+/// The tree that a formula's text is read as at a row and a column. Where they are outside the sheet
+/// nothing is read: the array is refused there.
+fn typed_tree(alloc: Global, row: i32, column: i32, text: &str) -> Result<Shared<Node>, EditError>
+    ensures value { IfOk result (λ tree. tree ≡ typed_tree row column text.now) }
     ensures kept { IfOk result (λ tree. IsTrue (has_kept_numbers tree)) }
-    ensures fits { IfOk result (λ tree. IsTrue (tree_fits_at (anchor_place area) tree)) }
+    ensures fits { IfOk result (λ tree. IsTrue (tree_fits_at (record { row = row; column = column }) tree)) }
     ensures memory { IsOkUnless result NoMemory }
 {
-    match place_of(area.row, area.column) {
+    match place_of(row, column) {
         Ok(place) => shared_formula(alloc, place, text),
         Err(_) => no_formula(alloc),
     }
@@ -217,7 +215,7 @@ impl Session {
     fn array(&mut self, named: NamedArea, text: &str) -> Result<(), EditError>
         ensures { RunsCommand (command.Array named text.now) result self.old self.new }
     {
-        let tree = typed_tree(self.alloc, named.area, text)?;
+        let tree = typed_tree(self.alloc, named.area.row, named.area.column, text)?;
         let done = self.editor.set_array(named.sheet, named.area, tree);
         push_outcome(&mut self.out, done)
     }

@@ -8,8 +8,8 @@ use Rattle.edit_script.proofs.session.typed_tree.Goals as goal
 
 pub returns-in-Ok-clause-fits : goal.returns-in-Ok-clause-fits
 returns-in-Ok-clause-fits c =
-    let row_fits : SFits w32 c.args.area.row = c.ranges.area.row in
-    let column_fits : SFits w32 c.args.area.column = c.ranges.area.column in
+    let row_fits : SFits w32 c.args.row = c.ranges.row in
+    let column_fits : SFits w32 c.args.column = c.ranges.column in
     let named = simp to_z-of_z at (c.place_of.ensures.place) in
     let is = sym named ∙ c.in-Ok.is in
-    subst (λ (p : Position). IfOk c.shared_formula.result (λ tree. IsTrue (tree_fits_at p tree))) (sym (place_is c.args.area.row c.args.area.column c.in-Ok.place is)) c.shared_formula.ensures.fits
+    subst (λ (p : Position). IfOk c.shared_formula.result (λ tree. IsTrue (tree_fits_at p tree))) (sym (place_is c.args.row c.args.column c.in-Ok.place is)) c.shared_formula.ensures.fits

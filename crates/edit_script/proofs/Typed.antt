@@ -1,4 +1,4 @@
--- What is typed is no array.
+-- What is typed as a content is no array, and what is typed may stand at its place.
 use Rattle.std.proofs.Common.{◌≡◌, ℕ, ℤ, Bool, true, false, cond, List, [], ◌∷◌, Option, Some, None, Result, Ok, Err, refl, ◌∙◌}
 use Rattle.std.specs.Prelude.{IfOk, IsTrue, ◌==◌, unwrap_or}
 use Rattle.std.specs.Option.{option_map, option_or}
@@ -13,12 +13,18 @@ use Rattle.base_tables.specs.Language.{boolean_of_text}
 use Rattle.base_tables.specs.Locale.{decimal_sign}
 use Rattle.cell_content.specs.declared.Content.{Content}
 use Rattle.cell_content.specs.declared.Content.TheVariants.{Number, Boolean, Error, Text, Formula}
-use Rattle.cell_content.specs.Fitting.{fits_at}
+use Rattle.cell_content.specs.Fitting.{fits_at, tree_fits_at}
 use Rattle.cell_input.specs.Inputs.{value_of_text, input_of}
+use Rattle.formula_tree.specs.declared.Node.TheVariants.{EmptyArgument}
+use Rattle.formula_tree.specs.Depth.{is_within}
+use Rattle.formula_tree.specs.Numbers.{has_kept_numbers, has_no_negative_number}
+use Rattle.formula_tree.specs.laws.DepthEquations.{depth_empty_argument}
+use Rattle.formula_tree.specs.laws.NumbersEquations.{numbers_empty_argument}
+use Rattle.formula_tree.specs.laws.PlacedEquations.{placed_empty_argument}
 use Rattle.formula_grammar.specs.declared.Profile.{Profile}
 use Rattle.formula_read.specs.Formula.{formula_of}
 use Rattle.script_dump.specs.English.{english}
-use Rattle.script_editor.specs.Inputs.{IsInput}
+use Rattle.edit_plans.specs.Inputs.{IsInput}
 use Rattle.sheet_grid.specs.Arrays.{array_at}
 use Rattle.edit_script.specs.Script.{read_at, typed}
 
@@ -52,3 +58,15 @@ typed_input row column text (Err error) is fits = tt
 typed_input row column text (Ok content) is fits =
     let here : Position = record { row = row; column = column } in
     record { fits = fits; plain = (λ i. array_at here (is i)) ∙ read_plain here (place_of row column) text }
+
+-- an empty argument may stand anywhere
+pub empty_kept : IsTrue (has_kept_numbers EmptyArgument)
+empty_kept = numbers_empty_argument _
+
+pub empty_fits : (place : Position) → IsTrue (tree_fits_at place EmptyArgument)
+unfolding tree_fits_at is_within
+empty_fits place =
+    let placed = placed_empty_argument place in
+    let depth = depth_empty_argument in
+    let positive : has_no_negative_number EmptyArgument ≡ true = numbers_empty_argument _ in
+    rw (placed, depth, positive) refl

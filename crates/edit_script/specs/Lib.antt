@@ -1,3 +1,4 @@
+pub mod Copies
 pub mod Run
 pub mod Script
 pub mod Session

@@ -5,11 +5,12 @@ use Rattle.base_values.specs.declared.EditError.{EditError}
 use Rattle.base_values.specs.declared.EditError.TheVariants.{NoMemory}
 use Rattle.std.specs.declared.result.Result.{Result}
 use Rattle.script_lines.specs.Parts.{without_return}
+use Rattle.script_lines.specs.declared.Command.{Command}
 use Rattle.script_editor.specs.Machine.{State}
 use Rattle.script_editor.specs.Sound.{IsSound}
 use Rattle.script_editor.specs.Stands.{StandsFor}
 use Rattle.edit_script.specs.declared.session.Session.{Session}
-use Rattle.edit_script.specs.Script.{line_next}
+use Rattle.edit_script.specs.Script.{reply_to, next_of, line_next}
 
 -- the editor stands for the state, and the second copy is the workbook at the last sync
 pub record SessionStands (session : Session) (s : State) : Type 0 where
@@ -22,6 +23,10 @@ pub record Runs (result : Result (Unit {0}) EditError) (old new : Session) (repl
   pub out : OnOk result (new.out.items ≡ old.out.items ++ reply)
   pub stands : OnOk result (SessionStands new next)
   pub only : IsOkUnless result NoMemory
+
+-- for whatever state the session stood, it ran the command
+abbrev pub RunsCommand : Command → Result (Unit {0}) EditError → Session → Session → Type 0
+RunsCommand command result old new = (s : State) → SessionStands old s → Runs result old new (reply_to command s) (next_of command s)
 
 -- every state that lines go through is sound, from this one to the last
 abbrev pub SoundThrough : List (List ℕ) → State → Type 0

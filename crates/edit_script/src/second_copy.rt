@@ -1,12 +1,9 @@
-ghost use Rattle.std.specs.Prelude.{◌≡◌, List, IfOk, OnOk, IsTrue, IsOkUnless};
+ghost use Rattle.std.specs.Prelude.{◌≡◌, IfOk, OnOk, IsTrue, IsOkUnless};
 ghost use Rattle.base_values.specs.declared.EditError.TheVariants.{NoMemory};
 ghost use Rattle.std.proofs.Props.{props};
-ghost use Rattle.sheet_grid.specs.Book.{Book};
 ghost use Rattle.sheet_rules.specs.WellFormed.{IsWellFormed};
 ghost use Rattle.sheet_history.specs.Untested.{hides_nothing};
-ghost use Rattle.sheet_history.specs.declared.QueueDiffs.{QueueDiffs as Entry};
-ghost use Rattle.sheet_wire.specs.QueueBytes.{FitsQueue};
-ghost use Rattle.script_editor.specs.Sound.{Carries};
+ghost use Rattle.edit_script.specs.Copies.{WhereCarried};
 
 use base_values::{EditError, copy_of};
 use script_editor::replay_bytes;
@@ -51,8 +48,8 @@ impl SecondCopy {
 
     /// Takes the copy along bytes that carry it to a later workbook. The only error is `NoMemory`.
     pub(crate) fn follow(&mut self, alloc: Global, bytes: &[u8]) -> Result<(), EditError>
-        ensures done { (entries : List Entry) (later : Book) → FitsQueue entries → Carries entries bytes.now self.old.workbook later → OnOk result (self.new.workbook ≡ later) }
-        ensures only { (entries : List Entry) (later : Book) → FitsQueue entries → Carries entries bytes.now self.old.workbook later → IsOkUnless result NoMemory }
+        ensures done { WhereCarried bytes.now self.old.workbook (λ later. OnOk result (self.new.workbook ≡ later)) }
+        ensures only { WhereCarried bytes.now self.old.workbook (λ later. IsOkUnless result NoMemory) }
     {
         replay_bytes(
             alloc,

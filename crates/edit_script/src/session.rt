@@ -1,18 +1,27 @@
-ghost use Rattle.std.specs.Prelude.{◌≡◌, ◌≢◌, ◌++◌, [], codes, Ok, OnOk, IfOk, IfErr, IsOkUnless};
+ghost use Rattle.std.specs.Prelude.{◌≡◌, ◌≢◌, ◌++◌, [], codes, Ok, OnOk, IfOk, IfErr, IsOkUnless, IsTrue};
 ghost use Rattle.base_values.specs.Answers.{Returns, map_ok};
 ghost use Rattle.base_values.specs.declared.EditError.TheVariants.{NoMemory};
+ghost use Rattle.base_values.specs.declared.Position.{Position as Place};
+ghost use Rattle.base_values.specs.Places.{IsPlace};
+ghost use Rattle.formula_tree.specs.Numbers.{has_kept_numbers};
+ghost use Rattle.formula_tree.specs.declared.Node.TheVariants.{EmptyArgument};
+ghost use Rattle.cell_content.specs.Fitting.{tree_fits_at};
 ghost use Rattle.cell_content.specs.KeptContent.{IsKeptContent};
+ghost use Rattle.edit_plans.specs.Inputs.{IsInput};
+ghost use Rattle.script_dump.specs.English.{english_tree};
 ghost use Rattle.script_dump.specs.Text.{line, hex};
-ghost use Rattle.script_editor.specs.Inputs.{IsInput};
-ghost use Rattle.edit_script.specs.Script.{content_of, content_at, refusal, outcome, got, typed};
+ghost use Rattle.edit_script.specs.Script.{content_of, content_at, refusal, outcome, got, typed, typed_tree};
 
 use crate::second_copy::SecondCopy;
 use base_shared::Shared;
-use base_values::{EditError, Position, place_of};
-use script_dump::{english_input, push_dump, push_english, push_hex, push_line};
+use base_values::{EditError, Position, Text, place_of};
+use formula_tree::Node;
+use script_dump::{english_formula, english_input, push_dump, push_english, push_hex, push_line};
 use script_editor::Editor;
-use script_lines::{Command, read_command, split_first, without_return};
-use sheet_grid::{Cell, Content, Workbook};
+use script_lines::{
+    Command, NamedArea, NamedCell, NamedLines, NamedMove, read_command, split_first, without_return,
+};
+use sheet_grid::{Cell, Content, Link, Workbook};
 use std::alloc::Global;
 
 /// A script's editor, its second copy, and its answers so far.
@@ -133,12 +142,48 @@ fn typed(alloc: Global, row: i32, column: i32, text: &str) -> Result<Content, Ed
     }
 }
 
+/// The tree of an English formula's text at a place inside the sheet.
+fn shared_formula(alloc: Global, place: Position, text: &str) -> Result<Shared<Node>, EditError>
+    requires place { IsPlace place }
+    ensures value { IfOk result (λ tree. tree ≡ english_tree place text.now) }
+    ensures kept { IfOk result (λ tree. IsTrue (has_kept_numbers tree)) }
+    ensures fits { IfOk result (λ tree. IsTrue (tree_fits_at place tree)) }
+    ensures memory { IsOkUnless result NoMemory }
+{
+    Ok(Shared::new(alloc, english_formula(alloc, place, text)?)?)
+}
+
+/// A tree that may stand anywhere.
+#[tactic(auto, using(crate::proofs::Typed::empty_fits, crate::proofs::Typed::empty_kept))]
+fn no_formula(alloc: Global) -> Result<Shared<Node>, EditError>
+    ensures value { IfOk result (λ tree. tree ≡ EmptyArgument) }
+    ensures kept { IfOk result (λ tree. IsTrue (has_kept_numbers tree)) }
+    ensures fits { (place : Place) → IfOk result (λ tree. IsTrue (tree_fits_at place tree)) }
+    ensures memory { IsOkUnless result NoMemory }
+{
+    Ok(Shared::new(alloc, Node::EmptyArgument)?)
+}
+
+/// The tree that a formula's text is read as at a row and a column. Where they are outside the sheet
+/// nothing is read: the array is refused there.
+fn typed_tree(alloc: Global, row: i32, column: i32, text: &str) -> Result<Shared<Node>, EditError>
+    ensures value { IfOk result (λ tree. tree ≡ typed_tree row column text.now) }
+    ensures kept { IfOk result (λ tree. IsTrue (has_kept_numbers tree)) }
+    ensures fits { IfOk result (λ tree. IsTrue (tree_fits_at (record { row = row; column = column }) tree)) }
+    ensures memory { IsOkUnless result NoMemory }
+{
+    match place_of(row, column) {
+        Ok(place) => shared_formula(alloc, place, text),
+        Err(_) => no_formula(alloc),
+    }
+}
+
 impl Session {
     ghost use Rattle.script_editor.specs.Machine.{State, start};
     ghost use Rattle.script_lines.specs.Commands.{command_of};
-    ghost use Rattle.script_lines.specs.declared.Command.TheVariants.{Set, Get, InsertRows, DeleteRows, Undo, Redo, Sync, Show};
-    ghost use Rattle.edit_script.specs.Script.{reply_to, next_of, line_reply, line_next, lines_of, replies, after};
-    ghost use Rattle.edit_script.specs.Session.{SessionStands, Runs, SoundThrough};
+    ghost use Rattle.script_lines.specs.declared.Command.TheVariants as command;
+    ghost use Rattle.edit_script.specs.Script.{line_reply, line_next, lines_of, replies, after};
+    ghost use Rattle.edit_script.specs.Session.{SessionStands, Runs, RunsCommand, SoundThrough};
 
     /// A new workbook, a second copy equal to it, and no answer yet.
     pub(crate) fn new(alloc: Global) -> Result<Session, EditError>
@@ -157,43 +202,121 @@ impl Session {
         })
     }
 
-    fn set(&mut self, sheet: u32, row: i32, column: i32, text: &str) -> Result<(), EditError>
-        ensures { (state : State) → SessionStands self.old state →
-            Runs result self.old self.new (reply_to (Set sheet row column text.now) state) (next_of (Set sheet row column text.now) state) }
+    fn set(&mut self, cell: NamedCell, text: &str) -> Result<(), EditError>
+        ensures { RunsCommand (command.Set cell text.now) result self.old self.new }
     {
-        let content = typed(self.alloc, row, column, text)?;
-        let done = self.editor.set_content(sheet, row, column, content);
+        let content = typed(self.alloc, cell.row, cell.column, text)?;
+        let done = self
+            .editor
+            .set_content(cell.sheet, cell.row, cell.column, content);
         push_outcome(&mut self.out, done)
     }
 
-    fn get(&mut self, sheet: u32, row: i32, column: i32) -> Result<(), EditError>
-        ensures { (state : State) → SessionStands self.old state →
-            Runs result self.old self.new (reply_to (Get sheet row column) state) (next_of (Get sheet row column) state) }
+    fn array(&mut self, named: NamedArea, text: &str) -> Result<(), EditError>
+        ensures { RunsCommand (command.Array named text.now) result self.old self.new }
     {
-        let found = found_at(self.editor.workbook(), sheet, row, column);
-        let place = position(row, column);
+        let tree = typed_tree(self.alloc, named.area.row, named.area.column, text)?;
+        let done = self.editor.set_array(named.sheet, named.area, tree);
+        push_outcome(&mut self.out, done)
+    }
+
+    fn get(&mut self, cell: NamedCell) -> Result<(), EditError>
+        ensures { RunsCommand (command.Get cell) result self.old self.new }
+    {
+        let found = found_at(self.editor.workbook(), cell.sheet, cell.row, cell.column);
+        let place = position(cell.row, cell.column);
         push_found(&mut self.out, &mut self.scratch, place, found)
     }
 
-    fn insert_rows(&mut self, sheet: u32, row: i32, count: i32) -> Result<(), EditError>
-        ensures { (state : State) → SessionStands self.old state →
-            Runs result self.old self.new (reply_to (InsertRows sheet row count) state) (next_of (InsertRows sheet row count) state) }
+    fn link(&mut self, cell: NamedCell, target: Text) -> Result<(), EditError>
+        ensures { RunsCommand (command.Link cell target) result self.old self.new }
     {
-        let done = self.editor.insert_rows(sheet, row, count);
+        let link = Some(Link { target });
+        let done = self
+            .editor
+            .set_link(cell.sheet, cell.row, cell.column, link);
         push_outcome(&mut self.out, done)
     }
 
-    fn delete_rows(&mut self, sheet: u32, row: i32, count: i32) -> Result<(), EditError>
-        ensures { (state : State) → SessionStands self.old state →
-            Runs result self.old self.new (reply_to (DeleteRows sheet row count) state) (next_of (DeleteRows sheet row count) state) }
+    fn unlink(&mut self, cell: NamedCell) -> Result<(), EditError>
+        ensures { RunsCommand (command.Unlink cell) result self.old self.new }
     {
-        let done = self.editor.delete_rows(sheet, row, count);
+        let done = self
+            .editor
+            .set_link(cell.sheet, cell.row, cell.column, None);
+        push_outcome(&mut self.out, done)
+    }
+
+    fn merge(&mut self, named: NamedArea) -> Result<(), EditError>
+        ensures { RunsCommand (command.Merge named) result self.old self.new }
+    {
+        let done = self.editor.merge_cells(named.sheet, named.area);
+        push_outcome(&mut self.out, done)
+    }
+
+    fn unmerge(&mut self, cell: NamedCell) -> Result<(), EditError>
+        ensures { RunsCommand (command.Unmerge cell) result self.old self.new }
+    {
+        let done = self.editor.unmerge_cells(cell.sheet, cell.row, cell.column);
+        push_outcome(&mut self.out, done)
+    }
+
+    fn insert_rows(&mut self, lines: NamedLines) -> Result<(), EditError>
+        ensures { RunsCommand (command.InsertRows lines) result self.old self.new }
+    {
+        let done = self
+            .editor
+            .insert_rows(lines.sheet, lines.first, lines.count);
+        push_outcome(&mut self.out, done)
+    }
+
+    fn insert_columns(&mut self, lines: NamedLines) -> Result<(), EditError>
+        ensures { RunsCommand (command.InsertColumns lines) result self.old self.new }
+    {
+        let done = self
+            .editor
+            .insert_columns(lines.sheet, lines.first, lines.count);
+        push_outcome(&mut self.out, done)
+    }
+
+    fn delete_rows(&mut self, lines: NamedLines) -> Result<(), EditError>
+        ensures { RunsCommand (command.DeleteRows lines) result self.old self.new }
+    {
+        let done = self
+            .editor
+            .delete_rows(lines.sheet, lines.first, lines.count);
+        push_outcome(&mut self.out, done)
+    }
+
+    fn delete_columns(&mut self, lines: NamedLines) -> Result<(), EditError>
+        ensures { RunsCommand (command.DeleteColumns lines) result self.old self.new }
+    {
+        let done = self
+            .editor
+            .delete_columns(lines.sheet, lines.first, lines.count);
+        push_outcome(&mut self.out, done)
+    }
+
+    fn move_rows(&mut self, moved: NamedMove) -> Result<(), EditError>
+        ensures { RunsCommand (command.MoveRows moved) result self.old self.new }
+    {
+        let done = self
+            .editor
+            .move_rows(moved.sheet, moved.first, moved.count, moved.delta);
+        push_outcome(&mut self.out, done)
+    }
+
+    fn move_columns(&mut self, moved: NamedMove) -> Result<(), EditError>
+        ensures { RunsCommand (command.MoveColumns moved) result self.old self.new }
+    {
+        let done = self
+            .editor
+            .move_columns(moved.sheet, moved.first, moved.count, moved.delta);
         push_outcome(&mut self.out, done)
     }
 
     fn undo(&mut self) -> Result<(), EditError>
-        ensures { (state : State) → SessionStands self.old state →
-            Runs result self.old self.new (reply_to Undo state) (next_of Undo state) }
+        ensures { RunsCommand command.Undo result self.old self.new }
     {
         self.editor.undo()?;
         push_line(&mut self.out, b"ok")?;
@@ -201,8 +324,7 @@ impl Session {
     }
 
     fn redo(&mut self) -> Result<(), EditError>
-        ensures { (state : State) → SessionStands self.old state →
-            Runs result self.old self.new (reply_to Redo state) (next_of Redo state) }
+        ensures { RunsCommand command.Redo result self.old self.new }
     {
         self.editor.redo()?;
         push_line(&mut self.out, b"ok")?;
@@ -211,8 +333,7 @@ impl Session {
 
     /// Writes the bytes of what was done since the last sync, and takes the second copy along them.
     fn sync(&mut self) -> Result<(), EditError>
-        ensures { (state : State) → SessionStands self.old state →
-            Runs result self.old self.new (reply_to Sync state) (next_of Sync state) }
+        ensures { RunsCommand command.Sync result self.old self.new }
     {
         let bytes = self.editor.flush_send_queue()?;
         push_sync(&mut self.out, &bytes)?;
@@ -220,26 +341,28 @@ impl Session {
     }
 
     fn show(&mut self) -> Result<(), EditError>
-        ensures { (state : State) → SessionStands self.old state →
-            Runs result self.old self.new (reply_to Show state) (next_of Show state) }
+        ensures { RunsCommand command.Show result self.old self.new }
     {
         push_dump(self.alloc, &mut self.out, self.editor.workbook())
     }
 
     fn run_command(&mut self, command: Command) -> Result<(), EditError>
-        ensures { (state : State) → SessionStands self.old state →
-            Runs result self.old self.new (reply_to command state) (next_of command state) }
+        ensures { RunsCommand command result self.old self.new }
     {
         match command {
-            Command::Set {
-                sheet,
-                row,
-                column,
-                text,
-            } => self.set(sheet, row, column, text.as_str()),
-            Command::Get { sheet, row, column } => self.get(sheet, row, column),
-            Command::InsertRows { sheet, row, count } => self.insert_rows(sheet, row, count),
-            Command::DeleteRows { sheet, row, count } => self.delete_rows(sheet, row, count),
+            Command::Set(cell, text) => self.set(cell, text.as_str()),
+            Command::Get(cell) => self.get(cell),
+            Command::Array(named, text) => self.array(named, text.as_str()),
+            Command::Link(cell, text) => self.link(cell, text),
+            Command::Unlink(cell) => self.unlink(cell),
+            Command::Merge(named) => self.merge(named),
+            Command::Unmerge(cell) => self.unmerge(cell),
+            Command::InsertRows(lines) => self.insert_rows(lines),
+            Command::InsertColumns(lines) => self.insert_columns(lines),
+            Command::DeleteRows(lines) => self.delete_rows(lines),
+            Command::DeleteColumns(lines) => self.delete_columns(lines),
+            Command::MoveRows(moved) => self.move_rows(moved),
+            Command::MoveColumns(moved) => self.move_columns(moved),
             Command::Undo => self.undo(),
             Command::Redo => self.redo(),
             Command::Sync => self.sync(),

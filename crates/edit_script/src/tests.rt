@@ -9,16 +9,47 @@ use std::test::Fail;
 const NEW_BOOK: &str = "book en UTC workbook\nsheet 1 visible 1 0 0 - Sheet1\nend\n";
 
 /// The bytes of a sync after `set 0 A1 1` alone.
-const ONE_CELL: &str =
-    "494351310000000000000001010000000000000001010000000100000001000000010001010000000000000000000000000000000100000000000000000d000000000000000000000000000767656e6572616c00";
+const ONE_CELL: &str = concat!(
+    "494351310000000000000001",
+    "010000000000000001",
+    "01000000010000000100000001",
+    "0001",
+    "010000000000000000000000000000000100",
+    "000000000000000d000000000000000000000000000767656e6572616c00",
+);
 
 /// The bytes of a sync after `set 0 C1 =A5` alone.
-const ONE_FORMULA: &str =
-    "494351310000000000000001010000000000000001010000000100000001000000030001050300000000000400fffffffe000000000000000d000000000000000000000000000767656e6572616c00";
+const ONE_FORMULA: &str = concat!(
+    "494351310000000000000001",
+    "010000000000000001",
+    "01000000010000000100000003",
+    "0001",
+    "050300000000000400fffffffe",
+    "000000000000000d000000000000000000000000000767656e6572616c00",
+);
 
 /// The bytes of a sync after `insert-rows 0 3 2` alone.
-const TWO_ROWS: &str =
-    "4943513100000000000000010100000000000000010700000001000000000003000000020000000000000000000000000000000000000000000000000000000000000000000000000000000000";
+const TWO_ROWS: &str = concat!(
+    "494351310000000000000001",
+    "010000000000000001",
+    "0700000001",
+    "0000",
+    "0000000300000002",
+    "0000000000000000000000000000000000000000000000000000000000000000000000000000000000",
+);
+
+/// The bytes of a sync after `merge 0 A1:B1` and `move-columns 0 3 1 1` alone.
+const ONE_MERGE: &str = concat!(
+    "494351310000000000000002",
+    "010000000000000001",
+    "0500000001",
+    "0000000000000000",
+    "000000000000000100000001000000010000000200000001",
+    "010000000000000001",
+    "07000000010102",
+    "000000030000000100000001",
+    "0000000000000000000000000000000000000000000000000000000000000000000000000000000000",
+);
 
 /// The outcome of a script whose listed reads and writes fail, and what was written.
 fn run_failing(
@@ -124,6 +155,82 @@ const ROWS: [(&str, &str); 12] = [
     ),
 ];
 
+/// Scripts that edit columns and move lines, each with its answers.
+const COLUMNS: [(&str, &str); 9] = [
+    (
+        "set 0 B1 =A1\ninsert-columns 0 1 2\nget 0 D1",
+        "ok\nok\nvalue =C1\n",
+    ),
+    (
+        "set 0 C1 =B1\ndelete-columns 0 2 1\nget 0 B1\nundo\nget 0 C1",
+        "ok\nok\nvalue =#REF!\nok\nvalue =B1\n",
+    ),
+    (
+        "set 0 XFD1 1\ninsert-columns 0 1 1\ndelete-columns 0 16384 2",
+        "ok\nerror OverEdge\nerror TargetOutOfBounds\n",
+    ),
+    (
+        "insert-columns 1 0 0\ninsert-columns 0 0 0\ninsert-columns 0 0 1\ndelete-columns 0 16385 1",
+        "error InvalidSheet\nerror BadCount\nerror InvalidColumn\nerror InvalidColumn\n",
+    ),
+    (
+        "set 0 A1 1\nundo\nmove-columns 9 0 0 5\nmove-rows 9 1 1 0\nredo\nget 0 A1",
+        "ok\nok\nok\nok\nok\nvalue 1\n",
+    ),
+    (
+        "set 0 D1 =A1\nmove-columns 0 1 1 2\nget 0 D1\nundo\nget 0 D1",
+        "ok\nok\nvalue =C1\nok\nvalue =A1\n",
+    ),
+    (
+        "move-rows 0 1048576 1 1\nmove-rows 0 0 1 1\nmove-rows 1 0 1 1\nmove-columns 0 2 1 -2",
+        "error TargetOutOfBounds\nerror TargetOutOfBounds\nerror InvalidSheet\nerror TargetOutOfBounds\n",
+    ),
+    (
+        "array 0 B2:B4 =1\ninsert-rows 0 2 1\nget 0 B3\ninsert-rows 0 4 1",
+        "ok\nok\nvalue =1\nerror SplitsArray\n",
+    ),
+    (
+        "merge 0 B2:B5\nmove-rows 0 2 2 2",
+        "ok\nerror SplitsMerge\n",
+    ),
+];
+
+/// Scripts with arrays, merges and links, each with its answers.
+const AREAS: [(&str, &str); 8] = [
+    (
+        "array 1 A0 1\narray 0 A0 1\narray 0 XFE1 1\narray 0 XFD1:XFE1 1",
+        "error InvalidSheet\nerror InvalidRow\nerror InvalidColumn\nerror InvalidArea\n",
+    ),
+    (
+        "array 0 B1:A1 1\narray 0 B1:C1 2\nset 0 B1 2\narray 0 C1 ==1\nget 0 C1",
+        "ok\nerror ArrayCell\nerror ArrayCell\nok\nvalue ==1\n",
+    ),
+    (
+        "merge 0 A1\nmerge 0 A0:A1\nmerge 0 A1:A2\nmerge 0 A2:B2",
+        "error InvalidArea\nerror InvalidArea\nok\nerror MergeOverlap\n",
+    ),
+    (
+        "merge 0 A1:A2\nset 0 A2 1\narray 0 A2 1\narray 0 A1:B1 1\narray 0 A1 1",
+        "ok\nerror CoveredCell\nerror CoveredCell\nerror CoveredCell\nok\n",
+    ),
+    (
+        "merge 0 A1:A2\nunmerge 0 A2\nunmerge 0 A2\nunmerge 0 A0",
+        "ok\nok\nerror NoMerge\nerror InvalidRow\n",
+    ),
+    (
+        "set 0 A2 1\nmerge 0 A2:A1\nget 0 A2\nundo\nget 0 A2",
+        "ok\nok\nvalue \nok\nvalue 1\n",
+    ),
+    (
+        "unlink 0 A0\nunlink 0 A1\nlink 2 A1 x\nlink 0 XFE1 x",
+        "error InvalidRow\nok\nerror InvalidSheet\nerror InvalidColumn\n",
+    ),
+    (
+        "link 0 A1 a\\nb\nshow\nset 0 A1\nunlink 0 A1",
+        "ok\nbook en UTC workbook\nsheet 1 visible 1 0 0 - Sheet1\nlink A1 a\\nb\nend\nok\nok\n",
+    ),
+];
+
 /// Whether a script writes these answers, and then the second copy, which had nothing.
 fn is_answered(alloc: Global, script: &str, answers: &str) -> Result<bool, Fail> {
     let (outcome, output) = run_failing(alloc, script, &[], &[])?;
@@ -153,6 +260,32 @@ fn scripts_are_answered(rt: HostRuntime) -> Result<(), Fail> {
 #[test]
 fn rows_are_inserted_and_deleted(rt: HostRuntime) -> Result<(), Fail> {
     assert_eq!(rt; first_wrong(rt.alloc(), &ROWS)?, None);
+    Ok(())
+}
+
+#[test]
+fn columns_are_edited_and_lines_moved(rt: HostRuntime) -> Result<(), Fail> {
+    assert_eq!(rt; first_wrong(rt.alloc(), &COLUMNS)?, None);
+    Ok(())
+}
+
+#[test]
+fn arrays_merges_and_links(rt: HostRuntime) -> Result<(), Fail> {
+    assert_eq!(rt; first_wrong(rt.alloc(), &AREAS)?, None);
+    Ok(())
+}
+
+/// A merge and a move are sent, and the second copy has the merge.
+#[test]
+fn a_merge_and_a_move_are_sent(rt: HostRuntime) -> Result<(), Fail> {
+    let alloc = rt.alloc();
+    let script = "merge 0 A1:B1\nmove-columns 0 3 1 1\nsync";
+    let (outcome, output) = run_failing(alloc, script, &[], &[])?;
+    assert_eq!(rt; outcome, Ok(()));
+    let expected = format!(in alloc;
+        "ok\nok\nsync {ONE_MERGE}\ncopy\nbook en UTC workbook\nsheet 1 visible 1 0 0 - Sheet1\nmerge A1:B1\nend\n"
+    )?;
+    assert_eq!(rt; output.bytes(), expected.as_bytes());
     Ok(())
 }
 

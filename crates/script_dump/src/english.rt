@@ -4,16 +4,18 @@ ghost use Rattle.std.specs.Prelude.{◌≡◌, ◌++◌, true, IfOk, OnOk, IsOkU
 ghost use Rattle.base_values.specs.Places.{IsPlace};
 ghost use Rattle.base_values.specs.declared.error.EditError.TheVariants.{NoMemory};
 ghost use Rattle.formula_tree.specs.Context.{context_place};
-ghost use Rattle.cell_content.specs.Fitting.{fits_at};
+ghost use Rattle.formula_tree.specs.Numbers.{has_kept_numbers};
+ghost use Rattle.cell_content.specs.Fitting.{fits_at, tree_fits_at};
 ghost use Rattle.cell_content.specs.KeptContent.{IsKeptContent};
 ghost use Rattle.cell_input.specs.Inputs.{input_of, input_text};
 ghost use Rattle.script_lines.specs.Escapes.{escaped};
-ghost use Rattle.script_dump.specs.English.{english};
+ghost use Rattle.script_dump.specs.English.{english, english_tree, without_equals};
 
 use base_tables::{Language, Locale};
 use base_values::{EditError, Position, Text};
 use cell_input::{push_content, read_input};
-use formula_tree::CellReferenceRC;
+use formula_read::read_formula;
+use formula_tree::{CellReferenceRC, Node};
 use script_lines::push_escaped;
 use sheet_grid::Content;
 use std::alloc::Global;
@@ -62,6 +64,37 @@ pub fn english_input(alloc: Global, place: Position, text: &str) -> Result<Conte
     read_input(
         alloc,
         text,
+        &cell_at(alloc, place),
+        Locale::En,
+        Language::En,
+    )
+}
+
+/// A text without an equals sign that leads it.
+fn without_equals(text: &str) -> &str
+    ensures { result.now ≡ without_equals text.now }
+{
+    match text.strip_prefix("=") {
+        Some(rest) => rest,
+        None => text,
+    }
+}
+
+/// The tree of an English formula's text in the cell at a place inside the sheet. An equals sign may
+/// lead the text. A text that is no formula is a parse-error node of what stands behind that sign.
+///
+/// `NoMemory` alone is an error.
+#[tactic(auto, unfolding(cell_content::specs::Fitting::tree_fits_at, formula_tree::specs::Depth::is_within))]
+pub fn english_formula(alloc: Global, place: Position, text: &str) -> Result<Node, EditError>
+    requires place { IsPlace place }
+    ensures value { IfOk result (λ tree. tree ≡ english_tree place text.now) }
+    ensures kept { IfOk result (λ tree. has_kept_numbers tree ≡ true) }
+    ensures fits { IfOk result (λ tree. tree_fits_at place tree ≡ true) }
+    ensures memory { IsOkUnless result NoMemory }
+{
+    read_formula(
+        alloc,
+        without_equals(text),
         &cell_at(alloc, place),
         Locale::En,
         Language::En,

@@ -2,8 +2,8 @@
 //! hold.
 //!
 //! The layer above writes a workbook with `push_dump`, which is `dump`, and lines and bytes of its
-//! own with `push_line` and `push_hex`. It reads and prints contents with `english_input` and
-//! `push_english`.
+//! own with `push_line` and `push_hex`. It reads contents with `english_input` and formulas with
+//! `english_formula`, and prints contents with `push_english`.
 #![tactic(auto)]
 
 mod dump;
@@ -13,5 +13,5 @@ mod merges;
 mod text;
 
 pub use dump::push_dump;
-pub use english::{english_input, push_english};
+pub use english::{english_formula, english_input, push_english};
 pub use text::{push_hex, push_line};

@@ -1,9 +1,9 @@
 -- Every command that is read fits.
-use Rattle.std.proofs.Common.{◌≡◌, ℕ, zero, suc, ℤ, pos, ◌+◌, ◌^◌, ◌<◌, ◌≤◌, ◌≤ℤ◌, ◌==◌, Bool, true, false, cond, List, [], ◌∷◌, ◌++◌, length, Option, Some, None, refl, sym, subst, arith, w32}
-use Rattle.std.specs.Prelude.{IfSome, FitsSigned, neg_ℤ, nat_lt}
+use Rattle.std.proofs.Common.{◌≡◌, ℕ, zero, suc, ℤ, pos, ◌+ℤ◌, ◌-ℤ◌, ◌+◌, ◌^◌, ◌<◌, ◌≤◌, ◌≤ℤ◌, ◌==◌, Bool, true, false, cond, List, [], ◌∷◌, ◌++◌, length, Option, Some, None, refl, sym, subst, arith, w32}
+use Rattle.std.specs.Prelude.{IfSome, FitsSigned, neg_ℤ, nat_lt, int_le}
 use Rattle.std.specs.Option.{option_and_then, option_map}
-use Rattle.std.specs.Str.{IsUtf8, is_utf8}
-use Rattle.std.specs.List.{list_all}
+use Rattle.std.specs.Str.{IsUtf8, is_utf8, bytes_eq}
+use Rattle.std.specs.List.{list_all, find, AllByRecursion}
 use Rattle.std.proofs.lemmas.Str.{IsUtf8-nil, IsUtf8-drop, IsCharBoundary-after_ascii, IsUtf8-from_is_utf8}
 use Rattle.std.proofs.lemmas.List.Splits.{join_with_byte-slice_split}
 use Rattle.std.proofs.lemmas.List.{length-append}
@@ -13,20 +13,18 @@ use Rattle.std.proofs.lemmas.Bool.Decides.{nat_tests}
 use Rattle.std.proofs.lemmas.Int.{ints}
 use Rattle.script_lines.specs.Parts.{parts_at, text_of}
 use Rattle.script_lines.specs.Number.{are_digits, value_of, value_below, number_below, signed_number}
-use Rattle.script_lines.specs.References.{is_between, is_letter, letter_value, letters_value, read_column, read_row, letters_of, digits_of, reference_of}
+use Rattle.script_lines.specs.References.{is_between, is_letter, letter_value, letters_value, read_column, read_row, letters_of, digits_of, reference_of, first_between, count_between, area_between, area_of_parts, area_of}
 use Rattle.script_lines.proofs.ReferenceBounds.{read_row-lt}
 use Rattle.script_lines.proofs.Letters.{all_letters}
 use Rattle.script_lines.specs.Escapes.{unescaped}
 use Rattle.script_lines.proofs.EscapeLaws.{unescaped-IsUtf8}
 use Rattle.script_lines.specs.Unsupported.{is_unsupported}
-use Rattle.script_lines.specs.Commands.{alone, get_at, get_of, rows_at, rows_of, set_at, set_of, with_words, keyword_of, from_words, command_of}
+use Rattle.script_lines.specs.Commands.{Reader, word, sheet_word, cell_words, area_words, lines_words, move_words, ended, with_text, alone, exactly, and_text, set_to, commands, from_words, command_of}
 use Rattle.script_lines.specs.declared.reference.Reference.{Reference}
+use Rattle.script_lines.specs.declared.command.NamedCell.{NamedCell}
 use Rattle.script_lines.specs.declared.command.Command.{Command}
-use Rattle.script_lines.specs.declared.command.Command.TheVariants.{Set, Get, InsertRows, DeleteRows, Undo, Redo, Sync, Show}
-use Rattle.script_lines.specs.declared.parse.Rows.{Rows}
-use Rattle.script_lines.specs.declared.parse.Keyword.{Keyword}
-use Rattle.script_lines.specs.declared.parse.Keyword.TheVariants as keyword
-use Rattle.script_lines.specs.CommandFits.{IsNamed, CommandFits}
+use Rattle.script_lines.specs.declared.command.Command.TheVariants.{Set, Get, Array, Link, Unlink, Merge, Unmerge, InsertRows, InsertColumns, DeleteRows, DeleteColumns, MoveRows, MoveColumns, Undo, Redo, Sync, Show}
+use Rattle.script_lines.specs.CommandFits.{IsNamed, IsNamedArea, CellFits, AreaFits, LinesFit, MoveFits, CommandFits}
 
 -- ---- options
 
@@ -71,25 +69,6 @@ signed_fits (b ∷ bytes) =
     (mapped (λ n. n < 2 ^ 31 + 1) (FitsSigned w32) (number_below (2 ^ 31 + 1) bytes) (λ n. neg_ℤ (pos n)) (number_fits (2 ^ 31 + 1) bytes) negative_fits)
     (mapped (λ n. n < 2 ^ 31) (FitsSigned w32) (number_below (2 ^ 31) (b ∷ bytes)) pos (number_fits (2 ^ 31) (b ∷ bytes)) positive_fits)
 
-pub record RowsFit (rows : Rows) : Type 0 where
-  pub sheet : rows.sheet < 2 ^ 32
-  pub row : FitsSigned w32 rows.row
-  pub count : FitsSigned w32 rows.count
-
-rows_at_fits : (sheet row count : List ℕ) → IfSome (rows_at sheet row count) RowsFit
-rows_at_fits sheet row count =
-    step (λ index. index < 2 ^ 32) RowsFit (number_below (2 ^ 32) sheet) _ (number_fits (2 ^ 32) sheet)
-    (λ index i. step (FitsSigned w32) RowsFit (signed_number row) _ (signed_fits row)
-    (λ first f. step (FitsSigned w32) RowsFit (signed_number count) _ (signed_fits count)
-    (λ many m. record { sheet = i; row = f; count = m })))
-
-rows_of_fits : (words : List (List ℕ)) → IfSome (rows_of words) RowsFit
-rows_of_fits [] = tt
-rows_of_fits (sheet ∷ []) = tt
-rows_of_fits (sheet ∷ row ∷ []) = tt
-rows_of_fits (sheet ∷ row ∷ count ∷ []) = rows_at_fits sheet row count
-rows_of_fits (sheet ∷ row ∷ count ∷ word ∷ words) = tt
-
 -- ---- rows and columns
 
 letter_fits : (b : ℕ) → is_letter b ≡ true → (1 ≤ letter_value b) × (letter_value b ≤ 26)
@@ -133,6 +112,44 @@ reference_fits bytes =
     step (λ column. (1 ≤ column) × (column ≤ 18278)) (λ (place : Reference). IsNamed place.row place.column) (read_column (letters_of bytes)) _ (column_fits (letters_of bytes) (all_letters bytes))
     (λ column c. row_step column (read_row (digits_of bytes)) c (read_row-lt (digits_of bytes)))
 
+-- ---- areas
+
+-- lines from one to another, in any order, where both stand between two bounds
+record Between (low high first count : ℤ) : Type 0 where
+  from : low ≤ℤ first
+  to : first ≤ℤ high
+  some : pos 1 ≤ℤ count
+  few : count ≤ℤ ((high -ℤ low) +ℤ pos 1)
+
+between : (low high a b : ℤ) → low ≤ℤ a → a ≤ℤ high → low ≤ℤ b → b ≤ℤ high → Between low high (first_between a b) (count_between a b)
+between low high a b p q r s = go (int_le a b) refl
+  where
+    go : (t : Bool) → int_le a b ≡ t → Between low high (cond t a b) (cond t ((b -ℤ a) +ℤ pos 1) ((a -ℤ b) +ℤ pos 1))
+    go true e = record { from = p; to = q; some = omega (arith, ints); few = omega (arith, ints) }
+    go false e = record { from = r; to = s; some = omega (arith, ints); few = omega (arith, ints) }
+
+corners_fit : (a b : Reference) → IsNamed a.row a.column → IsNamed b.row b.column → IsNamedArea (area_between a b)
+corners_fit a b p q =
+    let rows = between (pos 0) (pos 9999999) a.row b.row p.row_low p.row_high q.row_low q.row_high in
+    let columns = between (pos 1) (pos 18278) a.column b.column p.column_low p.column_high q.column_low q.column_high in
+    record {
+      first = record { row_low = rows.from; row_high = rows.to; column_low = columns.from; column_high = columns.to };
+      wide = columns.some;
+      width = columns.few;
+      high = rows.some;
+      height = rows.few;
+    }
+
+area_fits : (parts : List (List ℕ)) → IfSome (area_of_parts parts) IsNamedArea
+area_fits [] = tt
+area_fits (place ∷ []) =
+    mapped (λ (place : Reference). IsNamed place.row place.column) IsNamedArea (reference_of place) _ (reference_fits place)
+    (λ place p. record { first = p; wide = omega (arith, ints); width = omega (arith, ints); high = omega (arith, ints); height = omega (arith, ints) })
+area_fits (one ∷ other ∷ []) =
+    step (λ (place : Reference). IsNamed place.row place.column) IsNamedArea (reference_of one) _ (reference_fits one)
+    (λ a p. mapped (λ (place : Reference). IsNamed place.row place.column) IsNamedArea (reference_of other) (area_between a) (reference_fits other) (λ b q. corners_fit a b p q))
+area_fits (one ∷ other ∷ more ∷ parts) = tt
+
 -- ---- texts
 
 behind_space : (word rest : List ℕ) → IsUtf8 (word ++ 32 ∷ rest) → IsUtf8 rest
@@ -145,52 +162,115 @@ rest_text : (word : List ℕ) (words : List (List ℕ)) → IsUtf8 (text_of (wor
 rest_text word [] h = IsUtf8-nil
 rest_text word (next ∷ words) h = behind_space word (text_of (next ∷ words)) h
 
+-- ---- words
+
+-- a value with a property, and a text in UTF-8 behind it
+abbrev Fit : {A : Type 0} → (A → Type 0) → A × List (List ℕ) → Type 0
+Fit P found = P found.0 × IsUtf8 (text_of found.1)
+
+-- what is read from words in UTF-8 is so
+abbrev Reads : {A : Type 0} → (A → Type 0) → Reader A → Type 0
+Reads P read = (words : List (List ℕ)) → IsUtf8 (text_of words) → IfSome (read words) (Fit P)
+
+word_fits : {A : Type 0} (P : A → Type 0) (read : List ℕ → Option A) → ((bytes : List ℕ) → IfSome (read bytes) P) → Reads P (word read)
+word_fits P read h [] t = tt
+word_fits P read h (first ∷ words) t = mapped P (Fit P) (read first) (λ value. (value, words)) (h first) (λ value p. (p, rest_text first words t))
+
+sheet_fits : Reads (λ sheet. sheet < 2 ^ 32) sheet_word
+sheet_fits words t = word_fits (λ sheet. sheet < 2 ^ 32) (number_below (2 ^ 32)) (number_fits (2 ^ 32)) words t
+
+cell_fits : Reads CellFits cell_words
+cell_fits words t =
+    step (Fit (λ sheet. sheet < 2 ^ 32)) (Fit CellFits) (sheet_word words) _ (sheet_fits words t)
+    (λ sheet s. step (Fit (λ (place : Reference). IsNamed place.row place.column)) (Fit CellFits) (word reference_of sheet.1) _
+        (word_fits (λ (place : Reference). IsNamed place.row place.column) reference_of reference_fits sheet.1 s.1)
+    (λ place p. ((s.0, p.0), p.1)))
+
+area_words_fit : Reads AreaFits area_words
+area_words_fit words t =
+    step (Fit (λ sheet. sheet < 2 ^ 32)) (Fit AreaFits) (sheet_word words) _ (sheet_fits words t)
+    (λ sheet s. step (Fit IsNamedArea) (Fit AreaFits) (word area_of sheet.1) _ (word_fits IsNamedArea area_of (λ bytes. area_fits (parts_at 58 bytes)) sheet.1 s.1)
+    (λ area p. ((s.0, p.0), p.1)))
+
+signed_word_fits : Reads (FitsSigned w32) (word signed_number)
+signed_word_fits words t = word_fits (FitsSigned w32) signed_number signed_fits words t
+
+lines_fit : Reads LinesFit lines_words
+lines_fit words t =
+    step (Fit (λ sheet. sheet < 2 ^ 32)) (Fit LinesFit) (sheet_word words) _ (sheet_fits words t)
+    (λ sheet s. step (Fit (FitsSigned w32)) (Fit LinesFit) (word signed_number sheet.1) _ (signed_word_fits sheet.1 s.1)
+    (λ first f. step (Fit (FitsSigned w32)) (Fit LinesFit) (word signed_number first.1) _ (signed_word_fits first.1 f.1)
+    (λ count c. ((s.0, f.0, c.0), c.1))))
+
+move_fits : Reads MoveFits move_words
+move_fits words t =
+    step (Fit LinesFit) (Fit MoveFits) (lines_words words) _ (lines_fit words t)
+    (λ lines l. step (Fit (FitsSigned w32)) (Fit MoveFits) (word signed_number lines.1) _ (signed_word_fits lines.1 l.1)
+    (λ delta d. ((l.0.0, l.0.1, l.0.2, d.0), d.1)))
+
 -- ---- commands
 
-get_fits : (sheet reference : List ℕ) → IfSome (get_at sheet reference) CommandFits
-get_fits sheet reference =
-    step (λ index. index < 2 ^ 32) CommandFits (number_below (2 ^ 32) sheet) _ (number_fits (2 ^ 32) sheet)
-    (λ index i. step (λ (place : Reference). IsNamed place.row place.column) CommandFits (reference_of reference) _ (reference_fits reference) (λ place p. (i, p)))
+-- what the words behind a command are read as fits
+abbrev Readable : List ℕ × (List (List ℕ) → Option Command) → Type 0
+Readable entry = (words : List (List ℕ)) → IsUtf8 (text_of words) → IfSome (entry.1 words) CommandFits
 
-set_fits : (sheet reference text : List ℕ) → IsUtf8 text → IfSome (set_at sheet reference text) CommandFits
-set_fits sheet reference text h =
-    step (λ index. index < 2 ^ 32) CommandFits (number_below (2 ^ 32) sheet) _ (number_fits (2 ^ 32) sheet)
-    (λ index i. step (λ (place : Reference). IsNamed place.row place.column) CommandFits (reference_of reference) _ (reference_fits reference)
-    (λ place p. step IsUtf8 CommandFits (unescaped text) _ (unescaped-IsUtf8 text h)
-    (λ content t. either CommandFits (is_unsupported content) None (Some (Set index place.row place.column content)) tt (i, p, t))))
+ended_fits : {A : Type 0} (P : A → Type 0) (found : A × List (List ℕ)) → Fit P found → IfSome (ended found) P
+ended_fits P (value, []) h = h.0
+ended_fits P (value, next ∷ words) h = tt
 
-alone_fits : (command : Command) (words : List (List ℕ)) → CommandFits command → IfSome (alone command words) CommandFits
-alone_fits command [] h = h
-alone_fits command (word ∷ words) h = tt
+text_fits : {A : Type 0} (P : A → Type 0) (found : A × List (List ℕ)) → Fit P found → IfSome (with_text found) (λ read. P read.0 × IsUtf8 read.1)
+text_fits P (value, words) h =
+    mapped IsUtf8 (λ read. P read.0 × IsUtf8 read.1) (unescaped (text_of words)) (λ text. (value, text)) (unescaped-IsUtf8 (text_of words) h.1) (λ text t. (h.0, t))
 
-get_of_fits : (words : List (List ℕ)) → IfSome (get_of words) CommandFits
-get_of_fits [] = tt
-get_of_fits (sheet ∷ []) = tt
-get_of_fits (sheet ∷ reference ∷ []) = get_fits sheet reference
-get_of_fits (sheet ∷ reference ∷ word ∷ words) = tt
+exactly_fits : {A : Type 0} (P : A → Type 0) (read : Reader A) (command : A → Command) → Reads P read → ((a : A) → P a → CommandFits (command a))
+    → (words : List (List ℕ)) → IsUtf8 (text_of words) → IfSome (exactly read command words) CommandFits
+exactly_fits P read command h k words t =
+    mapped P CommandFits (option_and_then ended (read words)) command (step (Fit P) P (read words) ended (h words t) (ended_fits P)) k
 
-set_of_fits : (words : List (List ℕ)) → IsUtf8 (text_of words) → IfSome (set_of words) CommandFits
-set_of_fits [] h = tt
-set_of_fits (sheet ∷ []) h = tt
-set_of_fits (sheet ∷ reference ∷ words) h = set_fits sheet reference (text_of words) (rest_text reference words (rest_text sheet (reference ∷ words) h))
+and_text_fits : {A : Type 0} (P : A → Type 0) (read : Reader A) (command : A → List ℕ → Option Command) → Reads P read
+    → ((a : A) (text : List ℕ) → P a → IsUtf8 text → IfSome (command a text) CommandFits)
+    → (words : List (List ℕ)) → IsUtf8 (text_of words) → IfSome (and_text read command words) CommandFits
+and_text_fits P read command h k words t =
+    step (λ found. P found.0 × IsUtf8 found.1) CommandFits (option_and_then with_text (read words)) (λ found. command found.0 found.1)
+    (step (Fit P) (λ found. P found.0 × IsUtf8 found.1) (read words) with_text (h words t) (text_fits P)) (λ found q. k found.0 found.1 q.0 q.1)
 
-words_fit : (k : Keyword) (words : List (List ℕ)) → IsUtf8 (text_of words) → IfSome (with_words k words) CommandFits
-words_fit keyword.Set words h = set_of_fits words h
-words_fit keyword.Get words h = get_of_fits words
-words_fit keyword.InsertRows words h = mapped RowsFit CommandFits (rows_of words) (λ rows. InsertRows rows.sheet rows.row rows.count) (rows_of_fits words) (λ rows r. (r.sheet, r.row, r.count))
-words_fit keyword.DeleteRows words h = mapped RowsFit CommandFits (rows_of words) (λ rows. DeleteRows rows.sheet rows.row rows.count) (rows_of_fits words) (λ rows r. (r.sheet, r.row, r.count))
-words_fit keyword.Undo words h = alone_fits Undo words tt
-words_fit keyword.Redo words h = alone_fits Redo words tt
-words_fit keyword.Sync words h = alone_fits Sync words tt
-words_fit keyword.Show words h = alone_fits Show words tt
+set_fits : (cell : NamedCell) (text : List ℕ) → CellFits cell → IsUtf8 text → IfSome (set_to cell text) CommandFits
+set_fits cell text c t = either CommandFits (is_unsupported text) None (Some (Set cell text)) tt (c, t)
+
+alone_fits : (command : Command) → CommandFits command → (words : List (List ℕ)) → IsUtf8 (text_of words) → IfSome (alone command words) CommandFits
+alone_fits command h [] t = h
+alone_fits command h (next ∷ words) t = tt
+
+each_fits : AllByRecursion Readable commands
+each_fits =
+    (and_text_fits CellFits cell_words set_to cell_fits set_fits,
+    (exactly_fits CellFits cell_words Get cell_fits (λ cell c. c),
+    (and_text_fits AreaFits area_words (λ area text. Some (Array area text)) area_words_fit (λ area text a t. (a, t)),
+    (and_text_fits CellFits cell_words (λ cell text. Some (Link cell text)) cell_fits (λ cell text c t. (c, t)),
+    (exactly_fits CellFits cell_words Unlink cell_fits (λ cell c. c),
+    (exactly_fits AreaFits area_words Merge area_words_fit (λ area a. a),
+    (exactly_fits CellFits cell_words Unmerge cell_fits (λ cell c. c),
+    (exactly_fits LinesFit lines_words InsertRows lines_fit (λ lines l. l),
+    (exactly_fits LinesFit lines_words InsertColumns lines_fit (λ lines l. l),
+    (exactly_fits LinesFit lines_words DeleteRows lines_fit (λ lines l. l),
+    (exactly_fits LinesFit lines_words DeleteColumns lines_fit (λ lines l. l),
+    (exactly_fits MoveFits move_words MoveRows move_fits (λ move m. m),
+    (exactly_fits MoveFits move_words MoveColumns move_fits (λ move m. m),
+    (alone_fits Undo tt,
+    (alone_fits Redo tt,
+    (alone_fits Sync tt,
+    (alone_fits Show tt,
+    tt)))))))))))))))))
+
+found_fits : {A : Type 0} (P : A → Type 0) (test : A → Bool) (entries : List A) → AllByRecursion P entries → IfSome (find test entries) P
+found_fits P test [] h = tt
+found_fits P test (entry ∷ entries) h = either P (test entry) (Some entry) (find test entries) h.0 (found_fits P test entries h.1)
 
 from_words_fit : (words : List (List ℕ)) → IsUtf8 (text_of words) → IfSome (from_words words) CommandFits
 from_words_fit [] h = tt
-from_words_fit (word ∷ words) h = any (keyword_of word)
-  where
-    any : (o : Option Keyword) → IfSome (option_and_then (λ k. with_words k words) o) CommandFits
-    any None = tt
-    any (Some k) = words_fit k words (rest_text word words h)
+from_words_fit (first ∷ words) h =
+    step Readable CommandFits (find (λ entry. bytes_eq entry.0 first) commands) (λ entry. entry.1 words)
+    (found_fits Readable (λ entry. bytes_eq entry.0 first) commands each_fits) (λ entry r. r words (rest_text first words h))
 
 pub command_fits : (line : List ℕ) → IfSome (command_of line) CommandFits
 command_fits line = go (is_utf8 line) refl

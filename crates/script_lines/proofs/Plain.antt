@@ -1,5 +1,5 @@
 -- Texts that stand for themselves, and texts that are written as they are.
-use Rattle.std.proofs.Common.{◌≡◌, ℕ, ◌==◌, Bool, true, false, cond, List, [], ◌∷◌, Some, refl, ap, ◌∙◌}
+use Rattle.std.proofs.Common.{◌≡◌, ℕ, ◌==◌, Bool, true, false, List, [], ◌∷◌, Some, refl, ap, ◌∙◌}
 use Rattle.std.specs.Prelude.{IsTrue, not, ◌||◌}
 use Rattle.std.specs.List.{list_any}
 use Rattle.script_lines.specs.Escapes.{needs_escape, escaped, unescaped, onto}

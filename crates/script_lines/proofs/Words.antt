@@ -1,15 +1,18 @@
--- More words than a command has, and lines that are text.
-use Rattle.std.proofs.Common.{◌≡◌, ℕ, ◌==◌, Bool, true, false, cond, List, [], ◌∷◌, Option, None, Result, Ok, Err, refl, sym, ap, subst, ◌∙◌}
+-- More words than a command has, words that begin none, and lines that are text.
+use Rattle.std.proofs.Common.{◌≡◌, ℕ, ◌==◌, Bool, true, false, cond, List, [], ◌∷◌, Option, Some, None, Result, Ok, Err, refl, sym, ap, subst, ◌∙◌}
 use Rattle.std.specs.Prelude.{IfOk, IfSome}
+use Rattle.std.specs.Option.{option_and_then}
 use Rattle.script_lines.specs.CommandFits.{CommandFits}
 use Rattle.script_lines.proofs.Fitting.{command_fits}
 use Rattle.base_values.specs.declared.error.EditError.{EditError}
-use Rattle.std.specs.Str.{IsUtf8, is_utf8}
-use Rattle.std.specs.List.{onto_first}
+use Rattle.std.specs.Str.{IsUtf8, is_utf8, bytes_eq}
+use Rattle.std.specs.List.{onto_first, find, AllByRecursion}
+use Rattle.std.proofs.lemmas.Slice.Eq.{bytes_eq-Decides}
 use Rattle.std.proofs.lemmas.Str.{IsUtf8-from_is_utf8, is_utf8-from_IsUtf8}
 use Rattle.script_lines.specs.Parts.{parts_at}
+use Rattle.script_lines.specs.References.{area_of_parts}
 use Rattle.script_lines.specs.declared.command.Command.{Command}
-use Rattle.script_lines.specs.Commands.{alone, get_of, rows_of, from_words, command_of}
+use Rattle.script_lines.specs.Commands.{ended, commands, from_words, command_of}
 
 first_part : (P : List (List ℕ) → Type 0) → ((word : List ℕ) (words : List (List ℕ)) → P (word ∷ words)) → (separator : ℕ) (bytes : List ℕ) → P (parts_at separator bytes)
 first_part P h separator [] = h [] []
@@ -23,11 +26,15 @@ first_part P h separator (b ∷ bytes) = either (b == separator)
     either true = h [] (parts_at separator bytes)
     either false = onto (parts_at separator bytes)
 
-pub never_alone : (command : Command) (bytes : List ℕ) → None ≡ alone command (parts_at 32 bytes)
-never_alone command bytes = first_part (λ words. None ≡ alone command words) (λ word words. refl) 32 bytes
+-- words behind it
+pub never_ended : {A : Type 0} (value : A) (bytes : List ℕ) → None ≡ ended (value, parts_at 32 bytes)
+never_ended value bytes = first_part (λ words. None ≡ ended (value, words)) (λ word words. refl) 32 bytes
 
-pub too_many : (sheet reference bytes : List ℕ) → None ≡ get_of (sheet ∷ reference ∷ parts_at 32 bytes)
-too_many sheet reference bytes = first_part (λ words. None ≡ get_of (sheet ∷ reference ∷ words)) (λ word words. refl) 32 bytes
+-- a second colon
+pub no_third : (bytes one rest other more : List ℕ) → parts_at 58 bytes ≡ one ∷ parts_at 58 rest → parts_at 58 rest ≡ other ∷ parts_at 58 more → None ≡ area_of_parts (parts_at 58 bytes)
+no_third bytes one rest other more first second =
+    first_part (λ parts. None ≡ area_of_parts (one ∷ other ∷ parts)) (λ part parts. refl) 58 more
+    ∙ ap area_of_parts (sym (first ∙ ap (λ l. one ∷ l) second))
 
 pub is_text : (line : List ℕ) → IsUtf8 line → from_words (parts_at 32 line) ≡ command_of line
 is_text line text = sym (ap (λ b. cond b (from_words (parts_at 32 line)) None) (is_utf8-from_IsUtf8 line text))
@@ -43,15 +50,21 @@ pub same_found : (line text : List ℕ) (answer : Result (Option Command) EditEr
 same_found line text (Ok found) h is = is ∙ ap (λ l. from_words (parts_at 32 l)) h.0 ∙ is_text line h.1
 same_found line text (Err error) h is = tt
 
-pub many_words : (words sheet rest reference more : List ℕ) → parts_at 32 words ≡ sheet ∷ parts_at 32 rest → parts_at 32 rest ≡ reference ∷ parts_at 32 more → None ≡ get_of (parts_at 32 words)
-many_words words sheet rest reference more one two = too_many sheet reference more ∙ ap get_of (sym (one ∙ ap (λ l. sheet ∷ l) two))
-
 pub found_fits : (line : List ℕ) (answer : Result (Option Command) EditError) → IfOk answer (λ found. found ≡ command_of line) → IfOk answer (λ found. IfSome found CommandFits)
 found_fits line (Ok found) is = subst (λ o. IfSome o CommandFits) (sym is) (command_fits line)
 found_fits line (Err error) is = tt
 
-pub many_rows_words : (words sheet second row third count more : List ℕ) → parts_at 32 words ≡ sheet ∷ parts_at 32 second → parts_at 32 second ≡ row ∷ parts_at 32 third
-    → parts_at 32 third ≡ count ∷ parts_at 32 more → None ≡ rows_of (parts_at 32 words)
-many_rows_words words sheet second row third count more one two three =
-    first_part (λ rest. None ≡ rows_of (sheet ∷ row ∷ count ∷ rest)) (λ word rest. refl) 32 more
-    ∙ ap rows_of (sym (one ∙ ap (λ l. sheet ∷ l) two ∙ ap (λ l. sheet ∷ row ∷ l) three))
+-- a word that no entry of a table is named by
+pub none_named : {A : Type 0} (name_of : A → List ℕ) (first : List ℕ) (entries : List A) → AllByRecursion (λ entry. first ≡ name_of entry → ⊥) entries
+    → find (λ entry. bytes_eq (name_of entry) first) entries ≡ None
+none_named name_of first [] h = refl
+none_named name_of first (entry ∷ entries) h = go (none_named name_of first entries h.1) (bytes_eq (name_of entry) first) refl
+  where
+    go : find (λ entry. bytes_eq (name_of entry) first) entries ≡ None → (t : Bool) → bytes_eq (name_of entry) first ≡ t
+        → cond t (Some entry) (find (λ entry. bytes_eq (name_of entry) first) entries) ≡ None
+    go rest true e = absurd (h.0 (sym ((bytes_eq-Decides (name_of entry) first).0 e)))
+    go rest false e = rest
+
+-- a word that begins no command
+pub no_command : (first : List ℕ) (words : List (List ℕ)) → AllByRecursion (λ entry. first ≡ entry.0 → ⊥) commands → None ≡ from_words (first ∷ words)
+no_command first words h = sym (ap (option_and_then (λ entry. entry.1 words)) (none_named (λ entry. entry.0) first commands h))

@@ -1,9 +1,14 @@
 -- What every command that is read fits.
-use Rattle.std.proofs.Common.{ℕ, ℤ, pos, ◌^◌, ◌<◌, ◌≤ℤ◌, w32}
+use Rattle.std.proofs.Common.{ℤ, pos, ◌^◌, ◌<◌, ◌≤ℤ◌, w32}
 use Rattle.std.specs.Prelude.{FitsSigned}
 use Rattle.std.specs.Str.{IsUtf8}
+use Rattle.base_axis.specs.declared.MergedCell.{MergedCell}
+use Rattle.script_lines.specs.declared.command.NamedCell.{NamedCell}
+use Rattle.script_lines.specs.declared.command.NamedArea.{NamedArea}
+use Rattle.script_lines.specs.declared.command.NamedLines.{NamedLines}
+use Rattle.script_lines.specs.declared.command.NamedMove.{NamedMove}
 use Rattle.script_lines.specs.declared.command.Command.{Command}
-use Rattle.script_lines.specs.declared.command.Command.TheVariants.{Set, Get, InsertRows, DeleteRows, Undo, Redo, Sync, Show}
+use Rattle.script_lines.specs.declared.command.Command.TheVariants.{Set, Get, Array, Link, Unlink, Merge, Unmerge, InsertRows, InsertColumns, DeleteRows, DeleteColumns, MoveRows, MoveColumns, Undo, Redo, Sync, Show}
 
 -- a row and a column that letters and digits can name
 pub record IsNamed (row column : ℤ) : Type 0 where
@@ -12,12 +17,42 @@ pub record IsNamed (row column : ℤ) : Type 0 where
   pub column_low : pos 1 ≤ℤ column
   pub column_high : column ≤ℤ pos 18278
 
--- a sheet, and a row and a column or numbers that a line can name, and a text in UTF-8
+-- an area whose corners letters and digits can name
+pub record IsNamedArea (area : MergedCell) : Type 0 where
+  pub first : IsNamed area.row area.column
+  pub wide : pos 1 ≤ℤ area.width
+  pub width : area.width ≤ℤ pos 18278
+  pub high : pos 1 ≤ℤ area.height
+  pub height : area.height ≤ℤ pos 10000000
+
+-- numbers that a line can name
+abbrev pub CellFits : NamedCell → Type 0
+CellFits cell = (cell.sheet < 2 ^ 32) × IsNamed cell.row cell.column
+
+abbrev pub AreaFits : NamedArea → Type 0
+AreaFits area = (area.sheet < 2 ^ 32) × IsNamedArea area.area
+
+abbrev pub LinesFit : NamedLines → Type 0
+LinesFit lines = (lines.sheet < 2 ^ 32) × FitsSigned w32 lines.first × FitsSigned w32 lines.count
+
+abbrev pub MoveFits : NamedMove → Type 0
+MoveFits move = (move.sheet < 2 ^ 32) × FitsSigned w32 move.first × FitsSigned w32 move.count × FitsSigned w32 move.delta
+
+-- a command with such numbers, and with a text in UTF-8
 abbrev pub CommandFits : Command → Type 0
-CommandFits (Set sheet row column text) = (sheet < 2 ^ 32) × IsNamed row column × IsUtf8 text
-CommandFits (Get sheet row column) = (sheet < 2 ^ 32) × IsNamed row column
-CommandFits (InsertRows sheet row count) = (sheet < 2 ^ 32) × FitsSigned w32 row × FitsSigned w32 count
-CommandFits (DeleteRows sheet row count) = (sheet < 2 ^ 32) × FitsSigned w32 row × FitsSigned w32 count
+CommandFits (Set cell text) = CellFits cell × IsUtf8 text
+CommandFits (Get cell) = CellFits cell
+CommandFits (Array area text) = AreaFits area × IsUtf8 text
+CommandFits (Link cell text) = CellFits cell × IsUtf8 text
+CommandFits (Unlink cell) = CellFits cell
+CommandFits (Merge area) = AreaFits area
+CommandFits (Unmerge cell) = CellFits cell
+CommandFits (InsertRows lines) = LinesFit lines
+CommandFits (InsertColumns lines) = LinesFit lines
+CommandFits (DeleteRows lines) = LinesFit lines
+CommandFits (DeleteColumns lines) = LinesFit lines
+CommandFits (MoveRows move) = MoveFits move
+CommandFits (MoveColumns move) = MoveFits move
 CommandFits Undo = Unit {0}
 CommandFits Redo = Unit {0}
 CommandFits Sync = Unit {0}

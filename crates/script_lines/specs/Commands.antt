@@ -1,101 +1,126 @@
 -- The table of commands.
-use Rattle.std.specs.Prelude.{ℕ, ◌^◌, Bool, List, [], ◌∷◌, if◌then◌else◌, nat_eq, codes}
-use Rattle.std.specs.Cmp.Lexicographic.{pointwise}
-use Rattle.std.specs.Str.{is_utf8}
+use Rattle.std.specs.Prelude.{ℕ, ◌^◌, List, [], ◌∷◌, if◌then◌else◌, codes}
+use Rattle.std.specs.List.{find}
+use Rattle.std.specs.Str.{is_utf8, bytes_eq}
 use Rattle.std.specs.Option.{option_and_then, option_map}
 use Rattle.std.specs.declared.option.Option.{Option}
 use Rattle.std.specs.declared.option.Option.TheVariants.{Some, None}
 use Rattle.script_lines.specs.Parts.{parts_at, text_of}
 use Rattle.script_lines.specs.Number.{number_below, signed_number}
-use Rattle.script_lines.specs.References.{reference_of}
+use Rattle.script_lines.specs.References.{reference_of, area_of}
 use Rattle.script_lines.specs.Escapes.{unescaped}
 use Rattle.script_lines.specs.Unsupported.{is_unsupported}
+use Rattle.script_lines.specs.declared.command.NamedCell.{NamedCell}
+use Rattle.script_lines.specs.declared.command.NamedArea.{NamedArea}
+use Rattle.script_lines.specs.declared.command.NamedLines.{NamedLines}
+use Rattle.script_lines.specs.declared.command.NamedMove.{NamedMove}
 use Rattle.script_lines.specs.declared.command.Command.{Command}
-use Rattle.script_lines.specs.declared.command.Command.TheVariants.{Set, Get, InsertRows, DeleteRows, Undo, Redo, Sync, Show}
-use Rattle.script_lines.specs.declared.parse.Rows.{Rows}
-use Rattle.script_lines.specs.declared.parse.Keyword.{Keyword}
-use Rattle.script_lines.specs.declared.parse.Keyword.TheVariants as keyword
+use Rattle.script_lines.specs.declared.command.Command.TheVariants.{Set, Get, Array, Link, Unlink, Merge, Unmerge, InsertRows, InsertColumns, DeleteRows, DeleteColumns, MoveRows, MoveColumns, Undo, Redo, Sync, Show}
 
 -- the next step, if this one has a value
 infixl 10 ◌>>=◌
 abbrev pub ◌>>=◌ : {A B : Type 0} → Option A → (A → Option B) → Option B
 o >>= f = option_and_then f o
 
--- the word is this one
-abbrev pub is_same : List ℕ → List ℕ → Bool
-is_same word name = pointwise nat_eq word name
+-- ---- the words behind a command
 
--- which command begins with a word
-abbrev pub keyword_of : List ℕ → Option Keyword
-keyword_of word =
-    if is_same word (codes "set") then Some keyword.Set
-    else (if is_same word (codes "get") then Some keyword.Get
-    else (if is_same word (codes "insert-rows") then Some keyword.InsertRows
-    else (if is_same word (codes "delete-rows") then Some keyword.DeleteRows
-    else (if is_same word (codes "undo") then Some keyword.Undo
-    else (if is_same word (codes "redo") then Some keyword.Redo
-    else (if is_same word (codes "sync") then Some keyword.Sync
-    else (if is_same word (codes "show") then Some keyword.Show
-    else None)))))))
+-- what the front of some words is read as, and the words behind it
+abbrev pub Reader : Type 0 → Type 0
+Reader A = List (List ℕ) → Option (A × List (List ℕ))
 
--- a command that takes no words
+-- the first word
+abbrev pub word : {A : Type 0} → (List ℕ → Option A) → Reader A
+word read [] = None
+word read (first ∷ words) = option_map (λ value. (value, words)) (read first)
+
+-- `S`, the index of a sheet
+abbrev pub sheet_word : Reader ℕ
+sheet_word words = word (number_below (2 ^ 32)) words
+
+-- `S REF`
+abbrev pub cell_words : Reader NamedCell
+cell_words words = do
+  sheet ← sheet_word words
+  place ← word reference_of sheet.1
+  Some (record { sheet = sheet.0; row = place.0.row; column = place.0.column }, place.1)
+
+-- `S AREA`
+abbrev pub area_words : Reader NamedArea
+area_words words = do
+  sheet ← sheet_word words
+  area ← word area_of sheet.1
+  Some (record { sheet = sheet.0; area = area.0 }, area.1)
+
+-- `S N N`: a first line, and how many
+abbrev pub lines_words : Reader NamedLines
+lines_words words = do
+  sheet ← sheet_word words
+  first ← word signed_number sheet.1
+  count ← word signed_number first.1
+  Some (record { sheet = sheet.0; first = first.0; count = count.0 }, count.1)
+
+-- `S N N N`: the same, and by how many they move
+abbrev pub move_words : Reader NamedMove
+move_words words = do
+  lines ← lines_words words
+  delta ← word signed_number lines.1
+  Some (record { sheet = lines.0.sheet; first = lines.0.first; count = lines.0.count; delta = delta.0 }, delta.1)
+
+-- no word is left
+abbrev pub ended : {A : Type 0} → A × List (List ℕ) → Option A
+ended (value, []) = Some value
+ended (value, next ∷ words) = None
+
+-- the rest of the line is a text
+abbrev pub with_text : {A : Type 0} → A × List (List ℕ) → Option (A × List ℕ)
+with_text (value, words) = option_map (λ text. (value, text)) (unescaped (text_of words))
+
+-- a command without words behind it
 abbrev pub alone : Command → List (List ℕ) → Option Command
-alone command [] = Some command
-alone command (word ∷ words) = None
+alone command words = ended (command, words)
 
--- `get` with a sheet and a reference
-abbrev pub get_at : List ℕ → List ℕ → Option Command
-get_at sheet reference = do
-  index ← number_below (2 ^ 32) sheet
-  place ← reference_of reference
-  Some (Get index place.row place.column)
+-- a command with these words and no others
+abbrev pub exactly : {A : Type 0} → Reader A → (A → Command) → List (List ℕ) → Option Command
+exactly read command words = option_map command (option_and_then ended (read words))
 
--- `get S REF`
-abbrev pub get_of : List (List ℕ) → Option Command
-get_of (sheet ∷ reference ∷ []) = get_at sheet reference
-get_of words = None
+-- a command with these words and then a text
+abbrev pub and_text : {A : Type 0} → Reader A → (A → List ℕ → Option Command) → List (List ℕ) → Option Command
+and_text read command words = option_and_then (λ found. command found.0 found.1) (option_and_then with_text (read words))
 
--- a sheet, a row and a count
-abbrev pub rows_at : List ℕ → List ℕ → List ℕ → Option Rows
-rows_at sheet row count = do
-  index ← number_below (2 ^ 32) sheet
-  first ← signed_number row
-  many ← signed_number count
-  Some (record { sheet = index; row = first; count = many })
+-- no cell is set to a text of several lines yet
+abbrev pub set_to : NamedCell → List ℕ → Option Command
+set_to cell text = if is_unsupported text then None else Some (Set cell text)
 
--- `S N N` behind `insert-rows` or `delete-rows`
-abbrev pub rows_of : List (List ℕ) → Option Rows
-rows_of (sheet ∷ row ∷ count ∷ []) = rows_at sheet row count
-rows_of words = None
+-- ---- the table
 
--- `set` with a sheet, a reference and a text
-abbrev pub set_at : List ℕ → List ℕ → List ℕ → Option Command
-set_at sheet reference text = do
-  index ← number_below (2 ^ 32) sheet
-  place ← reference_of reference
-  content ← unescaped text
-  if is_unsupported content then None else Some (Set index place.row place.column content)
+-- the word that each command begins with, and how the words behind it are read
+abbrev pub commands : List (List ℕ × (List (List ℕ) → Option Command))
+commands =
+    (codes "set", and_text cell_words set_to)
+    ∷ (codes "get", exactly cell_words Get)
+    ∷ (codes "array", and_text area_words (λ area text. Some (Array area text)))
+    ∷ (codes "link", and_text cell_words (λ cell text. Some (Link cell text)))
+    ∷ (codes "unlink", exactly cell_words Unlink)
+    ∷ (codes "merge", exactly area_words Merge)
+    ∷ (codes "unmerge", exactly cell_words Unmerge)
+    ∷ (codes "insert-rows", exactly lines_words InsertRows)
+    ∷ (codes "insert-columns", exactly lines_words InsertColumns)
+    ∷ (codes "delete-rows", exactly lines_words DeleteRows)
+    ∷ (codes "delete-columns", exactly lines_words DeleteColumns)
+    ∷ (codes "move-rows", exactly move_words MoveRows)
+    ∷ (codes "move-columns", exactly move_words MoveColumns)
+    ∷ (codes "undo", alone Undo)
+    ∷ (codes "redo", alone Redo)
+    ∷ (codes "sync", alone Sync)
+    ∷ (codes "show", alone Show)
+    ∷ []
 
--- `set S REF TEXT`, where the text is the rest of the line
-abbrev pub set_of : List (List ℕ) → Option Command
-set_of (sheet ∷ reference ∷ words) = set_at sheet reference (text_of words)
-set_of words = None
+-- ---- lines
 
--- the command with this keyword and these words
-abbrev pub with_words : Keyword → List (List ℕ) → Option Command
-with_words keyword.Set words = set_of words
-with_words keyword.Get words = get_of words
-with_words keyword.InsertRows words = option_map (λ rows. InsertRows rows.sheet rows.row rows.count) (rows_of words)
-with_words keyword.DeleteRows words = option_map (λ rows. DeleteRows rows.sheet rows.row rows.count) (rows_of words)
-with_words keyword.Undo words = alone Undo words
-with_words keyword.Redo words = alone Redo words
-with_words keyword.Sync words = alone Sync words
-with_words keyword.Show words = alone Show words
-
--- the command that words are: the first is its keyword
+-- the command that words are: the first is that of a command, and the others are read as it says
 abbrev pub from_words : List (List ℕ) → Option Command
 from_words [] = None
-from_words (word ∷ words) = option_and_then (λ keyword. with_words keyword words) (keyword_of word)
+from_words (first ∷ words) = option_and_then (λ entry. entry.1 words) (find (λ entry. bytes_eq entry.0 first) commands)
 
 -- the command that a line is: its words are parted by single spaces
 abbrev pub command_of : List ℕ → Option Command

@@ -1,5 +1,6 @@
--- The names of cells, as B3: one to three letters for the column, one to seven digits for the row.
-use Rattle.std.specs.Prelude.{◌≡◌, ℕ, ℤ, pos, negsuc, ◌+◌, ◌-◌, ◌*◌, ◌/◌, ◌%◌, ◌^◌, Bool, ◌&&◌, ◌||◌, List, [], ◌∷◌, ◌++◌, length, take, drop, nat_le, if◌then◌else◌, decimal}
+-- The names of cells, as B3: one to three letters for the column, one to seven digits for the row; and of areas, as B3:A1.
+use Rattle.std.proofs.Common.{◌+ℤ◌, ◌-ℤ◌}
+use Rattle.std.specs.Prelude.{◌≡◌, ℕ, ℤ, pos, negsuc, ◌+◌, ◌-◌, ◌*◌, ◌/◌, ◌%◌, ◌^◌, Bool, ◌&&◌, ◌||◌, List, [], ◌∷◌, ◌++◌, length, take, drop, nat_le, int_le, if◌then◌else◌, decimal}
 use Rattle.std.specs.List.{prefix_len}
 use Rattle.std.specs.Option.{option_and_then, option_map}
 use Rattle.std.specs.declared.option.Option.{Option}
@@ -7,7 +8,9 @@ use Rattle.std.specs.declared.option.Option.TheVariants.{Some, None}
 use Rattle.script_lines.specs.declared.reference.Reference.{Reference}
 use Rattle.base_values.specs.declared.position.Position.{Position}
 use Rattle.base_values.specs.Places.{IsPlace}
+use Rattle.base_axis.specs.declared.MergedCell.{MergedCell}
 use Rattle.script_lines.specs.Number.{are_digits, value_of}
+use Rattle.script_lines.specs.Parts.{parts_at}
 
 -- from the low one to the high one
 abbrev pub is_between : ℕ → ℕ → ℕ → Bool
@@ -46,6 +49,37 @@ digits_of bytes = drop (prefix_len is_letter bytes) bytes
 abbrev pub reference_of : List ℕ → Option Reference
 reference_of bytes =
     option_and_then (λ column. option_map (λ row. record { row = pos row; column = pos column }) (read_row (digits_of bytes))) (read_column (letters_of bytes))
+
+-- of the lines from one to another, in any order, the first
+abbrev pub first_between : ℤ → ℤ → ℤ
+first_between a b = if int_le a b then a else b
+
+-- and how many they are, both ends counted
+abbrev pub count_between : ℤ → ℤ → ℤ
+count_between a b = if int_le a b then (b -ℤ a) +ℤ pos 1 else (a -ℤ b) +ℤ pos 1
+
+-- the area of one place
+abbrev pub area_at : Reference → MergedCell
+area_at place = record { row = place.row; column = place.column; width = pos 1; height = pos 1 }
+
+-- the area of two corners, which may be any two that are opposite
+abbrev pub area_between : Reference → Reference → MergedCell
+area_between a b = record {
+  row = first_between a.row b.row;
+  column = first_between a.column b.column;
+  width = count_between a.column b.column;
+  height = count_between a.row b.row;
+}
+
+-- one place, or two corners
+abbrev pub area_of_parts : List (List ℕ) → Option MergedCell
+area_of_parts (place ∷ []) = option_map area_at (reference_of place)
+area_of_parts (one ∷ other ∷ []) = option_and_then (λ a. option_map (area_between a) (reference_of other)) (reference_of one)
+area_of_parts parts = None
+
+-- the area that the bytes name: the corners are parted by a colon
+abbrev pub area_of : List ℕ → Option MergedCell
+area_of bytes = area_of_parts (parts_at 58 bytes)
 
 -- the letters of a column, from A to XFD
 abbrev pub letters_text : ℕ → List ℕ

@@ -1,34 +1,77 @@
+use base_axis::MergedCell;
 use base_values::Text;
+
+/// A cell that a line names.
+#[derive(Clone, Copy, Debug, PartialEq, Eq)]
+pub struct NamedCell {
+    /// The index of its sheet.
+    pub sheet: u32,
+    pub row: i32,
+    pub column: i32,
+}
+
+/// A rectangle of cells that a line names.
+#[derive(Clone, Copy, Debug, PartialEq, Eq)]
+pub struct NamedArea {
+    /// The index of its sheet.
+    pub sheet: u32,
+    pub area: MergedCell,
+}
+
+/// Rows or columns that a line names.
+#[derive(Clone, Copy, Debug, PartialEq, Eq)]
+pub struct NamedLines {
+    /// The index of their sheet.
+    pub sheet: u32,
+    /// The first of them.
+    pub first: i32,
+    /// How many they are.
+    pub count: i32,
+}
+
+/// Rows or columns that a line names, and by how many they are to move.
+#[derive(Clone, Copy, Debug, PartialEq, Eq)]
+pub struct NamedMove {
+    /// The index of their sheet.
+    pub sheet: u32,
+    /// The first of them.
+    pub first: i32,
+    /// How many they are.
+    pub count: i32,
+    /// Down or to the right by so many, and up or to the left where it is below 0.
+    pub delta: i32,
+}
 
 /// What a line of a script asks for. Rows, columns and counts are those that the line names, and may lie
 /// outside every sheet.
 #[derive(Debug, Drop)]
 pub enum Command {
     /// `set S REF TEXT`: type the text into a cell.
-    Set {
-        sheet: u32,
-        row: i32,
-        column: i32,
-        text: Text,
-    },
+    Set(NamedCell, Text),
     /// `get S REF`: answer the content of a cell.
-    Get {
-        sheet: u32,
-        row: i32,
-        column: i32,
-    },
+    Get(NamedCell),
+    /// `array S AREA TEXT`: type a formula whose values fill a rectangle.
+    Array(NamedArea, Text),
+    /// `link S REF TEXT`: give a cell a link with the text as its target.
+    Link(NamedCell, Text),
+    /// `unlink S REF`: take the link of a cell away.
+    Unlink(NamedCell),
+    /// `merge S AREA`: show a rectangle as one cell.
+    Merge(NamedArea),
+    /// `unmerge S REF`: dissolve the merge that holds a cell.
+    Unmerge(NamedCell),
     /// `insert-rows S N N`: insert as many empty rows as the count before a row.
-    InsertRows {
-        sheet: u32,
-        row: i32,
-        count: i32,
-    },
+    InsertRows(NamedLines),
+    /// `insert-columns S N N`: insert as many empty columns as the count before a column.
+    InsertColumns(NamedLines),
     /// `delete-rows S N N`: delete as many rows as the count from a row on.
-    DeleteRows {
-        sheet: u32,
-        row: i32,
-        count: i32,
-    },
+    DeleteRows(NamedLines),
+    /// `delete-columns S N N`: delete as many columns as the count from a column on.
+    DeleteColumns(NamedLines),
+    /// `move-rows S N N N`: move rows, as many as the count from a row on.
+    MoveRows(NamedMove),
+    /// `move-columns S N N N`: move columns, as many as the count from a column on.
+    MoveColumns(NamedMove),
     /// `undo`: take back the last edit.
     Undo,
     /// `redo`: do again what was taken back last.

@@ -14,7 +14,7 @@ mod parts;
 mod reference;
 mod unsupported;
 
-pub use command::Command;
+pub use command::{Command, NamedArea, NamedCell, NamedLines, NamedMove};
 pub use escape::{escapes_read_back, push_escaped};
 pub use parse::read_command;
 pub use parts::{split_first, without_return};

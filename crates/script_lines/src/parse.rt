@@ -1,73 +1,136 @@
-ghost use Rattle.std.specs.Prelude.{◌≡◌, IfOk, IfSome, IsOkUnless};
-ghost use Rattle.std.specs.Option.{option_copied};
+ghost use Rattle.std.specs.Prelude.{◌≡◌, ◌∷◌, IfOk, IfSome, IsOkUnless};
+ghost use Rattle.std.specs.Option.{option_and_then, option_copied, option_map};
 ghost use Rattle.base_values.specs.declared.error.EditError.TheVariants.{NoMemory};
 ghost use Rattle.script_lines.specs.Parts.{parts_at, parts_after};
-ghost use Rattle.script_lines.specs.declared.command.Command.TheVariants.{InsertRows, DeleteRows};
+ghost use Rattle.script_lines.specs.Number.{signed_number};
 ghost use Rattle.script_lines.specs.CommandFits.{CommandFits};
 ghost use Rattle.script_lines.specs.Commands as spec;
 
-use crate::command::Command;
+use crate::command::{Command, NamedArea, NamedCell, NamedLines, NamedMove};
 use crate::escape::unescape;
 use crate::number::{read_i32, read_u32};
 use crate::parts::{split_word, text_of};
-use crate::reference::read_reference;
+use crate::reference::{read_area, read_reference};
 use crate::unsupported::is_unsupported;
-use base_values::EditError;
+use base_values::{EditError, Text};
 use std::alloc::Global;
 use std::str;
 
-/// The word that a command begins with.
-#[derive(Clone, Copy, Debug, PartialEq, Eq)]
-enum Keyword {
-    Set,
-    Get,
-    InsertRows,
-    DeleteRows,
-    Undo,
-    Redo,
-    Sync,
-    Show,
-}
-
-/// What a command on rows names.
-#[derive(Clone, Copy, Debug, PartialEq, Eq)]
-struct Rows {
-    sheet: u32,
-    row: i32,
-    count: i32,
-}
-
-fn is_same(word: &[u8], name: &[u8]) -> bool
-    ensures { result ≡ spec.is_same word.now name.now }
+/// A sheet's index, and the words behind it.
+fn sheet_word(words: Option<&str>) -> Option<(u32, Option<&str>)>
+    ensures { option_map (λ found. (found.0, parts_after 32 (option_copied found.1))) result ≡ spec.sheet_word (parts_after 32 (option_copied words.entry)) }
 {
-    word == name
+    let Some(words) = words else {
+        return None;
+    };
+    let (word, words) = split_word(words);
+    match read_u32(word.as_bytes()) {
+        Some(sheet) => Some((sheet, words)),
+        None => None,
+    }
 }
 
-fn keyword_of(word: &[u8]) -> Option<Keyword>
-    ensures { result ≡ spec.keyword_of word.now }
+/// A number, and the words behind it.
+fn number_word(words: Option<&str>) -> Option<(i32, Option<&str>)>
+    ensures { option_map (λ found. (found.0, parts_after 32 (option_copied found.1))) result ≡ spec.word signed_number (parts_after 32 (option_copied words.entry)) }
 {
-    if is_same(word, b"set") {
-        Some(Keyword::Set)
-    } else if is_same(word, b"get") {
-        Some(Keyword::Get)
-    } else if is_same(word, b"insert-rows") {
-        Some(Keyword::InsertRows)
-    } else if is_same(word, b"delete-rows") {
-        Some(Keyword::DeleteRows)
-    } else if is_same(word, b"undo") {
-        Some(Keyword::Undo)
-    } else if is_same(word, b"redo") {
-        Some(Keyword::Redo)
-    } else if is_same(word, b"sync") {
-        Some(Keyword::Sync)
-    } else if is_same(word, b"show") {
-        Some(Keyword::Show)
-    } else {
-        None
+    let Some(words) = words else {
+        return None;
+    };
+    let (word, words) = split_word(words);
+    match read_i32(word.as_bytes()) {
+        Some(number) => Some((number, words)),
+        None => None,
+    }
+}
+
+/// `S REF`, and the words behind it.
+fn cell_words(words: Option<&str>) -> Option<(NamedCell, Option<&str>)>
+    ensures { option_map (λ found. (found.0, parts_after 32 (option_copied found.1))) result ≡ spec.cell_words (parts_after 32 (option_copied words.entry)) }
+{
+    let (sheet, words) = sheet_word(words)?;
+    let (word, words) = split_word(words?);
+    let place = read_reference(word.as_bytes())?;
+    let cell = NamedCell {
+        sheet,
+        row: place.row,
+        column: place.column,
+    };
+    Some((cell, words))
+}
+
+/// `S AREA`, and the words behind it.
+fn area_words(words: Option<&str>) -> Option<(NamedArea, Option<&str>)>
+    ensures { option_map (λ found. (found.0, parts_after 32 (option_copied found.1))) result ≡ spec.area_words (parts_after 32 (option_copied words.entry)) }
+{
+    let (sheet, words) = sheet_word(words)?;
+    let (word, words) = split_word(words?);
+    let area = read_area(word.as_bytes())?;
+    Some((NamedArea { sheet, area }, words))
+}
+
+/// `S N N`, and the words behind it.
+fn lines_words(words: Option<&str>) -> Option<(NamedLines, Option<&str>)>
+    ensures { option_map (λ found. (found.0, parts_after 32 (option_copied found.1))) result ≡ spec.lines_words (parts_after 32 (option_copied words.entry)) }
+{
+    let (sheet, words) = sheet_word(words)?;
+    let (first, words) = number_word(words)?;
+    let (count, words) = number_word(words)?;
+    let lines = NamedLines {
+        sheet,
+        first,
+        count,
+    };
+    Some((lines, words))
+}
+
+/// `S N N N`, and the words behind it.
+fn move_words(words: Option<&str>) -> Option<(NamedMove, Option<&str>)>
+    ensures { option_map (λ found. (found.0, parts_after 32 (option_copied found.1))) result ≡ spec.move_words (parts_after 32 (option_copied words.entry)) }
+{
+    let (lines, words) = lines_words(words)?;
+    let (delta, words) = number_word(words)?;
+    let moved = NamedMove {
+        sheet: lines.sheet,
+        first: lines.first,
+        count: lines.count,
+        delta,
+    };
+    Some((moved, words))
+}
+
+/// What was found, where no word is behind it.
+#[tactic(auto, using(crate::proofs::Words::never_ended))]
+fn ended<T: Copy>(found: Option<(T, Option<&str>)>) -> Option<T>
+    ensures { result ≡ option_and_then spec.ended (option_map (λ found. (found.0, parts_after 32 (option_copied found.1))) found.entry) }
+{
+    match found {
+        Some((value, None)) => Some(value),
+        Some((_, Some(_))) => None,
+        None => None,
+    }
+}
+
+/// What was found, with what is left of the line as a text.
+fn with_text<T: Copy>(
+    alloc: Global,
+    found: Option<(T, Option<&str>)>,
+) -> Result<Option<(T, Text)>, EditError>
+    ensures value { IfOk result (λ read. read
+        ≡ option_and_then spec.with_text (option_map (λ found. (found.0, parts_after 32 (option_copied found.1))) found.entry)) }
+    ensures err { IsOkUnless result NoMemory }
+{
+    let Some((value, words)) = found else {
+        return Ok(None);
+    };
+    match unescape(alloc, text_of(words))? {
+        Some(text) => Ok(Some((value, text))),
+        None => Ok(None),
     }
 }
 
 /// A command that takes no words.
+#[tactic(auto, using(crate::proofs::Words::never_ended))]
 fn alone(command: Command, words: Option<&str>) -> Option<Command>
     ensures { result ≡ spec.alone command (parts_after 32 (option_copied words.entry)) }
 {
@@ -77,161 +140,46 @@ fn alone(command: Command, words: Option<&str>) -> Option<Command>
     }
 }
 
-fn get_at(sheet: &str, reference: &str) -> Option<Command>
-    ensures { result ≡ spec.get_at sheet.now reference.now }
+fn set_to(cell: NamedCell, text: Text) -> Option<Command>
+    ensures { result ≡ spec.set_to cell text }
 {
-    let Some(sheet) = read_u32(sheet.as_bytes()) else {
-        return None;
-    };
-    match read_reference(reference.as_bytes()) {
-        Some(place) => Some(Command::Get {
-            sheet,
-            row: place.row,
-            column: place.column,
-        }),
-        None => None,
-    }
-}
-
-/// The words of `get`: a sheet and a reference.
-fn read_get(words: Option<&str>) -> Option<Command>
-    ensures { result ≡ spec.get_of (parts_after 32 (option_copied words.entry)) }
-{
-    let Some(words) = words else {
-        return None;
-    };
-    let (sheet, words) = split_word(words);
-    let Some(words) = words else {
-        return None;
-    };
-    let (reference, words) = split_word(words);
-    match words {
-        None => get_at(sheet, reference),
-        Some(_) => None,
-    }
-}
-
-fn rows_at(sheet: &str, row: &str, count: &str) -> Option<Rows>
-    ensures { result ≡ spec.rows_at sheet.now row.now count.now }
-{
-    let Some(sheet) = read_u32(sheet.as_bytes()) else {
-        return None;
-    };
-    let Some(row) = read_i32(row.as_bytes()) else {
-        return None;
-    };
-    match read_i32(count.as_bytes()) {
-        Some(count) => Some(Rows { sheet, row, count }),
-        None => None,
-    }
-}
-
-/// The words of `insert-rows` and `delete-rows`: a sheet, a row and a count.
-fn read_rows(words: Option<&str>) -> Option<Rows>
-    ensures { result ≡ spec.rows_of (parts_after 32 (option_copied words.entry)) }
-{
-    let Some(words) = words else {
-        return None;
-    };
-    let (sheet, words) = split_word(words);
-    let Some(words) = words else {
-        return None;
-    };
-    let (row, words) = split_word(words);
-    let Some(words) = words else {
-        return None;
-    };
-    let (count, words) = split_word(words);
-    match words {
-        None => rows_at(sheet, row, count),
-        Some(_) => None,
-    }
-}
-
-fn set_at(
-    alloc: Global,
-    sheet: &str,
-    reference: &str,
-    text: &str,
-) -> Result<Option<Command>, EditError>
-    ensures value { IfOk result (λ found. found ≡ spec.set_at sheet.now reference.now text.now) }
-    ensures err { IsOkUnless result NoMemory }
-{
-    let Some(sheet) = read_u32(sheet.as_bytes()) else {
-        return Ok(None);
-    };
-    let Some(place) = read_reference(reference.as_bytes()) else {
-        return Ok(None);
-    };
-    let Some(text) = unescape(alloc, text)? else {
-        return Ok(None);
-    };
     if is_unsupported(text.as_str().as_bytes()) {
-        return Ok(None);
+        return None;
     }
-    Ok(Some(Command::Set {
-        sheet,
-        row: place.row,
-        column: place.column,
-        text,
-    }))
+    Some(Command::Set(cell, text))
 }
 
-/// The words of `set`: a sheet and a reference, and what is left is the text.
-fn read_set(alloc: Global, words: Option<&str>) -> Result<Option<Command>, EditError>
+/// The command that words are: the first, and the others.
+fn read_words(alloc: Global, word: &str, words: Option<&str>) -> Result<Option<Command>, EditError>
     ensures value { IfOk result
-        (λ found. found ≡ spec.set_of (parts_after 32 (option_copied words.entry))) }
+        (λ found. found ≡ spec.from_words (word.now ∷ parts_after 32 (option_copied words.entry))) }
     ensures err { IsOkUnless result NoMemory }
 {
-    let Some(words) = words else {
-        return Ok(None);
-    };
-    let (sheet, words) = split_word(words);
-    let Some(words) = words else {
-        return Ok(None);
-    };
-    let (reference, words) = split_word(words);
-    set_at(alloc, sheet, reference, text_of(words))
-}
-
-fn inserted(rows: Rows) -> Command
-    ensures { result ≡ InsertRows rows.sheet rows.row rows.count }
-{
-    Command::InsertRows {
-        sheet: rows.sheet,
-        row: rows.row,
-        count: rows.count,
-    }
-}
-
-fn deleted(rows: Rows) -> Command
-    ensures { result ≡ DeleteRows rows.sheet rows.row rows.count }
-{
-    Command::DeleteRows {
-        sheet: rows.sheet,
-        row: rows.row,
-        count: rows.count,
-    }
-}
-
-fn read_words(
-    alloc: Global,
-    keyword: Keyword,
-    words: Option<&str>,
-) -> Result<Option<Command>, EditError>
-    ensures value { IfOk result
-        (λ found. found ≡ spec.with_words keyword (parts_after 32 (option_copied words.entry))) }
-    ensures err { IsOkUnless result NoMemory }
-{
-    match keyword {
-        Keyword::Set => read_set(alloc, words),
-        Keyword::Get => Ok(read_get(words)),
-        Keyword::InsertRows => Ok(read_rows(words).map(inserted)),
-        Keyword::DeleteRows => Ok(read_rows(words).map(deleted)),
-        Keyword::Undo => Ok(alone(Command::Undo, words)),
-        Keyword::Redo => Ok(alone(Command::Redo, words)),
-        Keyword::Sync => Ok(alone(Command::Sync, words)),
-        Keyword::Show => Ok(alone(Command::Show, words)),
+    match word {
+        "set" => Ok(with_text(alloc, cell_words(words))?.and_then(|(cell, text)| set_to(
+            cell, text,
+        ))),
+        "get" => Ok(ended(cell_words(words)).map(Command::Get)),
+        "array" => Ok(with_text(alloc, area_words(words))?.map(|(area, text)| Command::Array(
+            area, text,
+        ))),
+        "link" => Ok(with_text(alloc, cell_words(words))?.map(|(cell, text)| Command::Link(
+            cell, text,
+        ))),
+        "unlink" => Ok(ended(cell_words(words)).map(Command::Unlink)),
+        "merge" => Ok(ended(area_words(words)).map(Command::Merge)),
+        "unmerge" => Ok(ended(cell_words(words)).map(Command::Unmerge)),
+        "insert-rows" => Ok(ended(lines_words(words)).map(Command::InsertRows)),
+        "insert-columns" => Ok(ended(lines_words(words)).map(Command::InsertColumns)),
+        "delete-rows" => Ok(ended(lines_words(words)).map(Command::DeleteRows)),
+        "delete-columns" => Ok(ended(lines_words(words)).map(Command::DeleteColumns)),
+        "move-rows" => Ok(ended(move_words(words)).map(Command::MoveRows)),
+        "move-columns" => Ok(ended(move_words(words)).map(Command::MoveColumns)),
+        "undo" => Ok(alone(Command::Undo, words)),
+        "redo" => Ok(alone(Command::Redo, words)),
+        "sync" => Ok(alone(Command::Sync, words)),
+        "show" => Ok(alone(Command::Show, words)),
+        _ => Ok(None),
     }
 }
 
@@ -240,10 +188,7 @@ fn read_text(alloc: Global, line: &str) -> Result<Option<Command>, EditError>
     ensures err { IsOkUnless result NoMemory }
 {
     let (word, words) = split_word(line);
-    match keyword_of(word.as_bytes()) {
-        Some(keyword) => read_words(alloc, keyword, words),
-        None => Ok(None),
-    }
+    read_words(alloc, word, words)
 }
 
 /// The command that a line is, or None where the table of commands has no such line. A line that

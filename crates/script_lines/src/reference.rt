@@ -1,9 +1,12 @@
-ghost use Rattle.std.specs.Prelude.{◌≡◌, ◌≤◌, ◌≤ℤ◌, ◌<◌, ◌^◌, ◌++◌, true, decimal, length, pos, IfSome, OnOk};
+ghost use Rattle.std.specs.Prelude.{◌≡◌, ◌≤◌, ◌≤ℤ◌, ◌<◌, ◌^◌, ◌++◌, ◌∷◌, [], true, decimal, length, pos, IfSome, OnOk};
 ghost use Rattle.std.specs.List.{list_all, prefix_len};
 ghost use Rattle.base_values.specs.Places.{IsPlace};
+ghost use Rattle.script_lines.specs.CommandFits.{IsNamed};
 ghost use Rattle.script_lines.specs.References as spec;
 
 use crate::number::read_u32;
+use crate::parts::split_first;
+use base_axis::MergedCell;
 use base_values::Position;
 use std::alloc::{AllocError, Global};
 
@@ -74,8 +77,8 @@ fn signed(number: u32) -> i32
     number as i32
 }
 
-/// The row and column that the bytes name: letters, and then digits.
-pub(crate) fn read_reference(bytes: &[u8]) -> Option<Reference>
+/// The row and column that letters and then digits name.
+fn reference_of(bytes: &[u8]) -> Option<Reference>
     ensures { result ≡ spec.reference_of bytes.now }
 {
     let (letters, digits) = bytes.split_at(letters_len(bytes));
@@ -89,6 +92,84 @@ pub(crate) fn read_reference(bytes: &[u8]) -> Option<Reference>
         row: signed(row),
         column: signed(column),
     })
+}
+
+/// The row and column that the bytes name: letters, and then digits.
+pub(crate) fn read_reference(bytes: &[u8]) -> Option<Reference>
+    ensures value { result ≡ spec.reference_of bytes.now }
+    ensures named { IfSome result (λ place. IsNamed place.row place.column) }
+{
+    reference_of(bytes)
+}
+
+/// The lines from one to another, in any order: the first of them, and how many they are.
+fn lines_between(a: i32, b: i32) -> (i32, i32)
+    requires low { pos 0 ≤ℤ a }
+    requires high { a ≤ℤ pos 9999999 }
+    requires other_low { pos 0 ≤ℤ b }
+    requires other_high { b ≤ℤ pos 9999999 }
+    ensures first { result.0 ≡ spec.first_between a b }
+    ensures count { result.1 ≡ spec.count_between a b }
+{
+    if a <= b {
+        (a, b - a + 1)
+    } else {
+        (b, a - b + 1)
+    }
+}
+
+fn area_at(place: Reference) -> MergedCell
+    ensures { result ≡ spec.area_at place }
+{
+    MergedCell {
+        row: place.row,
+        column: place.column,
+        width: 1,
+        height: 1,
+    }
+}
+
+fn area_between(a: Reference, b: Reference) -> MergedCell
+    requires one { IsNamed a.row a.column }
+    requires other { IsNamed b.row b.column }
+    ensures { result ≡ spec.area_between a b }
+{
+    let (row, height) = lines_between(a.row, b.row);
+    let (column, width) = lines_between(a.column, b.column);
+    MergedCell {
+        row,
+        column,
+        width,
+        height,
+    }
+}
+
+/// The area that two references name.
+fn read_corners(one: &[u8], other: &[u8]) -> Option<MergedCell>
+    ensures { result ≡ spec.area_of_parts (one.now ∷ other.now ∷ []) }
+{
+    let Some(a) = read_reference(one) else {
+        return None;
+    };
+    let Some(b) = read_reference(other) else {
+        return None;
+    };
+    Some(area_between(a, b))
+}
+
+/// The area that the bytes name: one place, or two opposite corners with a colon between them.
+pub(crate) fn read_area(bytes: &[u8]) -> Option<MergedCell>
+    ensures { result ≡ spec.area_of bytes.now }
+{
+    let (one, rest) = split_first(bytes, b':');
+    let Some(rest) = rest else {
+        return read_reference(one).map(area_at);
+    };
+    let (other, more) = split_first(rest, b':');
+    match more {
+        None => read_corners(one, other),
+        Some(_) => None,
+    }
 }
 
 /// A line of a sheet as a number without a sign.

@@ -1,4 +1,7 @@
-use crate::{Command, push_escaped, push_reference, read_command};
+use crate::{
+    Command, NamedArea, NamedCell, NamedLines, NamedMove, push_escaped, push_reference,
+    read_command,
+};
 use base_values::Position;
 use std::alloc::{AllocError, Global};
 use std::test::Fail;
@@ -6,26 +9,19 @@ use std::test::Fail;
 /// A command in words, with a bar on each side of its text.
 fn in_words(alloc: Global, command: Option<Command>) -> Result<String, AllocError> {
     match command {
-        Some(
-            Command::Set {
-                sheet,
-                row,
-                column,
-                text,
-            },
-        ) => {
-            let text = text.as_str();
-            format!(in alloc; "sheet {sheet} row {row} column {column} |{text}|")
-        }
-        Some(Command::Get { sheet, row, column }) => {
-            format!(in alloc; "sheet {sheet} row {row} column {column}")
-        }
-        Some(Command::InsertRows { sheet, row, count }) => {
-            format!(in alloc; "insert: sheet {sheet} row {row} count {count}")
-        }
-        Some(Command::DeleteRows { sheet, row, count }) => {
-            format!(in alloc; "delete: sheet {sheet} row {row} count {count}")
-        }
+        Some(Command::Set(cell, text)) => cell_in_words(alloc, "set", cell, text.as_str()),
+        Some(Command::Get(cell)) => cell_in_words(alloc, "get", cell, ""),
+        Some(Command::Array(area, text)) => area_in_words(alloc, "array", area, text.as_str()),
+        Some(Command::Link(cell, text)) => cell_in_words(alloc, "link", cell, text.as_str()),
+        Some(Command::Unlink(cell)) => cell_in_words(alloc, "unlink", cell, ""),
+        Some(Command::Merge(area)) => area_in_words(alloc, "merge", area, ""),
+        Some(Command::Unmerge(cell)) => cell_in_words(alloc, "unmerge", cell, ""),
+        Some(Command::InsertRows(lines)) => lines_in_words(alloc, "insert rows", lines),
+        Some(Command::InsertColumns(lines)) => lines_in_words(alloc, "insert columns", lines),
+        Some(Command::DeleteRows(lines)) => lines_in_words(alloc, "delete rows", lines),
+        Some(Command::DeleteColumns(lines)) => lines_in_words(alloc, "delete columns", lines),
+        Some(Command::MoveRows(moved)) => move_in_words(alloc, "move rows", moved),
+        Some(Command::MoveColumns(moved)) => move_in_words(alloc, "move columns", moved),
         Some(Command::Undo) => format!(in alloc; "undo"),
         Some(Command::Redo) => format!(in alloc; "redo"),
         Some(Command::Sync) => format!(in alloc; "sync"),
@@ -34,44 +30,78 @@ fn in_words(alloc: Global, command: Option<Command>) -> Result<String, AllocErro
     }
 }
 
+fn cell_in_words(
+    alloc: Global,
+    word: &str,
+    cell: NamedCell,
+    text: &str,
+) -> Result<String, AllocError> {
+    let (sheet, row, column) = (cell.sheet, cell.row, cell.column);
+    format!(in alloc; "{word}: sheet {sheet} row {row} column {column} |{text}|")
+}
+
+fn area_in_words(
+    alloc: Global,
+    word: &str,
+    named: NamedArea,
+    text: &str,
+) -> Result<String, AllocError> {
+    let (sheet, row, column) = (named.sheet, named.area.row, named.area.column);
+    let (width, height) = (named.area.width, named.area.height);
+    format!(in alloc; "{word}: sheet {sheet} row {row} column {column} {width}x{height} |{text}|")
+}
+
+fn lines_in_words(alloc: Global, word: &str, lines: NamedLines) -> Result<String, AllocError> {
+    let (sheet, first, count) = (lines.sheet, lines.first, lines.count);
+    format!(in alloc; "{word}: sheet {sheet} first {first} count {count}")
+}
+
+fn move_in_words(alloc: Global, word: &str, moved: NamedMove) -> Result<String, AllocError> {
+    let (sheet, first, count, delta) = (moved.sheet, moved.first, moved.count, moved.delta);
+    format!(in alloc; "{word}: sheet {sheet} first {first} count {count} delta {delta}")
+}
+
 #[test]
 fn lines_read_as_commands(rt: HostRuntime) -> Result<(), Fail> {
-    let lines: [(&[u8], &str); 68] = [
-        (b"set 0 A1 12", "sheet 0 row 1 column 1 |12|"),
-        (b"set 0 A1", "sheet 0 row 1 column 1 ||"),
-        (b"set 0 A1 ", "sheet 0 row 1 column 1 ||"),
-        (b"set 0 A1  a  b ", "sheet 0 row 1 column 1 | a  b |"),
-        (b"set 007 b02 x", "sheet 7 row 2 column 2 |x|"),
+    let lines: [(&[u8], &str); 101] = [
+        (b"set 0 A1 12", "set: sheet 0 row 1 column 1 |12|"),
+        (b"set 0 A1", "set: sheet 0 row 1 column 1 ||"),
+        (b"set 0 A1 ", "set: sheet 0 row 1 column 1 ||"),
+        (b"set 0 A1  a  b ", "set: sheet 0 row 1 column 1 | a  b |"),
+        (b"set 007 b02 x", "set: sheet 7 row 2 column 2 |x|"),
         (
             b"set 4294967295 zZZ9999999 x",
-            "sheet 4294967295 row 9999999 column 18278 |x|",
+            "set: sheet 4294967295 row 9999999 column 18278 |x|",
         ),
         (
             b"set 00000000004294967295 Z1 x",
-            "sheet 4294967295 row 1 column 26 |x|",
+            "set: sheet 4294967295 row 1 column 26 |x|",
         ),
-        (b"set 0 A0 x", "sheet 0 row 0 column 1 |x|"),
-        (b"set 0 AA0000001 x", "sheet 0 row 1 column 27 |x|"),
+        (b"set 0 A0 x", "set: sheet 0 row 0 column 1 |x|"),
+        (b"set 0 AA0000001 x", "set: sheet 0 row 1 column 27 |x|"),
         (
             b"set 0 XFD1048576 \\\\",
-            "sheet 0 row 1048576 column 16384 |\\|",
+            "set: sheet 0 row 1048576 column 16384 |\\|",
         ),
-        (b"set 0 A1 \\\\n", "sheet 0 row 1 column 1 |\\n|"),
+        (b"set 0 A1 \\\\n", "set: sheet 0 row 1 column 1 |\\n|"),
         (
             b"set 0 A1 \xc3\xa9\t=1",
-            "sheet 0 row 1 column 1 |\u{e9}\t=1|",
+            "set: sheet 0 row 1 column 1 |\u{e9}\t=1|",
         ),
-        (b"set 0 A1 =1", "sheet 0 row 1 column 1 |=1|"),
-        (b"get 1 C3", "sheet 1 row 3 column 3"),
-        (b"insert-rows 0 3 2", "insert: sheet 0 row 3 count 2"),
+        (b"set 0 A1 =1", "set: sheet 0 row 1 column 1 |=1|"),
+        (b"get 1 C3", "get: sheet 1 row 3 column 3 ||"),
+        (b"insert-rows 0 3 2", "insert rows: sheet 0 first 3 count 2"),
         (
             b"insert-rows 4294967295 2147483647 -2147483648",
-            "insert: sheet 4294967295 row 2147483647 count -2147483648",
+            "insert rows: sheet 4294967295 first 2147483647 count -2147483648",
         ),
-        (b"delete-rows 00 -0 007", "delete: sheet 0 row 0 count 7"),
+        (
+            b"delete-rows 00 -0 007",
+            "delete rows: sheet 0 first 0 count 7",
+        ),
         (
             b"delete-rows 1 -12 -00003",
-            "delete: sheet 1 row -12 count -3",
+            "delete rows: sheet 1 first -12 count -3",
         ),
         (b"insert-rows", "none"),
         (b"insert-rows 0", "none"),
@@ -88,6 +118,60 @@ fn lines_read_as_commands(rt: HostRuntime) -> Result<(), Fail> {
         (b"delete-rows 0 A1 1", "none"),
         (b"delete-rows  0 1 1", "none"),
         (b"Delete-rows 0 1 1", "none"),
+        (
+            b"insert-columns 0 3 2",
+            "insert columns: sheet 0 first 3 count 2",
+        ),
+        (
+            b"delete-columns 1 -12 -00003",
+            "delete columns: sheet 1 first -12 count -3",
+        ),
+        (
+            b"move-rows 0 2 1 -1",
+            "move rows: sheet 0 first 2 count 1 delta -1",
+        ),
+        (
+            b"move-columns 09 -0 007 2147483647",
+            "move columns: sheet 9 first 0 count 7 delta 2147483647",
+        ),
+        (b"move-rows 0 2 1", "none"),
+        (b"move-rows 0 2 1 ", "none"),
+        (b"move-rows 0 2 1 1 1", "none"),
+        (b"move-rows 0 2 1 2147483648", "none"),
+        (b"move-columns 0 B 1 1", "none"),
+        (b"insert-columns 0 B 1", "none"),
+        (
+            b"array 0 B2:A1 =A1:A2",
+            "array: sheet 0 row 1 column 1 2x2 |=A1:A2|",
+        ),
+        (b"array 0 a2:B1 1", "array: sheet 0 row 1 column 1 2x2 |1|"),
+        (b"array 0 C3", "array: sheet 0 row 3 column 3 1x1 ||"),
+        (
+            b"array 0 C3 a\\nb\\\\",
+            "array: sheet 0 row 3 column 3 1x1 |a\nb\\|",
+        ),
+        (b"array 0 C3 \\q", "none"),
+        (b"array 0", "none"),
+        (
+            b"merge 0 zzz0:A9999999",
+            "merge: sheet 0 row 0 column 1 18278x10000000 ||",
+        ),
+        (b"merge 0 A1:A1", "merge: sheet 0 row 1 column 1 1x1 ||"),
+        (b"merge 0 A1:B1 ", "none"),
+        (b"merge 0 A1:B1:C1", "none"),
+        (b"merge 0 A1:", "none"),
+        (b"merge 0 :A1", "none"),
+        (b"merge 0 :", "none"),
+        (b"merge 0 A:B", "none"),
+        (b"merge 0 A1: B1", "none"),
+        (b"merge 0 A1:A00000001", "none"),
+        (b"unmerge 0 D4", "unmerge: sheet 0 row 4 column 4 ||"),
+        (b"unmerge 0 A1:B1", "none"),
+        (b"link 0 A1 a b", "link: sheet 0 row 1 column 1 |a b|"),
+        (b"link 0 A1", "link: sheet 0 row 1 column 1 ||"),
+        (b"link 0 A1 a\\nb", "link: sheet 0 row 1 column 1 |a\nb|"),
+        (b"unlink 0 AB1", "unlink: sheet 0 row 1 column 28 ||"),
+        (b"unlink 0 A1 x", "none"),
         (b"undo", "undo"),
         (b"redo", "redo"),
         (b"sync", "sync"),

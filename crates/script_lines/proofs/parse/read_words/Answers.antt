@@ -1,0 +1,8 @@
+use Rattle.script_lines.proofs.Words.{no_command}
+use Rattle.script_lines.proofs.parse.read_words.Goals as goal
+
+pub returns-in_default-clause-value : goal.returns-in_default-clause-value
+returns-in_default-clause-value c =
+    let d = c.in_default in
+    no_command _ _
+    (d.not-set, (d.not-get, (d.not-array, (d.not-link, (d.not-unlink, (d.not-merge, (d.not-unmerge, (d.not-text, (d.not-text-2, (d.not-text-3, (d.not-text-4, (d.not-text-5, (d.not-text-6, (d.not-undo, (d.not-redo, (d.not-sync, (d.not-show, tt)))))))))))))))))

@@ -1,5 +1,5 @@
 -- The plan of an array: the refusals, and the record.
-use Rattle.std.proofs.Common.{◌≡◌, ◌≢◌, ℕ, List, Option, Some, Result, Ok, Err, refl, ap, sym, subst, ◌∙◌}
+use Rattle.std.proofs.Common.{◌≡◌, ◌≢◌, ℕ, List, Result, Ok, Err, refl, ap, sym, subst, ◌∙◌}
 use Rattle.std.specs.Prelude.{IfOk, IsOkUnless, IsTrue}
 use Rattle.std.proofs.lemmas.Option.{same_Some}
 use Rattle.base_values.specs.declared.EditError.{EditError}

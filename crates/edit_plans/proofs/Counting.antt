@@ -1,5 +1,5 @@
 -- A loop that counts the entries that pass a test.
-use Rattle.std.proofs.Common.{◌≡◌, ℕ, ℤ, pos, suc, ◌+ℤ◌, ◌≤ℤ◌, Bool, true, false, cond, List, [], ◌∷◌, length, w32, w64, FitsSigned, to_z, of_z, refl, ap, sym, subst, ◌∙◌, arith, ◌≤◌}
+use Rattle.std.proofs.Common.{◌≡◌, ℕ, ℤ, pos, ◌+ℤ◌, ◌≤ℤ◌, Bool, true, false, cond, List, [], ◌∷◌, length, w32, w64, FitsSigned, to_z, of_z, ap, sym, subst, ◌∙◌, arith, ◌≤◌}
 use Rattle.std.specs.List.{filter, All}
 use Rattle.std.specs.Ordering.{int_cmp}
 use Rattle.std.specs.FinMap.{FinMap, entries}

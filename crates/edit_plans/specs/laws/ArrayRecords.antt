@@ -1,9 +1,9 @@
 -- The record of an array that is put in a rectangle: its first cell, and the cells that lose their contents.
-use Rattle.std.proofs.Common.{◌≡◌, ◌≢◌, ℕ, ℤ, ◌≤ℤ◌, Bool, true, false, not, cond, ◌&&◌, List, [], ◌∷◌, ◌++◌, map, Option, Some, None, option_map, refl, ap, sym, ◌∙◌, true≢false, arith}
+use Rattle.std.proofs.Common.{◌≡◌, ◌≢◌, ℤ, ◌≤ℤ◌, Bool, true, false, cond, ◌&&◌, List, [], ◌∷◌, ◌++◌, map, Option, Some, None, option_map, refl, ap, sym, ◌∙◌, true≢false, arith}
 use Rattle.std.specs.Prelude.{IsTrue}
 use Rattle.std.specs.List.{cons_option}
 use Rattle.std.specs.Cmp.{tied_itself, nat_cmp_total}
-use Rattle.std.specs.Ordering.{eq_by_cmp, is_lt, ordering_then, int_cmp, int_eq, nat_cmp}
+use Rattle.std.specs.Ordering.{eq_by_cmp, is_lt, ordering_then, int_cmp, int_eq}
 use Rattle.std.specs.declared.cmp.Ordering.{Ordering}
 use Rattle.std.specs.declared.cmp.Ordering.TheVariants.{Less, Equal, Greater}
 use Rattle.std.specs.FinMap as fin
@@ -11,7 +11,6 @@ use Rattle.std.specs.FinMap.{get, entries}
 use Rattle.std.specs.FinMap.Entries.{below_all}
 use Rattle.std.proofs.lemmas.Int.{ints}
 use Rattle.base_values.specs.declared.Position.{Position}
-use Rattle.base_values.specs.KeyMap.{with_entry}
 use Rattle.base_values.specs.laws.KeyMap.{get-with_entry}
 use Rattle.base_values.specs.Places.{position_cmp}
 use Rattle.base_values.specs.laws.Places.{position_total, exact_positions}
@@ -26,7 +25,6 @@ use Rattle.sheet_grid.specs.Sheet.{Sheet}
 use Rattle.sheet_rules.specs.Occupied.{covers}
 use Rattle.sheet_rules.specs.laws.EntryLaws.{both}
 use Rattle.sheet_rules.specs.laws.ShownLaws.{not_true}
-use Rattle.sheet_history.specs.declared.Diff.{Diff}
 use Rattle.sheet_history.specs.declared.Diff.TheVariants.{Cell as CellDiff}
 use Rattle.sheet_history.specs.Entries.{EntryKey, EntryValue, key_cmp, sheet_id_of, sheet_entry}
 use Rattle.sheet_history.specs.Entries.EntryKey.{CellKey, LinkKey, MergesKey}
@@ -37,7 +35,7 @@ use Rattle.sheet_history.specs.laws.RecordLaws.{key_total, exact_keys}
 use Rattle.edit_plans.specs.ArrayInputs.{with_array, array_diffs}
 use Rattle.edit_plans.specs.Blanked.{blanked, blanked_sheet, blank_cell, blank_diffs, loses}
 use Rattle.edit_plans.specs.Inputs.{cell_entered}
-use Rattle.edit_plans.specs.laws.BlankRecord.{blank_values, blank_changes, changes_of, blank_sorted, blank_record, made_changes}
+use Rattle.edit_plans.specs.laws.BlankRecord.{blank_changes, changes_of, blank_sorted, blank_record, made_changes}
 use Rattle.edit_plans.specs.laws.SheetRecords.{IsSheetRecord}
 
 -- ---- the first place of a rectangle is before those that it covers

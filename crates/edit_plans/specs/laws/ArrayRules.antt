@@ -1,5 +1,5 @@
 -- An array that may fill a rectangle leaves a sheet that keeps its rules.
-use Rattle.std.proofs.Common.{◌≡◌, ℕ, Bool, true, false, not, cond, ◌&&◌, ◌||◌, List, [], ◌∷◌, Option, Some, None, Result, Ok, Err, refl, ap, sym, subst, ◌∙◌, true≢false}
+use Rattle.std.proofs.Common.{◌≡◌, Bool, true, false, not, cond, ◌&&◌, ◌||◌, List, [], ◌∷◌, Option, Some, None, Result, Ok, Err, refl, ap, sym, subst, ◌∙◌, true≢false}
 use Rattle.std.specs.Prelude.{IsTrue}
 use Rattle.std.specs.List.{list_any}
 use Rattle.std.specs.Cmp.{int_eq_equiv}
@@ -22,7 +22,7 @@ use Rattle.sheet_grid.specs.Merges.{is_covered}
 use Rattle.sheet_grid.specs.Sheet.{Sheet, with_cell, shown_style}
 use Rattle.sheet_grid.specs.laws.FittingLaws.{cells_fit-put}
 use Rattle.sheet_rules.specs.Occupied.{meets_any, covers}
-use Rattle.sheet_rules.specs.WellFormed.{is_place, has_font, have_trees, have_attributes}
+use Rattle.sheet_rules.specs.WellFormed.{is_place}
 use Rattle.sheet_rules.specs.laws.HiddenLaws.{covered_by_one}
 use Rattle.sheet_rules.specs.laws.OccupiedLaws.{keeps_merges}
 use Rattle.sheet_rules.specs.laws.ShownLaws.{neither, none_in}
@@ -31,7 +31,7 @@ use Rattle.sheet_history.specs.laws.EntryLaws.{decide}
 use Rattle.sheet_history.specs.laws.RuleLaws.{KeepsSheetRules, inside-put, attributes-put}
 use Rattle.edit_plans.specs.ArrayInputs.{hits_merge, free_area, with_array}
 use Rattle.edit_plans.specs.Blanked.{blanked_sheet}
-use Rattle.edit_plans.specs.Inputs.{entered, cell_entered}
+use Rattle.edit_plans.specs.Inputs.{entered}
 use Rattle.edit_plans.specs.laws.ArrayPut.{IsFree, array-arrays, array-merges, array-hidden}
 use Rattle.edit_plans.specs.laws.BlankedLaws.{large_left, content_left, rules_stay}
 use Rattle.edit_plans.specs.laws.Fonts.{shown_font}

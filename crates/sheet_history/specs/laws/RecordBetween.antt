@@ -1,5 +1,5 @@
 -- The record of two workbooks is what they differ in, computed.
-use Rattle.std.proofs.Common.{◌≡◌, ℕ, Bool, true, false, cond, ◌||◌, List, [], ◌∷◌, ◌++◌, map, Option, Some, None, refl, ap, sym, ◌∙◌, true≢false}
+use Rattle.std.proofs.Common.{◌≡◌, Bool, true, false, cond, ◌||◌, List, [], ◌∷◌, ◌++◌, map, Option, Some, None, refl, ap, sym, ◌∙◌, true≢false}
 use Rattle.std.specs.Prelude.{◌==◌}
 use Rattle.std.specs.List.{list_any, filter_map, cons_option, flat_map}
 use Rattle.std.specs.Option.{option_map}
@@ -7,7 +7,7 @@ use Rattle.std.specs.Cmp.{IsTotalOrder, unsigned_Decides}
 use Rattle.std.specs.Ordering.{eq_by_cmp}
 use Rattle.std.specs.declared.cmp.Ordering.{Ordering}
 use Rattle.std.specs.FinMap as fin
-use Rattle.std.specs.FinMap.{FinMap, entries, get, get-entries, get-from_entries, entries_sorted, find}
+use Rattle.std.specs.FinMap.{entries, get, get-entries, get-from_entries, entries_sorted, find}
 use Rattle.std.specs.FinMap.Entries.{same_entries}
 use Rattle.std.proofs.lemmas.List.Folds.{list_any-append}
 use Rattle.std.proofs.lemmas.Map.Lookups.{CmpEqualImpliesEq}
@@ -21,8 +21,8 @@ use Rattle.sheet_lines.specs.Sheets.{sheet_of}
 use Rattle.sheet_history.specs.declared.diff.Diff.{Diff}
 use Rattle.sheet_history.specs.Entries.{EntryKey, EntryValue, key_cmp, sheet_id_of, sheet_entry, nothing_at, entry_at}
 use Rattle.sheet_history.specs.Entries.EntryKey.{CellKey, LinkKey, MergesKey}
-use Rattle.sheet_history.specs.Entries.EntryValue.{CellValue, LinkValue, MergesValue}
-use Rattle.sheet_history.specs.Records.{same_entry_value, changed_entry, Change, change_of, IsRecord, diff_of, sheet_keys, book_keys, change_at, changes_between, record_between}
+use Rattle.sheet_history.specs.Entries.EntryValue.{CellValue, LinkValue}
+use Rattle.sheet_history.specs.Records.{changed_entry, Change, change_of, IsRecord, diff_of, sheet_keys, book_keys, change_at, changes_between, record_between}
 use Rattle.sheet_history.specs.laws.EntryLaws.{decide, by_id}
 use Rattle.sheet_history.specs.laws.RecordLaws.{holds, key_total, exact_keys, diff_of-change_of}
 use Rattle.sheet_history.specs.laws.ValueEquals.{same_value_decides}

@@ -12,8 +12,10 @@ pub returns-in_err-free : goal.returns-in_err-free
 returns-in_err-free c =
     let p = err_from_is_err_and c.from_residual-in_err-free.result c.from_residual-in_err-free.ensures.1 in
     rw (p.1, p.2)
-    (record { planned = array_refused c.args.workbook.now c.args.sheet c.args.area c.args.tree c.in_ok-found.found.now (sym (c.in_ok-found.ensures {u = _})) c.in_err-free.field-0.0 (sym c.in_err-free.ensures.area)
-    (λ short. c.in_err-free.ensures.sure (ap Err short)) })
+    (record {
+      planned = array_refused c.args.workbook.now c.args.sheet c.args.area c.args.tree c.in_ok-found.found.now (sym (c.in_ok-found.ensures {u = _})) c.in_err-free.field-0.0 (sym c.in_err-free.ensures.area)
+          (λ short. c.in_err-free.ensures.sure (ap Err short));
+    })
 
 pub array_list-requires-clause-place : goal.array_list-requires-clause-place
 array_list-requires-clause-place c = array_named c.in_ok-found.found.now c.args.area c.in_ok-free.free (sym (c.in_ok-free.ensures {u = _}).area)

@@ -1,4 +1,4 @@
-use Rattle.std.proofs.Common.{rules, ◌≡◌, ℤ, pos, length, ◌+ℤ◌, ◌≤ℤ◌, to_z, of_z, w32, w64, ap, sym, subst, ◌∙◌}
+use Rattle.std.proofs.Common.{pos, to_z, of_z, w64, sym, subst, ◌∙◌}
 use Rattle.std.proofs.lemmas.Int.{to_z-of_z}
 use Rattle.std.proofs.lemmas.Map.Iter.{rest_more, rest_all}
 use Rattle.std.specs.Map.Iter.{deref_pair}
@@ -7,7 +7,7 @@ use Rattle.std.specs.FinMap.{entries}
 use Rattle.base_values.specs.Places.{IsLine}
 use Rattle.base_maps.specs.laws.Turns.{rest_hold}
 use Rattle.edit_plans.specs.HiddenLines.{is_hidden_between, hidden_in}
-use Rattle.edit_plans.proofs.Counting.{Counts, counts_none, turn_fits, turn_counted, counts_few, counts_all, counts_fit}
+use Rattle.edit_plans.proofs.Counting.{Counts, counts_none, turn_fits, turn_counted, counts_all, counts_fit}
 use Rattle.edit_plans.proofs.hidden.hidden_in.Goals as goal
 
 pub loop-line-init : goal.loop-line-init

@@ -16,7 +16,8 @@ use Rattle.sheet_history.specs.declared.Diff.{Diff}
 use Rattle.sheet_history.specs.Diffs.{IsKeptList}
 
 -- the entries seen and those left are all, and the list has the diffs of those seen behind what it had
-pub record Adds {A : Type 0} (shows : A → Position × Cell) (diff_of : Position × Cell → Option Diff) (cells : FinMap position_cmp Cell) (own : List Diff) (seen : List A) (left : List (Position × Cell)) (diffs : List Diff) : Type 0 where
+pub record Adds {A : Type 0} (shows : A → Position × Cell) (diff_of : Position × Cell → Option Diff) (cells : FinMap position_cmp Cell)
+    (own : List Diff) (seen : List A) (left : List (Position × Cell)) (diffs : List Diff) : Type 0 where
   pub all : map shows seen ++ left ≡ entries cells
   pub now : diffs ++ filter_map diff_of left ≡ own ++ filter_map diff_of (entries cells)
   pub kept : IsKeptList diffs
@@ -25,16 +26,19 @@ more : (o : Option Diff) (ds es : List Diff) → (ds ++ cons_option o []) ++ es 
 more None ds es = ap (λ xs. xs ++ es) (append-nil ds)
 more (Some d) ds es = append_assoc ds (d ∷ []) es
 
-module _ {A : Type 0} {shows : A → Position × Cell} {diff_of : Position × Cell → Option Diff} {cells : FinMap position_cmp Cell} {own : List Diff} {seen : List A} {left : List (Position × Cell)} {before : List Diff}
+module _ {A : Type 0} {shows : A → Position × Cell} {diff_of : Position × Cell → Option Diff}
+    {cells : FinMap position_cmp Cell} {own : List Diff} {seen : List A} {left : List (Position × Cell)} {before : List Diff}
     (so_far : Adds shows diff_of cells own seen left before) where
   -- the cell at hand is one of the map
-  pub adds_kept : KeptCells cells → (rest : List (Position × Cell)) {r : Option A} (y : A) → r ≡ Some y → TakesFirst shows left r rest → IsKeptCell (shows y).1
+  pub adds_kept : KeptCells cells → (rest : List (Position × Cell)) {r : Option A} (y : A) → r ≡ Some y → TakesFirst shows left r rest
+      → IsKeptCell (shows y).1
   adds_kept kept rest {r = r} y is steps =
       each_found position_cmp (λ place cell. IsKeptCell cell) cells kept (shows y).0 (shows y).1
       (turn_held position_cmp position_total exact_positions shows cells seen y left rest so_far.all (rest_more shows left rest r y is steps))
 
   -- and is seen now
-  pub adds_on : {rest : List (Position × Cell)} {r : Option A} {after : List Diff} (y : A) → r ≡ Some y → TakesFirst shows left r rest → after ≡ before ++ cons_option (diff_of (shows y)) [] → IsKeptList after
+  pub adds_on : {rest : List (Position × Cell)} {r : Option A} {after : List Diff} (y : A) → r ≡ Some y → TakesFirst shows left r rest
+      → after ≡ before ++ cons_option (diff_of (shows y)) [] → IsKeptList after
       → Adds shows diff_of cells own (seen ++ y ∷ []) rest after
   adds_on {rest = rest} {r = r} {after = after} y is steps now kept = record {
     all = turn_seen position_cmp position_total exact_positions shows cells seen y left rest so_far.all (rest_more shows left rest r y is steps);

@@ -52,35 +52,43 @@ module _ (w : Book) (index : ℕ) where
     unfolding merge_made
     merge_refused r error other is = plan_refused w _ error (sheet_refuses w index (merged_in r) sheet error at is) other
 
-    pub unmerge_refused : (row column : ℤ) (error : EditError) → error ≢ NoMemory → and_then (place_of row column) (λ place. unmerged_at sheet place (merge_holding sheet.merges place)) ≡ Err error
+    pub unmerge_refused : (row column : ℤ) (error : EditError) → error ≢ NoMemory
+        → and_then (place_of row column) (λ place. unmerged_at sheet place (merge_holding sheet.merges place)) ≡ Err error
         → Plans (Err error) w (merge_undone index row column w)
     unfolding merge_undone
     unmerge_refused row column error other is = plan_refused w _ error (sheet_refuses w index _ sheet error at is) other
 
     module _ (rules : IsWellFormed w) (result : Result (List Diff) EditError) (kept : IfOk result IsKeptList) (only : IsOkUnless result NoMemory) where
-      made_plan : (later : Book) (diffs : List Diff) → IsWellFormed later → IsRecord w later diffs → (answer : Result (List Diff) EditError) → IfOk answer (λ list. list ≡ diffs) → IfOk answer IsKeptList → IfOk answer (λ list. IsPlan w list later)
+      made_plan : (later : Book) (diffs : List Diff) → IsWellFormed later → IsRecord w later diffs → (answer : Result (List Diff) EditError)
+          → IfOk answer (λ list. list ≡ diffs) → IfOk answer IsKeptList → IfOk answer (λ list. IsPlan w list later)
       made_plan later diffs well exact (Ok list) made fit = record { exact = subst (IsRecord w later) (sym made) exact; rules = well; kept = fit }
       made_plan later diffs well exact (Err error) made fit = tt
 
-      pub merge_planned : (r : MergedCell) → merged_in r sheet ≡ Ok (with_merge sheet r) → IfOk result (λ list. list ≡ merge_diffs r sheet) → Plans result w (merge_made index r w)
+      pub merge_planned : (r : MergedCell) → merged_in r sheet ≡ Ok (with_merge sheet r) → IfOk result (λ list. list ≡ merge_diffs r sheet)
+          → Plans result w (merge_made index r w)
       unfolding merge_made
       merge_planned r done made =
           let may = may_merge sheet r (with_merge sheet r) done in
           plan_made w (with_sheet w index (with_merge sheet r)) _ result (sheet_takes w index (merged_in r) sheet (with_merge sheet r) at done) only
-          (made_plan (with_sheet w index (with_merge sheet r)) (merge_diffs r sheet) (merge_well_formed w rules index sheet at r may.is may.free may.clear) (merge_exact w rules index sheet at r) result made kept)
+          (made_plan (with_sheet w index (with_merge sheet r)) (merge_diffs r sheet)
+          (merge_well_formed w rules index sheet at r may.is may.free may.clear) (merge_exact w rules index sheet at r) result made kept)
 
       -- a merge holds the place that was found
-      holding : (row column : ℤ) (place : Position) → and_then (place_of row column) (λ p. unmerged_at sheet p (merge_holding sheet.merges p)) ≡ Ok (without_merge sheet place)
+      holding : (row column : ℤ) (place : Position)
+          → and_then (place_of row column) (λ p. unmerged_at sheet p (merge_holding sheet.merges p)) ≡ Ok (without_merge sheet place)
           → place_of row column ≡ Ok place → (merge : MergedCell) × (merge_holding sheet.merges place ≡ Some merge)
-      holding row column place done named = go (merge_holding sheet.merges place) refl (sym (ap (λ p. and_then p (λ q. unmerged_at sheet q (merge_holding sheet.merges q))) named) ∙ done)
+      holding row column place done named = go (merge_holding sheet.merges place) refl
+          (sym (ap (λ p. and_then p (λ q. unmerged_at sheet q (merge_holding sheet.merges q))) named) ∙ done)
         where
-          go : (o : Option MergedCell) → merge_holding sheet.merges place ≡ o → unmerged_at sheet place o ≡ Ok (without_merge sheet place) → (merge : MergedCell) × (merge_holding sheet.merges place ≡ Some merge)
+          go : (o : Option MergedCell) → merge_holding sheet.merges place ≡ o → unmerged_at sheet place o ≡ Ok (without_merge sheet place)
+              → (merge : MergedCell) × (merge_holding sheet.merges place ≡ Some merge)
           go None is it = absurd (let never : ◌≡◌ {A = Result Sheet EditError} (Err NoMerge) (Ok (without_merge sheet place)) = it in cc)
           go (Some merge) is it = (merge, is)
 
       pub unmerge_planned : (row column : ℤ) (place : Position) → place_of row column ≡ Ok place
           → and_then (place_of row column) (λ p. unmerged_at sheet p (merge_holding sheet.merges p)) ≡ Ok (without_merge sheet place)
-          → IfOk result (λ list. list ≡ MergesDiff sheet.id sheet.merges (merges_without place sheet.merges) ∷ []) → Plans result w (merge_undone index row column w)
+          → IfOk result (λ list. list ≡ MergesDiff sheet.id sheet.merges (merges_without place sheet.merges) ∷ [])
+          → Plans result w (merge_undone index row column w)
       unfolding merge_undone
       unmerge_planned row column place named done made =
           let held = holding row column place done named in

@@ -72,7 +72,8 @@ apart_left : (keep : MergedCell → Bool) (xs : List MergedCell) → are_apart x
 apart_left keep [] apart = refl
 apart_left keep (x ∷ xs) apart = go (none_left keep (meets x) xs (not_true _ (both _ _ apart).0)) (apart_left keep xs (both _ _ apart).1) (keep x)
   where
-    go : list_any (meets x) (filter keep xs) ≡ false → are_apart (filter keep xs) ≡ true → (b : Bool) → are_apart (cond b (x ∷ filter keep xs) (filter keep xs)) ≡ true
+    go : list_any (meets x) (filter keep xs) ≡ false → are_apart (filter keep xs) ≡ true → (b : Bool)
+        → are_apart (cond b (x ∷ filter keep xs) (filter keep xs)) ≡ true
     go none rest true = λ i. not (none i) && rest i
     go none rest false = rest
 
@@ -84,7 +85,8 @@ fewer place xs merge found same = true≢false (sym (one xs found) ∙ ap (list_
     one [] at = absurd (let never : ◌≡◌ {A = Option MergedCell} None (Some merge) = at in cc)
     one (x ∷ xs) at = go (holds x place) at (one xs)
       where
-        go : (b : Bool) → cond b (Some x) (merge_holding xs place) ≡ Some merge → (merge_holding xs place ≡ Some merge → list_any (λ m. holds m place) xs ≡ true) → (b || list_any (λ m. holds m place) xs) ≡ true
+        go : (b : Bool) → cond b (Some x) (merge_holding xs place) ≡ Some merge
+            → (merge_holding xs place ≡ Some merge → list_any (λ m. holds m place) xs ≡ true) → (b || list_any (λ m. holds m place) xs) ≡ true
         go true at rest = refl
         go false at rest = rest at
 
@@ -92,13 +94,15 @@ fewer place xs merge found same = true≢false (sym (one xs found) ∙ ap (list_
     none [] = refl
     none (x ∷ xs) = go (holds x place) refl (none xs)
       where
-        go : (b : Bool) → holds x place ≡ b → list_any (λ m. holds m place) (merges_without place xs) ≡ false → list_any (λ m. holds m place) (cond (not b) (x ∷ merges_without place xs) (merges_without place xs)) ≡ false
+        go : (b : Bool) → holds x place ≡ b → list_any (λ m. holds m place) (merges_without place xs) ≡ false
+            → list_any (λ m. holds m place) (cond (not b) (x ∷ merges_without place xs) (merges_without place xs)) ≡ false
         go true is rest = rest
         go false is rest = λ i. is i || rest i
 
 -- ---- the rules of the sheet
 
-module _ (r : MergedCell) (sheet : Sheet) (is : is_merge r ≡ true) (free : meets_any sheet.merges r ≡ false) (clear : meets_any (large_arrays_of sheet) r ≡ false) where
+module _ (r : MergedCell) (sheet : Sheet) (is : is_merge r ≡ true) (free : meets_any sheet.merges r ≡ false)
+    (clear : meets_any (large_arrays_of sheet) r ≡ false) where
   merge_rules : KeepsSheetRules sheet → KeepsSheetRules (with_merge sheet r)
   unfolding stands_inside have_arrays have_trees have_attributes
   merge_rules h =
@@ -112,10 +116,13 @@ module _ (r : MergedCell) (sheet : Sheet) (is : is_merge r ≡ true) (free : mee
           merges = all_more is_merge sheet.merges r own.merges is;
           apart = apart_more sheet.merges r own.apart free;
           arrays = λ place array at. none_more (meets array) sheet.merges r (own.arrays place array at)
-              (meets_turned array r ∙ none_in position_cmp position_total exact_positions (λ p (c : Cell). large_array_at p c.content) (meets r) sheet.cells clear place array (large_left r sheet place array at).1);
+              (meets_turned array r
+              ∙ none_in position_cmp position_total exact_positions (λ p (c : Cell). large_array_at p c.content)
+              (meets r) sheet.cells clear place array (large_left r sheet place array at).1);
         });
         hidden = are_hidden_blank_from (with_merge sheet r) (record {
-          merges = λ place cell found filled. none_more (λ merge. covers merge place) sheet.merges r (hidden.merges place cell found filled) (content_left r sheet place cell found filled).0;
+          merges = λ place cell found filled. none_more (λ merge. covers merge place) sheet.merges r (hidden.merges place cell found filled)
+              (content_left r sheet place cell found filled).0;
           arrays = hidden.arrays;
         });
         trees = bare.trees;
@@ -150,7 +157,8 @@ unmerge_rules sheet place h =
 
 module _ (w : Book) (rules : IsWellFormed w) (index : ℕ) (sheet : Sheet) (at : sheet_at w index ≡ Ok sheet) where
   -- a merge that is not refused leaves a well-formed workbook, and its record
-  pub merge_well_formed : (r : MergedCell) → is_merge r ≡ true → meets_any sheet.merges r ≡ false → meets_any (large_arrays_of sheet) r ≡ false → IsWellFormed (with_sheet w index (with_merge sheet r))
+  pub merge_well_formed : (r : MergedCell) → is_merge r ≡ true → meets_any sheet.merges r ≡ false → meets_any (large_arrays_of sheet) r ≡ false
+      → IsWellFormed (with_sheet w index (with_merge sheet r))
   merge_well_formed r is free clear = sheet_keeps (λ s. with_merge s r) (λ s. refl) w rules index sheet at (λ s found h.
       let same : s ≡ sheet = same_Some s sheet (sym found ∙ there w rules index sheet at) in
       subst (λ t. KeepsSheetRules (with_merge t r)) (sym same) (merge_rules r sheet is free clear (subst KeepsSheetRules same h)))
@@ -158,8 +166,10 @@ module _ (w : Book) (rules : IsWellFormed w) (index : ℕ) (sheet : Sheet) (at :
   pub merge_exact : (r : MergedCell) → IsRecord w (with_sheet w index (with_merge sheet r)) (merge_diffs r sheet)
   merge_exact r =
       let differ = merges_differ sheet.merges (sheet.merges ++ r ∷ []) (longer sheet.merges r) in
-      sheet_record (λ s. with_merge s r) (λ s. refl) w rules index sheet at (blank_changes r sheet ++ merges_change sheet (sheet.merges ++ r ∷ []) ∷ []) (merge_diffs r sheet)
-      (made_more (blank_diffs r sheet) (blank_changes r sheet) (MergesDiff sheet.id sheet.merges (sheet.merges ++ r ∷ [])) (merges_change sheet (sheet.merges ++ r ∷ [])) (made_changes r sheet.id (entries sheet.cells)) refl)
+      sheet_record (λ s. with_merge s r) (λ s. refl) w rules index sheet at
+      (blank_changes r sheet ++ merges_change sheet (sheet.merges ++ r ∷ []) ∷ []) (merge_diffs r sheet)
+      (made_more (blank_diffs r sheet) (blank_changes r sheet) (MergesDiff sheet.id sheet.merges (sheet.merges ++ r ∷ []))
+      (merges_change sheet (sheet.merges ++ r ∷ [])) (made_changes r sheet.id (entries sheet.cells)) refl)
       (merges_record (blanked_sheet r) (λ s. s.merges ++ r ∷ []) sheet (blank_changes r sheet) (blank_record r sheet) refl (blank_below r sheet) differ)
 
   -- so does the end of a merge
@@ -170,5 +180,6 @@ module _ (w : Book) (rules : IsWellFormed w) (index : ℕ) (sheet : Sheet) (at :
       → IsRecord w (with_sheet w index (without_merge sheet place)) (MergesDiff sheet.id sheet.merges (merges_without place sheet.merges) ∷ [])
   unmerge_exact place merge found =
       let differ = merges_differ sheet.merges (merges_without place sheet.merges) (fewer place sheet.merges merge found) in
-      sheet_record (λ s. without_merge s place) (λ s. refl) w rules index sheet at (merges_change sheet (merges_without place sheet.merges) ∷ []) (MergesDiff sheet.id sheet.merges (merges_without place sheet.merges) ∷ []) refl
+      sheet_record (λ s. without_merge s place) (λ s. refl) w rules index sheet at (merges_change sheet (merges_without place sheet.merges) ∷ [])
+      (MergesDiff sheet.id sheet.merges (merges_without place sheet.merges) ∷ []) refl
       (merges_record (λ s. s) (λ s. merges_without place s.merges) sheet [] (no_changes sheet) refl tt differ)

@@ -54,14 +54,18 @@ module _ (r : MergedCell) where
       (λ miss. miss)
 
   -- these are the values that differ
-  cell_change : (place : Position) (o : Option Cell) → option_and_then (blank_values place) o ≡ changed_entry (Some (CellValue o)) (Some (CellValue (option_map (blanked_cell r place) o)))
+  cell_change : (place : Position) (o : Option Cell)
+      → option_and_then (blank_values place) o ≡ changed_entry (Some (CellValue o)) (Some (CellValue (option_map (blanked_cell r place) o)))
   cell_change place None = sym (changed_entry-same (Some (CellValue None)))
   cell_change place (Some cell) = go (covers r place) (is_empty cell.content) refl
     where
       go : (b c : Bool) → is_empty cell.content ≡ c
-          → cond (b && not c) (Some (CellValue (Some cell), CellValue (Some (blank_cell cell)))) None ≡ changed_entry (Some (CellValue (Some cell))) (Some (CellValue (Some (cond b (blank_cell cell) cell))))
+          → cond (b && not c) (Some (CellValue (Some cell), CellValue (Some (blank_cell cell)))) None ≡ changed_entry (Some (CellValue (Some cell)))
+          (Some (CellValue (Some (cond b (blank_cell cell) cell))))
       go false c is = sym (changed_entry-same (Some (CellValue (Some cell))))
-      go true true is = sym (ap (λ (x : Cell). changed_entry (Some (CellValue (Some cell))) (Some (CellValue (Some x)))) (blank_same cell is) ∙ changed_entry-same (Some (CellValue (Some cell))))
+      go true true is =
+          sym (ap (λ (x : Cell). changed_entry (Some (CellValue (Some cell))) (Some (CellValue (Some x)))) (blank_same cell is)
+          ∙ changed_entry-same (Some (CellValue (Some cell))))
       go true false is = sym (ap (λ b. cond b None (Some (CellValue (Some cell), CellValue (Some (blank_cell cell))))) (filled_differs cell is))
 
   module _ (id : ℕ) where
@@ -87,21 +91,27 @@ module _ (r : MergedCell) where
     made_changes (e ∷ es) = made_one e _ _ (made_changes es)
 
     -- no key of another kind is among them, and none of another sheet
-    pub other_kind : (key : EntryKey) → ((place : Position) → key ≢ CellKey id place) → (es : List (Position × Cell)) → fin.find key_cmp key (changes_of es) ≡ None
+    pub other_kind : (key : EntryKey) → ((place : Position) → key ≢ CellKey id place) → (es : List (Position × Cell))
+        → fin.find key_cmp key (changes_of es) ≡ None
     other_kind key apart es = no_tag position_cmp key_cmp position_total exact_positions (CellKey id) order blank_values key
-        (λ place. decide (eq_by_cmp key_cmp key (CellKey id place)) (λ hit. absurd (apart place (tells_apart exact_keys key (CellKey id place) hit))) (λ miss. miss)) es
+        (λ place. decide (eq_by_cmp key_cmp key (CellKey id place)) (λ hit. absurd (apart place (tells_apart exact_keys key (CellKey id place) hit)))
+        (λ miss. miss)) es
 
   module _ (sheet : Sheet) where
     abbrev pub blank_changes : List Change
     blank_changes = changes_of sheet.id (entries sheet.cells)
 
     pub blank_sorted : IsTrue (fin.is_sorted key_cmp blank_changes)
-    blank_sorted = sorted-tagged position_cmp key_cmp position_total exact_positions (CellKey sheet.id) (order sheet.id) blank_values (entries sheet.cells) (rising sheet.cells)
+    blank_sorted = sorted-tagged position_cmp key_cmp position_total exact_positions (CellKey sheet.id) (order sheet.id) blank_values
+        (entries sheet.cells) (rising sheet.cells)
 
     -- at the key of a place stands the change of its cell
-    pub blank_at : (place : Position) → fin.find key_cmp (CellKey sheet.id place) blank_changes ≡ changed_entry (Some (CellValue (get sheet.cells place))) (Some (CellValue (get (blanked r sheet.cells) place)))
+    pub blank_at : (place : Position)
+        → fin.find key_cmp (CellKey sheet.id place) blank_changes ≡ changed_entry (Some (CellValue (get sheet.cells place)))
+        (Some (CellValue (get (blanked r sheet.cells) place)))
     blank_at place =
-        find-tagged position_cmp key_cmp position_total exact_positions (CellKey sheet.id) (order sheet.id) blank_values (entries sheet.cells) (rising sheet.cells) place
+        find-tagged position_cmp key_cmp position_total exact_positions (CellKey sheet.id) (order sheet.id) blank_values (entries sheet.cells)
+        (rising sheet.cells) place
         ∙ ap (option_and_then (blank_values place)) (sym (get-entries sheet.cells place))
         ∙ cell_change place (get sheet.cells place)
         ∙ ap (λ o. changed_entry (Some (CellValue (get sheet.cells place))) (Some (CellValue o))) (sym (get-blanked r sheet.cells place))
@@ -109,14 +119,19 @@ module _ (r : MergedCell) where
     pub blank_elsewhere : (key : EntryKey) → sheet_id_of key ≢ sheet.id → fin.find key_cmp key blank_changes ≡ None
     blank_elsewhere key other = other_kind sheet.id key (λ place same. other (ap sheet_id_of same)) (entries sheet.cells)
 
-    blank_here : (key : EntryKey) → sheet_id_of key ≡ sheet.id → fin.find key_cmp key blank_changes ≡ changed_entry (Some (sheet_entry key sheet)) (Some (sheet_entry key (blanked_sheet r sheet)))
+    blank_here : (key : EntryKey) → sheet_id_of key ≡ sheet.id
+        → fin.find key_cmp key blank_changes ≡ changed_entry (Some (sheet_entry key sheet)) (Some (sheet_entry key (blanked_sheet r sheet)))
     blank_here (CellKey id place) own = ap (λ n. fin.find key_cmp (CellKey n place) blank_changes) own ∙ blank_at place
-    blank_here (LinkKey id place) own = other_kind sheet.id (LinkKey id place) (λ other same. let never : LinkKey id place ≡ CellKey sheet.id other = same in cc) (entries sheet.cells) ∙ sym (changed_entry-same (Some (sheet_entry (LinkKey id place) sheet)))
-    blank_here (MergesKey id) own = other_kind sheet.id (MergesKey id) (λ other same. let never : MergesKey id ≡ CellKey sheet.id other = same in cc) (entries sheet.cells) ∙ sym (changed_entry-same (Some (sheet_entry (MergesKey id) sheet)))
+    blank_here (LinkKey id place) own = other_kind sheet.id (LinkKey id place)
+        (λ other same. let never : LinkKey id place ≡ CellKey sheet.id other = same in cc) (entries sheet.cells)
+        ∙ sym (changed_entry-same (Some (sheet_entry (LinkKey id place) sheet)))
+    blank_here (MergesKey id) own = other_kind sheet.id (MergesKey id) (λ other same. let never : MergesKey id ≡ CellKey sheet.id other = same in cc)
+        (entries sheet.cells) ∙ sym (changed_entry-same (Some (sheet_entry (MergesKey id) sheet)))
 
     -- and all are below that of the merges
     pub blank_below : AllByRecursion (λ c. is_lt (key_cmp c.0 (MergesKey sheet.id)) ≡ true) blank_changes
-    blank_below = tagged_below position_cmp key_cmp position_total exact_positions (CellKey sheet.id) (order sheet.id) blank_values (MergesKey sheet.id) (λ place. refl) (entries sheet.cells)
+    blank_below = tagged_below position_cmp key_cmp position_total exact_positions (CellKey sheet.id) (order sheet.id) blank_values
+        (MergesKey sheet.id) (λ place. refl) (entries sheet.cells)
 
     -- they are the changes of the sheet
     pub blank_record : IsSheetRecord (blanked_sheet r) sheet blank_changes

@@ -57,10 +57,12 @@ module _ (r : MergedCell) (cells : FinMap position_cmp Cell) where
       go (Some old) found is = let same : blanked_cell r place old ≡ cell = cc in record { old = old; found = found; is = sym same }
 
 -- a content that is left was there, and is not covered
-pub left_content : (r : MergedCell) (place : Position) (old : Cell) → is_empty (blanked_cell r place old).content ≡ false → (covers r place ≡ false) × (blanked_cell r place old ≡ old)
+pub left_content : (r : MergedCell) (place : Position) (old : Cell) → is_empty (blanked_cell r place old).content ≡ false
+    → (covers r place ≡ false) × (blanked_cell r place old ≡ old)
 left_content r place old filled = go (covers r place) refl filled
   where
-    go : (b : Bool) → covers r place ≡ b → is_empty (cond b (blank_cell old) old).content ≡ false → (covers r place ≡ false) × (blanked_cell r place old ≡ old)
+    go : (b : Bool) → covers r place ≡ b → is_empty (cond b (blank_cell old) old).content ≡ false
+        → (covers r place ≡ false) × (blanked_cell r place old ≡ old)
     go true is filled = absurd (let never : true ≡ false = filled in cc)
     go false is filled = (is, ap (λ b. cond b (blank_cell old) old) is)
 
@@ -72,7 +74,9 @@ by_cover P r place old blank kept = elim (covers r place) as (λ b. P (cond b (b
 
 -- the rectangle of an array begins where the array stands
 array_anchor : (place : Position) (content : Content) (array : MergedCell) → array_at place content ≡ Some array → anchor_place array ≡ place
-array_anchor place (Array tree width height) array at = let same : record { row = place.row; column = place.column; width = width; height = height } ≡ array = cc in ap anchor_place (sym same)
+array_anchor place (Array tree width height) array at =
+    let same : record { row = place.row; column = place.column; width = width; height = height } ≡ array = cc in
+    ap anchor_place (sym same)
 array_anchor place content array at = absurd (no_value array at)
 
 pub where_large_is : (o : Option MergedCell) (array : MergedCell) → where_large o ≡ Some array → o ≡ Some array
@@ -92,15 +96,20 @@ arrays : IsShape array_at
 arrays = record { anchor = array_anchor; blank = λ _ _. refl }
 
 large_arrays : IsShape large_array_at
-large_arrays = record { anchor = λ place content array at. array_anchor place content array (where_large_is (array_at place content) array at); blank = λ _ _. refl }
+large_arrays = record {
+  anchor = λ place content array at. array_anchor place content array (where_large_is (array_at place content) array at);
+  blank = λ _ _. refl;
+}
 
 module _ (shape : Position → Content → Option MergedCell) (is : IsShape shape) (r : MergedCell) where
-  shown_left : (place : Position) (o : Option Cell) (array : MergedCell) → option_and_then (λ (c : Cell). shape place c.content) (option_map (blanked_cell r place) o) ≡ Some array
+  shown_left : (place : Position) (o : Option Cell) (array : MergedCell)
+      → option_and_then (λ (c : Cell). shape place c.content) (option_map (blanked_cell r place) o) ≡ Some array
       → (covers r place ≡ false) × (option_and_then (λ (c : Cell). shape place c.content) o ≡ Some array)
   shown_left place None array at = absurd (no_value array at)
   shown_left place (Some old) array at = go (covers r place) refl at
     where
-      go : (b : Bool) → covers r place ≡ b → shape place (cond b (blank_cell old) old).content ≡ Some array → (covers r place ≡ false) × (shape place old.content ≡ Some array)
+      go : (b : Bool) → covers r place ≡ b → shape place (cond b (blank_cell old) old).content ≡ Some array
+          → (covers r place ≡ false) × (shape place old.content ≡ Some array)
       go true covered it = absurd (no_value array (sym (is.blank place old) ∙ it))
       go false free it = (free, it)
 
@@ -122,31 +131,39 @@ module _ (shape : Position → Content → Option MergedCell) (is : IsShape shap
           ap (λ o. cons_option o left) at ∙ ap (λ rs. array ∷ rs) rest
           ∙ sym (ap (λ b. cond (not b) (array ∷ filter keeps kept) (filter keeps kept)) (ap (covers r) (is.anchor place old.content array at) ∙ free))
 
-  all_left : (es : List (Position × Cell)) → filter_map (λ (e : Position × Cell). shape e.0 e.1.content) (mapped position_cmp position_total exact_positions (blanked_cell r) es)
+  all_left : (es : List (Position × Cell))
+      → filter_map (λ (e : Position × Cell). shape e.0 e.1.content) (mapped position_cmp position_total exact_positions (blanked_cell r) es)
       ≡ filter keeps (filter_map (λ (e : Position × Cell). shape e.0 e.1.content) es)
   all_left [] = refl
   all_left (e ∷ es) = one_left e.0 e.1 _ _ (all_left es)
 
 module _ (r : MergedCell) (sheet : Sheet) where
   -- an array that is left was there, and its place is not covered
-  pub array_left : (place : Position) (array : MergedCell) → array_in (blanked_sheet r sheet) place ≡ Some array → (covers r place ≡ false) × (array_in sheet place ≡ Some array)
+  pub array_left : (place : Position) (array : MergedCell) → array_in (blanked_sheet r sheet) place ≡ Some array
+      → (covers r place ≡ false) × (array_in sheet place ≡ Some array)
   array_left place array at =
-      shown_left array_at arrays r place (get sheet.cells place) array (sym (ap (option_and_then (λ (c : Cell). array_at place c.content)) (get-blanked r sheet.cells place)) ∙ at)
+      shown_left array_at arrays r place (get sheet.cells place) array
+      (sym (ap (option_and_then (λ (c : Cell). array_at place c.content)) (get-blanked r sheet.cells place)) ∙ at)
 
-  pub large_left : (place : Position) (array : MergedCell) → large_array_in (blanked_sheet r sheet) place ≡ Some array → (covers r place ≡ false) × (large_array_in sheet place ≡ Some array)
+  pub large_left : (place : Position) (array : MergedCell) → large_array_in (blanked_sheet r sheet) place ≡ Some array
+      → (covers r place ≡ false) × (large_array_in sheet place ≡ Some array)
   large_left place array at =
-      shown_left large_array_at large_arrays r place (get sheet.cells place) array (sym (ap (option_and_then (λ (c : Cell). large_array_at place c.content)) (get-blanked r sheet.cells place)) ∙ at)
+      shown_left large_array_at large_arrays r place (get sheet.cells place) array
+      (sym (ap (option_and_then (λ (c : Cell). large_array_at place c.content)) (get-blanked r sheet.cells place)) ∙ at)
 
   -- those are left whose first places the rectangle does not cover
   pub arrays-blanked : arrays_of (blanked_sheet r sheet) ≡ filter (λ array. not (covers r (anchor_place array))) (arrays_of sheet)
-  arrays-blanked = ap (filter_map (λ (e : Position × Cell). array_at e.0 e.1.content)) (entries-blanked r sheet.cells) ∙ all_left array_at arrays r (entries sheet.cells)
+  arrays-blanked = ap (filter_map (λ (e : Position × Cell). array_at e.0 e.1.content)) (entries-blanked r sheet.cells)
+      ∙ all_left array_at arrays r (entries sheet.cells)
 
   pub large_arrays-blanked : large_arrays_of (blanked_sheet r sheet) ≡ filter (λ array. not (covers r (anchor_place array))) (large_arrays_of sheet)
-  large_arrays-blanked = ap (filter_map (λ (e : Position × Cell). large_array_at e.0 e.1.content)) (entries-blanked r sheet.cells) ∙ all_left large_array_at large_arrays r (entries sheet.cells)
+  large_arrays-blanked = ap (filter_map (λ (e : Position × Cell). large_array_at e.0 e.1.content)) (entries-blanked r sheet.cells)
+      ∙ all_left large_array_at large_arrays r (entries sheet.cells)
 
   all_kept : (test : MergedCell → Bool) (rs : List MergedCell) → list_all test rs ≡ true → filter test rs ≡ rs
   all_kept test [] all = refl
-  all_kept test (s ∷ rs) all = let parts = both _ _ all in ap (λ b. cond b (s ∷ filter test rs) (filter test rs)) parts.0 ∙ ap (λ ss. s ∷ ss) (all_kept test rs parts.1)
+  all_kept test (s ∷ rs) all = let parts = both _ _ all in ap (λ b. cond b (s ∷ filter test rs) (filter test rs)) parts.0
+      ∙ ap (λ ss. s ∷ ss) (all_kept test rs parts.1)
 
   apart_anchor : (array : MergedCell) → holds array (anchor_place array) ≡ true → meets r array ≡ false → covers r (anchor_place array) ≡ false
   apart_anchor array own apart = go (holds r (anchor_place array)) refl
@@ -156,16 +173,20 @@ module _ (r : MergedCell) (sheet : Sheet) where
       go false there = refl
 
   -- where it meets no array of more than one cell, all of these are left
-  pub large_arrays_kept : have_arrays sheet ≡ true → meets_any (large_arrays_of sheet) r ≡ false → large_arrays_of (blanked_sheet r sheet) ≡ large_arrays_of sheet
+  pub large_arrays_kept : have_arrays sheet ≡ true → meets_any (large_arrays_of sheet) r ≡ false
+      → large_arrays_of (blanked_sheet r sheet) ≡ large_arrays_of sheet
   large_arrays_kept h none =
       large_arrays-blanked
       ∙ all_kept (λ array. not (covers r (anchor_place array))) (large_arrays_of sheet)
-      (all_pass position_cmp position_total exact_positions (λ p (c : Cell). large_array_at p c.content) (λ array. not (covers r (anchor_place array))) sheet.cells (λ place array at.
+      (all_pass position_cmp position_total exact_positions (λ p (c : Cell). large_array_at p c.content)
+      (λ array. not (covers r (anchor_place array))) sheet.cells (λ place array at.
       let large = in_large place (get sheet.cells place) array at in
       ap not (apart_anchor array (holds_anchor array (inside_found array ((keeps_arrays sheet h).inside place array large)))
       (none_in position_cmp position_total exact_positions (λ p (c : Cell). large_array_at p c.content) (meets r) sheet.cells none place array at))))
     where
-      in_large : (place : Position) (o : Option Cell) (array : MergedCell) → option_and_then (λ (c : Cell). large_array_at place c.content) o ≡ Some array → option_and_then (λ (c : Cell). array_at place c.content) o ≡ Some array
+      in_large : (place : Position) (o : Option Cell) (array : MergedCell)
+          → option_and_then (λ (c : Cell). large_array_at place c.content) o ≡ Some array
+          → option_and_then (λ (c : Cell). array_at place c.content) o ≡ Some array
       in_large place None array at = absurd (no_value array at)
       in_large place (Some cell) array at = where_large_is (array_at place cell.content) array at
 
@@ -194,10 +215,12 @@ module _ (r : MergedCell) (sheet : Sheet) where
   merges_stay : have_merges sheet ≡ true → have_merges next ≡ true
   merges_stay h =
       let old = keeps_merges sheet h in
-      have_merges_from next (record { merges = old.merges; apart = old.apart; arrays = λ place array at. old.arrays place array (large_left r sheet place array at).1 })
+      have_merges_from next
+      (record { merges = old.merges; apart = old.apart; arrays = λ place array at. old.arrays place array (large_left r sheet place array at).1 })
 
   -- a content that is left stood there
-  pub content_left : (place : Position) (cell : Cell) → get next.cells place ≡ Some cell → is_empty cell.content ≡ false → (covers r place ≡ false) × (get sheet.cells place ≡ Some cell)
+  pub content_left : (place : Position) (cell : Cell) → get next.cells place ≡ Some cell → is_empty cell.content ≡ false
+      → (covers r place ≡ false) × (get sheet.cells place ≡ Some cell)
   content_left place cell found filled =
       let it = was r sheet.cells place cell found in
       let parts = left_content r place it.old (sym (ap (λ (c : Cell). is_empty c.content) it.is) ∙ filled) in
@@ -212,13 +235,16 @@ module _ (r : MergedCell) (sheet : Sheet) where
       })
 
   trees_stay : have_trees sheet ≡ true → have_trees next ≡ true
-  trees_stay h = have_trees_from_cells_fit next (λ place. subst (λ o. IsTrue (entry_fits_at place o)) (sym (get-blanked r sheet.cells place)) (go place (get sheet.cells place) (cells_fit_from_trees sheet h place)))
+  trees_stay h = have_trees_from_cells_fit next
+      (λ place. subst (λ o. IsTrue (entry_fits_at place o)) (sym (get-blanked r sheet.cells place))
+      (go place (get sheet.cells place) (cells_fit_from_trees sheet h place)))
     where
       go : (place : Position) (o : Option Cell) → IsTrue (entry_fits_at place o) → IsTrue (entry_fits_at place (option_map (blanked_cell r place) o))
       go place None fits = refl
       go place (Some old) fits = by_cover (λ c. IsTrue (entry_fits_at place (Some c))) r place old refl fits
 
-  cells_inside : list_all (λ (e : Position × Cell). is_place e.0) (entries sheet.cells) ≡ true → list_all (λ (e : Position × Cell). is_place e.0) (entries next.cells) ≡ true
+  cells_inside : list_all (λ (e : Position × Cell). is_place e.0) (entries sheet.cells) ≡ true
+      → list_all (λ (e : Position × Cell). is_place e.0) (entries next.cells) ≡ true
   cells_inside h = all_entries position_cmp position_total exact_positions (λ (e : Position × Cell). is_place e.0) next.cells (λ place cell found.
       let it = was r sheet.cells place cell found in
       entry_holds position_cmp position_total exact_positions (λ (e : Position × Cell). is_place e.0) sheet.cells h place it.old it.found)
@@ -231,10 +257,12 @@ module _ (r : MergedCell) (sheet : Sheet) where
       let inner = both _ _ middle.0 in
       λ i. cells_inside inner.0 i && inner.1 i && middle.1 i && outer.1 i
 
-  fonts_stay : list_all (λ (e : Position × Cell). has_font e.1.style) (entries sheet.cells) ≡ true → list_all (λ (e : Position × Cell). has_font e.1.style) (entries next.cells) ≡ true
+  fonts_stay : list_all (λ (e : Position × Cell). has_font e.1.style) (entries sheet.cells) ≡ true
+      → list_all (λ (e : Position × Cell). has_font e.1.style) (entries next.cells) ≡ true
   fonts_stay h = all_entries position_cmp position_total exact_positions (λ (e : Position × Cell). has_font e.1.style) next.cells (λ place cell found.
       let it = was r sheet.cells place cell found in
-      let font : has_font it.old.style ≡ true = entry_holds position_cmp position_total exact_positions (λ (e : Position × Cell). has_font e.1.style) sheet.cells h place it.old it.found in
+      let font : has_font it.old.style ≡ true = entry_holds position_cmp position_total exact_positions
+      (λ (e : Position × Cell). has_font e.1.style) sheet.cells h place it.old it.found in
       ap (λ (c : Cell). has_font c.style) it.is ∙ by_cover (λ c. has_font c.style ≡ true) r place it.old font font)
 
   attributes_stay : have_attributes sheet ≡ true → have_attributes next ≡ true

@@ -20,7 +20,8 @@ module _ {K X Y : Type 0} (R : K → K → Ordering) (total : IsTotalOrder R) (e
   find-mapped [] q = refl
   find-mapped (e ∷ es) q = here (find-mapped es q) (eq_by_cmp R q e.0) refl
     where
-      here : find R q (mapped es) ≡ option_map (f q) (find R q es) → (b : Bool) → eq_by_cmp R q e.0 ≡ b → cond b (Some (f e.0 e.1)) (find R q (mapped es)) ≡ option_map (f q) (cond b (Some e.1) (find R q es))
+      here : find R q (mapped es) ≡ option_map (f q) (find R q es) → (b : Bool) → eq_by_cmp R q e.0 ≡ b
+          → cond b (Some (f e.0 e.1)) (find R q (mapped es)) ≡ option_map (f q) (cond b (Some e.1) (find R q es))
       here rest true is = ap (λ k. Some (f k e.1)) (sym (one_key R total exact q e.0 is))
       here rest false is = rest
 
@@ -106,7 +107,8 @@ module _ {K L X Y : Type 0} (R : K → K → Ordering) (S : L → L → Ordering
   tagged_below l above [] = tt
   tagged_below l above (e ∷ es) = here (tagged_below l above es) (make e.0 e.1)
     where
-      here : AllByRecursion (λ e. is_lt (S e.0 l) ≡ true) (tagged es) → (o : Option Y) → AllByRecursion (λ e. is_lt (S e.0 l) ≡ true) (cons_option (option_map (λ y. (tag e.0, y)) o) (tagged es))
+      here : AllByRecursion (λ e. is_lt (S e.0 l) ≡ true) (tagged es) → (o : Option Y)
+          → AllByRecursion (λ e. is_lt (S e.0 l) ≡ true) (cons_option (option_map (λ y. (tag e.0, y)) o) (tagged es))
       here rest None = rest
       here rest (Some y) = (above e.0, rest)
 

@@ -28,7 +28,8 @@ merges_differ a b other = decide (same_entry_value (MergesValue a) (MergesValue 
     (λ miss. miss)
 
 -- one more diff has one more change
-pub made_more : (ds : List Diff) (cs : List Change) (d : Diff) (c : Change) → map change_of ds ≡ map Some cs → change_of d ≡ Some c → map change_of (ds ++ d ∷ []) ≡ map Some (cs ++ c ∷ [])
+pub made_more : (ds : List Diff) (cs : List Change) (d : Diff) (c : Change) → map change_of ds ≡ map Some cs → change_of d ≡ Some c
+    → map change_of (ds ++ d ∷ []) ≡ map Some (cs ++ c ∷ [])
 made_more ds cs d c made is = map-append change_of ds (d ∷ []) ∙ (λ i. made i ++ is i ∷ []) ∙ sym (map-append Some cs (c ∷ []))
 
 -- what stays has no change
@@ -39,8 +40,10 @@ no_changes sheet = record { ordered = refl; here = λ key own. sym (changed_entr
 abbrev pub merges_change : Sheet → List MergedCell → Change
 merges_change sheet merges = (MergesKey sheet.id, (MergesValue sheet.merges, MergesValue merges))
 
-module _ (change : Sheet → Sheet) (merges : Sheet → List MergedCell) (sheet : Sheet) (cs : List Change) (is : IsSheetRecord change sheet cs) (stay : (change sheet).merges ≡ sheet.merges)
-    (below : AllByRecursion (λ c. is_lt (key_cmp c.0 (MergesKey sheet.id)) ≡ true) cs) (differ : same_entry_value (MergesValue sheet.merges) (MergesValue (merges sheet)) ≡ false) where
+module _ (change : Sheet → Sheet) (merges : Sheet → List MergedCell) (sheet : Sheet) (cs : List Change) (is : IsSheetRecord change sheet cs)
+    (stay : (change sheet).merges ≡ sheet.merges)
+    (below : AllByRecursion (λ c. is_lt (key_cmp c.0 (MergesKey sheet.id)) ≡ true) cs)
+    (differ : same_entry_value (MergesValue sheet.merges) (MergesValue (merges sheet)) ≡ false) where
   abbrev and_merges : Sheet → Sheet
   and_merges s = record (change s) { merges = merges s }
 
@@ -48,16 +51,19 @@ module _ (change : Sheet → Sheet) (merges : Sheet → List MergedCell) (sheet 
   last = merges_change sheet (merges sheet)
 
   none_yet : fin.find key_cmp (MergesKey sheet.id) cs ≡ None
-  none_yet = is.here (MergesKey sheet.id) refl ∙ ap (λ ms. changed_entry (Some (MergesValue sheet.merges)) (Some (MergesValue ms))) stay ∙ changed_entry-same (Some (MergesValue sheet.merges))
+  none_yet = is.here (MergesKey sheet.id) refl ∙ ap (λ ms. changed_entry (Some (MergesValue sheet.merges)) (Some (MergesValue ms))) stay
+      ∙ changed_entry-same (Some (MergesValue sheet.merges))
 
-  found_more : (key : EntryKey) → fin.find key_cmp key (cs ++ last ∷ []) ≡ cond (eq_by_cmp key_cmp key (MergesKey sheet.id)) (Some last.1) (fin.find key_cmp key cs)
+  found_more : (key : EntryKey)
+      → fin.find key_cmp key (cs ++ last ∷ []) ≡ cond (eq_by_cmp key_cmp key (MergesKey sheet.id)) (Some last.1) (fin.find key_cmp key cs)
   found_more key = find-append key_cmp key_total cs (MergesKey sheet.id) last.1 key none_yet
 
   itself : eq_by_cmp key_cmp (MergesKey sheet.id) (MergesKey sheet.id) ≡ true
   itself = (eq_by_cmp_equiv key_total).refl (MergesKey sheet.id)
 
   apart : (key : EntryKey) → (key ≢ MergesKey sheet.id) → eq_by_cmp key_cmp key (MergesKey sheet.id) ≡ false
-  apart key other = decide (eq_by_cmp key_cmp key (MergesKey sheet.id)) (λ hit. absurd (other (tells_apart exact_keys key (MergesKey sheet.id) hit))) (λ miss. miss)
+  apart key other = decide (eq_by_cmp key_cmp key (MergesKey sheet.id)) (λ hit. absurd (other (tells_apart exact_keys key (MergesKey sheet.id) hit)))
+      (λ miss. miss)
 
   others : (key : EntryKey) → (key ≢ MergesKey sheet.id) → fin.find key_cmp key (cs ++ last ∷ []) ≡ fin.find key_cmp key cs
   others key other = found_more key ∙ ap (λ b. cond b (Some last.1) (fin.find key_cmp key cs)) (apart key other)
@@ -67,9 +73,12 @@ module _ (change : Sheet → Sheet) (merges : Sheet → List MergedCell) (sheet 
       found_more (MergesKey sheet.id) ∙ ap (λ b. cond b (Some last.1) (fin.find key_cmp (MergesKey sheet.id) cs)) itself
       ∙ sym (ap (λ b. cond b None (Some (MergesValue sheet.merges, MergesValue (merges sheet)))) differ)
 
-  here : (key : EntryKey) → sheet_id_of key ≡ sheet.id → fin.find key_cmp key (cs ++ last ∷ []) ≡ changed_entry (Some (sheet_entry key sheet)) (Some (sheet_entry key (and_merges sheet)))
-  here (CellKey id place) own = others (CellKey id place) (λ same. let never : CellKey id place ≡ MergesKey sheet.id = same in cc) ∙ is.here (CellKey id place) own
-  here (LinkKey id place) own = others (LinkKey id place) (λ same. let never : LinkKey id place ≡ MergesKey sheet.id = same in cc) ∙ is.here (LinkKey id place) own
+  here : (key : EntryKey) → sheet_id_of key ≡ sheet.id
+      → fin.find key_cmp key (cs ++ last ∷ []) ≡ changed_entry (Some (sheet_entry key sheet)) (Some (sheet_entry key (and_merges sheet)))
+  here (CellKey id place) own = others (CellKey id place) (λ same. let never : CellKey id place ≡ MergesKey sheet.id = same in cc)
+      ∙ is.here (CellKey id place) own
+  here (LinkKey id place) own = others (LinkKey id place) (λ same. let never : LinkKey id place ≡ MergesKey sheet.id = same in cc)
+      ∙ is.here (LinkKey id place) own
   here (MergesKey id) own = ap (λ n. fin.find key_cmp (MergesKey n) (cs ++ last ∷ [])) own ∙ at_merges
 
   -- the changes and that of the merges are the record

@@ -19,7 +19,8 @@ use Rattle.edit_plans.specs.laws.AtIndex.{there, changed_at}
 -- some changes are those of the entries of a sheet, in the order of their keys
 pub record IsSheetRecord (change : Sheet → Sheet) (sheet : Sheet) (changes : List Change) : Type 0 where
   pub ordered : IsTrue (fin.is_sorted key_cmp changes)
-  pub here : (key : EntryKey) → sheet_id_of key ≡ sheet.id → fin.find key_cmp key changes ≡ changed_entry (Some (sheet_entry key sheet)) (Some (sheet_entry key (change sheet)))
+  pub here : (key : EntryKey) → sheet_id_of key ≡ sheet.id
+      → fin.find key_cmp key changes ≡ changed_entry (Some (sheet_entry key sheet)) (Some (sheet_entry key (change sheet)))
   pub elsewhere : (key : EntryKey) → sheet_id_of key ≢ sheet.id → fin.find key_cmp key changes ≡ None
 
 module _ (change : Sheet → Sheet) (bare : (s : Sheet) → bare_sheet (change s) ≡ bare_sheet s) (w : Book) (rules : IsWellFormed w)
@@ -53,14 +54,16 @@ module _ (change : Sheet → Sheet) (bare : (s : Sheet) → bare_sheet (change s
   frame_stays = ap frame_of book_is ∙ (λ i. record w { worksheets = map-changed change keeps_id bare_sheet bare sheet.id w.worksheets i })
 
   -- changes of a sheet are those of its workbook
-  pub sheet_record : (changes : List Change) (list : List Diff) → map change_of list ≡ map Some changes → IsSheetRecord change sheet changes → IsRecord w after list
+  pub sheet_record : (changes : List Change) (list : List Diff) → map change_of list ≡ map Some changes → IsSheetRecord change sheet changes
+      → IsRecord w after list
   sheet_record changes list made is = record {
     changes = changes;
     made_of = made;
     frame = frame_stays;
     ordered = is.ordered;
     exact = λ key. decide (sheet_id_of key == sheet.id)
-        (λ hit. let own = (unsigned_Decides (sheet_id_of key) sheet.id).0 hit in is.here key own ∙ sym (λ i. changed_entry (entry_before key own i) (entry_after key own i)))
+        (λ hit. let own = (unsigned_Decides (sheet_id_of key) sheet.id).0 hit in is.here key own
+        ∙ sym (λ i. changed_entry (entry_before key own i) (entry_after key own i)))
         (λ miss. let other = λ (same : sheet_id_of key ≡ sheet.id). true≢false (sym ((unsigned_Decides (sheet_id_of key) sheet.id).1 same) ∙ miss) in
         is.elsewhere key other ∙ sym (ap (changed_entry (entry_at w key)) (entry_other key other) ∙ changed_entry-same (entry_at w key)));
   }

@@ -13,7 +13,8 @@ loop-place-init c =
 
 pub blank_diff-requires : goal.blank_diff-requires
 blank_diff-requires c =
-    adds_kept c.loop-place.invariant (subst KeptCells c.cell_map-cells.ensures.map c.cell_map-cells.ensures.kept) c.next.new.self (c.in-Some.place, c.in-Some.cell) c.in-Some.is c.next.ensures.steps
+    adds_kept c.loop-place.invariant (subst KeptCells c.cell_map-cells.ensures.map c.cell_map-cells.ensures.kept) c.next.new.self
+    (c.in-Some.place, c.in-Some.cell) c.in-Some.is c.next.ensures.steps
 
 pub push_diff-requires-clause-list : goal.push_diff-requires-clause-list
 push_diff-requires-clause-list c = c.loop-place.invariant.kept
@@ -22,7 +23,9 @@ pub loop-place-preserved : goal.loop-place-preserved
 loop-place-preserved c =
     let made = (c.in_ok-diff.ensures {u = _}).made in
     adds_on c.loop-place.invariant (c.in-Some.place, c.in-Some.cell) c.in-Some.is c.next.ensures.steps
-    (c.in_ok-push_diff.ensures.made ∙ ap (λ d. c.loop-place.list ++ cons_option d []) (made ∙ ap (λ id. blank_diff id c.args.area (c.in-Some.place.now, c.in-Some.cell.now)) c.get_sheet_id-id.ensures)) c.in_ok-push_diff.ensures.kept
+    (c.in_ok-push_diff.ensures.made
+    ∙ ap (λ d. c.loop-place.list ++ cons_option d [])
+    (made ∙ ap (λ id. blank_diff id c.args.area (c.in-Some.place.now, c.in-Some.cell.now)) c.get_sheet_id-id.ensures)) c.in_ok-push_diff.ensures.kept
 
 pub returns-clause-made : goal.returns-clause-made
 returns-clause-made c = adds_all c.loop-place.invariant c.next.new.self c.in-None.is c.next.ensures.steps

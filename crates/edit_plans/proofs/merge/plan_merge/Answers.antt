@@ -13,7 +13,8 @@ returns-in_err-test_merge c =
     let p = err_from_is_err_and c.from_residual-in_err-test_merge.result c.from_residual-in_err-test_merge.ensures.1 in
     rw (p.1, p.2)
     (record {
-      planned = merge_refused c.args.workbook.now c.args.sheet c.in_ok-found.found.now (sym (c.in_ok-found.ensures {u = _})) c.args.area c.in_err-test_merge.field-0.0
+      planned = merge_refused c.args.workbook.now c.args.sheet c.in_ok-found.found.now
+          (sym (c.in_ok-found.ensures {u = _})) c.args.area c.in_err-test_merge.field-0.0
           (λ short. c.in_err-test_merge.ensures.sure (ap Err short)) (sym c.in_err-test_merge.ensures.tested);
     })
 
@@ -21,5 +22,6 @@ pub returns : goal.returns
 returns c =
     record {
       planned = merge_planned c.args.workbook.now c.args.sheet c.in_ok-found.found.now (sym (c.in_ok-found.ensures {u = _})) c.requires.rules
-          c.merge_record.result c.merge_record.ensures.kept c.merge_record.ensures.only c.args.area (sym (c.in_ok-test_merge.ensures {u = _}).tested) c.merge_record.ensures.made;
+          c.merge_record.result c.merge_record.ensures.kept c.merge_record.ensures.only c.args.area
+          (sym (c.in_ok-test_merge.ensures {u = _}).tested) c.merge_record.ensures.made;
     }

@@ -7,7 +7,11 @@ use Rattle.edit_plans.proofs.unmerge.plan_unmerge.Goals as goal
 pub returns-in_err-found : goal.returns-in_err-found
 returns-in_err-found c =
     let p = err_from_is_err_and c.from_residual.result c.from_residual.ensures.1 in
-    rw (p.1, p.2) (record { planned = unmerge_no_sheet c.args.workbook.now c.args.sheet c.args.row c.args.column c.in_err-found.field-0.0 (sym c.in_err-found.ensures) })
+    rw (p.1, p.2)
+    (record {
+      planned = unmerge_no_sheet c.args.workbook.now c.args.sheet c.args.row c.args.column c.in_err-found.field-0.0
+          (sym c.in_err-found.ensures);
+    })
 
 pub returns-in_err-place : goal.returns-in_err-place
 returns-in_err-place c =
@@ -17,7 +21,8 @@ returns-in_err-place c =
     let refused = simp to_z-of_z at c.in_err-place.ensures.place in
     rw (p.1, p.2)
     (record {
-      planned = unmerge_refused c.args.workbook.now c.args.sheet c.in_ok-found.found.now (sym (c.in_ok-found.ensures {u = _})) c.args.row c.args.column c.in_err-place.field-0.0
+      planned = unmerge_refused c.args.workbook.now c.args.sheet c.in_ok-found.found.now
+          (sym (c.in_ok-found.ensures {u = _})) c.args.row c.args.column c.in_err-place.field-0.0
           (λ short. c.in_err-place.ensures.sure (ap Err short)) (sym refused);
     })
 
@@ -29,5 +34,6 @@ returns c =
     let named = simp to_z-of_z at (c.in_ok-place.ensures {u = _}).named in
     record {
       planned = unmerge_planned c.args.workbook.now c.args.sheet c.in_ok-found.found.now (sym (c.in_ok-found.ensures {u = _})) c.requires.rules
-          c.unmerge_record.result c.unmerge_record.ensures.kept c.unmerge_record.ensures.only c.args.row c.args.column c.in_ok-place.place named (sym goes) c.unmerge_record.ensures.made;
+          c.unmerge_record.result c.unmerge_record.ensures.kept c.unmerge_record.ensures.only c.args.row c.args.column c.in_ok-place.place named
+          (sym goes) c.unmerge_record.ensures.made;
     }

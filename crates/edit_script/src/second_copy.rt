@@ -1,25 +1,20 @@
-ghost use Rattle.std.specs.Prelude.{◌≡◌, IfOk, OnOk, IsTrue, IsOkUnless};
+ghost use Rattle.std.specs.Prelude.{◌≡◌, IfOk, OnOk, IsOkUnless};
 ghost use Rattle.base_values.specs.declared.EditError.TheVariants.{NoMemory};
 ghost use Rattle.std.proofs.Props.{props};
 ghost use Rattle.sheet_rules.specs.WellFormed.{IsWellFormed};
-ghost use Rattle.sheet_history.specs.Untested.{hides_nothing};
 ghost use Rattle.edit_script.specs.Copies.{WhereCarried};
 
 use base_values::{EditError, copy_of};
 use script_editor::replay_bytes;
 use sheet_grid::{DefaultStyle, Workbook};
-use sheet_history::hides_nothing;
 use std::alloc::Global;
 
 /// A workbook that has the bytes of `sync` alone. It is well-formed, as replaying asks.
 #[derive(Drop)]
 pub(crate) struct SecondCopy {
     pub(crate) workbook: Workbook,
-    /// Whether it is known that no place is hidden, so that replaying a cell looks at no other one.
-    is_open: bool,
     plain: DefaultStyle,
     ghost rules: { IsWellFormed workbook } by { Prim.hlevel props },
-    ghost shown: { IsTrue is_open → IsTrue (hides_nothing workbook) } by { Prim.hlevel props },
 }
 
 impl SecondCopy {
@@ -30,11 +25,9 @@ impl SecondCopy {
         ensures only { IsOkUnless result NoMemory }
     {
         let workbook = copy_of(workbook)?;
-        let is_open = hides_nothing(&workbook);
         let plain = DefaultStyle::new(alloc)?;
         Ok(SecondCopy {
             workbook,
-            is_open,
             plain,
         })
     }
@@ -51,12 +44,6 @@ impl SecondCopy {
         ensures done { WhereCarried bytes.now self.old.workbook (λ later. OnOk result (self.new.workbook ≡ later)) }
         ensures only { WhereCarried bytes.now self.old.workbook (λ later. IsOkUnless result NoMemory) }
     {
-        replay_bytes(
-            alloc,
-            &self.plain,
-            &mut self.workbook,
-            &mut self.is_open,
-            bytes,
-        )
+        replay_bytes(alloc, &self.plain, &mut self.workbook, bytes)
     }
 }

@@ -1,10 +1,9 @@
-ghost use Rattle.std.specs.Prelude.{◌≡◌, Err, List, IsTrue};
+ghost use Rattle.std.specs.Prelude.{◌≡◌, Err, List};
 ghost use Rattle.base_values.specs.Answers.{Edits};
 ghost use Rattle.base_values.specs.declared.EditError.TheVariants.{ParseDiffs};
 ghost use Rattle.sheet_rules.specs.WellFormed.{IsWellFormed};
 ghost use Rattle.sheet_history.specs.declared.QueueDiffs.{QueueDiffs as Entry};
 ghost use Rattle.sheet_history.specs.Diffs.{Replays};
-ghost use Rattle.sheet_history.specs.Untested.{hides_nothing};
 ghost use Rattle.sheet_wire.specs.QueueBytes.{FitsQueue, spell_queue};
 ghost use Rattle.sheet_wire.specs.QueueBytes.{IsNoQueue};
 
@@ -19,23 +18,19 @@ use std::alloc::Global;
 ///
 /// `ParseDiffs` exactly where the bytes spell no queue; the workbook is then as it was. `DiffRefused`
 /// with the numbers of the first entry and diff that do not fit; exactly the entries before it stand.
-/// After `NoMemory` some first entries stand. The workbook stays well-formed. `is_open` tells where it
-/// is known that no place of the workbook is hidden, as `replay_in_place` says.
+/// After `NoMemory` some first entries stand. The workbook stays well-formed.
 pub fn replay_bytes(
     alloc: Global,
     plain: &DefaultStyle,
     workbook: &mut Workbook,
-    is_open: &mut bool,
     bytes: &[u8],
 ) -> Result<(), EditError>
     requires rules { IsWellFormed workbook.old }
-    requires shown { IsTrue is_open.old → IsTrue (hides_nothing workbook.old) }
     ensures replays { (entries : List Entry) → FitsQueue entries → bytes.now ≡ spell_queue entries → Replays result workbook.old workbook.new entries }
     ensures unspelled { IsNoQueue bytes.now → Edits result workbook.old workbook.new (Err ParseDiffs) }
     ensures parsed { result ≡ Err ParseDiffs → IsNoQueue bytes.now }
     ensures rules { IsWellFormed workbook.new }
-    ensures shown { IsTrue is_open.new → IsTrue (hides_nothing workbook.new) }
 {
     let queue = decode_queue(alloc, plain.shared(), bytes)?;
-    replay_in_place(alloc, workbook, is_open, queue.as_slice())
+    replay_in_place(alloc, workbook, queue.as_slice())
 }

@@ -26,10 +26,7 @@ impl SecondCopy {
     {
         let workbook = copy_of(workbook)?;
         let plain = DefaultStyle::new(alloc)?;
-        Ok(SecondCopy {
-            workbook,
-            plain,
-        })
+        Ok(SecondCopy { workbook, plain })
     }
 
     /// The workbook as it is now.

@@ -99,10 +99,7 @@ impl<'r, 'a, A: Axis, M: LineMap<A>> LeafTest for Following<'r, 'a, A, M> {
 
 /// Whether a formula has to be kept, told by its corners.
 #[tactic(auto, unfolding(crate::specs::MustKeep::must_keep))]
-pub(crate) fn must_keep_along<A: Axis, M: LineMap<A>>(
-    route: &Route<'_, A, M>,
-    tree: &Node,
-) -> bool
+pub(crate) fn must_keep_along<A: Axis, M: LineMap<A>>(route: &Route<'_, A, M>, tree: &Node) -> bool
     ensures { result ≡ must_keep (way route.now) tree.now }
 {
     has_leaf(tree, &Following { route })

@@ -183,7 +183,7 @@ cell_fits : Reads CellFits cell_words
 cell_fits words t =
     step (Fit (λ sheet. sheet < 2 ^ 32)) (Fit CellFits) (sheet_word words) _ (sheet_fits words t)
     (λ sheet s. step (Fit (λ (place : Reference). IsNamed place.row place.column)) (Fit CellFits) (word reference_of sheet.1) _
-        (word_fits (λ (place : Reference). IsNamed place.row place.column) reference_of reference_fits sheet.1 s.1)
+    (word_fits (λ (place : Reference). IsNamed place.row place.column) reference_of reference_fits sheet.1 s.1)
     (λ place p. ((s.0, p.0), p.1)))
 
 area_words_fit : Reads AreaFits area_words
@@ -242,25 +242,58 @@ alone_fits command h [] t = h
 alone_fits command h (next ∷ words) t = tt
 
 each_fits : AllByRecursion Readable commands
-each_fits =
-    (and_text_fits CellFits cell_words set_to cell_fits set_fits,
-    (exactly_fits CellFits cell_words Get cell_fits (λ cell c. c),
-    (and_text_fits AreaFits area_words (λ area text. Some (Array area text)) area_words_fit (λ area text a t. (a, t)),
-    (and_text_fits CellFits cell_words (λ cell text. Some (Link cell text)) cell_fits (λ cell text c t. (c, t)),
-    (exactly_fits CellFits cell_words Unlink cell_fits (λ cell c. c),
-    (exactly_fits AreaFits area_words Merge area_words_fit (λ area a. a),
-    (exactly_fits CellFits cell_words Unmerge cell_fits (λ cell c. c),
-    (exactly_fits LinesFit lines_words InsertRows lines_fit (λ lines l. l),
-    (exactly_fits LinesFit lines_words InsertColumns lines_fit (λ lines l. l),
-    (exactly_fits LinesFit lines_words DeleteRows lines_fit (λ lines l. l),
-    (exactly_fits LinesFit lines_words DeleteColumns lines_fit (λ lines l. l),
-    (exactly_fits MoveFits move_words MoveRows move_fits (λ move m. m),
-    (exactly_fits MoveFits move_words MoveColumns move_fits (λ move m. m),
-    (alone_fits Undo tt,
-    (alone_fits Redo tt,
-    (alone_fits Sync tt,
-    (alone_fits Show tt,
-    tt)))))))))))))))))
+each_fits = (
+  and_text_fits CellFits cell_words set_to cell_fits set_fits,
+  (
+    exactly_fits CellFits cell_words Get cell_fits (λ cell c. c),
+    (
+      and_text_fits AreaFits area_words (λ area text. Some (Array area text)) area_words_fit (λ area text a t. (a, t)),
+      (
+        and_text_fits CellFits cell_words (λ cell text. Some (Link cell text)) cell_fits (λ cell text c t. (c, t)),
+        (
+          exactly_fits CellFits cell_words Unlink cell_fits (λ cell c. c),
+          (
+            exactly_fits AreaFits area_words Merge area_words_fit (λ area a. a),
+            (
+              exactly_fits CellFits cell_words Unmerge cell_fits (λ cell c. c),
+              (
+                exactly_fits LinesFit lines_words InsertRows lines_fit (λ lines l. l),
+                (
+                  exactly_fits LinesFit lines_words InsertColumns lines_fit (λ lines l. l),
+                  (
+                    exactly_fits LinesFit lines_words DeleteRows lines_fit (λ lines l. l),
+                    (
+                      exactly_fits LinesFit lines_words DeleteColumns lines_fit (λ lines l. l),
+                      (
+                        exactly_fits MoveFits move_words MoveRows move_fits (λ move m. m),
+                        (
+                          exactly_fits MoveFits move_words MoveColumns move_fits (λ move m. m),
+                          (
+                            alone_fits Undo tt,
+                            (
+                              alone_fits Redo tt,
+                              (
+                                alone_fits Sync tt,
+                                (
+                                  alone_fits Show tt,
+                                  tt,
+                                ),
+                              ),
+                            ),
+                          ),
+                        ),
+                      ),
+                    ),
+                  ),
+                ),
+              ),
+            ),
+          ),
+        ),
+      ),
+    ),
+  ),
+)
 
 found_fits : {A : Type 0} (P : A → Type 0) (test : A → Bool) (entries : List A) → AllByRecursion P entries → IfSome (find test entries) P
 found_fits P test [] h = tt

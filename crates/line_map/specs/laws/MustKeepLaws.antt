@@ -202,22 +202,24 @@ module _ (w : Way) (is : IsWay w) where
     Told b = Decides (not (b && is_given_up w (moved_corner w true first) (moved_corner w true second))) (range_back b ≡ node.Range sheet first second)
 
     lost_told : (a b : Node) → is_given_up w (moved_corner w true first) (moved_corner w true second) ≡ true → range_back true ≡ moved w.from (following (back w)) (node.Colon a b) → Told true
-    lost_told a b given e =
-        (λ h. no_true (is_given_up w (moved_corner w true first) (moved_corner w true second)) given h,
-        λ same. no_range _ _ sheet first second (sym (e ∙ moved_colon w.from (following (back w)) a b) ∙ same))
+    lost_told a b given e = (
+      λ h. no_true (is_given_up w (moved_corner w true first) (moved_corner w true second)) given h,
+      λ same. no_range _ _ sheet first second (sym (e ∙ moved_colon w.from (following (back w)) a b) ∙ same),
+    )
 
     both_told : (r s : Position) (f : place_goes (exposing w true) (place_of w.from first) ≡ Some r) (g : place_goes (exposing w true) (place_of w.from second) ≡ Some s) →
         is_exposed w sheet first second ≡ true → (whole : Bool) → is_whole true r s f g ≡ whole → Told true
     both_told r s f g exposed false e =
         (λ _. range_returns true r s f g (exposed_of (low true r s f g) (high true r s f g) true false (exposed_parts exposed).0 e), λ _. ap not (given_up true r s f g ∙ e))
-    both_told r s f g exposed true e =
-        (λ h. no_true (is_given_up w (moved_corner w true first) (moved_corner w true second)) (given_up true r s f g ∙ e) h,
-        λ same.
-            let was : was_whole ≡ false = (exposed_parts exposed).1 in
-            let hidden = exposed_of (low true r s f g) (high true r s f g) true true (exposed_parts exposed).0 e in
-            let corners = same_ranges sheet (low_back true r s f g) (high_back true r s f g) first second (sym (whole_returns true r s f g hidden) ∙ same) in
-            let is_still : was_whole ≡ true = sym (λ i. w.along.of (is_whole_rows (corners.0 i) (corners.1 i)) (is_whole_columns (corners.0 i) (corners.1 i))) ∙ whole_back true r s f g ∙ e in
-            absurd (cc))
+    both_told r s f g exposed true e = (
+      λ h. no_true (is_given_up w (moved_corner w true first) (moved_corner w true second)) (given_up true r s f g ∙ e) h,
+      λ same.
+          let was : was_whole ≡ false = (exposed_parts exposed).1 in
+          let hidden = exposed_of (low true r s f g) (high true r s f g) true true (exposed_parts exposed).0 e in
+          let corners = same_ranges sheet (low_back true r s f g) (high_back true r s f g) first second (sym (whole_returns true r s f g hidden) ∙ same) in
+          let is_still : was_whole ≡ true = sym (λ i. w.along.of (is_whole_rows (corners.0 i) (corners.1 i)) (is_whole_columns (corners.0 i) (corners.1 i))) ∙ whole_back true r s f g ∙ e in
+          absurd (cc),
+    )
 
     range_at : (b : Bool) → is_exposed w sheet first second ≡ b → (o : Option Position) → place_goes (exposing w b) (place_of w.from first) ≡ o → (u : Option Position) → place_goes (exposing w b) (place_of w.from second) ≡ u → Told b
     range_at true exposed (Some r) f (Some s) g = both_told r s f g exposed _ refl

@@ -8,7 +8,7 @@ pub returns-in_err-found : goal.returns-in_err-found
 returns-in_err-found c =
     let p = err_from_is_err_and c.from_residual.result c.from_residual.ensures.1 in
     let refused = input_no_sheet c.args.workbook.now c.args.sheet c.args.row c.args.column c.args.content
-        c.in_err-found.field-0.0 (sym c.in_err-found.ensures) in
+    c.in_err-found.field-0.0 (sym c.in_err-found.ensures) in
     rw (p.1, p.2) (record { planned = refused })
 
 pub returns-in_err-place : goal.returns-in_err-place
@@ -18,7 +18,7 @@ returns-in_err-place c =
     let p = err_from_is_err_and c.from_residual-in_err-place.result c.from_residual-in_err-place.ensures.1 in
     let refused = simp to_z-of_z at c.in_err-place.ensures in
     let planned = input_refused c.args.workbook.now c.args.sheet c.args.row c.args.column c.args.content
-        c.in_ok-found.found.now c.in_err-place.field-0.0 (sym (c.in_ok-found.ensures {u = _})) (sym refused) in
+    c.in_ok-found.found.now c.in_err-place.field-0.0 (sym (c.in_ok-found.ensures {u = _})) (sym refused) in
     rw (p.1, p.2) (record { planned = planned })
 
 pub input_list-requires-clause-place : goal.input_list-requires-clause-place

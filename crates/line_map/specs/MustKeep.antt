@@ -1,5 +1,5 @@
 -- Which formulas a map on lines does not give back, told by their corners.
-use Rattle.std.specs.Prelude.{ℕ, Bool, true, false, ◌&&◌, List, Option, Some, None, is_none}
+use Rattle.std.specs.Prelude.{◌≡◌, ℕ, Bool, true, false, ◌&&◌, List, Option, Some, None, is_none}
 use Rattle.base_values.specs.declared.Position.{Position}
 use Rattle.base_axis.specs.Along.{Along}
 use Rattle.formula_tree.specs.declared.Corner.{Corner}
@@ -8,6 +8,7 @@ use Rattle.formula_tree.specs.Corners.{is_whole_rows, is_whole_columns, lower_co
 use Rattle.formula_tree.specs.OnSheet.{is_on_sheet}
 use Rattle.formula_back.specs.Leaves.{LeafTests, has_leaf}
 use Rattle.line_edits.specs.declared.EditKind.{EditKind}
+use Rattle.line_edits.specs.declared.EditKind.TheVariants.{Insert, Delete, Move}
 use Rattle.line_edits.specs.Edit.{opposite_of}
 use Rattle.line_map.specs.declared.tree_at.TreeAt.{TreeAt}
 use Rattle.line_map.specs.Alone.{edit_way}
@@ -38,6 +39,22 @@ kept_leaves w = record { reference = keeps_reference w; range = keeps_range w }
 -- a formula has to be kept where one of its references or ranges has to be
 unfoldable pub must_keep : Way → Node → Bool
 must_keep w tree = has_leaf (kept_leaves w) tree
+
+-- a move keeps a range for one reason only: it is exposed, both of its corners have images, and the range between these is whole along
+-- the axis
+pub record BecomesWhole (w : Way) (sheet : Option (List ℕ)) (first second : Corner) : Type 0 where
+  pub exposed : is_exposed w sheet first second ≡ true
+  pub one : Corner
+  pub other : Corner
+  pub first_goes : moved_corner w true first ≡ Some one
+  pub second_goes : moved_corner w true second ≡ Some other
+  pub whole : w.along.of (is_whole_rows (lower_corner w.to one other) (higher_corner w.to one other)) (is_whole_columns (lower_corner w.to one other) (higher_corner w.to one other)) ≡ true
+
+-- the edit is a move
+abbrev pub is_move : EditKind → Bool
+is_move (Move first count delta) = true
+is_move (Insert first count) = false
+is_move (Delete first count) = false
 
 -- likewise of a formula that names its own sheet and the edited one, and whose cell goes to a place
 abbrev pub must_keep_between : Way → TreeAt → Option Position → Bool

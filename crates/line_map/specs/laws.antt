@@ -4,6 +4,7 @@ pub mod TrialLaws
 pub mod TreeLaws
 pub mod CornersBack
 pub mod MustKeepLaws
+pub mod MoveLaws
 pub mod ContentLaws
 pub mod MergedCellLaws
 pub mod MergeLaws

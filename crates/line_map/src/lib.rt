@@ -24,9 +24,7 @@ pub use contents::Nothing;
 pub use follow::{Follow, there_and_back};
 pub use follower::Follower;
 pub use keeping::must_keep;
-pub use laws::{
-    entries_of_maps, followed_is_placed, kept_by_corners, moves_keep_whole_ranges,
-};
+pub use laws::{entries_of_maps, followed_is_placed, kept_by_corners, moves_keep_whole_ranges};
 pub use line_edits::{Block, EditKind, LineEdit, LineMap, image_of_opposite, move_by_single_lines};
 pub use place_map::{KeptMap, Parts, kept_parts, lost_places, overlaid_places, restored_places};
 pub use route::Route;

@@ -30,10 +30,12 @@ use Rattle.edit_plans.specs.laws.PlanLaws.{plan_refused, plan_made, no_sheet, sh
 use Rattle.edit_plans.specs.laws.SheetRecords.{sheet_record, sheet_keeps}
 
 -- a rectangle that an array may fill: its first place is one of the sheet
-pub array_goes : (sheet : Sheet) (r area : MergedCell) → array_area sheet r ≡ Ok area → (place_of r.row r.column ≡ Ok (anchor_place r)) × (free_area sheet r ≡ Ok area)
+pub array_goes : (sheet : Sheet) (r area : MergedCell) → array_area sheet r ≡ Ok area
+    → (place_of r.row r.column ≡ Ok (anchor_place r)) × (free_area sheet r ≡ Ok area)
 array_goes sheet r area goes = go (place_of r.row r.column) refl goes
   where
-    go : (o : Result Position EditError) → place_of r.row r.column ≡ o → and_then o (λ place. free_area sheet r) ≡ Ok area → (place_of r.row r.column ≡ Ok (anchor_place r)) × (free_area sheet r ≡ Ok area)
+    go : (o : Result Position EditError) → place_of r.row r.column ≡ o → and_then o (λ place. free_area sheet r) ≡ Ok area
+        → (place_of r.row r.column ≡ Ok (anchor_place r)) × (free_area sheet r ≡ Ok area)
     go (Ok place) named it = (named ∙ ap Ok (sym (place_is r.row r.column place named)), it)
     go (Err error) named it = absurd (let never : ◌≡◌ {A = Result MergedCell EditError} (Err error) (Ok area) = it in cc)
 
@@ -86,12 +88,14 @@ module _ (w : Book) (index : ℕ) (r : MergedCell) (tree : Node) where
             kept = kept;
           })
 
-      of_result : (result : Result (List Diff) EditError) → IfOk result (λ list. list ≡ array_diffs area tree sheet) → IfOk result IsKeptList → IfOk result (λ list. IsPlan w list later)
+      of_result : (result : Result (List Diff) EditError) → IfOk result (λ list. list ≡ array_diffs area tree sheet) → IfOk result IsKeptList
+          → IfOk result (λ list. IsPlan w list later)
       of_result (Ok list) is kept = plan list is kept
       of_result (Err error) is kept = tt
 
       -- where it takes it
-      pub array_planned : (result : Result (List Diff) EditError) → IfOk result (λ list. list ≡ array_diffs area tree sheet) → IfOk result IsKeptList → IsOkUnless result NoMemory
+      pub array_planned : (result : Result (List Diff) EditError) → IfOk result (λ list. list ≡ array_diffs area tree sheet) → IfOk result IsKeptList
+          → IsOkUnless result NoMemory
           → Plans result w (array_put index r tree w)
       unfolding array_put
       array_planned result is kept only =

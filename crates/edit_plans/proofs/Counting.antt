@@ -29,10 +29,12 @@ module _ {X : Type 0} (test : X → Bool) where
   counts_none all = record { low = grind (arith, ints); sum = grind (arith, ints) }
 
   -- one more is seen, and counts if it passes
-  pub counts_next : (all left rest : List X) (x : X) (count : ℤ) → left ≡ x ∷ rest → Counts all left count → Counts all rest (count +ℤ cond (test x) (pos 1) (pos 0))
+  pub counts_next : (all left rest : List X) (x : X) (count : ℤ) → left ≡ x ∷ rest → Counts all left count
+      → Counts all rest (count +ℤ cond (test x) (pos 1) (pos 0))
   counts_next all left rest x count step so_far = by_test (test x) so_far.low (ap (λ xs. count +ℤ pos (passing xs)) (sym step) ∙ so_far.sum)
     where
-      by_test : (b : Bool) → pos 0 ≤ℤ count → (count +ℤ pos (length (cond b (x ∷ filter test rest) (filter test rest)))) ≡ pos (passing all) → Counts all rest (count +ℤ cond b (pos 1) (pos 0))
+      by_test : (b : Bool) → pos 0 ≤ℤ count → (count +ℤ pos (length (cond b (x ∷ filter test rest) (filter test rest)))) ≡ pos (passing all)
+          → Counts all rest (count +ℤ cond b (pos 1) (pos 0))
       by_test true low sum = record { low = grind (arith, ints, low); sum = grind (arith, ints, sum) }
       by_test false low sum = record { low = grind (arith, ints, low); sum = grind (arith, ints, sum) }
 
@@ -58,7 +60,8 @@ counts_fit test last m left count low high inside so_far =
     (so_far.low, grind (arith, ints))
 
 -- the line of an entry at hand is a number of the code
-pub line_fits : {X : Type 0} (last : ℤ) (left rest : List (ℤ × X)) (e : ℤ × X) → last ≤ℤ pos 1048576 → All (λ e. IsLine last e.0) left → left ≡ e ∷ rest → to_z w32 (of_z w32 e.0) ≡ e.0
+pub line_fits : {X : Type 0} (last : ℤ) (left rest : List (ℤ × X)) (e : ℤ × X) → last ≤ℤ pos 1048576 → All (λ e. IsLine last e.0) left
+    → left ≡ e ∷ rest → to_z w32 (of_z w32 e.0) ≡ e.0
 line_fits last left rest e high inside step = let on : IsLine last e.0 = first_holds (λ e. IsLine last e.0) inside step in omega (arith, ints, on.0, on.1, high)
 
 -- a number of the code that is 1 or 0

@@ -24,7 +24,8 @@ one_more n first next last h k = grind (arith, ints)
 
 module _ {X : Type 0} (last : ℤ) where
   -- so many ascending lines behind a first one end at a last
-  room : (first : ℤ) (es : List (ℤ × X)) → first ≤ℤ last → T (below_all int_cmp first es) → T (is_sorted int_cmp es) → AllByRecursion (λ e. e.0 ≤ℤ last) es → (pos (length es) +ℤ first) ≤ℤ last
+  room : (first : ℤ) (es : List (ℤ × X)) → first ≤ℤ last → T (below_all int_cmp first es) → T (is_sorted int_cmp es)
+      → AllByRecursion (λ e. e.0 ≤ℤ last) es → (pos (length es) +ℤ first) ≤ℤ last
   room first [] low below sorted all = grind (arith, ints)
   room first (e ∷ es) low below sorted all =
       one_more (length es) first e.0 last (later first e.0 (left _ _ below)) (room e.0 es all.0 (left _ _ sorted) (right _ _ sorted) all.1)

@@ -36,7 +36,8 @@ module _ (in_way : ℤ → ℤ → ℕ) (first count delta f d : ℤ) (fits_firs
   wide_delta : wide d ≡ delta
   wide_delta = widened delta d fits_delta is_delta
 
-  pub grown_on : (c r : ℤ) → FitsSigned w32 count → c ≡ to_z w32 (of_z w32 count) → r ≡ pos (in_way (wide (wide f +ℤ wide c)) (wide (wide (wide f +ℤ wide c) +ℤ wide d))) → r ≤ℤ pos 1048576
+  pub grown_on : (c r : ℤ) → FitsSigned w32 count → c ≡ to_z w32 (of_z w32 count)
+      → r ≡ pos (in_way (wide (wide f +ℤ wide c)) (wide (wide (wide f +ℤ wide c) +ℤ wide d))) → r ≤ℤ pos 1048576
       → int_lt (pos 0) (wide d) ≡ true → wide (wide d +ℤ wide r) ≡ grown_either (int_lt (pos 0) delta)
   grown_on c r fits_count is_count counted few on =
       let behind : wide (wide f +ℤ wide c) ≡ (first +ℤ count) = two_summed first count f c fits_first fits_count wide_first (widened count c fits_count is_count) in
@@ -44,7 +45,8 @@ module _ (in_way : ℤ → ℤ → ℕ) (first count delta f d : ℤ) (fits_firs
       few_more delta d r _ fits_delta wide_delta (counted ∙ (λ i. pos (in_way (behind i) (end i)))) few
       ∙ sym (ap grown_either (ap (int_lt (pos 0)) (sym wide_delta) ∙ on))
 
-  pub grown_back : (r : ℤ) → r ≡ pos (in_way (wide (wide f +ℤ wide d)) (wide (wide f -ℤ pos 1))) → r ≤ℤ pos 1048576 → int_lt (pos 0) (wide d) ≡ false → wide (wide d -ℤ wide r) ≡ grown_either (int_lt (pos 0) delta)
+  pub grown_back : (r : ℤ) → r ≡ pos (in_way (wide (wide f +ℤ wide d)) (wide (wide f -ℤ pos 1))) → r ≤ℤ pos 1048576 → int_lt (pos 0) (wide d) ≡ false
+      → wide (wide d -ℤ wide r) ≡ grown_either (int_lt (pos 0) delta)
   grown_back r counted few back =
       let from : wide (wide f +ℤ wide d) ≡ (first +ℤ delta) = two_summed first delta f d fits_first fits_delta wide_first wide_delta in
       let before : wide (wide f -ℤ pos 1) ≡ (first -ℤ pos 1) = one_less first f fits_first wide_first in

@@ -45,10 +45,14 @@ module _ (sheet : Sheet) (place : Position) (cell : Cell) (r : MergedCell) (show
   next = with_cell sheet place (Some cell)
 
   pub put_here : get next.cells place ≡ Some cell
-  put_here = get-with_entry position_total sheet.cells place (Some cell) place ∙ ap (λ b. cond b (Some cell) (get sheet.cells place)) (own_key position_cmp position_total exact_positions place)
+  put_here =
+      get-with_entry position_total sheet.cells place (Some cell) place
+      ∙ ap (λ b. cond b (Some cell) (get sheet.cells place)) (own_key position_cmp position_total exact_positions place)
 
   pub put_elsewhere : (q : Position) → (q ≢ place) → get next.cells q ≡ get sheet.cells q
-  put_elsewhere q other = get-with_entry position_total sheet.cells place (Some cell) q ∙ ap (λ b. cond b (Some cell) (get sheet.cells q)) (apart_keys position_cmp position_total exact_positions q place other)
+  put_elsewhere q other =
+      get-with_entry position_total sheet.cells place (Some cell) q
+      ∙ ap (λ b. cond b (Some cell) (get sheet.cells q)) (apart_keys position_cmp position_total exact_positions q place other)
 
   array_here : (q : Position) (array : MergedCell) → q ≡ place → array_in next q ≡ Some array → r ≡ array
   array_here q array same at =
@@ -79,10 +83,15 @@ module _ (sheet : Sheet) (place : Position) (cell : Cell) (r : MergedCell) (show
       each q array at (inl same) = ap is_inside (sym (array_here q array same at)) ∙ inside
       each q array at (inr other) = (keeps_arrays sheet h).inside q array (array_there q array other at)
 
-      pair : (p q : Position) (a b : MergedCell) → (p ≢ q) → large_array_in next p ≡ Some a → large_array_in next q ≡ Some b → (p ≡ place) ⊎ (p ≢ place) → (q ≡ place) ⊎ (q ≢ place) → meets a b ≡ false
+      pair : (p q : Position) (a b : MergedCell) → (p ≢ q) → large_array_in next p ≡ Some a → large_array_in next q ≡ Some b
+          → (p ≡ place) ⊎ (p ≢ place) → (q ≡ place) ⊎ (q ≢ place) → meets a b ≡ false
       pair p q a b differ at_p at_q (inl one) (inl two) = absurd (differ (one ∙ sym two))
-      pair p q a b differ at_p at_q (inl one) (inr two) = ap (λ s. meets s b) (sym (large_here p a one at_p).0) ∙ (free.arrays q b two (large_there q b two at_q)).0
-      pair p q a b differ at_p at_q (inr one) (inl two) = meets_turned a b ∙ ap (λ s. meets s a) (sym (large_here q b two at_q).0) ∙ (free.arrays p a one (large_there p a one at_p)).0
+      pair p q a b differ at_p at_q (inl one) (inr two) =
+          ap (λ s. meets s b) (sym (large_here p a one at_p).0)
+          ∙ (free.arrays q b two (large_there q b two at_q)).0
+      pair p q a b differ at_p at_q (inr one) (inl two) =
+          meets_turned a b ∙ ap (λ s. meets s a) (sym (large_here q b two at_q).0)
+          ∙ (free.arrays p a one (large_there p a one at_p)).0
       pair p q a b differ at_p at_q (inr one) (inr two) = (keeps_arrays sheet h).apart p q a b differ (large_there p a one at_p) (large_there q b two at_q)
 
   pub array-merges : have_merges sheet ≡ true → have_merges next ≡ true
@@ -99,13 +108,16 @@ module _ (sheet : Sheet) (place : Position) (cell : Cell) (r : MergedCell) (show
         arrays = λ p q array c at found filled. covered p q array c at found filled (one_or_two p place) (one_or_two q place);
       })
     where
-      merged : (q : Position) (c : Cell) → get next.cells q ≡ Some c → is_empty c.content ≡ false → (q ≡ place) ⊎ (q ≢ place) → list_any (λ merge. covers merge q) sheet.merges ≡ false
+      merged : (q : Position) (c : Cell) → get next.cells q ≡ Some c → is_empty c.content ≡ false → (q ≡ place) ⊎ (q ≢ place)
+          → list_any (λ merge. covers merge q) sheet.merges ≡ false
       merged q c found filled (inl same) = ap (λ p. list_any (λ merge. covers merge p) sheet.merges) same ∙ free.uncovered
       merged q c found filled (inr other) = (keeps_hidden sheet h).merges q c (sym (put_elsewhere q other) ∙ found) filled
 
       covered : (p q : Position) (array : MergedCell) (c : Cell) → large_array_in next p ≡ Some array → get next.cells q ≡ Some c → is_empty c.content ≡ false
           → (p ≡ place) ⊎ (p ≢ place) → (q ≡ place) ⊎ (q ≢ place) → covers array q ≡ false
       covered p q array c at found filled (inl one) (inl two) = (λ i. covers (sym (large_here p array one at).0 i) (two i)) ∙ free.first
-      covered p q array c at found filled (inl one) (inr two) = ap (λ s. covers s q) (sym (large_here p array one at).0) ∙ free.blank q c two (sym (put_elsewhere q two) ∙ found) filled
+      covered p q array c at found filled (inl one) (inr two) =
+          ap (λ s. covers s q) (sym (large_here p array one at).0)
+          ∙ free.blank q c two (sym (put_elsewhere q two) ∙ found) filled
       covered p q array c at found filled (inr one) (inl two) = ap (covers array) two ∙ (free.arrays p array one (large_there p array one at)).1
       covered p q array c at found filled (inr one) (inr two) = (keeps_hidden sheet h).arrays p q array c (large_there p array one at) (sym (put_elsewhere q two) ∙ found) filled

@@ -112,9 +112,12 @@ module _ (r : MergedCell) (tree : Node) (sheet : Sheet) where
 
   found_at : (b : Bool) → same ≡ b → fin.find key_cmp key (front b ++ blank_changes r sheet) ≡ changed_entry (Some old) (Some new)
   found_at true is = none_yet ∙ sym (ap (λ b. cond b None (Some (old, new))) is)
-  found_at false is = ap (λ b. cond b (Some (old, new)) (fin.find key_cmp key (blank_changes r sheet))) (own_key key_cmp key_total exact_keys key) ∙ sym (ap (λ b. cond b None (Some (old, new))) is)
+  found_at false is =
+      ap (λ b. cond b (Some (old, new)) (fin.find key_cmp key (blank_changes r sheet))) (own_key key_cmp key_total exact_keys key)
+      ∙ sym (ap (λ b. cond b None (Some (old, new))) is)
 
-  found_other : (b : Bool) (k : EntryKey) → eq_by_cmp key_cmp k key ≡ false → fin.find key_cmp k (front b ++ blank_changes r sheet) ≡ fin.find key_cmp k (blank_changes r sheet)
+  found_other : (b : Bool) (k : EntryKey) → eq_by_cmp key_cmp k key ≡ false
+      → fin.find key_cmp k (front b ++ blank_changes r sheet) ≡ fin.find key_cmp k (blank_changes r sheet)
   found_other true k other = refl
   found_other false k other = ap (λ b. cond b (Some (old, new)) (fin.find key_cmp k (blank_changes r sheet))) other
 
@@ -122,7 +125,9 @@ module _ (r : MergedCell) (tree : Node) (sheet : Sheet) where
   next = with_array sheet r tree
 
   put : get next.cells place ≡ entry
-  put = get-with_entry position_total (blanked r sheet.cells) place entry place ∙ ap (λ b. cond b entry (get (blanked r sheet.cells) place)) (own_key position_cmp position_total exact_positions place)
+  put =
+      get-with_entry position_total (blanked r sheet.cells) place entry place
+      ∙ ap (λ b. cond b entry (get (blanked r sheet.cells) place)) (own_key position_cmp position_total exact_positions place)
 
   stays : (k : EntryKey) → sheet_id_of k ≡ sheet.id → eq_by_cmp key_cmp k key ≡ false → sheet_entry k (blanked_sheet r sheet) ≡ sheet_entry k next
   stays (CellKey id q) own other = ap CellValue (sym (get-with_entry position_total (blanked r sheet.cells) place entry q ∙ ap (λ b. cond b entry (get (blanked r sheet.cells) q)) (apart_keys position_cmp position_total exact_positions q place (λ same.
@@ -149,7 +154,8 @@ module _ (r : MergedCell) (tree : Node) (sheet : Sheet) where
   pub array_record : IsSheetRecord (λ s. with_array s r tree) sheet array_changes
   array_record = record { ordered = in_order same; here = here; elsewhere = elsewhere }
 
-  made : (b : Bool) → map change_of (cond b [] (CellDiff sheet.id place (get sheet.cells place) entry ∷ []) ++ blank_diffs r sheet) ≡ map Some (front b ++ blank_changes r sheet)
+  made : (b : Bool)
+      → map change_of (cond b [] (CellDiff sheet.id place (get sheet.cells place) entry ∷ []) ++ blank_diffs r sheet) ≡ map Some (front b ++ blank_changes r sheet)
   made true = made_changes r sheet.id (entries sheet.cells)
   made false = ap (λ cs. Some (key, (old, new)) ∷ cs) (made_changes r sheet.id (entries sheet.cells))
 

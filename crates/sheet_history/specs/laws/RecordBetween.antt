@@ -81,7 +81,8 @@ module _ {X : Type 0} (make : Position → EntryKey) where
       (λ apart. ap (λ b. cond b (Some e.1) (find position_cmp place es)) apart ∙ free_place place es parts.1)
 
 -- of three lists of keys that have no key
-apart_from : (key : EntryKey) (one two three : List EntryKey) → has_key key (one ++ two ++ three) ≡ false → (has_key key one ≡ false) × (has_key key two ≡ false) × (has_key key three ≡ false)
+apart_from : (key : EntryKey) (one two three : List EntryKey) → has_key key (one ++ two ++ three) ≡ false
+    → (has_key key one ≡ false) × (has_key key two ≡ false) × (has_key key three ≡ false)
 apart_from key one two three none =
     let front = neither (has_key key (one ++ two)) (has_key key three) (sym (list_any-append (eq_by_cmp key_cmp key) (one ++ two) three) ∙ none) in
     let first = neither (has_key key one) (has_key key two) (sym (list_any-append (eq_by_cmp key_cmp key) one two) ∙ front.0) in
@@ -123,7 +124,8 @@ no_change value (Some one) None = refl
 no_change value (Some one) (Some two) = ap (λ b. cond b None (Some (value, value))) ((same_value_decides value value).1 refl)
 
 -- at a key of neither workbook nothing differs
-unchanged : (earlier later : Book) (key : EntryKey) → has_key key (book_keys earlier ++ book_keys later) ≡ false → changed_entry (entry_at earlier key) (entry_at later key) ≡ None
+unchanged : (earlier later : Book) (key : EntryKey) → has_key key (book_keys earlier ++ book_keys later) ≡ false
+    → changed_entry (entry_at earlier key) (entry_at later key) ≡ None
 unfolding entry_at
 unchanged earlier later key none =
     let parts = neither (has_key key (book_keys earlier)) (has_key key (book_keys later)) (sym (list_any-append (eq_by_cmp key_cmp key) (book_keys earlier) (book_keys later)) ∙ none) in
@@ -131,7 +133,8 @@ unchanged earlier later key none =
     ∙ no_change (nothing_at key) (sheet_of earlier (sheet_id_of key)) (sheet_of later (sheet_id_of key))
 
 -- at each key there is exactly the change there
-pub get-changes_between : (earlier later : Book) (key : EntryKey) → get (changes_between earlier later) key ≡ changed_entry (entry_at earlier key) (entry_at later key)
+pub get-changes_between : (earlier later : Book) (key : EntryKey)
+    → get (changes_between earlier later) key ≡ changed_entry (entry_at earlier key) (entry_at later key)
 get-changes_between earlier later key =
     get-from_entries key_total (filter_map (change_at earlier later) (book_keys earlier ++ book_keys later)) key
     ∙ find-entries_of key_cmp key_total exact_keys (λ k. changed_entry (entry_at earlier k) (entry_at later k)) key (book_keys earlier ++ book_keys later)

@@ -1,4 +1,4 @@
-use Rattle.std.proofs.Common.{◌∙◌, subst, sym, refl, w32, SFits, rules}
+use Rattle.std.proofs.Common.{◌∙◌, subst, sym, w32, SFits, rules}
 use Rattle.std.specs.Prelude.{IfOk, IsTrue}
 use Rattle.std.proofs.lemmas.Int.{to_z-of_z}
 use Rattle.base_values.specs.declared.Position.{Position}

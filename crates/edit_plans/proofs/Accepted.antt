@@ -1,4 +1,5 @@
 -- An accepted edit by entries has a record.
+use Rattle.std.specs.Prelude.{IsTrue}
 use Rattle.std.proofs.Common.{◌≡◌, ℕ, ℤ, true, false, cond, not, List, [], ◌∷◌, Option, Some, None, Result, Ok, Err, refl, ap, sym, subst, ◌∙◌}
 use Rattle.base_values.specs.declared.EditError.{EditError}
 use Rattle.base_values.specs.declared.EditError.TheVariants.{InvalidArea, MergeOverlap, ArrayCell, NoMerge}
@@ -7,7 +8,11 @@ use Rattle.base_values.specs.Answers.{and_then, map_ok}
 use Rattle.base_values.specs.KeyMap.{with_entry}
 use Rattle.base_values.specs.Places.{place_of}
 use Rattle.base_axis.specs.declared.MergedCell.{MergedCell}
+use Rattle.base_axis.specs.Rectangles.{anchor_place}
+use Rattle.formula_tree.specs.declared.Node.{Node}
 use Rattle.cell_content.specs.declared.Content.{Content}
+use Rattle.cell_content.specs.declared.Content.TheVariants.{Array}
+use Rattle.cell_content.specs.Fitting.{fits_at}
 use Rattle.sheet_grid.specs.declared.Link.{Link}
 use Rattle.sheet_grid.specs.Merges.{merge_holding}
 use Rattle.sheet_grid.specs.Sheet.{Sheet, link_put}
@@ -24,6 +29,8 @@ use Rattle.edit_plans.specs.Links.{link_set}
 use Rattle.edit_plans.specs.Merging.{merge_diffs, merge_made, merge_undone, merged_in, merges_without, unmerged_at, with_merge, without_merge}
 use Rattle.edit_plans.specs.laws.InputLaws.{input_exact, input_well_formed}
 use Rattle.edit_plans.specs.laws.LinkLaws.{link_exact, link_well_formed}
+use Rattle.edit_plans.specs.ArrayInputs.{array_area, array_diffs, array_put, with_array}
+use Rattle.edit_plans.proofs.ArrayPlans.{array_exact, array_is, array_well_formed}
 use Rattle.edit_plans.proofs.Merges.{merge_exact, merge_well_formed, unmerge_exact, unmerge_well_formed}
 use Rattle.edit_plans.proofs.MergePlans.{may_merge}
 
@@ -104,3 +111,17 @@ merge_has_record index r w later rules how =
   where
     merged : (sheet : Sheet) → is_merge r ≡ true → meets_any sheet.merges r ≡ false → meets_any (large_arrays_of sheet) r ≡ false → merged_in r sheet ≡ Ok (with_merge sheet r)
     merged sheet is free clear = λ i. cond (not (is i)) (Err InvalidArea) (cond (free i) (Err MergeOverlap) (cond (clear i) (Err ArrayCell) (Ok (with_merge sheet r))))
+
+pub array_has_record : (index : ℕ) (r : MergedCell) (tree : Node) (w later : Book) → IsWellFormed w → IsTrue (fits_at (anchor_place r) (Array tree r.width r.height)) → array_put index r tree w ≡ Ok later → HasRecord w later
+unfolding array_put
+array_has_record index r tree w later rules fits how =
+    let it = edited w index (λ s. map_ok (λ area. with_array s area tree) (array_area s r)) later how in
+    go it.sheet it.next it.at it.later_is (array_area it.sheet r) refl it.done
+  where
+    go : (sheet next : Sheet) → sheet_at w index ≡ Ok sheet → with_sheet w index next ≡ later → (o : Result MergedCell EditError) → array_area sheet r ≡ o
+        → map_ok (λ area. with_array sheet area tree) o ≡ Ok next → HasRecord w later
+    go sheet next at is (Ok area) goes e =
+        has_record w index next (with_array sheet r tree) later (array_diffs r tree sheet)
+        (ap (λ a. Ok (with_array sheet a tree)) (array_is w index r tree sheet at rules fits area goes) ∙ e) is
+        (array_exact w index r tree sheet at rules fits area goes) (array_well_formed w index r tree sheet at rules fits area goes)
+    go sheet next at is (Err error) goes e = absurd (let never : ◌≡◌ {A = Result Sheet EditError} (Err error) (Ok next) = e in cc)

@@ -67,14 +67,17 @@ module _ (w : Book) (index : ℕ) (r : MergedCell) (tree : Node) where
       may : MayFill sheet r × (r ≡ area)
       may = may_fill sheet r area parts.1
 
-      well_formed : IsWellFormed (with_sheet w index (with_array sheet r tree))
-      well_formed = sheet_keeps (λ s. with_array s r tree) (λ s. refl) w rules index sheet at (λ s found h.
+      pub array_is : r ≡ area
+      array_is = may.1
+
+      pub array_well_formed : IsWellFormed (with_sheet w index (with_array sheet r tree))
+      array_well_formed = sheet_keeps (λ s. with_array s r tree) (λ s. refl) w rules index sheet at (λ s found h.
           let same : sheet ≡ s = same_Some sheet s (sym (there w rules index sheet at) ∙ found) in
           subst (λ t. KeepsSheetRules (with_array t r tree)) same
           (array_rules r sheet may.0 (subst KeepsSheetRules (sym same) h) tree (place_inside r.row r.column (anchor_place r) parts.0) fits))
 
-      exact : IsRecord w (with_sheet w index (with_array sheet r tree)) (array_diffs r tree sheet)
-      exact = sheet_record (λ s. with_array s r tree) (λ s. refl) w rules index sheet at (array_changes r tree sheet) (array_diffs r tree sheet) (array_made r tree sheet) (array_record r tree sheet)
+      pub array_exact : IsRecord w (with_sheet w index (with_array sheet r tree)) (array_diffs r tree sheet)
+      array_exact = sheet_record (λ s. with_array s r tree) (λ s. refl) w rules index sheet at (array_changes r tree sheet) (array_diffs r tree sheet) (array_made r tree sheet) (array_record r tree sheet)
 
       abbrev later : Book
       later = with_sheet w index (with_array sheet area tree)
@@ -83,8 +86,8 @@ module _ (w : Book) (index : ℕ) (r : MergedCell) (tree : Node) where
       plan list is kept =
           subst (λ a. IsPlan w list (with_sheet w index (with_array sheet a tree))) may.1
           (record {
-            exact = subst (IsRecord w (with_sheet w index (with_array sheet r tree))) (sym (is ∙ ap (λ a. array_diffs a tree sheet) (sym may.1))) exact;
-            rules = well_formed;
+            exact = subst (IsRecord w (with_sheet w index (with_array sheet r tree))) (sym (is ∙ ap (λ a. array_diffs a tree sheet) (sym may.1))) array_exact;
+            rules = array_well_formed;
             kept = kept;
           })
 

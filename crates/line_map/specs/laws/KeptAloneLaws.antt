@@ -1,10 +1,9 @@
 -- An edit and its opposite give a formula back exactly where it has not to be kept.
 use Rattle.std.proofs.Common.{◌≡◌, Bool, true, false, Option, Some, None, refl, ap, sym, ◌∙◌}
-use Rattle.std.specs.Prelude.{not, is_some, if◌then◌else◌, IfSome}
+use Rattle.std.specs.Prelude.{not, is_some, if◌then◌else◌}
 use Rattle.std.specs.Bool.{Decides}
 use Rattle.std.proofs.lemmas.Bool.Decides.{Decides-like}
 use Rattle.base_values.specs.declared.Position.{Position}
-use Rattle.base_values.specs.Places.{IsPlace}
 use Rattle.base_tables.specs.Folding.{same_folded}
 use Rattle.base_axis.specs.Along.{Along, IsAxis}
 use Rattle.line_edits.specs.declared.EditKind.{EditKind}
@@ -13,7 +12,7 @@ use Rattle.line_edits.specs.Moves.{place_image}
 use Rattle.line_edits.specs.laws.PlaceLaws.{image_inverse}
 use Rattle.line_map.specs.declared.tree_at.TreeAt.{TreeAt}
 use Rattle.line_map.specs.Alone.{edit_way}
-use Rattle.line_map.specs.MustKeep.{must_keep, must_keep_between, must_keep_at, there_and_back}
+use Rattle.line_map.specs.MustKeep.{must_keep_between, must_keep_at, there_and_back}
 use Rattle.line_map.specs.TreeAt.{tree_goes, tree_at_moved, tree_at_carried, way_of_tree, TreeAtLies}
 use Rattle.line_map.specs.Trees.{target, is_exposed, tree_carried}
 use Rattle.line_map.specs.Way.{Way, IsWay, back}

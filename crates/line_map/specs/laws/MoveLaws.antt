@@ -1,5 +1,5 @@
 -- Where every line has an image, only ranges that become whole have to be kept.
-use Rattle.std.proofs.Common.{◌≡◌, ℕ, ℤ, Bool, true, false, List, Option, Some, None, refl, ap, sym, ◌∙◌, arith}
+use Rattle.std.proofs.Common.{◌≡◌, ℕ, ℤ, Bool, true, false, List, Option, Some, None, refl, ap, ◌∙◌, arith}
 use Rattle.std.specs.Prelude.{◌&&◌, is_some, is_none}
 use Rattle.base_values.specs.declared.Position.{Position}
 use Rattle.base_values.specs.Places.{IsLine}
@@ -10,13 +10,13 @@ use Rattle.formula_tree.specs.OnSheet.{is_on_sheet}
 use Rattle.formula_tree.specs.Placed.{is_placed_range}
 use Rattle.line_edits.specs.declared.EditKind.{EditKind}
 use Rattle.line_edits.specs.declared.EditKind.TheVariants.{Insert, Delete, Move}
-use Rattle.line_edits.specs.Edit.{image_at, moved_by, IsValid}
+use Rattle.line_edits.specs.Edit.{image_at, IsValid}
 use Rattle.line_edits.specs.Moves.{at_line, place_image}
 use Rattle.line_edits.specs.laws.Images.{move_image, move_parts}
 use Rattle.line_map.specs.MustKeep.{keeps_reference, is_given_up, keeps_range, BecomesWhole, is_move}
 use Rattle.line_map.specs.Trees.{corner_of, is_exposed, moved_corner}
 use Rattle.line_map.specs.Way.{Way, IsWay, place_goes}
-use Rattle.line_map.specs.laws.CornersBack.{place_of, exposing, moved_goes, stands_inside}
+use Rattle.line_map.specs.laws.CornersBack.{place_of, moved_goes, stands_inside}
 
 -- every line of the axis has an image
 abbrev pub LosesNone : Way → Type 0

@@ -1,5 +1,5 @@
-use Rattle.std.proofs.Common.{◌≡◌, true, not, Some, None, ap, sym, ◌∙◌}
-use Rattle.std.specs.Prelude.{is_some, if◌then◌else◌}
+use Rattle.std.proofs.Common.{not, Some, ap, sym, ◌∙◌}
+use Rattle.std.specs.Prelude.{if◌then◌else◌}
 use Rattle.std.proofs.lemmas.Bool.Decides.{Decides-at}
 use Rattle.base_tables.specs.Folding.{same_folded}
 use Rattle.line_edits.specs.Moves.{place_image}
@@ -7,7 +7,7 @@ use Rattle.line_map.specs.declared.tree_at.TreeAt.{TreeAt}
 use Rattle.line_map.specs.Alone.{edit_way}
 use Rattle.line_map.specs.MustKeep.{must_keep, must_keep_between, must_keep_at}
 use Rattle.line_map.specs.TreeAt.{tree_at, tree_goes}
-use Rattle.line_map.specs.Way.{Way, way}
+use Rattle.line_map.specs.Way.{Way}
 use Rattle.line_map.specs.laws.KeptAloneLaws.{kept_alone}
 use Rattle.line_map.proofs.keeping.must_keep.Goals as goal
 

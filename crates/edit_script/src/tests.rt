@@ -156,7 +156,7 @@ const ROWS: [(&str, &str); 12] = [
 ];
 
 /// Scripts that edit columns and move lines, each with its answers.
-const COLUMNS: [(&str, &str); 9] = [
+const COLUMNS: [(&str, &str); 11] = [
     (
         "set 0 B1 =A1\ninsert-columns 0 1 2\nget 0 D1",
         "ok\nok\nvalue =C1\n",
@@ -193,10 +193,18 @@ const COLUMNS: [(&str, &str); 9] = [
         "merge 0 B2:B5\nmove-rows 0 2 2 2",
         "ok\nerror SplitsMerge\n",
     ),
+    (
+        "set 0 B1 b\nset 0 C1 c\nset 0 D1 d\nset 0 E1 e\nmove-columns 0 2 2 2\nget 0 B1\nget 0 C1\nget 0 D1\nget 0 E1",
+        "ok\nok\nok\nok\nok\nvalue d\nvalue e\nvalue b\nvalue c\n",
+    ),
+    (
+        "move-columns 0 16383 1 1\nmove-columns 0 16383 1 2",
+        "ok\nerror TargetOutOfBounds\n",
+    ),
 ];
 
 /// Scripts with arrays, merges and links, each with its answers.
-const AREAS: [(&str, &str); 8] = [
+const AREAS: [(&str, &str); 11] = [
     (
         "array 1 A0 1\narray 0 A0 1\narray 0 XFE1 1\narray 0 XFD1:XFE1 1",
         "error InvalidSheet\nerror InvalidRow\nerror InvalidColumn\nerror InvalidArea\n",
@@ -224,6 +232,18 @@ const AREAS: [(&str, &str); 8] = [
     (
         "unlink 0 A0\nunlink 0 A1\nlink 2 A1 x\nlink 0 XFE1 x",
         "error InvalidRow\nok\nerror InvalidSheet\nerror InvalidColumn\n",
+    ),
+    (
+        "merge 0 A1:A1\nunmerge 0 A1",
+        "error InvalidArea\nerror NoMerge\n",
+    ),
+    (
+        "merge 0 A1:B2\nmerge 0 B2:C3\nset 0 B2 1",
+        "ok\nerror MergeOverlap\nerror CoveredCell\n",
+    ),
+    (
+        "array 0 A1:B1 =1\nset 0 B1 2\nmerge 0 A1:B1",
+        "ok\nerror ArrayCell\nerror ArrayCell\n",
     ),
     (
         "link 0 A1 a\\nb\nshow\nset 0 A1\nunlink 0 A1",

@@ -1,3 +1,1 @@
-pub mod LeafEquations
-pub mod LeafLaws
 pub mod MovedNumbers

@@ -1,7 +1,6 @@
 pub mod Way
 pub mod Trial
 pub mod Trees
-pub mod MustKeep
 pub mod Contents
 pub mod MergedCells
 pub mod Merges

@@ -2,9 +2,6 @@ pub mod Equals
 pub mod WayLaws
 pub mod TrialLaws
 pub mod TreeLaws
-pub mod CornersBack
-pub mod MustKeepLaws
-pub mod MoveLaws
 pub mod ContentLaws
 pub mod MergedCellLaws
 pub mod MergeLaws
@@ -14,4 +11,3 @@ pub mod AttributeLaws
 pub mod TreeAtEquals
 pub mod TreeAtLaws
 pub mod AloneLaws
-pub mod KeptAloneLaws

@@ -1,4 +1,5 @@
 pub mod CellEquals
+pub mod ComputedEquals
 pub mod DimensionEquals
 pub mod DimensionLaws
 pub mod FittingLaws

@@ -1,0 +1,10 @@
+pub mod Spellable
+pub mod Machine
+pub mod Document
+pub mod PlannedBy
+pub mod Sound
+pub mod BothWays
+pub mod Opened
+pub mod Stands
+pub mod Values
+pub mod Installed

@@ -1,0 +1,11 @@
+//! A workbook as a user of a spreadsheet edits it: with undo, redo, a queue for other copies and
+//! computed values.
+//!
+//! It keeps diffs. The layer above sees the machine that keeps whole earlier and later workbooks:
+//! each call takes every state of the machine that the model stands for to the machine's next one.
+#![tactic(auto)]
+
+mod install;
+mod recalc;
+
+pub use recalc::{ClearAll, Recalc};

@@ -1,7 +1,6 @@
 -- Cells that a rectangle covers lose their contents.
-use Rattle.std.proofs.Common.{◌≡◌, Option}
+use Rattle.std.proofs.Common.{map, Option}
 use Rattle.std.specs.Prelude.{if◌then◌else◌}
-use Rattle.std.specs.List.{map}
 use Rattle.std.specs.FinMap as fin
 use Rattle.std.specs.FinMap.{FinMap}
 use Rattle.base_values.specs.declared.Position.{Position}

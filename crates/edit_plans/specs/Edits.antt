@@ -1,13 +1,16 @@
 -- The edits of a workbook: what each changes, when it is refused, and its record.
-use Rattle.std.proofs.Common.{ℕ, ℤ, pos, List, [], ◌∷◌, Bool, false, Option, Result, Ok, Err}
-use Rattle.std.specs.Prelude.{int_lt, ◌||◌}
+use Rattle.std.proofs.Common.{ℕ, ℤ, pos, List, [], ◌∷◌, Bool, true, false, Option, Result, Ok, Err}
+use Rattle.std.specs.Prelude.{int_lt, ◌||◌, IsTrue}
 use Rattle.std.specs.Ordering.{int_eq}
 use Rattle.base_values.specs.declared.EditError.{EditError}
 use Rattle.base_values.specs.Answers.{and_then}
 use Rattle.base_axis.specs.Along.{Along}
 use Rattle.base_axis.specs.declared.MergedCell.{MergedCell}
+use Rattle.base_axis.specs.Rectangles.{anchor_place}
 use Rattle.formula_tree.specs.declared.Node.{Node}
 use Rattle.cell_content.specs.declared.Content.{Content}
+use Rattle.cell_content.specs.declared.Content.TheVariants.{Array}
+use Rattle.cell_content.specs.Fitting.{fits_at}
 use Rattle.line_edits.specs.declared.EditKind.{EditKind}
 use Rattle.line_edits.specs.declared.EditKind.TheVariants.{Move}
 use Rattle.sheet_grid.specs.declared.Link.{Link}
@@ -17,8 +20,9 @@ use Rattle.sheet_actions.specs.Edited.{lines_edited}
 use Rattle.sheet_history.specs.declared.Diff.{Diff}
 use Rattle.sheet_history.specs.declared.LineAxis.{LineAxis}
 use Rattle.sheet_history.specs.LineDiffs.{along_of}
-use Rattle.sheet_history.specs.Records.{line_record, record_between}
-use Rattle.edit_plans.specs.Inputs.{input_put}
+use Rattle.sheet_history.specs.Records.{line_record}
+use Rattle.edit_plans.specs.StandInRecords.{record_between}
+use Rattle.edit_plans.specs.Inputs.{IsInput, input_put}
 use Rattle.edit_plans.specs.ArrayInputs.{array_put}
 use Rattle.edit_plans.specs.Links.{link_set}
 use Rattle.edit_plans.specs.Merging.{merge_made, merge_undone}
@@ -40,6 +44,18 @@ pub data Edit : Type 0 where
   Lines : ℕ → LineAxis → EditKind → Edit
   -- the first row or column of those that are moved, how many, and by how many, hidden ones in the way aside
   MoveLines : ℕ → LineAxis → ℤ → ℤ → ℤ → Edit
+
+-- whether an edit is one of entries, not of lines
+abbrev pub is_of_entries : Edit → Bool
+is_of_entries (Lines index axis kind) = false
+is_of_entries (MoveLines index axis first count delta) = false
+is_of_entries edit = true
+
+-- what a content that is put has to be: it may stand at its place, and it is an array just where it is put in a rectangle
+abbrev pub IsGiven : Edit → Type 0
+IsGiven (Input index row column content) = IsInput row column content
+IsGiven (ArrayInput index r tree) = IsTrue (fits_at (anchor_place r) (Array tree r.width r.height))
+IsGiven edit = Unit {0}
 
 -- the move of lines of a sheet, by the hidden ones in the way too
 abbrev pub grown_move : Along → ℤ → ℤ → ℤ → Sheet → EditKind

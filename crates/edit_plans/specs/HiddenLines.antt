@@ -7,11 +7,12 @@ use Rattle.base_axis.specs.Along.{Along}
 use Rattle.base_axis.specs.Rectangles.{is_between}
 use Rattle.sheet_grid.specs.declared.LineAttr.{LineAttr}
 use Rattle.sheet_grid.specs.Sheet.{Sheet}
+use Rattle.sheet_lines.specs.Kept.{lines_of}
 
 -- how many lines from a first to a last are hidden. No line outside the sheet is
 abbrev pub hidden_between : Along → Sheet → ℤ → ℤ → ℕ
 hidden_between a sheet first last =
-    length (filter (λ (entry : ℤ × LineAttr). entry.1.hidden && is_between first last entry.0) (entries (a.of sheet.rows sheet.columns)))
+    length (filter (λ (entry : ℤ × LineAttr). entry.1.hidden && is_between first last entry.0) (entries (lines_of a sheet)))
 
 -- a move on grows by the hidden lines from behind the block to one behind where it would end; a move back by those from where it would
 -- begin to before the block

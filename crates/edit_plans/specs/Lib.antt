@@ -1,3 +1,4 @@
+pub mod StandInRecords
 pub mod Plans
 pub mod Inputs
 pub mod Links

@@ -15,6 +15,12 @@ pub record IsPlan (earlier : Book) (list : List Diff) (later : Book) : Type 0 wh
   pub rules : IsWellFormed later
   pub kept : IsKeptList list
 
+-- what holds of an accepted edit: the later workbook is well-formed, and differs from the earlier one in what a list has
+pub record HasRecord (earlier later : Book) : Type 0 where
+  pub list : List Diff
+  pub exact : IsRecord earlier later list
+  pub rules : IsWellFormed later
+
 -- a plan returns the record of the edit's change, or the edit's first refusal. Only where a change is expected may it be out of memory
 pub record Plans (result : Result (List Diff) EditError) (book : Book) (expected : Result Book EditError) : Type 0 where
   pub planned : IfOk result (λ list. IsOkAnd expected (IsPlan book list))

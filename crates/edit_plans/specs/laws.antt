@@ -1,0 +1,4 @@
+pub mod StandInRecordLaws
+pub mod StandInBetween
+pub mod StandInBothWays
+pub mod StandInSound

@@ -6,23 +6,39 @@ use Rattle.std.specs.Ordering.{int_cmp}
 use Rattle.std.specs.Cmp.{int_cmp_total}
 use Rattle.std.specs.FinMap.{FinMap, entries, get, get-empty}
 use Rattle.std.proofs.lemmas.Map.Lookups.{exact_signed}
+use Rattle.base_values.specs.declared.Position.{Position}
 use Rattle.base_axis.specs.Along.{Along}
 use Rattle.line_edits.specs.declared.EditKind.{EditKind}
 use Rattle.base_maps.specs.Carried.{lost_map}
 use Rattle.line_edits.specs.Edit.{image_at}
 use Rattle.base_maps.specs.laws.Gathering.{get-lost_map}
+use Rattle.sheet_grid.specs.declared.Cell.{Cell}
 use Rattle.sheet_grid.specs.declared.LineAttr.{LineAttr}
 use Rattle.sheet_grid.specs.Lines.{is_plain}
 use Rattle.sheet_grid.specs.Sheet.{Sheet}
 use Rattle.sheet_grid.specs.Book.{Book}
 use Rattle.sheet_rules.specs.laws.EntryLaws.{both}
-use Rattle.sheet_rules.specs.WellFormed.{have_attributes, is_row, is_column, is_size, is_width, is_row_style, is_column_style, IsWellFormed}
+use Rattle.sheet_rules.specs.WellFormed.{has_font, have_attributes, is_row, is_column, is_size, is_width, is_row_style, is_column_style, IsWellFormed}
 use Rattle.sheet_lines.specs.Kept.{lines_of, of_sheet, kept_lines}
 use Rattle.sheet_lines.specs.Sheets.{sheet_of}
 use Rattle.sheet_history.specs.laws.Entries.{entry_holds}
 use Rattle.sheet_history.specs.laws.RuleLaws.{sheet_rules}
 use Rattle.sheet_wire.specs.LinesBytes.{IsKeptOfLines}
-use Rattle.script_editor.proofs.Fits.{attributes_of}
+
+-- what rows and columns have of their own
+record Attributes (sheet : Sheet) : Type 0 where
+  rows : list_all (λ (entry : ℤ × LineAttr). is_row entry.1) (entries sheet.rows) ≡ true
+  columns : list_all (λ (entry : ℤ × LineAttr). is_column entry.1) (entries sheet.columns) ≡ true
+
+attributes_of : (sheet : Sheet) → have_attributes sheet ≡ true → Attributes sheet
+unfolding have_attributes
+attributes_of sheet all =
+    let row_test : Bool = list_all (λ (entry : ℤ × LineAttr). is_row entry.1) (entries sheet.rows) in
+    let column_test : Bool = list_all (λ (entry : ℤ × LineAttr). is_column entry.1) (entries sheet.columns) in
+    let font_test : Bool = list_all (λ (entry : Position × Cell). has_font entry.1.style) (entries sheet.cells) in
+    let one = both (row_test && column_test) font_test all in
+    let two = both row_test column_test one.0 in
+    record { rows = two.0; columns = two.1 }
 
 abbrev IsOwn : LineAttr → Type 0
 IsOwn attr = is_plain attr ≡ false

@@ -1,14 +1,12 @@
-mod Entering
-mod Fits
-mod InputSteps
+mod EntrySteps
 mod KeptLines
 mod LinePlans
 mod LineSteps
+mod MoveSteps
 mod Lists
-mod Open
-mod Own
 mod Recording
 mod Refusals
 mod Replaying
 mod Sounds
+mod Spelled
 mod Tested

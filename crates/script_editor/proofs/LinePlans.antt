@@ -27,12 +27,12 @@ use Rattle.sheet_history.specs.declared.LineAxis.{LineAxis}
 use Rattle.sheet_history.specs.declared.LineAxis.TheVariants.{Rows, Columns}
 use Rattle.sheet_history.specs.LineDiffs.{along_of, is_pushed_past, stays_inside, is_there_inside}
 use Rattle.sheet_history.specs.Records.{IsLineEdit}
+use Rattle.sheet_history.specs.laws.PutLaws.{ok_or-some}
 use Rattle.sheet_actions.specs.GreatestLine.{greatest_line}
 use Rattle.sheet_actions.specs.Planned.{refusal_of, unless_refused, lines_planned}
 use Rattle.sheet_actions.specs.Whole.{LeavesWhole, IsAllowed}
 use Rattle.sheet_actions.specs.laws.OwnSheets.{own_found}
 use Rattle.sheet_actions.specs.laws.PlannedLaws.{valid_unrefused, whole_unrefused, planned_allowed}
-use Rattle.script_editor.proofs.Entering.{found_some}
 use Rattle.script_editor.proofs.Lists.{passes_at}
 
 -- ---- no cell is pushed past the last line
@@ -116,7 +116,7 @@ module _ (w : Book) (rules : IsWellFormed w) (index : ℕ) (axis : LineAxis) (ki
 
   of_sheet : (sheet : Sheet) → sheet_at w index ≡ Ok sheet → (o : Option EditError) → refusal_of a kind sheet ≡ o → unless_refused o (sheet.id, kind) ≡ Ok plan → IsPlanned w index axis kind plan
   of_sheet sheet at None free h =
-      let found = found_some (slice_get w.worksheets index) InvalidSheet sheet at in
+      let found = ok_or-some InvalidSheet (slice_get w.worksheets index) sheet at in
       let inside = passes_at stands_inside w.worksheets index sheet found (well_formed_parts w rules).inside in
       record {
         sheet = sheet;

@@ -1,8 +1,7 @@
 -- Lines that are inserted, deleted or moved are a sound step.
-use Rattle.std.proofs.Common.{◌≡◌, ℕ, true, List, [], ◌∷◌, length, Result, Ok, Err, refl, ap, sym, subst, ◌∙◌}
-use Rattle.std.specs.Prelude.{OnOk}
+use Rattle.std.proofs.Common.{◌≡◌, ℕ, List, [], ◌∷◌, length, Result, Ok, Err, refl, ap, sym, subst, ◌∙◌}
 use Rattle.base_values.specs.declared.EditError.{EditError}
-use Rattle.base_values.specs.Answers.{Changes, map_ok}
+use Rattle.base_values.specs.Answers.{map_ok}
 use Rattle.base_axis.specs.Along.{Along}
 use Rattle.line_edits.specs.declared.EditKind.{EditKind}
 use Rattle.sheet_grid.specs.Sheet.{Sheet}
@@ -20,19 +19,57 @@ use Rattle.sheet_history.specs.Records.{IsLineEdit, line_record}
 use Rattle.sheet_actions.specs.Planned.{lines_planned}
 use Rattle.sheet_actions.specs.Whole.{IsAllowed}
 use Rattle.sheet_actions.specs.laws.FollowedWellFormed.{followed_well_formed}
-use Rattle.sheet_history.specs.Untested.{hides_nothing}
 use Rattle.sheet_history.specs.laws.LineRecords.{along_lawful, record_made, record_taken_back}
+use Rattle.edit_plans.specs.Edits.{Edit, changed, lines_record, record_of}
+use Rattle.edit_plans.specs.Edits.Edit.{Lines}
 use Rattle.script_editor.specs.Document.{Document, document_edit, recorded, lines_recorded}
-use Rattle.script_editor.specs.Machine.{Edit, State, changed, lines_record, record_of, edit_of}
-use Rattle.script_editor.specs.Machine.Edit.{Lines}
 use Rattle.script_editor.specs.Spellable.{AreSpellable}
-use Rattle.script_editor.specs.Sound.{IsSendable, IsSoundStep, IsSound}
+use Rattle.script_editor.specs.Sound.{IsSoundChange}
 use Rattle.script_editor.specs.BothWays.{GoesBothWays}
-use Rattle.script_editor.specs.Stands.{StandsFor, Moves}
 use Rattle.script_editor.proofs.LinePlans.{IsPlanned, lines_plan}
-use Rattle.script_editor.proofs.Open.{followed_open}
-use Rattle.script_editor.proofs.Sounds.{sound_edit, edit_moves, on_ok_map, sendable_in}
 use Rattle.script_editor.proofs.Tested.{passes}
+
+-- ---- the step
+
+-- what was found by an edit that is accepted
+record IsAccepted (w : Book) (index : ℕ) (axis : LineAxis) (kind : EditKind) (later : Book) : Type 0 where
+  sheet : Sheet
+  at : sheet_at w index ≡ Ok sheet
+  edit : IsLineEdit axis kind sheet.id w
+  allowed : IsAllowed (along_of axis) kind sheet.id w
+  followed : book_followed (along_of axis) kind sheet.id w ≡ later
+
+module _ (index : ℕ) (axis : LineAxis) (kind : EditKind) where
+  abbrev edit : Edit
+  edit = Lines index axis kind
+
+  accepted : (w later : Book) → IsWellFormed w → changed edit w ≡ Ok later → IsAccepted w index axis kind later
+  accepted w later rules is = go (lines_planned (along_of axis) kind index w) refl is
+    where
+      go : (r : Result (ℕ × EditKind) EditError) → lines_planned (along_of axis) kind index w ≡ r → map_ok (λ (p : ℕ × EditKind). book_followed (along_of axis) p.1 p.0 w) r ≡ Ok later → IsAccepted w index axis kind later
+      go (Ok p) plan h =
+          let found = lines_plan w rules index axis kind p plan in
+          let same : book_followed (along_of axis) p.1 p.0 w ≡ later = cc in
+          record { sheet = found.sheet; at = found.at; edit = found.edit; allowed = found.allowed; followed = ap (λ (p : ℕ × EditKind). book_followed (along_of axis) p.1 p.0 w) found.plan_is ∙ same }
+      go (Err error) plan h = absurd (let never : ◌≡◌ {A = Result Book EditError} (Err error) (Ok later) = h in cc)
+
+  lines_both : (w later : Book) → IsAccepted w index axis kind later → GoesBothWays edit w later
+  lines_both w later found =
+      let id : ℕ = found.sheet.id in
+      let list : List Diff = record_of edit w later in
+      let recorded_is : list ≡ line_record axis kind id w = ap (lines_record axis (λ sheet. kind) w) found.at in
+      let later_rules : IsWellFormed later = subst IsWellFormed found.followed (followed_well_formed (along_of axis) (along_lawful axis) kind found.edit.valid id w found.edit.rules found.allowed) in
+      record {
+        rules = later_rules;
+        forth = passes (length list) (made w list) later (ap (made w) recorded_is ∙ record_made axis kind id w found.edit ∙ ap Ok found.followed) later_rules;
+        back = passes (length list) (taken_back later list) w
+            (ap (taken_back later) recorded_is ∙ ap (λ b. taken_back b (line_record axis kind id w)) (sym found.followed) ∙ record_taken_back axis kind id w found.edit) found.edit.rules;
+        exact = record { sheet = found.sheet; there = found.at; followed = found.followed; recorded = recorded_is };
+      }
+
+  -- an accepted edit of lines of a well-formed workbook goes both ways
+  pub lines_go_both_ways : (earlier later : Book) → IsWellFormed earlier → changed edit earlier ≡ Ok later → GoesBothWays edit earlier later
+  lines_go_both_ways earlier later rules how = lines_both earlier later (accepted earlier later rules how)
 
 -- ---- what a plan leads to
 
@@ -48,15 +85,17 @@ module _ (index : ℕ) (axis : LineAxis) (kind : EditKind) (plan : ℕ × EditKi
     plan_made = ap (map_ok (λ (p : ℕ × EditKind). book_followed (along_of axis) p.1 p.0 w)) planned
 
     plan_record : (later : Book) → record_of (Lines index axis kind) w later ≡ line_record axis plan.1 plan.0 w
-    plan_record later = ap (lines_record axis kind w) it.at ∙ ap (λ (p : ℕ × EditKind). line_record axis p.1 p.0 w) it.plan_is
+    plan_record later = ap (lines_record axis (λ sheet. kind) w) it.at ∙ ap (λ (p : ℕ × EditKind). line_record axis p.1 p.0 w) it.plan_is
 
     -- a planned edit is one of lines of the workbook
     pub plan_edit : IsLineEdit axis plan.1 plan.0 w
     plan_edit = subst (λ (p : ℕ × EditKind). IsLineEdit axis p.1 p.0 w) it.plan_is it.edit
 
-    -- and its record can be spelled, if that of the plan can
-    pub plan_sendable : AreSpellable (line_record axis plan.1 plan.0 w) → IsSendable (Lines index axis kind) w
-    plan_sendable spellable later how = subst AreSpellable (sym (plan_record later)) spellable
+    -- and a sound step, if the record of the plan can be spelled
+    pub plan_sound : AreSpellable (line_record axis plan.1 plan.0 w) → IsSoundChange (Lines index axis kind) w
+    plan_sound spellable loud later how =
+        let both = lines_go_both_ways index axis kind w later rules how in
+        record { before = rules; after = both.rules; forth = both.forth; back = both.back; exact = both.exact; spellable = subst AreSpellable (sym (plan_record later)) spellable }
 
   -- to make a planned edit and to record it is the edit
   pub planned_document : (doc : Document) → IsWellFormed doc.book → lines_planned (along_of axis) kind index doc.book ≡ Ok plan
@@ -87,63 +126,3 @@ module _ (a : Along) (axis : LineAxis) (named : a ≡ along_of axis) (kind : Edi
   pub installed_document : (id : ℕ) (doc : Document) (later : Book) (list : List Diff) → later ≡ book_followed a kind id doc.book → list ≡ line_record axis kind id doc.book
       → ◌≡◌ {A = Result Document EditError} (Ok (recorded list doc later)) (Ok (lines_recorded axis kind id doc))
   installed_document id doc later list later_is list_is = λ i. Ok (recorded (list_is i) doc ((later_is ∙ ap (λ b. book_followed b kind id doc.book) named) i))
-
--- ---- the step
-
--- what was found by an edit that is accepted
-record IsAccepted (w : Book) (index : ℕ) (axis : LineAxis) (kind : EditKind) (later : Book) : Type 0 where
-  sheet : Sheet
-  at : sheet_at w index ≡ Ok sheet
-  edit : IsLineEdit axis kind sheet.id w
-  allowed : IsAllowed (along_of axis) kind sheet.id w
-  followed : book_followed (along_of axis) kind sheet.id w ≡ later
-
-module _ (index : ℕ) (axis : LineAxis) (kind : EditKind) where
-  abbrev edit : Edit
-  edit = Lines index axis kind
-
-  accepted : (w later : Book) → IsWellFormed w → changed edit w ≡ Ok later → IsAccepted w index axis kind later
-  accepted w later rules is = go (lines_planned (along_of axis) kind index w) refl is
-    where
-      go : (r : Result (ℕ × EditKind) EditError) → lines_planned (along_of axis) kind index w ≡ r → map_ok (λ (p : ℕ × EditKind). book_followed (along_of axis) p.1 p.0 w) r ≡ Ok later → IsAccepted w index axis kind later
-      go (Ok p) plan h =
-          let found = lines_plan w rules index axis kind p plan in
-          let same : book_followed (along_of axis) p.1 p.0 w ≡ later = cc in
-          record { sheet = found.sheet; at = found.at; edit = found.edit; allowed = found.allowed; followed = ap (λ (p : ℕ × EditKind). book_followed (along_of axis) p.1 p.0 w) found.plan_is ∙ same }
-      go (Err error) plan h = absurd (let never : ◌≡◌ {A = Result Book EditError} (Err error) (Ok later) = h in cc)
-
-  lines_both : (w later : Book) → IsAccepted w index axis kind later → GoesBothWays edit w later
-  lines_both w later found =
-      let id : ℕ = found.sheet.id in
-      let list : List Diff = record_of edit w later in
-      let recorded_is : list ≡ line_record axis kind id w = ap (lines_record axis kind w) found.at in
-      let later_rules : IsWellFormed later = subst IsWellFormed found.followed (followed_well_formed (along_of axis) (along_lawful axis) kind found.edit.valid id w found.edit.rules found.allowed) in
-      record {
-        rules = later_rules;
-        forth = passes (length list) (made w list) later (ap (made w) recorded_is ∙ record_made axis kind id w found.edit ∙ ap Ok found.followed) later_rules;
-        back = passes (length list) (taken_back later list) w
-            (ap (taken_back later) recorded_is ∙ ap (λ b. taken_back b (line_record axis kind id w)) (sym found.followed) ∙ record_taken_back axis kind id w found.edit) found.edit.rules;
-        exact = record { sheet = found.sheet; there = found.at; followed = found.followed; recorded = recorded_is };
-      }
-
-  -- an accepted edit of lines of a well-formed workbook goes both ways
-  pub lines_go_both_ways : (earlier later : Book) → IsWellFormed earlier → changed edit earlier ≡ Ok later → GoesBothWays edit earlier later
-  lines_go_both_ways earlier later rules how = lines_both earlier later (accepted earlier later rules how)
-
-  lines_step : (w later : Book) → IsWellFormed w → hides_nothing w ≡ true → changed edit w ≡ Ok later → AreSpellable (record_of edit w later) → IsSoundStep (record { edit = edit; before = w; after = later })
-  lines_step w later rules shown how spellable =
-      let both = lines_go_both_ways w later rules how in
-      let found = accepted w later rules how in
-      let shown_after = ap hides_nothing (sym found.followed) ∙ followed_open (along_of axis) (along_lawful axis) kind found.edit.valid found.sheet.id w shown in
-      record { before = rules; after = both.rules; shown_before = shown; shown_after = shown_after; forth = both.forth; back = both.back; exact = both.exact; spellable = spellable }
-
-  -- the state after it is sound
-  sound_lines : (s next : State) → IsSound s → IsSendable edit s.present → edit_of edit s ≡ Ok next → IsSound next
-  sound_lines s next sound sendable is = sound_edit edit s next sound (λ later how. lines_step s.present later sound.present sound.shown how (sendable later how)) is
-
-  -- a call that edits lines in the document moves as the machine does
-  pub lines_moves : (old new : Document) (result : Result (Unit {0}) EditError) → Changes result old new (document_edit edit old) → OnOk result (IsSendable edit old.book)
-      → (s : State) → StandsFor old s → Moves result old new s (edit_of edit s)
-  lines_moves old new result changes sendable s stands =
-      edit_moves edit old new s result stands changes
-      (on_ok_map result (λ carried next is. sound_lines s next stands.sound (sendable_in old s edit stands carried) is) sendable)

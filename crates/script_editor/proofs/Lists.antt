@@ -1,14 +1,8 @@
 -- Items at an index of a list.
-use Rattle.std.proofs.Common.{◌≡◌, ℕ, Bool, true, List, [], ◌∷◌, zero, suc, Some, refl, ap, sym, ◌∙◌}
-use Rattle.std.specs.Prelude.{slice_get, slice_set}
+use Rattle.std.proofs.Common.{◌≡◌, ℕ, Bool, true, List, [], ◌∷◌, zero, suc, Some, ap, sym, ◌∙◌}
+use Rattle.std.specs.Prelude.{slice_get}
 use Rattle.std.specs.List.{list_all}
 use Rattle.sheet_rules.specs.laws.EntryLaws.{both}
-
--- an item that was put is found
-pub get_set : {X : Type 0} (xs : List X) (i : ℕ) (x y : X) → slice_get xs i ≡ Some x → slice_get (slice_set xs i y) i ≡ Some y
-get_set [] i x y h = cc
-get_set (z ∷ zs) zero x y h = refl
-get_set (z ∷ zs) (suc i) x y h = get_set zs i x y h
 
 -- an item that is found passes what all pass
 pub passes_at : {X : Type 0} (P : X → Bool) (xs : List X) (i : ℕ) (x : X) → slice_get xs i ≡ Some x → list_all P xs ≡ true → P x ≡ true

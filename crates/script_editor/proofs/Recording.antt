@@ -1,4 +1,4 @@
--- A cell that is refused leaves the document.
+-- A list that is refused leaves the document.
 use Rattle.std.proofs.Common.{◌≡◌, ◌≢◌, ℕ, List, [], ◌∷◌, take, length, Result, Err, ap, ◌∙◌}
 use Rattle.std.proofs.Math.Seq.{take-append_seam}
 use Rattle.base_values.specs.declared.EditError.{EditError}
@@ -16,10 +16,10 @@ pub sent_back : (kind : DiffType) (list : List Diff) (queue longer shorter : Lis
 sent_back kind list queue longer shorter count sent counted cut =
     cut ∙ (λ i. take (counted i) (sent i)) ∙ take-append_seam queue (record { kind = kind; list = list } ∷ [])
 
-pub refused_put : (old new : Document) (error : EditError) (expected : Result Book EditError) (list : List Diff)
+pub refused_list : (old new : Document) (error : EditError) (expected : Result Book EditError) (list : List Diff)
     → new.book ≡ old.book → new.undo ≡ old.undo → new.redo ≡ old.redo → new.queue ≡ old.queue
     → (error ≢ NoMemory → expected ≡ Err error) → Edits {S = Document} (Err error) old new (map_ok (recorded list old) expected)
-refused_put old new error expected list book undo redo queue refused = record {
+refused_list old new error expected list book undo redo queue refused = record {
   done = tt;
   refused = (
     λ i. record { book = book i; undo = undo i; redo = redo i; queue = queue i },

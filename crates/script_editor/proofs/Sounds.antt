@@ -1,5 +1,5 @@
 -- Every step of the machine keeps it sound, and an editor's documents go along.
-use Rattle.std.proofs.Common.{◌≡◌, ℕ, ◌+◌, true, List, [], ◌∷◌, ◌++◌, map, length, Result, Ok, Err, refl, ap, sym, subst, ◌∙◌}
+use Rattle.std.proofs.Common.{◌≡◌, ℕ, ◌+◌, Bool, true, false, cond, List, [], ◌∷◌, ◌++◌, map, length, Result, Ok, Err, refl, ap, sym, subst, ◌∙◌}
 use Rattle.std.specs.Prelude.{OnOk, IfErr, IsOk, codes}
 use Rattle.std.specs.List.{AllByRecursion}
 use Rattle.std.proofs.lemmas.List.{map_push}
@@ -14,19 +14,18 @@ use Rattle.sheet_rules.specs.laws.WellFormedLaws.{well_formed-new}
 use Rattle.sheet_history.specs.declared.DiffType.TheVariants.{Undo, Redo}
 use Rattle.sheet_history.specs.declared.QueueDiffs.{QueueDiffs}
 use Rattle.sheet_history.specs.Diffs.{made, taken_back, forwarded, backed, follow, in_entry, replayed}
-use Rattle.sheet_history.specs.Untested.{hides_nothing}
 use Rattle.sheet_history.specs.laws.ReplayLaws.{replayed_from-push}
 use Rattle.sheet_wire.specs.QueueBytes.{IsKnownEntry, IsKnownQueue, FitsQueue, spell_queue}
 use Rattle.script_editor.specs.Document.{Document, document, document_edit, document_undo, undo_at, document_redo, redo_at, recorded, undone, redone}
-use Rattle.script_editor.specs.Machine.{Edit, Step, Sent, State, start, changed, record_of, step_record, edited, edit_of, undo_from, undo_of, redo_from, redo_of, synced_of, entry_of, entries_of}
-use Rattle.script_editor.specs.Sound.{IsSendable, IsSoundStep, Leads, Follows, Carries, IsSound}
+use Rattle.edit_plans.specs.Edits.{Edit, changed, is_silent, record_of}
+use Rattle.script_editor.specs.Machine.{Step, Sent, State, start, step_record, edited, edit_of, undo_from, undo_of, redo_from, redo_of, synced_of, entry_of, entries_of}
+use Rattle.script_editor.specs.Sound.{IsSoundChange, IsSoundStep, Leads, Follows, Carries, IsSound}
 use Rattle.script_editor.specs.Spellable.{AreSpellable}
 use Rattle.script_editor.specs.Stands.{StandsFor, IsReached, Moves}
-use Rattle.script_editor.proofs.Open.{first_open}
 use Rattle.script_editor.proofs.Tested.{passed}
 
 pub sound_start : IsSound start
-sound_start = record { present = well_formed-new (codes "workbook") En Utc; shown = first_open; past = tt; undone = tt; sync = record { spelled = refl; led = refl }; spellable = tt }
+sound_start = record { present = well_formed-new (codes "workbook") En Utc; past = tt; undone = tt; sync = record { spelled = refl; led = refl }; spellable = tt }
 
 -- ---- what is sent
 
@@ -60,24 +59,30 @@ step_of edit s later = record { edit = edit; before = s.present; after = later }
 pub sound_edited : (edit : Edit) (s : State) (later : Book) → IsSound s → IsSoundStep (step_of edit s later) → IsSound (edited edit s later)
 sound_edited edit s later sound step = record {
   present = step.after;
-  shown = step.shown_after;
   past = (refl, step, sound.past);
   undone = tt;
   sync = carries_more s sound (record { kind = Redo; step = step_of edit s later }) later step.forth;
   spellable = spellable_more s sound (record { kind = Redo; step = step_of edit s later }) step.spellable;
 }
 
--- the state after an edit that is accepted is sound, if its step is
-pub sound_edit : (edit : Edit) (s next : State) → IsSound s → ((later : Book) → changed edit s.present ≡ Ok later → IsSoundStep (step_of edit s later)) → edit_of edit s ≡ Ok next → IsSound next
-sound_edit edit s next sound step is = go (changed edit s.present) refl is
+ok_next : (s next : State) → ◌≡◌ {A = Result State EditError} (Ok s) (Ok next) → IsSound s → IsSound next
+ok_next s next is sound = let same : s ≡ next = cc in subst IsSound same sound
+
+-- the state after an edit that is not refused is sound, if its step is
+sound_edit : (edit : Edit) (s next : State) → IsSound s → IsSoundChange edit s.present → edit_of edit s ≡ Ok next → IsSound next
+sound_edit edit s next sound change is = either (is_silent edit) refl is
   where
-    go : (r : Result Book EditError) → changed edit s.present ≡ r → map_ok (edited edit s) r ≡ Ok next → IsSound next
-    go (Err error) how e = absurd (let never : ◌≡◌ {A = Result State EditError} (Err error) (Ok next) = e in cc)
-    go (Ok later) how e = let same : edited edit s later ≡ next = cc in subst IsSound same (sound_edited edit s later sound (step later how))
+    go : is_silent edit ≡ false → (r : Result Book EditError) → changed edit s.present ≡ r → map_ok (edited edit s) r ≡ Ok next → IsSound next
+    go loud (Err error) how e = absurd (let never : ◌≡◌ {A = Result State EditError} (Err error) (Ok next) = e in cc)
+    go loud (Ok later) how e = let same : edited edit s later ≡ next = cc in subst IsSound same (sound_edited edit s later sound (change loud later how))
+
+    either : (b : Bool) → is_silent edit ≡ b → ◌≡◌ {A = Result State EditError} (cond b (Ok s) (map_ok (edited edit s) (changed edit s.present))) (Ok next) → IsSound next
+    either true silent e = ok_next s next e sound
+    either false loud e = go loud (changed edit s.present) refl e
 
 -- a document goes along with an edit
-pub document_edited : (edit : Edit) (s : State) → document_edit edit (document s) ≡ map_ok document (edit_of edit s)
-document_edited edit s = go (changed edit s.present)
+document_edited : (edit : Edit) (s : State) → document_edit edit (document s) ≡ map_ok document (edit_of edit s)
+document_edited edit s = either (is_silent edit)
   where
     go : (r : Result Book EditError) → map_ok (λ later. recorded (record_of edit s.present later) (document s) later) r ≡ map_ok document (map_ok (edited edit s) r)
     go (Err error) = refl
@@ -85,13 +90,17 @@ document_edited edit s = go (changed edit s.present)
         let queue = sym (map_push entry_of s.sent (record { kind = Redo; step = step_of edit s later })) in
         λ i. Ok (record { book = later; undo = step_record (step_of edit s later) ∷ map step_record s.past; redo = []; queue = queue i })
 
+    either : (b : Bool) → ◌≡◌ {A = Result Document EditError} (cond b (Ok (document s)) (map_ok (λ later. recorded (record_of edit s.present later) (document s) later) (changed edit s.present)))
+        (map_ok document (cond b (Ok s) (map_ok (edited edit s) (changed edit s.present))))
+    either true = refl
+    either false = go (changed edit s.present)
+
 -- ---- undo
 
 undo_sound : (s : State) (past : List Step) → IsSound s → Leads past s.present → IsSound (undo_from past s)
 undo_sound s [] sound leads = sound
 undo_sound s (step ∷ past) sound leads = record {
   present = leads.1.before;
-  shown = leads.1.shown_before;
   past = leads.2;
   undone = (refl, leads.1, subst (Follows s.undone) (sym leads.0) sound.undone);
   sync = carries_more s sound (record { kind = Undo; step = step }) step.before (ap (λ book. backed book (step_record step)) (sym leads.0) ∙ leads.1.back);
@@ -118,7 +127,6 @@ redo_sound : (s : State) (undone : List Step) → IsSound s → Follows undone s
 redo_sound s [] sound follows = sound
 redo_sound s (step ∷ undone) sound follows = record {
   present = follows.1.after;
-  shown = follows.1.shown_after;
   past = (refl, follows.1, subst (Leads s.past) (sym follows.0) sound.past);
   undone = follows.2;
   sync = carries_more s sound (record { kind = Redo; step = step }) step.after (ap (λ book. forwarded book (step_record step)) (sym follows.0) ∙ follows.1.forth);
@@ -142,7 +150,7 @@ document_redone s sound = redo_along s s.undone sound.undone
 -- ---- sync
 
 pub sound_sync : (s : State) → IsSound s → IsSound (synced_of s)
-sound_sync s sound = record { present = sound.present; shown = sound.shown; past = sound.past; undone = sound.undone; sync = record { spelled = refl; led = refl }; spellable = tt }
+sound_sync s sound = record { present = sound.present; past = sound.past; undone = sound.undone; sync = record { spelled = refl; led = refl }; spellable = tt }
 
 -- ---- from documents to states
 
@@ -171,10 +179,6 @@ moves old new s (Err error) f expected stands edits memory along sound = record 
     go (Ok next) is = cc
     go (Err other) is = cc
 
--- what bytes can carry of the editor's workbook they can of the state's
-pub sendable_in : (doc : Document) (s : State) (edit : Edit) → StandsFor doc s → IsSendable edit doc.book → IsSendable edit s.present
-sendable_in doc s edit stands sendable = subst (IsSendable edit) (ap (λ (d : Document). d.book) stands.document) sendable
-
 -- what holds anyway holds of an accepted call too, and what an accepted call gives may be used for more
 pub on_ok : {A : Type 0} {T E : Type 0} (result : Result T E) → A → OnOk result A
 on_ok (Ok value) holds = holds
@@ -183,9 +187,6 @@ on_ok (Err error) holds = tt
 pub on_ok_map : {A B : Type 0} {T E : Type 0} (result : Result T E) → (A → B) → OnOk result A → OnOk result B
 on_ok_map (Ok value) f holds = f holds
 on_ok_map (Err error) f holds = tt
-
-pub ok_next : (s next : State) → ◌≡◌ {A = Result State EditError} (Ok s) (Ok next) → IsSound s → IsSound next
-ok_next s next is sound = let same : s ≡ next = cc in subst IsSound same sound
 
 -- where a value is expected anyway, it may be out of memory
 of_value : {T A : Type 0} (result : Result T EditError) (value : A) → IfErr result (λ error. error ≡ NoMemory → IsOk {T = A} {E = EditError} (Ok value))
@@ -201,11 +202,12 @@ mapped_ok : {A B E : Type 0} (f : A → B) (r : Result A E) → IsOk (map_ok f r
 mapped_ok f (Ok x) h = refl
 mapped_ok f (Err error) h = h
 
--- a call that edits the document moves as the machine does
-pub edit_moves : (edit : Edit) (old new : Document) (s : State) (result : Result (Unit {0}) EditError) → StandsFor old s → Changes result old new (document_edit edit old)
-    → OnOk result ((next : State) → edit_of edit s ≡ Ok next → IsSound next) → Moves result old new s (edit_of edit s)
-edit_moves edit old new s result stands changes sound =
-    moves old new s result (document_edit edit) (edit_of edit s) stands (record { done = changes.done; refused = changes.refused }) (memory result changes.memory) (document_edited edit s) sound
+-- a call that edits the document moves as the machine does, if its edit is a sound step
+pub edit_moves : (edit : Edit) (old new : Document) (result : Result (Unit {0}) EditError) → Changes result old new (document_edit edit old) → OnOk result (IsSoundChange edit old.book)
+    → (s : State) → StandsFor old s → Moves result old new s (edit_of edit s)
+edit_moves edit old new result changes sound s stands =
+    moves old new s result (document_edit edit) (edit_of edit s) stands (record { done = changes.done; refused = changes.refused }) (memory result changes.memory) (document_edited edit s)
+    (on_ok_map result (λ change next is. sound_edit edit s next stands.sound (subst (IsSoundChange edit) (ap (λ (d : Document). d.book) stands.document) change) is) sound)
   where
     memory : (r : Result (Unit {0}) EditError) → IfErr r (λ error. error ≡ NoMemory → IsOk (document_edit edit old)) → IfErr r (λ error. error ≡ NoMemory → IsOk (edit_of edit s))
     memory (Ok u) h = tt
@@ -247,10 +249,6 @@ reached_on result old new step goes is = moved result old new is.0 (step is.0) i
 -- a document that stands for some state has a well-formed workbook
 pub reached_rules : (doc : Document) → IsReached doc → IsWellFormed doc.book
 reached_rules doc is = subst IsWellFormed (sym (ap (λ (d : Document). d.book) is.1.document)) is.1.sound.present
-
--- which hides no place
-pub reached_open : (doc : Document) → IsReached doc → hides_nothing doc.book ≡ true
-reached_open doc is = ap (λ (d : Document). hides_nothing d.book) is.1.document ∙ is.1.sound.shown
 
 -- the document with an empty queue stands for the state after a sync
 pub synced_document : (doc new : Document) (s : State) → StandsFor doc s → new.book ≡ doc.book → new.undo ≡ doc.undo → new.redo ≡ doc.redo → new.queue ≡ [] → StandsFor new (synced_of s)

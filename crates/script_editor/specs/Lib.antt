@@ -1,7 +1,7 @@
+pub mod Far
 pub mod Spellable
 pub mod Machine
 pub mod Document
-pub mod PlannedBy
 pub mod Sound
 pub mod BothWays
 pub mod Opened

@@ -4,11 +4,11 @@ use Rattle.std.specs.Prelude.{OnOk, IfErr, IsOk, IsOkAnd, IsTrue}
 use Rattle.base_values.specs.declared.EditError.{EditError}
 use Rattle.base_values.specs.declared.EditError.TheVariants.{NoMemory}
 use Rattle.sheet_history.specs.declared.Diff.{Diff}
-use Rattle.edit_plans.specs.Edits.{Edit, changed}
+use Rattle.edit_plans.specs.Edits.{Edit, changed, is_of_entries}
 use Rattle.edit_plans.specs.Plans.{Plans}
 use Rattle.script_editor.specs.Document.{Document, document}
 use Rattle.script_editor.specs.Machine.{State}
-use Rattle.script_editor.specs.Sound.{IsSound, is_of_entries}
+use Rattle.script_editor.specs.Sound.{IsSound}
 
 -- a document stands for each sound state that it is the document of
 pub record StandsFor (doc : Document) (s : State) : Type 0 where
@@ -32,5 +32,5 @@ pub record IsPlanOf (edit : Edit) (plan : Result (List Diff) EditError) (doc : D
   pub plans : Plans plan doc.book (changed edit doc.book)
 
 -- of some edit
-abbrev pub IsPlan : Result (List Diff) EditError → Document → Type 0
-IsPlan plan doc = (edit : Edit) × IsPlanOf edit plan doc
+abbrev pub IsAnyPlan : Result (List Diff) EditError → Document → Type 0
+IsAnyPlan plan doc = (edit : Edit) × IsPlanOf edit plan doc

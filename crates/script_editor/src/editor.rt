@@ -15,7 +15,7 @@ ghost use Rattle.edit_plans.specs.Edits.{Edit as AnyEdit};
 ghost use Rattle.edit_plans.specs.Edits.Edit.{Input, ArrayInput, SetLink, Merge, Unmerge, Lines, MoveLines};
 ghost use Rattle.script_editor.specs.Machine.{State, start, edit_of, undo_of, redo_of, synced_of, entries_of, sync_bytes};
 ghost use Rattle.script_editor.specs.Sound.{Carries};
-ghost use Rattle.script_editor.specs.Stands.{StandsFor, IsReached, IsPlan, IsPlanOf, Moves};
+ghost use Rattle.script_editor.specs.Stands.{StandsFor, IsReached, IsAnyPlan, IsPlanOf, Moves};
 
 use crate::open_book::OpenBook;
 use base_axis::{Axis, ColumnAxis, MergedCell, RowAxis};
@@ -84,7 +84,7 @@ impl Editor {
 
     /// Makes what a plan says, and records it, or refuses as the plan does.
     fn make(&mut self, plan: Result<DiffList, EditError>) -> Result<(), EditError>
-        requires { IsPlan plan self.now }
+        requires { IsAnyPlan plan self.now }
         ensures next { (edit : AnyEdit) (state : State) → IsPlanOf edit plan self.old → StandsFor self.old state → Moves result self.old self.new state (edit_of edit state) }
     {
         self.book.make(plan)

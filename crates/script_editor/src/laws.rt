@@ -1,8 +1,10 @@
 ghost use Rattle.std.specs.Prelude.{◌≡◌, Ok};
 ghost use Rattle.sheet_grid.specs.Book.{Book};
 ghost use Rattle.sheet_rules.specs.WellFormed.{IsWellFormed};
-ghost use Rattle.edit_plans.specs.Edits.{Edit, changed};
-ghost use Rattle.script_editor.specs.BothWays.{GoesBothWays, IsGiven};
+ghost use Rattle.edit_plans.specs.Edits.{Edit, IsGiven, changed};
+ghost use Rattle.script_editor.specs.BothWays.{GoesBothWays};
+
+use edit_plans::edits_have_records;
 
 /// A law about accepted edits of a well-formed workbook, with no work at run time: each leads to a
 /// well-formed workbook, and its record takes the earlier workbook to the later one and the later
@@ -10,4 +12,6 @@ ghost use Rattle.script_editor.specs.BothWays.{GoesBothWays, IsGiven};
 /// an array goes to a rectangle only.
 pub fn edits_go_both_ways()
     ensures { (edit : Edit) (earlier later : Book) → IsWellFormed earlier → IsGiven edit → changed edit earlier ≡ Ok later → GoesBothWays edit earlier later }
-{}
+{
+    edits_have_records();
+}

@@ -1,4 +1,5 @@
-ghost use Rattle.std.specs.Prelude.{◌≡◌, ◌≢◌, true, Ok, Err, [], ◌∷◌, take, IfOk, IsTrue, OnOk, OnErr, IsOkUnless};
+ghost use Rattle.std.specs.Prelude.{◌≡◌, ◌≢◌, ◌||◌, true, Ok, Err, [], ◌∷◌, pos, take, int_lt, IfOk, IfNone, IfSome, IsTrue, OnOk, OnErr, IsOkUnless};
+ghost use Rattle.std.specs.Ordering.{int_eq};
 ghost use Rattle.base_values.specs.Answers.{Returns, Changes, Edits, map_ok};
 ghost use Rattle.base_values.specs.declared.EditError.TheVariants.{NoMemory};
 ghost use Rattle.sheet_rules.specs.WellFormed.{IsWellFormed};
@@ -8,10 +9,10 @@ ghost use Rattle.sheet_history.specs.LineDiffs.{along_of};
 ghost use Rattle.sheet_history.specs.declared.Diff.TheVariants.{Lines as LinesDiff};
 ghost use Rattle.sheet_history.specs.declared.DiffType.TheVariants.{Redo};
 ghost use Rattle.sheet_wire.specs.QueueBytes.{IsKnownDiff};
-ghost use Rattle.edit_plans.specs.Edits.{Edit as AnyEdit, grown_move};
+ghost use Rattle.edit_plans.specs.Edits.{Edit as AnyEdit};
 ghost use Rattle.edit_plans.specs.Edits.Edit.{Lines, MoveLines};
 ghost use Rattle.script_editor.specs.Document.{recorded, sending};
-ghost use Rattle.script_editor.specs.PlannedBy.{lines_planned_by};
+ghost use Rattle.script_editor.specs.Far.{is_far};
 ghost use Rattle.script_editor.specs.Spellable.{AreSpellable};
 
 use base_axis::Axis;
@@ -97,23 +98,22 @@ fn plan_lines<A: Axis>(
     }
 }
 
-/// The move of the lines of the sheet at an index past the hidden ones in the way, and the id of that
-/// sheet. It takes no memory.
-fn plan_grown<A: Axis>(
-    workbook: &Workbook,
-    sheet: u32,
-    first: i32,
-    count: i32,
-    delta: i32,
-) -> Result<(u32, LineEdit<A>), EditError>
-    ensures planned { map_ok (λ plan. (plan.0, plan.1.kind)) result ≡ lines_planned_by A.along (grown_move A.along first count delta) sheet workbook.now }
-    ensures sure { result ≢ Err NoMemory }
+/// A distance as an `i32`, if it is one.
+fn distance(delta: i64) -> Option<i32>
+    ensures near { IfSome result (λ small. small ≡ delta) }
+    ensures far { IfNone result (IsTrue (is_far delta)) }
 {
-    let found = workbook.worksheet(sheet)?;
-    match i32::try_from(grown_delta::<A>(found, first, count, delta)) {
-        Ok(delta) => plan_move(workbook, sheet, first, count, delta),
-        Err(_) => Err(EditError::TargetOutOfBounds),
+    if delta < -2_147_483_648 || 2_147_483_647 < delta {
+        return None;
     }
+    Some(delta as i32)
+}
+
+/// Whether a move is of no lines, or by none.
+fn is_silent(count: i32, delta: i32) -> bool
+    ensures { result ≡ (int_eq delta (pos 0) || int_lt count (pos 1)) }
+{
+    delta == 0 || count < 1
 }
 
 /// Makes room for a list on the stacks, and puts it in the queue as one that was made. It holds the
@@ -143,7 +143,7 @@ impl OpenBook {
     ghost use Rattle.script_editor.specs.Document.{list_recorded, lines_recorded, document_edit, document_undo, document_redo};
     ghost use Rattle.script_editor.specs.Opened.{document_in};
     ghost use Rattle.script_editor.specs.Sound.{IsSoundChange};
-    ghost use Rattle.script_editor.specs.Stands.{IsPlan, IsPlanOf};
+    ghost use Rattle.script_editor.specs.Stands.{IsAnyPlan, IsPlanOf};
 
     /// Makes the changes of a list in the workbook, and puts the list on the undo stack and in the
     /// queue. An error changes nothing.
@@ -166,7 +166,7 @@ impl OpenBook {
 
     /// Makes what the plan of an edit by entries says, and records it, or refuses as the plan does.
     pub(crate) fn make(&mut self, plan: Result<DiffList, EditError>) -> Result<(), EditError>
-        requires plan { IsPlan plan (document_in self.now) }
+        requires plan { IsAnyPlan plan (document_in self.now) }
         requires rules { IsWellFormed self.now.workbook }
         ensures document { (edit : AnyEdit) → IsPlanOf edit plan (document_in self.old) → Changes result (document_in self.old) (document_in self.new) (document_edit edit (document_in self.old)) }
         ensures sound { (edit : AnyEdit) → IsPlanOf edit plan (document_in self.old) → OnOk result (IsSoundChange edit self.old.workbook) }
@@ -226,7 +226,7 @@ impl OpenBook {
 
     /// Moves lines in the sheet at an index, past the hidden ones in the way, and puts the record on
     /// the undo stack and in the queue. It does nothing where none moves, or by none. The refusals are
-    /// those of the plan.
+    /// those of `Editor::move_rows`.
     pub(crate) fn move_lines<A: Axis>(
         &mut self,
         sheet: u32,
@@ -240,11 +240,21 @@ impl OpenBook {
         ensures document { Changes result (document_in self.old) (document_in self.new) (document_edit (MoveLines sheet axis first count delta) (document_in self.old)) }
         ensures sound { OnOk result (IsSoundChange (MoveLines sheet axis first count delta) self.old.workbook) }
     {
-        if delta == 0 || count < 1 {
+        if is_silent(count, delta) {
             return Ok(());
         }
-        let (id, edit) = plan_grown::<A>(&self.workbook, sheet, first, count, delta)?;
-        self.make_lines(axis, id, &edit)
+        let found = self.workbook.worksheet(sheet)?;
+        match distance(grown_delta::<A>(found, first, count, delta)) {
+            Some(delta) => {
+                let kind = EditKind::Move {
+                    first,
+                    count,
+                    delta,
+                };
+                self.edit_lines::<A>(sheet, axis, kind)
+            }
+            None => Err(EditError::TargetOutOfBounds),
+        }
     }
 
     /// Takes the newest list of the undo stack back in the workbook, and sends it.

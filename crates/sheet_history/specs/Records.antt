@@ -73,25 +73,3 @@ pub record IsLineEdit (axis : LineAxis) (e : EditKind) (id : ℕ) (book : Book) 
   pub valid : IsValid (along_of axis).last e
   pub rules : IsWellFormed book
   pub there : IsTrue (is_there_inside (along_of axis) e (sheet_of book id))
-
--- ---- the record as a function of two workbooks
-
--- the keys of all that a sheet has
-abbrev pub sheet_keys : Sheet → List EntryKey
-sheet_keys sheet = map (CellKey sheet.id) (keys sheet.cells) ++ map (LinkKey sheet.id) (keys sheet.links) ++ MergesKey sheet.id ∷ []
-
--- and of all that a workbook has
-abbrev pub book_keys : Book → List EntryKey
-book_keys book = flat_map sheet_keys book.worksheets
-
--- the change at a key, if its entry differs
-abbrev pub change_at : Book → Book → EntryKey → Option Change
-change_at earlier later key = option_map (λ values. (key, values)) (changed_entry (entry_at earlier key) (entry_at later key))
-
--- the entries in which a later workbook differs from an earlier one, by their keys
-abbrev pub changes_between : Book → Book → FinMap key_cmp (EntryValue × EntryValue)
-changes_between earlier later = from_entries (filter_map (change_at earlier later) (book_keys earlier ++ book_keys later))
-
--- a diff of each, in the order of their keys: by tag, then by sheet id, then by row, then by column
-unfoldable pub record_between : Book → Book → List Diff
-record_between earlier later = flat_map (λ change. diff_of change.0 change.1.0 change.1.1) (fin.entries (changes_between earlier later))

@@ -1,8 +1,8 @@
+use Rattle.edit_plans.specs.Edits.{Edit}
+use Rattle.edit_plans.specs.Edits.Edit.{Lines}
 use Rattle.script_editor.specs.Machine.{edit_of}
-use Rattle.script_editor.specs.Machine.Edit.{Lines}
 use Rattle.script_editor.specs.Opened.{document_in}
-use Rattle.script_editor.proofs.LineSteps.{lines_moves}
-use Rattle.script_editor.proofs.Sounds.{moves_from, reached_on, reached_rules}
+use Rattle.script_editor.proofs.Sounds.{edit_moves, moves_from, reached_on, reached_rules}
 use Rattle.script_editor.proofs.editor.Editor.edit_lines.Goals as goal
 
 pub edit_lines-requires-clause-rules : goal.edit_lines-requires-clause-rules
@@ -10,12 +10,14 @@ edit_lines-requires-clause-rules g c = reached_rules (document_in c.self.inside.
 
 pub returns : goal.returns
 returns g c =
+    let edit : Edit = Lines c.args.sheet c.args.axis c.args.kind in
     record {
-      next = moves_from c.edit_lines.result (document_in c.self.inside.book) _ _ (edit_of (Lines c.args.sheet c.args.axis c.args.kind)) c.self.view_is
-          (lines_moves c.args.sheet c.args.axis c.args.kind _ _ c.edit_lines.result c.edit_lines.ensures.document c.edit_lines.ensures.sendable);
+      next = moves_from c.edit_lines.result (document_in c.self.inside.book) _ _ (edit_of edit) c.self.view_is
+          (edit_moves edit _ _ c.edit_lines.result c.edit_lines.ensures.document c.edit_lines.ensures.sound);
     }
 
 pub invariant_of-self : goal.invariant_of-self
 invariant_of-self g c =
-    reached_on c.edit_lines.result (document_in c.self.inside.book) _ (edit_of (Lines c.args.sheet c.args.axis c.args.kind))
-    (lines_moves c.args.sheet c.args.axis c.args.kind _ _ c.edit_lines.result c.edit_lines.ensures.document c.edit_lines.ensures.sendable) c.self.invariant
+    let edit : Edit = Lines c.args.sheet c.args.axis c.args.kind in
+    reached_on c.edit_lines.result (document_in c.self.inside.book) _ (edit_of edit)
+    (edit_moves edit _ _ c.edit_lines.result c.edit_lines.ensures.document c.edit_lines.ensures.sound) c.self.invariant

@@ -1,32 +1,24 @@
-use Rattle.std.proofs.Common.{w32, SFits}
+use Rattle.std.proofs.Common.{refl, w32, SFits}
 use Rattle.std.proofs.lemmas.Int.{to_z-of_z}
-use Rattle.script_editor.specs.Machine.{edit_of}
-use Rattle.script_editor.specs.Machine.Edit.{Input}
+use Rattle.edit_plans.specs.Edits.Edit.{Input}
 use Rattle.script_editor.specs.Opened.{document_in}
-use Rattle.script_editor.proofs.InputSteps.{input_moves}
-use Rattle.script_editor.proofs.Sounds.{moves_from, reached_on, reached_open, reached_rules}
+use Rattle.script_editor.proofs.EntrySteps.{is_plan}
+use Rattle.script_editor.proofs.Sounds.{reached_rules}
 use Rattle.script_editor.proofs.editor.Editor.set_content.Goals as goal
 
-pub enter-requires-clause-rules : goal.enter-requires-clause-rules
-enter-requires-clause-rules c = reached_rules (document_in c.self.inside.book) c.self.invariant
+pub plan_input-requires-clause-rules : goal.plan_input-requires-clause-rules
+plan_input-requires-clause-rules c = reached_rules (document_in c.self.inside.book) c.self.invariant
 
-pub enter-requires-clause-shown : goal.enter-requires-clause-shown
-enter-requires-clause-shown c = reached_open (document_in c.self.inside.book) c.self.invariant
+pub make-requires : goal.make-requires
+make-requires c =
+    let row_fits : SFits w32 c.args.row = c.ranges.row in
+    let column_fits : SFits w32 c.args.column = c.ranges.column in
+    (Input c.args.sheet c.args.row c.args.column c.args.content, is_plan _ c.plan_input.result (document_in c.self.inside.book) _ c.self.view_is refl (simp to_z-of_z at c.plan_input.ensures.planned))
 
 pub returns : goal.returns
 returns c =
     let row_fits : SFits w32 c.args.row = c.ranges.row in
     let column_fits : SFits w32 c.args.column = c.ranges.column in
     record {
-      next = moves_from c.enter.result (document_in c.self.inside.book) _ _ (edit_of (Input c.args.sheet c.args.row c.args.column c.args.content)) c.self.view_is
-          (input_moves c.args.sheet c.args.row c.args.column c.args.content _ _ c.enter.result c.requires.input (simp to_z-of_z at c.enter.ensures.document)
-          (simp to_z-of_z at c.enter.ensures.sendable));
+      next = λ state. c.make.ensures.next _ state (is_plan (Input c.args.sheet c.args.row c.args.column c.args.content) c.plan_input.result (document_in c.self.inside.book) _ c.self.view_is refl (simp to_z-of_z at c.plan_input.ensures.planned));
     }
-
-pub invariant_of-self : goal.invariant_of-self
-invariant_of-self c =
-    let row_fits : SFits w32 c.args.row = c.ranges.row in
-    let column_fits : SFits w32 c.args.column = c.ranges.column in
-    reached_on c.enter.result (document_in c.self.inside.book) _ (edit_of (Input c.args.sheet c.args.row c.args.column c.args.content))
-    (input_moves c.args.sheet c.args.row c.args.column c.args.content _ _ c.enter.result c.requires.input (simp to_z-of_z at c.enter.ensures.document)
-    (simp to_z-of_z at c.enter.ensures.sendable)) c.self.invariant

@@ -4,7 +4,7 @@ use Rattle.std.proofs.lemmas.Result.{err_from_is_err_and}
 use Rattle.base_values.specs.Answers.{Edits}
 use Rattle.line_edits.specs.declared.EditKind.{EditKind}
 use Rattle.script_editor.specs.Opened.{document_in}
-use Rattle.script_editor.proofs.LineSteps.{planned_along, plan_edit, plan_sendable, planned_document, refused_document}
+use Rattle.script_editor.proofs.LineSteps.{planned_along, plan_edit, plan_sound, planned_document, refused_document}
 use Rattle.script_editor.proofs.Sounds.{changes_from, on_ok_map}
 use Rattle.script_editor.proofs.open_book.OpenBook.edit_lines.Goals as goal
 
@@ -35,9 +35,9 @@ returns-clause-document g c =
     changes_from c.make_lines.result doc (document_in c.make_lines.new.self) _ (subst IsOk planned refl)
     (subst (Edits c.make_lines.result doc (document_in c.make_lines.new.self)) planned c.make_lines.ensures.document)
 
-pub returns-clause-sendable : goal.returns-clause-sendable
-returns-clause-sendable g c =
+pub returns-clause-sound : goal.returns-clause-sound
+returns-clause-sound g c =
     let book = c.args.self.now.workbook in
     let it : ℕ × EditKind = (c.in_ok-id.id, c.in_ok-id.edit.kind) in
     let plan = planned_along _ c.args.axis c.requires.along c.args.kind c.args.sheet book (Ok it) (c.in_ok-id.ensures {u = _}).planned in
-    on_ok_map c.make_lines.result (plan_sendable c.args.sheet c.args.axis c.args.kind it book c.requires.rules plan) c.make_lines.ensures.spellable
+    on_ok_map c.make_lines.result (plan_sound c.args.sheet c.args.axis c.args.kind it book c.requires.rules plan) c.make_lines.ensures.spellable

@@ -1,0 +1,86 @@
+-- Two workbooks have one record.
+use Rattle.std.proofs.Common.{◌≡◌, ℕ, ℤ, Bool, true, cond, List, [], ◌∷◌, map, Some, T, refl, ap, sym, subst, ◌∙◌}
+use Rattle.std.specs.Prelude.{◌==◌}
+use Rattle.std.specs.Cmp.{IsTotalOrder, on_total, then_total, nat_cmp_total, int_cmp_total}
+use Rattle.std.specs.Ordering.{nat_cmp, int_cmp}
+use Rattle.std.specs.FinMap.Entries.{same_entries}
+use Rattle.std.proofs.lemmas.Map.Lookups.{CmpEqualImpliesEq, exact_pairs, exact_unsigned, exact_signed}
+use Rattle.sheet_grid.specs.Book.{Book}
+use Rattle.sheet_history.specs.declared.Diff.{Diff}
+use Rattle.sheet_history.specs.declared.Diff.TheVariants.{Cell as CellDiff, Link as LinkDiff, Merges as MergesDiff, Lines as LinesDiff}
+use Rattle.sheet_history.specs.Entries.{EntryKey, Rank, rank_of, rank_cmp, key_cmp}
+use Rattle.sheet_history.specs.Entries.EntryKey.{CellKey, LinkKey, MergesKey}
+use Rattle.sheet_history.specs.Entries.EntryValue.{CellValue, LinkValue, MergesValue}
+use Rattle.sheet_history.specs.Records.{Change, change_of, diff_of, IsRecord}
+
+rank_total : IsTotalOrder rank_cmp
+rank_total =
+    then_total (on_total (λ r. r.tag) nat_cmp_total)
+    (then_total (on_total (λ r. r.sheet) nat_cmp_total) (then_total (on_total (λ r. r.row) int_cmp_total) (on_total (λ r. r.column) int_cmp_total)))
+
+pub key_total : IsTotalOrder key_cmp
+key_total = on_total rank_of rank_total
+
+-- the key of a rank
+abbrev key_of : Rank → EntryKey
+key_of r =
+    cond (r.tag == 1) (CellKey r.sheet (record { row = r.row; column = r.column }))
+    (cond (r.tag == 2) (LinkKey r.sheet (record { row = r.row; column = r.column })) (MergesKey r.sheet))
+
+key_of-rank_of : (key : EntryKey) → key_of (rank_of key) ≡ key
+key_of-rank_of (CellKey sheet place) = refl
+key_of-rank_of (LinkKey sheet place) = refl
+key_of-rank_of (MergesKey sheet) = refl
+
+exact_ranks : CmpEqualImpliesEq rank_cmp
+exact_ranks a b h =
+    ap (λ (p : ℕ × (ℕ × (ℤ × ℤ))). record { tag = p.0; sheet = p.1.0; row = p.1.1.0; column = p.1.1.1 })
+    (exact_pairs nat_cmp _ exact_unsigned (exact_pairs nat_cmp _ exact_unsigned (exact_pairs int_cmp int_cmp exact_signed exact_signed))
+    (a.tag, (a.sheet, (a.row, a.column))) (b.tag, (b.sheet, (b.row, b.column))) h)
+
+-- keys that compare alike are one
+pub exact_keys : CmpEqualImpliesEq key_cmp
+exact_keys a b h = sym (key_of-rank_of a) ∙ ap key_of (exact_ranks (rank_of a) (rank_of b) h) ∙ key_of-rank_of b
+
+pub holds : (b : Bool) → b ≡ true → T b
+holds b e = subst T (sym e) tt
+
+-- a diff is the one of its change
+pub diff_of-change_of : (diff : Diff) (change : Change) → change_of diff ≡ Some change → diff_of change.0 change.1.0 change.1.1 ≡ diff ∷ []
+diff_of-change_of (CellDiff sheet place old new) change h =
+    let same : ◌≡◌ {A = Change} (CellKey sheet place, (CellValue old, CellValue new)) change = cc in
+    ap (λ (c : Change). diff_of c.0 c.1.0 c.1.1) (sym same)
+diff_of-change_of (LinkDiff sheet place old new) change h =
+    let same : ◌≡◌ {A = Change} (LinkKey sheet place, (LinkValue old, LinkValue new)) change = cc in
+    ap (λ (c : Change). diff_of c.0 c.1.0 c.1.1) (sym same)
+diff_of-change_of (MergesDiff sheet old new) change h =
+    let same : ◌≡◌ {A = Change} (MergesKey sheet, (MergesValue old, MergesValue new)) change = cc in
+    ap (λ (c : Change). diff_of c.0 c.1.0 c.1.1) (sym same)
+diff_of-change_of (LinesDiff _ _ _ _) change h = absurd (cc)
+
+-- diffs of one change are equal
+same_diff : (a b : Diff) (change : Change) → change_of a ≡ Some change → change_of b ≡ Some change → a ≡ b
+same_diff a b change one two =
+    let same : ◌≡◌ {A = List Diff} (a ∷ []) (b ∷ []) = sym (diff_of-change_of a change one) ∙ diff_of-change_of b change two in
+    cc
+
+-- so are lists of the same changes
+same_diffs : (a b : List Diff) (changes : List Change) → map change_of a ≡ map Some changes → map change_of b ≡ map Some changes → a ≡ b
+same_diffs [] [] changes one two = refl
+same_diffs [] (_ ∷ _) [] one two = absurd (cc)
+same_diffs [] (_ ∷ _) (_ ∷ _) one two = absurd (cc)
+same_diffs (_ ∷ _) _ [] one two = absurd (cc)
+same_diffs (_ ∷ _) [] (_ ∷ _) one two = absurd (cc)
+same_diffs (d ∷ a) (f ∷ b) (change ∷ changes) one two =
+    let first : change_of d ≡ Some change = cc in
+    let second : change_of f ≡ Some change = cc in
+    let rest : map change_of a ≡ map Some changes = cc in
+    let others : map change_of b ≡ map Some changes = cc in
+    λ i. same_diff d f change first second i ∷ same_diffs a b changes rest others i
+
+-- the record of two workbooks is one list
+pub record_unique : (earlier later : Book) (a b : List Diff) → IsRecord earlier later a → IsRecord earlier later b → a ≡ b
+record_unique earlier later a b one two =
+    let same : one.changes ≡ two.changes =
+    same_entries key_cmp key_total exact_keys one.changes two.changes (holds _ one.ordered) (holds _ two.ordered) (λ key. one.exact key ∙ sym (two.exact key)) in
+    same_diffs a b two.changes (one.made_of ∙ ap (map Some) same) two.made_of

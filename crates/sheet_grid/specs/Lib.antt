@@ -1,6 +1,5 @@
 pub mod Arrays
 pub mod Book
-pub mod Computed
 pub mod Dimension
 pub mod FittingCells
 pub mod KeptCell

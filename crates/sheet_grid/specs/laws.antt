@@ -1,5 +1,4 @@
 pub mod CellEquals
-pub mod ComputedEquals
 pub mod DimensionEquals
 pub mod DimensionLaws
 pub mod FittingLaws

@@ -8,7 +8,6 @@
 mod arrays;
 mod cell;
 mod column_attr;
-mod computed;
 mod default_style;
 mod dimension;
 mod line_attr;
@@ -22,7 +21,6 @@ pub use arrays::{array_at, large_array_at};
 pub use cell::Cell;
 pub use cell_content::Content;
 pub use column_attr::ColumnAttr;
-pub use computed::{Computed, ComputedValue};
 pub use default_style::DefaultStyle;
 pub use dimension::WorksheetDimension;
 pub use line_attr::{LineAttr, USUAL_HEIGHT, USUAL_WIDTH};

@@ -4,8 +4,8 @@ use Rattle.std.specs.Bool.{Decides}
 use Rattle.std.specs.Cmp.{signed_Decides}
 use Rattle.std.proofs.lemmas.Bool.Decides.{Decides-like, Decides-and}
 use Rattle.cell_content.specs.laws.ContentEquals.{content_equals}
-use Rattle.sheet_grid.specs.declared.computed.ComputedValue.{ComputedValue}
-use Rattle.sheet_grid.specs.contracts.computed.ComputedValuePartialEq.TheImpl as value
+use Rattle.sheet_stand.specs.declared.computed.ComputedValue.{ComputedValue}
+use Rattle.sheet_stand.specs.contracts.computed.ComputedValuePartialEq.TheImpl as value
 
 pub computed_equals : (a b : ComputedValue) → Decides (value.ghosts.eq a b) (a ≡ b)
 computed_equals a b =

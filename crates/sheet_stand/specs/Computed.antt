@@ -5,7 +5,7 @@ use Rattle.std.specs.FinMap.{FinMap}
 use Rattle.base_values.specs.KeyMap.{with_entry}
 use Rattle.base_maps.specs.declared.SheetPlace.{SheetPlace}
 use Rattle.base_maps.specs.SheetPlaces.{sheet_place_cmp}
-use Rattle.sheet_grid.specs.declared.computed.ComputedValue.{ComputedValue}
+use Rattle.sheet_stand.specs.declared.computed.ComputedValue.{ComputedValue}
 
 -- a value for some places of a workbook
 abbrev pub Values : Type 0

@@ -2,7 +2,7 @@ ghost use Rattle.std.specs.Prelude.{◌≡◌, ◌≢◌, ◌≤ℤ◌, pos, Non
 ghost use Rattle.std.specs.Option.{option_map};
 ghost use Rattle.base_values.specs.Answers.{Changes};
 ghost use Rattle.cell_content.specs.Lens.{tree_of};
-ghost use Rattle.sheet_grid.specs.Computed.{no_values, value_put, value_at};
+ghost use Rattle.sheet_stand.specs.Computed.{no_values, value_put, value_at};
 
 use base_maps::{SheetPlace, SheetPlaceMap};
 use base_values::{EditError, Exact, Position};
@@ -23,7 +23,7 @@ pub struct ComputedValue {
 
 impl Exact for ComputedValue {
     ghost use Rattle.std.proofs.Common.{rules};
-    ghost use Rattle.sheet_grid.specs.laws.ComputedEquals.{computed_equals};
+    ghost use Rattle.sheet_stand.specs.laws.ComputedEquals.{computed_equals};
 
     ghost copies = { λ a b h. Prim.search rules };
 
@@ -42,7 +42,7 @@ impl Model for Computed {
     ghost use Rattle.std.specs.FinMap as fin;
     ghost use Rattle.base_maps.specs.SheetPlaces.{coded_sheet_place};
     ghost use Rattle.formula_tree.specs.contracts.node.Node as node;
-    ghost use Rattle.sheet_grid.specs.Computed.{Values};
+    ghost use Rattle.sheet_stand.specs.Computed.{Values};
 
     ghost Value = { Values };
 

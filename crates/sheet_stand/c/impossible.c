@@ -1,0 +1,1 @@
+void impossible(void) { for (;;) { } }

@@ -1,10 +1,11 @@
+pub mod Far
 pub mod Spellable
 pub mod Machine
 pub mod Document
-pub mod PlannedBy
+pub mod Values
 pub mod Sound
 pub mod BothWays
 pub mod Opened
 pub mod Stands
-pub mod Values
-pub mod Installed
+pub mod Untested
+pub mod Beginning

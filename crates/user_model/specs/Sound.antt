@@ -1,5 +1,5 @@
 -- What holds of every state that the machine reaches.
-use Rattle.std.proofs.Common.{◌≡◌, ℕ, Bool, true, false, List, [], ◌∷◌, Ok}
+use Rattle.std.proofs.Common.{◌≡◌, ℕ, false, List, [], ◌∷◌, Ok}
 use Rattle.std.specs.Prelude.{IfSome}
 use Rattle.std.specs.List.{AllByRecursion}
 use Rattle.line_edits.specs.declared.EditKind.{EditKind}
@@ -31,12 +31,6 @@ abbrev pub IsExact : Edit → Book → Book → List Diff → Type 0
 IsExact (Lines index axis kind) earlier later list = IsLinesRecord index axis (λ sheet. kind) earlier later list
 IsExact (MoveLines index axis first count delta) earlier later list = IsLinesRecord index axis (grown_move (along_of axis) first count delta) earlier later list
 IsExact edit earlier later list = IsRecord earlier later list
-
--- whether an edit is one of entries, not of lines
-abbrev pub is_of_entries : Edit → Bool
-is_of_entries (Lines index axis kind) = false
-is_of_entries (MoveLines index axis first count delta) = false
-is_of_entries edit = true
 
 -- the record of a step takes its earlier workbook to its later one and back, and both are well-formed
 pub record IsSoundStep (step : Step) : Type 0 where

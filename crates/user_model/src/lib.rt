@@ -6,6 +6,11 @@
 #![tactic(auto)]
 
 mod install;
+mod laws;
+mod open_book;
 mod recalc;
+mod user_model;
 
+pub use laws::edits_go_both_ways;
 pub use recalc::{ClearAll, Recalc};
+pub use user_model::UserModel;

@@ -1,0 +1,14 @@
+mod Documents
+mod EntrySteps
+mod KeptLines
+mod LinePlans
+mod LineSteps
+mod Lists
+mod MoveSteps
+mod Moving
+mod Recording
+mod Refusals
+mod Received
+mod Sounds
+mod Spelled
+mod Tested

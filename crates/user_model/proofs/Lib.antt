@@ -8,6 +8,7 @@ mod MoveSteps
 mod Moving
 mod Recording
 mod Refusals
+mod Reads
 mod Received
 mod Sounds
 mod Spelled

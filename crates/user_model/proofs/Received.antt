@@ -5,6 +5,7 @@ use Rattle.std.specs.List.{AllByRecursion}
 use Rattle.base_values.specs.declared.EditError.{EditError}
 use Rattle.base_values.specs.declared.EditError.TheVariants.{NoMemory, ParseDiffs}
 use Rattle.sheet_grid.specs.Book.{Book}
+use Rattle.sheet_stand.specs.Computed.{Values}
 use Rattle.sheet_history.specs.declared.QueueDiffs.{QueueDiffs}
 use Rattle.user_model.specs.Document.{Document}
 use Rattle.user_model.specs.Machine.{State, received, go_on, applied_from, applied}
@@ -81,3 +82,10 @@ module _ (entries : List QueueDiffs) (first : State) (i : ℕ) (doc : Document) 
   reached_end none =
       let all : applied_from 0 entries first ≡ (reached.now, Ok tt) = sym reached.rest ∙ ap (λ l. applied_from i l reached.now) none in
       (ap (λ (p : Outcome). p.1) all, subst (λ (p : Outcome). StandsFor doc p.0) (sym all) reached.stands)
+
+-- ---- values
+
+-- a refused entry leaves what was made, or what was there at first
+pub still_made : (Fits : Book → Values → Type 0) (first old new : Session) → new ≡ old → IsMade Fits old ⊎ (old ≡ first) → IsMade Fits new ⊎ (new ≡ first)
+still_made Fits first old new same (inl made) = inl (subst (IsMade Fits) (sym same) made)
+still_made Fits first old new same (inr other) = inr (same ∙ other)

@@ -1,8 +1,8 @@
--- A queue that is followed is refused by a diff of it alone.
+-- The entries of another copy's queue are refused by a diff alone.
 use Rattle.std.proofs.Common.{◌≡◌, ℕ, ◌+◌, Bool, true, false, cond, List, [], ◌∷◌, length, Option, Some, None, Result, Ok, Err, subst}
 use Rattle.base_values.specs.declared.EditError.{EditError}
 use Rattle.base_values.specs.declared.EditError.TheVariants.{DiffRefused, ParseDiffs}
-use Rattle.base_values.specs.Answers.{and_then}
+use Rattle.base_values.specs.Answers.{and_then, map_ok}
 use Rattle.base_axis.specs.Along.{Along}
 use Rattle.line_edits.specs.declared.EditKind.{EditKind}
 use Rattle.sheet_grid.specs.Book.{Book}
@@ -19,7 +19,10 @@ use Rattle.sheet_history.specs.Entries.{EntryKey, EntryValue, accepts, put_entry
 use Rattle.sheet_history.specs.Entries.EntryKey.{CellKey, LinkKey, MergesKey}
 use Rattle.sheet_history.specs.Entries.EntryValue.{CellValue, LinkValue, MergesValue}
 use Rattle.sheet_history.specs.LineDiffs.{along_of, goes_forward, goes_back, lines_forward, lines_back}
-use Rattle.sheet_history.specs.Diffs.{put_in, step_forward, step_back, forward_from, back_from, by_rule, tested, follow, in_entry, replayed_from, replayed}
+use Rattle.sheet_history.specs.Diffs.{put_in, step_forward, step_back, forward_from, back_from, by_rule, tested, follow, in_entry}
+use Rattle.user_model.specs.Document.{Document}
+use Rattle.user_model.specs.Machine.{State, go_on, outside, applied_from}
+use Rattle.user_model.specs.Stands.{Leaves}
 
 abbrev IsOfDiff : EditError → Type 0
 IsOfDiff (DiffRefused entry diff) = Unit {0}
@@ -87,11 +90,21 @@ entry_only at (Ok book) h = tt
 entry_only at (Err (DiffRefused entry diff)) h = tt
 entry_only at (Err other) h = absurd h
 
-replayed_only : (at : ℕ) (book : Book) (entries : List QueueDiffs) → Only (replayed_from at book entries)
-replayed_only at book [] = tt
-replayed_only at book (entry ∷ entries) =
-    then_only (in_entry at (follow entry.kind book entry.list)) (λ next. replayed_from (at + 1) next entries)
-    (entry_only at (follow entry.kind book entry.list) (follow_only entry.kind book entry.list)) (λ next. replayed_only (at + 1) next entries)
+abbrev OnlyDone : Result (Unit {0}) EditError → Type 0
+OnlyDone (Ok u) = Unit {0}
+OnlyDone (Err error) = IsOfDiff error
 
-pub never_unread : (book : Book) (entries : List QueueDiffs) → replayed book entries ≡ Err ParseDiffs → ⊥
-never_unread book entries is = subst Only is (replayed_only 0 book entries)
+applied_only : (at : ℕ) (entries : List QueueDiffs) (s : State) → OnlyDone (applied_from at entries s).1
+applied_only at [] s = tt
+applied_only at (entry ∷ entries) s =
+    go (in_entry at (follow entry.kind s.present entry.list)) (entry_only at (follow entry.kind s.present entry.list) (follow_only entry.kind s.present entry.list))
+  where
+    go : (r : Result Book EditError) → Only r → OnlyDone (go_on s (map_ok (outside s) r) (applied_from (at + 1) entries)).1
+    go (Ok later) h = applied_only (at + 1) entries (outside s later)
+    go (Err error) h = h
+
+-- what was read is not refused as unread
+pub never_unread : (result : Result (Unit {0}) EditError) (new : Document) (entries : List QueueDiffs) (s : State) → Leaves result new entries s → result ≡ Err ParseDiffs → ⊥
+never_unread result new entries s leaves is =
+    let left : Leaves (Err ParseDiffs) new entries s = subst (λ r. Leaves r new entries s) is leaves in
+    subst OnlyDone left.0 (applied_only 0 entries s)

@@ -1,5 +1,5 @@
 ghost use Rattle.std.specs.Prelude.{◌≡◌, ◌⊎◌, [], ◌∷◌, true, false, None, Some, Ok, Err, not, IfOk, IfErr, IfSome, IsTrue, OnOk, OnErr, IsOkUnless};
-ghost use Rattle.base_values.specs.Answers.{Answers, map_ok};
+ghost use Rattle.base_values.specs.Answers.{Edits};
 ghost use Rattle.base_values.specs.declared.EditError.TheVariants.{NoMemory, ParseDiffs};
 ghost use Rattle.base_tables.specs.declared.Language.TheVariants.{En};
 ghost use Rattle.line_edits.specs.declared.EditKind.TheVariants.{Insert, Delete};
@@ -72,7 +72,7 @@ impl<R> Model for UserModel<R> {
 }
 
 /// Opens a workbook with nothing to undo, and makes its values.
-fn open<R: Recalc>(
+fn open<R: Recalc + Drop>(
     alloc: Global,
     workbook: Workbook,
     language: Language,
@@ -566,7 +566,7 @@ impl<R: Recalc + Drop> UserModel<R> {
     /// stand. After `NoMemory` some first entries stand.
     pub fn apply_external_diffs(&mut self, bytes: &[u8]) -> Result<(), EditError>
         ensures next { (state : State) (entries : List Entry) → StandsFor self.old.document state → FitsQueue entries → bytes.now ≡ spell_queue entries → Leaves result self.new.document entries state }
-        ensures unspelled { IsNoQueue bytes.now → (self.new ≡ self.old) × IsOkUnless (Err ParseDiffs) NoMemory }
+        ensures unspelled { IsNoQueue bytes.now → Edits result self.old self.new (Err ParseDiffs) }
         ensures parsed { result ≡ Err ParseDiffs → IsNoQueue bytes.now }
         ensures made { IsMade R.Fits self.new ⊎ (self.new ≡ self.old) }
         ensures paused { self.new.paused ≡ self.old.paused }

@@ -10,7 +10,7 @@ use Rattle.sheet_history.specs.Diffs.{IsKeptList, backed, forwarded, made}
 use Rattle.sheet_history.specs.Records.{IsRecord}
 use Rattle.edit_plans.specs.StandInRecords.{record_between}
 use Rattle.edit_plans.specs.laws.StandInBetween.{record_computed}
-use Rattle.sheet_history.specs.laws.SoundEntries.{entries_made, entries_forwarded, entries_backed}
+use Rattle.sheet_history.specs.laws.SoundEntries.{entries_forwarded, entries_backed}
 use Rattle.edit_plans.specs.Edits.{Edit, changed, is_of_entries, is_silent, record_of}
 use Rattle.edit_plans.specs.Edits.Edit.{Input, ArrayInput, SetLink, Merge, Unmerge, Lines, MoveLines}
 use Rattle.edit_plans.specs.Plans.{IsPlan, Plans}
@@ -86,7 +86,7 @@ module _ (edit : Edit) (it : IsOfEntries edit) where
       -- to make a planned list and to record it is the edit
       planned : (r : Result Book EditError) → IsOkAnd r (IsPlan doc.book list) → list_recorded list doc ≡ after_edit r
       planned (Ok later) plan =
-          ap (map_ok (recorded list doc)) (entries_made doc.book later list rules plan.rules plan.exact)
+          ap (map_ok (recorded list doc)) (entries_forwarded doc.book later list rules plan.rules plan.exact)
           ∙ ap (λ l. Ok (recorded l doc later)) (record_is doc.book later list rules plan.rules plan.exact)
       planned (Err error) plan = absurd plan
 
@@ -94,16 +94,15 @@ module _ (edit : Edit) (it : IsOfEntries edit) where
       kept_by (Ok later) plan = plan.kept
       kept_by (Err error) plan = absurd plan
 
+      works_by : (r : Result Book EditError) → IsOkAnd r (IsPlan doc.book list) → IsOk (forwarded doc.book list)
+      works_by (Ok later) plan = subst IsOk (sym (entries_forwarded doc.book later list rules plan.rules plan.exact)) refl
+      works_by (Err error) plan = absurd plan
+
       ok_by : (r : Result Book EditError) → IsOkAnd r (IsPlan doc.book list) → IsOk r
       ok_by (Ok later) plan = refl
       ok_by (Err error) plan = absurd plan
 
 -- ---- the plan of an edit by entries
-
--- a plan of the workbook inside is one of the document that callers see
-pub is_plan : (edit : Edit) (plan : Result (List Diff) EditError) (inside seen : Document) → inside ≡ seen → IsTrue (is_of_entries edit) → Plans plan inside.book (changed edit inside.book)
-    → IsPlanOf edit plan seen
-is_plan edit plan inside seen same is plans = subst (IsPlanOf edit plan) same (record { of_entries = is; plans = plans })
 
 module _ (edit : Edit) (doc : Document) (rules : IsWellFormed doc.book) where
   module _ (list : List Diff) (it : IsPlanOf edit (Ok list) doc) where
@@ -112,6 +111,9 @@ module _ (edit : Edit) (doc : Document) (rules : IsWellFormed doc.book) where
 
     pub plan_kept : IsKeptList list
     plan_kept = kept_by edit is doc rules list (changed edit doc.book) it.plans.planned
+
+    pub plan_works : IsOk (forwarded doc.book list)
+    plan_works = works_by edit is doc rules list (changed edit doc.book) it.plans.planned
 
     pub plan_document : list_recorded list doc ≡ document_edit edit doc
     plan_document = planned edit is doc rules list (changed edit doc.book) it.plans.planned ∙ heard edit is doc rules (changed edit doc.book)

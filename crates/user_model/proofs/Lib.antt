@@ -1,5 +1,6 @@
 mod Documents
 mod EntrySteps
+mod Inputs
 mod KeptLines
 mod LinePlans
 mod LineSteps
@@ -13,3 +14,4 @@ mod Received
 mod Sounds
 mod Spelled
 mod Tested
+mod Typed

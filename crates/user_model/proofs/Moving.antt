@@ -1,6 +1,6 @@
 -- What is said of documents holds of the states that they stand for.
 use Rattle.std.proofs.Common.{◌≡◌, ◌≢◌, ℕ, List, [], Result, Ok, Err, refl, ap, sym, subst, ◌∙◌}
-use Rattle.std.specs.Prelude.{OnOk, OnErr, IfErr, IfSome, IsOk, IsOkAnd}
+use Rattle.std.specs.Prelude.{OnOk, OnErr, IfErr, IfSome, IsOk, IsOkAnd, IsTrue}
 use Rattle.std.proofs.Common.{Option, Some, None}
 use Rattle.base_values.specs.declared.EditError.{EditError}
 use Rattle.base_values.specs.declared.EditError.TheVariants.{NoMemory}
@@ -10,14 +10,16 @@ use Rattle.sheet_rules.specs.WellFormed.{IsWellFormed}
 use Rattle.sheet_history.specs.declared.QueueDiffs.{QueueDiffs}
 use Rattle.sheet_history.specs.Diffs.{replayed}
 use Rattle.sheet_wire.specs.QueueBytes.{IsKnownQueue, FitsQueue, spell_queue}
-use Rattle.edit_plans.specs.Edits.{Edit}
+use Rattle.edit_plans.specs.Edits.{Edit, changed, is_of_entries}
+use Rattle.edit_plans.specs.Plans.{Plans}
+use Rattle.sheet_history.specs.declared.Diff.{Diff}
 use Rattle.user_model.specs.declared.open_book.OpenBook.{OpenBook}
 use Rattle.user_model.specs.declared.recalc.Results.{Results}
 use Rattle.user_model.specs.Document.{Document, document, document_edit, document_undo, document_redo, document_received}
 use Rattle.user_model.specs.Machine.{State, edit_of, undo_of, redo_of, synced_of, received}
 use Rattle.user_model.specs.Opened.{document_in, session_of}
 use Rattle.user_model.specs.Sound.{Carries, IsSound, IsSoundChange}
-use Rattle.user_model.specs.Stands.{StandsFor, IsReached, Moves, Turns}
+use Rattle.user_model.specs.Stands.{StandsFor, IsReached, IsPlanOf, Moves, Turns}
 use Rattle.user_model.specs.Values.{Session}
 use Rattle.user_model.proofs.Documents.{document_edited, document_undone, document_redone, document_taken}
 use Rattle.user_model.proofs.Sounds.{sound_edit, sound_undo, sound_redo, sound_sync, sound_received}
@@ -161,3 +163,8 @@ flushed_carries doc s bytes stands is = go s.synced stands.sound.replays
 
 pub flushed_fits : (doc : Document) (s : State) → StandsFor doc s → FitsQueue doc.queue → FitsQueue s.sent
 flushed_fits doc s stands fits = subst (λ (d : Document). FitsQueue d.queue) stands.document fits
+
+-- a plan of the workbook inside is one of the document that callers see
+pub plan_of : (edit : Edit) (plan : Result (List Diff) EditError) (book : OpenBook) (results : Results) (seen : Session) → session_of book results ≡ seen → IsTrue (is_of_entries edit)
+    → Plans plan (document_in book).book (changed edit (document_in book).book) → IsPlanOf edit plan seen.document
+plan_of edit plan book results seen same is plans = subst (λ (session : Session). IsPlanOf edit plan session.document) same (record { of_entries = is; plans = plans })

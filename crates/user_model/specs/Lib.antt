@@ -9,3 +9,5 @@ pub mod Opened
 pub mod Stands
 pub mod Untested
 pub mod Beginning
+pub mod Reading
+pub mod Structure

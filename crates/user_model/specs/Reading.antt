@@ -4,6 +4,8 @@ use Rattle.std.specs.Prelude.{◌==◌, if◌then◌else◌}
 use Rattle.base_values.specs.declared.EditError.{EditError}
 use Rattle.base_values.specs.declared.Position.{Position}
 use Rattle.base_values.specs.Answers.{and_then, map_ok}
+use Rattle.base_axis.specs.declared.Area.{Area}
+use Rattle.base_axis.specs.declared.MergedCell.{MergedCell}
 use Rattle.base_tables.specs.declared.Language.{Language}
 use Rattle.base_tables.specs.declared.Locale.{Locale}
 use Rattle.formula_tree.specs.declared.Node.{Node}
@@ -13,6 +15,7 @@ use Rattle.cell_content.specs.declared.Content.{Content}
 use Rattle.cell_content.specs.declared.Content.TheVariants.{Empty}
 use Rattle.cell_input.specs.Inputs.{input_of, input_text}
 use Rattle.sheet_grid.specs.declared.Cell.{Cell}
+use Rattle.sheet_grid.specs.declared.Link.{Link}
 use Rattle.sheet_grid.specs.Sheet.{Sheet, cell_at}
 use Rattle.sheet_grid.specs.Book.{Book, sheet_at}
 
@@ -32,6 +35,14 @@ without_sign (c ∷ rest) = if c == 61 then rest else c ∷ rest
 -- the formula that a text is read as at a row and a column
 abbrev pub formula_typed : Book → Language → ℤ → ℤ → List ℕ → Node
 formula_typed book language row column text = formula_of (profile_at (record { row = row; column = column }) book.locale language) (without_sign text)
+
+-- a link to a target
+abbrev pub link_to : List ℕ → Link
+link_to target = record { target = target }
+
+-- the rectangle of an area, whatever its sheet
+abbrev pub rectangle_of : Area → MergedCell
+rectangle_of area = record { row = area.row; column = area.column; width = area.width; height = area.height }
 
 -- the content of a cell, or of none
 abbrev pub content_in : Option Cell → Content

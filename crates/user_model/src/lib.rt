@@ -8,9 +8,12 @@
 mod install;
 mod laws;
 mod open_book;
+mod reading;
 mod recalc;
+mod structure;
 mod user_model;
 
 pub use laws::edits_go_both_ways;
 pub use recalc::{ClearAll, Recalc};
+pub use structure::CellArrayStructure;
 pub use user_model::UserModel;

@@ -1,5 +1,6 @@
 ghost use Rattle.std.specs.Prelude.{◌≡◌};
 ghost use Rattle.std.specs.List.{find};
+ghost use Rattle.base_values.specs.Answers.{Returns};
 ghost use Rattle.base_axis.specs.Rectangles.{holds};
 ghost use Rattle.sheet_grid.specs.Arrays.{arrays_of};
 ghost use Rattle.sheet_stand.specs.Computed.{value_at};
@@ -106,7 +107,7 @@ fn structure_in(
     }
 }
 
-/// The place at a row and a column of the sheet at an index. It takes no memory.
+/// How the cell at a row and a column of the sheet at an index stands to the arrays of the sheet.
 pub(crate) fn structure_at(
     values: &Computed,
     workbook: &Workbook,
@@ -114,7 +115,7 @@ pub(crate) fn structure_at(
     row: i32,
     column: i32,
 ) -> Result<CellArrayStructure, EditError>
-    ensures { result ≡ structure_at sheet row column values.now workbook.now }
+    ensures { Returns result (structure_at sheet row column values.now workbook.now) }
 {
     let found = workbook.worksheet(sheet)?;
     let place = place_of(row, column)?;

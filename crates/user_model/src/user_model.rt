@@ -1,5 +1,7 @@
 ghost use Rattle.std.specs.Prelude.{◌≡◌, ◌⊎◌, [], ◌∷◌, true, false, None, Some, Ok, Err, not, IfOk, IfErr, IfSome, IsTrue, OnOk, OnErr, IsOkUnless};
-ghost use Rattle.base_values.specs.Answers.{Edits};
+ghost use Rattle.std.specs.Prelude.{string_bytes};
+ghost use Rattle.base_values.specs.Answers.{Edits, Returns, map_ok};
+ghost use Rattle.cell_content.specs.KeptContent.{IsKeptContent};
 ghost use Rattle.base_values.specs.declared.EditError.TheVariants.{NoMemory, ParseDiffs};
 ghost use Rattle.base_tables.specs.declared.Language.TheVariants.{En};
 ghost use Rattle.line_edits.specs.declared.EditKind.TheVariants.{Insert, Delete};
@@ -10,8 +12,11 @@ ghost use Rattle.sheet_rules.specs.WellFormed.{IsWellFormed};
 ghost use Rattle.sheet_wire.specs.QueueBytes.{FitsQueue, IsNoQueue, spell_queue};
 ghost use Rattle.sheet_actions.specs.Shown.{book_of};
 ghost use Rattle.edit_plans.specs.Edits.{Edit as AnyEdit, is_silent};
-ghost use Rattle.edit_plans.specs.Edits.Edit.{SetLink, Merge, Unmerge, Lines, MoveLines};
+ghost use Rattle.edit_plans.specs.Inputs.{IsInput};
+ghost use Rattle.edit_plans.specs.Edits.Edit.{Input, SetLink, Merge, Unmerge, Lines, MoveLines};
 ghost use Rattle.user_model.specs.Beginning.{new_state};
+ghost use Rattle.user_model.specs.Reading.{content_text, link_to, rectangle_of, typed};
+ghost use Rattle.user_model.specs.Structure.{structure_at};
 ghost use Rattle.user_model.specs.Machine.{State, begun, edit_of, undo_of, redo_of, synced_of, sync_bytes};
 ghost use Rattle.user_model.specs.Sound.{Carries};
 ghost use Rattle.user_model.specs.Stands.{StandsFor, IsReached, IsAnyPlan, IsPlanOf, Leaves, Moves, Opens, Turns};
@@ -19,17 +24,21 @@ ghost use Rattle.user_model.specs.Values.{IsMade, Makes, is_none_left};
 
 use crate::install::values_of;
 use crate::open_book::OpenBook;
+use crate::reading::{context_at, find_input_place, find_place, read_at};
 use crate::recalc::{Recalc, Results};
-use base_axis::{Axis, ColumnAxis, MergedCell, RowAxis};
+use crate::structure::{CellArrayStructure, structure_at};
+use base_axis::{Area, Axis, ColumnAxis, MergedCell, RowAxis};
 use base_tables::{Language, get_language, get_locale, get_zone};
-use base_values::{EditError, Items, copy_of};
-use edit_plans::{plan_link, plan_merge, plan_unmerge};
+use base_values::{EditError, Items, Text, copy_of, place_of};
+use cell_input::print_content;
+use edit_plans::{plan_input, plan_link, plan_merge, plan_unmerge};
 use line_map::EditKind;
 use sheet_actions::Model as PlainModel;
-use sheet_grid::{DefaultStyle, Link, Workbook};
+use sheet_grid::{Content, DefaultStyle, Link, Workbook};
 use sheet_history::{DiffList, History, LineAxis};
 use sheet_wire::{decode_queue, encode_queue};
 use std::alloc::Global;
+use std::fmt;
 use std::marker::Model;
 
 /// A workbook as a user edits it: with undo, redo, a queue of what other copies have not had yet, and
@@ -106,6 +115,34 @@ fn open<R: Recalc + Drop>(
     })
 }
 
+/// The rectangle of an area, whatever its sheet.
+fn rectangle_of(area: &Area) -> MergedCell
+    ensures { result ≡ rectangle_of area.now }
+{
+    MergedCell {
+        row: area.row,
+        column: area.column,
+        width: area.width,
+        height: area.height,
+    }
+}
+
+/// A link to a target.
+fn link_to(alloc: Global, target: &str) -> Result<Link, EditError>
+    ensures made { IfOk result (λ link. link ≡ link_to target.now) }
+    ensures only { IsOkUnless result NoMemory }
+{
+    Ok(Link {
+        target: Text::new(String::from_str(alloc, target)?),
+    })
+}
+
+impl<R> fmt::Debug for UserModel<R> {
+    fn fmt(&self, f: &mut fmt::Formatter<'_>) -> fmt::Result {
+        f.write_str("UserModel")
+    }
+}
+
 impl<R: Recalc + Drop> UserModel<R> {
     /// A new workbook with a name and one empty sheet, `Sheet1` of id 1, in a locale, a time zone and
     /// a display language that are given by their names. Its values are made.
@@ -172,6 +209,63 @@ impl<R: Recalc + Drop> UserModel<R> {
         ensures { result.now ≡ self.now.document.book.name }
     {
         self.book.workbook.name()
+    }
+
+    /// The text that the cell at a row and a column of the sheet at an index shows for editing: read
+    /// as an input there, it gives the content again. It is empty where there is no cell.
+    ///
+    /// `InvalidSheet` where there is no such sheet, else `InvalidRow` where the row is outside the
+    /// sheet, else `InvalidColumn` where the column is, else `NoMemory` where there is not enough.
+    ///
+    /// ```
+    /// let text = model.get_cell_content(0, 2, 2)?;
+    /// ```
+    pub fn get_cell_content(&self, sheet: u32, row: i32, column: i32) -> Result<String, EditError>
+        ensures { Returns (map_ok string_bytes result) (content_text sheet row column self.now.document.book self.now.document.language) }
+    {
+        let book = &self.book;
+        let found = book.workbook.worksheet(sheet)?;
+        let place = place_of(row, column)?;
+        let context = context_at(book.alloc, place);
+        let locale = book.workbook.locale();
+        match found.shared_cell(row, column)? {
+            Some(cell) => print_content(
+                book.alloc,
+                &cell.get().content,
+                &context,
+                locale,
+                book.language,
+            ),
+            None => Ok(String::new(book.alloc)),
+        }
+    }
+
+    /// How the cell at a row and a column of the sheet at an index stands to the arrays of the sheet.
+    /// Entered arrays come before dynamic formulas, and of either the first by position; a dynamic
+    /// formula without a computed value fills one cell.
+    ///
+    /// `InvalidSheet` where there is no such sheet, else `InvalidRow` where the row is outside the
+    /// sheet, else `InvalidColumn` where the column is.
+    ///
+    /// ```
+    /// if let CellArrayStructure::ArrayAnchor(width, height) = model.get_cell_array_structure(0, 1, 1)? {
+    /// }
+    /// ```
+    pub fn get_cell_array_structure(
+        &self,
+        sheet: u32,
+        row: i32,
+        column: i32,
+    ) -> Result<CellArrayStructure, EditError>
+        ensures { Returns result (structure_at sheet row column self.now.values self.now.document.book) }
+    {
+        structure_at(
+            &self.results.values,
+            &self.book.workbook,
+            sheet,
+            row,
+            column,
+        )
     }
 
     /// Whether there is something to take back. It takes no memory.
@@ -277,6 +371,74 @@ impl<R: Recalc + Drop> UserModel<R> {
         )
     }
 
+    /// Puts a content at a row and a column of the sheet at an index, and records the change.
+    fn set_content(
+        &mut self,
+        sheet: u32,
+        row: i32,
+        column: i32,
+        content: Content,
+    ) -> Result<(), EditError>
+        requires kept { IsKeptContent content }
+        requires input { IsInput row column content }
+        ensures next { (state : State) → StandsFor self.old.document state → Moves result self.new.document (edit_of (Input sheet row column content) state) }
+        ensures made { OnOk result (IsMade R.Fits self.new) }
+        ensures err { OnErr result (self.new ≡ self.old) }
+        ensures paused { self.new.paused ≡ self.old.paused }
+    {
+        let book = &self.book;
+        let plan = plan_input(
+            book.alloc,
+            &book.plain,
+            &book.workbook,
+            sheet,
+            row,
+            column,
+            content,
+        );
+        self.make(plan)
+    }
+
+    /// Reads a text as a user types it into the cell at a row and a column of the sheet at an index,
+    /// in the workbook's locale and the display language, and records the change. Sheets are counted
+    /// from 0, rows and columns from 1. What follows `=` is a formula, what follows `'` a text; a text
+    /// that is no formula is kept as it is. The cell keeps its style; a new one has the style that its
+    /// place showed. An empty text takes the content and the link away, and makes no cell.
+    ///
+    /// `InvalidSheet` where there is no such sheet, else `InvalidRow` where the row is outside the
+    /// sheet, else `InvalidColumn` where the column is, else `CoveredCell` where a merge covers the
+    /// cell, else `ArrayCell` where an array of more than one cell holds it, else `NoMemory` where
+    /// there is not enough. An error changes nothing.
+    ///
+    /// ```
+    /// model.set_user_input(0, 1, 1, "Rent")?;
+    /// model.set_user_input(0, 1, 2, "1250.50")?;
+    /// model.set_user_input(0, 2, 2, "=B1*12")?;
+    /// ```
+    pub fn set_user_input(
+        &mut self,
+        sheet: u32,
+        row: i32,
+        column: i32,
+        value: &str,
+    ) -> Result<(), EditError>
+        ensures next { (state : State) → StandsFor self.old.document state → Moves result self.new.document (edit_of (Input sheet row column (typed state.present state.language row column value.now)) state) }
+        ensures made { OnOk result (IsMade R.Fits self.new) }
+        ensures err { OnErr result (self.new ≡ self.old) }
+        ensures paused { self.new.paused ≡ self.old.paused }
+    {
+        let book = &self.book;
+        let place = find_input_place(&book.workbook, sheet, row, column)?;
+        let content = read_at(
+            book.alloc,
+            place,
+            value,
+            book.workbook.locale(),
+            book.language,
+        )?;
+        self.set_content(sheet, row, column, content)
+    }
+
     /// Puts a link at a row and a column of the sheet at an index, or takes the one there away, and
     /// records the change.
     fn put_link(
@@ -296,28 +458,31 @@ impl<R: Recalc + Drop> UserModel<R> {
         self.make(plan)
     }
 
-    /// Puts a link at a row and a column of the sheet at an index, counted from 0, and records the
-    /// change. Rows and columns are counted from 1.
+    /// Puts a link to a target at a row and a column of the sheet at an index, counted from 0, and
+    /// records the change. Rows and columns are counted from 1.
     ///
     /// `InvalidSheet` where there is no such sheet, else `InvalidRow` where the row is outside the
     /// sheet, else `InvalidColumn` where the column is, else `NoMemory` where there is not enough. An
     /// error changes nothing.
     ///
     /// ```
-    /// model.set_cell_link(0, 1, 1, link)?;
+    /// model.set_cell_link(0, 1, 1, "https://example.org/rent")?;
     /// ```
     pub fn set_cell_link(
         &mut self,
         sheet: u32,
         row: i32,
         column: i32,
-        link: Link,
+        target: &str,
     ) -> Result<(), EditError>
-        ensures next { (state : State) → StandsFor self.old.document state → Moves result self.new.document (edit_of (SetLink sheet row column (Some link)) state) }
+        ensures next { (state : State) → StandsFor self.old.document state → Moves result self.new.document (edit_of (SetLink sheet row column (Some (link_to target.now))) state) }
         ensures made { OnOk result (IsMade R.Fits self.new) }
         ensures err { OnErr result (self.new ≡ self.old) }
         ensures paused { self.new.paused ≡ self.old.paused }
     {
+        let book = &self.book;
+        let _place = find_place(&book.workbook, sheet, row, column)?;
+        let link = link_to(book.alloc, target)?;
         self.put_link(sheet, row, column, Some(link))
     }
 
@@ -336,14 +501,28 @@ impl<R: Recalc + Drop> UserModel<R> {
         self.put_link(sheet, row, column, None)
     }
 
-    /// Merges the cells of a rectangle of the sheet at an index, and records the change. The cells
-    /// that the merge covers lose their contents.
+    /// Merges the cells of a rectangle of a sheet, and records the change. The cells that the merge
+    /// covers lose their contents.
     ///
     /// `InvalidSheet` where there is no such sheet, else `InvalidArea` where the rectangle has fewer
     /// than two cells or reaches outside the sheet, else `MergeOverlap` where it meets a merge, else
     /// `ArrayCell` where it meets an array of more than one cell, else `NoMemory` where there is not
     /// enough. An error changes nothing.
-    pub fn merge_cells(&mut self, sheet: u32, area: MergedCell) -> Result<(), EditError>
+    ///
+    /// ```
+    /// model.merge_cells(&Area { sheet: 0, row: 1, column: 1, width: 3, height: 1 })?;
+    /// ```
+    pub fn merge_cells(&mut self, area: &Area) -> Result<(), EditError>
+        ensures next { (state : State) → StandsFor self.old.document state → Moves result self.new.document (edit_of (Merge area.now.sheet (rectangle_of area.now)) state) }
+        ensures made { OnOk result (IsMade R.Fits self.new) }
+        ensures err { OnErr result (self.new ≡ self.old) }
+        ensures paused { self.new.paused ≡ self.old.paused }
+    {
+        self.merge(area.sheet, rectangle_of(area))
+    }
+
+    /// Merges the cells of a rectangle of the sheet at an index.
+    fn merge(&mut self, sheet: u32, area: MergedCell) -> Result<(), EditError>
         ensures next { (state : State) → StandsFor self.old.document state → Moves result self.new.document (edit_of (Merge sheet area) state) }
         ensures made { OnOk result (IsMade R.Fits self.new) }
         ensures err { OnErr result (self.new ≡ self.old) }

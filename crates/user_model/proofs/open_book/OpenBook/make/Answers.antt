@@ -2,7 +2,7 @@ use Rattle.std.proofs.Common.{refl, subst}
 use Rattle.std.proofs.lemmas.Result.{err_from_is_err_and}
 use Rattle.base_values.specs.Answers.{Edits}
 use Rattle.user_model.specs.Opened.{document_in}
-use Rattle.user_model.proofs.EntrySteps.{plan_kept, plan_document, plan_accepted, plan_sound, plan_refused, plan_asked}
+use Rattle.user_model.proofs.EntrySteps.{plan_kept, plan_works, plan_document, plan_accepted, plan_sound, plan_refused, plan_asked}
 use Rattle.user_model.proofs.Moving.{changes_from, on_ok}
 use Rattle.user_model.proofs.open_book.OpenBook.make.Goals as goal
 
@@ -31,3 +31,8 @@ returns-clause-document g c = λ edit it.
 
 pub returns-clause-sound : goal.returns-clause-sound
 returns-clause-sound g c = λ edit it. on_ok c.apply.result (plan_sound edit (document_in c.args.self.now) c.requires.rules c.in_ok-list.list it)
+
+pub apply-requires-clause-works : goal.apply-requires-clause-works
+apply-requires-clause-works g c =
+    let plan = c.requires.plan in
+    plan_works plan.0 (document_in c.args.self.now) c.requires.rules c.in_ok-list.list plan.1

@@ -9,7 +9,7 @@ mod MoveSteps
 mod Moving
 mod Recording
 mod Refusals
-mod Reads
+mod Unread
 mod Received
 mod Sounds
 mod Spelled

@@ -1,4 +1,4 @@
-ghost use Rattle.std.specs.Prelude.{◌≡◌, ◌≢◌, ◌⊎◌, ◌||◌, length, true, Ok, Err, [], ◌∷◌, pos, take, int_lt, IfOk, IfNone, IfSome, IsOk, IsTrue, OnOk, OnErr, IsOkUnless};
+ghost use Rattle.std.specs.Prelude.{◌≡◌, ◌≢◌, ◌⊎◌, ◌||◌, length, true, Ok, Err, [], ◌∷◌, pos, take, int_lt, nat_lt, IfOk, IfNone, IfSome, IsOk, IsTrue, OnOk, OnErr, IsOkUnless};
 ghost use Rattle.std.specs.Ordering.{int_eq};
 ghost use Rattle.base_values.specs.Answers.{Returns, Changes, Edits, map_ok};
 ghost use Rattle.base_values.specs.declared.EditError.TheVariants.{NoMemory};
@@ -8,6 +8,7 @@ ghost use Rattle.sheet_history.specs.Diffs.{IsKeptDiff, IsKeptList, IsKeptQueue,
 ghost use Rattle.sheet_history.specs.Stacks.{undone, redone};
 ghost use Rattle.sheet_history.specs.LineDiffs.{along_of};
 ghost use Rattle.sheet_history.specs.declared.Diff.TheVariants.{Lines as LinesDiff};
+ghost use Rattle.sheet_history.specs.declared.DiffType.TheVariants.{Redo};
 ghost use Rattle.sheet_wire.specs.QueueBytes.{IsKnownDiff};
 ghost use Rattle.edit_plans.specs.Edits.{Edit as AnyEdit, is_silent as is_silent_edit};
 ghost use Rattle.edit_plans.specs.Edits.Edit.{Lines, MoveLines};
@@ -129,27 +130,62 @@ fn stale_after(kept: bool, before: usize, count: usize) -> usize
     if kept { before } else { count }
 }
 
-/// Makes room for a list on the stacks, and puts it in the queue. It holds the record together with
-/// the stacks.
-fn send(
-    history: &mut History,
+/// Makes room for one list more on either stack.
+fn make_room(history: &mut History) -> Result<(), EditError>
+    ensures room { OnOk result (IsTrue history.new.has_room) }
+    ensures undo { history.new.undo ≡ history.old.undo }
+    ensures redo { history.new.redo ≡ history.old.redo }
+    ensures only { IsOkUnless result NoMemory }
+{
+    history.reserve()
+}
+
+/// Puts a list in the queue. It holds the record together with others.
+fn enqueue(
     queue: &mut Items<QueueDiffs>,
     kind: DiffType,
     list: &DiffList,
 ) -> Result<(), EditError>
     ensures sent { OnOk result (queue.new ≡ sending kind list.now queue.old) }
+    ensures queue { OnErr result (queue.new ≡ queue.old) }
+    ensures only { IsOkUnless result NoMemory }
+{
+    queue.push(QueueDiffs {
+        kind,
+        list: copy_of(list)?,
+    })?;
+    Ok(())
+}
+
+/// Makes room for a list on the stacks, and puts it in the queue as one that was made.
+fn send(
+    history: &mut History,
+    queue: &mut Items<QueueDiffs>,
+    list: &DiffList,
+) -> Result<(), EditError>
+    ensures sent { OnOk result (queue.new ≡ sending Redo list.now queue.old) }
     ensures room { OnOk result (IsTrue history.new.has_room) }
     ensures queue { OnErr result (queue.new ≡ queue.old) }
     ensures undo { history.new.undo ≡ history.old.undo }
     ensures redo { history.new.redo ≡ history.old.redo }
     ensures only { IsOkUnless result NoMemory }
 {
-    history.reserve()?;
-    queue.push(QueueDiffs {
-        kind,
-        list: copy_of(list)?,
-    })?;
-    Ok(())
+    make_room(history)?;
+    enqueue(queue, DiffType::Redo, list)
+}
+
+/// Whether the newest list to undo is one of a step that is kept.
+fn has_undo_step(history: &History, stale: usize) -> bool
+    ensures { result ≡ nat_lt stale (length history.now.undo) }
+{
+    stale < undo_len(history)
+}
+
+/// Whether the newest list to redo is one of a step that is kept.
+fn has_redo_step(history: &History, stale: usize) -> bool
+    ensures { result ≡ nat_lt stale (length history.now.redo) }
+{
+    stale < redo_len(history)
 }
 
 /// Moves the newest list of the undo stack to the redo stack, where there is room for it, and counts
@@ -234,7 +270,7 @@ impl OpenBook {
         ensures paused { results.new.paused ≡ results.old.paused }
     {
         let length = self.queue.len();
-        send(&mut self.history, &mut self.queue, DiffType::Redo, &list)?;
+        send(&mut self.history, &mut self.queue, &list)?;
         if let Err(error) = install(
             self.alloc,
             &mut self.workbook,
@@ -289,7 +325,7 @@ impl OpenBook {
         ensures paused { results.new.paused ≡ results.old.paused }
     {
         let values = values_of(self.alloc, &later, results.paused, recalc)?;
-        send(&mut self.history, &mut self.queue, DiffType::Redo, &list)?;
+        send(&mut self.history, &mut self.queue, &list)?;
         results.values = values;
         self.workbook = later;
         self.stale_redo = 0;
@@ -395,16 +431,13 @@ impl OpenBook {
         ensures err { OnErr result (results.new ≡ results.old) }
         ensures paused { results.new.paused ≡ results.old.paused }
     {
-        let kept = self.stale_undo < undo_len(&self.history);
-        self.history.reserve()?;
+        let kept = has_undo_step(&self.history, self.stale_undo);
+        make_room(&mut self.history)?;
         let Some(list) = self.history.last_undo() else {
             return Ok(());
         };
         let length = self.queue.len();
-        self.queue.push(QueueDiffs {
-            kind: DiffType::Undo,
-            list: copy_of(list)?,
-        })?;
+        enqueue(&mut self.queue, DiffType::Undo, list)?;
         if let Err(error) = install(
             self.alloc,
             &mut self.workbook,
@@ -436,16 +469,13 @@ impl OpenBook {
         ensures err { OnErr result (results.new ≡ results.old) }
         ensures paused { results.new.paused ≡ results.old.paused }
     {
-        let kept = self.stale_redo < redo_len(&self.history);
-        self.history.reserve()?;
+        let kept = has_redo_step(&self.history, self.stale_redo);
+        make_room(&mut self.history)?;
         let Some(list) = self.history.last_redo() else {
             return Ok(());
         };
         let length = self.queue.len();
-        self.queue.push(QueueDiffs {
-            kind: DiffType::Redo,
-            list: copy_of(list)?,
-        })?;
+        enqueue(&mut self.queue, DiffType::Redo, list)?;
         if let Err(error) = install(
             self.alloc,
             &mut self.workbook,

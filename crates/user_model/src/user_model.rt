@@ -138,7 +138,7 @@ fn link_to(alloc: Global, target: &str) -> Result<Link, EditError>
 }
 
 impl<R> fmt::Debug for UserModel<R> {
-    fn fmt(&self, f: &mut fmt::Formatter<'_>) -> fmt::Result {
+    fn fmt<W: fmt::Write>(&self, f: &mut fmt::Formatter<W>) -> fmt::Result {
         f.write_str("UserModel")
     }
 }

@@ -7,7 +7,7 @@ use Rattle.user_model.specs.Machine.{State}
 use Rattle.user_model.specs.Opened.{document_in, session_of}
 use Rattle.user_model.specs.Stands.{StandsFor, Leaves}
 use Rattle.user_model.specs.Values.{Session, IsMade}
-use Rattle.user_model.proofs.Reads.{unread_leaves, unread_edits, parse_no_queue, read_leaves, left_reached}
+use Rattle.user_model.proofs.Unread.{unread_leaves, unread_edits, parse_no_queue, read_leaves, left_reached}
 use Rattle.user_model.proofs.Refusals.{never_unread}
 use Rattle.user_model.proofs.user_model.UserModel.apply_external_diffs.Goals as goal
 

@@ -1,13 +1,17 @@
 -- An input is refused by its place alone, before its text is read.
 use Rattle.std.proofs.Common.{◌≡◌, ◌≢◌, ℕ, ℤ, pos, Bool, true, false, cond, Option, Some, None, Result, Ok, Err, refl, ap, sym, subst, ◌∙◌}
-use Rattle.std.specs.Prelude.{IsOk, is_some, slice_get}
+use Rattle.std.specs.Prelude.{IsOk, is_some, not, slice_get}
 use Rattle.base_values.specs.declared.EditError.{EditError}
-use Rattle.base_values.specs.declared.EditError.TheVariants.{NoMemory, InvalidSheet, InvalidRow, InvalidColumn, CoveredCell, ArrayCell}
+use Rattle.base_values.specs.declared.EditError.TheVariants.{NoMemory, InvalidSheet, InvalidRow, InvalidColumn, InvalidArea, CoveredCell, ArrayCell}
 use Rattle.base_values.specs.declared.Position.{Position}
 use Rattle.base_values.specs.Answers.{and_then, map_ok, ok_or}
 use Rattle.base_values.specs.KeyMap.{with_entry}
 use Rattle.base_values.specs.Places.{is_line, place_of}
+use Rattle.base_axis.specs.declared.MergedCell.{MergedCell}
+use Rattle.base_axis.specs.Rectangles.{is_inside}
+use Rattle.formula_tree.specs.declared.Node.{Node}
 use Rattle.cell_content.specs.declared.Content.{Content}
+use Rattle.sheet_grid.specs.Arrays.{large_arrays_of}
 use Rattle.sheet_grid.specs.declared.Link.{Link}
 use Rattle.sheet_grid.specs.Sheet.{Sheet, link_put}
 use Rattle.sheet_grid.specs.Book.{Book, sheet_at, with_sheet}
@@ -15,9 +19,11 @@ use Rattle.edit_plans.specs.Edits.{Edit, changed, is_silent}
 use Rattle.edit_plans.specs.Edits.Edit.{Input, SetLink}
 use Rattle.sheet_grid.specs.Merges.{is_covered}
 use Rattle.sheet_grid.specs.laws.FittingLaws.{place_is}
-use Rattle.sheet_rules.specs.Occupied.{array_over}
+use Rattle.sheet_rules.specs.Occupied.{array_over, meets_any}
 use Rattle.edit_plans.specs.Inputs.{free_place, input_place, input_put, with_input}
+use Rattle.edit_plans.specs.ArrayInputs.{array_in_sheet, array_put, hits_merge, with_array}
 use Rattle.edit_plans.specs.Links.{link_set}
+use Rattle.user_model.specs.ArrayPlaces.{array_goes, free_rectangle}
 use Rattle.user_model.specs.Document.{Document}
 use Rattle.user_model.specs.Machine.{State, edit_of, edited}
 use Rattle.user_model.specs.Stands.{StandsFor, Moves}
@@ -120,6 +126,49 @@ short_moves edit doc s stands loud is = record {
   refused = λ other. absurd (other refl);
   memory = λ short. edit_accepted edit s loud (subst (λ (d : Document). IsOk (changed edit d.book)) stands.document is);
 }
+
+-- ---- arrays
+
+module _ (index : ℕ) (r : MergedCell) (book : Book) where
+  pub array_refused : (tree : Node) (error : EditError) → array_goes index r book ≡ Err error → array_put index r tree book ≡ Err error
+  unfolding array_put
+  array_refused tree error is = at_sheet (sheet_at book index) is
+    where
+      tests : (sheet : Sheet) (place : Position) (a b c : Bool) → cond a (Err InvalidArea) (cond b (Err CoveredCell) (cond c (Err ArrayCell) (Ok place))) ≡ Err error
+          → map_ok (with_sheet book index) (cond a (Err InvalidArea) (cond b (Err CoveredCell) (cond c (Err ArrayCell) (Ok (with_array sheet r tree))))) ≡ Err error
+      tests sheet place true b c e = let same : InvalidArea ≡ error = cc in ap Err same
+      tests sheet place false true c e = let same : CoveredCell ≡ error = cc in ap Err same
+      tests sheet place false false true e = let same : ArrayCell ≡ error = cc in ap Err same
+      tests sheet place false false false e = absurd (let never : ◌≡◌ {A = Result Position EditError} (Ok place) (Err error) = e in cc)
+
+      at_place : (sheet : Sheet) (p : Result Position EditError) → and_then p (free_rectangle r sheet) ≡ Err error → map_ok (with_sheet book index) (and_then p (λ place. array_in_sheet r tree sheet)) ≡ Err error
+      at_place sheet (Ok place) e = tests sheet place (not (is_inside r)) (hits_merge sheet r) (meets_any (large_arrays_of sheet) r) e
+      at_place sheet (Err other) e = let same : other ≡ error = cc in ap Err same
+
+      at_sheet : (s : Result Sheet EditError) → and_then s (λ sheet. and_then (place_of r.row r.column) (free_rectangle r sheet)) ≡ Err error
+          → and_then s (λ sheet. map_ok (with_sheet book index) (and_then (place_of r.row r.column) (λ place. array_in_sheet r tree sheet))) ≡ Err error
+      at_sheet (Ok sheet) e = at_place sheet (place_of r.row r.column) e
+      at_sheet (Err other) e = let same : other ≡ error = cc in ap Err same
+
+  pub array_accepted : (tree : Node) (place : Position) → array_goes index r book ≡ Ok place → IsOk (array_put index r tree book)
+  unfolding array_put
+  array_accepted tree place is = at_sheet (sheet_at book index) is
+    where
+      tests : (sheet : Sheet) (p : Position) (a b c : Bool) → cond a (Err InvalidArea) (cond b (Err CoveredCell) (cond c (Err ArrayCell) (Ok p))) ≡ Ok place
+          → IsOk (map_ok (with_sheet book index) (cond a (Err InvalidArea) (cond b (Err CoveredCell) (cond c (Err ArrayCell) (Ok (with_array sheet r tree))))))
+      tests sheet p true b c e = absurd (let never : ◌≡◌ {A = Result Position EditError} (Err InvalidArea) (Ok place) = e in cc)
+      tests sheet p false true c e = absurd (let never : ◌≡◌ {A = Result Position EditError} (Err CoveredCell) (Ok place) = e in cc)
+      tests sheet p false false true e = absurd (let never : ◌≡◌ {A = Result Position EditError} (Err ArrayCell) (Ok place) = e in cc)
+      tests sheet p false false false e = refl
+
+      at_place : (sheet : Sheet) (p : Result Position EditError) → and_then p (free_rectangle r sheet) ≡ Ok place → IsOk (map_ok (with_sheet book index) (and_then p (λ place. array_in_sheet r tree sheet)))
+      at_place sheet (Ok q) e = tests sheet q (not (is_inside r)) (hits_merge sheet r) (meets_any (large_arrays_of sheet) r) e
+      at_place sheet (Err error) e = absurd (let never : ◌≡◌ {A = Result Position EditError} (Err error) (Ok place) = e in cc)
+
+      at_sheet : (s : Result Sheet EditError) → and_then s (λ sheet. and_then (place_of r.row r.column) (free_rectangle r sheet)) ≡ Ok place
+          → IsOk (and_then s (λ sheet. map_ok (with_sheet book index) (and_then (place_of r.row r.column) (λ place. array_in_sheet r tree sheet))))
+      at_sheet (Ok sheet) e = at_place sheet (place_of r.row r.column) e
+      at_sheet (Err error) e = absurd (let never : ◌≡◌ {A = Result Position EditError} (Err error) (Ok place) = e in cc)
 
 -- ---- links
 

@@ -44,6 +44,10 @@ link_to target = record { target = target }
 abbrev pub rectangle_of : Area → MergedCell
 rectangle_of area = record { row = area.row; column = area.column; width = area.width; height = area.height }
 
+-- the rectangle of a first row and column, a width and a height
+abbrev pub rectangle : ℤ → ℤ → ℤ → ℤ → MergedCell
+rectangle row column width height = record { row = row; column = column; width = width; height = height }
+
 -- the content of a cell, or of none
 abbrev pub content_in : Option Cell → Content
 content_in None = Empty

@@ -246,12 +246,33 @@ fn of_entry(at: u64, error: EditError) -> EditError
 
 impl OpenBook {
     ghost use Rattle.sheet_history.specs.Records.{IsLineEdit, line_record};
-    ghost use Rattle.user_model.specs.Document.{list_recorded, lines_recorded, document_edit, document_undo, document_redo, document_received};
+    ghost use Rattle.user_model.specs.Document.{document, list_recorded, lines_recorded, document_edit, document_undo, document_redo, document_received};
     ghost use Rattle.user_model.specs.Opened.{document_in, session_of};
     ghost use Rattle.user_model.specs.Sound.{IsSoundChange};
-    ghost use Rattle.user_model.specs.Machine.{State};
+    ghost use Rattle.user_model.specs.Machine.{State, begun};
     ghost use Rattle.user_model.specs.Stands.{IsAnyPlan, IsPlanOf, IsReached, Leaves, StandsFor};
     ghost use Rattle.user_model.specs.Values.{AreMade, IsMade, Makes, is_none_left};
+
+    /// A workbook with nothing to undo and nothing to send.
+    pub(crate) fn new(
+        alloc: Global,
+        workbook: Workbook,
+        language: Language,
+    ) -> Result<OpenBook, EditError>
+        ensures document { IfOk result (λ book. document_in book ≡ document (begun language workbook)) }
+        ensures only { IsOkUnless result NoMemory }
+    {
+        Ok(OpenBook {
+            alloc,
+            plain: DefaultStyle::new(alloc)?,
+            workbook,
+            history: History::new(alloc),
+            stale_undo: 0,
+            stale_redo: 0,
+            queue: Items::empty(alloc),
+            language,
+        })
+    }
 
     /// Makes the changes of a list in the workbook, and puts the list on the undo stack and in the
     /// queue. The list is known not to be refused. An error changes nothing.

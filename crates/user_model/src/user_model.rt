@@ -1,6 +1,10 @@
 ghost use Rattle.std.specs.Prelude.{◌≡◌, ◌⊎◌, [], ◌∷◌, true, false, None, Some, Ok, Err, not, IfOk, IfErr, IfSome, IsTrue, OnOk, OnErr, IsOkUnless};
 ghost use Rattle.std.specs.Prelude.{string_bytes};
 ghost use Rattle.base_values.specs.Answers.{Edits, Returns, map_ok};
+ghost use Rattle.base_axis.specs.Rectangles.{anchor_place};
+ghost use Rattle.formula_tree.specs.Numbers.{has_kept_numbers};
+ghost use Rattle.cell_content.specs.declared.Content.TheVariants.{Array};
+ghost use Rattle.cell_content.specs.Fitting.{fits_at};
 ghost use Rattle.cell_content.specs.KeptContent.{IsKeptContent};
 ghost use Rattle.base_values.specs.declared.EditError.TheVariants.{NoMemory, ParseDiffs};
 ghost use Rattle.base_tables.specs.declared.Language.TheVariants.{En};
@@ -13,9 +17,9 @@ ghost use Rattle.sheet_wire.specs.QueueBytes.{FitsQueue, IsNoQueue, spell_queue}
 ghost use Rattle.sheet_actions.specs.Shown.{book_of};
 ghost use Rattle.edit_plans.specs.Edits.{Edit as AnyEdit, is_silent};
 ghost use Rattle.edit_plans.specs.Inputs.{IsInput};
-ghost use Rattle.edit_plans.specs.Edits.Edit.{Input, SetLink, Merge, Unmerge, Lines, MoveLines};
+ghost use Rattle.edit_plans.specs.Edits.Edit.{Input, ArrayInput, SetLink, Merge, Unmerge, Lines, MoveLines};
 ghost use Rattle.user_model.specs.Beginning.{new_state};
-ghost use Rattle.user_model.specs.Reading.{content_text, link_to, rectangle_of, typed};
+ghost use Rattle.user_model.specs.Reading.{content_text, formula_typed, link_to, rectangle, rectangle_of, typed};
 ghost use Rattle.user_model.specs.Structure.{structure_at};
 ghost use Rattle.user_model.specs.Machine.{State, begun, edit_of, undo_of, redo_of, synced_of, sync_bytes};
 ghost use Rattle.user_model.specs.Sound.{Carries};
@@ -24,18 +28,23 @@ ghost use Rattle.user_model.specs.Values.{IsMade, Makes, is_none_left};
 
 use crate::install::values_of;
 use crate::open_book::OpenBook;
-use crate::reading::{context_at, find_input_place, find_place, read_at};
+use crate::reading::{
+    context_at, find_array_place, find_input_place, find_place, link_to, read_at, read_tree_at,
+    rectangle, rectangle_of,
+};
 use crate::recalc::{Recalc, Results};
 use crate::structure::{CellArrayStructure, structure_at};
 use base_axis::{Area, Axis, ColumnAxis, MergedCell, RowAxis};
+use base_shared::Shared;
 use base_tables::{Language, get_language, get_locale, get_zone};
-use base_values::{EditError, Items, Text, copy_of, place_of};
+use base_values::{EditError, Items, copy_of, place_of};
 use cell_input::print_content;
-use edit_plans::{plan_input, plan_link, plan_merge, plan_unmerge};
+use edit_plans::{plan_array, plan_input, plan_link, plan_merge, plan_unmerge};
+use formula_tree::Node;
 use line_map::EditKind;
 use sheet_actions::Model as PlainModel;
-use sheet_grid::{Content, DefaultStyle, Link, Workbook};
-use sheet_history::{DiffList, History, LineAxis};
+use sheet_grid::{Content, Link, Workbook};
+use sheet_history::{DiffList, LineAxis};
 use sheet_wire::{decode_queue, encode_queue};
 use std::alloc::Global;
 use std::fmt;
@@ -98,42 +107,11 @@ fn open<R: Recalc + Drop>(
         values: recalc.compute(alloc, &workbook)?,
         paused: false,
     };
-    let book = OpenBook {
-        alloc,
-        plain: DefaultStyle::new(alloc)?,
-        workbook,
-        history: History::new(alloc),
-        stale_undo: 0,
-        stale_redo: 0,
-        queue: Items::empty(alloc),
-        language,
-    };
+    let book = OpenBook::new(alloc, workbook, language)?;
     Ok(UserModel {
         book,
         results,
         recalc,
-    })
-}
-
-/// The rectangle of an area, whatever its sheet.
-fn rectangle_of(area: &Area) -> MergedCell
-    ensures { result ≡ rectangle_of area.now }
-{
-    MergedCell {
-        row: area.row,
-        column: area.column,
-        width: area.width,
-        height: area.height,
-    }
-}
-
-/// A link to a target.
-fn link_to(alloc: Global, target: &str) -> Result<Link, EditError>
-    ensures made { IfOk result (λ link. link ≡ link_to target.now) }
-    ensures only { IsOkUnless result NoMemory }
-{
-    Ok(Link {
-        target: Text::new(String::from_str(alloc, target)?),
     })
 }
 
@@ -437,6 +415,66 @@ impl<R: Recalc + Drop> UserModel<R> {
             book.language,
         )?;
         self.set_content(sheet, row, column, content)
+    }
+
+    /// Puts an array formula in a rectangle of the sheet at an index.
+    fn set_array(
+        &mut self,
+        sheet: u32,
+        area: MergedCell,
+        tree: Shared<Node>,
+    ) -> Result<(), EditError>
+        requires kept { IsTrue (has_kept_numbers tree) }
+        requires fits { IsTrue (fits_at (anchor_place area) (Array tree area.width area.height)) }
+        ensures next { (state : State) → StandsFor self.old.document state → Moves result self.new.document (edit_of (ArrayInput sheet area tree) state) }
+        ensures made { OnOk result (IsMade R.Fits self.new) }
+        ensures err { OnErr result (self.new ≡ self.old) }
+        ensures paused { self.new.paused ≡ self.old.paused }
+    {
+        let book = &self.book;
+        let plan = plan_array(book.alloc, &book.plain, &book.workbook, sheet, area, tree);
+        self.make(plan)
+    }
+
+    /// Reads a text as an array formula, with or without its `=`, whose values fill a rectangle, and
+    /// records the change. The rectangle is given by the row and the column of its first cell and by
+    /// how many columns wide and rows high it is. The first cell keeps its style, or has the one that
+    /// its place showed; the other cells lose their contents, and links stay.
+    ///
+    /// `InvalidSheet` where there is no such sheet, else `InvalidRow` where the row is outside the
+    /// sheet, else `InvalidColumn` where the column is, else `InvalidArea` where the rectangle is
+    /// empty or reaches outside, else `CoveredCell` where a merge meets it, or covers it where it is
+    /// one cell, else `ArrayCell` where an array of more than one cell meets it, else `NoMemory` where
+    /// there is not enough. An error changes nothing.
+    ///
+    /// ```
+    /// model.set_user_array_formula(0, 1, 4, 1, 3, "=A1:A3*B1:B3")?;
+    /// ```
+    pub fn set_user_array_formula(
+        &mut self,
+        sheet: u32,
+        row: i32,
+        column: i32,
+        width: i32,
+        height: i32,
+        formula: &str,
+    ) -> Result<(), EditError>
+        ensures next { (state : State) → StandsFor self.old.document state → Moves result self.new.document (edit_of (ArrayInput sheet (rectangle row column width height) (formula_typed state.present state.language row column formula.now)) state) }
+        ensures made { OnOk result (IsMade R.Fits self.new) }
+        ensures err { OnErr result (self.new ≡ self.old) }
+        ensures paused { self.new.paused ≡ self.old.paused }
+    {
+        let book = &self.book;
+        let area = rectangle(row, column, width, height);
+        let place = find_array_place(&book.workbook, sheet, area)?;
+        let tree = read_tree_at(
+            book.alloc,
+            place,
+            formula,
+            book.workbook.locale(),
+            book.language,
+        )?;
+        self.set_array(sheet, area, tree)
     }
 
     /// Puts a link at a row and a column of the sheet at an index, or takes the one there away, and

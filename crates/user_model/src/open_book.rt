@@ -10,7 +10,8 @@ ghost use Rattle.sheet_history.specs.LineDiffs.{along_of};
 ghost use Rattle.sheet_history.specs.declared.Diff.TheVariants.{Lines as LinesDiff};
 ghost use Rattle.sheet_history.specs.declared.DiffType.TheVariants.{Redo};
 ghost use Rattle.sheet_wire.specs.QueueBytes.{IsKnownDiff};
-ghost use Rattle.edit_plans.specs.Edits.{Edit as AnyEdit, is_silent as is_silent_edit};
+ghost use Rattle.edit_plans.specs.Edits.{Edit as AnyEdit, grown_move, is_silent as is_silent_edit};
+ghost use Rattle.edit_plans.specs.HiddenLines.{grown};
 ghost use Rattle.edit_plans.specs.Edits.Edit.{Lines, MoveLines};
 ghost use Rattle.user_model.specs.Document.{recorded, sending, stale_after};
 ghost use Rattle.user_model.specs.Far.{is_far};
@@ -25,7 +26,7 @@ use base_values::{EditError, Items, copy_of};
 use edit_plans::grown_delta;
 use line_map::{EditKind, LineEdit};
 use sheet_actions::{plan_delete, plan_insert, plan_move};
-use sheet_grid::{DefaultStyle, Workbook};
+use sheet_grid::{DefaultStyle, Workbook, Worksheet};
 use sheet_history::{Diff, DiffList, DiffType, History, LineAxis, QueueDiffs};
 use sheet_lines::{KeptLines, line_edit};
 use sheet_stand::{redo_len, undo_len};
@@ -114,6 +115,26 @@ fn distance(delta: i64) -> Option<i32>
         return None;
     }
     Some(delta as i32)
+}
+
+/// The move of lines of a sheet past the hidden ones in the way, if an `i32` has its distance.
+fn grown_kind<A: Axis>(
+    sheet: &Worksheet,
+    first: i32,
+    count: i32,
+    delta: i32,
+) -> Option<EditKind>
+    ensures near { IfSome result (λ kind. kind ≡ grown_move A.along first count delta sheet.now) }
+    ensures far { IfNone result (IsTrue (is_far (grown A.along sheet.now first count delta))) }
+{
+    match distance(grown_delta::<A>(sheet, first, count, delta)) {
+        Some(delta) => Some(EditKind::Move {
+            first,
+            count,
+            delta,
+        }),
+        None => None,
+    }
 }
 
 /// Whether a move is of no lines, or by none.
@@ -426,15 +447,8 @@ impl OpenBook {
             return Ok(());
         }
         let found = self.workbook.worksheet(sheet)?;
-        match distance(grown_delta::<A>(found, first, count, delta)) {
-            Some(delta) => {
-                let kind = EditKind::Move {
-                    first,
-                    count,
-                    delta,
-                };
-                self.edit_lines::<R, A>(results, recalc, sheet, axis, kind)
-            }
+        match grown_kind::<A>(found, first, count, delta) {
+            Some(kind) => self.edit_lines::<R, A>(results, recalc, sheet, axis, kind),
             None => Err(EditError::TargetOutOfBounds),
         }
     }

@@ -43,11 +43,11 @@ refused_with old new error expected f book undo redo queue stale_undo stale_redo
 
 untested_backed : (book : Book) (list : List Diff) (r : Result Book EditError) → backed book list ≡ r → IsOk r → taken_back book list ≡ r
 untested_backed book list (Ok later) is ok = passed _ (taken_back book list) later is
-untested_backed book list (Err error) is ok = absurd ok
+untested_backed book list (Err error) is ok = absurd (let never : false ≡ true = ok in cc)
 
 untested_forwarded : (book : Book) (list : List Diff) (r : Result Book EditError) → forwarded book list ≡ r → IsOk r → made book list ≡ r
 untested_forwarded book list (Ok later) is ok = passed _ (made book list) later is
-untested_forwarded book list (Err error) is ok = absurd ok
+untested_forwarded book list (Err error) is ok = absurd (let never : false ≡ true = ok in cc)
 
 pub untested : (kind : DiffType) (book : Book) (list : List Diff) → IsOk (follow kind book list) → follow_untested kind book list ≡ follow kind book list
 untested Undo book list ok = untested_backed book list (backed book list) refl ok

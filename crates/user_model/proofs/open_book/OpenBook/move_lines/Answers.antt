@@ -1,6 +1,7 @@
 use Rattle.std.proofs.Common.{◌≡◌, false, true, ap, refl, subst, sym, w32, SFits, ◌∙◌, true≢false}
 use Rattle.std.proofs.lemmas.Int.{to_z-of_z}
 use Rattle.std.proofs.lemmas.Result.{err_from_is_err_and}
+use Rattle.std.specs.Prelude.{OnOk}
 use Rattle.base_values.specs.Answers.{Changes}
 use Rattle.sheet_history.specs.LineDiffs.{along_of}
 use Rattle.edit_plans.specs.HiddenLines.{grown}
@@ -8,21 +9,41 @@ use Rattle.edit_plans.specs.Edits.{grown_move, is_silent}
 use Rattle.edit_plans.specs.Edits.Edit.{Lines, MoveLines}
 use Rattle.user_model.specs.Document.{document_edit}
 use Rattle.user_model.specs.Far.{is_far}
-use Rattle.user_model.specs.Opened.{document_in}
+use Rattle.user_model.specs.Opened.{document_in, session_of}
+use Rattle.user_model.specs.Values.{Makes}
 use Rattle.user_model.specs.Sound.{IsSoundChange}
 use Rattle.user_model.proofs.MoveSteps.{move_sound, silent_document, sheetless_document, never_short, move_document, far_document}
 use Rattle.user_model.proofs.Moving.{on_ok_map}
 use Rattle.user_model.proofs.open_book.OpenBook.move_lines.Goals as goal
 
-pub returns-then-is_silent : goal.returns-then-is_silent
-returns-then-is_silent g c =
+pub returns-then-is_silent-clause-document : goal.returns-then-is_silent-clause-document
+returns-then-is_silent-clause-document g c =
     let count_fits : SFits w32 c.args.count = c.ranges.count in
     let delta_fits : SFits w32 c.args.delta = c.ranges.delta in
     let silent : is_silent (MoveLines c.args.sheet c.args.axis c.args.first c.args.count c.args.delta) ≡ true = sym (simp to_z-of_z at c.is_silent.ensures) ∙ c.if-is_silent.true in
-    record {
-      document = record { done = silent_document c.args.sheet c.args.axis c.args.first c.args.count c.args.delta (document_in c.args.self.now) silent; refused = tt; memory = tt };
-      sound = λ loud. absurd (true≢false (sym silent ∙ loud));
-    }
+    record { done = silent_document c.args.sheet c.args.axis c.args.first c.args.count c.args.delta (document_in c.args.self.now) silent; refused = tt; memory = tt }
+
+pub returns-then-is_silent-clause-sound : goal.returns-then-is_silent-clause-sound
+returns-then-is_silent-clause-sound g c =
+    let count_fits : SFits w32 c.args.count = c.ranges.count in
+    let delta_fits : SFits w32 c.args.delta = c.ranges.delta in
+    let silent : is_silent (MoveLines c.args.sheet c.args.axis c.args.first c.args.count c.args.delta) ≡ true = sym (simp to_z-of_z at c.is_silent.ensures) ∙ c.if-is_silent.true in
+    λ loud. absurd (true≢false (sym silent ∙ loud))
+
+pub returns-then-is_silent-clause-made : goal.returns-then-is_silent-clause-made
+returns-then-is_silent-clause-made g c =
+    let count_fits : SFits w32 c.args.count = c.ranges.count in
+    let delta_fits : SFits w32 c.args.delta = c.ranges.delta in
+    let silent : is_silent (MoveLines c.args.sheet c.args.axis c.args.first c.args.count c.args.delta) ≡ true = sym (simp to_z-of_z at c.is_silent.ensures) ∙ c.if-is_silent.true in
+    subst (λ b. Makes b g.R.Recalc.Fits (session_of c.args.self.now c.args.results.now) (session_of c.args.self.now c.args.results.now)) (sym silent) refl
+
+pub returns-in-Some-clause-made : goal.returns-in-Some-clause-made
+returns-in-Some-clause-made g c =
+    let count_fits : SFits w32 c.args.count = c.ranges.count in
+    let delta_fits : SFits w32 c.args.delta = c.ranges.delta in
+    let loud : is_silent (MoveLines c.args.sheet c.args.axis c.args.first c.args.count c.args.delta) ≡ false = sym (simp to_z-of_z at c.is_silent.ensures) ∙ c.if-is_silent.false in
+    subst (λ b. OnOk c.edit_lines.result (Makes b g.R.Recalc.Fits (session_of c.args.self.now c.args.results.now) (session_of c.edit_lines.new.self c.edit_lines.new.results))) (sym loud)
+    c.edit_lines.ensures.made
 
 pub returns-in_err-found-clause-document : goal.returns-in_err-found-clause-document
 returns-in_err-found-clause-document g c =

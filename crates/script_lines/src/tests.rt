@@ -61,157 +61,191 @@ fn move_in_words(alloc: Global, word: &str, moved: NamedMove) -> Result<String, 
     format!(in alloc; "{word}: sheet {sheet} first {first} count {count} delta {delta}")
 }
 
+/// Lines, and the commands that they are.
+const COMMANDS: [(&[u8], &str); 37] = [
+    (b"set 0 A1 12", "set: sheet 0 row 1 column 1 |12|"),
+    (b"set 0 A1", "set: sheet 0 row 1 column 1 ||"),
+    (b"set 0 A1 ", "set: sheet 0 row 1 column 1 ||"),
+    (b"set 0 A1  a  b ", "set: sheet 0 row 1 column 1 | a  b |"),
+    (b"set 007 b02 x", "set: sheet 7 row 2 column 2 |x|"),
+    (
+        b"set 4294967295 zZZ9999999 x",
+        "set: sheet 4294967295 row 9999999 column 18278 |x|",
+    ),
+    (
+        b"set 00000000004294967295 Z1 x",
+        "set: sheet 4294967295 row 1 column 26 |x|",
+    ),
+    (b"set 0 A0 x", "set: sheet 0 row 0 column 1 |x|"),
+    (b"set 0 AA0000001 x", "set: sheet 0 row 1 column 27 |x|"),
+    (
+        b"set 0 XFD1048576 \\\\",
+        "set: sheet 0 row 1048576 column 16384 |\\|",
+    ),
+    (b"set 0 A1 \\\\n", "set: sheet 0 row 1 column 1 |\\n|"),
+    (
+        b"set 0 A1 \xc3\xa9\t=1",
+        "set: sheet 0 row 1 column 1 |\u{e9}\t=1|",
+    ),
+    (b"set 0 A1 =1", "set: sheet 0 row 1 column 1 |=1|"),
+    (b"get 1 C3", "get: sheet 1 row 3 column 3 ||"),
+    (b"insert-rows 0 3 2", "insert rows: sheet 0 first 3 count 2"),
+    (
+        b"insert-rows 4294967295 2147483647 -2147483648",
+        "insert rows: sheet 4294967295 first 2147483647 count -2147483648",
+    ),
+    (
+        b"delete-rows 00 -0 007",
+        "delete rows: sheet 0 first 0 count 7",
+    ),
+    (
+        b"delete-rows 1 -12 -00003",
+        "delete rows: sheet 1 first -12 count -3",
+    ),
+    (
+        b"insert-columns 0 3 2",
+        "insert columns: sheet 0 first 3 count 2",
+    ),
+    (
+        b"delete-columns 1 -12 -00003",
+        "delete columns: sheet 1 first -12 count -3",
+    ),
+    (
+        b"move-rows 0 2 1 -1",
+        "move rows: sheet 0 first 2 count 1 delta -1",
+    ),
+    (
+        b"move-columns 09 -0 007 2147483647",
+        "move columns: sheet 9 first 0 count 7 delta 2147483647",
+    ),
+    (
+        b"array 0 B2:A1 =A1:A2",
+        "array: sheet 0 row 1 column 1 2x2 |=A1:A2|",
+    ),
+    (b"array 0 a2:B1 1", "array: sheet 0 row 1 column 1 2x2 |1|"),
+    (b"array 0 C3", "array: sheet 0 row 3 column 3 1x1 ||"),
+    (
+        b"array 0 C3 a\\nb\\\\",
+        "array: sheet 0 row 3 column 3 1x1 |a\nb\\|",
+    ),
+    (
+        b"merge 0 zzz0:A9999999",
+        "merge: sheet 0 row 0 column 1 18278x10000000 ||",
+    ),
+    (b"merge 0 A1:A1", "merge: sheet 0 row 1 column 1 1x1 ||"),
+    (b"unmerge 0 D4", "unmerge: sheet 0 row 4 column 4 ||"),
+    (b"link 0 A1 a b", "link: sheet 0 row 1 column 1 |a b|"),
+    (b"link 0 A1", "link: sheet 0 row 1 column 1 ||"),
+    (b"link 0 A1 a\\nb", "link: sheet 0 row 1 column 1 |a\nb|"),
+    (b"unlink 0 AB1", "unlink: sheet 0 row 1 column 28 ||"),
+    (b"undo", "undo"),
+    (b"redo", "redo"),
+    (b"sync", "sync"),
+    (b"show", "show"),
+];
+
+/// Lines that are no commands.
+const BAD_LINES: [&[u8]; 64] = [
+    b"insert-rows",
+    b"insert-rows 0",
+    b"insert-rows 0 1",
+    b"insert-rows 0 1 ",
+    b"insert-rows 0 1 2 ",
+    b"insert-rows 0 1 2 3",
+    b"insert-rows -0 1 2",
+    b"insert-rows 0 1 2147483648",
+    b"delete-rows 0 -2147483649 1",
+    b"delete-rows 0 --1 1",
+    b"delete-rows 0 - 1",
+    b"delete-rows 0 +1 1",
+    b"delete-rows 0 A1 1",
+    b"delete-rows  0 1 1",
+    b"Delete-rows 0 1 1",
+    b"move-rows 0 2 1",
+    b"move-rows 0 2 1 ",
+    b"move-rows 0 2 1 1 1",
+    b"move-rows 0 2 1 2147483648",
+    b"move-columns 0 B 1 1",
+    b"insert-columns 0 B 1",
+    b"array 0 C3 \\q",
+    b"array 0",
+    b"merge 0 A1:B1 ",
+    b"merge 0 A1:B1:C1",
+    b"merge 0 A1:",
+    b"merge 0 :A1",
+    b"merge 0 :",
+    b"merge 0 A:B",
+    b"merge 0 A1: B1",
+    b"merge 0 A1:A00000001",
+    b"unmerge 0 A1:B1",
+    b"unlink 0 A1 x",
+    b"",
+    b" ",
+    b" undo",
+    b"undo ",
+    b"Undo",
+    b"undo\r",
+    b"redo 0 A4",
+    b"sync ",
+    b"show x",
+    b"get 0 A1 ",
+    b"get 0",
+    b"get 0 ",
+    b"get  0 A1",
+    b"get 4294967296 A1",
+    b"get +0 A1",
+    b"get -0 A1",
+    b"get 0 AAAA1",
+    b"get 0 A12345678",
+    b"get 0 A00000001",
+    b"get 0 A",
+    b"get 0 1",
+    b"get 0 $A$1",
+    b"get\t0 A1",
+    b"set 0",
+    b"set 0 A1\t12",
+    b"set 0 A1 \\q",
+    b"set 0 A1 12\\",
+    b"set 0 A1 =1+\\n2",
+    b"set 0 A1 a\\nb",
+    b"set 0 A1 \xff",
+    b"\xc3undo",
+];
+
+/// The first line of a table that is another command.
+fn first_misread(
+    alloc: Global,
+    table: &[(&'static [u8], &'static str)],
+) -> Result<Option<&'static str>, Fail> {
+    for (line, words) in table {
+        let read = in_words(alloc, read_command(alloc, line)?)?;
+        if read.as_str() != *words {
+            return Ok(Some(*words));
+        }
+    }
+    Ok(None)
+}
+
+/// How many lines of a list are commands.
+fn command_count(alloc: Global, lines: &[&'static [u8]]) -> Result<usize, Fail> {
+    let mut count: usize = 0;
+    for line in lines {
+        if read_command(alloc, line)?.is_some() {
+            count = count.wrapping_add(1);
+        }
+    }
+    Ok(count)
+}
+
 #[test]
 fn lines_read_as_commands(rt: HostRuntime) -> Result<(), Fail> {
-    let lines: [(&[u8], &str); 101] = [
-        (b"set 0 A1 12", "set: sheet 0 row 1 column 1 |12|"),
-        (b"set 0 A1", "set: sheet 0 row 1 column 1 ||"),
-        (b"set 0 A1 ", "set: sheet 0 row 1 column 1 ||"),
-        (b"set 0 A1  a  b ", "set: sheet 0 row 1 column 1 | a  b |"),
-        (b"set 007 b02 x", "set: sheet 7 row 2 column 2 |x|"),
-        (
-            b"set 4294967295 zZZ9999999 x",
-            "set: sheet 4294967295 row 9999999 column 18278 |x|",
-        ),
-        (
-            b"set 00000000004294967295 Z1 x",
-            "set: sheet 4294967295 row 1 column 26 |x|",
-        ),
-        (b"set 0 A0 x", "set: sheet 0 row 0 column 1 |x|"),
-        (b"set 0 AA0000001 x", "set: sheet 0 row 1 column 27 |x|"),
-        (
-            b"set 0 XFD1048576 \\\\",
-            "set: sheet 0 row 1048576 column 16384 |\\|",
-        ),
-        (b"set 0 A1 \\\\n", "set: sheet 0 row 1 column 1 |\\n|"),
-        (
-            b"set 0 A1 \xc3\xa9\t=1",
-            "set: sheet 0 row 1 column 1 |\u{e9}\t=1|",
-        ),
-        (b"set 0 A1 =1", "set: sheet 0 row 1 column 1 |=1|"),
-        (b"get 1 C3", "get: sheet 1 row 3 column 3 ||"),
-        (b"insert-rows 0 3 2", "insert rows: sheet 0 first 3 count 2"),
-        (
-            b"insert-rows 4294967295 2147483647 -2147483648",
-            "insert rows: sheet 4294967295 first 2147483647 count -2147483648",
-        ),
-        (
-            b"delete-rows 00 -0 007",
-            "delete rows: sheet 0 first 0 count 7",
-        ),
-        (
-            b"delete-rows 1 -12 -00003",
-            "delete rows: sheet 1 first -12 count -3",
-        ),
-        (b"insert-rows", "none"),
-        (b"insert-rows 0", "none"),
-        (b"insert-rows 0 1", "none"),
-        (b"insert-rows 0 1 ", "none"),
-        (b"insert-rows 0 1 2 ", "none"),
-        (b"insert-rows 0 1 2 3", "none"),
-        (b"insert-rows -0 1 2", "none"),
-        (b"insert-rows 0 1 2147483648", "none"),
-        (b"delete-rows 0 -2147483649 1", "none"),
-        (b"delete-rows 0 --1 1", "none"),
-        (b"delete-rows 0 - 1", "none"),
-        (b"delete-rows 0 +1 1", "none"),
-        (b"delete-rows 0 A1 1", "none"),
-        (b"delete-rows  0 1 1", "none"),
-        (b"Delete-rows 0 1 1", "none"),
-        (
-            b"insert-columns 0 3 2",
-            "insert columns: sheet 0 first 3 count 2",
-        ),
-        (
-            b"delete-columns 1 -12 -00003",
-            "delete columns: sheet 1 first -12 count -3",
-        ),
-        (
-            b"move-rows 0 2 1 -1",
-            "move rows: sheet 0 first 2 count 1 delta -1",
-        ),
-        (
-            b"move-columns 09 -0 007 2147483647",
-            "move columns: sheet 9 first 0 count 7 delta 2147483647",
-        ),
-        (b"move-rows 0 2 1", "none"),
-        (b"move-rows 0 2 1 ", "none"),
-        (b"move-rows 0 2 1 1 1", "none"),
-        (b"move-rows 0 2 1 2147483648", "none"),
-        (b"move-columns 0 B 1 1", "none"),
-        (b"insert-columns 0 B 1", "none"),
-        (
-            b"array 0 B2:A1 =A1:A2",
-            "array: sheet 0 row 1 column 1 2x2 |=A1:A2|",
-        ),
-        (b"array 0 a2:B1 1", "array: sheet 0 row 1 column 1 2x2 |1|"),
-        (b"array 0 C3", "array: sheet 0 row 3 column 3 1x1 ||"),
-        (
-            b"array 0 C3 a\\nb\\\\",
-            "array: sheet 0 row 3 column 3 1x1 |a\nb\\|",
-        ),
-        (b"array 0 C3 \\q", "none"),
-        (b"array 0", "none"),
-        (
-            b"merge 0 zzz0:A9999999",
-            "merge: sheet 0 row 0 column 1 18278x10000000 ||",
-        ),
-        (b"merge 0 A1:A1", "merge: sheet 0 row 1 column 1 1x1 ||"),
-        (b"merge 0 A1:B1 ", "none"),
-        (b"merge 0 A1:B1:C1", "none"),
-        (b"merge 0 A1:", "none"),
-        (b"merge 0 :A1", "none"),
-        (b"merge 0 :", "none"),
-        (b"merge 0 A:B", "none"),
-        (b"merge 0 A1: B1", "none"),
-        (b"merge 0 A1:A00000001", "none"),
-        (b"unmerge 0 D4", "unmerge: sheet 0 row 4 column 4 ||"),
-        (b"unmerge 0 A1:B1", "none"),
-        (b"link 0 A1 a b", "link: sheet 0 row 1 column 1 |a b|"),
-        (b"link 0 A1", "link: sheet 0 row 1 column 1 ||"),
-        (b"link 0 A1 a\\nb", "link: sheet 0 row 1 column 1 |a\nb|"),
-        (b"unlink 0 AB1", "unlink: sheet 0 row 1 column 28 ||"),
-        (b"unlink 0 A1 x", "none"),
-        (b"undo", "undo"),
-        (b"redo", "redo"),
-        (b"sync", "sync"),
-        (b"show", "show"),
-        (b"", "none"),
-        (b" ", "none"),
-        (b" undo", "none"),
-        (b"undo ", "none"),
-        (b"Undo", "none"),
-        (b"undo\r", "none"),
-        (b"redo 0 A4", "none"),
-        (b"sync ", "none"),
-        (b"show x", "none"),
-        (b"get 0 A1 ", "none"),
-        (b"get 0", "none"),
-        (b"get 0 ", "none"),
-        (b"get  0 A1", "none"),
-        (b"get 4294967296 A1", "none"),
-        (b"get +0 A1", "none"),
-        (b"get -0 A1", "none"),
-        (b"get 0 AAAA1", "none"),
-        (b"get 0 A12345678", "none"),
-        (b"get 0 A00000001", "none"),
-        (b"get 0 A", "none"),
-        (b"get 0 1", "none"),
-        (b"get 0 $A$1", "none"),
-        (b"get\t0 A1", "none"),
-        (b"set 0", "none"),
-        (b"set 0 A1\t12", "none"),
-        (b"set 0 A1 \\q", "none"),
-        (b"set 0 A1 12\\", "none"),
-        (b"set 0 A1 =1+\\n2", "none"),
-        (b"set 0 A1 a\\nb", "none"),
-        (b"set 0 A1 \xff", "none"),
-        (b"\xc3undo", "none"),
-    ];
-    for (line, words) in lines {
-        let read = in_words(rt.alloc(), read_command(rt.alloc(), line)?)?;
-        assert_eq!(rt; read.as_str(), words);
-    }
+    assert_eq!(rt; first_misread(rt.alloc(), &COMMANDS)?, None);
+    Ok(())
+}
+
+#[test]
+fn other_lines_are_no_commands(rt: HostRuntime) -> Result<(), Fail> {
+    assert_eq!(rt; command_count(rt.alloc(), &BAD_LINES)?, 0);
     Ok(())
 }
 

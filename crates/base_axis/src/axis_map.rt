@@ -4,7 +4,7 @@ ghost use Rattle.std.specs.FinMap as fin;
 ghost use Rattle.std.specs.Ordering.{int_eq};
 ghost use Rattle.std.specs.Cmp.{partial_equiv_from_equiv, int_eq_equiv};
 ghost use Rattle.base_values.specs.Places.{IsLine};
-ghost use Rattle.base_values.specs.KeyMap.{with_entry, same_entries};
+ghost use Rattle.base_values.specs.KeyMap.{with_entry, with_entries, same_entries};
 ghost use Rattle.base_values.specs.laws.KeyMap.{same_entries_laws, same_entries_equiv};
 ghost use Rattle.base_values.specs.declared.EditError.TheVariants.{NoMemory};
 
@@ -51,6 +51,20 @@ impl<A: Axis, V> AxisMap<A, V> {
 }
 
 impl<A: Axis, V: Drop> AxisMap<A, V> {
+    /// The map of these entries. Of several entries of a line the last one stands. It is made at
+    /// once, without a search where the lines ascend.
+    pub fn of_entries(alloc: Global, entries: Items<(i32, V)>) -> Result<AxisMap<A, V>, EditError>
+        requires inside { All (λ entry. IsLine A.along.last entry.0) entries }
+        ensures map { IfOk result (λ map. map ≡ with_entries fin.empty entries) }
+        ensures only { IsOkUnless result NoMemory }
+    {
+        let map: BTreeMap<i32, V> = entries.into_vec().into_iter().collect(alloc)?;
+        Ok(AxisMap {
+            map,
+            axis: PhantomData,
+        })
+    }
+
     /// Sets the entry of a line, and returns the one before. `NoMemory` leaves the map as it was.
     pub fn insert(&mut self, line: i32, value: V) -> Result<Option<V>, EditError>
         requires { IsLine A.along.last line }

@@ -1,9 +1,9 @@
 -- Finite maps whose entries are carried along a partial one-to-one map of their keys.
-use Rattle.std.proofs.Common.{◌≡◌, Bool, List, ◌++◌, Option, Some, None}
+use Rattle.std.proofs.Common.{◌≡◌, ◌++◌, Option, Some, None}
 use Rattle.std.specs.Prelude.{is_none, if◌then◌else◌}
 use Rattle.std.specs.List.{filter_map}
 use Rattle.std.specs.declared.cmp.Ordering.{Ordering}
-use Rattle.std.specs.FinMap.{FinMap, entries, from_entries, get, retain_keys}
+use Rattle.std.specs.FinMap.{FinMap, entries, from_entries, retain_keys}
 
 -- two partial maps that undo each other
 pub record Inverse {K : Type 0} (to from : K → Option K) : Type 0 where

@@ -67,6 +67,13 @@ impl<T> Items<T> {
         self.items.as_slice()
     }
 
+    /// The items as a `Vec`, without a copy.
+    pub fn into_vec(self) -> Vec<T>
+        ensures { result.items ≡ self }
+    {
+        self.items
+    }
+
     /// The allocator that the list grows by.
     pub fn allocator(&self) -> Global {
         *self.items.allocator()

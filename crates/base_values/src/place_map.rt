@@ -4,7 +4,7 @@ ghost use Rattle.std.specs.FinMap as fin;
 ghost use Rattle.base_values.specs.Places.{IsPlace, same_position};
 ghost use Rattle.base_values.specs.laws.Places.{position_equiv};
 ghost use Rattle.std.specs.Cmp.{partial_equiv_from_equiv};
-ghost use Rattle.base_values.specs.KeyMap.{with_entry, same_entries};
+ghost use Rattle.base_values.specs.KeyMap.{with_entry, with_entries, same_entries};
 ghost use Rattle.base_values.specs.laws.KeyMap.{same_entries_laws, same_entries_equiv};
 ghost use Rattle.base_values.specs.declared.error.EditError.TheVariants.{NoMemory};
 
@@ -48,6 +48,20 @@ impl<V> PlaceMap<V> {
 }
 
 impl<V: Drop> PlaceMap<V> {
+    /// The map of these entries. Of several entries of a place the last one stands. It is made at
+    /// once, without a search where the places ascend.
+    pub fn of_entries(
+        alloc: Global,
+        entries: Items<(Position, V)>,
+    ) -> Result<PlaceMap<V>, EditError>
+        requires inside { All (λ entry. IsPlace entry.0) entries }
+        ensures map { IfOk result (λ map. map ≡ with_entries fin.empty entries) }
+        ensures only { IsOkUnless result NoMemory }
+    {
+        let map: BTreeMap<Position, V> = entries.into_vec().into_iter().collect(alloc)?;
+        Ok(PlaceMap { map })
+    }
+
     pub fn insert(&mut self, place: Position, value: V) -> Result<Option<V>, EditError>
         requires { IsPlace place }
         ensures before { IfOk result (λ before. before ≡ fin.get self.old place) }

@@ -1,14 +1,15 @@
 -- What stands at each key of a map that is gathered, and how such a map is made entry by entry.
-use Rattle.std.proofs.Common.{◌≡◌, Bool, true, false, cond, T, List, [], ◌∷◌, ◌++◌, Option, Some, None, refl, ap, sym, subst, ◌∙◌}
+use Rattle.std.proofs.Common.{◌≡◌, Bool, true, false, cond, T, List, [], ◌∷◌, ◌++◌, Option, Some, None, refl, ap, sym, ◌∙◌, append_assoc}
 use Rattle.std.specs.Prelude.{is_some, is_none, if◌then◌else◌}
 use Rattle.std.specs.List.{filter_map, cons_option}
 use Rattle.std.specs.declared.cmp.Ordering.{Ordering}
-use Rattle.std.specs.declared.cmp.Ordering.TheVariants.{Equal}
 use Rattle.std.specs.Ordering.{eq_by_cmp}
 use Rattle.std.specs.Cmp.{IsTotalOrder}
 use Rattle.std.proofs.lemmas.Map.Lookups.{CmpEqualImpliesEq}
 use Rattle.std.specs.FinMap.Entries.{find, is_sorted}
 use Rattle.std.specs.FinMap.{FinMap, empty, entries, entries_sorted, from_entries, get, get-entries, get-from_entries, get-retain_keys, get-empty, insert, get-insert, same_map, from_entries_push}
+use Rattle.std.proofs.lemmas.List.{append-nil}
+use Rattle.base_values.specs.KeyMap.{with_entries}
 use Rattle.base_maps.specs.Carried.{if_there, entry_made, gathered, if_lost, lost_map, overlaid}
 use Rattle.base_maps.specs.Carried.{Inverse}
 use Rattle.base_maps.specs.laws.Inverses.{own_inverse}
@@ -127,6 +128,25 @@ module _ {K X Y : Type 0} (R : K → K → Ordering) (total : IsTotalOrder R) (e
           from_entries {R = R} (with_last (filter_map (entry_made to make) ys) (if_there t (λ r. if_there (make e.0 r e.1) (λ y. Some (r, y))))) ≡ with_made (if_there t (λ r. if_there (make e.0 r e.1) (λ y. Some (r, y)))) (from_entries (filter_map (entry_made to make) ys))
       by_target None there = refl
       by_target (Some r) there = by_value r there (make e.0 r e.1)
+
+  -- the entries that are made, put in one after another, are the gathered map
+  made_in_turn : (ys zs : List (K × X)) → is_sorted R (ys ++ zs) ≡ true →
+      with_entries (from_entries {R = R} (filter_map (entry_made to make) ys)) (filter_map (entry_made to make) zs) ≡ from_entries (filter_map (entry_made to make) (ys ++ zs))
+  made_in_turn ys [] sorted = ap (λ es. from_entries (filter_map (entry_made to make) es)) (sym (append-nil ys))
+  made_in_turn ys (e ∷ zs) sorted =
+      one_more (entry_made to make e)
+      ∙ ap (λ m. with_entries m (filter_map (entry_made to make) zs)) (sym (gathered_more ys e zs sorted))
+      ∙ made_in_turn (ys ++ e ∷ []) zs (ap (is_sorted R) (append_assoc ys (e ∷ []) zs) ∙ sorted)
+      ∙ ap (λ es. from_entries (filter_map (entry_made to make) es)) (append_assoc ys (e ∷ []) zs)
+    where
+      one_more : (o : Option (K × Y)) → with_entries (from_entries {R = R} (filter_map (entry_made to make) ys)) (cons_option o (filter_map (entry_made to make) zs))
+          ≡ with_entries (with_made o (from_entries (filter_map (entry_made to make) ys))) (filter_map (entry_made to make) zs)
+      one_more None = refl
+      one_more (Some f) = refl
+
+  pub gathered_in_turn : (m : FinMap R X) → with_entries empty (filter_map (entry_made to make) (entries m)) ≡ gathered to make m
+  unfolding gathered
+  gathered_in_turn m = made_in_turn [] (entries m) (test_of _ (entries_sorted m))
 
 -- the entries of a map are in order
 pub rises_of : {K X : Type 0} {R : K → K → Ordering} (m : FinMap R X) (ys : List (K × X)) (e : K × X) (zs : List (K × X)) → ys ++ e ∷ zs ≡ entries m → is_sorted R (ys ++ e ∷ zs) ≡ true

@@ -1,5 +1,5 @@
 -- A turn of a loop over the entries of a map.
-use Rattle.std.proofs.Common.{◌≡◌, suc, arith, subst, true, List, [], ◌∷◌, ◌++◌, map, Option, Some, ap, sym, ◌∙◌, append_assoc}
+use Rattle.std.proofs.Common.{◌≡◌, suc, arith, subst, List, [], ◌∷◌, ◌++◌, map, Option, Some, ap, sym, ◌∙◌, append_assoc}
 use Rattle.std.proofs.lemmas.List.{append-nil}
 use Rattle.std.proofs.lemmas.Map.Lookups.{CmpEqualImpliesEq}
 use Rattle.std.specs.declared.cmp.Ordering.{Ordering}

@@ -4,21 +4,23 @@ use Rattle.std.specs.Ordering.{is_eq, eq_by_cmp}
 use Rattle.std.specs.declared.cmp.Ordering.{Ordering}
 use Rattle.std.specs.declared.cmp.Ordering.TheVariants.{Less, Equal, Greater}
 use Rattle.std.specs.Cmp.{IsTotalOrder, eq_by_cmp_equiv}
-use Rattle.std.specs.BTreeMap.{BTreeMap, is_at, IsOrdered, keys}
-use Rattle.std.specs.Map.{lookup, keys_of}
+use Rattle.std.specs.BTreeMap.{BTreeMap, is_at, IsOrdered, IsFromIterResult, keys}
+use Rattle.std.specs.Map.{lookup, keys_of, update, update_all}
 use Rattle.std.specs.List.{All}
 use Rattle.std.specs.List.Sorted.{IsStrictlySortedBy}
 use Rattle.std.specs.FinMap as fin
 use Rattle.std.proofs.Math.ListN.{get_or-map}
 use Rattle.std.proofs.lemmas.List.{length-map}
 use Rattle.std.specs.FinMap.Entries.{by_order}
-use Rattle.std.specs.FinMap.{empty, len-entries, len-empty, entries-insert, FinMap, find, get, entries, from_entries, get-insert, get-remove, get-from_entries, same_map, get_tied, same_entries_map}
+use Rattle.std.specs.FinMap.{empty, insert, len-entries, len-empty, entries-insert, FinMap, find, get, entries, from_entries, get-empty, get-insert, get-remove, get-from_entries, same_map, get_tied, same_entries_map}
 use Rattle.std.proofs.lemmas.Map.Lookups.{CmpEqualImpliesEq}
 use Rattle.std.specs.Bool.{Decides}
 use Rattle.std.specs.Cmp.{IsPartialEquivalence, IsEquivalence, on_per, on_equiv, and_per, and_equiv}
 use Rattle.std.specs.Cmp.Lexicographic.{pointwise, lists_per, lists_equiv, pointwise_decides}
 use Rattle.std.proofs.lemmas.Bool.Decides.{Decides-like, Decides-and}
-use Rattle.base_values.specs.KeyMap.{with_entry, same_entry, same_entries, IsInside}
+use Rattle.std.proofs.lemmas.List.Elements.{All-map, All-contains}
+use Rattle.std.proofs.lemmas.Map.Views.{All-keys_from_lookup, btree_map_contains_key_from_list}
+use Rattle.base_values.specs.KeyMap.{with_entry, with_entries, same_entry, same_entries, IsInside}
 
 module _ {K X : Type 0} (R : K → K → Ordering) (total : IsTotalOrder R) (exact : CmpEqualImpliesEq R) where
   find-lookup : (es : List (K × X)) (q : K) → find R q es ≡ lookup (is_at (R q)) es
@@ -57,6 +59,26 @@ module _ {K X : Type 0} (R : K → K → Ordering) (total : IsTotalOrder R) (exa
       → ((q : K) → lookup (is_at (R q)) fs ≡ cond (is_at (R key) q) w (lookup (is_at (R q)) es))
       → from_entries {R = R} fs ≡ with_entry (from_entries es) key w
   with_entry-made es fs key w h = same_map total exact _ _ (λ q. get-made fs q ∙ h q ∙ sym (at_key w es key q))
+
+  -- what the map has at a key into which entries are put one after another
+  get-put : (m : FinMap R X) (es : List (K × X)) (f : K → Option X) → ((q : K) → get m q ≡ f q) → (q : K) → get (with_entries m es) q ≡ update_all (eq_by_cmp R) f es q
+  get-put m [] f h q = h q
+  get-put m (e ∷ es) f h q = get-put (insert m e.0 e.1) es (update (eq_by_cmp R) f e.0 (Some e.1)) (λ p.
+      get-insert total m e.0 e.1 p
+      ∙ ap (λ b. cond b (Some e.1) (get m p)) ((eq_by_cmp_equiv total).symm p e.0)
+      ∙ ap (cond (eq_by_cmp R e.0 p) (Some e.1)) (h p)) q
+
+  -- the map that is made of entries in one go has them put in one after another
+  pub made_of_entries : (es : List (K × X)) (n : BTreeMap K X) → IsFromIterResult R es n → from_entries {R = R} n.entries ≡ with_entries empty es
+  made_of_entries es n h = same_map total exact _ _ (λ q. get-made n.entries q ∙ h.0 q ∙ sym (get-put empty es (λ _. None) (get-empty R) q))
+
+  -- and its keys are theirs
+  pub inside_of_entries : (P : K → Type 0) (es : List (K × X)) (n : BTreeMap K X) → All (λ e. P e.0) es → IsFromIterResult R es n → IsInside R P n
+  inside_of_entries P es n all h = record {
+    ordered = h.1;
+    inside = All-keys_from_lookup (eq_by_cmp_equiv total) P n.entries
+        (λ q there. All-contains P (keys_of es) q (All-map P (λ e. e.0) es all) ((btree_map_contains_key_from_list total exact es n h q).0 there));
+  }
 
 module _ {K X : Type 0} {R : K → K → Ordering} {D : K → K → Bool} {E : X → X → Bool} where
   pub same_entries_laws : IsPartialEquivalence D → IsPartialEquivalence E → IsPartialEquivalence (same_entries D E {R = R})

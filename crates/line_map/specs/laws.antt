@@ -2,6 +2,9 @@ pub mod Equals
 pub mod WayLaws
 pub mod TrialLaws
 pub mod TreeLaws
+pub mod CornersBack
+pub mod MustKeepLaws
+pub mod MoveLaws
 pub mod ContentLaws
 pub mod MergedCellLaws
 pub mod MergeLaws
@@ -11,3 +14,4 @@ pub mod AttributeLaws
 pub mod TreeAtEquals
 pub mod TreeAtLaws
 pub mod AloneLaws
+pub mod KeptAloneLaws

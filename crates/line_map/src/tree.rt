@@ -1,17 +1,18 @@
-ghost use Rattle.std.specs.Prelude.{◌≡◌, IfOk, IfSome, IsOkUnless, IsTrue};
+ghost use Rattle.std.specs.Prelude.{◌≡◌, IfOk, IfSome, IsOkUnless};
 ghost use Rattle.base_values.specs.Places.{IsPlace};
 ghost use Rattle.base_values.specs.declared.EditError.TheVariants.{NoMemory};
 ghost use Rattle.formula_tree.specs.OnSheet.{is_on_sheet};
-ghost use Rattle.line_map.specs.Trees.{target, is_exposed, moved_corner, tree_carried, tree_part};
-ghost use Rattle.line_map.specs.Way.{back, way};
+ghost use Rattle.line_map.specs.Trees.{TreeLies, target, is_exposed, moved_corner, tree_carried, tree_part};
+ghost use Rattle.line_map.specs.Way.{way};
 
 use crate::follower::Follower;
+use crate::keeping::must_keep_along;
 use crate::route::Route;
 use base_axis::Axis;
 use base_shared::Shared;
 use base_tables::same_by_folding;
 use base_values::{EditError, Position, Text, copy_of};
-use formula_back::{comes_back, is_still};
+use formula_back::is_still;
 use formula_tree::{
     Corner, CornerMap, Node, corner_at, corner_to, is_whole_columns, is_whole_rows, move_node,
 };
@@ -43,7 +44,7 @@ fn target<A: Axis, M: LineMap<A>>(
 }
 
 /// Where a corner of the formula goes with its marks, seen from the formula's new place.
-fn moved_corner<A: Axis, M: LineMap<A>>(
+pub(crate) fn moved_corner<A: Axis, M: LineMap<A>>(
     route: &Route<'_, A, M>,
     exposed: bool,
     corner: Corner,
@@ -61,7 +62,7 @@ fn moved_corner<A: Axis, M: LineMap<A>>(
 
 /// Whether a reference or range with this sheet name stands on the edited sheet.
 #[tactic(auto, unfolding(formula_tree::specs::OnSheet::is_on_sheet))]
-fn is_on_edited<A: Axis, M: LineMap<A>>(
+pub(crate) fn is_on_edited<A: Axis, M: LineMap<A>>(
     route: &Route<'_, A, M>,
     sheet: &Option<Shared<Text>>,
 ) -> bool
@@ -76,7 +77,7 @@ fn is_on_edited<A: Axis, M: LineMap<A>>(
 /// Whether the corners of a range are exposed: on the edited sheet, and not of a range that is
 /// whole along the axis.
 #[tactic(auto, unfolding(crate::specs::Trees::is_exposed))]
-fn is_exposed<A: Axis, M: LineMap<A>>(
+pub(crate) fn is_exposed<A: Axis, M: LineMap<A>>(
     route: &Route<'_, A, M>,
     sheet: &Option<Shared<Text>>,
     first: Corner,
@@ -145,43 +146,17 @@ fn carried<A: Axis, M: LineMap<A>>(
     Ok(Shared::new(alloc, carried_node(alloc, route, tree.get())?)?)
 }
 
-/// Whether the corners of a tree tell that the way back gives it.
-#[tactic(auto, unfolding(crate::specs::Trees::tree_carried))]
-fn is_given_back<A: Axis, M: LineMap<A>>(route: &Route<'_, A, M>, tree: &Node) -> bool
-    ensures { IsTrue result → tree_carried (back (way route.now)) (tree_carried (way route.now) tree.now) ≡ tree.now }
-{
-    let back = route.back();
-    let (there, home) = (Following { route }, Following { route: &back });
-    comes_back(tree, route.from, route.to, &there, &home)
-}
-
-/// The tree, carried there and back.
-fn returned<A: Axis, M: LineMap<A>>(
-    alloc: Global,
-    route: &Route<'_, A, M>,
-    tree: &Shared<Node>,
-) -> Result<Shared<Node>, EditError>
-    ensures tree { IfOk result (λ returned. returned ≡ tree_carried (back (way route.now)) (tree_carried (way route.now) tree.now)) }
-    ensures only { IsOkUnless result NoMemory }
-{
-    let there = carried(alloc, route, tree)?;
-    carried(alloc, &route.back(), &there)
-}
-
-/// The tree, where the way back does not give it. Its corners tell of most trees that it does; any
-/// other is carried there and back.
+/// The tree, where the way back does not give it.
 fn part<A: Axis, M: LineMap<A>>(
-    alloc: Global,
     route: &Route<'_, A, M>,
     tree: &Shared<Node>,
 ) -> Result<Option<Shared<Node>>, EditError>
+    requires { TreeLies (way route.now) tree.now }
     ensures part { IfOk result (λ part. part ≡ tree_part (way route.now) tree.now) }
     ensures only { IsOkUnless result NoMemory }
 {
-    if is_given_back(route, tree.get()) {
-        return Ok(None);
-    }
-    if returned(alloc, route, tree)? == *tree {
+    route.is_way();
+    if !must_keep_along(route, tree.get()) {
         return Ok(None);
     }
     Ok(Some(copy_of(tree)?))
@@ -215,10 +190,10 @@ impl<A: Axis> Follower<A> for Shared<Node> {
 
     fn part<M: LineMap<A>>(
         &self,
-        alloc: Global,
+        _alloc: Global,
         route: &Route<'_, A, M>,
     ) -> Result<Option<Shared<Node>>, EditError> {
-        part(alloc, route, self)
+        part(route, self)
     }
 
     fn restore<M: LineMap<A>>(

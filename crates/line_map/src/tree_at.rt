@@ -1,8 +1,9 @@
-ghost use Rattle.std.specs.Prelude.{◌≡◌, IfOk, IfSome, IsOkUnless};
+ghost use Rattle.std.specs.Prelude.{◌≡◌, IfOk, IfSome, IsOkUnless, Some, if◌then◌else◌};
 ghost use Rattle.base_tables.specs.Folding.{same_folded};
 ghost use Rattle.base_values.specs.Places.{IsPlace};
 ghost use Rattle.base_values.specs.declared.EditError.TheVariants.{NoMemory};
-ghost use Rattle.line_map.specs.TreeAt.{TreeAtLies, tree_goes, tree_at_carried, way_of_tree};
+ghost use Rattle.line_edits.specs.Moves.{place_image};
+ghost use Rattle.line_map.specs.TreeAt.{TreeAtLies, tree_at_carried};
 ghost use Rattle.line_map.specs.Way.{way};
 
 use crate::follower::Follower;
@@ -35,30 +36,37 @@ impl Exact for TreeAt {
     ghost equals = { tree_at_equals };
 }
 
-/// Where the tree's cell goes. `None` where its line has no image on the edited sheet.
-#[tactic(auto, unfolding(crate::specs::TreeAt::tree_goes))]
-fn goes<A: Axis, M: LineMap<A>>(route: &Route<'_, A, M>, tree: &TreeAt) -> Option<Position>
-    requires { IsPlace tree.now.place }
-    ensures value { result ≡ tree_goes (way route.now) tree.now }
+/// Where a cell goes that stands at a place of a sheet with this name. `None` where its line has no
+/// image on the edited sheet.
+pub(crate) fn goes<A: Axis, M: LineMap<A>>(
+    route: &Route<'_, A, M>,
+    sheet: &str,
+    edited: &str,
+    place: Position,
+) -> Option<Position>
+    requires { IsPlace place }
+    ensures value { result ≡ (if same_folded sheet.now edited.now then place_image (way route.now).along (way route.now).moves.to place else Some place) }
     ensures inside { IfSome result IsPlace }
 {
-    if !same_by_folding(tree.sheet.as_str(), tree.edited.as_str()) {
-        return Some(tree.place);
+    if !same_by_folding(sheet, edited) {
+        return Some(place);
     }
-    route.image(tree.place)
+    route.image(place)
 }
 
-/// The route of the tree, whose cell goes there.
-fn route_of<'t, 'a: 't, A: Axis, M: LineMap<A>>(
+/// The route of a cell that goes from a place to a place, with the names of its sheet and of the
+/// edited one.
+pub(crate) fn named<'t, 'a: 't, A: Axis, M: LineMap<A>>(
     route: &Route<'a, A, M>,
-    tree: &'t TreeAt,
+    own: &'t str,
+    edited: &'t str,
+    from: Position,
     to: Position,
 ) -> Route<'t, A, M>
-    requires from { IsPlace tree.now.place }
+    requires from { IsPlace from }
     requires to { IsPlace to }
-    ensures { way result ≡ way_of_tree (way route.now) tree.now to }
+    ensures { way result ≡ record (way route.now) { own = own.now; edited = edited.now; from = from; to = to } }
 {
-    let (own, edited) = (tree.sheet.as_str(), tree.edited.as_str());
     Route {
         map: route.map,
         opposite: route.opposite,
@@ -67,7 +75,7 @@ fn route_of<'t, 'a: 't, A: Axis, M: LineMap<A>>(
         edited,
         is_own: same_by_folding(own, edited),
         is_edited: route.is_edited,
-        from: tree.place,
+        from,
         to,
         axis: PhantomData,
     }
@@ -87,7 +95,7 @@ fn replaced(tree: &TreeAt, node: Node, place: Position) -> Result<TreeAt, EditEr
 }
 
 /// The tree carried along. It stays whole where its cell goes nowhere.
-#[tactic(auto, unfolding(crate::specs::TreeAt::tree_at_carried))]
+#[tactic(auto, unfolding(crate::specs::TreeAt::tree_at_carried, crate::specs::TreeAt::tree_goes))]
 fn carried<A: Axis, M: LineMap<A>>(
     alloc: Global,
     route: &Route<'_, A, M>,
@@ -98,9 +106,11 @@ fn carried<A: Axis, M: LineMap<A>>(
     ensures inside { IfOk result (λ there. IsPlace there.place) }
     ensures only { IsOkUnless result NoMemory }
 {
-    match goes(route, tree) {
+    let (own, edited) = (tree.sheet.as_str(), tree.edited.as_str());
+    match goes(route, own, edited, tree.place) {
         Some(to) => {
-            let node = carried_node(alloc, &route_of(route, tree, to), &tree.node)?;
+            let there = named(route, own, edited, tree.place, to);
+            let node = carried_node(alloc, &there, &tree.node)?;
             replaced(tree, node, to)
         }
         None => copy_of(tree),

@@ -41,7 +41,8 @@ target_inside w is false corner = corner_inside w.from corner
 are_lines : (row column : ℤ) → IsRow row → IsColumn column → (is_line (pos 1048576) row && is_line (pos 16384) column) ≡ true
 are_lines row column h i = let a = h.0 in let b = h.1 in let c = i.0 in let d = i.1 in grind (arith, ints)
 
-landed : (to : Position) (corner : Corner) (o : Option Position) → IfSome o IsPlace → IfSome (if_there o (λ place. Some (corner_of to corner place))) (λ c. is_inside to c ≡ true)
+-- a corner that lands on a place of the sheet lies inside
+pub landed : (to : Position) (corner : Corner) (o : Option Position) → IfSome o IsPlace → IfSome (if_there o (λ place. Some (corner_of to corner place))) (λ c. is_inside to c ≡ true)
 unfolding is_inside
 landed to corner None h = tt
 landed to corner (Some place) h =

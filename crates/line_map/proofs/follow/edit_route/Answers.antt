@@ -3,7 +3,7 @@ use Rattle.base_tables.specs.laws.Folding.{same_folded_decides}
 use Rattle.line_edits.specs.Edit.{image_at, is_valid, opposite_of}
 use Rattle.line_edits.specs.Merged.{merged_by}
 use Rattle.line_edits.specs.laws.Images.{opposite_twice, valid_opposite}
-use Rattle.line_map.proofs.follow.route_of.Goals as goal
+use Rattle.line_map.proofs.follow.edit_route.Goals as goal
 
 pub invariant_of-result : goal.invariant_of-result
 invariant_of-result g c =

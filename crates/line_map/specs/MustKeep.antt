@@ -1,5 +1,5 @@
 -- Which formulas a map on lines does not give back, told by their corners.
-use Rattle.std.specs.Prelude.{◌≡◌, ℕ, Bool, true, false, ◌&&◌, List, Option, Some, None, is_none}
+use Rattle.std.specs.Prelude.{◌≡◌, ℕ, Bool, true, false, ◌&&◌, List, Option, Some, None, is_some, is_none}
 use Rattle.base_values.specs.declared.Position.{Position}
 use Rattle.base_axis.specs.Along.{Along}
 use Rattle.formula_tree.specs.declared.Corner.{Corner}
@@ -14,7 +14,7 @@ use Rattle.line_map.specs.declared.tree_at.TreeAt.{TreeAt}
 use Rattle.line_map.specs.Alone.{edit_way}
 use Rattle.line_map.specs.TreeAt.{tree_goes, tree_at_carried, way_of_tree}
 use Rattle.line_map.specs.Trees.{is_exposed, moved_corner}
-use Rattle.line_map.specs.Way.{Way}
+use Rattle.line_map.specs.Way.{Way, back}
 
 -- a reference has to be kept where it is on the edited sheet and its place has no image
 unfoldable pub keeps_reference : Way → Option (List ℕ) → Corner → Bool
@@ -48,7 +48,8 @@ pub record BecomesWhole (w : Way) (sheet : Option (List ℕ)) (first second : Co
   pub other : Corner
   pub first_goes : moved_corner w true first ≡ Some one
   pub second_goes : moved_corner w true second ≡ Some other
-  pub whole : w.along.of (is_whole_rows (lower_corner w.to one other) (higher_corner w.to one other)) (is_whole_columns (lower_corner w.to one other) (higher_corner w.to one other)) ≡ true
+  pub whole : w.along.of (is_whole_rows (lower_corner w.to one other) (higher_corner w.to one other))
+      (is_whole_columns (lower_corner w.to one other) (higher_corner w.to one other)) ≡ true
 
 -- the edit is a move
 abbrev pub is_move : EditKind → Bool
@@ -56,14 +57,18 @@ is_move (Move first count delta) = true
 is_move (Insert first count) = false
 is_move (Delete first count) = false
 
--- likewise of a formula that names its own sheet and the edited one, and whose cell goes to a place
+-- likewise of a formula that names its own sheet and the edited one, by where its cell goes. One whose cell goes nowhere stays, and has
+-- to be kept where the way back takes its place elsewhere
 abbrev pub must_keep_between : Way → TreeAt → Option Position → Bool
 must_keep_between w t (Some to) = must_keep (way_of_tree w t to) t.node
-must_keep_between w t None = false
+must_keep_between w t None = is_some (tree_goes (back w) t)
+
+unfoldable pub must_keep_tree : Way → TreeAt → Bool
+must_keep_tree w t = must_keep_between w t (tree_goes w t)
 
 -- under an edit by itself
-unfoldable pub must_keep_at : Along → EditKind → TreeAt → Bool
-must_keep_at a e t = must_keep_between (edit_way a e) t (tree_goes (edit_way a e) t)
+abbrev pub must_keep_at : Along → EditKind → TreeAt → Bool
+must_keep_at a e t = must_keep_tree (edit_way a e) t
 
 -- such a formula after an edit and its opposite
 unfoldable pub there_and_back : Along → EditKind → TreeAt → TreeAt

@@ -9,6 +9,7 @@ pub mod ContentLaws
 pub mod MergedCellLaws
 pub mod MergeLaws
 pub mod ListLaws
+pub mod Listed
 pub mod MapLaws
 pub mod AttributeLaws
 pub mod TreeAtEquals

@@ -5,7 +5,7 @@ ghost use Rattle.formula_tree.specs.Corners.{is_whole_rows, is_whole_columns};
 ghost use Rattle.formula_tree.specs.Placed.{is_placed};
 ghost use Rattle.line_edits.specs.Edit.{IsValid};
 ghost use Rattle.line_map.specs.Alone.{edit_way};
-ghost use Rattle.line_map.specs.MustKeep.{keeps_reference, is_given_up, keeps_range, must_keep, must_keep_at, there_and_back};
+ghost use Rattle.line_map.specs.MustKeep.{keeps_reference, is_given_up, keeps_range, must_keep, must_keep_tree, must_keep_at, there_and_back};
 ghost use Rattle.line_map.specs.TreeAt.{tree_goes, tree_at};
 ghost use Rattle.line_map.specs.Way.{way};
 
@@ -105,12 +105,30 @@ pub(crate) fn must_keep_along<A: Axis, M: LineMap<A>>(route: &Route<'_, A, M>, t
     has_leaf(tree, &Following { route })
 }
 
+/// Whether a formula has to be kept that is that of a cell at a place of a sheet with this name. One
+/// whose cell goes nowhere stays, and has to be kept where the way back takes its place elsewhere.
+#[tactic(auto, unfolding(crate::specs::MustKeep::must_keep_tree, crate::specs::TreeAt::tree_goes))]
+pub(crate) fn must_keep_tree<A: Axis, M: LineMap<A>>(
+    route: &Route<'_, A, M>,
+    node: &Node,
+    sheet: &str,
+    place: Position,
+    edited: &str,
+) -> bool
+    requires { IsPlace place }
+    ensures { result ≡ must_keep_tree (way route.now) (tree_at node.now sheet.now place edited.now) }
+{
+    match goes(route, sheet, edited, place) {
+        Some(to) => must_keep_along(&named(route, sheet, edited, place, to), node),
+        None => goes(&route.back(), sheet, edited, place).is_some(),
+    }
+}
+
 /// Whether an edit of lines has to keep a formula so that it can be taken back, told by its corners
 /// without memory. The formula is that of a cell at a place of a sheet with this name, and the
 /// edited sheet has that name; names are compared by simple case folding. The edit is valid, the
 /// cell survives it, and the formula's corners lie inside, with those of each range in order.
 /// docs/MODEL.md has the rules.
-#[tactic(auto, unfolding(crate::specs::MustKeep::must_keep_at))]
 pub fn must_keep<A: Axis>(
     node: &Node,
     sheet: &str,
@@ -126,9 +144,5 @@ pub fn must_keep<A: Axis>(
     ensures exact { Decides (not result) ((there_and_back A.along edit.now.kind (tree_at node.now sheet.now place edited.now)).node ≡ node.now) }
 {
     let opposite = edit.opposite();
-    let route = edit_route(edit, &opposite);
-    match goes(&route, sheet, edited, place) {
-        Some(to) => must_keep_along(&named(&route, sheet, edited, place, to), node),
-        None => false,
-    }
+    must_keep_tree(&edit_route(edit, &opposite), node, sheet, place, edited)
 }

@@ -1,4 +1,5 @@
-ghost use Rattle.std.specs.Prelude.{◌≡◌, IfOk, IfSome, IsOkUnless};
+ghost use Rattle.std.specs.Prelude.{◌≡◌, IfOk, IfSome, IsOkUnless, IsTrue};
+ghost use Rattle.base_tables.specs.Folding.{same_folded};
 ghost use Rattle.base_values.specs.Places.{IsPlace};
 ghost use Rattle.base_values.specs.declared.EditError.TheVariants.{NoMemory};
 ghost use Rattle.formula_tree.specs.OnSheet.{is_on_sheet};
@@ -60,6 +61,15 @@ pub(crate) fn moved_corner<A: Axis, M: LineMap<A>>(
     ))
 }
 
+/// Whether a name is that of the edited sheet. Most that are have the same letters, which is told
+/// sooner than by folding.
+#[tactic(auto, using(base_tables::specs::laws::Folding::same_folded_decides))]
+fn is_name_of_edited<A: Axis, M: LineMap<A>>(route: &Route<'_, A, M>, name: &str) -> bool
+    ensures { result ≡ same_folded name.now (way route.now).edited }
+{
+    name == route.edited || same_by_folding(name, route.edited)
+}
+
 /// Whether a reference or range with this sheet name stands on the edited sheet.
 #[tactic(auto, unfolding(formula_tree::specs::OnSheet::is_on_sheet))]
 pub(crate) fn is_on_edited<A: Axis, M: LineMap<A>>(
@@ -69,7 +79,7 @@ pub(crate) fn is_on_edited<A: Axis, M: LineMap<A>>(
     ensures { result ≡ is_on_sheet (way route.now).own (way route.now).edited sheet.now }
 {
     match sheet {
-        Some(name) => same_by_folding(name.get().as_str(), route.edited),
+        Some(name) => is_name_of_edited(route, name.get().as_str()),
         None => route.is_own,
     }
 }
@@ -130,8 +140,15 @@ pub(crate) fn carried_node<A: Axis, M: LineMap<A>>(
     Ok(move_node(alloc, node, route.to, &Following { route })?)
 }
 
-/// The tree of a formula, carried along. One that stays the same is shared.
+/// Whether the tree of a formula stays the same along a route, told without memory.
 #[tactic(auto, unfolding(crate::specs::Trees::tree_carried))]
+pub(crate) fn stays<A: Axis, M: LineMap<A>>(route: &Route<'_, A, M>, tree: &Node) -> bool
+    ensures { IsTrue result → tree_carried (way route.now) tree.now ≡ tree.now }
+{
+    is_still(tree, route.to, &Following { route })
+}
+
+/// The tree of a formula, carried along. One that stays the same is shared.
 fn carried<A: Axis, M: LineMap<A>>(
     alloc: Global,
     route: &Route<'_, A, M>,
@@ -140,7 +157,7 @@ fn carried<A: Axis, M: LineMap<A>>(
     ensures tree { IfOk result (λ carried. carried ≡ tree_carried (way route.now) tree.now) }
     ensures only { IsOkUnless result NoMemory }
 {
-    if is_still(tree.get(), route.to, &Following { route }) {
+    if stays(route, tree.get()) {
         return copy_of(tree);
     }
     Ok(Shared::new(alloc, carried_node(alloc, route, tree.get())?)?)

@@ -3,10 +3,11 @@ ghost use Rattle.base_tables.specs.Folding.{same_folded};
 ghost use Rattle.base_values.specs.Places.{IsPlace};
 ghost use Rattle.base_values.specs.declared.EditError.TheVariants.{NoMemory};
 ghost use Rattle.line_edits.specs.Moves.{place_image};
-ghost use Rattle.line_map.specs.TreeAt.{TreeAtLies, tree_at_carried};
+ghost use Rattle.line_map.specs.TreeAt.{TreeAtLies, tree_at_carried, tree_at_part};
 ghost use Rattle.line_map.specs.Way.{way};
 
 use crate::follower::Follower;
+use crate::keeping::must_keep_tree;
 use crate::route::Route;
 use crate::tree::carried_node;
 use base_axis::Axis;
@@ -117,6 +118,23 @@ fn carried<A: Axis, M: LineMap<A>>(
     }
 }
 
+/// The tree, where the way back does not give it.
+fn part<A: Axis, M: LineMap<A>>(
+    route: &Route<'_, A, M>,
+    tree: &TreeAt,
+) -> Result<Option<TreeAt>, EditError>
+    requires { TreeAtLies tree.now }
+    ensures part { IfOk result (λ part. part ≡ tree_at_part (way route.now) tree.now) }
+    ensures only { IsOkUnless result NoMemory }
+{
+    route.is_way();
+    let (own, edited) = (tree.sheet.as_str(), tree.edited.as_str());
+    if !must_keep_tree(route, &tree.node, own, tree.place, edited) {
+        return Ok(None);
+    }
+    Ok(Some(copy_of(tree)?))
+}
+
 /// A tree with its own place and names is carried along on its sheet.
 impl<A: Axis> Follower<A> for TreeAt {
     ghost use Rattle.std.specs.Prelude.{⊤};
@@ -144,17 +162,12 @@ impl<A: Axis> Follower<A> for TreeAt {
         carried(alloc, route, self)
     }
 
-    #[tactic(auto, unfolding(crate::specs::Trial::part_by_trial))]
     fn part<M: LineMap<A>>(
         &self,
-        alloc: Global,
+        _alloc: Global,
         route: &Route<'_, A, M>,
     ) -> Result<Option<TreeAt>, EditError> {
-        let back = carried(alloc, &route.back(), &carried(alloc, route, self)?)?;
-        if back == *self {
-            return Ok(None);
-        }
-        Ok(Some(copy_of(self)?))
+        part(route, self)
     }
 
     fn restore<M: LineMap<A>>(

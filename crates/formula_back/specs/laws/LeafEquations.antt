@@ -36,11 +36,13 @@ leaf_text t text = ap (fold-Node Bool (leaf_layer t)) (sym (node.rolls-Text text
 
 pub leaf_reference : (t : LeafTests) (sheet : Option (List ℕ)) (corner : Corner) → has_leaf t (node.Reference sheet corner) ≡ t.reference sheet corner
 unfolding has_leaf
-leaf_reference t sheet corner = ap (fold-Node Bool (leaf_layer t)) (sym (node.rolls-Reference sheet corner)) ∙ fold-roll-Node Bool (leaf_layer t) (Node-F.Reference sheet corner)
+leaf_reference t sheet corner = ap (fold-Node Bool (leaf_layer t)) (sym (node.rolls-Reference sheet corner))
+    ∙ fold-roll-Node Bool (leaf_layer t) (Node-F.Reference sheet corner)
 
 pub leaf_range : (t : LeafTests) (sheet : Option (List ℕ)) (first second : Corner) → has_leaf t (node.Range sheet first second) ≡ t.range sheet first second
 unfolding has_leaf
-leaf_range t sheet first second = ap (fold-Node Bool (leaf_layer t)) (sym (node.rolls-Range sheet first second)) ∙ fold-roll-Node Bool (leaf_layer t) (Node-F.Range sheet first second)
+leaf_range t sheet first second = ap (fold-Node Bool (leaf_layer t)) (sym (node.rolls-Range sheet first second))
+    ∙ fold-roll-Node Bool (leaf_layer t) (Node-F.Range sheet first second)
 
 pub leaf_colon : (t : LeafTests) (a b : Node) → has_leaf t (node.Colon a b) ≡ has_leaf t a || has_leaf t b
 unfolding has_leaf
@@ -72,11 +74,13 @@ leaf_unary t kind a = ap (fold-Node Bool (leaf_layer t)) (sym (node.rolls-Unary 
 
 pub leaf_call : (t : LeafTests) (function : Function) (all : List Node) → has_leaf t (node.Call function all) ≡ list_any (has_leaf t) all
 unfolding has_leaf
-leaf_call t function all = ap (fold-Node Bool (leaf_layer t)) (sym (node.rolls-Call function all)) ∙ fold-roll-Node Bool (leaf_layer t) (Node-F.Call function all) ∙ list_any-map (λ test. test) (has_leaf t) all
+leaf_call t function all = ap (fold-Node Bool (leaf_layer t)) (sym (node.rolls-Call function all))
+    ∙ fold-roll-Node Bool (leaf_layer t) (Node-F.Call function all) ∙ list_any-map (λ test. test) (has_leaf t) all
 
 pub leaf_named_call : (t : LeafTests) (name : List ℕ) (all : List Node) → has_leaf t (node.NamedCall name all) ≡ list_any (has_leaf t) all
 unfolding has_leaf
-leaf_named_call t name all = ap (fold-Node Bool (leaf_layer t)) (sym (node.rolls-NamedCall name all)) ∙ fold-roll-Node Bool (leaf_layer t) (Node-F.NamedCall name all) ∙ list_any-map (λ test. test) (has_leaf t) all
+leaf_named_call t name all = ap (fold-Node Bool (leaf_layer t)) (sym (node.rolls-NamedCall name all))
+    ∙ fold-roll-Node Bool (leaf_layer t) (Node-F.NamedCall name all) ∙ list_any-map (λ test. test) (has_leaf t) all
 
 pub leaf_array : (t : LeafTests) (lines : List (List ArrayItem)) → has_leaf t (node.Array lines) ≡ false
 unfolding has_leaf
@@ -104,14 +108,19 @@ leaf_spill t a = ap (fold-Node Bool (leaf_layer t)) (sym (node.rolls-Spill a)) �
 
 pub leaf_lambda : (t : LeafTests) (parameters : List Parameter) (a : Node) → has_leaf t (node.Lambda parameters a) ≡ has_leaf t a
 unfolding has_leaf
-leaf_lambda t parameters a = ap (fold-Node Bool (leaf_layer t)) (sym (node.rolls-Lambda parameters a)) ∙ fold-roll-Node Bool (leaf_layer t) (Node-F.Lambda parameters a)
+leaf_lambda t parameters a = ap (fold-Node Bool (leaf_layer t)) (sym (node.rolls-Lambda parameters a))
+    ∙ fold-roll-Node Bool (leaf_layer t) (Node-F.Lambda parameters a)
 
 pub leaf_lambda_call : (t : LeafTests) (a : Node) (all : List Node) → has_leaf t (node.LambdaCall a all) ≡ has_leaf t a || list_any (has_leaf t) all
 unfolding has_leaf
-leaf_lambda_call t a all = ap (fold-Node Bool (leaf_layer t)) (sym (node.rolls-LambdaCall a all)) ∙ fold-roll-Node Bool (leaf_layer t) (Node-F.LambdaCall a all) ∙ ap (λ tests. has_leaf t a || tests) (list_any-map (λ test. test) (has_leaf t) all)
+leaf_lambda_call t a all = ap (fold-Node Bool (leaf_layer t)) (sym (node.rolls-LambdaCall a all))
+    ∙ fold-roll-Node Bool (leaf_layer t) (Node-F.LambdaCall a all) ∙ ap (λ tests. has_leaf t a || tests) (list_any-map (λ test. test) (has_leaf t) all)
 
 pub leaf_implicit_intersection : (t : LeafTests) (a : Node) → has_leaf t (node.ImplicitIntersection a) ≡ has_leaf t a
 unfolding has_leaf
-leaf_implicit_intersection t a = ap (fold-Node Bool (leaf_layer t)) (sym (node.rolls-ImplicitIntersection a)) ∙ fold-roll-Node Bool (leaf_layer t) (Node-F.ImplicitIntersection a)
+leaf_implicit_intersection t a = ap (fold-Node Bool (leaf_layer t)) (sym (node.rolls-ImplicitIntersection a))
+    ∙ fold-roll-Node Bool (leaf_layer t) (Node-F.ImplicitIntersection a)
 
-pub ruleset leaves = (leaf_boolean, leaf_number, leaf_text, leaf_reference, leaf_range, leaf_colon, leaf_concatenate, leaf_compare, leaf_sum, leaf_product, leaf_power, leaf_unary, leaf_call, leaf_named_call, leaf_array, leaf_name, leaf_error, leaf_parse_error, leaf_empty_argument, leaf_spill, leaf_lambda, leaf_lambda_call, leaf_implicit_intersection)
+pub ruleset leaves = (leaf_boolean, leaf_number, leaf_text, leaf_reference, leaf_range, leaf_colon, leaf_concatenate, leaf_compare, leaf_sum, leaf_product,
+    leaf_power, leaf_unary, leaf_call, leaf_named_call, leaf_array, leaf_name, leaf_error, leaf_parse_error, leaf_empty_argument, leaf_spill, leaf_lambda,
+    leaf_lambda_call, leaf_implicit_intersection)

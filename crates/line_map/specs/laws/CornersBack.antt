@@ -9,7 +9,8 @@ use Rattle.base_axis.specs.Along.{Along, rows, columns}
 use Rattle.base_maps.specs.Carried.{Inverse, if_there}
 use Rattle.base_maps.specs.laws.Inverses.{own_inverse}
 use Rattle.formula_tree.specs.declared.Corner.{Corner}
-use Rattle.formula_tree.specs.Corners.{line_at, number_at, corner_row, corner_column, is_inside, are_in_order, corner_at, corner_to, crossing, lower_corner, higher_corner, are_rows_reversed, are_columns_reversed, is_whole_rows, is_whole_columns}
+use Rattle.formula_tree.specs.Corners.{line_at, number_at, corner_row, corner_column, is_inside, are_in_order, corner_at, corner_to, crossing}
+use Rattle.formula_tree.specs.Corners.{lower_corner, higher_corner, are_rows_reversed, are_columns_reversed, is_whole_rows, is_whole_columns}
 use Rattle.formula_tree.specs.laws.CornerLaws.{corner_row-corner_to, corner_column-corner_to, corner_to-corner}
 use Rattle.line_edits.specs.Moves.{LineMoves, at_line, place_image}
 use Rattle.line_map.specs.Trees.{corner_of, target, moved_corner}
@@ -29,7 +30,8 @@ pub exposing_is_way : (w : Way) → IsWay w → (b : Bool) → IsWay (exposing w
 exposing_is_way w is b = record { axis = is.axis; one_to_one = is.one_to_one }
 
 -- a corner that lies inside goes where its place goes
-pub target_goes : (w : Way) (b : Bool) (corner : Corner) → is_inside w.from corner ≡ true → target w b corner ≡ place_goes (exposing w b) (place_of w.from corner)
+pub target_goes : (w : Way) (b : Bool) (corner : Corner) → is_inside w.from corner ≡ true →
+    target w b corner ≡ place_goes (exposing w b) (place_of w.from corner)
 unfolding target corner_at place_goes
 target_goes w true corner h = ap (λ i. if_there (if i then Some (place_of w.from corner) else None) (place_image w.along w.moves.to)) h
 target_goes w false corner h = ap (λ i. if i then Some (place_of w.from corner) else None) h
@@ -53,7 +55,8 @@ lands to corner place = λ i. record {
 }
 
 -- a corner that stands at a place, with the marks of another one that stands where this place comes from, goes back to it
-pub home : (w : Way) (b : Bool) (corner : Corner) (place source : Position) → IsPlace place → place_goes (exposing (back w) b) place ≡ Some source → place_of w.from corner ≡ source →
+pub home : (w : Way) (b : Bool) (corner : Corner) (place source : Position) → IsPlace place → place_goes (exposing (back w) b) place ≡ Some source →
+    place_of w.from corner ≡ source →
     moved_corner (back w) b (corner_of w.to corner place) ≡ Some corner
 unfolding corner_to
 home w b corner place source inside goes is =
@@ -169,7 +172,8 @@ crossed_of to true false first second p q = refl
 crossed_of to false true first second p q = refl
 crossed_of to false false first second p q = refl
 
-crossed_stands : (formula : Position) (r c : Bool) (first second : Corner) → place_of formula (crossed r c first second) ≡ mixed r c (place_of formula first) (place_of formula second)
+crossed_stands : (formula : Position) (r c : Bool) (first second : Corner) →
+    place_of formula (crossed r c first second) ≡ mixed r c (place_of formula first) (place_of formula second)
 unfolding corner_row corner_column
 crossed_stands formula true true first second = refl
 crossed_stands formula true false first second = refl
@@ -186,14 +190,16 @@ chosen : (go : ℤ → Option ℤ) (b : Bool) (m n k l : ℤ) → go m ≡ Some 
 chosen go true m n k l e f = f
 chosen go false m n k l e f = e
 
-mixed_goes : (go : Position → Option Position) (row column : ℤ → Option ℤ) → ByLines go row column → (r c : Bool) (p q s t : Position) → go p ≡ Some s → go q ≡ Some t → go (mixed r c p q) ≡ Some (mixed r c s t)
+mixed_goes : (go : Position → Option Position) (row column : ℤ → Option ℤ) → ByLines go row column → (r c : Bool) (p q s t : Position) → go p ≡ Some s →
+    go q ≡ Some t → go (mixed r c p q) ≡ Some (mixed r c s t)
 mixed_goes go row column lines r c p q s t e f =
     lines.both (mixed r c p q) (mixed r c s t)
     (chosen row r p.row q.row s.row t.row (lines.of_row p s e) (lines.of_row q t f))
     (chosen column c p.column q.column s.column t.column (lines.of_column p s e) (lines.of_column q t f))
 
 -- two lines whose images are exchanged are exchanged again on the way back
-again : (go : ℤ → Option ℤ) (m n k l : ℤ) (b : Bool) → go m ≡ Some k → go n ≡ Some l → int_lt n m ≡ false → int_lt l k ≡ b → int_lt (if b then m else n) (if b then n else m) ≡ b
+again : (go : ℤ → Option ℤ) (m n k l : ℤ) (b : Bool) → go m ≡ Some k → go n ≡ Some l → int_lt n m ≡ false → int_lt l k ≡ b →
+    int_lt (if b then m else n) (if b then n else m) ≡ b
 again go m n k l false e f ordered h = ordered
 again go m n k l true e f ordered h = at_test (int_lt m n) refl
   where
@@ -276,10 +282,12 @@ module _ (w : Way) (is : IsWay w) (b : Bool) (first second : Corner) (r s : Posi
 
   -- the two corners lie inside
   pub lower_inside : is_inside w.to lower_there ≡ true
-  lower_inside = ap (is_inside w.to) lower_is ∙ landed w.to first_back (Some (mixed rows_exchanged columns_exchanged r s)) (mixed_inside rows_exchanged columns_exchanged r s first_image second_image)
+  lower_inside = ap (is_inside w.to) lower_is ∙ landed w.to first_back (Some (mixed rows_exchanged columns_exchanged r s))
+      (mixed_inside rows_exchanged columns_exchanged r s first_image second_image)
 
   pub higher_inside : is_inside w.to higher_there ≡ true
-  higher_inside = ap (is_inside w.to) higher_is ∙ landed w.to second_back (Some (mixed rows_exchanged columns_exchanged s r)) (mixed_inside rows_exchanged columns_exchanged s r second_image first_image)
+  higher_inside = ap (is_inside w.to) higher_is ∙ landed w.to second_back (Some (mixed rows_exchanged columns_exchanged s r))
+      (mixed_inside rows_exchanged columns_exchanged s r second_image first_image)
 
   -- they go back to the corners that they were, which may be exchanged
   pub lower_goes_back : moved_corner (back w) b lower_there ≡ Some first_back
@@ -290,7 +298,8 @@ module _ (w : Way) (is : IsWay w) (b : Bool) (first second : Corner) (r s : Posi
       ap (moved_corner (back w) b) lower_is
       ∙ home w b first_back (mixed rows_exchanged columns_exchanged r s) (mixed rows_exchanged columns_exchanged p q)
       (mixed_inside rows_exchanged columns_exchanged r s first_image second_image)
-      (mixed_goes _ lines.row_back lines.column_back lines.returns rows_exchanged columns_exchanged r s p q (source_of p r goes_first) (source_of q s goes_second))
+      (mixed_goes _ lines.row_back lines.column_back lines.returns rows_exchanged columns_exchanged r s p q (source_of p r goes_first)
+          (source_of q s goes_second))
       (crossed_stands w.from rows_exchanged columns_exchanged first second)
 
   pub higher_goes_back : moved_corner (back w) b higher_there ≡ Some second_back
@@ -301,22 +310,27 @@ module _ (w : Way) (is : IsWay w) (b : Bool) (first second : Corner) (r s : Posi
       ap (moved_corner (back w) b) higher_is
       ∙ home w b second_back (mixed rows_exchanged columns_exchanged s r) (mixed rows_exchanged columns_exchanged q p)
       (mixed_inside rows_exchanged columns_exchanged s r second_image first_image)
-      (mixed_goes _ lines.row_back lines.column_back lines.returns rows_exchanged columns_exchanged s r q p (source_of q s goes_second) (source_of p r goes_first))
+      (mixed_goes _ lines.row_back lines.column_back lines.returns rows_exchanged columns_exchanged s r q p (source_of q s goes_second)
+          (source_of p r goes_first))
       (crossed_stands w.from rows_exchanged columns_exchanged second first)
 
   module _ (in_order : are_in_order w.from first second ≡ true) where
     rows_again : are_rows_reversed w.from first_back second_back ≡ rows_exchanged
     rows_again =
         let lines = goes_back w is b in
-        (λ i. int_lt (crossed_stands w.from rows_exchanged columns_exchanged second first i).row (crossed_stands w.from rows_exchanged columns_exchanged first second i).row)
-        ∙ again lines.row (corner_row w.from first) (corner_row w.from second) r.row s.row rows_exchanged (lines.there.of_row _ r goes_first) (lines.there.of_row _ s goes_second)
+        (λ i. int_lt (crossed_stands w.from rows_exchanged columns_exchanged second first i).row
+            (crossed_stands w.from rows_exchanged columns_exchanged first second i).row)
+        ∙ again lines.row (corner_row w.from first) (corner_row w.from second) r.row s.row rows_exchanged (lines.there.of_row _ r goes_first)
+            (lines.there.of_row _ s goes_second)
         (rows_in_order w.from first second in_order) (sym (λ i. int_lt (lands w.to second s i).row (lands w.to first r i).row))
 
     columns_again : are_columns_reversed w.from first_back second_back ≡ columns_exchanged
     columns_again =
         let lines = goes_back w is b in
-        (λ i. int_lt (crossed_stands w.from rows_exchanged columns_exchanged second first i).column (crossed_stands w.from rows_exchanged columns_exchanged first second i).column)
-        ∙ again lines.column (corner_column w.from first) (corner_column w.from second) r.column s.column columns_exchanged (lines.there.of_column _ r goes_first) (lines.there.of_column _ s goes_second)
+        (λ i. int_lt (crossed_stands w.from rows_exchanged columns_exchanged second first i).column
+            (crossed_stands w.from rows_exchanged columns_exchanged first second i).column)
+        ∙ again lines.column (corner_column w.from first) (corner_column w.from second) r.column s.column columns_exchanged
+            (lines.there.of_column _ r goes_first) (lines.there.of_column _ s goes_second)
         (columns_in_order w.from first second in_order) (sym (λ i. int_lt (lands w.to second s i).column (lands w.to first r i).column))
 
     -- and put in order they are these corners
@@ -337,7 +351,8 @@ order_stays formula to first second = λ i.
     && not (int_lt (lands to second (place_of formula second) i).column (lands to first (place_of formula first) i).column)
 
 whole_stays : (a b : Bool) (from to low high m n : ℤ) →
-    (a && b) && (int_eq (number_at a to (line_at a from m)) low && int_eq (number_at b to (line_at b from n)) high) ≡ (a && b) && (int_eq m low && int_eq n high)
+    (a && b) && (int_eq (number_at a to (line_at a from m)) low && int_eq (number_at b to (line_at b from n)) high) ≡ (a && b) &&
+        (int_eq m low && int_eq n high)
 whole_stays true true from to low high m n = refl
 whole_stays true false from to low high m n = refl
 whole_stays false b from to low high m n = refl
@@ -351,4 +366,5 @@ whole_rows_stay formula to first second = whole_stays first.absolute_row second.
 pub whole_columns_stay : (formula to : Position) (first second : Corner) →
     is_whole_columns (corner_of to first (place_of formula first)) (corner_of to second (place_of formula second)) ≡ is_whole_columns first second
 unfolding is_whole_columns corner_to corner_column
-whole_columns_stay formula to first second = whole_stays first.absolute_column second.absolute_column formula.column to.column (pos 1) (pos 16384) first.column second.column
+whole_columns_stay formula to first second = whole_stays first.absolute_column second.absolute_column formula.column to.column (pos 1)
+    (pos 16384) first.column second.column

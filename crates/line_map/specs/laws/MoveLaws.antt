@@ -23,7 +23,8 @@ abbrev pub LosesNone : Way → Type 0
 LosesNone w = (n : ℤ) → IsLine w.along.last n → is_some (w.moves.to n) ≡ true
 
 -- as under a move
-pub move_loses_none : (last first count delta n : ℤ) → IsValid last (Move first count delta) → IsLine last n → is_some (image_at last (Move first count delta) n) ≡ true
+pub move_loses_none : (last first count delta n : ℤ) → IsValid last (Move first count delta) → IsLine last n →
+    is_some (image_at last (Move first count delta) n) ≡ true
 move_loses_none last first count delta n valid line = ap is_some (move_image last first count delta n (move_parts last first count delta valid) line)
 
 not_none : (o : Option Corner) → is_some o ≡ true → is_none o ≡ false
@@ -50,16 +51,20 @@ module _ (w : Way) (is : IsWay w) (none : LosesNone w) where
   corner_goes corner inside =
       let p : Position = place_of w.from corner in
       ap is_some (moved_goes w true corner inside)
-      ∙ carried corner (at_line w.along p (w.moves.to (w.along.line p))) (put p (w.moves.to (w.along.line p)) (none (w.along.line p) (is.axis.line_inside p (stands_inside w.from corner inside))))
+      ∙ carried corner (at_line w.along p (w.moves.to (w.along.line p)))
+          (put p (w.moves.to (w.along.line p)) (none (w.along.line p) (is.axis.line_inside p (stands_inside w.from corner inside))))
 
   -- no reference has to be kept
   pub references_stay : (sheet : Option (List ℕ)) (corner : Corner) → is_inside w.from corner ≡ true → keeps_reference w sheet corner ≡ false
   unfolding keeps_reference
-  references_stay sheet corner inside = and_false (is_on_sheet w.own w.edited sheet) (is_none (moved_corner w true corner)) (not_none (moved_corner w true corner) (corner_goes corner inside))
+  references_stay sheet corner inside = and_false (is_on_sheet w.own w.edited sheet) (is_none (moved_corner w true corner))
+      (not_none (moved_corner w true corner) (corner_goes corner inside))
 
-  becomes_at : (sheet : Option (List ℕ)) (first second : Corner) → is_exposed w sheet first second ≡ true → (o u : Option Corner) → moved_corner w true first ≡ o → moved_corner w true second ≡ u →
+  becomes_at : (sheet : Option (List ℕ)) (first second : Corner) → is_exposed w sheet first second ≡ true → (o u : Option Corner) →
+      moved_corner w true first ≡ o → moved_corner w true second ≡ u →
       is_some o ≡ true → is_some u ≡ true → is_given_up w o u ≡ true → BecomesWhole w sheet first second
-  becomes_at sheet first second exposed (Some one) (Some other) e f h i given = record { exposed = exposed; one = one; other = other; first_goes = e; second_goes = f; whole = given }
+  becomes_at sheet first second exposed (Some one) (Some other) e f h i given =
+      record { exposed = exposed; one = one; other = other; first_goes = e; second_goes = f; whole = given }
   becomes_at sheet first second exposed (Some one) None e f h i given = absurd (cc)
   becomes_at sheet first second exposed None u e f h i given = absurd (cc)
 
@@ -70,7 +75,8 @@ module _ (w : Way) (is : IsWay w) (none : LosesNone w) where
       (and_parts (is_inside w.from first && is_inside w.from second) (are_in_order w.from first second) h).0
 
   -- and a range that has to be kept becomes whole
-  pub kept_ranges_become_whole : (sheet : Option (List ℕ)) (first second : Corner) → is_placed_range w.from first second ≡ true → keeps_range w sheet first second ≡ true → BecomesWhole w sheet first second
+  pub kept_ranges_become_whole : (sheet : Option (List ℕ)) (first second : Corner) → is_placed_range w.from first second ≡ true →
+      keeps_range w sheet first second ≡ true → BecomesWhole w sheet first second
   unfolding keeps_range
   kept_ranges_become_whole sheet first second placed kept =
       let inside = inside_parts first second placed in
@@ -79,6 +85,7 @@ module _ (w : Way) (is : IsWay w) (none : LosesNone w) where
 
 -- after a move of lines
 pub move_way_loses_none : (w : Way) (kind : EditKind) → is_move kind ≡ true → IsValid w.along.last kind → w.moves.to ≡ image_at w.along.last kind → LosesNone w
-move_way_loses_none w (Move first count delta) h valid moves = λ n line. ap (λ f. is_some (f n)) moves ∙ move_loses_none w.along.last first count delta n valid line
+move_way_loses_none w (Move first count delta) h valid moves = λ n line. ap (λ f. is_some (f n)) moves
+    ∙ move_loses_none w.along.last first count delta n valid line
 move_way_loses_none w (Insert first count) h valid moves = absurd (cc)
 move_way_loses_none w (Delete first count) h valid moves = absurd (cc)

@@ -2,7 +2,6 @@
 use Rattle.std.specs.Prelude.{◌≡◌, ℕ, Bool, true, false, not, ◌&&◌, List, Option, Some, None, is_none, if◌then◌else◌}
 use Rattle.std.proofs.Common.{refl, ap, sym, ◌∙◌, arith}
 use Rattle.std.specs.Bool.{Decides}
-use Rattle.std.proofs.lemmas.Bool.Decides.{same_from_decides}
 use Rattle.base_values.specs.declared.Position.{Position}
 use Rattle.base_values.specs.CodedEq.{same_value}
 use Rattle.base_values.specs.laws.CodedEq.{same_value_decides}
@@ -23,8 +22,10 @@ use Rattle.formula_back.specs.laws.LeafLaws.{same_layers, TellsLeaves, tells_tre
 use Rattle.line_map.specs.MustKeep.{keeps_reference, is_given_up, keeps_range, kept_leaves, must_keep}
 use Rattle.line_map.specs.Trees.{corner_of, is_exposed, moved_corner, following, tree_carried, tree_part, TreeLies}
 use Rattle.line_map.specs.Way.{Way, IsWay, back, place_goes}
-use Rattle.line_map.specs.laws.CornersBack.{place_of, exposing, exposing_is_way, moved_goes, home, lower_there, higher_there, first_image, lower_inside, higher_inside, lower_goes_back, higher_goes_back, lower_again, higher_again, order_stays, whole_rows_stay, whole_columns_stay}
-use Rattle.line_map.specs.laws.TreeLaws.{tree_part_at}
+use Rattle.line_map.specs.laws.CornersBack.{place_of, exposing, exposing_is_way, moved_goes, home, lower_there, higher_there, first_image}
+use Rattle.line_map.specs.laws.CornersBack.{lower_inside, higher_inside, lower_goes_back, higher_goes_back, lower_again, higher_again, order_stays}
+use Rattle.line_map.specs.laws.CornersBack.{whole_rows_stay, whole_columns_stay}
+use Rattle.line_map.specs.laws.TrialLaws.{trial_told}
 use Rattle.line_map.specs.laws.WayLaws.{goes_inverse}
 
 record IsPlacedRange (place : Position) (first second : Corner) : Type 0 where
@@ -42,23 +43,28 @@ placed_parts place first second h =
     record { first_inside = parts.0; second_inside = parts.1.0; in_order = parts.1.1 }
 
 same_ranges : (sheet : Option (List ℕ)) (a b c d : Corner) → node.Range sheet a b ≡ node.Range sheet c d → (a ≡ c) × (b ≡ d)
-same_ranges sheet a b c d e = let same = same_layers (Node-F.Range sheet a b) (Node-F.Range sheet c d) _ _ (node.rolls-Range sheet a b) (node.rolls-Range sheet c d) e in (cc, cc)
+same_ranges sheet a b c d e = let same = same_layers (Node-F.Range sheet a b) (Node-F.Range sheet c d) _ _ (node.rolls-Range sheet a b)
+    (node.rolls-Range sheet c d) e in (cc, cc)
 
 no_reference : {P : Type 0} (sheet : Option (List ℕ)) (corner : Corner) → node.Error Ref ≡ node.Reference sheet corner → P
-no_reference sheet corner e = let same = same_layers (Node-F.Error Ref) (Node-F.Reference sheet corner) _ _ (node.rolls-Error Ref) (node.rolls-Reference sheet corner) e in absurd (cc)
+no_reference sheet corner e = let same = same_layers (Node-F.Error Ref) (Node-F.Reference sheet corner) _ _ (node.rolls-Error Ref)
+    (node.rolls-Reference sheet corner) e in absurd (cc)
 
 no_range : {P : Type 0} (a b : Node) (sheet : Option (List ℕ)) (first second : Corner) → node.Colon a b ≡ node.Range sheet first second → P
-no_range a b sheet first second e = let same = same_layers (Node-F.Colon a b) (Node-F.Range sheet first second) _ _ (node.rolls-Colon a b) (node.rolls-Range sheet first second) e in absurd (cc)
+no_range a b sheet first second e = let same = same_layers (Node-F.Colon a b) (Node-F.Range sheet first second) _ _ (node.rolls-Colon a b)
+    (node.rolls-Range sheet first second) e in absurd (cc)
 
 no_true : {P : Type 0} (b : Bool) → b ≡ true → not b ≡ true → P
 no_true b h i = absurd (cc)
 
 module _ (w : Way) (is : IsWay w) where
   -- a corner whose place goes nowhere is lost
-  lost : (b : Bool) (corner : Corner) → is_inside w.from corner ≡ true → place_goes (exposing w b) (place_of w.from corner) ≡ None → moved_corner w b corner ≡ None
+  lost : (b : Bool) (corner : Corner) → is_inside w.from corner ≡ true → place_goes (exposing w b) (place_of w.from corner) ≡ None →
+      moved_corner w b corner ≡ None
   lost b corner inside goes = moved_goes w b corner inside ∙ ap (λ o. if_there o (λ place. Some (corner_of w.to corner place))) goes
 
-  found : (b : Bool) (corner : Corner) (q : Position) → is_inside w.from corner ≡ true → place_goes (exposing w b) (place_of w.from corner) ≡ Some q → moved_corner w b corner ≡ Some (corner_of w.to corner q)
+  found : (b : Bool) (corner : Corner) (q : Position) → is_inside w.from corner ≡ true → place_goes (exposing w b) (place_of w.from corner) ≡ Some q →
+      moved_corner w b corner ≡ Some (corner_of w.to corner q)
   found b corner q inside goes = moved_goes w b corner inside ∙ ap (λ o. if_there o (λ place. Some (corner_of w.to corner place))) goes
 
   none_stay : {P : Type 0} (place : Position) → place_goes (exposing w false) place ≡ None → P
@@ -71,7 +77,8 @@ module _ (w : Way) (is : IsWay w) where
     abbrev reference_back : Bool → Node
     reference_back b = moved w.from (following (back w)) (reference_to sheet (moved_corner w b corner))
 
-    reference_returns : (b : Bool) (q : Position) → is_on_sheet w.own w.edited sheet ≡ b → place_goes (exposing w b) (place_of w.from corner) ≡ Some q → reference_back b ≡ node.Reference sheet corner
+    reference_returns : (b : Bool) (q : Position) → is_on_sheet w.own w.edited sheet ≡ b → place_goes (exposing w b) (place_of w.from corner) ≡ Some q →
+        reference_back b ≡ node.Reference sheet corner
     unfolding reference_to
     reference_returns b q on goes =
         ap (λ c. moved w.from (following (back w)) (reference_to sheet c)) (found b corner q inside goes)
@@ -108,7 +115,8 @@ module _ (w : Way) (is : IsWay w) where
     range_back b = moved w.from (following (back w)) (range_there b)
 
     -- where both corners have images, the range goes to the one between them
-    module _ (b : Bool) (r s : Position) (goes_first : place_goes (exposing w b) (place_of w.from first) ≡ Some r) (goes_second : place_goes (exposing w b) (place_of w.from second) ≡ Some s) where
+    module _ (b : Bool) (r s : Position) (goes_first : place_goes (exposing w b) (place_of w.from first) ≡ Some r)
+        (goes_second : place_goes (exposing w b) (place_of w.from second) ≡ Some s) where
       abbrev low : Corner
       low = lower_there w is b first second r s goes_first goes_second placed.first_inside placed.second_inside
 
@@ -121,10 +129,12 @@ module _ (w : Way) (is : IsWay w) where
       given_up : is_given_up w (moved_corner w b first) (moved_corner w b second) ≡ is_whole
       given_up = λ i. is_given_up w (found b first r placed.first_inside goes_first i) (found b second s placed.second_inside goes_second i)
 
-      goes_and_comes : (e : Bool) → is_exposed w sheet low high ≡ e → range_back b ≡ range_to w.from sheet (moved_corner (back w) e low) (moved_corner (back w) e high)
+      goes_and_comes : (e : Bool) → is_exposed w sheet low high ≡ e → range_back b ≡ range_to w.from sheet (moved_corner (back w) e low)
+          (moved_corner (back w) e high)
       unfolding range_to is_exposed
       goes_and_comes e exposed =
-          (λ i. moved w.from (following (back w)) (range_to w.to sheet (found b first r placed.first_inside goes_first i) (found b second s placed.second_inside goes_second i)))
+          (λ i. moved w.from (following (back w)) (range_to w.to sheet (found b first r placed.first_inside goes_first i)
+              (found b second s placed.second_inside goes_second i)))
           ∙ moved_range w.from (following (back w)) sheet low high
           ∙ ap (λ x. range_to w.from sheet (moved_corner (back w) x low) (moved_corner (back w) x high)) exposed
 
@@ -133,8 +143,10 @@ module _ (w : Way) (is : IsWay w) where
       unfolding range_to
       range_returns exposed =
           goes_and_comes b exposed
-          ∙ (λ i. range_to w.from sheet (lower_goes_back w is b first second r s goes_first goes_second placed.first_inside placed.second_inside i) (higher_goes_back w is b first second r s goes_first goes_second placed.first_inside placed.second_inside i))
-          ∙ (λ i. node.Range sheet (lower_again w is b first second r s goes_first goes_second placed.first_inside placed.second_inside placed.in_order i) (higher_again w is b first second r s goes_first goes_second placed.first_inside placed.second_inside placed.in_order i))
+          ∙ (λ i. range_to w.from sheet (lower_goes_back w is b first second r s goes_first goes_second placed.first_inside placed.second_inside i)
+              (higher_goes_back w is b first second r s goes_first goes_second placed.first_inside placed.second_inside i))
+          ∙ (λ i. node.Range sheet (lower_again w is b first second r s goes_first goes_second placed.first_inside placed.second_inside placed.in_order i)
+              (higher_again w is b first second r s goes_first goes_second placed.first_inside placed.second_inside placed.in_order i))
 
       -- where it is whole then, it stays so
       abbrev low_back : Corner
@@ -143,7 +155,8 @@ module _ (w : Way) (is : IsWay w) where
       abbrev high_back : Corner
       high_back = corner_of w.from high (place_of w.to high)
 
-      stays_there : (corner : Corner) → is_inside w.to corner ≡ true → moved_corner (back w) false corner ≡ Some (corner_of w.from corner (place_of w.to corner))
+      stays_there : (corner : Corner) → is_inside w.to corner ≡ true →
+          moved_corner (back w) false corner ≡ Some (corner_of w.from corner (place_of w.to corner))
       unfolding place_goes
       stays_there corner inside = moved_goes (back w) false corner inside
 
@@ -154,7 +167,9 @@ module _ (w : Way) (is : IsWay w) where
       unfolding range_to
       whole_returns exposed =
           goes_and_comes false exposed
-          ∙ (λ i. range_to w.from sheet (stays_there low (lower_inside w is b first second r s goes_first goes_second placed.first_inside placed.second_inside) i) (stays_there high (higher_inside w is b first second r s goes_first goes_second placed.first_inside placed.second_inside) i))
+          ∙ (λ i. range_to w.from sheet
+              (stays_there low (lower_inside w is b first second r s goes_first goes_second placed.first_inside placed.second_inside) i)
+              (stays_there high (higher_inside w is b first second r s goes_first goes_second placed.first_inside placed.second_inside) i))
           ∙ (λ i. node.Range sheet (lower-in_order w.from low_back high_back in_order_back i) (higher-in_order w.from low_back high_back in_order_back i))
 
       whole_back : w.along.of (is_whole_rows low_back high_back) (is_whole_columns low_back high_back) ≡ is_whole
@@ -170,12 +185,14 @@ module _ (w : Way) (is : IsWay w) where
         parts : (a c : Bool) → a && not c ≡ true → (a ≡ true) × (c ≡ false)
         parts a c e = (grind arith, grind arith)
 
-    exposed_of : (a b : Corner) (on whole : Bool) → is_on_sheet w.own w.edited sheet ≡ on → w.along.of (is_whole_rows a b) (is_whole_columns a b) ≡ whole → is_exposed w sheet a b ≡ on && not whole
+    exposed_of : (a b : Corner) (on whole : Bool) → is_on_sheet w.own w.edited sheet ≡ on → w.along.of (is_whole_rows a b) (is_whole_columns a b) ≡ whole →
+        is_exposed w sheet a b ≡ on && not whole
     unfolding is_exposed
     exposed_of a b on whole e f = λ i. e i && not (f i)
 
     -- a range that isn't exposed stays where it stands
-    still_exposed : (r s : Position) (f : place_goes (exposing w false) (place_of w.from first) ≡ Some r) (g : place_goes (exposing w false) (place_of w.from second) ≡ Some s) →
+    still_exposed : (r s : Position) (f : place_goes (exposing w false) (place_of w.from first) ≡ Some r)
+        (g : place_goes (exposing w false) (place_of w.from second) ≡ Some s) →
         is_exposed w sheet (low false r s f g) (high false r s f g) ≡ is_exposed w sheet first second
     unfolding place_goes is_exposed
     still_exposed r s f g =
@@ -185,43 +202,53 @@ module _ (w : Way) (is : IsWay w) where
         let c : Corner = corner_of w.to first (place_of w.from first) in
         let d : Corner = corner_of w.to second (place_of w.from second) in
         let ordered : are_in_order w.to c d ≡ true = order_stays w.from w.to first second ∙ placed.in_order in
-        let lower : lower_corner w.to (corner_of w.to first r) (corner_of w.to second s) ≡ c = (λ i. lower_corner w.to (corner_of w.to first (sym is_first i)) (corner_of w.to second (sym is_second i))) ∙ lower-in_order w.to c d ordered in
-        let higher : higher_corner w.to (corner_of w.to first r) (corner_of w.to second s) ≡ d = (λ i. higher_corner w.to (corner_of w.to first (sym is_first i)) (corner_of w.to second (sym is_second i))) ∙ higher-in_order w.to c d ordered in
+        let lower : lower_corner w.to (corner_of w.to first r) (corner_of w.to second s) ≡ c =
+            (λ i. lower_corner w.to (corner_of w.to first (sym is_first i)) (corner_of w.to second (sym is_second i))) ∙ lower-in_order w.to c d ordered in
+        let higher : higher_corner w.to (corner_of w.to first r) (corner_of w.to second s) ≡ d =
+            (λ i. higher_corner w.to (corner_of w.to first (sym is_first i)) (corner_of w.to second (sym is_second i))) ∙ higher-in_order w.to c d ordered in
         (λ i. is_exposed w sheet (lower i) (higher i))
-        ∙ (λ i. is_on_sheet w.own w.edited sheet && not (w.along.of (whole_rows_stay w.from w.to first second i) (whole_columns_stay w.from w.to first second i)))
+        ∙ (λ i. is_on_sheet w.own w.edited sheet && not (w.along.of (whole_rows_stay w.from w.to first second i)
+            (whole_columns_stay w.from w.to first second i)))
 
-    first_lost : moved_corner w true first ≡ None → range_back true ≡ moved w.from (following (back w)) (node.Colon (reference_to sheet None) (reference_to sheet (moved_corner w true second)))
+    first_lost : moved_corner w true first ≡ None → range_back true ≡ moved w.from (following (back w))
+        (node.Colon (reference_to sheet None) (reference_to sheet (moved_corner w true second)))
     unfolding range_to
     first_lost h = ap (λ o. moved w.from (following (back w)) (range_to w.to sheet o (moved_corner w true second))) h
 
-    second_lost : (c : Corner) → moved_corner w true first ≡ Some c → moved_corner w true second ≡ None → range_back true ≡ moved w.from (following (back w)) (node.Colon (reference_to sheet (Some c)) (reference_to sheet None))
+    second_lost : (c : Corner) → moved_corner w true first ≡ Some c → moved_corner w true second ≡ None →
+        range_back true ≡ moved w.from (following (back w)) (node.Colon (reference_to sheet (Some c)) (reference_to sheet None))
     unfolding range_to
     second_lost c h i = λ j. moved w.from (following (back w)) (range_to w.to sheet (h j) (i j))
 
     abbrev Told : Bool → Type 0
     Told b = Decides (not (b && is_given_up w (moved_corner w true first) (moved_corner w true second))) (range_back b ≡ node.Range sheet first second)
 
-    lost_told : (a b : Node) → is_given_up w (moved_corner w true first) (moved_corner w true second) ≡ true → range_back true ≡ moved w.from (following (back w)) (node.Colon a b) → Told true
+    lost_told : (a b : Node) → is_given_up w (moved_corner w true first) (moved_corner w true second) ≡ true →
+        range_back true ≡ moved w.from (following (back w)) (node.Colon a b) → Told true
     lost_told a b given e = (
       λ h. no_true (is_given_up w (moved_corner w true first) (moved_corner w true second)) given h,
       λ same. no_range _ _ sheet first second (sym (e ∙ moved_colon w.from (following (back w)) a b) ∙ same),
     )
 
-    both_told : (r s : Position) (f : place_goes (exposing w true) (place_of w.from first) ≡ Some r) (g : place_goes (exposing w true) (place_of w.from second) ≡ Some s) →
+    both_told : (r s : Position) (f : place_goes (exposing w true) (place_of w.from first) ≡ Some r)
+        (g : place_goes (exposing w true) (place_of w.from second) ≡ Some s) →
         is_exposed w sheet first second ≡ true → (whole : Bool) → is_whole true r s f g ≡ whole → Told true
     both_told r s f g exposed false e =
-        (λ _. range_returns true r s f g (exposed_of (low true r s f g) (high true r s f g) true false (exposed_parts exposed).0 e), λ _. ap not (given_up true r s f g ∙ e))
+        (λ _. range_returns true r s f g (exposed_of (low true r s f g) (high true r s f g) true false (exposed_parts exposed).0 e),
+            λ _. ap not (given_up true r s f g ∙ e))
     both_told r s f g exposed true e = (
       λ h. no_true (is_given_up w (moved_corner w true first) (moved_corner w true second)) (given_up true r s f g ∙ e) h,
       λ same.
           let was : was_whole ≡ false = (exposed_parts exposed).1 in
           let hidden = exposed_of (low true r s f g) (high true r s f g) true true (exposed_parts exposed).0 e in
           let corners = same_ranges sheet (low_back true r s f g) (high_back true r s f g) first second (sym (whole_returns true r s f g hidden) ∙ same) in
-          let is_still : was_whole ≡ true = sym (λ i. w.along.of (is_whole_rows (corners.0 i) (corners.1 i)) (is_whole_columns (corners.0 i) (corners.1 i))) ∙ whole_back true r s f g ∙ e in
+          let is_still : was_whole ≡ true = sym (λ i. w.along.of (is_whole_rows (corners.0 i) (corners.1 i)) (is_whole_columns (corners.0 i) (corners.1 i)))
+              ∙ whole_back true r s f g ∙ e in
           absurd (cc),
     )
 
-    range_at : (b : Bool) → is_exposed w sheet first second ≡ b → (o : Option Position) → place_goes (exposing w b) (place_of w.from first) ≡ o → (u : Option Position) → place_goes (exposing w b) (place_of w.from second) ≡ u → Told b
+    range_at : (b : Bool) → is_exposed w sheet first second ≡ b → (o : Option Position) → place_goes (exposing w b) (place_of w.from first) ≡ o →
+        (u : Option Position) → place_goes (exposing w b) (place_of w.from second) ≡ u → Told b
     range_at true exposed (Some r) f (Some s) g = both_told r s f g exposed _ refl
     range_at true exposed (Some r) f None g =
         let here = found true first r placed.first_inside f in
@@ -249,10 +276,7 @@ module _ (w : Way) (is : IsWay w) where
   unfolding must_keep tree_carried
   kept_exactly tree lies = tells_trees w.from w.to (following w) (following (back w)) (kept_leaves w) leaves_told tree lies
 
-  part_at : (tree : Node) (b : Bool) → same_value the_row.coded (tree_carried (back w) (tree_carried w tree)) tree ≡ not b → tree_part w tree ≡ (if b then Some tree else None)
-  part_at tree true h = tree_part_at w tree false h
-  part_at tree false h = tree_part_at w tree true h
-
   -- so what is kept of a tree is the tree, where it has to be kept
   pub part_by_corners : (tree : Node) → TreeLies w tree → tree_part w tree ≡ (if must_keep w tree then Some tree else None)
-  part_by_corners tree lies = part_at tree (must_keep w tree) (same_from_decides _ _ (same_value_decides the_row.coded (tree_carried (back w) (tree_carried w tree)) tree) (kept_exactly tree lies))
+  part_by_corners tree lies =
+      trial_told (same_value the_row.coded) tree_carried (same_value_decides the_row.coded) w tree (must_keep w tree) (kept_exactly tree lies)

@@ -107,7 +107,7 @@ module _ {X : Type 0} where
   -- one more line that is filled
   pub filled_more : (last : ℤ) (x : X) (first : ℤ) (i : ℕ) (line : ℤ) (before after m : FinMap int_cmp X) →
       before ≡ overlaid (filled last x first i) m → after ≡ with_line (within last line) x before → line ≡ first +ℤ pos i →
-          after ≡ overlaid (filled last x first (suc i)) m
+      after ≡ overlaid (filled last x first (suc i)) m
   unfolding filled
   filled_more last x first i line before after m was now here =
       now ∙ (λ j. with_line (within last (here j)) x (was j)) ∙ laid_line (within last (first +ℤ pos i)) (filled last x first i)
@@ -174,13 +174,13 @@ module _ {X : Type 0} where
     pub lines_stay : (b : Along) → IsAxis b → (same : X → X → Bool) (m : FinMap int_cmp X) → LinesLie b m → LinesLie b (lines_carried b same w m)
     lines_stay b i same m lie = elim (line_goes_along b w) as (λ t. line_goes_along b w ≡ t →
         LinesLie b (if t then overlaid (heirs b same w.moves.inserted m) (moved_map w.moves.to m) else m)) [
-      | true ↦ λ along.
-          let last : w.along.last ≡ b.last = same_last w.along b is.axis i (both_of w.is_edited (is_along w.along b) along).1 in
-          overlaid_are (IsLine b.last) (heirs b same w.moves.inserted m) (moved_map w.moves.to m)
-          (λ n y h. (heirs_given b same w.moves.inserted m n y h).0)
-          (λ n y h. let Q : ℤ → Type 0 = λ l. IsLine l n in subst Q last (moved_are m n y h))
-      | false ↦ λ apart. lie
-    ] refl
+          | true ↦ λ along.
+              let last : w.along.last ≡ b.last = same_last w.along b is.axis i (both_of w.is_edited (is_along w.along b) along).1 in
+              overlaid_are (IsLine b.last) (heirs b same w.moves.inserted m) (moved_map w.moves.to m)
+              (λ n y h. (heirs_given b same w.moves.inserted m n y h).0)
+              (λ n y h. let Q : ℤ → Type 0 = λ l. IsLine l n in subst Q last (moved_are m n y h))
+          | false ↦ λ apart. lie
+        ] refl
 
     -- so does what is kept
     pub lines_kept_fit : (b : Along) (m : FinMap int_cmp X) → LinesLie b m → (k : FinMap int_cmp X) → lines_part b w m ≡ Some k → LinesLie b k
@@ -221,7 +221,7 @@ module _ {X : Type 0} where
     lines_return : (b : Along) (same : X → X → Bool) (m : FinMap int_cmp X) → overlaid (lost_map w.moves.to m) (moved_map w.moves.from (gone b same m)) ≡ m
     lines_return b same m = laid_over int_cmp int_cmp_total int_cmp-IsAntisymmetric w.moves.to m (moved_map w.moves.from (gone b same m)) (λ p.
         get-moved_map int_cmp int_cmp_total int_cmp-IsAntisymmetric w.moves.from w.moves.to (turned_inverse is.one_to_one.inverse) (gone b same m) p
-            ∙ at_key p (w.moves.to p) refl)
+        ∙ at_key p (w.moves.to p) refl)
       where
         at_key : (p : ℤ) (t : Option ℤ) → w.moves.to p ≡ t → if_there t (get (gone b same m)) ≡ cond (is_some t) (get m p) None
         at_key p None e = refl
@@ -241,7 +241,7 @@ module _ {X : Type 0} where
         at_test true e g =
             let kept : k ≡ lost_map w.moves.to m = cc in
             (λ i. if e i then overlaid (kept i) (moved_map w.moves.from
-                (if e i then overlaid (heirs b same w.moves.inserted m) (moved_map w.moves.to m) else m)) else
-                (if e i then overlaid (heirs b same w.moves.inserted m) (moved_map w.moves.to m) else m))
+            (if e i then overlaid (heirs b same w.moves.inserted m) (moved_map w.moves.to m) else m)) else
+            (if e i then overlaid (heirs b same w.moves.inserted m) (moved_map w.moves.to m) else m))
             ∙ lines_return b same m
         at_test false e g = absurd (cc)

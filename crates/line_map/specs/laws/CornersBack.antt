@@ -299,7 +299,7 @@ module _ (w : Way) (is : IsWay w) (b : Bool) (first second : Corner) (r s : Posi
       ∙ home w b first_back (mixed rows_exchanged columns_exchanged r s) (mixed rows_exchanged columns_exchanged p q)
       (mixed_inside rows_exchanged columns_exchanged r s first_image second_image)
       (mixed_goes _ lines.row_back lines.column_back lines.returns rows_exchanged columns_exchanged r s p q (source_of p r goes_first)
-          (source_of q s goes_second))
+      (source_of q s goes_second))
       (crossed_stands w.from rows_exchanged columns_exchanged first second)
 
   pub higher_goes_back : moved_corner (back w) b higher_there ≡ Some second_back
@@ -311,7 +311,7 @@ module _ (w : Way) (is : IsWay w) (b : Bool) (first second : Corner) (r s : Posi
       ∙ home w b second_back (mixed rows_exchanged columns_exchanged s r) (mixed rows_exchanged columns_exchanged q p)
       (mixed_inside rows_exchanged columns_exchanged s r second_image first_image)
       (mixed_goes _ lines.row_back lines.column_back lines.returns rows_exchanged columns_exchanged s r q p (source_of q s goes_second)
-          (source_of p r goes_first))
+      (source_of p r goes_first))
       (crossed_stands w.from rows_exchanged columns_exchanged second first)
 
   module _ (in_order : are_in_order w.from first second ≡ true) where
@@ -319,18 +319,18 @@ module _ (w : Way) (is : IsWay w) (b : Bool) (first second : Corner) (r s : Posi
     rows_again =
         let lines = goes_back w is b in
         (λ i. int_lt (crossed_stands w.from rows_exchanged columns_exchanged second first i).row
-            (crossed_stands w.from rows_exchanged columns_exchanged first second i).row)
+        (crossed_stands w.from rows_exchanged columns_exchanged first second i).row)
         ∙ again lines.row (corner_row w.from first) (corner_row w.from second) r.row s.row rows_exchanged (lines.there.of_row _ r goes_first)
-            (lines.there.of_row _ s goes_second)
+        (lines.there.of_row _ s goes_second)
         (rows_in_order w.from first second in_order) (sym (λ i. int_lt (lands w.to second s i).row (lands w.to first r i).row))
 
     columns_again : are_columns_reversed w.from first_back second_back ≡ columns_exchanged
     columns_again =
         let lines = goes_back w is b in
         (λ i. int_lt (crossed_stands w.from rows_exchanged columns_exchanged second first i).column
-            (crossed_stands w.from rows_exchanged columns_exchanged first second i).column)
+        (crossed_stands w.from rows_exchanged columns_exchanged first second i).column)
         ∙ again lines.column (corner_column w.from first) (corner_column w.from second) r.column s.column columns_exchanged
-            (lines.there.of_column _ r goes_first) (lines.there.of_column _ s goes_second)
+        (lines.there.of_column _ r goes_first) (lines.there.of_column _ s goes_second)
         (columns_in_order w.from first second in_order) (sym (λ i. int_lt (lands w.to second s i).column (lands w.to first r i).column))
 
     -- and put in order they are these corners
@@ -352,7 +352,7 @@ order_stays formula to first second = λ i.
 
 whole_stays : (a b : Bool) (from to low high m n : ℤ) →
     (a && b) && (int_eq (number_at a to (line_at a from m)) low && int_eq (number_at b to (line_at b from n)) high) ≡ (a && b) &&
-        (int_eq m low && int_eq n high)
+    (int_eq m low && int_eq n high)
 whole_stays true true from to low high m n = refl
 whole_stays true false from to low high m n = refl
 whole_stays false b from to low high m n = refl

@@ -5,7 +5,7 @@ use Rattle.std.specs.Cmp.{IsTotalOrder}
 use Rattle.std.specs.FinMap.{FinMap, empty, entries, get}
 use Rattle.std.specs.List.{All, cons_option, filter_map}
 use Rattle.std.specs.Map.Iter.{TakesFirst}
-use Rattle.std.proofs.lemmas.List.{append-nil}
+use Rattle.std.proofs.lemmas.List.{append-nil, map-append}
 use Rattle.std.proofs.lemmas.List.Elements.{All-append, All-cons, All-nil, filter_map-append}
 use Rattle.std.proofs.lemmas.Map.Iter.{rest_more, rest_all}
 use Rattle.std.proofs.lemmas.Map.Lookups.{CmpEqualImpliesEq}
@@ -19,21 +19,24 @@ pub record Listed {A K X Y : Type 0} {R : K → K → Ordering} (Inside : K → 
     (m : FinMap R X) (seen : List A) (left : List (K × X)) (made : List (K × Y)) : Type 0 where
   pub all : map shows seen ++ left ≡ entries m
   pub now : made ≡ filter_map (entry_made to make) (map shows seen)
-  pub inside : All (λ entry. Inside entry.0) made
+  pub inside : All (λ (entry : K × Y). Inside entry.0) made
 
--- an entry that is made lies inside, where the key does that it goes to
-value_inside : {K Y : Type 0} (Inside : K → Type 0) (q : K) → Inside q → (y : Option Y) →
-    All (λ entry. Inside entry.0) (cons_option (if_there y (λ y. Some (q, y))) [])
-value_inside Inside q h None = All-nil (λ entry. Inside entry.0)
-value_inside Inside q h (Some y) = All-cons (λ entry. Inside entry.0) (q, y) [] h (All-nil (λ entry. Inside entry.0))
+module _ {K X Y : Type 0} (Inside : K → Type 0) (make : K → K → X → Option Y) where
+  abbrev KeyLies : K × Y → Type 0
+  KeyLies entry = Inside entry.0
 
-entry_inside : {K X Y : Type 0} (Inside : K → Type 0) (make : K → K → X → Option Y) (p : K) (x : X) (t : Option K) → ((q : K) → t ≡ Some q → Inside q) →
-    All (λ entry. Inside entry.0) (cons_option (if_there t (λ q. if_there (make p q x) (λ y. Some (q, y)))) [])
-entry_inside Inside make p x None h = All-nil (λ entry. Inside entry.0)
-entry_inside Inside make p x (Some q) h = value_inside Inside q (h q refl) (make p q x)
+  value_inside : (q : K) → Inside q → (y : Option Y) → All KeyLies (cons_option (if_there y (λ y. Some (q, y))) [])
+  value_inside q h None = All-nil KeyLies
+  value_inside q h (Some y) = All-cons KeyLies (q, y) [] h (All-nil KeyLies)
 
-module _ {A K X Y : Type 0} {R : K → K → Ordering} (total : IsTotalOrder R)
-    (exact : CmpEqualImpliesEq R) {Inside : K → Type 0} {shows : A → K × X} {to : K → Option K} {make : K → K → X → Option Y} {m : FinMap R X}
+  -- an entry that is made lies inside, where the key does that it goes to
+  entry_inside : (p : K) (x : X) (t : Option K) → ((q : K) → t ≡ Some q → Inside q) →
+      All KeyLies (cons_option (if_there t (λ q. if_there (make p q x) (λ y. Some (q, y)))) [])
+  entry_inside p x None h = All-nil KeyLies
+  entry_inside p x (Some q) h = value_inside q (h q refl) (make p q x)
+
+module _ {A K X Y : Type 0} {R : K → K → Ordering} (total : IsTotalOrder R) (exact : CmpEqualImpliesEq R)
+    {Inside : K → Type 0} {shows : A → K × X} {to : K → Option K} {make : K → K → X → Option Y} {m : FinMap R X}
     {seen : List A} {left : List (K × X)} {before : List (K × Y)} (so_far : Listed Inside shows to make m seen left before) where
   -- the entry at hand is what the map has at its key
   pub listed_held : (rest : List (K × X)) {r : Option A} (y : A) → r ≡ Some y → TakesFirst shows left r rest → get m (shows y).0 ≡ Some (shows y).1
@@ -49,8 +52,8 @@ module _ {A K X Y : Type 0} {R : K → K → Ordering} (total : IsTotalOrder R)
         ∙ ap (λ es. es ++ cons_option (entry_made to make (shows y)) []) so_far.now
         ∙ sym (filter_map-append (entry_made to make) (map shows seen) (shows y ∷ []))
         ∙ sym (ap (filter_map (entry_made to make)) (map-append shows seen (y ∷ [])));
-    inside = subst (All (λ entry. Inside entry.0)) (sym now)
-        (All-append (λ entry. Inside entry.0) before _ so_far.inside (entry_inside Inside make (shows y).0 (shows y).1 (to (shows y).0) lands));
+    inside = subst (All (λ (entry : K × Y). Inside entry.0)) (sym now)
+        (All-append (λ (entry : K × Y). Inside entry.0) before _ so_far.inside (entry_inside Inside make (shows y).0 (shows y).1 (to (shows y).0) lands));
   }
 
   -- all entries are seen, and the map of the list is the gathered one
@@ -58,6 +61,6 @@ module _ {A K X Y : Type 0} {R : K → K → Ordering} (total : IsTotalOrder R)
       with_entries (empty {R = R}) before ≡ gathered to make m
   listed_all {from = from} i rest {r = r} is steps =
       let whole : map shows seen ≡ entries m = sym (append-nil (map shows seen)) ∙ ap (λ es. map shows seen ++ es) (sym (rest_all shows left rest r is steps))
-          ∙ so_far.all in
+      ∙ so_far.all in
       ap (with_entries (empty {R = R})) (so_far.now ∙ ap (filter_map (entry_made to make)) whole)
       ∙ gathered_in_turn R total exact to from i make m

@@ -49,7 +49,7 @@ module _ (w : Way) (is : IsWay w) where
     came_from : (m : FinMap position_cmp F) (q : Position) (y : F) → get (places_carried carry w m) q ≡ Some y → CameFrom m q y
     came_from m q y g =
         came_at m q y _ refl (sym (get-carried_map position_cmp position_total exact_positions (place_goes w) (place_goes (back w)) inverse
-            (λ p q x. carry (at w p q) x) m q) ∙ g)
+        (λ p q x. carry (at w p q) x) m q) ∙ g)
 
     item_lies : ((v : Way) → IsWay v → (x : F) → Lies v x → Lies (back v) (carry v x)) → (m : FinMap position_cmp F) → AllLie Lies w m →
         (q : Position) (y : F) (c : CameFrom m q y) → Lies (back (at w c.place q)) y
@@ -125,7 +125,7 @@ module _ (w : Way) (is : IsWay w) where
       lost_inside = λ p x h. lie.places p x (unlost _ (get m p) x (sym (get-lost_map position_cmp position_total exact_positions (place_goes w) m p) ∙ h));
       parts_fit = λ p q k there h.
           let found = part_from (part (at w p q)) (get m p) k (sym (there_at p q (get m p) there)
-              ∙ sym (get-parts_map position_cmp position_total exact_positions (place_goes w) (λ p q x. part (at w p q) x) m p) ∙ h) in
+          ∙ sym (get-parts_map position_cmp position_total exact_positions (place_goes w) (λ p q x. part (at w p q) x) m p) ∙ h) in
           part_fits (at w p q) (at_is_way w is p q) found.0 (lie.items p q found.0 found.1 there) k found.2;
     }
 

@@ -28,7 +28,7 @@ merge_stays w is merge h =
     let a = w.along in
     put_inside a is.axis merge h _
     (is.one_to_one.merged_inside (first_line a merge) (last_line a merge) (across a merge)
-        (first_inside a is.axis merge h, last_inside a is.axis merge h, lines_in_order a is.axis merge h))
+    (first_inside a is.axis merge h, last_inside a is.axis merge h, lines_in_order a is.axis merge h))
 
 pub left_stay : (w : Way) → IsWay w → (merges : List MergedCell) → MergesLie merges → MergesLie (filter_map (merge_carried w) merges)
 left_stay w is merges h = all_found IsInside IsInside (merge_carried w) (merge_stays w is) merges h

@@ -52,7 +52,7 @@ module _ (w : Way) (is : IsWay w) (none : LosesNone w) where
       let p : Position = place_of w.from corner in
       ap is_some (moved_goes w true corner inside)
       ∙ carried corner (at_line w.along p (w.moves.to (w.along.line p)))
-          (put p (w.moves.to (w.along.line p)) (none (w.along.line p) (is.axis.line_inside p (stands_inside w.from corner inside))))
+      (put p (w.moves.to (w.along.line p)) (none (w.along.line p) (is.axis.line_inside p (stands_inside w.from corner inside))))
 
   -- no reference has to be kept
   pub references_stay : (sheet : Option (List ℕ)) (corner : Corner) → is_inside w.from corner ≡ true → keeps_reference w sheet corner ≡ false

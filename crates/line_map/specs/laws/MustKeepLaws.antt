@@ -134,7 +134,7 @@ module _ (w : Way) (is : IsWay w) where
       unfolding range_to is_exposed
       goes_and_comes e exposed =
           (λ i. moved w.from (following (back w)) (range_to w.to sheet (found b first r placed.first_inside goes_first i)
-              (found b second s placed.second_inside goes_second i)))
+          (found b second s placed.second_inside goes_second i)))
           ∙ moved_range w.from (following (back w)) sheet low high
           ∙ ap (λ x. range_to w.from sheet (moved_corner (back w) x low) (moved_corner (back w) x high)) exposed
 
@@ -144,9 +144,9 @@ module _ (w : Way) (is : IsWay w) where
       range_returns exposed =
           goes_and_comes b exposed
           ∙ (λ i. range_to w.from sheet (lower_goes_back w is b first second r s goes_first goes_second placed.first_inside placed.second_inside i)
-              (higher_goes_back w is b first second r s goes_first goes_second placed.first_inside placed.second_inside i))
+          (higher_goes_back w is b first second r s goes_first goes_second placed.first_inside placed.second_inside i))
           ∙ (λ i. node.Range sheet (lower_again w is b first second r s goes_first goes_second placed.first_inside placed.second_inside placed.in_order i)
-              (higher_again w is b first second r s goes_first goes_second placed.first_inside placed.second_inside placed.in_order i))
+          (higher_again w is b first second r s goes_first goes_second placed.first_inside placed.second_inside placed.in_order i))
 
       -- where it is whole then, it stays so
       abbrev low_back : Corner
@@ -168,8 +168,8 @@ module _ (w : Way) (is : IsWay w) where
       whole_returns exposed =
           goes_and_comes false exposed
           ∙ (λ i. range_to w.from sheet
-              (stays_there low (lower_inside w is b first second r s goes_first goes_second placed.first_inside placed.second_inside) i)
-              (stays_there high (higher_inside w is b first second r s goes_first goes_second placed.first_inside placed.second_inside) i))
+          (stays_there low (lower_inside w is b first second r s goes_first goes_second placed.first_inside placed.second_inside) i)
+          (stays_there high (higher_inside w is b first second r s goes_first goes_second placed.first_inside placed.second_inside) i))
           ∙ (λ i. node.Range sheet (lower-in_order w.from low_back high_back in_order_back i) (higher-in_order w.from low_back high_back in_order_back i))
 
       whole_back : w.along.of (is_whole_rows low_back high_back) (is_whole_columns low_back high_back) ≡ is_whole
@@ -203,12 +203,12 @@ module _ (w : Way) (is : IsWay w) where
         let d : Corner = corner_of w.to second (place_of w.from second) in
         let ordered : are_in_order w.to c d ≡ true = order_stays w.from w.to first second ∙ placed.in_order in
         let lower : lower_corner w.to (corner_of w.to first r) (corner_of w.to second s) ≡ c =
-            (λ i. lower_corner w.to (corner_of w.to first (sym is_first i)) (corner_of w.to second (sym is_second i))) ∙ lower-in_order w.to c d ordered in
+        (λ i. lower_corner w.to (corner_of w.to first (sym is_first i)) (corner_of w.to second (sym is_second i))) ∙ lower-in_order w.to c d ordered in
         let higher : higher_corner w.to (corner_of w.to first r) (corner_of w.to second s) ≡ d =
-            (λ i. higher_corner w.to (corner_of w.to first (sym is_first i)) (corner_of w.to second (sym is_second i))) ∙ higher-in_order w.to c d ordered in
+        (λ i. higher_corner w.to (corner_of w.to first (sym is_first i)) (corner_of w.to second (sym is_second i))) ∙ higher-in_order w.to c d ordered in
         (λ i. is_exposed w sheet (lower i) (higher i))
         ∙ (λ i. is_on_sheet w.own w.edited sheet && not (w.along.of (whole_rows_stay w.from w.to first second i)
-            (whole_columns_stay w.from w.to first second i)))
+        (whole_columns_stay w.from w.to first second i)))
 
     first_lost : moved_corner w true first ≡ None → range_back true ≡ moved w.from (following (back w))
         (node.Colon (reference_to sheet None) (reference_to sheet (moved_corner w true second)))
@@ -233,9 +233,10 @@ module _ (w : Way) (is : IsWay w) where
     both_told : (r s : Position) (f : place_goes (exposing w true) (place_of w.from first) ≡ Some r)
         (g : place_goes (exposing w true) (place_of w.from second) ≡ Some s) →
         is_exposed w sheet first second ≡ true → (whole : Bool) → is_whole true r s f g ≡ whole → Told true
-    both_told r s f g exposed false e =
-        (λ _. range_returns true r s f g (exposed_of (low true r s f g) (high true r s f g) true false (exposed_parts exposed).0 e),
-            λ _. ap not (given_up true r s f g ∙ e))
+    both_told r s f g exposed false e = (
+      λ _. range_returns true r s f g (exposed_of (low true r s f g) (high true r s f g) true false (exposed_parts exposed).0 e),
+      λ _. ap not (given_up true r s f g ∙ e),
+    )
     both_told r s f g exposed true e = (
       λ h. no_true (is_given_up w (moved_corner w true first) (moved_corner w true second)) (given_up true r s f g ∙ e) h,
       λ same.
@@ -243,7 +244,7 @@ module _ (w : Way) (is : IsWay w) where
           let hidden = exposed_of (low true r s f g) (high true r s f g) true true (exposed_parts exposed).0 e in
           let corners = same_ranges sheet (low_back true r s f g) (high_back true r s f g) first second (sym (whole_returns true r s f g hidden) ∙ same) in
           let is_still : was_whole ≡ true = sym (λ i. w.along.of (is_whole_rows (corners.0 i) (corners.1 i)) (is_whole_columns (corners.0 i) (corners.1 i)))
-              ∙ whole_back true r s f g ∙ e in
+          ∙ whole_back true r s f g ∙ e in
           absurd (cc),
     )
 

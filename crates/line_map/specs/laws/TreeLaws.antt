@@ -49,7 +49,7 @@ unfolding is_inside
 landed to corner None h = tt
 landed to corner (Some place) h =
     (λ i. is_line (pos 1048576) (corner_row-corner_to to corner.absolute_row corner.absolute_column place i) && is_line (pos 16384)
-        (corner_column-corner_to to corner.absolute_row corner.absolute_column place i))
+    (corner_column-corner_to to corner.absolute_row corner.absolute_column place i))
     ∙ are_lines place.row place.column h.0 h.1
 
 -- the corners of a tree that is carried along lie inside the sheet, and those of each range are in order

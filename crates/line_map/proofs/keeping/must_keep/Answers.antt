@@ -15,4 +15,4 @@ returns-clause-exact g c =
     let a = c.args in
     Decides-at _ _ (ap not (returns-clause-value g c))
     (kept_alone g.A.Axis.along g.met.A.Axis.lawful a.edit.now.kind c.requires.valid (tree_at a.node.now a.sheet.now a.place a.edited.now)
-        (record { place = c.requires.place; corners = c.requires.corners }) c.requires.survives)
+    (record { place = c.requires.place; corners = c.requires.corners }) c.requires.survives)

@@ -11,28 +11,28 @@ use Rattle.line_map.proofs.place_map.restored_places.Goals as goal
 pub restored_entry-requires-clause-inside : goal.restored_entry-requires-clause-inside
 restored_entry-requires-clause-inside g c =
     c.requires.lie.places _ _ (listed_held position_total exact_positions c.loop-to.invariant c.next.new.self
-        (c.in-Some.to, c.in-Some.item) c.in-Some.is c.next.ensures.steps)
+    (c.in-Some.to, c.in-Some.item) c.in-Some.is c.next.ensures.steps)
 
 pub restored_entry-requires-clause-lies : goal.restored_entry-requires-clause-lies
 restored_entry-requires-clause-lies g c =
     λ from there. c.requires.lie.items _ from _ (listed_held position_total exact_positions c.loop-to.invariant c.next.new.self
-        (c.in-Some.to, c.in-Some.item) c.in-Some.is c.next.ensures.steps) there
+    (c.in-Some.to, c.in-Some.item) c.in-Some.is c.next.ensures.steps) there
 
 pub loop-to-preserved : goal.loop-to-preserved
 loop-to-preserved g c =
     let w = way c.args.route.now in
     let inside = c.requires.lie.places _ _ (listed_held position_total exact_positions c.loop-to.invariant c.next.new.self
-        (c.in-Some.to, c.in-Some.item) c.in-Some.is c.next.ensures.steps) in
+    (c.in-Some.to, c.in-Some.item) c.in-Some.is c.next.ensures.steps) in
     listed_on position_total exact_positions c.loop-to.invariant (c.in-Some.to, c.in-Some.item) c.in-Some.is c.next.ensures.steps
     (λ q there. goes_there (back w) (back_is_way w c.is_way.ensures) c.in-Some.to.now q inside there)
     (c.in_ok-put_last.ensures.items ∙ ap (λ o. c.loop-to.made ++ cons_option o []) c.in_ok-restored_entry.ensures.entry)
 
 pub of_entries-requires : goal.of_entries-requires
-of_entries-requires g c = c.loop-to.invariant.inside
+of_entries-requires g c = record { inside = c.loop-to.invariant.inside }
 
 pub returns-clause-map : goal.returns-clause-map
 returns-clause-map g c =
     IfOk-weaker c.of_entries.result _ _
     (λ made is. is ∙ listed_all position_total exact_positions c.loop-to.invariant
-        (turned_inverse (goes_inverse (way c.args.route.now) c.is_way.ensures)) c.next.new.self c.in-None.is c.next.ensures.steps)
+    (turned_inverse (goes_inverse (way c.args.route.now) c.is_way.ensures)) c.next.new.self c.in-None.is c.next.ensures.steps)
     c.of_entries.ensures.map

@@ -1,9 +1,8 @@
 -- The law of followers for maps by place.
 use Rattle.std.proofs.Common.{◌≡◌, Bool, true, false, cond, Option, Some, None, refl, ap, sym, subst, ◌∙◌}
-use Rattle.std.specs.Prelude.{IfSome}
 use Rattle.std.specs.FinMap.{FinMap, get}
 use Rattle.base_values.specs.declared.Position.{Position}
-use Rattle.base_values.specs.Places.{IsPlace, position_cmp}
+use Rattle.base_values.specs.Places.{position_cmp}
 use Rattle.base_values.specs.laws.Places.{position_total, exact_positions}
 use Rattle.base_maps.specs.Carried.{if_there, lost_map, overlaid, settled}
 use Rattle.line_map.specs.Maps.{AllLie, KeptFits, places_carried, places_parts, places_restored}

@@ -1,8 +1,8 @@
 -- The law of followers for merges.
-use Rattle.std.proofs.Common.{◌≡◌, ◌∙◌, ap, ◌++◌, ℕ, ◌+◌, ◌<◌, length, take, get_or, ℤ, true, false, List, [], ◌∷◌, Option, Some, None, subst, sym}
+use Rattle.std.proofs.Common.{◌≡◌, ℤ, true, false, List, Option, Some, None, subst, sym}
 use Rattle.std.specs.Prelude.{IfSome, if◌then◌else◌}
 use Rattle.std.specs.Cmp.Lexicographic.{pointwise_decides}
-use Rattle.std.specs.List.{All, AllByRecursion, filter_map, cons_option}
+use Rattle.std.specs.List.{filter_map}
 use Rattle.base_axis.specs.Along.{Along, IsAxis}
 use Rattle.base_axis.specs.declared.MergedCell.{MergedCell}
 use Rattle.base_axis.specs.contracts.merge_list.MergeListPartialEq.TheImpl as equality

@@ -1,5 +1,5 @@
 -- The law of followers for trees, and that what is carried along stays in the sheet.
-use Rattle.std.proofs.Common.{◌≡◌, ℤ, pos, Bool, true, false, Option, Some, None, refl, sym, ◌∙◌, arith}
+use Rattle.std.proofs.Common.{◌≡◌, ℤ, pos, Bool, true, false, Option, Some, None, refl, ◌∙◌, arith}
 use Rattle.std.specs.Prelude.{IfSome, ◌&&◌, if◌then◌else◌}
 use Rattle.std.proofs.lemmas.Int.{ints}
 use Rattle.base_values.specs.declared.Position.{Position}
@@ -16,7 +16,6 @@ use Rattle.formula_tree.specs.laws.PlacedLaws.{placed-moved}
 use Rattle.base_maps.specs.Carried.{if_there}
 use Rattle.line_edits.specs.Moves.{place_image}
 use Rattle.line_map.specs.Trees.{corner_of, target, following, tree_carried, tree_part, TreeLies}
-use Rattle.line_map.specs.Trial.{part_by_trial}
 use Rattle.line_map.specs.Way.{Way, IsWay, back}
 use Rattle.line_map.specs.laws.TrialLaws.{trial_comes_back, trial_part}
 use Rattle.line_edits.specs.laws.PlaceLaws.{image_inside}

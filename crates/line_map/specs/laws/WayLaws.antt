@@ -1,14 +1,13 @@
 -- Laws of ways.
-use Rattle.std.proofs.Common.{◌≡◌, ℤ, true, false, Option, Some, None, refl, ap, subst, ◌∙◌}
+use Rattle.std.proofs.Common.{◌≡◌, true, false, Option, Some, subst}
 use Rattle.std.specs.Prelude.{IfSome, if◌then◌else◌}
 use Rattle.base_values.specs.declared.Position.{Position}
-use Rattle.base_values.specs.Places.{IsLine, IsPlace}
-use Rattle.base_axis.specs.Along.{Along, IsAxis}
+use Rattle.base_values.specs.Places.{IsPlace}
 use Rattle.base_maps.specs.Carried.{Inverse}
 use Rattle.line_edits.specs.laws.PlaceLaws.{turned_one_to_one, image_inside, image_inverse}
-use Rattle.line_edits.specs.Moves.{LineMoves, IsOneToOne, turned, at_line, place_image}
+use Rattle.line_edits.specs.Moves.{place_image}
 use Rattle.line_map.specs.Way.{Way, IsWay, at, back, place_goes}
-use Rattle.base_maps.specs.laws.Inverses.{own_inverse, turned_inverse}
+use Rattle.base_maps.specs.laws.Inverses.{own_inverse}
 
 -- the way back is a way, and so is that of what goes from a place to a place
 pub back_is_way : (w : Way) → IsWay w → IsWay (back w)

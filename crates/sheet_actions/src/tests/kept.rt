@@ -37,11 +37,12 @@ fn kept_of(alloc: Global, row: i32, tree: Node) -> Result<KeptLines, EditError> 
     let style = DefaultStyle::new(alloc)?;
     put_formula(book.worksheet_mut(0)?, (row, 3), tree, style.shared())?;
     let model = Model::from_workbook(alloc, book)?;
+    let start = model.workbook();
     let edit: LineEdit<RowAxis> = LineEdit::new(inserted(2, 1));
-    if !edit.is_valid() || !has_sheet(model.workbook(), 1) {
+    if !edit.is_valid() || !has_sheet(start, 1) {
         return Err(EditError::InvalidSheet);
     }
-    let (_later, kept) = line_edit(alloc, model.workbook(), 1, &edit)?;
+    let (_later, kept) = line_edit(alloc, start, 1, &edit)?;
     Ok(kept)
 }
 

@@ -46,8 +46,10 @@ sheet_back w kept sheet = record sheet {
 
 -- a workbook taken back along an edit of the lines of the sheet of an id: every sheet is, and all else stays
 abbrev pub book_back : Along → EditKind → ℕ → KeptLines → Book → Book
-book_back a e id kept book = record book { worksheets = map (λ sheet. sheet_back
-    (way_of a (edit_moves a.last e) id (name_of (sheet_of book id)) sheet) kept sheet) book.worksheets }
+book_back a e id kept book = record book {
+  worksheets = map (λ sheet. sheet_back
+      (way_of a (edit_moves a.last e) id (name_of (sheet_of book id)) sheet) kept sheet) book.worksheets;
+}
 
 -- the keys and the merges of what is kept lie inside the sheet
 pub record LieInside (a : Along) (kept : KeptLines) : Type 0 where

@@ -121,6 +121,28 @@ unfolding has_leaf
 leaf_implicit_intersection t a = ap (fold-Node Bool (leaf_layer t)) (sym (node.rolls-ImplicitIntersection a))
     ∙ fold-roll-Node Bool (leaf_layer t) (Node-F.ImplicitIntersection a)
 
-pub ruleset leaves = (leaf_boolean, leaf_number, leaf_text, leaf_reference, leaf_range, leaf_colon, leaf_concatenate, leaf_compare, leaf_sum, leaf_product,
-    leaf_power, leaf_unary, leaf_call, leaf_named_call, leaf_array, leaf_name, leaf_error, leaf_parse_error, leaf_empty_argument, leaf_spill, leaf_lambda,
-    leaf_lambda_call, leaf_implicit_intersection)
+pub ruleset leaves = (
+  leaf_boolean,
+  leaf_number,
+  leaf_text,
+  leaf_reference,
+  leaf_range,
+  leaf_colon,
+  leaf_concatenate,
+  leaf_compare,
+  leaf_sum,
+  leaf_product,
+  leaf_power,
+  leaf_unary,
+  leaf_call,
+  leaf_named_call,
+  leaf_array,
+  leaf_name,
+  leaf_error,
+  leaf_parse_error,
+  leaf_empty_argument,
+  leaf_spill,
+  leaf_lambda,
+  leaf_lambda_call,
+  leaf_implicit_intersection,
+)

@@ -108,7 +108,7 @@ pub record TellsLeaves (from to : Position) (there home : Mapping) (t : LeafTest
       Decides (not (t.reference sheet corner)) (moved from home (reference_to sheet (there.reference sheet corner)) ≡ node.Reference sheet corner)
   pub range : (sheet : Option (List ℕ)) (first second : Corner) → is_placed_range from first second ≡ true →
       Decides (not (t.range sheet first second)) (moved from home (range_to to sheet (there.first sheet first second) (there.second sheet first second))
-          ≡ node.Range sheet first second)
+      ≡ node.Range sheet first second)
 
 module _ (from to : Position) (there home : Mapping) (t : LeafTests) where
   abbrev pub returned : Node → Node
@@ -130,15 +130,15 @@ module _ (from to : Position) (there home : Mapping) (t : LeafTests) where
   two_told : (f : Node → Node → Node) → ((a b c d : Node) → f a b ≡ f c d → (a ≡ c) × (b ≡ d)) →
       ((p : Position) (m : Mapping) (a b : Node) → moved p m (f a b) ≡ f (moved p m a) (moved p m b)) →
       ((a b : Node) → has_leaf t (f a b) ≡ has_leaf t a || has_leaf t b) → ((a b : Node) → is_placed from (f a b) ≡ is_placed from a && is_placed from b) →
-          (a b : Node) → Told a → Told b → Told (f a b)
+      (a b : Node) → Told a → Told b → Told (f a b)
   two_told f same goes leaf placed a b told_a told_b h =
       let both : is_placed from a && is_placed from b ≡ true = sym (placed a b) ∙ h in
       let e : returned (f a b) ≡ f (returned a) (returned b) = ap (moved from home) (goes to there a b)
-          ∙ goes from home (moved to there a) (moved to there b) in
+      ∙ goes from home (moved to there a) (moved to there b) in
       Decides-at (not (has_leaf t (f a b))) (not (has_leaf t a) && not (has_leaf t b)) (ap not (leaf a b) ∙ neither (has_leaf t a) (has_leaf t b))
       (Decides-like (not (has_leaf t a) && not (has_leaf t b)) (λ s. e ∙ (λ i. f (s.0 i) (s.1 i))) (λ s. same (returned a) (returned b) a b (sym e ∙ s))
       (Decides-and (not (has_leaf t a)) (not (has_leaf t b)) (told_a (left (is_placed from a) (is_placed from b) both))
-          (told_b (right (is_placed from a) (is_placed from b) both))))
+      (told_b (right (is_placed from a) (is_placed from b) both))))
 
   abbrev all_returned : List Node → List Node
   all_returned all = map (moved from home) (map (moved to there) all)
@@ -150,32 +150,32 @@ module _ (from to : Position) (there home : Mapping) (t : LeafTests) where
   all_told [] told h = (λ _. refl, λ _. refl)
   all_told (n ∷ all) told h =
       Decides-at (not (has_leaf t n || list_any (has_leaf t) all)) (not (has_leaf t n) && not (list_any (has_leaf t) all))
-          (neither (has_leaf t n) (list_any (has_leaf t) all))
+      (neither (has_leaf t n) (list_any (has_leaf t) all))
       (Decides-like (not (has_leaf t n) && not (list_any (has_leaf t) all)) (λ s i. s.0 i ∷ s.1 i) (λ s. same_heads (returned n) n (all_returned all) all s)
       (Decides-and (not (has_leaf t n)) (not (list_any (has_leaf t) all)) (told.0 (left (is_placed from n) (list_all (is_placed from) all) h))
-          (all_told all told.1 (right (is_placed from n) (list_all (is_placed from) all) h))))
+      (all_told all told.1 (right (is_placed from n) (list_all (is_placed from) all) h))))
 
   many_told : (f : List Node → Node) → ((a c : List Node) → f a ≡ f c → a ≡ c) →
       ((p : Position) (m : Mapping) (all : List Node) → moved p m (f all) ≡ f (map (moved p m) all)) →
       ((all : List Node) → has_leaf t (f all) ≡ list_any (has_leaf t) all) → ((all : List Node) → is_placed from (f all) ≡ list_all (is_placed from) all) →
-          (all : List Node) → AllByRecursion Told all → Told (f all)
+      (all : List Node) → AllByRecursion Told all → Told (f all)
   many_told f same goes leaf placed all told h =
       let e : returned (f all) ≡ f (all_returned all) = ap (moved from home) (goes to there all) ∙ goes from home (map (moved to there) all) in
       Decides-at (not (has_leaf t (f all))) (not (list_any (has_leaf t) all)) (ap not (leaf all))
       (Decides-like (not (list_any (has_leaf t) all)) (λ s. e ∙ ap f s) (λ s. same (all_returned all) all (sym e ∙ s))
-          (all_told all told (sym (placed all) ∙ h)))
+      (all_told all told (sym (placed all) ∙ h)))
 
   call_told : (a : Node) (all : List Node) → Told a → AllByRecursion Told all → Told (node.LambdaCall a all)
   call_told a all told_a told h =
       let both : is_placed from a && list_all (is_placed from) all ≡ true = sym (placed_lambda_call from a all) ∙ h in
       let e : returned (node.LambdaCall a all) ≡ node.LambdaCall (returned a) (all_returned all) = ap (moved from home) (moved_lambda_call to there a all)
-          ∙ moved_lambda_call from home (moved to there a) (map (moved to there) all) in
+      ∙ moved_lambda_call from home (moved to there a) (map (moved to there) all) in
       Decides-at (not (has_leaf t (node.LambdaCall a all))) (not (has_leaf t a) && not (list_any (has_leaf t) all))
-          (ap not (leaf_lambda_call t a all) ∙ neither (has_leaf t a) (list_any (has_leaf t) all))
+      (ap not (leaf_lambda_call t a all) ∙ neither (has_leaf t a) (list_any (has_leaf t) all))
       (Decides-like (not (has_leaf t a) && not (list_any (has_leaf t) all)) (λ s. e ∙ (λ i. node.LambdaCall (s.0 i) (s.1 i)))
-          (λ s. same_lambda_call (returned a) a (all_returned all) all (sym e ∙ s))
+      (λ s. same_lambda_call (returned a) a (all_returned all) all (sym e ∙ s))
       (Decides-and (not (has_leaf t a)) (not (list_any (has_leaf t) all)) (told_a (left (is_placed from a) (list_all (is_placed from) all) both))
-          (all_told all told (right (is_placed from a) (list_all (is_placed from) all) both))))
+      (all_told all told (right (is_placed from a) (list_all (is_placed from) all) both))))
 
   leaf_told : (n m : Node) (leaf placed : Bool) → moved to there n ≡ m → has_leaf t n ≡ leaf → is_placed from n ≡ placed →
       (placed ≡ true → Decides (not leaf) (moved from home m ≡ n)) → Told n

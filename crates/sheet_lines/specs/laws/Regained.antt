@@ -49,14 +49,14 @@ laid_at to true given m returned h = ap (λ l. overlaid l returned) (h refl)
 laid_at to false given m returned h =
     sym (nothing_overlaid position_cmp position_total exact_positions returned)
     ∙ ap (λ l. overlaid l returned) (same_map position_total exact_positions empty (lost_map Some m)
-        (λ p. get-empty position_cmp p ∙ sym (get-lost_map position_cmp position_total exact_positions Some m p)))
+    (λ p. get-empty position_cmp p ∙ sym (get-lost_map position_cmp position_total exact_positions Some m p)))
 
 module _ (w : Way) (is : IsWay w) where
   -- a map goes back with what was lost of the edited sheet, where each entry that goes somewhere settles to what it was
   map_regained : {X P : Type 0} (carry : Way → X → X) (restore : Way → X → P → X) (parts : Position → Option P) (m given : FinMap position_cmp X) →
       (w.is_edited ≡ true → given ≡ lost_map (place_image w.along w.moves.to) m) →
       ((p q : Position) (x : X) → place_goes w p ≡ Some q → get m p ≡ Some x →
-          settled (carry (back (at w p q))) (restore (at w p q)) (parts p) (carry (at w p q) x) ≡ x) →
+      settled (carry (back (at w p q))) (restore (at w p q)) (parts p) (carry (at w p q) x) ≡ x) →
       with_lost w given (places_restored carry restore w parts (places_carried carry w m)) ≡ m
   unfolding place_goes
   map_regained carry restore parts m given lost settles =
@@ -121,13 +121,13 @@ columns_alone a l h = by_axis l.one_of
 pub formulas_at : (a : Along) (m : LineMoves) (id : ℕ) (edited : List ℕ) (book : Book) → HasDistinctIds book → (n : ℕ) (p : Position) →
     get (formulas_kept a m id edited book.worksheets) (place_on n p) ≡
     if_there (sheet_of book n) (λ sheet. if_there (get sheet.cells p) (λ cell. if_there (place_goes (way_of a m id edited sheet) p)
-        (λ q. cell_part (at (way_of a m id edited sheet) p q) cell)))
+    (λ q. cell_part (at (way_of a m id edited sheet) p q) cell)))
 formulas_at a m id edited book distinct n p = get-all_under (λ sheet. sheet.id) (trees_kept a m id edited) book.worksheets distinct n p
     ∙ at_sheet (sheet_of book n)
   where
     at_sheet : (o : Option Sheet) → if_there o (λ sheet. get (trees_kept a m id edited sheet) p) ≡
         if_there o (λ sheet. if_there (get sheet.cells p) (λ cell. if_there (place_goes (way_of a m id edited sheet) p)
-            (λ q. cell_part (at (way_of a m id edited sheet) p q) cell)))
+        (λ q. cell_part (at (way_of a m id edited sheet) p q) cell)))
     at_sheet None = refl
     at_sheet (Some sheet) = let w : Way = way_of a m id edited sheet in
         get-parts_map position_cmp position_total exact_positions (place_goes w) (λ p q x. cell_part (at w p q) x) sheet.cells p
@@ -135,7 +135,7 @@ formulas_at a m id edited book distinct n p = get-all_under (λ sheet. sheet.id)
 -- the edited sheet keeps its name
 same_name : (a : Along) (m : LineMoves) (id : ℕ) (edited : List ℕ) (n : ℕ) (sheets : List Sheet) →
     name_of (found_by (λ sheet. sheet.id) n (map (λ sheet. sheet_followed (way_of a m id edited sheet) sheet) sheets)) ≡ name_of
-        (found_by (λ sheet. sheet.id) n sheets)
+    (found_by (λ sheet. sheet.id) n sheets)
 same_name a m id edited n [] = refl
 same_name a m id edited n (sheet ∷ sheets) = elim (sheet.id == n) as (λ b. name_of
     (if b then Some (sheet_followed (way_of a m id edited sheet) sheet) else found_by (λ sheet. sheet.id) n
@@ -158,13 +158,13 @@ module _ (a : Along) (l : IsAxis a) (e : EditKind) (valid : IsValid a.last e) (i
       let is : IsWay w = record { axis = l; one_to_one = edit_one_to_one a.last e valid } in
       let it : (sheet.id == id) ≡ true → sheet_of book id ≡ Some sheet = (λ same. ap (sheet_of book) (sym ((unsigned_Decides sheet.id id).0 same)) ∙ found) in
       let lines : (sheet.id == id) ≡ true → kept.lines ≡ lost_map moves.to (lines_of a sheet) =
-          (λ same. ap (of_sheet (λ s. lost_map moves.to (lines_of a s))) (it same)) in
+      (λ same. ap (of_sheet (λ s. lost_map moves.to (lines_of a s))) (it same)) in
       λ i. record sheet {
         cells = cells_regained w is sheet.cells kept.cells (λ p. get kept.formulas (place_on sheet.id p))
             (λ same. ap (of_sheet (λ s. lost_map (place_image a moves.to) s.cells)) (it same))
             (λ p. formulas_at a moves id (name_of (sheet_of book id)) book distinct sheet.id p
             ∙ ap (λ o. if_there o (λ s. if_there (get s.cells p) (λ cell. if_there (place_goes (way_to s) p)
-                (λ q. cell_part (at (way_to s) p q) cell)))) found) i;
+            (λ q. cell_part (at (way_to s) p q) cell)))) found) i;
         links = map_regained w is {P = Unit {0}} (λ _ link. link) (λ _ link _. link) (λ _. None) sheet.links kept.links
             (λ same. ap (of_sheet (λ s. lost_map (place_image a moves.to) s.links)) (it same)) (λ p q x there held. refl) i;
         rows = attributes_regained w is rows sheet.rows kept.lines (λ h. let along = both_of w.is_edited (is_along a rows) h in lines along.0

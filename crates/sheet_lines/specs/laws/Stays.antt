@@ -93,7 +93,7 @@ module _ (w : Way) (is : IsWay w) where
     pub followed_are : Each P (places_carried cell_carried w cells)
     followed_are =
         each_gathered position_cmp position_total exact_positions P (place_goes w) (place_goes (back w)) (goes_inverse w is)
-            (λ p q x. Some (cell_carried (at w p q) x)) cells
+        (λ p q x. Some (cell_carried (at w p q) x)) cells
         (λ p q x there held. stays.carried w is p q x (each_found position_cmp P cells all p x held))
 
     settled_are : (p q : Position) (x : Cell) → P q x → (o : Option Node) → IfSome o (Q p) → P p (settled (cell_carried (back (at w p q))) cell_restored o x)
@@ -107,10 +107,10 @@ module _ (w : Way) (is : IsWay w) where
         let restored = places_restored cell_carried (λ _ cell tree. cell_restored cell tree) w parts cells in
         let all_restored : Each P restored =
         each_gathered position_cmp position_total exact_positions P (place_goes (back w)) (place_goes w) (turned_inverse (goes_inverse w is))
-            (λ q p x. Some (settled (cell_carried (back (at w p q))) cell_restored (parts p) x)) cells
+        (λ q p x. Some (settled (cell_carried (back (at w p q))) cell_restored (parts p) x)) cells
         (λ q p x home held. settled_are p q x (each_found position_cmp P cells all q x held) (parts p) (fit p)) in
         elim w.is_edited as (λ t. Each P (if t then overlaid lost restored else restored))
-            [ true ↦ each_overlaid position_cmp position_total exact_positions P lost restored laid all_restored | false ↦ all_restored ]
+        [ true ↦ each_overlaid position_cmp position_total exact_positions P lost restored laid all_restored | false ↦ all_restored ]
 
   part_at : (v : Way) (o : Option Node) → IfSome o HasKeptNumbers → IfSome (if_there o (tree_part v)) HasKeptNumbers
   part_at v None h = tt
@@ -124,7 +124,7 @@ module _ (w : Way) (is : IsWay w) where
   pub parts_kept : (m : FinMap position_cmp Cell) → KeptCells m → AreKeptFormulas (places_parts cell_part w m)
   parts_kept m h =
       each_gathered position_cmp position_total exact_positions (λ _. HasKeptNumbers) Some Some own_inverse
-          (λ p _ x. if_there (place_goes w p) (λ q. cell_part (at w p q) x)) m
+      (λ p _ x. if_there (place_goes w p) (λ q. cell_part (at w p q) x)) m
       (λ p q x there held. part_kept p (place_goes w p) x (each_found position_cmp (λ _. IsKeptCell) m h p x held))
 
 -- what the lines of the edited axis have lies on it
@@ -176,7 +176,7 @@ module _ (a : Along) (l : IsAxis a) (e : EditKind) (valid : IsValid a.last e) (i
       (λ sheet h. let w : Way = way_to sheet in record {
         cells = each_found position_cmp IsPlacedCell (places_carried cell_carried w sheet.cells)
             (followed_are w (is_way_to sheet) IsPlacedCell (λ place tree. is_placed place tree ≡ true) places_stay sheet.cells
-                (each_from position_cmp IsPlacedCell sheet.cells h.cells));
+            (each_from position_cmp IsPlacedCell sheet.cells h.cells));
         merges = merges_stay w (is_way_to sheet) sheet.merges h.merges;
       }) book.worksheets placed
 
@@ -186,7 +186,7 @@ module _ (a : Along) (l : IsAxis a) (e : EditKind) (valid : IsValid a.last e) (i
       (λ sheet h. let w : Way = way_to sheet in record {
         cells = each_found position_cmp IsPlacedCell (sheet_back w kept sheet).cells
             (back_are w (is_way_to sheet) IsPlacedCell (λ place tree. is_placed place tree ≡ true) places_stay sheet.cells
-                (each_from position_cmp IsPlacedCell sheet.cells h.cells)
+            (each_from position_cmp IsPlacedCell sheet.cells h.cells)
             kept.cells (λ place. get kept.formulas (place_on sheet.id place)) (each_from position_cmp IsPlacedCell kept.cells lines.cells)
             (λ p. holds_of (λ tree. is_placed p tree ≡ true) (get kept.formulas (place_on sheet.id p)) (λ tree. lines.formulas (place_on sheet.id p) tree)));
         merges = merges_return w (is_way_to sheet) kept.merges sheet.merges inside.merges h.merges;

@@ -22,5 +22,5 @@ returns-clause-placed g c = λ lines.
     (λ book is.
     subst IsPlacedBook (sym is)
     (back_placed g.A.Axis.along g.met.A.Axis.lawful c.args.edit.now.kind c.requires.valid c.args.sheet_id
-        c.args.workbook.now c.requires.placed c.args.kept.now c.requires.inside lines))
+    c.args.workbook.now c.requires.placed c.args.kept.now c.requires.inside lines))
     (returns-clause-workbook g c)

@@ -16,7 +16,7 @@ pub with_entries-requires : goal.with_entries-requires
 with_entries-requires g c =
     subst KeptCells (sym c.in_ok-cells.ensures.map)
     (back_are (way c.route_on-route.result) c.route_on-route.ensures.is (λ _. IsKeptCell)
-        (λ _. HasKeptNumbers) numbers_stay c.cell_map-cells.result.now c.cell_map-cells.ensures.kept
+    (λ _. HasKeptNumbers) numbers_stay c.cell_map-cells.result.now c.cell_map-cells.ensures.kept
     c.args.kept.now.cells _ c.requires.numbers.cells (λ p. c.requires.numbers.formulas (place_on c.get_sheet_id-id.result p)))
 
 pub returns-clause-sheet : goal.returns-clause-sheet

@@ -28,7 +28,7 @@ merges_lie book id sheet placed found = (found_holds (λ s. s.id == id) IsPlaced
 pub part-requires : goal.part-requires
 part-requires g c =
     subst MergesLie (sym c.merge_list.ensures) (merges_lie c.args.workbook.now c.args.edited.now.id c.in-Some.sheet.now c.requires.placed
-        (sym c.sheet_of.ensures ∙ ap option_copied c.in-Some.is))
+    (sym c.sheet_of.ensures ∙ ap option_copied c.in-Some.is))
 
 pub returns-clause-kept : goal.returns-clause-kept
 returns-clause-kept g c =
@@ -72,10 +72,10 @@ returns-clause-inside g c =
           (keys_lost position_cmp position_total exact_positions IsPlace goes c.link_map-links.result.now c.places_inside-2.ensures);
       lines = subst (LinesLie g.A.Axis.along) (sym c.in_ok-lost_attributes.ensures.lines)
           (lost_lines_lie g.A.Axis.along g.met.A.Axis.lawful sheet (subst (LinesLie rows) c.row_map.ensures c.lines_inside.ensures)
-              (subst (LinesLie columns) c.column_map.ensures c.lines_inside-2.ensures) (g.M.LineMap.moves c.args.edited.now.map.now).to);
+          (subst (LinesLie columns) c.column_map.ensures c.lines_inside-2.ensures) (g.M.LineMap.moves c.args.edited.now.map.now).to);
       merges = subst (λ o. IfSome o MergesLie) (sym c.in_ok-merges.ensures.part)
           (holds_of MergesLie (merges_part (way c.route_on-route.result) c.merge_list.result.now)
-              (merges_part_fits (way c.route_on-route.result) c.route_on-route.ensures.is c.merge_list.result.now
+          (merges_part_fits (way c.route_on-route.result) c.route_on-route.ensures.is c.merge_list.result.now
           (subst MergesLie (sym c.merge_list.ensures) (merges_lie c.args.workbook.now c.args.edited.now.id sheet c.requires.placed
-              (sym c.sheet_of.ensures ∙ ap option_copied c.in-Some.is)))));
+          (sym c.sheet_of.ensures ∙ ap option_copied c.in-Some.is)))));
     }

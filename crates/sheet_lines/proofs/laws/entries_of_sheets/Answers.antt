@@ -25,7 +25,7 @@ returns-clause-cells g c edited sheet q =
     let e = c.args.edit.now.kind in
     let w = way_of a (edit_moves a.last e) c.args.sheet_id edited sheet in
     get-carried_map position_cmp position_total exact_positions (place_goes w) (place_goes (back w))
-        (goes_inverse w (way_is a g.met.A.Axis.lawful e c.requires.valid c.args.sheet_id edited sheet)) (λ p q x. cell_carried (at w p q) x) sheet.cells q
+    (goes_inverse w (way_is a g.met.A.Axis.lawful e c.requires.valid c.args.sheet_id edited sheet)) (λ p q x. cell_carried (at w p q) x) sheet.cells q
 
 pub returns-clause-lost_cells : goal.returns-clause-lost_cells
 returns-clause-lost_cells g c sheet p found =

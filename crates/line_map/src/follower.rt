@@ -46,6 +46,22 @@ pub trait Follower<A: Axis>: Drop {
         ensures part { IfOk result (λ part. part ≡ part_of (way route.now) self.now) }
         ensures only { IsOkUnless result NoMemory };
 
+    /// The value carried along a route, and what has to be kept of it.
+    fn carry_with_part<M: LineMap<A>>(
+        &self,
+        alloc: Global,
+        route: &Route<'_, A, M>,
+    ) -> Result<(Self, Option<Self::Part>), EditError>
+        requires { Lies (way route.now) self.now }
+        ensures value { IfOk result (λ both. both.0 ≡ carry_of (way route.now) self.now) }
+        ensures part { IfOk result (λ both. both.1 ≡ part_of (way route.now) self.now) }
+        ensures only { IsOkUnless result NoMemory }
+    {
+        let value = self.carry(alloc, route)?;
+        let part = self.part(alloc, route)?;
+        Ok((value, part))
+    }
+
     /// The value before, from the one that was carried along the route and from its part.
     fn restore<M: LineMap<A>>(
         &self,

@@ -10,7 +10,7 @@ returns-clause-workbook g c =
     let a = g.A.Axis.along in
     let by = c.edited_by-edited.ensures in
     c.in_ok-followed.ensures.book ∙ (λ i. record c.args.workbook.now {
-      worksheets = (c.in_ok-followed_with_formulas.ensures.sheets ∙ (λ j. map (λ sheet. sheet_followed
+      worksheets = (c.in_ok-sheets.ensures.sheets ∙ (λ j. map (λ sheet. sheet_followed
           (way_of a (edit_moves a.last (by.map j).kind) (by.id j) (by.name j) sheet) sheet) (c.worksheets.ensures j))) i;
     })
 

@@ -6,5 +6,5 @@ use Rattle.sheet_lines.proofs.followed.followed_sheet.Goals as goal
 
 pub followed_with-requires-clause-kept : goal.followed_with-requires-clause-kept
 followed_with-requires-clause-kept g c = subst KeptCells (sym c.in_ok-cells.ensures.value)
-    (followed_are (way c.route_on.result) c.route_on.ensures.is (λ _. IsKeptCell)
-    (λ _. HasKeptNumbers) numbers_stay c.cell_map.result.now c.cell_map.ensures.kept)
+    (followed_are (way c.route_on-route.result) c.route_on-route.ensures.is (λ _. IsKeptCell)
+    (λ _. HasKeptNumbers) numbers_stay c.cell_map-map.result.now c.cell_map-map.ensures.kept)

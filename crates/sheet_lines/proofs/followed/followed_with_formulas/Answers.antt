@@ -26,7 +26,7 @@ loop-sheet-preserved g c =
     let trees_of = trees_kept g.A.Axis.along (g.M.LineMap.moves edited.map.now) edited.id edited.name.now in
     let sheets = c.args.sheets.now in
     let i = c.loop-sheet.sheet-index in
-    let kept = c.in_ok-followed_and_kept.ensures in
+    let kept = c.in_ok-followed.ensures in
     let within : i < length sheets = omega arith in (
       search rules,
       (

@@ -1,12 +1,15 @@
-use Rattle.std.proofs.Common.{rules, ◌<◌, length, take, ap, sym, subst, ◌∙◌, arith}
+use Rattle.std.proofs.Common.{rules, [], ◌∷◌, ◌++◌, ◌<◌, length, map, take, ap, sym, subst, ◌∙◌, arith}
 use Rattle.std.specs.Prelude.{IsTrue}
 use Rattle.std.specs.FinMap.{empty}
+use Rattle.std.proofs.lemmas.List.{map_more}
 use Rattle.std.proofs.lemmas.List.Sums.{fold_more}
 use Rattle.base_maps.specs.SheetPlaces.{sheet_place_cmp}
 use Rattle.base_maps.specs.Tagged.{put_under}
 use Rattle.base_maps.specs.laws.Each.{no_entry}
 use Rattle.base_maps.specs.laws.Tagged.{put_under_are}
 use Rattle.formula_tree.specs.Numbers.{has_kept_numbers}
+use Rattle.sheet_grid.specs.Sheet.{Sheet}
+use Rattle.sheet_lines.specs.Followed.{way_on, sheet_followed}
 use Rattle.sheet_lines.specs.Kept.{trees_kept, formulas_kept}
 use Rattle.sheet_lines.specs.KeptNumbers.{AreKeptFormulas}
 use Rattle.sheet_lines.proofs.followed.followed_with_formulas.Goals as goal
@@ -27,8 +30,12 @@ loop-sheet-preserved g c =
     let sheets = c.args.sheets.now in
     let i = c.loop-sheet.sheet-index in
     let kept = c.in_ok-followed.ensures in
+    let follow : Sheet → Sheet = λ sheet. sheet_followed (way_on edited sheet) sheet in
     let within : i < length sheets = omega arith in (
-      search rules,
+      c.in_ok-push.ensures.ok
+          ∙ (λ j. c.loop-sheet.invariant.0 j ++ kept.sheet j ∷ [])
+          ∙ ap (λ sheet. map follow (take i sheets) ++ follow sheet ∷ []) c.sheet-item.is
+          ∙ sym (map_more follow sheets i c.sheet-item.result within),
       (
         c.in_ok-put_under.ensures.ok
             ∙ (λ j. put_under (c.get_sheet_id.ensures j) (kept.trees j) (c.loop-sheet.invariant.1.0 j))

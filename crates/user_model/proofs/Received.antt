@@ -1,0 +1,91 @@
+-- How a document takes the entries of another copy's queue.
+use Rattle.std.proofs.Common.{◌≡◌, ◌≢◌, ◌⊎◌, inl, inr, ℕ, zero, suc, ◌+◌, ◌<◌, List, [], ◌∷◌, ◌++◌, length, take, drop, Result, Ok, Err, refl, sym, ap, subst, ◌∙◌, arith, length-take}
+use Rattle.std.specs.Prelude.{IsOkAnd, OnErr}
+use Rattle.std.specs.List.{AllByRecursion}
+use Rattle.base_values.specs.declared.EditError.{EditError}
+use Rattle.base_values.specs.declared.EditError.TheVariants.{NoMemory, ParseDiffs}
+use Rattle.sheet_grid.specs.Book.{Book}
+use Rattle.sheet_stand.specs.Computed.{Values}
+use Rattle.sheet_history.specs.declared.QueueDiffs.{QueueDiffs}
+use Rattle.user_model.specs.Document.{Document}
+use Rattle.user_model.specs.Machine.{State, received, go_on, applied_from, applied}
+use Rattle.user_model.specs.Stands.{StandsFor, IsReached, Leaves, Turns}
+use Rattle.user_model.specs.Values.{Session, IsMade}
+
+-- the first entries of a queue were taken
+pub record Reached (entries : List QueueDiffs) (first : State) (i : ℕ) (doc : Document) : Type 0 where
+  pub now : State
+  pub stands : StandsFor doc now
+  pub rest : applied_from i (drop i entries) now ≡ applied_from 0 entries first
+  pub front : applied_from 0 (take i entries) first ≡ (now, Ok tt)
+
+pub reached_start : (entries : List QueueDiffs) (s : State) (doc : Document) → StandsFor doc s → Reached entries s 0 doc
+reached_start entries s doc stands = record { now = s; stands = stands; rest = refl; front = refl }
+
+abbrev Outcome : Type 0
+Outcome = State × Result (Unit {0}) EditError
+
+state_is : (x y : State) → ◌≡◌ {A = Outcome} (x, Ok tt) (y, Ok tt) → x ≡ y
+state_is x y is = ap (λ (p : Outcome). p.0) is
+
+never_ok : {X : Type 0} (error : EditError) → ◌≡◌ {A = Result (Unit {0}) EditError} (Err error) (Ok tt) → X
+never_ok error h = absurd cc
+
+applied-push : (at : ℕ) (xs : List QueueDiffs) (e : QueueDiffs) (s now next : State) → applied_from at xs s ≡ (now, Ok tt) → received (at + length xs) e now ≡ Ok next → applied_from at (xs ++ e ∷ []) s ≡ (next, Ok tt)
+applied-push at [] e s now next so_far is =
+    let same : s ≡ now = state_is s now so_far in
+    let here : at + 0 ≡ at = omega arith in
+    ap (λ (r : Result State EditError). go_on s r (λ x. (x, Ok tt))) (ap (received at e) same ∙ ap (λ n. received n e now) (sym here) ∙ is)
+applied-push at (x ∷ xs) e s now next so_far is = go (received at x s) so_far
+  where
+    go : (r : Result State EditError) → go_on s r (applied_from (at + 1) xs) ≡ (now, Ok tt) → go_on s r (applied_from (at + 1) (xs ++ e ∷ [])) ≡ (next, Ok tt)
+    go (Ok y) h = applied-push (at + 1) xs e y now next h (ap (λ n. received n e now) (omega arith) ∙ is)
+    go (Err error) h = never_ok error (ap (λ (p : Outcome). p.1) h)
+
+module _ (entries : List QueueDiffs) (first : State) (i : ℕ) (doc : Document) (reached : Reached entries first i doc) where
+  module _ (e : QueueDiffs) (here : drop i entries ≡ e ∷ drop (i + 1) entries) where
+    at_here : applied_from 0 entries first ≡ go_on reached.now (received i e reached.now) (applied_from (i + 1) (drop (i + 1) entries))
+    at_here = sym reached.rest ∙ ap (λ l. applied_from i l reached.now) here
+
+    pub reached_next : (new : Document) → i < length entries → take (i + 1) entries ≡ take i entries ++ e ∷ [] → IsOkAnd (received i e reached.now) (StandsFor new) → Reached entries first (i + 1) new
+    reached_next new within front good = go (received i e reached.now) refl good
+      where
+        len : 0 + length (take i entries) ≡ i
+        len = simp length-take (omega (arith, within))
+
+        go : (r : Result State EditError) → received i e reached.now ≡ r → IsOkAnd r (StandsFor new) → Reached entries first (i + 1) new
+        go (Ok next) is stands = record {
+          now = next;
+          stands = stands;
+          rest = sym (at_here ∙ ap (λ (r : Result State EditError). go_on reached.now r (applied_from (i + 1) (drop (i + 1) entries))) is);
+          front = ap (λ l. applied_from 0 l first) front ∙ applied-push 0 (take i entries) e first reached.now next reached.front (ap (λ n. received n e reached.now) len ∙ is);
+        }
+        go (Err error) is stands = absurd stands
+
+    pub reached_refused : (new : Document) (error : EditError) → new ≡ doc → (error ≢ NoMemory → received i e reached.now ≡ Err error) → Leaves (Err error) new entries first
+    reached_refused new error same refused = by_error error refused
+      where
+        stands : StandsFor new reached.now
+        stands = subst (λ d. StandsFor d reached.now) (sym same) reached.stands
+
+        at_error : (f : EditError) → received i e reached.now ≡ Err f → applied_from 0 entries first ≡ (reached.now, Err f)
+        at_error f is = at_here ∙ ap (λ (r : Result State EditError). go_on reached.now r (applied_from (i + 1) (drop (i + 1) entries))) is
+
+        known : (f : EditError) → received i e reached.now ≡ Err f → ((applied entries first).1 ≡ Err f) × StandsFor new (applied entries first).0
+        known f is = (ap (λ (p : Outcome). p.1) (at_error f is), subst (λ (p : Outcome). StandsFor new p.0) (sym (at_error f is)) stands)
+
+        by_error : (f : EditError) → (f ≢ NoMemory → received i e reached.now ≡ Err f) → Leaves (Err f) new entries first
+        by_error NoMemory r = (i, subst (λ (p : Outcome). StandsFor new p.0) (sym reached.front) stands)
+        by_error f r = known f (r (λ is. cc))
+
+  pub reached_end : drop i entries ≡ [] → Leaves (Ok tt) doc entries first
+  reached_end none =
+      let all : applied_from 0 entries first ≡ (reached.now, Ok tt) = sym reached.rest ∙ ap (λ l. applied_from i l reached.now) none in
+      (ap (λ (p : Outcome). p.1) all, subst (λ (p : Outcome). StandsFor doc p.0) (sym all) reached.stands)
+
+-- ---- values
+
+-- a refused entry leaves what was made, or what was there at first
+pub still_made : (Fits : Book → Values → Type 0) (first old new : Session) → new ≡ old → IsMade Fits old ⊎ (old ≡ first) → IsMade Fits new ⊎ (new ≡ first)
+still_made Fits first old new same (inl made) = inl (subst (IsMade Fits) (sym same) made)
+still_made Fits first old new same (inr other) = inr (same ∙ other)

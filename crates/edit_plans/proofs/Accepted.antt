@@ -24,9 +24,11 @@ use Rattle.sheet_history.specs.declared.Diff.{Diff}
 use Rattle.sheet_history.specs.declared.Diff.TheVariants.{Merges as MergesDiff}
 use Rattle.sheet_history.specs.Records.{IsRecord}
 use Rattle.edit_plans.specs.Plans.{HasRecord}
+use Rattle.edit_plans.specs.Edits.{Edit, IsGiven, changed, is_of_entries}
+use Rattle.edit_plans.specs.Edits.Edit.{Input, ArrayInput, SetLink, Merge, Unmerge, Lines, MoveLines}
 use Rattle.edit_plans.specs.Inputs.{IsInput, input_place, input_put, with_input}
 use Rattle.edit_plans.specs.Links.{link_set}
-use Rattle.edit_plans.specs.Merging.{merge_diffs, merge_made, merge_undone, merged_in, merges_without, unmerged_at, with_merge, without_merge}
+use Rattle.edit_plans.specs.Merging.{merge_diffs, merge_made, merge_undone, merged_in, merges_without, unmerged_at, unmerged_in, with_merge, without_merge}
 use Rattle.edit_plans.specs.laws.InputLaws.{input_exact, input_well_formed}
 use Rattle.edit_plans.specs.laws.LinkLaws.{link_exact, link_well_formed}
 use Rattle.edit_plans.specs.ArrayInputs.{array_area, array_diffs, array_put, with_array}
@@ -88,7 +90,7 @@ module _ (index : ℕ) (row column : ℤ) where
   pub unmerge_has_record : (w later : Book) → IsWellFormed w → merge_undone index row column w ≡ Ok later → HasRecord w later
   unfolding merge_undone
   unmerge_has_record w later rules how =
-      let it = edited w index (λ s. and_then (place_of row column) (λ p. unmerged_at s p (merge_holding s.merges p))) later how in
+      let it = edited w index (unmerged_in row column) later how in
       on_place it.sheet it.next it.at it.later_is (place_of row column) it.done
     where
       on_merge : (sheet next : Sheet) → sheet_at w index ≡ Ok sheet → with_sheet w index next ≡ later → (place : Position) (o : Option MergedCell) → merge_holding sheet.merges place ≡ o → unmerged_at sheet place o ≡ Ok next → HasRecord w later
@@ -125,3 +127,12 @@ array_has_record index r tree w later rules fits how =
         (ap (λ a. Ok (with_array sheet a tree)) (array_is w index r tree sheet at rules fits area goes) ∙ e) is
         (array_exact w index r tree sheet at rules fits area goes) (array_well_formed w index r tree sheet at rules fits area goes)
     go sheet next at is (Err error) goes e = absurd (let never : ◌≡◌ {A = Result Sheet EditError} (Err error) (Ok next) = e in cc)
+
+pub accepted : (edit : Edit) (earlier later : Book) → IsTrue (is_of_entries edit) → IsGiven edit → IsWellFormed earlier → changed edit earlier ≡ Ok later → HasRecord earlier later
+accepted (Input index row column content) earlier later is given rules how = input_has_record index row column content earlier later rules given how
+accepted (ArrayInput index r tree) earlier later is given rules how = array_has_record index r tree earlier later rules given how
+accepted (SetLink index row column link) earlier later is given rules how = link_has_record index row column link earlier later rules how
+accepted (Merge index r) earlier later is given rules how = merge_has_record index r earlier later rules how
+accepted (Unmerge index row column) earlier later is given rules how = unmerge_has_record index row column earlier later rules how
+accepted (Lines index axis kind) earlier later is given rules how = absurd (let never : false ≡ true = is in cc)
+accepted (MoveLines index axis first count delta) earlier later is given rules how = absurd (let never : false ≡ true = is in cc)

@@ -17,7 +17,7 @@ use Rattle.sheet_history.specs.declared.Diff.{Diff}
 use Rattle.sheet_history.specs.declared.Diff.TheVariants.{Merges as MergesDiff}
 use Rattle.sheet_history.specs.Diffs.{IsKeptList}
 use Rattle.sheet_history.specs.Records.{IsRecord}
-use Rattle.edit_plans.specs.Merging.{with_merge, merged_in, merge_made, merge_diffs, merges_without, without_merge, unmerged_at, merge_undone}
+use Rattle.edit_plans.specs.Merging.{with_merge, merged_in, merge_made, merge_diffs, merges_without, without_merge, unmerged_at, unmerged_in, merge_undone}
 use Rattle.edit_plans.specs.Plans.{IsPlan, Plans}
 use Rattle.edit_plans.specs.laws.PlanLaws.{plan_refused, plan_made, no_sheet, sheet_refuses, sheet_sure, sheet_takes}
 use Rattle.edit_plans.proofs.Merges.{merge_well_formed, merge_exact, unmerge_well_formed, unmerge_exact}
@@ -53,7 +53,7 @@ module _ (w : Book) (index : ℕ) where
     merge_refused r error other is = plan_refused w _ error (sheet_refuses w index (merged_in r) sheet error at is) other
 
     pub unmerge_refused : (row column : ℤ) (error : EditError) → error ≢ NoMemory
-        → and_then (place_of row column) (λ place. unmerged_at sheet place (merge_holding sheet.merges place)) ≡ Err error
+        → unmerged_in row column sheet ≡ Err error
         → Plans (Err error) w (merge_undone index row column w)
     unfolding merge_undone
     unmerge_refused row column error other is = plan_refused w _ error (sheet_refuses w index _ sheet error at is) other
@@ -75,7 +75,7 @@ module _ (w : Book) (index : ℕ) where
 
       -- a merge holds the place that was found
       holding : (row column : ℤ) (place : Position)
-          → and_then (place_of row column) (λ p. unmerged_at sheet p (merge_holding sheet.merges p)) ≡ Ok (without_merge sheet place)
+          → unmerged_in row column sheet ≡ Ok (without_merge sheet place)
           → place_of row column ≡ Ok place → (merge : MergedCell) × (merge_holding sheet.merges place ≡ Some merge)
       holding row column place done named = go (merge_holding sheet.merges place) refl
           (sym (ap (λ p. and_then p (λ q. unmerged_at sheet q (merge_holding sheet.merges q))) named) ∙ done)
@@ -86,7 +86,7 @@ module _ (w : Book) (index : ℕ) where
           go (Some merge) is it = (merge, is)
 
       pub unmerge_planned : (row column : ℤ) (place : Position) → place_of row column ≡ Ok place
-          → and_then (place_of row column) (λ p. unmerged_at sheet p (merge_holding sheet.merges p)) ≡ Ok (without_merge sheet place)
+          → unmerged_in row column sheet ≡ Ok (without_merge sheet place)
           → IfOk result (λ list. list ≡ MergesDiff sheet.id sheet.merges (merges_without place sheet.merges) ∷ [])
           → Plans result w (merge_undone index row column w)
       unfolding merge_undone

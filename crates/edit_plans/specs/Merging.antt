@@ -52,7 +52,10 @@ abbrev pub unmerged_at : Sheet → Position → Option MergedCell → Result She
 unmerged_at sheet place None = Err NoMerge
 unmerged_at sheet place (Some merge) = Ok (without_merge sheet place)
 
+-- the sheet without the merge that holds the place at a row and a column
+abbrev pub unmerged_in : ℤ → ℤ → Sheet → Result Sheet EditError
+unmerged_in row column sheet = and_then (place_of row column) (λ place. unmerged_at sheet place (merge_holding sheet.merges place))
+
 -- the workbook without the merge that holds a place, or the first refusal: no such sheet, the row outside, the column outside, no merge
 unfoldable pub merge_undone : ℕ → ℤ → ℤ → Book → Result Book EditError
-merge_undone index row column book =
-    sheet_edit book index (λ sheet. and_then (place_of row column) (λ place. unmerged_at sheet place (merge_holding sheet.merges place)))
+merge_undone index row column book = sheet_edit book index (unmerged_in row column)

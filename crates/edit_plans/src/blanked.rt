@@ -25,7 +25,8 @@ fn covers(area: MergedCell, place: Position) -> bool
     area.holds(place) && area.anchor_place() != place
 }
 
-fn is_empty(content: &Content) -> bool
+/// Whether a content is no content.
+pub(crate) fn is_empty(content: &Content) -> bool
     ensures { result ≡ is_empty content.now }
 {
     matches!(content, Content::Empty)

@@ -14,6 +14,7 @@ ghost use Rattle.sheet_history.specs.Diffs.{IsKeptDiff, IsKeptList};
 ghost use Rattle.edit_plans.specs.Plans.{Plans};
 ghost use Rattle.edit_plans.specs.Inputs.{IsInput, entered, free_place, input_place, input_put, cell_record, link_record, input_record};
 
+use crate::blanked::is_empty;
 use crate::link::link_change;
 use crate::list::{cell_diff, list_of_two};
 use base_shared::Shared;
@@ -23,12 +24,6 @@ use sheet_grid::{Cell, Content, DefaultStyle, Workbook, Worksheet};
 use sheet_history::{Diff, DiffList};
 use sheet_rules::array_over;
 use std::alloc::Global;
-
-fn is_empty(content: &Content) -> bool
-    ensures { result ≡ is_empty content.now }
-{
-    matches!(content, Content::Empty)
-}
 
 /// Whether a merge covers a place.
 fn is_covered(sheet: &Worksheet, place: Position) -> bool

@@ -1,6 +1,6 @@
 //! Cells that are merged.
 
-ghost use Rattle.std.specs.Prelude.{◌≡◌, ◌≢◌, ◌++◌, ◌∷◌, [], Ok, Err, IfOk, IsOkUnless};
+ghost use Rattle.std.specs.Prelude.{◌≡◌, ◌≢◌, ◌++◌, ◌∷◌, [], map, Ok, Err, IfOk, IsOkUnless};
 ghost use Rattle.std.specs.List.{list_any};
 ghost use Rattle.std.specs.Option.{option_map_or};
 ghost use Rattle.base_axis.specs.Rectangles.{meets};
@@ -16,10 +16,11 @@ ghost use Rattle.edit_plans.specs.Plans.{Plans};
 use crate::blanked::push_blank_diffs;
 use crate::list::{list_of, merges_diff, push_diff};
 use base_axis::{MergeList, MergedCell};
-use base_values::{EditError, Items, copy_of};
-use sheet_grid::{Workbook, Worksheet, large_array_at};
+use base_values::{EditError, Items, Position, copy_of};
+use sheet_grid::{Workbook, Worksheet};
 use sheet_history::DiffList;
 use std::alloc::Global;
+use std::collections::btree_map::Iter;
 
 fn is_merge(area: MergedCell) -> bool
     ensures { result ≡ is_merge area }
@@ -33,14 +34,20 @@ pub(crate) fn meets_merge(sheet: &Worksheet, area: MergedCell) -> bool
     sheet.merged_cells().iter().any(|other| area.meets(*other))
 }
 
-/// Whether a rectangle meets an array of more than one cell. It looks at each cell.
+/// Whether a rectangle meets one of some arrays, as a sheet lists them.
+fn meets_one(arrays: Iter<'_, Position, MergedCell>, area: MergedCell) -> bool
+    ensures { result ≡ meets_any (map (λ array. array.1) arrays.entry) area }
+{
+    arrays
+        .map(|(_, array)| *array)
+        .any(|array| area.meets(array))
+}
+
+/// Whether a rectangle meets an array of more than one cell.
 pub(crate) fn meets_array(sheet: &Worksheet, area: MergedCell) -> bool
     ensures { result ≡ meets_any (large_arrays_of sheet.now) area }
 {
-    sheet
-        .cells()
-        .filter_map(|(place, cell)| large_array_at(*place, &cell.get().content))
-        .any(|array| area.meets(array))
+    meets_one(sheet.large_arrays(), area)
 }
 
 /// Whether a rectangle may be merged. It takes no memory.

@@ -1,14 +1,14 @@
 //! Merges that are dissolved.
 
 ghost use Rattle.std.specs.Prelude.{◌≡◌, ◌≢◌, ◌∷◌, [], Ok, Err, IfOk, IsOkUnless};
-ghost use Rattle.base_values.specs.Answers.{and_then, map_ok};
+ghost use Rattle.base_values.specs.Answers.{map_ok};
 ghost use Rattle.base_values.specs.Places.{place_of};
 ghost use Rattle.base_values.specs.declared.EditError.TheVariants.{NoMemory};
 ghost use Rattle.sheet_grid.specs.Merges.{merge_holding};
 ghost use Rattle.sheet_history.specs.Diffs.{IsKeptList};
 ghost use Rattle.sheet_history.specs.declared.Diff.TheVariants.{Merges as MergesDiff};
 ghost use Rattle.sheet_rules.specs.WellFormed.{IsWellFormed};
-ghost use Rattle.edit_plans.specs.Merging.{merge_undone, merges_without, unmerged_at, without_merge};
+ghost use Rattle.edit_plans.specs.Merging.{merge_undone, merges_without, unmerged_at, unmerged_in, without_merge};
 ghost use Rattle.edit_plans.specs.Plans.{Plans};
 
 use crate::list::{list_of_two, merges_diff};
@@ -39,7 +39,7 @@ fn held_place(sheet: &Worksheet, place: Position) -> Result<Position, EditError>
 
 /// The place at a row and a column, which a merge holds. It takes no memory.
 fn merged_place(sheet: &Worksheet, row: i32, column: i32) -> Result<Position, EditError>
-    ensures place { map_ok (λ place. without_merge sheet.now place) result ≡ and_then (place_of row column) (λ place. unmerged_at sheet.now place (merge_holding sheet.now.merges place)) }
+    ensures place { map_ok (λ place. without_merge sheet.now place) result ≡ unmerged_in row column sheet.now }
     ensures named { IfOk result (λ place. place_of row column ≡ Ok place) }
     ensures sure { result ≢ Err NoMemory }
 {

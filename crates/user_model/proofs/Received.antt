@@ -5,7 +5,7 @@ use Rattle.std.specs.List.{AllByRecursion}
 use Rattle.base_values.specs.declared.EditError.{EditError}
 use Rattle.base_values.specs.declared.EditError.TheVariants.{NoMemory, ParseDiffs}
 use Rattle.sheet_grid.specs.Book.{Book}
-use Rattle.sheet_stand.specs.Computed.{Values}
+use Rattle.sheet_grid.specs.Computed.{Values}
 use Rattle.sheet_history.specs.declared.QueueDiffs.{QueueDiffs}
 use Rattle.user_model.specs.Document.{Document}
 use Rattle.user_model.specs.Machine.{State, received, go_on, applied_from, applied}

@@ -9,6 +9,6 @@ pub mod Opened
 pub mod Stands
 pub mod Untested
 pub mod Beginning
-pub mod ArrayPlaces
+pub mod Places
 pub mod Reading
 pub mod Structure

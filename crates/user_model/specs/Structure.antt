@@ -14,8 +14,8 @@ use Rattle.sheet_grid.specs.declared.Cell.{Cell}
 use Rattle.sheet_grid.specs.Arrays.{arrays_of}
 use Rattle.sheet_grid.specs.Sheet.{Sheet}
 use Rattle.sheet_grid.specs.Book.{Book, sheet_at}
-use Rattle.sheet_stand.specs.declared.computed.ComputedValue.{ComputedValue}
-use Rattle.sheet_stand.specs.Computed.{Values, value_at}
+use Rattle.sheet_grid.specs.declared.computed.ComputedValue.{ComputedValue}
+use Rattle.sheet_grid.specs.Computed.{Values, value_at}
 use Rattle.user_model.specs.declared.structure.CellArrayStructure.{CellArrayStructure}
 use Rattle.user_model.specs.declared.structure.CellArrayStructure.TheVariants.{SingleCell, ArrayAnchor, ArrayChild, DynamicAnchor, DynamicChild}
 use Rattle.user_model.specs.Reading.{content_in}

@@ -1,7 +1,7 @@
 -- What is computed of a workbook.
 use Rattle.std.proofs.Common.{◌≡◌, Bool, true, false, List, [], ◌∷◌}
 use Rattle.sheet_grid.specs.Book.{Book}
-use Rattle.sheet_stand.specs.Computed.{Values, no_values}
+use Rattle.sheet_grid.specs.Computed.{Values, no_values}
 use Rattle.user_model.specs.Document.{Document}
 
 -- a document that is open, its computed values, and whether these wait

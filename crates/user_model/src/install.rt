@@ -9,8 +9,10 @@ ghost use Rattle.user_model.specs.Values.{AreMade};
 use crate::recalc::{Recalc, Results};
 use base_values::EditError;
 use sheet_grid::Workbook;
-use sheet_history::{DiffList, DiffType, back, back_in_place, forward, forward_in_place};
-use sheet_stand::Computed;
+use sheet_history::{
+    DiffList, DiffType, back, back_in_place, follow_in_place, forward, forward_in_place,
+};
+use sheet_grid::Computed;
 use std::alloc::Global;
 
 /// The well-formed workbook after a list, in its direction, or the refusal of the list.
@@ -31,7 +33,7 @@ fn followed(
 }
 
 /// Follows a list in the workbook itself, and does not test the result.
-fn follow_in_place(
+fn follow_untested(
     alloc: Global,
     workbook: &mut Workbook,
     kind: DiffType,
@@ -45,6 +47,26 @@ fn follow_in_place(
         DiffType::Undo => back_in_place(alloc, workbook, list),
         DiffType::Redo => forward_in_place(alloc, workbook, list),
     }
+}
+
+/// Follows a list in the workbook itself, or refuses it. Where it is `kept`, it is known not to be
+/// refused, and the result is not tested.
+fn follow(
+    alloc: Global,
+    workbook: &mut Workbook,
+    kind: DiffType,
+    list: &DiffList,
+    kept: bool,
+) -> Result<(), EditError>
+    requires kept { IsKeptList list.now }
+    requires rules { IsWellFormed workbook.old }
+    requires works { kept ≡ true → IsOk (follow kind workbook.old list.now) }
+    ensures { Edits result workbook.old workbook.new (follow kind workbook.old list.now) }
+{
+    if kept {
+        return follow_untested(alloc, workbook, kind, list);
+    }
+    follow_in_place(alloc, workbook, kind, list)
 }
 
 /// The values of a workbook, or none while they wait.
@@ -88,8 +110,8 @@ fn install_on_copy<R: Recalc>(
     Ok(())
 }
 
-/// Follows a list in the workbook itself, and then makes its values, which must not want memory. The
-/// list is known not to be refused. An error changes nothing.
+/// Follows a list in the workbook itself, and then makes its values, which must not want memory. An
+/// error changes nothing.
 fn install_in_place<R: Recalc>(
     alloc: Global,
     workbook: &mut Workbook,
@@ -97,17 +119,18 @@ fn install_in_place<R: Recalc>(
     recalc: &mut R,
     kind: DiffType,
     list: &DiffList,
+    kept: bool,
 ) -> Result<(), EditError>
     requires kept { IsKeptList list.now }
     requires rules { IsWellFormed workbook.old }
-    requires works { IsOk (follow kind workbook.old list.now) }
+    requires works { kept ≡ true → IsOk (follow kind workbook.old list.now) }
     requires sure { results.old.paused ≡ false → R.Sure }
     ensures installed { Edits result workbook.old workbook.new (follow kind workbook.old list.now) }
     ensures made { OnOk result (AreMade R.Fits results.new.paused workbook.new results.new.values) }
     ensures err { OnErr result (results.new ≡ results.old) }
     ensures paused { results.new.paused ≡ results.old.paused }
 {
-    follow_in_place(alloc, workbook, kind, list)?;
+    follow(alloc, workbook, kind, list, kept)?;
     match values_of(alloc, workbook, results.paused, recalc) {
         Ok(values) => {
             results.values = values;
@@ -117,17 +140,15 @@ fn install_in_place<R: Recalc>(
     }
 }
 
-/// Whether a list that is kept can be followed in the workbook itself.
-fn goes_in_place<R: Recalc>(kept: bool, paused: bool, recalc: &R) -> bool
-    ensures kept { result ≡ true → kept ≡ true }
-    ensures sure { result ≡ true → paused ≡ false → R.Sure }
+/// Whether a list can be followed in the workbook itself: no values are made, or surely.
+fn goes_in_place<R: Recalc>(paused: bool, recalc: &R) -> bool
+    ensures { result ≡ true → paused ≡ false → R.Sure }
 {
-    kept && (paused || recalc.is_sure())
+    paused || recalc.is_sure()
 }
 
 /// Makes the workbook after a list, in its direction, the present one, with its values, or refuses
-/// the list. Where it is `kept`, the list is known not to be refused, and is not tested. An error
-/// changes nothing.
+/// the list. Where it is `kept`, it is known not to be refused. An error changes nothing.
 pub(crate) fn install<R: Recalc>(
     alloc: Global,
     workbook: &mut Workbook,
@@ -145,8 +166,8 @@ pub(crate) fn install<R: Recalc>(
     ensures err { OnErr result (results.new ≡ results.old) }
     ensures paused { results.new.paused ≡ results.old.paused }
 {
-    if goes_in_place(kept, results.paused, recalc) {
-        return install_in_place(alloc, workbook, results, recalc, kind, list);
+    if goes_in_place(results.paused, recalc) {
+        return install_in_place(alloc, workbook, results, recalc, kind, list, kept);
     }
     install_on_copy(alloc, workbook, results, recalc, kind, list)
 }

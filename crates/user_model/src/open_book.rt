@@ -29,7 +29,6 @@ use sheet_actions::{plan_delete, plan_insert, plan_move};
 use sheet_grid::{DefaultStyle, Workbook, Worksheet};
 use sheet_history::{Diff, DiffList, DiffType, History, LineAxis, QueueDiffs};
 use sheet_lines::{KeptLines, line_edit};
-use sheet_stand::{redo_len, undo_len};
 use std::alloc::Global;
 
 /// A workbook with the records of its steps, and with what other copies have not had yet.
@@ -199,14 +198,14 @@ fn send(
 fn has_undo_step(history: &History, stale: usize) -> bool
     ensures { result ≡ nat_lt stale (length history.now.undo) }
 {
-    stale < undo_len(history)
+    stale < history.undo_len()
 }
 
 /// Whether the newest list to redo is one of a step that is kept.
 fn has_redo_step(history: &History, stale: usize) -> bool
     ensures { result ≡ nat_lt stale (length history.now.redo) }
 {
-    stale < redo_len(history)
+    stale < history.redo_len()
 }
 
 /// Moves the newest list of the undo stack to the redo stack, where there is room for it, and counts
@@ -225,8 +224,8 @@ fn undo_counted(
 {
     match history.undo() {
         Ok(()) => (
-            stale_after(kept, stale_undo, undo_len(history)),
-            stale_after(kept, stale_redo, redo_len(history)),
+            stale_after(kept, stale_undo, history.undo_len()),
+            stale_after(kept, stale_redo, history.redo_len()),
         ),
         Err(_) => unreachable!(),
     }
@@ -248,8 +247,8 @@ fn redo_counted(
 {
     match history.redo() {
         Ok(()) => (
-            stale_after(kept, stale_undo, undo_len(history)),
-            stale_after(kept, stale_redo, redo_len(history)),
+            stale_after(kept, stale_undo, history.undo_len()),
+            stale_after(kept, stale_redo, history.redo_len()),
         ),
         Err(_) => unreachable!(),
     }
@@ -556,8 +555,8 @@ impl OpenBook {
         ) {
             return Err(of_entry(at, error));
         }
-        self.stale_undo = undo_len(&self.history);
-        self.stale_redo = redo_len(&self.history);
+        self.stale_undo = self.history.undo_len();
+        self.stale_redo = self.history.redo_len();
         Ok(())
     }
 

@@ -1,20 +1,15 @@
-ghost use Rattle.std.specs.Prelude.{◌≡◌, ◌≢◌, true, None, Err, IfOk, IsTrue, IsOkUnless};
-ghost use Rattle.base_values.specs.Answers.{and_then};
-ghost use Rattle.base_values.specs.Places.{IsPlace, place_of};
+ghost use Rattle.std.specs.Prelude.{◌≡◌, ◌≢◌, true, Err, IfOk, IsOkUnless};
+ghost use Rattle.base_values.specs.Answers.{map_ok};
+ghost use Rattle.base_values.specs.Places.{IsPlace};
 ghost use Rattle.base_values.specs.declared.EditError.TheVariants.{NoMemory};
+ghost use Rattle.base_axis.specs.Rectangles.{anchor_place};
+ghost use Rattle.formula_read.specs.Formula.{formula_of};
 ghost use Rattle.formula_tree.specs.Context.{context_place};
+ghost use Rattle.formula_tree.specs.Numbers.{has_kept_numbers};
 ghost use Rattle.cell_content.specs.Fitting.{fits_at, tree_fits_at};
 ghost use Rattle.cell_content.specs.KeptContent.{IsKeptContent};
 ghost use Rattle.cell_input.specs.Inputs.{input_of};
-ghost use Rattle.sheet_grid.specs.Book.{sheet_at};
-ghost use Rattle.sheet_grid.specs.Merges.{is_covered};
-ghost use Rattle.edit_plans.specs.Inputs.{free_place, input_place};
-ghost use Rattle.formula_read.specs.Formula.{formula_of};
-ghost use Rattle.formula_tree.specs.Numbers.{has_kept_numbers};
-ghost use Rattle.sheet_grid.specs.Arrays.{large_arrays_of};
-ghost use Rattle.sheet_rules.specs.Occupied.{meets_any};
-ghost use Rattle.edit_plans.specs.ArrayInputs.{hits_merge};
-ghost use Rattle.user_model.specs.ArrayPlaces.{array_goes, free_rectangle};
+ghost use Rattle.user_model.specs.Places.{array_goes, input_goes, link_goes};
 ghost use Rattle.user_model.specs.Reading.{link_to, profile_at, rectangle, rectangle_of, without_sign};
 
 use base_axis::{Area, MergedCell};
@@ -22,32 +17,11 @@ use base_shared::Shared;
 use base_tables::{Language, Locale};
 use base_values::{EditError, Position, Text, place_of};
 use cell_input::read_input;
+use edit_plans::{free_area, free_place};
 use formula_read::read_formula;
 use formula_tree::{CellReferenceRC, Node};
-use sheet_grid::{Content, Link, Workbook, Worksheet, large_array_at};
-use sheet_rules::array_over;
+use sheet_grid::{Content, Link, Workbook};
 use std::alloc::Global;
-
-/// Whether a merge covers a place.
-fn is_covered(sheet: &Worksheet, place: Position) -> bool
-    ensures { result ≡ is_covered sheet.now.merges place }
-{
-    sheet.is_covered_cell(place.row, place.column)
-}
-
-/// A place to which an input may go. It takes no memory.
-fn free_place(sheet: &Worksheet, place: Position) -> Result<Position, EditError>
-    ensures free { result ≡ free_place sheet.now place }
-    ensures same { IfOk result (λ found. found ≡ place) }
-{
-    if is_covered(sheet, place) {
-        return Err(EditError::CoveredCell);
-    }
-    if array_over(sheet, place).is_some() {
-        return Err(EditError::ArrayCell);
-    }
-    Ok(place)
-}
 
 /// The place at a row and a column of the sheet at an index, where an input may go. It takes no
 /// memory.
@@ -57,11 +31,14 @@ pub(crate) fn find_input_place(
     row: i32,
     column: i32,
 ) -> Result<Position, EditError>
-    ensures found { result ≡ and_then (sheet_at workbook.now sheet) (λ found. input_place found row column) }
+    ensures found { result ≡ input_goes sheet row column workbook.now }
     ensures inside { IfOk result IsPlace }
+    ensures here { IfOk result (λ place. place ≡ record { row = row; column = column }) }
+    ensures sure { result ≢ Err NoMemory }
 {
     let found = workbook.worksheet(sheet)?;
-    free_place(found, place_of(row, column)?)
+    let place = place_of(row, column)?;
+    free_place(found, place)
 }
 
 /// The place at a row and a column of the sheet at an index. It takes no memory.
@@ -71,8 +48,8 @@ pub(crate) fn find_place(
     row: i32,
     column: i32,
 ) -> Result<Position, EditError>
-    ensures found { result ≡ and_then (sheet_at workbook.now sheet) (λ _. place_of row column) }
-    ensures inside { IfOk result IsPlace }
+    ensures found { result ≡ link_goes sheet row column workbook.now }
+    ensures sure { result ≢ Err NoMemory }
 {
     let _found = workbook.worksheet(sheet)?;
     place_of(row, column)
@@ -141,59 +118,21 @@ pub(crate) fn rectangle(row: i32, column: i32, width: i32, height: i32) -> Merge
     }
 }
 
-/// Whether a merge meets a rectangle of more than one cell, or covers one of one cell.
-fn hits_merge(sheet: &Worksheet, area: MergedCell) -> bool
-    ensures { result ≡ hits_merge sheet.now area }
-{
-    if area.has_many() {
-        sheet.merged_cells().iter().any(|other| area.meets(*other))
-    } else {
-        is_covered(sheet, area.anchor_place())
-    }
-}
-
-/// Whether a rectangle meets an array of more than one cell. It looks at each cell.
-fn meets_array(sheet: &Worksheet, area: MergedCell) -> bool
-    ensures { result ≡ meets_any (large_arrays_of sheet.now) area }
-{
-    sheet
-        .cells()
-        .filter_map(|(place, cell)| large_array_at(*place, &cell.get().content))
-        .any(|array| area.meets(array))
-}
-
-/// The first place of a rectangle where an array may go. It takes no memory.
-fn free_rectangle(
-    sheet: &Worksheet,
-    area: MergedCell,
-    place: Position,
-) -> Result<Position, EditError>
-    ensures free { result ≡ free_rectangle area sheet.now place }
-    ensures same { IfOk result (λ found. found ≡ place) }
-{
-    if !area.is_inside() {
-        return Err(EditError::InvalidArea);
-    }
-    if hits_merge(sheet, area) {
-        return Err(EditError::CoveredCell);
-    }
-    if meets_array(sheet, area) {
-        return Err(EditError::ArrayCell);
-    }
-    Ok(place)
-}
-
 /// The first place of a rectangle of the sheet at an index where an array may go. It takes no memory.
 pub(crate) fn find_array_place(
     workbook: &Workbook,
     sheet: u32,
     area: MergedCell,
 ) -> Result<Position, EditError>
-    ensures found { result ≡ array_goes sheet area workbook.now }
+    ensures found { map_ok (λ _. area) result ≡ array_goes sheet area workbook.now }
     ensures inside { IfOk result IsPlace }
+    ensures here { IfOk result (λ place. place ≡ anchor_place area) }
+    ensures sure { result ≢ Err NoMemory }
 {
     let found = workbook.worksheet(sheet)?;
-    free_rectangle(found, area, place_of(area.row, area.column)?)
+    let place = place_of(area.row, area.column)?;
+    free_area(found, area)?;
+    Ok(place)
 }
 
 /// A formula's text without a leading equals sign.

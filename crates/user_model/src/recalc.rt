@@ -1,11 +1,11 @@
 ghost use Rattle.std.specs.Prelude.{◌≡◌, true, IfOk, IsOk, IsOkUnless};
 ghost use Rattle.base_values.specs.declared.EditError.TheVariants.{NoMemory};
 ghost use Rattle.sheet_grid.specs.Book.{Book};
-ghost use Rattle.sheet_stand.specs.Computed.{Values};
+ghost use Rattle.sheet_grid.specs.Computed.{Values};
 
 use base_values::EditError;
 use sheet_grid::Workbook;
-use sheet_stand::Computed;
+use sheet_grid::Computed;
 use std::alloc::Global;
 
 /// Whoever computes the values of a workbook. A user model asks it with each change.
@@ -45,7 +45,7 @@ pub struct ClearAll;
 
 impl Recalc for ClearAll {
     ghost use Rattle.std.specs.Prelude.{◌≡◌};
-    ghost use Rattle.sheet_stand.specs.Computed.{no_values};
+    ghost use Rattle.sheet_grid.specs.Computed.{no_values};
 
     ghost Fits = { λ _ values. values ≡ no_values };
 

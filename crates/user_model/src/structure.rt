@@ -3,13 +3,13 @@ ghost use Rattle.std.specs.List.{find};
 ghost use Rattle.base_values.specs.Answers.{Returns};
 ghost use Rattle.base_axis.specs.Rectangles.{holds};
 ghost use Rattle.sheet_grid.specs.Arrays.{arrays_of};
-ghost use Rattle.sheet_stand.specs.Computed.{value_at};
+ghost use Rattle.sheet_grid.specs.Computed.{value_at};
 ghost use Rattle.user_model.specs.Structure.{extent_of, dynamic_at, dynamics_of, in_array, structure_at, structure_in};
 
 use base_axis::MergedCell;
 use base_values::{EditError, Position, place_of};
 use sheet_grid::{Content, Workbook, Worksheet, array_at};
-use sheet_stand::Computed;
+use sheet_grid::Computed;
 
 /// How a cell stands to the arrays of its sheet. Widths are in columns, heights in rows.
 #[derive(Clone, Copy, Debug, PartialEq, Eq)]

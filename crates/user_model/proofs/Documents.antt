@@ -40,40 +40,52 @@ some_more steps step stale = lt-ltb (length stale) (length (map step_record (ste
 -- ---- undo
 
 module _ (s : State) where
+  -- a stale record is the next one to undo, and what taking it back leads to
+  module _ (list : List Diff) (stale : List (List Diff)) where
+    abbrev stale_to_undo : State
+    stale_to_undo = record s { past = []; stale_undo = list ∷ stale }
+
+    abbrev stale_undone : Book → State
+    stale_undone earlier = moved Undo list earlier [] [] stale (list ∷ redo_list stale_to_undo) stale_to_undo
+
+    no_undo_step : can_undo_step (document stale_to_undo) ≡ false
+    no_undo_step = none_more (list ∷ stale)
+
+    undone_stale : (r : Result Book EditError) → map_ok (undone list stale (document stale_to_undo)) r ≡ map_ok document (map_ok stale_undone r)
+    undone_stale (Err error) = refl
+    undone_stale (Ok earlier) = λ i.
+        Ok (record (document (stale_undone earlier)) {
+          stale_undo = stale_after (no_undo_step i) (length (list ∷ stale)) (length stale);
+          stale_redo = stale_after (no_undo_step i) (length s.stale_redo) (length (list ∷ redo_list stale_to_undo));
+        })
+
   undo_stale_along : (stale : List (List Diff)) → document_undo (document (record s { past = []; stale_undo = stale })) ≡ map_ok document (undo_stale stale (record s { past = []; stale_undo = stale }))
   undo_stale_along [] = refl
-  undo_stale_along (list ∷ stale) = go (backed s.present list)
-    where
-      abbrev here : State
-      here = record s { past = []; stale_undo = list ∷ stale }
+  undo_stale_along (list ∷ stale) = undone_stale list stale (backed s.present list)
 
-      fewer : can_undo_step (document here) ≡ false
-      fewer = none_more (list ∷ stale)
+  -- a step is the next one to undo
+  module _ (step : Step) (past : List Step) where
+    abbrev step_to_undo : State
+    step_to_undo = record s { past = step ∷ past }
 
-      go : (r : Result Book EditError) → map_ok (undone list stale (document here)) r ≡ map_ok document (map_ok (λ earlier. moved Undo list earlier [] [] stale (list ∷ redo_list here) here) r)
-      go (Err error) = refl
-      go (Ok earlier) = λ i.
-          Ok (record (document (moved Undo list earlier [] [] stale (list ∷ redo_list here) here)) {
-            stale_undo = stale_after (fewer i) (length (list ∷ stale)) (length stale);
-            stale_redo = stale_after (fewer i) (length s.stale_redo) (length (list ∷ redo_list here));
-          })
+    abbrev step_undone : State
+    step_undone = moved Undo (step_record step) step.before past (step ∷ s.undone) s.stale_undo s.stale_redo step_to_undo
+
+    an_undo_step : can_undo_step (document step_to_undo) ≡ true
+    an_undo_step = some_more past step s.stale_undo
+
+    undone_step : backed s.present (step_record step) ≡ Ok step.before → document_undo (document step_to_undo) ≡ Ok (document step_undone)
+    undone_step back =
+        ap (map_ok (undone (step_record step) (map step_record past ++ s.stale_undo) (document step_to_undo))) back
+        ∙ (λ i.
+        Ok (record (document step_undone) {
+          stale_undo = stale_after (an_undo_step i) (length s.stale_undo) (length (map step_record past ++ s.stale_undo));
+          stale_redo = stale_after (an_undo_step i) (length s.stale_redo) (length (step_record step ∷ redo_list step_to_undo));
+        }))
 
   undo_along : (past : List Step) → Leads past s.present → document_undo (document (record s { past = past })) ≡ map_ok document (undo_of (record s { past = past }))
   undo_along [] leads = undo_stale_along s.stale_undo
-  undo_along (step ∷ past) leads =
-      let more : can_undo_step (document here) ≡ true = some_more past step s.stale_undo in
-      ap (map_ok (undone (step_record step) (map step_record past ++ s.stale_undo) (document here))) (ap (λ book. backed book (step_record step)) (sym leads.0) ∙ leads.1.back)
-      ∙ (λ i.
-          Ok (record (document next) {
-            stale_undo = stale_after (more i) (length s.stale_undo) (length (map step_record past ++ s.stale_undo));
-            stale_redo = stale_after (more i) (length s.stale_redo) (length (step_record step ∷ redo_list here));
-          }))
-    where
-      abbrev here : State
-      here = record s { past = step ∷ past }
-
-      abbrev next : State
-      next = moved Undo (step_record step) step.before past (step ∷ s.undone) s.stale_undo s.stale_redo here
+  undo_along (step ∷ past) leads = undone_step step past (ap (λ book. backed book (step_record step)) (sym leads.0) ∙ leads.1.back)
 
 -- a document goes along with an undo
 pub document_undone : (s : State) → IsSound s → document_undo (document s) ≡ map_ok document (undo_of s)
@@ -82,40 +94,52 @@ document_undone s sound = undo_along s s.past sound.past
 -- ---- redo
 
 module _ (s : State) where
+  -- a stale record is the next one to redo, and what making it again leads to
+  module _ (list : List Diff) (stale : List (List Diff)) where
+    abbrev stale_to_redo : State
+    stale_to_redo = record s { undone = []; stale_redo = list ∷ stale }
+
+    abbrev stale_redone : Book → State
+    stale_redone later = moved Redo list later [] [] (list ∷ undo_list stale_to_redo) stale stale_to_redo
+
+    no_redo_step : can_redo_step (document stale_to_redo) ≡ false
+    no_redo_step = none_more (list ∷ stale)
+
+    redone_stale : (r : Result Book EditError) → map_ok (redone list stale (document stale_to_redo)) r ≡ map_ok document (map_ok stale_redone r)
+    redone_stale (Err error) = refl
+    redone_stale (Ok later) = λ i.
+        Ok (record (document (stale_redone later)) {
+          stale_undo = stale_after (no_redo_step i) (length s.stale_undo) (length (list ∷ undo_list stale_to_redo));
+          stale_redo = stale_after (no_redo_step i) (length (list ∷ stale)) (length stale);
+        })
+
   redo_stale_along : (stale : List (List Diff)) → document_redo (document (record s { undone = []; stale_redo = stale })) ≡ map_ok document (redo_stale stale (record s { undone = []; stale_redo = stale }))
   redo_stale_along [] = refl
-  redo_stale_along (list ∷ stale) = go (forwarded s.present list)
-    where
-      abbrev here : State
-      here = record s { undone = []; stale_redo = list ∷ stale }
+  redo_stale_along (list ∷ stale) = redone_stale list stale (forwarded s.present list)
 
-      fewer : can_redo_step (document here) ≡ false
-      fewer = none_more (list ∷ stale)
+  -- a step is the next one to redo
+  module _ (step : Step) (undone : List Step) where
+    abbrev step_to_redo : State
+    step_to_redo = record s { undone = step ∷ undone }
 
-      go : (r : Result Book EditError) → map_ok (redone list stale (document here)) r ≡ map_ok document (map_ok (λ later. moved Redo list later [] [] (list ∷ undo_list here) stale here) r)
-      go (Err error) = refl
-      go (Ok later) = λ i.
-          Ok (record (document (moved Redo list later [] [] (list ∷ undo_list here) stale here)) {
-            stale_undo = stale_after (fewer i) (length s.stale_undo) (length (list ∷ undo_list here));
-            stale_redo = stale_after (fewer i) (length (list ∷ stale)) (length stale);
-          })
+    abbrev step_redone : State
+    step_redone = moved Redo (step_record step) step.after (step ∷ s.past) undone s.stale_undo s.stale_redo step_to_redo
+
+    a_redo_step : can_redo_step (document step_to_redo) ≡ true
+    a_redo_step = some_more undone step s.stale_redo
+
+    redone_step : forwarded s.present (step_record step) ≡ Ok step.after → document_redo (document step_to_redo) ≡ Ok (document step_redone)
+    redone_step forth =
+        ap (map_ok (redone (step_record step) (map step_record undone ++ s.stale_redo) (document step_to_redo))) forth
+        ∙ (λ i.
+        Ok (record (document step_redone) {
+          stale_undo = stale_after (a_redo_step i) (length s.stale_undo) (length (step_record step ∷ undo_list step_to_redo));
+          stale_redo = stale_after (a_redo_step i) (length s.stale_redo) (length (map step_record undone ++ s.stale_redo));
+        }))
 
   redo_along : (undone : List Step) → Follows undone s.present → document_redo (document (record s { undone = undone })) ≡ map_ok document (redo_of (record s { undone = undone }))
   redo_along [] follows = redo_stale_along s.stale_redo
-  redo_along (step ∷ undone) follows =
-      let more : can_redo_step (document here) ≡ true = some_more undone step s.stale_redo in
-      ap (map_ok (redone (step_record step) (map step_record undone ++ s.stale_redo) (document here))) (ap (λ book. forwarded book (step_record step)) (sym follows.0) ∙ follows.1.forth)
-      ∙ (λ i.
-          Ok (record (document next) {
-            stale_undo = stale_after (more i) (length s.stale_undo) (length (step_record step ∷ undo_list here));
-            stale_redo = stale_after (more i) (length s.stale_redo) (length (map step_record undone ++ s.stale_redo));
-          }))
-    where
-      abbrev here : State
-      here = record s { undone = step ∷ undone }
-
-      abbrev next : State
-      next = moved Redo (step_record step) step.after (step ∷ s.past) undone s.stale_undo s.stale_redo here
+  redo_along (step ∷ undone) follows = redone_step step undone (ap (λ book. forwarded book (step_record step)) (sym follows.0) ∙ follows.1.forth)
 
 -- a document goes along with a redo
 pub document_redone : (s : State) → IsSound s → document_redo (document s) ≡ map_ok document (redo_of s)

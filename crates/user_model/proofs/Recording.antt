@@ -72,14 +72,14 @@ module _ (doc : Document) (list : List Diff) (older : List (List Diff)) (history
       let more : (stacks.undone history).redo ≡ list ∷ doc.redo = ap (λ u. (undone_from u history).redo) top ∙ ap (λ r. list ∷ r) redo in
       ap (λ u. undo_at u doc) newest ∙ ap (map_ok _) went
       ∙ sym (λ i.
-          Ok (record doc {
-            book = earlier;
-            undo = (undo_is ∙ less) i;
-            redo = (redo_is ∙ more) i;
-            stale_undo = (one ∙ (λ j. stale_after (kept_is j) doc.stale_undo (length (less j)))) i;
-            stale_redo = (two ∙ (λ j. stale_after (kept_is j) doc.stale_redo (length (more j)))) i;
-            queue = sent i;
-          }))
+      Ok (record doc {
+        book = earlier;
+        undo = (undo_is ∙ less) i;
+        redo = (redo_is ∙ more) i;
+        stale_undo = (one ∙ (λ j. stale_after (kept_is j) doc.stale_undo (length (less j)))) i;
+        stale_redo = (two ∙ (λ j. stale_after (kept_is j) doc.stale_redo (length (more j)))) i;
+        queue = sent i;
+      }))
 
   -- the newest list to redo was made again, and moved to the other stack
   pub made_again : (later : Book) (queue : List QueueDiffs) (stale_undo stale_redo : ℕ) (moved : Stacks) (kept : Bool)
@@ -93,14 +93,14 @@ module _ (doc : Document) (list : List Diff) (older : List (List Diff)) (history
       let more : (stacks.redone history).undo ≡ list ∷ doc.undo = ap (λ r. (redone_from r history).undo) top ∙ ap (λ u. list ∷ u) undo in
       ap (λ r. redo_at r doc) newest ∙ ap (map_ok _) went
       ∙ sym (λ i.
-          Ok (record doc {
-            book = later;
-            undo = (undo_is ∙ more) i;
-            redo = (redo_is ∙ less) i;
-            stale_undo = (one ∙ (λ j. stale_after (kept_is j) doc.stale_undo (length (more j)))) i;
-            stale_redo = (two ∙ (λ j. stale_after (kept_is j) doc.stale_redo (length (less j)))) i;
-            queue = sent i;
-          }))
+      Ok (record doc {
+        book = later;
+        undo = (undo_is ∙ more) i;
+        redo = (redo_is ∙ less) i;
+        stale_undo = (one ∙ (λ j. stale_after (kept_is j) doc.stale_undo (length (more j)))) i;
+        stale_redo = (two ∙ (λ j. stale_after (kept_is j) doc.stale_redo (length (less j)))) i;
+        queue = sent i;
+      }))
 
   -- where the newest list was refused, the document is as it was
   pub back_refused : (new : Document) (error : EditError) (f : Book → Document) → doc.undo ≡ list ∷ older → Edits {S = Document} (Err error) doc new (map_ok f (backed doc.book list))

@@ -94,16 +94,16 @@ module _ (s : State) (sound : IsSound s) where
 
   -- ---- undo
 
+  abbrev stale_undone : List Diff → List (List Diff) → Book → State
+  stale_undone list stale earlier = moved Undo list earlier [] [] stale (list ∷ redo_list s) s
+
   undo_stale_sound : (stale : List (List Diff)) (next : State) → AllByRecursion AreSpellable stale → undo_stale stale s ≡ Ok next → IsSound next
   undo_stale_sound [] next all is = let same : s ≡ next = cc in subst IsSound same sound
   undo_stale_sound (list ∷ stale) next all is = go (backed s.present list) refl is
     where
-      abbrev to : Book → State
-      to earlier = moved Undo list earlier [] [] stale (list ∷ redo_list s) s
-
-      go : (r : Result Book EditError) → backed s.present list ≡ r → map_ok to r ≡ Ok next → IsSound next
+      go : (r : Result Book EditError) → backed s.present list ≡ r → map_ok (stale_undone list stale) r ≡ Ok next → IsSound next
       go (Ok earlier) how e =
-          let same : to earlier ≡ next = cc in
+          let same : stale_undone list stale earlier ≡ next = cc in
           subst IsSound same (sound_moved Undo list earlier [] [] stale (list ∷ redo_list s) (tested_rules _ _ earlier how) how all.0 tt tt all.1 (all.0, redo_spellable))
       go (Err error) how e = absurd (let never : ◌≡◌ {A = Result State EditError} (Err error) (Ok next) = e in cc)
 
@@ -121,16 +121,16 @@ module _ (s : State) (sound : IsSound s) where
 
   -- ---- redo
 
+  abbrev stale_redone : List Diff → List (List Diff) → Book → State
+  stale_redone list stale later = moved Redo list later [] [] (list ∷ undo_list s) stale s
+
   redo_stale_sound : (stale : List (List Diff)) (next : State) → AllByRecursion AreSpellable stale → redo_stale stale s ≡ Ok next → IsSound next
   redo_stale_sound [] next all is = let same : s ≡ next = cc in subst IsSound same sound
   redo_stale_sound (list ∷ stale) next all is = go (forwarded s.present list) refl is
     where
-      abbrev to : Book → State
-      to later = moved Redo list later [] [] (list ∷ undo_list s) stale s
-
-      go : (r : Result Book EditError) → forwarded s.present list ≡ r → map_ok to r ≡ Ok next → IsSound next
+      go : (r : Result Book EditError) → forwarded s.present list ≡ r → map_ok (stale_redone list stale) r ≡ Ok next → IsSound next
       go (Ok later) how e =
-          let same : to later ≡ next = cc in
+          let same : stale_redone list stale later ≡ next = cc in
           subst IsSound same (sound_moved Redo list later [] [] (list ∷ undo_list s) stale (tested_rules _ _ later how) how all.0 tt tt (all.0, undo_spellable) all.1)
       go (Err error) how e = absurd (let never : ◌≡◌ {A = Result State EditError} (Err error) (Ok next) = e in cc)
 

@@ -8,11 +8,10 @@ ghost use Rattle.user_model.specs.Values.{AreMade};
 
 use crate::recalc::{Recalc, Results};
 use base_values::EditError;
-use sheet_grid::Workbook;
+use sheet_grid::{Computed, Workbook};
 use sheet_history::{
     DiffList, DiffType, back, back_in_place, follow_in_place, forward, forward_in_place,
 };
-use sheet_grid::Computed;
 use std::alloc::Global;
 
 /// The well-formed workbook after a list, in its direction, or the refusal of the list.

@@ -17,3 +17,6 @@ pub use laws::edits_go_both_ways;
 pub use recalc::{ClearAll, Recalc};
 pub use structure::CellArrayStructure;
 pub use user_model::UserModel;
+
+#[cfg(test)]
+mod tests;

@@ -117,12 +117,7 @@ fn distance(delta: i64) -> Option<i32>
 }
 
 /// The move of lines of a sheet past the hidden ones in the way, if an `i32` has its distance.
-fn grown_kind<A: Axis>(
-    sheet: &Worksheet,
-    first: i32,
-    count: i32,
-    delta: i32,
-) -> Option<EditKind>
+fn grown_kind<A: Axis>(sheet: &Worksheet, first: i32, count: i32, delta: i32) -> Option<EditKind>
     ensures near { IfSome result (λ kind. kind ≡ grown_move A.along first count delta sheet.now) }
     ensures far { IfNone result (IsTrue (is_far (grown A.along sheet.now first count delta))) }
 {
@@ -161,11 +156,7 @@ fn make_room(history: &mut History) -> Result<(), EditError>
 }
 
 /// Puts a list in the queue. It holds the record together with others.
-fn enqueue(
-    queue: &mut Items<QueueDiffs>,
-    kind: DiffType,
-    list: &DiffList,
-) -> Result<(), EditError>
+fn enqueue(queue: &mut Items<QueueDiffs>, kind: DiffType, list: &DiffList) -> Result<(), EditError>
     ensures sent { OnOk result (queue.new ≡ sending kind list.now queue.old) }
     ensures queue { OnErr result (queue.new ≡ queue.old) }
     ensures only { IsOkUnless result NoMemory }

@@ -4,8 +4,7 @@ ghost use Rattle.sheet_grid.specs.Book.{Book};
 ghost use Rattle.sheet_grid.specs.Computed.{Values};
 
 use base_values::EditError;
-use sheet_grid::Workbook;
-use sheet_grid::Computed;
+use sheet_grid::{Computed, Workbook};
 use std::alloc::Global;
 
 /// Whoever computes the values of a workbook. A user model asks it with each change.

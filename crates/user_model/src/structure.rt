@@ -8,8 +8,7 @@ ghost use Rattle.user_model.specs.Structure.{extent_of, dynamic_at, dynamics_of,
 
 use base_axis::MergedCell;
 use base_values::{EditError, Position, place_of};
-use sheet_grid::{Content, Workbook, Worksheet, array_at};
-use sheet_grid::Computed;
+use sheet_grid::{Computed, Content, Workbook, Worksheet, array_at};
 
 /// How a cell stands to the arrays of its sheet. Widths are in columns, heights in rows.
 #[derive(Clone, Copy, Debug, PartialEq, Eq)]

@@ -628,7 +628,10 @@ impl<R: Recalc + Drop> UserModel<R> {
         self.edit_lines::<ColumnAxis>(
             sheet,
             LineAxis::Columns,
-            EditKind::Insert { first: column, count },
+            EditKind::Insert {
+                first: column,
+                count,
+            },
         )
     }
 
@@ -668,7 +671,10 @@ impl<R: Recalc + Drop> UserModel<R> {
         self.edit_lines::<ColumnAxis>(
             sheet,
             LineAxis::Columns,
-            EditKind::Delete { first: column, count },
+            EditKind::Delete {
+                first: column,
+                count,
+            },
         )
     }
 
@@ -736,8 +742,7 @@ impl<R: Recalc + Drop> UserModel<R> {
         ensures err { OnErr result (self.new ≡ self.old) }
         ensures paused { self.new.paused ≡ self.old.paused }
     {
-        self.book
-            .take_back(&mut self.results, &mut self.recalc)
+        self.book.take_back(&mut self.results, &mut self.recalc)
     }
 
     /// Makes the newest undone step again. Without one nothing is done. The errors are those of
@@ -748,8 +753,7 @@ impl<R: Recalc + Drop> UserModel<R> {
         ensures err { OnErr result (self.new ≡ self.old) }
         ensures paused { self.new.paused ≡ self.old.paused }
     {
-        self.book
-            .make_again(&mut self.results, &mut self.recalc)
+        self.book.make_again(&mut self.results, &mut self.recalc)
     }
 
     /// The bytes of all that was done since the last flush, which are then no longer kept. The only

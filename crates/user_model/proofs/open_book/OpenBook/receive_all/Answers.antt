@@ -40,9 +40,9 @@ returns-in_err-receive-clause-next g c =
     let here : drop i q ≡ e ∷ drop (i + 1) q = drop_more q i e within ∙ ap (λ (x : QueueDiffs). x ∷ drop (i + 1) q) (sym c.index-queue-index.is) in
     let p = err_from_is_err_and c.from_residual.result c.from_residual.ensures.1 in
     rw (p.1, p.2) (λ s stands.
-        let reached = c.loop-index.invariant.0 s stands in
-        let to = received_turns i e (document_in c.loop-index.self) _ _ c.in_err-receive.ensures.document reached.now reached.stands in
-        reached_refused q s i (document_in c.loop-index.self) reached e here _ c.in_err-receive.field-0.0 c.in_err-receive.ensures.document.refused.0 to.refused)
+    let reached = c.loop-index.invariant.0 s stands in
+    let to = received_turns i e (document_in c.loop-index.self) _ _ c.in_err-receive.ensures.document reached.now reached.stands in
+    reached_refused q s i (document_in c.loop-index.self) reached e here _ c.in_err-receive.field-0.0 c.in_err-receive.ensures.document.refused.0 to.refused)
 
 pub returns-in_err-receive-clause-made : goal.returns-in_err-receive-clause-made
 returns-in_err-receive-clause-made g c =

@@ -21,8 +21,8 @@ pub returns-in_err-queue-clause-next : goal.returns-in_err-queue-clause-next
 returns-in_err-queue-clause-next g c =
     let p = err_from_is_err_and c.from_residual.result c.from_residual.ensures.1 in
     rw (p.1, p.2) (λ s entries stands fits spelled.
-        unread_leaves c.in_err-queue.field-0.0 (document_in c.self.inside.book) entries s (subst (λ (seen : Session). StandsFor seen.document s) (sym c.self.view_is) stands)
-        (c.in_err-queue.ensures.again entries fits spelled))
+    unread_leaves c.in_err-queue.field-0.0 (document_in c.self.inside.book) entries s (subst (λ (seen : Session). StandsFor seen.document s) (sym c.self.view_is) stands)
+    (c.in_err-queue.ensures.again entries fits spelled))
 
 pub returns-in_err-queue-clause-unspelled : goal.returns-in_err-queue-clause-unspelled
 returns-in_err-queue-clause-unspelled g c =

@@ -23,9 +23,9 @@ returns-in_err-_place-clause-next g c =
     let found = sym (simp to_z-of_z at c.in_err-_place.ensures.found) in
     let p = err_from_is_err_and c.from_residual-in_err-_place.result c.from_residual-in_err-_place.ensures.1 in
     rw (p.1, p.2) (λ state stands.
-        let edit : Edit = SetLink c.args.sheet c.args.row c.args.column (Some (link_to c.args.target.now)) in
-        refused_moves edit (document_in c.self.inside.book) state error (subst (λ (seen : Session). StandsFor seen.document state) (sym c.self.view_is) stands) refl
-        (stands_sure c.args.sheet c.args.row c.args.column c.self.inside.book.workbook error found) (link_refused c.args.sheet c.args.row c.args.column c.self.inside.book.workbook _ error found))
+    let edit : Edit = SetLink c.args.sheet c.args.row c.args.column (Some (link_to c.args.target.now)) in
+    refused_moves edit (document_in c.self.inside.book) state error (subst (λ (seen : Session). StandsFor seen.document state) (sym c.self.view_is) stands) refl
+    (stands_sure c.args.sheet c.args.row c.args.column c.self.inside.book.workbook error found) (link_refused c.args.sheet c.args.row c.args.column c.self.inside.book.workbook _ error found))
 
 pub returns-in_err-link-clause-next : goal.returns-in_err-link-clause-next
 returns-in_err-link-clause-next g c =
@@ -35,10 +35,10 @@ returns-in_err-link-clause-next g c =
     let short : c.in_err-link.field-0.0 ≡ NoMemory = c.in_err-link.ensures.only in
     let p = err_from_is_err_and c.from_residual-in_err-link.result c.from_residual-in_err-link.ensures.1 in
     rw (p.1, p.2) (λ state stands.
-        let edit : Edit = SetLink c.args.sheet c.args.row c.args.column (Some (link_to c.args.target.now)) in
-        subst (λ (e : EditError). Moves (Err e) (document_in c.self.inside.book) (edit_of edit state)) (sym short)
-        (short_moves edit (document_in c.self.inside.book) state (subst (λ (seen : Session). StandsFor seen.document state) (sym c.self.view_is) stands) refl
-        (link_accepted c.args.sheet c.args.row c.args.column c.self.inside.book.workbook _ c.in_ok-_place._place found)))
+    let edit : Edit = SetLink c.args.sheet c.args.row c.args.column (Some (link_to c.args.target.now)) in
+    subst (λ (e : EditError). Moves (Err e) (document_in c.self.inside.book) (edit_of edit state)) (sym short)
+    (short_moves edit (document_in c.self.inside.book) state (subst (λ (seen : Session). StandsFor seen.document state) (sym c.self.view_is) stands) refl
+    (link_accepted c.args.sheet c.args.row c.args.column c.self.inside.book.workbook _ c.in_ok-_place._place found)))
 
 pub returns-clause-next : goal.returns-clause-next
 returns-clause-next g c = λ state stands.

@@ -25,9 +25,9 @@ returns-in_err-place-clause-next g c =
     let found = sym (simp to_z-of_z at c.in_err-place.ensures.found) in
     let p = err_from_is_err_and c.from_residual-in_err-place.result c.from_residual-in_err-place.ensures.1 in
     rw (p.1, p.2) (λ state stands.
-        let edit : Edit = Input c.args.sheet c.args.row c.args.column (typed state.present state.language c.args.row c.args.column c.args.value.now) in
-        refused_moves edit (document_in c.self.inside.book) state error (subst (λ (seen : Session). StandsFor seen.document state) (sym c.self.view_is) stands) refl
-        (goes_sure c.args.sheet c.args.row c.args.column c.self.inside.book.workbook error found) (input_refused c.args.sheet c.args.row c.args.column c.self.inside.book.workbook _ error found))
+    let edit : Edit = Input c.args.sheet c.args.row c.args.column (typed state.present state.language c.args.row c.args.column c.args.value.now) in
+    refused_moves edit (document_in c.self.inside.book) state error (subst (λ (seen : Session). StandsFor seen.document state) (sym c.self.view_is) stands) refl
+    (goes_sure c.args.sheet c.args.row c.args.column c.self.inside.book.workbook error found) (input_refused c.args.sheet c.args.row c.args.column c.self.inside.book.workbook _ error found))
 
 pub returns-in_err-content-clause-next : goal.returns-in_err-content-clause-next
 returns-in_err-content-clause-next g c =
@@ -37,10 +37,10 @@ returns-in_err-content-clause-next g c =
     let short : c.in_err-content.field-0.0 ≡ NoMemory = c.in_err-content.ensures.memory in
     let p = err_from_is_err_and c.from_residual-in_err-content.result c.from_residual-in_err-content.ensures.1 in
     rw (p.1, p.2) (λ state stands.
-        let edit : Edit = Input c.args.sheet c.args.row c.args.column (typed state.present state.language c.args.row c.args.column c.args.value.now) in
-        subst (λ (e : EditError). Moves (Err e) (document_in c.self.inside.book) (edit_of edit state)) (sym short)
-        (short_moves edit (document_in c.self.inside.book) state (subst (λ (seen : Session). StandsFor seen.document state) (sym c.self.view_is) stands) refl
-        (input_accepted c.args.sheet c.args.row c.args.column c.self.inside.book.workbook _ c.in_ok-place.place found)))
+    let edit : Edit = Input c.args.sheet c.args.row c.args.column (typed state.present state.language c.args.row c.args.column c.args.value.now) in
+    subst (λ (e : EditError). Moves (Err e) (document_in c.self.inside.book) (edit_of edit state)) (sym short)
+    (short_moves edit (document_in c.self.inside.book) state (subst (λ (seen : Session). StandsFor seen.document state) (sym c.self.view_is) stands) refl
+    (input_accepted c.args.sheet c.args.row c.args.column c.self.inside.book.workbook _ c.in_ok-place.place found)))
 
 pub set_content-requires-clause-input : goal.set_content-requires-clause-input
 set_content-requires-clause-input g c =

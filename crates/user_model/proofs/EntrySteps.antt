@@ -1,15 +1,14 @@
 -- An edit whose plan has its record is a sound step.
-use Rattle.std.proofs.Common.{◌≡◌, ◌≢◌, Bool, true, false, cond, List, Result, Ok, Err, refl, ap, sym, subst, ◌∙◌}
+use Rattle.std.proofs.Common.{◌≡◌, true, false, cond, List, Result, Ok, Err, refl, ap, sym, subst, ◌∙◌}
 use Rattle.std.specs.Prelude.{IsOk, IsOkAnd, IsTrue}
 use Rattle.base_values.specs.declared.EditError.{EditError}
 use Rattle.base_values.specs.Answers.{map_ok}
 use Rattle.sheet_grid.specs.Book.{Book}
 use Rattle.sheet_rules.specs.WellFormed.{IsWellFormed}
 use Rattle.sheet_history.specs.declared.Diff.{Diff}
-use Rattle.sheet_history.specs.Diffs.{IsKeptList, backed, forwarded, made}
-use Rattle.sheet_history.specs.Records.{IsRecord}
-use Rattle.edit_plans.specs.StandInRecords.{record_between}
-use Rattle.edit_plans.specs.laws.StandInBetween.{record_computed}
+use Rattle.sheet_history.specs.Diffs.{IsKeptList, backed, forwarded}
+use Rattle.sheet_history.specs.Records.{IsRecord, record_between}
+use Rattle.sheet_history.specs.laws.RecordBetween.{record_computed}
 use Rattle.sheet_history.specs.laws.SoundEntries.{entries_forwarded, entries_backed}
 use Rattle.edit_plans.specs.Edits.{Edit, changed, is_of_entries, is_silent, record_of}
 use Rattle.edit_plans.specs.Edits.Edit.{Input, ArrayInput, SetLink, Merge, Unmerge, Lines, MoveLines}
@@ -94,13 +93,13 @@ module _ (edit : Edit) (it : IsOfEntries edit) where
       kept_by (Ok later) plan = plan.kept
       kept_by (Err error) plan = absurd plan
 
-      works_by : (r : Result Book EditError) → IsOkAnd r (IsPlan doc.book list) → IsOk (forwarded doc.book list)
-      works_by (Ok later) plan = subst IsOk (sym (entries_forwarded doc.book later list rules plan.rules plan.exact)) refl
-      works_by (Err error) plan = absurd plan
-
       ok_by : (r : Result Book EditError) → IsOkAnd r (IsPlan doc.book list) → IsOk r
       ok_by (Ok later) plan = refl
       ok_by (Err error) plan = absurd plan
+
+      works_by : (r : Result Book EditError) → IsOkAnd r (IsPlan doc.book list) → IsOk (forwarded doc.book list)
+      works_by (Ok later) plan = subst IsOk (sym (entries_forwarded doc.book later list rules plan.rules plan.exact)) refl
+      works_by (Err error) plan = absurd plan
 
 -- ---- the plan of an edit by entries
 

@@ -1,5 +1,5 @@
 -- A move past hidden lines is the move by a distance that is told from the sheet.
-use Rattle.std.proofs.Common.{◌≡◌, ℕ, ℤ, pos, ◌+ℤ◌, ◌≤ℤ◌, Bool, true, false, cond, not, ◌&&◌, Option, Some, None, Result, Ok, Err, refl, ap, sym, subst, ◌∙◌, arith}
+use Rattle.std.proofs.Common.{◌≡◌, ℕ, ℤ, pos, ◌+ℤ◌, ◌≤ℤ◌, true, false, cond, not, ◌&&◌, Option, Some, None, Result, Ok, Err, refl, ap, sym, subst, ◌∙◌, arith}
 use Rattle.std.specs.Prelude.{int_le, slice_get}
 use Rattle.std.proofs.lemmas.Int.{ints}
 use Rattle.base_values.specs.declared.EditError.{EditError}
@@ -14,7 +14,7 @@ use Rattle.sheet_grid.specs.Book.{Book, sheet_at}
 use Rattle.sheet_rules.specs.WellFormed.{IsWellFormed}
 use Rattle.sheet_lines.specs.Followed.{book_followed}
 use Rattle.sheet_actions.specs.Edited.{lines_edited}
-use Rattle.sheet_actions.specs.Planned.{lines_planned, refusal_of, splits_array, splits_merge, unless_refused}
+use Rattle.sheet_actions.specs.Planned.{refusal_of, splits_array, splits_merge, unless_refused}
 use Rattle.sheet_history.specs.declared.LineAxis.{LineAxis}
 use Rattle.sheet_history.specs.Diffs.{backed, forwarded}
 use Rattle.sheet_history.specs.LineDiffs.{along_of}

@@ -1,14 +1,18 @@
 -- How a document takes the entries of another copy's queue.
 use Rattle.std.proofs.Common.{◌≡◌, ◌≢◌, ◌⊎◌, inl, inr, ℕ, zero, suc, ◌+◌, ◌<◌, List, [], ◌∷◌, ◌++◌, length, take, drop, Result, Ok, Err, refl, sym, ap, subst, ◌∙◌, arith, length-take}
-use Rattle.std.specs.Prelude.{IsOkAnd, OnErr}
+use Rattle.std.specs.Prelude.{IsOkAnd, IsOkUnless, OnErr, OnOk}
 use Rattle.std.specs.List.{AllByRecursion}
 use Rattle.base_values.specs.declared.EditError.{EditError}
 use Rattle.base_values.specs.declared.EditError.TheVariants.{NoMemory, ParseDiffs}
+use Rattle.base_values.specs.Answers.{and_then, map_ok}
 use Rattle.sheet_grid.specs.Book.{Book}
 use Rattle.sheet_grid.specs.Computed.{Values}
 use Rattle.sheet_history.specs.declared.QueueDiffs.{QueueDiffs}
+use Rattle.sheet_history.specs.Diffs.{follow, in_entry, replayed, replayed_from}
+use Rattle.sheet_wire.specs.QueueBytes.{FitsQueue, spell_queue}
 use Rattle.user_model.specs.Document.{Document}
-use Rattle.user_model.specs.Machine.{State, received, go_on, applied_from, applied}
+use Rattle.user_model.specs.Machine.{State, received, go_on, outside, applied_from, applied}
+use Rattle.user_model.specs.Sound.{WhereCarried}
 use Rattle.user_model.specs.Stands.{StandsFor, IsReached, Leaves, Turns}
 use Rattle.user_model.specs.Values.{Session, IsMade}
 
@@ -89,3 +93,41 @@ module _ (entries : List QueueDiffs) (first : State) (i : ℕ) (doc : Document) 
 pub still_made : (Fits : Book → Values → Type 0) (first old new : Session) → new ≡ old → IsMade Fits old ⊎ (old ≡ first) → IsMade Fits new ⊎ (new ≡ first)
 still_made Fits first old new same (inl made) = inl (subst (IsMade Fits) (sym same) made)
 still_made Fits first old new same (inr other) = inr (same ∙ other)
+
+-- ---- entries that lead to a later workbook
+
+applied_led : (at : ℕ) (entries : List QueueDiffs) (s : State) (later : Book) → replayed_from at s.present entries ≡ Ok later
+    → ((applied_from at entries s).1 ≡ Ok tt) × ((applied_from at entries s).0.present ≡ later)
+applied_led at [] s later is = (refl, cc)
+applied_led at (entry ∷ entries) s later is = go (in_entry at (follow entry.kind s.present entry.list)) is
+  where
+    go : (r : Result Book EditError) → and_then r (λ next. replayed_from (at + 1) next entries) ≡ Ok later
+        → ((go_on s (map_ok (outside s) r) (applied_from (at + 1) entries)).1 ≡ Ok tt) × ((go_on s (map_ok (outside s) r) (applied_from (at + 1) entries)).0.present ≡ later)
+    go (Ok next) e = applied_led (at + 1) entries (outside s next) later e
+    go (Err error) e = absurd (let never : ◌≡◌ {A = Result Book EditError} (Err error) (Ok later) = e in cc)
+
+module _ (entries : List QueueDiffs) (s : State) (later : Book) (new : Document) (led : replayed s.present entries ≡ Ok later) where
+  led_there : (result : Result (Unit {0}) EditError) → Leaves result new entries s → OnOk result (new.book ≡ later)
+  led_there (Ok u) leaves = ap (λ (d : Document). d.book) leaves.1.document ∙ (applied_led 0 entries s later led).1
+  led_there (Err error) leaves = tt
+
+  refused_never : (error : EditError) → (applied entries s).1 ≡ Err error → ⊥
+  refused_never error is = never_ok error (sym is ∙ (applied_led 0 entries s later led).0)
+
+  led_only : (result : Result (Unit {0}) EditError) → Leaves result new entries s → IsOkUnless result NoMemory
+  led_only (Ok u) leaves = tt
+  led_only (Err NoMemory) leaves = refl
+  led_only (Err error) leaves = absurd (refused_never error leaves.0)
+
+-- bytes that carry the workbook lead to the later one, and memory alone stops them
+module _ (result : Result (Unit {0}) EditError) (inside seen : Session) (new : Document) (s : State) (bytes : List ℕ) (same : inside ≡ seen) (stands : StandsFor inside.document s)
+    (leaves : (entries : List QueueDiffs) → FitsQueue entries → bytes ≡ spell_queue entries → Leaves result new entries s) where
+  from_there : (entries : List QueueDiffs) (later : Book) → replayed seen.document.book entries ≡ Ok later → replayed s.present entries ≡ Ok later
+  from_there entries later led =
+      subst (λ (book : Book). replayed book entries ≡ Ok later) (ap (λ (x : Session). x.document.book) (sym same) ∙ ap (λ (d : Document). d.book) stands.document) led
+
+  pub carried_there : WhereCarried bytes seen.document.book (λ later. OnOk result (new.book ≡ later))
+  carried_there = λ entries later fits carries. led_there entries s later new (from_there entries later carries.led) result (leaves entries fits carries.spelled)
+
+  pub carried_only : WhereCarried bytes seen.document.book (λ later. IsOkUnless result NoMemory)
+  carried_only = λ entries later fits carries. led_only entries s later new (from_there entries later carries.led) result (leaves entries fits carries.spelled)

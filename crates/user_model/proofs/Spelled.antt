@@ -1,6 +1,6 @@
 -- The record of two well-formed workbooks can be spelled.
 use Rattle.std.proofs.Common.{◌≡◌, ℕ, true, List, [], ◌∷◌, map, Option, Some, None, is_some, refl, ap, ◌∙◌}
-use Rattle.std.specs.Prelude.{IsTrue, ◌&&◌}
+use Rattle.std.specs.Prelude.{IsTrue}
 use Rattle.std.specs.List.{AllByRecursion}
 use Rattle.std.proofs.lemmas.List.Elements.{recursion_from_All}
 use Rattle.base_values.specs.declared.Position.{Position}
@@ -17,11 +17,11 @@ use Rattle.sheet_history.specs.declared.Diff.{Diff}
 use Rattle.sheet_history.specs.declared.Diff.TheVariants.{Cell as CellDiff, Link as LinkDiff, Merges as MergesDiff, Lines as LinesDiff}
 use Rattle.sheet_history.specs.Diffs.{IsKeptDiff, IsKeptList}
 use Rattle.sheet_history.specs.Entries.{lies_inside, cell_stands_at, value_fits, accepts}
-use Rattle.sheet_history.specs.Entries.EntryKey.{CellKey, LinkKey, MergesKey}
-use Rattle.sheet_history.specs.Entries.EntryValue.{CellValue, LinkValue, MergesValue}
+use Rattle.sheet_history.specs.Entries.EntryKey.{CellKey}
+use Rattle.sheet_history.specs.Entries.EntryValue.{CellValue}
 use Rattle.sheet_history.specs.Records.{Change, change_of, IsRecord}
-use Rattle.edit_plans.specs.laws.StandInBothWays.{AllFit}
-use Rattle.edit_plans.specs.laws.StandInSound.{entries_fit}
+use Rattle.sheet_history.specs.laws.BothWays.{AllFit}
+use Rattle.sheet_history.specs.laws.SoundEntries.{entries_fit}
 use Rattle.sheet_wire.specs.QueueBytes.{IsKnownDiff}
 use Rattle.sheet_wire.specs.laws.Fitting.{known_diff}
 use Rattle.user_model.specs.Spellable.{AreSpellable}

@@ -13,7 +13,7 @@ use Rattle.sheet_history.specs.declared.QueueDiffs.{QueueDiffs}
 use Rattle.sheet_history.specs.LineDiffs.{along_of}
 use Rattle.sheet_history.specs.Diffs.{forwarded, backed, replayed}
 use Rattle.sheet_history.specs.Records.{IsRecord, line_record}
-use Rattle.sheet_wire.specs.QueueBytes.{IsKnownQueue, spell_queue}
+use Rattle.sheet_wire.specs.QueueBytes.{FitsQueue, IsKnownQueue, spell_queue}
 use Rattle.user_model.specs.Spellable.{AreSpellable}
 use Rattle.edit_plans.specs.Edits.{Edit, changed, grown_move, is_silent}
 use Rattle.edit_plans.specs.Edits.Edit.{Lines, MoveLines}
@@ -59,6 +59,10 @@ Follows (step ∷ undone) book = (step.before ≡ book) × IsSoundStep step × F
 pub record Carries (entries : List QueueDiffs) (bytes : List ℕ) (earlier later : Book) : Type 0 where
   pub spelled : bytes ≡ spell_queue entries
   pub led : replayed earlier entries ≡ Ok later
+
+-- what is said of each later workbook to which bytes carry an earlier one
+abbrev pub WhereCarried : List ℕ → Book → (Book → Type 0) → Type 0
+WhereCarried bytes earlier Said = (entries : List QueueDiffs) (later : Book) → FitsQueue entries → Carries entries bytes earlier later → Said later
 
 -- the present workbook is well-formed, the steps that can be undone lead to it and those that were undone lead on from it, and what was
 -- sent since the last sync, where that is known, carries the workbook of that sync to it; each list that is kept can be spelled

@@ -22,7 +22,7 @@ ghost use Rattle.user_model.specs.Beginning.{new_state};
 ghost use Rattle.user_model.specs.Reading.{content_text, formula_typed, link_to, rectangle, rectangle_of, typed};
 ghost use Rattle.user_model.specs.Structure.{structure_at};
 ghost use Rattle.user_model.specs.Machine.{State, begun, edit_of, undo_of, redo_of, synced_of, sync_bytes};
-ghost use Rattle.user_model.specs.Sound.{Carries};
+ghost use Rattle.user_model.specs.Sound.{Carries, WhereCarried};
 ghost use Rattle.user_model.specs.Stands.{StandsFor, IsReached, IsAnyPlan, IsPlanOf, Leaves, Moves, Opens, Turns};
 ghost use Rattle.user_model.specs.Values.{IsMade, Makes, is_none_left};
 
@@ -784,9 +784,12 @@ impl<R: Recalc + Drop> UserModel<R> {
     ///
     /// `ParseDiffs` exactly where the bytes are no queue's, and nothing has changed then. `DiffRefused`
     /// with the numbers of the first entry and diff that do not fit; exactly the entries before it
-    /// stand. After `NoMemory` some first entries stand.
+    /// stand. After `NoMemory` some first entries stand. Bytes of `flush_send_queue` that carry this
+    /// workbook to a later one lead there, and `NoMemory` is then the only error.
     pub fn apply_external_diffs(&mut self, bytes: &[u8]) -> Result<(), EditError>
         ensures next { (state : State) (entries : List Entry) → StandsFor self.old.document state → FitsQueue entries → bytes.now ≡ spell_queue entries → Leaves result self.new.document entries state }
+        ensures led { WhereCarried bytes.now self.old.document.book (λ later. OnOk result (self.new.document.book ≡ later)) }
+        ensures carried { WhereCarried bytes.now self.old.document.book (λ later. IsOkUnless result NoMemory) }
         ensures unspelled { IsNoQueue bytes.now → Edits result self.old self.new (Err ParseDiffs) }
         ensures parsed { result ≡ Err ParseDiffs → IsNoQueue bytes.now }
         ensures made { IsMade R.Fits self.new ⊎ (self.new ≡ self.old) }

@@ -16,17 +16,15 @@ returns c = go
     by_record : (edit : Edit) (earlier later : Book) → is_of_entries edit ≡ true → IsWellFormed earlier → HasRecord earlier later → GoesBothWays edit earlier later
     by_record edit earlier later is rules it = entries_both edit (of_entries edit is) earlier later it.list rules it.rules it.exact
 
+    by_law : (edit : Edit) (earlier later : Book) → is_of_entries edit ≡ true → IsWellFormed earlier → IsGiven edit → changed edit earlier ≡ Ok later → GoesBothWays edit earlier later
+    by_law edit earlier later is rules given how = by_record edit earlier later is rules (c.edits_have_records.ensures edit earlier later is given rules how)
+
     go : (edit : Edit) (earlier later : Book) → IsWellFormed earlier → IsGiven edit → changed edit earlier ≡ Ok later → GoesBothWays edit earlier later
-    go (Input index row column content) earlier later rules given how =
-        by_record (Input index row column content) earlier later refl rules (c.edits_have_records.ensures.inputs index row column content earlier later rules given how)
-    go (ArrayInput index r tree) earlier later rules given how =
-        by_record (ArrayInput index r tree) earlier later refl rules (c.edits_have_records.ensures.arrays index r tree earlier later rules given how)
-    go (SetLink index row column link) earlier later rules given how =
-        by_record (SetLink index row column link) earlier later refl rules (c.edits_have_records.ensures.links index row column link earlier later rules how)
-    go (Merge index r) earlier later rules given how =
-        by_record (Merge index r) earlier later refl rules (c.edits_have_records.ensures.merges index r earlier later rules how)
-    go (Unmerge index row column) earlier later rules given how =
-        by_record (Unmerge index row column) earlier later refl rules (c.edits_have_records.ensures.unmerges index row column earlier later rules how)
+    go (Input index row column content) earlier later rules given how = by_law (Input index row column content) earlier later refl rules given how
+    go (ArrayInput index r tree) earlier later rules given how = by_law (ArrayInput index r tree) earlier later refl rules given how
+    go (SetLink index row column link) earlier later rules given how = by_law (SetLink index row column link) earlier later refl rules given how
+    go (Merge index r) earlier later rules given how = by_law (Merge index r) earlier later refl rules given how
+    go (Unmerge index row column) earlier later rules given how = by_law (Unmerge index row column) earlier later refl rules given how
     go (Lines index axis kind) earlier later rules given how =
         lines_go_both_ways index axis kind earlier later rules how
     go (MoveLines index axis first count delta) earlier later rules given how =

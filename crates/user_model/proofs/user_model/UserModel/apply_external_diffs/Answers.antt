@@ -8,6 +8,7 @@ use Rattle.user_model.specs.Opened.{document_in, session_of}
 use Rattle.user_model.specs.Stands.{StandsFor, Leaves}
 use Rattle.user_model.specs.Values.{Session, IsMade}
 use Rattle.user_model.proofs.Unread.{unread_leaves, unread_edits, parse_no_queue, read_leaves, left_reached}
+use Rattle.user_model.proofs.Received.{carried_only, carried_there}
 use Rattle.user_model.proofs.Refusals.{never_unread}
 use Rattle.user_model.proofs.user_model.UserModel.apply_external_diffs.Goals as goal
 
@@ -23,6 +24,20 @@ returns-in_err-queue-clause-next g c =
     rw (p.1, p.2) (λ s entries stands fits spelled.
     unread_leaves c.in_err-queue.field-0.0 (document_in c.self.inside.book) entries s (subst (λ (seen : Session). StandsFor seen.document s) (sym c.self.view_is) stands)
     (c.in_err-queue.ensures.again entries fits spelled))
+
+pub returns-in_err-queue-clause-led : goal.returns-in_err-queue-clause-led
+returns-in_err-queue-clause-led g c =
+    let p = err_from_is_err_and c.from_residual.result c.from_residual.ensures.1 in
+    let is = c.self.invariant in
+    rw (p.1, p.2) (carried_there _ _ _ (document_in c.self.inside.book) is.0 c.args.bytes.now c.self.view_is is.1 (λ entries fits spelled.
+    unread_leaves c.in_err-queue.field-0.0 (document_in c.self.inside.book) entries is.0 is.1 (c.in_err-queue.ensures.again entries fits spelled)))
+
+pub returns-in_err-queue-clause-carried : goal.returns-in_err-queue-clause-carried
+returns-in_err-queue-clause-carried g c =
+    let p = err_from_is_err_and c.from_residual.result c.from_residual.ensures.1 in
+    let is = c.self.invariant in
+    rw (p.1, p.2) (carried_only _ _ _ (document_in c.self.inside.book) is.0 c.args.bytes.now c.self.view_is is.1 (λ entries fits spelled.
+    unread_leaves c.in_err-queue.field-0.0 (document_in c.self.inside.book) entries is.0 is.1 (c.in_err-queue.ensures.again entries fits spelled)))
 
 pub returns-in_err-queue-clause-unspelled : goal.returns-in_err-queue-clause-unspelled
 returns-in_err-queue-clause-unspelled g c =
@@ -42,6 +57,20 @@ returns-clause-next g c = λ s entries stands fits spelled.
     read_leaves c.receive_all.result (document_in c.receive_all.new.self) c.in_ok-queue.queue entries s ((c.in_ok-queue.ensures {u = _}).again entries fits spelled)
     (subst (λ q. Leaves c.receive_all.result (document_in c.receive_all.new.self) q s) c.as_slice.ensures.items
     (c.receive_all.ensures.next s (subst (λ (seen : Session). StandsFor seen.document s) (sym c.self.view_is) stands)))
+
+pub returns-clause-led : goal.returns-clause-led
+returns-clause-led g c =
+    let is = c.self.invariant in
+    carried_there c.receive_all.result _ _ (document_in c.receive_all.new.self) is.0 c.args.bytes.now c.self.view_is is.1 (λ entries fits spelled.
+    read_leaves c.receive_all.result (document_in c.receive_all.new.self) c.in_ok-queue.queue entries is.0 ((c.in_ok-queue.ensures {u = _}).again entries fits spelled)
+    (subst (λ q. Leaves c.receive_all.result (document_in c.receive_all.new.self) q is.0) c.as_slice.ensures.items (c.receive_all.ensures.next is.0 is.1)))
+
+pub returns-clause-carried : goal.returns-clause-carried
+returns-clause-carried g c =
+    let is = c.self.invariant in
+    carried_only c.receive_all.result _ _ (document_in c.receive_all.new.self) is.0 c.args.bytes.now c.self.view_is is.1 (λ entries fits spelled.
+    read_leaves c.receive_all.result (document_in c.receive_all.new.self) c.in_ok-queue.queue entries is.0 ((c.in_ok-queue.ensures {u = _}).again entries fits spelled)
+    (subst (λ q. Leaves c.receive_all.result (document_in c.receive_all.new.self) q is.0) c.as_slice.ensures.items (c.receive_all.ensures.next is.0 is.1)))
 
 pub returns-clause-unspelled : goal.returns-clause-unspelled
 returns-clause-unspelled g c = λ none. absurd (none c.in_ok-queue.queue (c.in_ok-queue.ensures {u = _}).fits (c.in_ok-queue.ensures {u = _}).spelled)

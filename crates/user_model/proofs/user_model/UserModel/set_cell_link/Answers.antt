@@ -12,7 +12,7 @@ use Rattle.user_model.specs.Opened.{document_in}
 use Rattle.user_model.specs.Reading.{link_to, profile_at, typed}
 use Rattle.user_model.specs.Stands.{StandsFor, Moves}
 use Rattle.user_model.specs.Values.{Session}
-use Rattle.user_model.proofs.Inputs.{link_refused, link_accepted, stands_sure, refused_moves, short_moves}
+use Rattle.user_model.proofs.Inputs.{link_refused, link_accepted, refused_moves, short_moves}
 use Rattle.user_model.proofs.user_model.UserModel.set_cell_link.Goals as goal
 
 pub returns-in_err-_place-clause-next : goal.returns-in_err-_place-clause-next
@@ -25,7 +25,7 @@ returns-in_err-_place-clause-next g c =
     rw (p.1, p.2) (λ state stands.
     let edit : Edit = SetLink c.args.sheet c.args.row c.args.column (Some (link_to c.args.target.now)) in
     refused_moves edit (document_in c.self.inside.book) state error (subst (λ (seen : Session). StandsFor seen.document state) (sym c.self.view_is) stands) refl
-    (stands_sure c.args.sheet c.args.row c.args.column c.self.inside.book.workbook error found) (link_refused c.args.sheet c.args.row c.args.column c.self.inside.book.workbook _ error found))
+    (λ short. c.in_err-_place.ensures.sure (ap Err short)) (link_refused c.args.sheet c.args.row c.args.column c.self.inside.book.workbook _ error found))
 
 pub returns-in_err-link-clause-next : goal.returns-in_err-link-clause-next
 returns-in_err-link-clause-next g c =

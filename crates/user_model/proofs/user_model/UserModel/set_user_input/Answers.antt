@@ -12,7 +12,7 @@ use Rattle.user_model.specs.Opened.{document_in}
 use Rattle.user_model.specs.Reading.{link_to, profile_at, typed}
 use Rattle.user_model.specs.Stands.{StandsFor, Moves}
 use Rattle.user_model.specs.Values.{Session}
-use Rattle.user_model.proofs.Inputs.{input_refused, input_accepted, goes_sure, goes_at, refused_moves, short_moves}
+use Rattle.user_model.proofs.Inputs.{input_refused, input_accepted, refused_moves, short_moves}
 use Rattle.edit_plans.specs.Inputs.{IsInput}
 use Rattle.user_model.proofs.Typed.{typed_input}
 use Rattle.user_model.proofs.user_model.UserModel.set_user_input.Goals as goal
@@ -27,7 +27,7 @@ returns-in_err-place-clause-next g c =
     rw (p.1, p.2) (λ state stands.
     let edit : Edit = Input c.args.sheet c.args.row c.args.column (typed state.present state.language c.args.row c.args.column c.args.value.now) in
     refused_moves edit (document_in c.self.inside.book) state error (subst (λ (seen : Session). StandsFor seen.document state) (sym c.self.view_is) stands) refl
-    (goes_sure c.args.sheet c.args.row c.args.column c.self.inside.book.workbook error found) (input_refused c.args.sheet c.args.row c.args.column c.self.inside.book.workbook _ error found))
+    (λ short. c.in_err-place.ensures.sure (ap Err short)) (input_refused c.args.sheet c.args.row c.args.column c.self.inside.book.workbook _ error found))
 
 pub returns-in_err-content-clause-next : goal.returns-in_err-content-clause-next
 returns-in_err-content-clause-next g c =
@@ -46,8 +46,7 @@ pub set_content-requires-clause-input : goal.set_content-requires-clause-input
 set_content-requires-clause-input g c =
     let row_fits : SFits w32 c.args.row = c.ranges.row in
     let column_fits : SFits w32 c.args.column = c.ranges.column in
-    let found = sym (simp to_z-of_z at (c.in_ok-place.ensures {u = _}).found) in
-    let here = goes_at c.args.sheet c.args.row c.args.column c.self.inside.book.workbook c.in_ok-place.place found in
+    let here = sym (simp to_z-of_z at (c.in_ok-place.ensures {u = _}).here) in
     let it = c.in_ok-content.ensures {u = _} in
     subst (λ (p : Position). IsInput p.row p.column c.in_ok-content.content) (sym here) (typed_input c.in_ok-place.place _ c.args.value.now c.in_ok-content.content it.value it.fits)
 
@@ -55,8 +54,7 @@ pub returns-clause-next : goal.returns-clause-next
 returns-clause-next g c = λ state stands.
     let row_fits : SFits w32 c.args.row = c.ranges.row in
     let column_fits : SFits w32 c.args.column = c.ranges.column in
-    let found = sym (simp to_z-of_z at (c.in_ok-place.ensures {u = _}).found) in
-    let here = goes_at c.args.sheet c.args.row c.args.column c.self.inside.book.workbook c.in_ok-place.place found in
+    let here = sym (simp to_z-of_z at (c.in_ok-place.ensures {u = _}).here) in
     let doc = ap (λ (seen : Session). seen.document) c.self.view_is ∙ stands.document in
     let same = (c.in_ok-content.ensures {u = _}).value ∙ (λ i. typed (doc i).book (doc i).language (sym here i).row (sym here i).column c.args.value.now) in
     subst (λ k. Moves c.set_content.result c.set_content.new.self.document (edit_of (Input c.args.sheet c.args.row c.args.column k) state)) same

@@ -43,6 +43,7 @@ fn hits_merge(sheet: &Worksheet, area: MergedCell) -> bool
 /// cell.
 pub fn free_area(sheet: &Worksheet, area: MergedCell) -> Result<MergedCell, EditError>
     ensures area { result ≡ free_area sheet.now area }
+    ensures same { IfOk result (λ free. free ≡ area) }
     ensures sure { result ≢ Err NoMemory }
 {
     if !area.is_inside() {

@@ -1,6 +1,6 @@
 -- An edit of a sheet is refused by its place alone, before its text is read.
 use Rattle.std.proofs.Common.{◌≡◌, ◌≢◌, ℕ, ℤ, false, cond, Option, Result, Ok, Err, refl, ap, sym, subst, ◌∙◌}
-use Rattle.std.specs.Prelude.{IsOk}
+use Rattle.std.specs.Prelude.{IfOk, IsOk}
 use Rattle.base_values.specs.declared.EditError.{EditError}
 use Rattle.base_values.specs.declared.EditError.TheVariants.{NoMemory}
 use Rattle.base_values.specs.declared.Position.{Position}
@@ -15,7 +15,7 @@ use Rattle.sheet_grid.specs.Sheet.{Sheet}
 use Rattle.sheet_grid.specs.Book.{Book, sheet_at, sheet_edit, with_sheet}
 use Rattle.edit_plans.specs.Edits.{Edit, changed, is_silent}
 use Rattle.edit_plans.specs.Inputs.{input_place, input_put, with_input}
-use Rattle.edit_plans.specs.ArrayInputs.{array_area, array_put, with_array}
+use Rattle.edit_plans.specs.ArrayInputs.{array_area, array_put, free_area, with_array}
 use Rattle.edit_plans.specs.Links.{link_set}
 use Rattle.user_model.specs.Document.{Document}
 use Rattle.user_model.specs.Machine.{State, edit_of, edited}
@@ -81,6 +81,19 @@ module _ (index : ℕ) (row column : ℤ) (book : Book) (link : Option Link) whe
   pub link_accepted : (place : Position) → link_goes index row column book ≡ Ok place → IsOk (link_set index row column link book)
   unfolding link_set
   link_accepted place is = accepted_there index book (λ sheet. place_of row column) with_link place is
+
+-- ---- places
+
+-- what is found is that place
+pub if_ok_along : {A E : Type 0} {x y : A} (result : Result A E) → x ≡ y → IfOk result (λ v. v ≡ x) → IfOk result (λ v. v ≡ y)
+if_ok_along (Ok v) same is = is ∙ same
+if_ok_along (Err error) same is = tt
+
+-- the sheet is there, its place is, and the rectangle may be filled
+pub array_goes_there : (index : ℕ) (r free : MergedCell) (book : Book) (sheet : Sheet) (place : Position) → Ok sheet ≡ sheet_at book index → Ok place ≡ place_of r.row r.column → Ok free ≡ free_area sheet r
+    → free ≡ r → Ok r ≡ array_goes index r book
+array_goes_there index r free book sheet place one two three same =
+    ap Ok (sym same) ∙ three ∙ (λ i. and_then (one i) (λ s. and_then (two i) (λ p. free_area s r)))
 
 -- ---- an edit that is refused before its plan is made
 

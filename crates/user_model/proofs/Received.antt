@@ -1,5 +1,5 @@
 -- How a document takes the entries of another copy's queue.
-use Rattle.std.proofs.Common.{◌≡◌, ◌≢◌, ◌⊎◌, inl, inr, ℕ, zero, suc, ◌+◌, ◌<◌, List, [], ◌∷◌, ◌++◌, length, take, drop, Result, Ok, Err, refl, sym, ap, subst, ◌∙◌, arith, length-take}
+use Rattle.std.proofs.Common.{◌≡◌, ◌≢◌, ◌⊎◌, inl, inr, ℕ, zero, suc, ◌+◌, ◌<◌, ◌≤◌, List, [], ◌∷◌, ◌++◌, length, take, drop, Result, Ok, Err, refl, sym, ap, subst, ◌∙◌, arith, length-take}
 use Rattle.std.specs.Prelude.{IsOkAnd, IsOkUnless, OnErr, OnOk}
 use Rattle.std.specs.List.{AllByRecursion}
 use Rattle.base_values.specs.declared.EditError.{EditError}
@@ -26,6 +26,13 @@ pub record Reached (entries : List QueueDiffs) (first : State) (i : ℕ) (doc : 
 pub reached_start : (entries : List QueueDiffs) (s : State) (doc : Document) → StandsFor doc s → Reached entries s 0 doc
 reached_start entries s doc stands = record { now = s; stands = stands; rest = refl; front = refl }
 
+-- behind the last entry there is none
+pub drop_all : {A : Type 0} (n : ℕ) (xs : List A) → length xs ≤ n → drop n xs ≡ []
+drop_all zero [] h = refl
+drop_all (suc n) [] h = refl
+drop_all zero (x ∷ xs) h = absurd (omega (arith, h))
+drop_all (suc n) (x ∷ xs) h = drop_all n xs (omega (arith, h))
+
 abbrev Outcome : Type 0
 Outcome = State × Result (Unit {0}) EditError
 
@@ -40,11 +47,13 @@ applied-push at [] e s now next so_far is =
     let same : s ≡ now = state_is s now so_far in
     let here : at + 0 ≡ at = omega arith in
     ap (λ (r : Result State EditError). go_on s r (λ x. (x, Ok tt))) (ap (received at e) same ∙ ap (λ n. received n e now) (sym here) ∙ is)
-applied-push at (x ∷ xs) e s now next so_far is = go (received at x s) so_far
+applied-push at (x ∷ xs) e s now next so_far is =
+    go (λ y h. applied-push (at + 1) xs e y now next h (ap (λ n. received n e now) (omega arith) ∙ is)) (received at x s) so_far
   where
-    go : (r : Result State EditError) → go_on s r (applied_from (at + 1) xs) ≡ (now, Ok tt) → go_on s r (applied_from (at + 1) (xs ++ e ∷ [])) ≡ (next, Ok tt)
-    go (Ok y) h = applied-push (at + 1) xs e y now next h (ap (λ n. received n e now) (omega arith) ∙ is)
-    go (Err error) h = never_ok error (ap (λ (p : Outcome). p.1) h)
+    go : ((y : State) → applied_from (at + 1) xs y ≡ (now, Ok tt) → applied_from (at + 1) (xs ++ e ∷ []) y ≡ (next, Ok tt))
+        → (r : Result State EditError) → go_on s r (applied_from (at + 1) xs) ≡ (now, Ok tt) → go_on s r (applied_from (at + 1) (xs ++ e ∷ [])) ≡ (next, Ok tt)
+    go rest (Ok y) h = rest y h
+    go rest (Err error) h = never_ok error (ap (λ (p : Outcome). p.1) h)
 
 module _ (entries : List QueueDiffs) (first : State) (i : ℕ) (doc : Document) (reached : Reached entries first i doc) where
   module _ (e : QueueDiffs) (here : drop i entries ≡ e ∷ drop (i + 1) entries) where
@@ -96,15 +105,17 @@ still_made Fits first old new same (inr other) = inr (same ∙ other)
 
 -- ---- entries that lead to a later workbook
 
-applied_led : (at : ℕ) (entries : List QueueDiffs) (s : State) (later : Book) → replayed_from at s.present entries ≡ Ok later
-    → ((applied_from at entries s).1 ≡ Ok tt) × ((applied_from at entries s).0.present ≡ later)
+abbrev IsLed : Outcome → Book → Type 0
+IsLed outcome later = (outcome.1 ≡ Ok tt) × (outcome.0.present ≡ later)
+
+applied_led : (at : ℕ) (entries : List QueueDiffs) (s : State) (later : Book) → replayed_from at s.present entries ≡ Ok later → IsLed (applied_from at entries s) later
 applied_led at [] s later is = (refl, cc)
-applied_led at (entry ∷ entries) s later is = go (in_entry at (follow entry.kind s.present entry.list)) is
+applied_led at (entry ∷ entries) s later is = go (λ t led. applied_led (at + 1) entries t later led) (in_entry at (follow entry.kind s.present entry.list)) is
   where
-    go : (r : Result Book EditError) → and_then r (λ next. replayed_from (at + 1) next entries) ≡ Ok later
-        → ((go_on s (map_ok (outside s) r) (applied_from (at + 1) entries)).1 ≡ Ok tt) × ((go_on s (map_ok (outside s) r) (applied_from (at + 1) entries)).0.present ≡ later)
-    go (Ok next) e = applied_led (at + 1) entries (outside s next) later e
-    go (Err error) e = absurd (let never : ◌≡◌ {A = Result Book EditError} (Err error) (Ok later) = e in cc)
+    go : ((t : State) → replayed_from (at + 1) t.present entries ≡ Ok later → IsLed (applied_from (at + 1) entries t) later)
+        → (r : Result Book EditError) → and_then r (λ next. replayed_from (at + 1) next entries) ≡ Ok later → IsLed (go_on s (map_ok (outside s) r) (applied_from (at + 1) entries)) later
+    go rest (Ok next) e = rest (outside s next) e
+    go rest (Err error) e = absurd (let never : ◌≡◌ {A = Result Book EditError} (Err error) (Ok later) = e in cc)
 
 module _ (entries : List QueueDiffs) (s : State) (later : Book) (new : Document) (led : replayed s.present entries ≡ Ok later) where
   led_there : (result : Result (Unit {0}) EditError) → Leaves result new entries s → OnOk result (new.book ≡ later)

@@ -1,5 +1,5 @@
-ghost use Rattle.std.specs.Prelude.{◌≡◌, ◌≢◌, true, Err, IfOk, IsOkUnless};
-ghost use Rattle.base_values.specs.Answers.{map_ok};
+ghost use Rattle.std.specs.Prelude.{◌≡◌, ◌≢◌, true, string_bytes, Err, IfOk, IsOkUnless};
+ghost use Rattle.base_values.specs.Answers.{Returns, map_ok};
 ghost use Rattle.base_values.specs.Places.{IsPlace};
 ghost use Rattle.base_values.specs.declared.EditError.TheVariants.{NoMemory};
 ghost use Rattle.base_axis.specs.Rectangles.{anchor_place};
@@ -10,13 +10,13 @@ ghost use Rattle.cell_content.specs.Fitting.{fits_at, tree_fits_at};
 ghost use Rattle.cell_content.specs.KeptContent.{IsKeptContent};
 ghost use Rattle.cell_input.specs.Inputs.{input_of};
 ghost use Rattle.user_model.specs.Places.{array_goes, input_goes, link_goes};
-ghost use Rattle.user_model.specs.Reading.{link_to, profile_at, rectangle, rectangle_of, without_sign};
+ghost use Rattle.user_model.specs.Reading.{content_text, link_to, profile_at, rectangle, rectangle_of, without_sign};
 
 use base_axis::{Area, MergedCell};
 use base_shared::Shared;
 use base_tables::{Language, Locale};
 use base_values::{EditError, Position, Text, place_of};
-use cell_input::read_input;
+use cell_input::{print_content, read_input};
 use edit_plans::{free_area, free_place};
 use formula_read::read_formula;
 use formula_tree::{CellReferenceRC, Node};
@@ -63,6 +63,32 @@ pub(crate) fn context_at(alloc: Global, place: Position) -> CellReferenceRC
         sheet: Text::new(String::new(alloc)),
         row: place.row,
         column: place.column,
+    }
+}
+
+/// The text that the cell at a row and a column of the sheet at an index shows for editing.
+pub(crate) fn content_text(
+    alloc: Global,
+    workbook: &Workbook,
+    language: Language,
+    sheet: u32,
+    row: i32,
+    column: i32,
+) -> Result<String, EditError>
+    ensures { Returns (map_ok string_bytes result) (content_text sheet row column workbook.now language) }
+{
+    let found = workbook.worksheet(sheet)?;
+    let cell = found.shared_cell(row, column)?;
+    let context = context_at(alloc, Position { row, column });
+    match cell {
+        Some(cell) => print_content(
+            alloc,
+            &cell.get().content,
+            &context,
+            workbook.locale(),
+            language,
+        ),
+        None => Ok(String::new(alloc)),
     }
 }
 

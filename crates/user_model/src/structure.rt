@@ -4,11 +4,13 @@ ghost use Rattle.base_values.specs.Answers.{Returns};
 ghost use Rattle.base_axis.specs.Rectangles.{holds};
 ghost use Rattle.sheet_grid.specs.Arrays.{arrays_of};
 ghost use Rattle.sheet_grid.specs.Computed.{value_at};
+ghost use Rattle.user_model.specs.Reading.{content_in};
 ghost use Rattle.user_model.specs.Structure.{extent_of, dynamic_at, dynamics_of, in_array, structure_at, structure_in};
 
 use base_axis::MergedCell;
-use base_values::{EditError, Position, place_of};
-use sheet_grid::{Computed, Content, Workbook, Worksheet, array_at};
+use base_shared::Shared;
+use base_values::{EditError, Position};
+use sheet_grid::{Cell, Computed, Content, Workbook, Worksheet, array_at};
 
 /// How a cell stands to the arrays of its sheet. Widths are in columns, heights in rows.
 #[derive(Clone, Copy, Debug, PartialEq, Eq)]
@@ -106,6 +108,21 @@ fn structure_in(
     }
 }
 
+/// A place with a cell, or with none.
+fn structure_of(
+    values: &Computed,
+    sheet: &Worksheet,
+    place: Position,
+    cell: &Option<Shared<Cell>>,
+) -> CellArrayStructure
+    ensures { result ≡ structure_in values.now sheet.now place (content_in cell.now) }
+{
+    match cell {
+        Some(cell) => structure_in(values, sheet, place, &cell.get().content),
+        None => child_at(values, sheet, place),
+    }
+}
+
 /// How the cell at a row and a column of the sheet at an index stands to the arrays of the sheet.
 pub(crate) fn structure_at(
     values: &Computed,
@@ -117,9 +134,7 @@ pub(crate) fn structure_at(
     ensures { Returns result (structure_at sheet row column values.now workbook.now) }
 {
     let found = workbook.worksheet(sheet)?;
-    let place = place_of(row, column)?;
-    match found.shared_cell(place.row, place.column)? {
-        Some(cell) => Ok(structure_in(values, found, place, &cell.get().content)),
-        None => Ok(child_at(values, found, place)),
-    }
+    let cell = found.shared_cell(row, column)?;
+    let place = Position { row, column };
+    Ok(structure_of(values, found, place, &cell))
 }

@@ -1,4 +1,4 @@
-ghost use Rattle.std.specs.Prelude.{◌≡◌, ◌⊎◌, [], ◌∷◌, true, false, None, Some, Ok, Err, not, IfOk, IfErr, IfSome, IsTrue, OnOk, OnErr, IsOkUnless};
+ghost use Rattle.std.specs.Prelude.{◌≡◌, ◌⊎◌, List, [], ◌∷◌, true, false, None, Some, Ok, Err, not, IfOk, IfErr, IfSome, IsTrue, OnOk, OnErr, IsOkUnless};
 ghost use Rattle.std.specs.Prelude.{string_bytes};
 ghost use Rattle.base_values.specs.Answers.{Edits, Returns, map_ok};
 ghost use Rattle.base_axis.specs.Rectangles.{anchor_place};
@@ -29,7 +29,7 @@ ghost use Rattle.user_model.specs.Values.{IsMade, Makes, is_none_left};
 use crate::install::values_of;
 use crate::open_book::OpenBook;
 use crate::reading::{
-    context_at, find_array_place, find_input_place, find_place, link_to, read_at, read_tree_at,
+    content_text, find_array_place, find_input_place, find_place, link_to, read_at, read_tree_at,
     rectangle, rectangle_of,
 };
 use crate::recalc::{Recalc, Results};
@@ -37,8 +37,7 @@ use crate::structure::{CellArrayStructure, structure_at};
 use base_axis::{Area, Axis, ColumnAxis, MergedCell, RowAxis};
 use base_shared::Shared;
 use base_tables::{Language, get_language, get_locale, get_zone};
-use base_values::{EditError, Items, copy_of, place_of};
-use cell_input::print_content;
+use base_values::{EditError, Items, copy_of};
 use edit_plans::{plan_array, plan_input, plan_link, plan_merge, plan_unmerge};
 use formula_tree::Node;
 use line_map::EditKind;
@@ -202,20 +201,14 @@ impl<R: Recalc + Drop> UserModel<R> {
         ensures { Returns (map_ok string_bytes result) (content_text sheet row column self.now.document.book self.now.document.language) }
     {
         let book = &self.book;
-        let found = book.workbook.worksheet(sheet)?;
-        let place = place_of(row, column)?;
-        let context = context_at(book.alloc, place);
-        let locale = book.workbook.locale();
-        match found.shared_cell(row, column)? {
-            Some(cell) => print_content(
-                book.alloc,
-                &cell.get().content,
-                &context,
-                locale,
-                book.language,
-            ),
-            None => Ok(String::new(book.alloc)),
-        }
+        content_text(
+            book.alloc,
+            &book.workbook,
+            book.language,
+            sheet,
+            row,
+            column,
+        )
     }
 
     /// How the cell at a row and a column of the sheet at an index stands to the arrays of the sheet.

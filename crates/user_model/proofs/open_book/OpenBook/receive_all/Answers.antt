@@ -1,10 +1,10 @@
-use Rattle.std.proofs.Common.{◌≡◌, inl, inr, ◌+◌, ◌<◌, ◌∷◌, ◌++◌, [], List, length, drop, take, refl, sym, ap, subst, ◌∙◌, rules}
+use Rattle.std.proofs.Common.{◌≡◌, inl, inr, ◌+◌, ◌<◌, ◌≤◌, Ok, ◌∷◌, ◌++◌, [], List, length, drop, take, refl, sym, ap, subst, ◌∙◌, rules}
 use Rattle.std.proofs.lemmas.Result.{err_from_is_err_and}
 use Rattle.std.proofs.lemmas.List.{drop_more, take_more}
 use Rattle.sheet_history.specs.declared.QueueDiffs.{QueueDiffs}
 use Rattle.user_model.specs.Opened.{document_in, session_of}
 use Rattle.user_model.proofs.Moving.{edits_same, received_turns, reached_rules}
-use Rattle.user_model.proofs.Received.{reached_start, reached_next, reached_refused, reached_end, still_made}
+use Rattle.user_model.proofs.Received.{drop_all, reached_start, reached_next, reached_refused, reached_end, still_made}
 use Rattle.user_model.proofs.open_book.OpenBook.receive_all.Goals as goal
 
 pub loop-index-init : goal.loop-index-init
@@ -25,8 +25,8 @@ loop-index-preserved g c =
     let front : take (i + 1) q ≡ take i q ++ e ∷ [] = take_more q i e within ∙ ap (λ (x : QueueDiffs). take i q ++ x ∷ []) (sym c.index-queue-index.is) in (
       (λ s stands.
           let reached = c.loop-index.invariant.0 s stands in
-          let to = received_turns i e (document_in c.loop-index.self) _ c.receive.result c.receive.ensures.document reached.now reached.stands in
-          reached_next q s i (document_in c.loop-index.self) reached e here _ within front to.done),
+          let to = received_turns i e (document_in c.loop-index.self) (document_in c.receive.new.self) (Ok c.in_ok-receive.field-0) (c.in_ok-receive.ensures {u = _}).document reached.now reached.stands in
+          reached_next q s i (document_in c.loop-index.self) reached e here (document_in c.receive.new.self) within front to.done),
       inl (c.in_ok-receive.ensures {u = _}).made,
       c.receive.ensures.paused ∙ c.loop-index.invariant.2,
     )
@@ -54,7 +54,8 @@ returns-in_err-receive-clause-paused g c = c.receive.ensures.paused ∙ c.loop-i
 
 pub returns-clause-next : goal.returns-clause-next
 returns-clause-next g c = λ s stands.
-    reached_end c.args.queue.now s c.loop-index.index (document_in c.loop-index.self) (c.loop-index.invariant.0 s stands) (search rules)
+    let over : length c.args.queue.now ≤ c.loop-index.index = search rules in
+    reached_end c.args.queue.now s c.loop-index.index (document_in c.loop-index.self) (c.loop-index.invariant.0 s stands) (drop_all c.loop-index.index c.args.queue.now over)
 
 pub returns-clause-made : goal.returns-clause-made
 returns-clause-made g c = c.loop-index.invariant.1

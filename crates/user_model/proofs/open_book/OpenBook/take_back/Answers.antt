@@ -33,7 +33,7 @@ returns-clause-document g c =
     let room = c.in_ok-make_room.ensures {u = _} in
     let counted = c.undo_counted-counts.ensures in
     record {
-      done = took_back doc c.in-Some.list.now newest.0 c.make_room.new.history _ _ _ _ c.undo_counted-counts.new.history _ room.undo room.redo (sym room.undo ∙ newest.1) c.install.ensures.installed.done
+      done = took_back doc c.in-Some.list.now newest.0 c.make_room.new.history _ _ _ _ c.undo_counted-counts.new.history _ room.undo room.redo (sym room.undo ∙ newest.1) (c.in_default-install.ensures {u = _}).installed.done
           (c.in_ok-enqueue.ensures {u = _}).sent c.has_undo_step-kept.ensures counted.undo counted.redo counted.stale_undo counted.stale_redo;
       refused = tt;
     }

@@ -20,7 +20,7 @@ returns-clause-next g c =
 
 pub returns-clause-err : goal.returns-clause-err
 returns-clause-err g c =
-    same_session c.edit_lines.result c.self.inside.book _ c.self.inside.results _ _ c.self.view_is (changes_same c.edit_lines.result _ _ _ c.edit_lines.ensures.document) c.edit_lines.ensures.err
+    same_session c.edit_lines.result c.self.inside.book c.edit_lines.new.self c.self.inside.results c.edit_lines.new.results _ c.self.view_is (changes_same c.edit_lines.result _ _ _ c.edit_lines.ensures.document) c.edit_lines.ensures.err
 
 pub invariant_of-self : goal.invariant_of-self
 invariant_of-self g c =

@@ -22,7 +22,7 @@ returns-clause-next g c = λ edit s it.
 pub returns-clause-err : goal.returns-clause-err
 returns-clause-err g c =
     let any = subst (λ (seen : Session). IsAnyPlan c.args.plan seen.document) (sym c.self.view_is) c.requires in
-    same_session c.make.result c.self.inside.book _ c.self.inside.results _ _ c.self.view_is (changes_same c.make.result _ _ _ (c.make.ensures.document any.0 any.1)) c.make.ensures.err
+    same_session c.make.result c.self.inside.book c.make.new.self c.self.inside.results c.make.new.results _ c.self.view_is (changes_same c.make.result _ _ _ (c.make.ensures.document any.0 any.1)) c.make.ensures.err
 
 pub invariant_of-self : goal.invariant_of-self
 invariant_of-self g c =

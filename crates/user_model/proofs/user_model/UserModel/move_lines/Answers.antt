@@ -35,7 +35,7 @@ returns-clause-err g c =
     let first_fits : SFits w32 c.args.first = c.ranges.first in
     let count_fits : SFits w32 c.args.count = c.ranges.count in
     let delta_fits : SFits w32 c.args.delta = c.ranges.delta in
-    same_session c.move_lines.result c.self.inside.book _ c.self.inside.results _ _ c.self.view_is (changes_same c.move_lines.result _ _ _ (simp to_z-of_z at c.move_lines.ensures.document)) c.move_lines.ensures.err
+    same_session c.move_lines.result c.self.inside.book c.move_lines.new.self c.self.inside.results c.move_lines.new.results _ c.self.view_is (changes_same c.move_lines.result _ _ _ (simp to_z-of_z at c.move_lines.ensures.document)) c.move_lines.ensures.err
 
 pub invariant_of-self : goal.invariant_of-self
 invariant_of-self g c =

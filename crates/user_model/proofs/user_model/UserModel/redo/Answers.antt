@@ -22,7 +22,7 @@ returns-clause-made g c =
 
 pub returns-clause-err : goal.returns-clause-err
 returns-clause-err g c =
-    same_session c.make_again.result c.self.inside.book _ c.self.inside.results _ _ c.self.view_is (edits_same c.make_again.result _ _ _ c.make_again.ensures.document) c.make_again.ensures.err
+    same_session c.make_again.result c.self.inside.book c.make_again.new.self c.self.inside.results c.make_again.new.results _ c.self.view_is (edits_same c.make_again.result _ _ _ c.make_again.ensures.document) c.make_again.ensures.err
 
 pub invariant_of-self : goal.invariant_of-self
 invariant_of-self g c =

@@ -22,7 +22,7 @@ returns-clause-made g c =
 
 pub returns-clause-err : goal.returns-clause-err
 returns-clause-err g c =
-    same_session c.take_back.result c.self.inside.book _ c.self.inside.results _ _ c.self.view_is (edits_same c.take_back.result _ _ _ c.take_back.ensures.document) c.take_back.ensures.err
+    same_session c.take_back.result c.self.inside.book c.take_back.new.self c.self.inside.results c.take_back.new.results _ c.self.view_is (edits_same c.take_back.result _ _ _ c.take_back.ensures.document) c.take_back.ensures.err
 
 pub invariant_of-self : goal.invariant_of-self
 invariant_of-self g c =

@@ -131,14 +131,13 @@ module _ (entries : List QueueDiffs) (s : State) (later : Book) (new : Document)
   led_only (Err error) leaves = absurd (refused_never error leaves.0)
 
 -- bytes that carry the workbook lead to the later one, and memory alone stops them
-module _ (result : Result (Unit {0}) EditError) (inside seen : Session) (new : Document) (s : State) (bytes : List ℕ) (same : inside ≡ seen) (stands : StandsFor inside.document s)
+module _ (result : Result (Unit {0}) EditError) (old new : Document) (s : State) (bytes : List ℕ) (stands : StandsFor old s)
     (leaves : (entries : List QueueDiffs) → FitsQueue entries → bytes ≡ spell_queue entries → Leaves result new entries s) where
-  from_there : (entries : List QueueDiffs) (later : Book) → replayed seen.document.book entries ≡ Ok later → replayed s.present entries ≡ Ok later
-  from_there entries later led =
-      subst (λ (book : Book). replayed book entries ≡ Ok later) (ap (λ (x : Session). x.document.book) (sym same) ∙ ap (λ (d : Document). d.book) stands.document) led
+  from_there : (entries : List QueueDiffs) (later : Book) → replayed old.book entries ≡ Ok later → replayed s.present entries ≡ Ok later
+  from_there entries later led = subst (λ (book : Book). replayed book entries ≡ Ok later) (ap (λ (d : Document). d.book) stands.document) led
 
-  pub carried_there : WhereCarried bytes seen.document.book (λ later. OnOk result (new.book ≡ later))
+  pub carried_there : WhereCarried bytes old.book (λ later. OnOk result (new.book ≡ later))
   carried_there = λ entries later fits carries. led_there entries s later new (from_there entries later carries.led) result (leaves entries fits carries.spelled)
 
-  pub carried_only : WhereCarried bytes seen.document.book (λ later. IsOkUnless result NoMemory)
+  pub carried_only : WhereCarried bytes old.book (λ later. IsOkUnless result NoMemory)
   carried_only = λ entries later fits carries. led_only entries s later new (from_there entries later carries.led) result (leaves entries fits carries.spelled)

@@ -12,10 +12,9 @@ use Rattle.cell_content.specs.Fitting.{tree_fits_at}
 use Rattle.edit_plans.specs.Edits.{Edit}
 use Rattle.edit_plans.specs.Edits.Edit.{ArrayInput}
 use Rattle.user_model.specs.Machine.{State, edit_of}
-use Rattle.user_model.specs.Opened.{document_in}
 use Rattle.user_model.specs.Places.{array_goes}
 use Rattle.user_model.specs.Reading.{formula_typed, profile_at, rectangle, without_sign}
-use Rattle.user_model.specs.Stands.{StandsFor, Moves}
+use Rattle.user_model.specs.Stands.{Moves}
 use Rattle.user_model.specs.Values.{Session}
 use Rattle.user_model.proofs.Inputs.{array_refused, array_accepted, refused_moves, short_moves}
 use Rattle.user_model.proofs.user_model.UserModel.set_user_array_formula.Goals as goal
@@ -26,16 +25,17 @@ returns-in_err-place-clause-next g c =
     let column_fits : SFits w32 c.args.column = c.ranges.column in
     let width_fits : SFits w32 c.args.width = c.ranges.width in
     let height_fits : SFits w32 c.args.height = c.ranges.height in
-    let book = c.self.inside.book.workbook in
+    let doc = c.args.self.now.document in
     let r = rectangle c.args.row c.args.column c.args.width c.args.height in
     let error = c.in_err-place.field-0.0 in
     let area_is : c.rectangle-area.result ≡ r = simp to_z-of_z at c.rectangle-area.ensures in
-    let found : array_goes c.args.sheet r book ≡ Err error = subst (λ (a : MergedCell). array_goes c.args.sheet a book ≡ Err error) area_is (sym c.in_err-place.ensures.found) in
+    let found : array_goes c.args.sheet r doc.book ≡ Err error =
+    subst (λ (seen : Session). array_goes c.args.sheet r seen.document.book ≡ Err error) c.self.view_is
+    (subst (λ (a : MergedCell). array_goes c.args.sheet a c.self.inside.book.workbook ≡ Err error) area_is (sym c.in_err-place.ensures.found)) in
     let p = err_from_is_err_and c.from_residual.result c.from_residual.ensures.1 in
     rw (p.1, p.2) (λ state stands.
     let edit : Edit = ArrayInput c.args.sheet r (formula_typed state.present state.language c.args.row c.args.column c.args.formula.now) in
-    refused_moves edit (document_in c.self.inside.book) state error (subst (λ (seen : Session). StandsFor seen.document state) (sym c.self.view_is) stands) refl
-    (λ short. c.in_err-place.ensures.sure (ap Err short)) (array_refused c.args.sheet r book _ error found))
+    refused_moves edit doc state error stands refl (λ short. c.in_err-place.ensures.sure (ap Err short)) (array_refused c.args.sheet r doc.book _ error found))
 
 pub returns-in_err-tree-clause-next : goal.returns-in_err-tree-clause-next
 returns-in_err-tree-clause-next g c =
@@ -43,17 +43,17 @@ returns-in_err-tree-clause-next g c =
     let column_fits : SFits w32 c.args.column = c.ranges.column in
     let width_fits : SFits w32 c.args.width = c.ranges.width in
     let height_fits : SFits w32 c.args.height = c.ranges.height in
-    let book = c.self.inside.book.workbook in
+    let doc = c.args.self.now.document in
     let r = rectangle c.args.row c.args.column c.args.width c.args.height in
     let area_is : c.rectangle-area.result ≡ r = simp to_z-of_z at c.rectangle-area.ensures in
-    let found : array_goes c.args.sheet r book ≡ Ok r = subst (λ (a : MergedCell). array_goes c.args.sheet a book ≡ Ok a) area_is (sym (c.in_ok-place.ensures {u = _}).found) in
+    let found : array_goes c.args.sheet r doc.book ≡ Ok r =
+    subst (λ (seen : Session). array_goes c.args.sheet r seen.document.book ≡ Ok r) c.self.view_is
+    (subst (λ (a : MergedCell). array_goes c.args.sheet a c.self.inside.book.workbook ≡ Ok a) area_is (sym (c.in_ok-place.ensures {u = _}).found)) in
     let short : c.in_err-tree.field-0.0 ≡ NoMemory = c.in_err-tree.ensures.memory in
     let p = err_from_is_err_and c.from_residual-in_err-tree.result c.from_residual-in_err-tree.ensures.1 in
     rw (p.1, p.2) (λ state stands.
     let edit : Edit = ArrayInput c.args.sheet r (formula_typed state.present state.language c.args.row c.args.column c.args.formula.now) in
-    subst (λ (e : EditError). Moves (Err e) (document_in c.self.inside.book) (edit_of edit state)) (sym short)
-    (short_moves edit (document_in c.self.inside.book) state (subst (λ (seen : Session). StandsFor seen.document state) (sym c.self.view_is) stands) refl
-    (array_accepted c.args.sheet r book _ r found)))
+    subst (λ (e : EditError). Moves {T = Unit {0}} (Err e) doc (edit_of edit state)) (sym short) (short_moves edit doc state stands refl (array_accepted c.args.sheet r doc.book _ r found)))
 
 pub set_array-requires-clause-fits : goal.set_array-requires-clause-fits
 set_array-requires-clause-fits g c = subst (λ (p : Position). IsTrue (tree_fits_at p c.in_ok-tree.tree)) (c.in_ok-place.ensures {u = _}).here (c.in_ok-tree.ensures {u = _}).fits
@@ -68,7 +68,10 @@ returns-clause-next g c = λ state stands.
     let area_is : c.rectangle-area.result ≡ r = simp to_z-of_z at c.rectangle-area.ensures in
     let here = (c.in_ok-place.ensures {u = _}).here ∙ ap anchor_place area_is in
     let doc = ap (λ (seen : Session). seen.document) c.self.view_is ∙ stands.document in
-    let same = (c.in_ok-tree.ensures {u = _}).value ∙ (λ i. formula_of (profile_at (here i) (doc i).book.locale (doc i).language) (without_sign c.args.formula.now)) in
+    let same =
+    (c.in_ok-tree.ensures {u = _}).value
+    ∙ (λ i. formula_of (profile_at c.in_ok-place.place (c.locale.ensures i) c.self.inside.book.language) (without_sign c.args.formula.now))
+    ∙ (λ i. formula_of (profile_at (here i) (doc i).book.locale (doc i).language) (without_sign c.args.formula.now)) in
     subst
     (λ (a : MergedCell). Moves c.set_array.result c.set_array.new.self.document (edit_of (ArrayInput c.args.sheet a (formula_typed state.present state.language c.args.row c.args.column c.args.formula.now)) state))
     area_is

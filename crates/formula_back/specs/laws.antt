@@ -1,1 +1,3 @@
+pub mod LeafEquations
+pub mod LeafLaws
 pub mod MovedNumbers

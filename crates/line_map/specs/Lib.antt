@@ -1,6 +1,7 @@
 pub mod Way
 pub mod Trial
 pub mod Trees
+pub mod MustKeep
 pub mod Contents
 pub mod MergedCells
 pub mod Merges

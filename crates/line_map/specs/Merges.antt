@@ -11,7 +11,8 @@ use Rattle.line_map.specs.Way.{Way}
 -- a merge on the lines where the map leaves it, across the same cross lines, if it is not dropped
 abbrev pub merge_carried : Way → MergedCell → Option MergedCell
 merge_carried w merge =
-    if_there (w.moves.merged (first_line w.along merge) (last_line w.along merge) (across w.along merge)) (λ lines. Some (with_lines w.along merge lines.0 lines.1))
+    if_there (w.moves.merged (first_line w.along merge) (last_line w.along merge) (across w.along merge))
+    (λ lines. Some (with_lines w.along merge lines.0 lines.1))
 
 -- on the edited sheet the merges that are left, in their order. On another one they stay
 unfoldable pub merges_carried : Way → List MergedCell → List MergedCell

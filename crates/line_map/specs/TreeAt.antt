@@ -1,8 +1,9 @@
 -- A tree with its own place and the names of its sheet and of the edited one.
-use Rattle.std.specs.Prelude.{◌≡◌, true, Option, Some, None, if◌then◌else◌}
+use Rattle.std.specs.Prelude.{◌≡◌, ℕ, true, List, Option, Some, None, if◌then◌else◌}
 use Rattle.base_values.specs.declared.Position.{Position}
 use Rattle.base_values.specs.Places.{IsPlace}
 use Rattle.base_tables.specs.Folding.{same_folded}
+use Rattle.formula_tree.specs.declared.Node.{Node}
 use Rattle.formula_tree.specs.Placed.{is_placed}
 use Rattle.line_map.specs.declared.tree_at.TreeAt.{TreeAt}
 use Rattle.line_map.specs.contracts.tree_at.TreeAtPartialEq.TheImpl as equality
@@ -10,6 +11,10 @@ use Rattle.line_edits.specs.Moves.{place_image}
 use Rattle.line_map.specs.Trees.{tree_carried}
 use Rattle.line_map.specs.Trial.{part_by_trial}
 use Rattle.line_map.specs.Way.{Way}
+
+-- a tree at a place of a sheet with this name
+abbrev pub tree_at : Node → List ℕ → Position → List ℕ → TreeAt
+tree_at node sheet place edited = record { node = node; sheet = sheet; place = place; edited = edited }
 
 -- where the tree's cell goes: on the edited sheet along the map. Names are compared by folding
 unfoldable pub tree_goes : Way → TreeAt → Option Position

@@ -2,12 +2,17 @@ pub mod Equals
 pub mod WayLaws
 pub mod TrialLaws
 pub mod TreeLaws
+pub mod CornersBack
+pub mod MustKeepLaws
+pub mod MoveLaws
 pub mod ContentLaws
 pub mod MergedCellLaws
 pub mod MergeLaws
 pub mod ListLaws
+pub mod Listed
 pub mod MapLaws
 pub mod AttributeLaws
 pub mod TreeAtEquals
 pub mod TreeAtLaws
 pub mod AloneLaws
+pub mod KeptAloneLaws

@@ -13,10 +13,11 @@ ghost use Rattle.base_maps.specs.laws.Gathering.{with_made};
 ghost use Rattle.line_map.specs.Way.{way};
 
 use crate::follower::Follower;
+use crate::list::put_last;
 use crate::route::Route;
 use base_axis::{Axis, AxisMap};
 use base_maps::NumberMap;
-use base_values::{EditError, Exact, copy_of};
+use base_values::{EditError, Exact, Items, copy_of};
 use line_edits::{Block, LineMap, within};
 use std::alloc::Global;
 
@@ -27,21 +28,19 @@ fn goes_along<A: Axis, B: Axis, M: LineMap<A>>(route: &Route<'_, A, M>) -> bool
     route.is_edited && A::of(B::of(true, false), B::of(false, true))
 }
 
-/// Puts one entry where its line goes.
-fn move_entry<A: Axis, B: Axis, M: LineMap<A>, V: Exact + Drop>(
+/// One entry where its line goes.
+fn moved_entry<A: Axis, M: LineMap<A>, V: Exact + Drop>(
     lines: &M,
     line: i32,
     value: &V,
-    made: &mut AxisMap<B, V>,
-) -> Result<(), EditError>
-    requires { A.along.last ≡ B.along.last }
-    ensures made { OnOk result (made.new ≡ with_made (entry_made (M.moves lines.now).to (λ _ _ x. Some x) (line, value.now)) made.old) }
+) -> Result<Option<(i32, V)>, EditError>
+    ensures entry { IfOk result (λ entry. entry ≡ entry_made (M.moves lines.now).to (λ _ _ x. Some x) (line, value.now)) }
     ensures only { IsOkUnless result NoMemory }
 {
-    if let Some(to) = lines.image(line) {
-        made.insert(to, copy_of(value)?)?;
+    match lines.image(line) {
+        Some(to) => Ok(Some((to, copy_of(value)?))),
+        None => Ok(None),
     }
-    Ok(())
 }
 
 /// The entries of lines, each where its line goes.
@@ -55,11 +54,11 @@ fn moved_lines<A: Axis, B: Axis, M: LineMap<A>, V: Exact + Drop>(
     ensures map { IfOk result (λ made. made ≡ moved_map (M.moves lines.now).to map.now) }
     ensures only { IsOkUnless result NoMemory }
 {
-    let mut made = AxisMap::new(alloc);
+    let mut made = Items::empty(alloc);
     for (line, value) in map.iter() {
-        move_entry(lines, *line, value, &mut made)?;
+        put_last(moved_entry(lines, *line, value)?, &mut made)?;
     }
-    Ok(made)
+    AxisMap::of_entries(alloc, made)
 }
 
 /// Keeps one entry, if its line goes nowhere.

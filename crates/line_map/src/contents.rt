@@ -1,8 +1,12 @@
-ghost use Rattle.std.specs.Prelude.{◌≡◌, IfOk, IsOkUnless};
+ghost use Rattle.std.specs.Prelude.{◌≡◌, IfOk, IsOkUnless, Some};
 ghost use Rattle.base_values.specs.declared.EditError.TheVariants.{NoMemory};
+ghost use Rattle.cell_content.specs.Lens.{tree_of};
+ghost use Rattle.line_map.specs.Contents.{cell_carried};
+ghost use Rattle.line_map.specs.Way.{way};
 
 use crate::follower::Follower;
 use crate::route::Route;
+use crate::tree::{carried_node, stays};
 use base_axis::Axis;
 use base_shared::Shared;
 use base_values::{EditError, Exact, copy_of};
@@ -84,7 +88,25 @@ fn with_content(
     Ok(Shared::new(alloc, Cell { content, style })?)
 }
 
-/// Of a cell the content follows, and the style stays. A cell without a formula is shared.
+/// A cell whose formula has this tree, carried along. One that stays the same is shared.
+fn carried_cell<A: Axis, M: LineMap<A>>(
+    alloc: Global,
+    route: &Route<'_, A, M>,
+    cell: &Shared<Cell>,
+    tree: &Node,
+) -> Result<Shared<Cell>, EditError>
+    requires { tree_of cell.now.content ≡ Some tree.now }
+    ensures cell { IfOk result (λ carried. carried ≡ cell_carried (way route.now) cell.now) }
+    ensures only { IsOkUnless result NoMemory }
+{
+    if stays(route, tree) {
+        return copy_of(cell);
+    }
+    let tree = Shared::new(alloc, carried_node(alloc, route, tree)?)?;
+    with_content(alloc, cell, with_tree(&cell.get().content, tree)?)
+}
+
+/// Of a cell the content follows, and the style stays. A cell that stays the same is shared.
 impl<A: Axis> Follower<A> for Shared<Cell> {
     ghost use Rattle.std.specs.Prelude.{⊤};
     ghost use Rattle.line_map.specs.Contents.{CellLies, cell_carried, cell_part, cell_restored};
@@ -108,7 +130,7 @@ impl<A: Axis> Follower<A> for Shared<Cell> {
         route: &Route<'_, A, M>,
     ) -> Result<Shared<Cell>, EditError> {
         match tree_of(&self.get().content) {
-            Some(_) => with_content(alloc, self, self.get().content.carry(alloc, route)?),
+            Some(tree) => carried_cell(alloc, route, self, tree.get()),
             None => copy_of(self),
         }
     }

@@ -66,7 +66,7 @@ pub trait Follow<A: Axis>: Exact + Drop {
 }
 
 /// The route of an edit on the edited sheet, whose name is left open.
-fn route_of<'e, A: Axis>(
+pub(crate) fn edit_route<'e, A: Axis>(
     edit: &'e LineEdit<A>,
     opposite: &'e LineEdit<A>,
 ) -> Route<'e, A, LineEdit<A>>
@@ -109,12 +109,12 @@ impl<A: Axis, F: Follower<A> + Exact> Follow<A> for F {
 
     fn follow(&self, alloc: Global, edit: &LineEdit<A>) -> Result<F, EditError> {
         let opposite = edit.opposite();
-        self.carry(alloc, &route_of(edit, &opposite))
+        self.carry(alloc, &edit_route(edit, &opposite))
     }
 
     fn kept(&self, alloc: Global, edit: &LineEdit<A>) -> Result<Option<F::Part>, EditError> {
         let opposite = edit.opposite();
-        self.part(alloc, &route_of(edit, &opposite))
+        self.part(alloc, &edit_route(edit, &opposite))
     }
 
     fn regain(
@@ -124,7 +124,7 @@ impl<A: Axis, F: Follower<A> + Exact> Follow<A> for F {
         kept: &Option<F::Part>,
     ) -> Result<F, EditError> {
         let opposite = edit.opposite();
-        let route = route_of(edit, &opposite);
+        let route = edit_route(edit, &opposite);
         match kept {
             Some(part) => self.restore(alloc, &route, part),
             None => self.carry(alloc, &route.back()),

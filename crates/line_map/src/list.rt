@@ -1,4 +1,5 @@
-ghost use Rattle.std.specs.Prelude.{◌≡◌, IfOk, IfSome, IsOkUnless};
+ghost use Rattle.std.specs.Prelude.{◌≡◌, ◌++◌, [], IfOk, IfSome, IsOkUnless, OnOk};
+ghost use Rattle.std.specs.List.{cons_option};
 ghost use Rattle.base_values.specs.declared.EditError.TheVariants.{NoMemory};
 ghost use Rattle.base_maps.specs.Carried.{settled};
 ghost use Rattle.line_map.specs.Way.{back, way};
@@ -26,6 +27,17 @@ fn settled<A: Axis, M: LineMap<A>, F: Follower<A>>(
         Some(part) => item.restore(alloc, route, part),
         None => item.carry(alloc, &route.back()),
     }
+}
+
+/// Puts an item behind the others, if there is one.
+pub(crate) fn put_last<T: Drop>(item: Option<T>, items: &mut Items<T>) -> Result<(), EditError>
+    ensures items { OnOk result (items.new ≡ items.old ++ cons_option item []) }
+    ensures only { IsOkUnless result NoMemory }
+{
+    if let Some(item) = item {
+        items.push(item)?;
+    }
+    Ok(())
 }
 
 /// Each item of a list is carried along.

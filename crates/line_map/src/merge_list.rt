@@ -1,11 +1,12 @@
-ghost use Rattle.std.specs.Prelude.{◌≡◌, ◌++◌, [], IfOk, IfSome, IsOkUnless, OnOk};
-ghost use Rattle.std.specs.List.{cons_option, filter_map};
+ghost use Rattle.std.specs.Prelude.{◌≡◌, IfOk, IfSome, IsOkUnless};
+ghost use Rattle.std.specs.List.{filter_map};
 ghost use Rattle.base_axis.specs.Rectangles.{IsInside};
 ghost use Rattle.base_values.specs.declared.EditError.TheVariants.{NoMemory};
 ghost use Rattle.line_map.specs.Merges.{merge_carried, merges_carried, MergesLie};
 ghost use Rattle.line_map.specs.Way.{way};
 
 use crate::follower::Follower;
+use crate::list::put_last;
 use crate::route::Route;
 use base_axis::{Axis, MergeList, MergedCell};
 use base_values::{EditError, Items, copy_of};
@@ -23,17 +24,6 @@ fn carried_merge<A: Axis, M: LineMap<A>>(
     let (first, last) = merge.lines::<A>();
     let (first, last) = route.map.merged(first, last, merge.across::<A>())?;
     Some(merge.with_lines::<A>(first, last))
-}
-
-/// Puts a merge behind the others, if there is one.
-fn put_last(merge: Option<MergedCell>, merges: &mut Items<MergedCell>) -> Result<(), EditError>
-    ensures merges { OnOk result (merges.new ≡ merges.old ++ cons_option merge []) }
-    ensures only { IsOkUnless result NoMemory }
-{
-    if let Some(merge) = merge {
-        merges.push(merge)?;
-    }
-    Ok(())
 }
 
 /// The merges of a sheet, carried along: those that are left.

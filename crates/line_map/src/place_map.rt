@@ -12,10 +12,11 @@ ghost use Rattle.line_map.specs.Maps.{AllLie, KeysInside, PartsFit, places_carri
 ghost use Rattle.line_map.specs.Way.{at, back, place_goes, way};
 
 use crate::follower::Follower;
+use crate::list::put_last;
 use crate::route::Route;
 use base_axis::Axis;
 use base_maps::PositionMap;
-use base_values::{EditError, Exact, PlaceMap, Position, copy_of};
+use base_values::{EditError, Exact, Items, PlaceMap, Position, copy_of};
 use line_edits::LineMap;
 use std::alloc::{AllocError, Global};
 
@@ -40,24 +41,22 @@ impl<P: Drop> Parts for PositionMap<P> {
     }
 }
 
-/// Carries one entry along, to where its place goes.
-fn carry_entry<A: Axis, M: LineMap<A>, F: Follower<A>>(
+/// One entry carried along, to where its place goes.
+fn carried_entry<A: Axis, M: LineMap<A>, F: Follower<A>>(
     alloc: Global,
     route: &Route<'_, A, M>,
     from: Position,
     item: &F,
-    made: &mut PlaceMap<F>,
-) -> Result<(), EditError>
+) -> Result<Option<(Position, F)>, EditError>
     requires inside { IsPlace from }
     requires lies { (to : Position) → place_goes (way route.now) from ≡ Some to → F.Lies (at (way route.now) from to) item.now }
-    ensures made { OnOk result (made.new ≡ with_made (entry_made (place_goes (way route.now)) (λ p q x. Some (F.carry_of (at (way route.now) p q) x)) (from, item.now)) made.old) }
+    ensures entry { IfOk result (λ entry. entry ≡ entry_made (place_goes (way route.now)) (λ p q x. Some (F.carry_of (at (way route.now) p q) x)) (from, item.now)) }
     ensures only { IsOkUnless result NoMemory }
 {
-    if let Some(to) = route.goes(from) {
-        let carried = item.carry(alloc, &route.at(from, to))?;
-        made.insert(to, carried)?;
+    match route.goes(from) {
+        Some(to) => Ok(Some((to, item.carry(alloc, &route.at(from, to))?))),
+        None => Ok(None),
     }
-    Ok(())
 }
 
 /// The entries of a map, each carried along to where its place goes.
@@ -71,11 +70,11 @@ pub fn carried_places<A: Axis, M: LineMap<A>, F: Follower<A>>(
     ensures only { IsOkUnless result NoMemory }
 {
     route.is_way();
-    let mut made = PlaceMap::new(alloc);
+    let mut made = Items::empty(alloc);
     for (from, item) in map.iter() {
-        carry_entry(alloc, route, *from, item, &mut made)?;
+        put_last(carried_entry(alloc, route, *from, item)?, &mut made)?;
     }
-    Ok(made)
+    PlaceMap::of_entries(alloc, made)
 }
 
 /// Keeps one entry, if its place goes nowhere.
@@ -149,31 +148,29 @@ pub fn kept_parts<A: Axis, M: LineMap<A>, F: Follower<A>>(
     Ok(parts)
 }
 
-/// Brings one entry back to where its place came from: restored from its part, or carried back.
-fn restore_entry<A: Axis, M: LineMap<A>, F: Follower<A>, L: Parts<Part = F::Part>>(
+/// One entry brought back to where its place came from: restored from its part, or carried back.
+fn restored_entry<A: Axis, M: LineMap<A>, F: Follower<A>, L: Parts<Part = F::Part>>(
     alloc: Global,
     route: &Route<'_, A, M>,
     parts: &L,
     to: Position,
     item: &F,
-    made: &mut PlaceMap<F>,
-) -> Result<(), EditError>
+) -> Result<Option<(Position, F)>, EditError>
     requires inside { IsPlace to }
     requires lies { (from : Position) → place_goes (back (way route.now)) to ≡ Some from → F.Lies (at (back (way route.now)) to from) item.now }
     requires fit { PartsFit F.Fits (way route.now) (L.part_at parts.now) }
-    ensures made { OnOk result (made.new ≡ with_made (entry_made (place_goes (back (way route.now))) (λ q p x. Some (settled (F.carry_of (back (at (way route.now) p q))) (F.restore_of (at (way route.now) p q)) (L.part_at parts.now p) x)) (to, item.now)) made.old) }
+    ensures entry { IfOk result (λ entry. entry ≡ entry_made (place_goes (back (way route.now))) (λ q p x. Some (settled (F.carry_of (back (at (way route.now) p q))) (F.restore_of (at (way route.now) p q)) (L.part_at parts.now p) x)) (to, item.now)) }
     ensures only { IsOkUnless result NoMemory }
 {
     route.is_way();
-    if let Some(from) = route.back().goes(to) {
-        let route = route.at(from, to);
-        let restored = match parts.part(from) {
-            Some(part) => item.restore(alloc, &route, part)?,
-            None => item.carry(alloc, &route.back())?,
-        };
-        made.insert(from, restored)?;
+    let Some(from) = route.back().goes(to) else {
+        return Ok(None);
+    };
+    let route = route.at(from, to);
+    match parts.part(from) {
+        Some(part) => Ok(Some((from, item.restore(alloc, &route, part)?))),
+        None => Ok(Some((from, item.carry(alloc, &route.back())?))),
     }
-    Ok(())
 }
 
 /// The entries of a map that was carried along, each where its place came from: restored from the
@@ -190,11 +187,11 @@ pub fn restored_places<A: Axis, M: LineMap<A>, F: Follower<A>, L: Parts<Part = F
     ensures only { IsOkUnless result NoMemory }
 {
     route.is_way();
-    let mut made = PlaceMap::new(alloc);
+    let mut made = Items::empty(alloc);
     for (to, item) in map.iter() {
-        restore_entry(alloc, route, parts, *to, item, &mut made)?;
+        put_last(restored_entry(alloc, route, parts, *to, item)?, &mut made)?;
     }
-    Ok(made)
+    PlaceMap::of_entries(alloc, made)
 }
 
 /// Puts a copy of an item at a place.

@@ -1,17 +1,19 @@
 ghost use Rattle.std.specs.Prelude.{◌≡◌, IfOk, IfSome, IsOkUnless, IsTrue};
+ghost use Rattle.base_tables.specs.Folding.{same_folded};
 ghost use Rattle.base_values.specs.Places.{IsPlace};
 ghost use Rattle.base_values.specs.declared.EditError.TheVariants.{NoMemory};
 ghost use Rattle.formula_tree.specs.OnSheet.{is_on_sheet};
-ghost use Rattle.line_map.specs.Trees.{target, is_exposed, moved_corner, tree_carried, tree_part};
-ghost use Rattle.line_map.specs.Way.{back, way};
+ghost use Rattle.line_map.specs.Trees.{TreeLies, target, is_exposed, moved_corner, tree_carried, tree_part};
+ghost use Rattle.line_map.specs.Way.{way};
 
 use crate::follower::Follower;
+use crate::keeping::must_keep_along;
 use crate::route::Route;
 use base_axis::Axis;
 use base_shared::Shared;
 use base_tables::same_by_folding;
 use base_values::{EditError, Position, Text, copy_of};
-use formula_back::{comes_back, is_still};
+use formula_back::is_still;
 use formula_tree::{
     Corner, CornerMap, Node, corner_at, corner_to, is_whole_columns, is_whole_rows, move_node,
 };
@@ -43,7 +45,7 @@ fn target<A: Axis, M: LineMap<A>>(
 }
 
 /// Where a corner of the formula goes with its marks, seen from the formula's new place.
-fn moved_corner<A: Axis, M: LineMap<A>>(
+pub(crate) fn moved_corner<A: Axis, M: LineMap<A>>(
     route: &Route<'_, A, M>,
     exposed: bool,
     corner: Corner,
@@ -59,16 +61,25 @@ fn moved_corner<A: Axis, M: LineMap<A>>(
     ))
 }
 
+/// Whether a name is that of the edited sheet. Most that are have the same letters, which is told
+/// sooner than by folding.
+#[tactic(auto, using(base_tables::specs::laws::Folding::same_folded_decides))]
+fn is_name_of_edited<A: Axis, M: LineMap<A>>(route: &Route<'_, A, M>, name: &str) -> bool
+    ensures { result ≡ same_folded name.now (way route.now).edited }
+{
+    name == route.edited || same_by_folding(name, route.edited)
+}
+
 /// Whether a reference or range with this sheet name stands on the edited sheet.
 #[tactic(auto, unfolding(formula_tree::specs::OnSheet::is_on_sheet))]
-fn is_on_edited<A: Axis, M: LineMap<A>>(
+pub(crate) fn is_on_edited<A: Axis, M: LineMap<A>>(
     route: &Route<'_, A, M>,
     sheet: &Option<Shared<Text>>,
 ) -> bool
     ensures { result ≡ is_on_sheet (way route.now).own (way route.now).edited sheet.now }
 {
     match sheet {
-        Some(name) => same_by_folding(name.get().as_str(), route.edited),
+        Some(name) => is_name_of_edited(route, name.get().as_str()),
         None => route.is_own,
     }
 }
@@ -76,7 +87,7 @@ fn is_on_edited<A: Axis, M: LineMap<A>>(
 /// Whether the corners of a range are exposed: on the edited sheet, and not of a range that is
 /// whole along the axis.
 #[tactic(auto, unfolding(crate::specs::Trees::is_exposed))]
-fn is_exposed<A: Axis, M: LineMap<A>>(
+pub(crate) fn is_exposed<A: Axis, M: LineMap<A>>(
     route: &Route<'_, A, M>,
     sheet: &Option<Shared<Text>>,
     first: Corner,
@@ -129,8 +140,15 @@ pub(crate) fn carried_node<A: Axis, M: LineMap<A>>(
     Ok(move_node(alloc, node, route.to, &Following { route })?)
 }
 
-/// The tree of a formula, carried along. One that stays the same is shared.
+/// Whether the tree of a formula stays the same along a route, told without memory.
 #[tactic(auto, unfolding(crate::specs::Trees::tree_carried))]
+pub(crate) fn stays<A: Axis, M: LineMap<A>>(route: &Route<'_, A, M>, tree: &Node) -> bool
+    ensures { IsTrue result → tree_carried (way route.now) tree.now ≡ tree.now }
+{
+    is_still(tree, route.to, &Following { route })
+}
+
+/// The tree of a formula, carried along. One that stays the same is shared.
 fn carried<A: Axis, M: LineMap<A>>(
     alloc: Global,
     route: &Route<'_, A, M>,
@@ -139,49 +157,23 @@ fn carried<A: Axis, M: LineMap<A>>(
     ensures tree { IfOk result (λ carried. carried ≡ tree_carried (way route.now) tree.now) }
     ensures only { IsOkUnless result NoMemory }
 {
-    if is_still(tree.get(), route.to, &Following { route }) {
+    if stays(route, tree.get()) {
         return copy_of(tree);
     }
     Ok(Shared::new(alloc, carried_node(alloc, route, tree.get())?)?)
 }
 
-/// Whether the corners of a tree tell that the way back gives it.
-#[tactic(auto, unfolding(crate::specs::Trees::tree_carried))]
-fn is_given_back<A: Axis, M: LineMap<A>>(route: &Route<'_, A, M>, tree: &Node) -> bool
-    ensures { IsTrue result → tree_carried (back (way route.now)) (tree_carried (way route.now) tree.now) ≡ tree.now }
-{
-    let back = route.back();
-    let (there, home) = (Following { route }, Following { route: &back });
-    comes_back(tree, route.from, route.to, &there, &home)
-}
-
-/// The tree, carried there and back.
-fn returned<A: Axis, M: LineMap<A>>(
-    alloc: Global,
-    route: &Route<'_, A, M>,
-    tree: &Shared<Node>,
-) -> Result<Shared<Node>, EditError>
-    ensures tree { IfOk result (λ returned. returned ≡ tree_carried (back (way route.now)) (tree_carried (way route.now) tree.now)) }
-    ensures only { IsOkUnless result NoMemory }
-{
-    let there = carried(alloc, route, tree)?;
-    carried(alloc, &route.back(), &there)
-}
-
-/// The tree, where the way back does not give it. Its corners tell of most trees that it does; any
-/// other is carried there and back.
+/// The tree, where the way back does not give it.
 fn part<A: Axis, M: LineMap<A>>(
-    alloc: Global,
     route: &Route<'_, A, M>,
     tree: &Shared<Node>,
 ) -> Result<Option<Shared<Node>>, EditError>
+    requires { TreeLies (way route.now) tree.now }
     ensures part { IfOk result (λ part. part ≡ tree_part (way route.now) tree.now) }
     ensures only { IsOkUnless result NoMemory }
 {
-    if is_given_back(route, tree.get()) {
-        return Ok(None);
-    }
-    if returned(alloc, route, tree)? == *tree {
+    route.is_way();
+    if !must_keep_along(route, tree.get()) {
         return Ok(None);
     }
     Ok(Some(copy_of(tree)?))
@@ -215,10 +207,10 @@ impl<A: Axis> Follower<A> for Shared<Node> {
 
     fn part<M: LineMap<A>>(
         &self,
-        alloc: Global,
+        _alloc: Global,
         route: &Route<'_, A, M>,
     ) -> Result<Option<Shared<Node>>, EditError> {
-        part(alloc, route, self)
+        part(route, self)
     }
 
     fn restore<M: LineMap<A>>(

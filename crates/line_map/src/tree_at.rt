@@ -1,11 +1,13 @@
-ghost use Rattle.std.specs.Prelude.{◌≡◌, IfOk, IfSome, IsOkUnless};
+ghost use Rattle.std.specs.Prelude.{◌≡◌, IfOk, IfSome, IsOkUnless, Some, if◌then◌else◌};
 ghost use Rattle.base_tables.specs.Folding.{same_folded};
 ghost use Rattle.base_values.specs.Places.{IsPlace};
 ghost use Rattle.base_values.specs.declared.EditError.TheVariants.{NoMemory};
-ghost use Rattle.line_map.specs.TreeAt.{TreeAtLies, tree_goes, tree_at_carried, way_of_tree};
+ghost use Rattle.line_edits.specs.Moves.{place_image};
+ghost use Rattle.line_map.specs.TreeAt.{TreeAtLies, tree_at_carried, tree_at_part};
 ghost use Rattle.line_map.specs.Way.{way};
 
 use crate::follower::Follower;
+use crate::keeping::must_keep_tree;
 use crate::route::Route;
 use crate::tree::carried_node;
 use base_axis::Axis;
@@ -35,30 +37,37 @@ impl Exact for TreeAt {
     ghost equals = { tree_at_equals };
 }
 
-/// Where the tree's cell goes. `None` where its line has no image on the edited sheet.
-#[tactic(auto, unfolding(crate::specs::TreeAt::tree_goes))]
-fn goes<A: Axis, M: LineMap<A>>(route: &Route<'_, A, M>, tree: &TreeAt) -> Option<Position>
-    requires { IsPlace tree.now.place }
-    ensures value { result ≡ tree_goes (way route.now) tree.now }
+/// Where a cell goes that stands at a place of a sheet with this name. `None` where its line has no
+/// image on the edited sheet.
+pub(crate) fn goes<A: Axis, M: LineMap<A>>(
+    route: &Route<'_, A, M>,
+    sheet: &str,
+    edited: &str,
+    place: Position,
+) -> Option<Position>
+    requires { IsPlace place }
+    ensures value { result ≡ (if same_folded sheet.now edited.now then place_image (way route.now).along (way route.now).moves.to place else Some place) }
     ensures inside { IfSome result IsPlace }
 {
-    if !same_by_folding(tree.sheet.as_str(), tree.edited.as_str()) {
-        return Some(tree.place);
+    if !same_by_folding(sheet, edited) {
+        return Some(place);
     }
-    route.image(tree.place)
+    route.image(place)
 }
 
-/// The route of the tree, whose cell goes there.
-fn route_of<'t, 'a: 't, A: Axis, M: LineMap<A>>(
+/// The route of a cell that goes from a place to a place, with the names of its sheet and of the
+/// edited one.
+pub(crate) fn named<'t, 'a: 't, A: Axis, M: LineMap<A>>(
     route: &Route<'a, A, M>,
-    tree: &'t TreeAt,
+    own: &'t str,
+    edited: &'t str,
+    from: Position,
     to: Position,
 ) -> Route<'t, A, M>
-    requires from { IsPlace tree.now.place }
+    requires from { IsPlace from }
     requires to { IsPlace to }
-    ensures { way result ≡ way_of_tree (way route.now) tree.now to }
+    ensures { way result ≡ record (way route.now) { own = own.now; edited = edited.now; from = from; to = to } }
 {
-    let (own, edited) = (tree.sheet.as_str(), tree.edited.as_str());
     Route {
         map: route.map,
         opposite: route.opposite,
@@ -67,7 +76,7 @@ fn route_of<'t, 'a: 't, A: Axis, M: LineMap<A>>(
         edited,
         is_own: same_by_folding(own, edited),
         is_edited: route.is_edited,
-        from: tree.place,
+        from,
         to,
         axis: PhantomData,
     }
@@ -87,7 +96,7 @@ fn replaced(tree: &TreeAt, node: Node, place: Position) -> Result<TreeAt, EditEr
 }
 
 /// The tree carried along. It stays whole where its cell goes nowhere.
-#[tactic(auto, unfolding(crate::specs::TreeAt::tree_at_carried))]
+#[tactic(auto, unfolding(crate::specs::TreeAt::tree_at_carried, crate::specs::TreeAt::tree_goes))]
 fn carried<A: Axis, M: LineMap<A>>(
     alloc: Global,
     route: &Route<'_, A, M>,
@@ -98,13 +107,32 @@ fn carried<A: Axis, M: LineMap<A>>(
     ensures inside { IfOk result (λ there. IsPlace there.place) }
     ensures only { IsOkUnless result NoMemory }
 {
-    match goes(route, tree) {
+    let (own, edited) = (tree.sheet.as_str(), tree.edited.as_str());
+    match goes(route, own, edited, tree.place) {
         Some(to) => {
-            let node = carried_node(alloc, &route_of(route, tree, to), &tree.node)?;
+            let there = named(route, own, edited, tree.place, to);
+            let node = carried_node(alloc, &there, &tree.node)?;
             replaced(tree, node, to)
         }
         None => copy_of(tree),
     }
+}
+
+/// The tree, where the way back does not give it.
+fn part<A: Axis, M: LineMap<A>>(
+    route: &Route<'_, A, M>,
+    tree: &TreeAt,
+) -> Result<Option<TreeAt>, EditError>
+    requires { TreeAtLies tree.now }
+    ensures part { IfOk result (λ part. part ≡ tree_at_part (way route.now) tree.now) }
+    ensures only { IsOkUnless result NoMemory }
+{
+    route.is_way();
+    let (own, edited) = (tree.sheet.as_str(), tree.edited.as_str());
+    if !must_keep_tree(route, &tree.node, own, tree.place, edited) {
+        return Ok(None);
+    }
+    Ok(Some(copy_of(tree)?))
 }
 
 /// A tree with its own place and names is carried along on its sheet.
@@ -134,17 +162,12 @@ impl<A: Axis> Follower<A> for TreeAt {
         carried(alloc, route, self)
     }
 
-    #[tactic(auto, unfolding(crate::specs::Trial::part_by_trial))]
     fn part<M: LineMap<A>>(
         &self,
-        alloc: Global,
+        _alloc: Global,
         route: &Route<'_, A, M>,
     ) -> Result<Option<TreeAt>, EditError> {
-        let back = carried(alloc, &route.back(), &carried(alloc, route, self)?)?;
-        if back == *self {
-            return Ok(None);
-        }
-        Ok(Some(copy_of(self)?))
+        part(route, self)
     }
 
     fn restore<M: LineMap<A>>(

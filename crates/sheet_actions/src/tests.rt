@@ -15,6 +15,7 @@ use std::alloc::{AllocError, Global};
 use std::process::Abort;
 use std::test::Fail;
 
+mod kept;
 mod lines;
 mod rectangles;
 
@@ -184,9 +185,15 @@ fn below(sheet: Option<Shared<Text>>, rows: i32, columns: i32) -> Node {
     Node::Reference(sheet, corner)
 }
 
-fn put_formula(sheet: &mut Worksheet, tree: Node, style: &Shared<Style>) -> Result<(), EditError> {
+/// Puts a formula at a row and a column.
+fn put_formula(
+    sheet: &mut Worksheet,
+    (row, column): (i32, i32),
+    tree: Node,
+    style: &Shared<Style>,
+) -> Result<(), EditError> {
     if has_kept_numbers(&tree) {
-        sheet.set_cell_with_formula(1, 2, tree, style)?;
+        sheet.set_cell_with_formula(row, column, tree, style)?;
     }
     Ok(())
 }
@@ -202,7 +209,7 @@ fn sheet_of_five(
     let style = DefaultStyle::new(alloc)?;
     let mut sheet = Worksheet::new(alloc, id, name)?;
     sheet.set_cell_with_boolean(5, 1, true, style.shared())?;
-    put_formula(&mut sheet, below(of, 4, -1), style.shared())?;
+    put_formula(&mut sheet, (1, 2), below(of, 4, -1), style.shared())?;
     let target = text(alloc, "five")?;
     sheet.put_link(5, 1, Some(Link { target }))?;
     let (height, style, hidden) = (Some(50), None, false);

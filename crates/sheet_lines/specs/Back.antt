@@ -36,7 +36,8 @@ merges_back w kept merges = settled (merges_carried (back w)) (λ _ list. list) 
 -- lost ones had, and its merges
 abbrev pub sheet_back : Way → KeptLines → Sheet → Sheet
 sheet_back w kept sheet = record sheet {
-  cells = with_lost w kept.cells (places_restored cell_carried (λ _ cell tree. cell_restored cell tree) w (λ place. get kept.formulas (place_on sheet.id place)) sheet.cells);
+  cells = with_lost w kept.cells (places_restored cell_carried (λ _ cell tree. cell_restored cell tree) w
+      (λ place. get kept.formulas (place_on sheet.id place)) sheet.cells);
   links = with_lost w kept.links (places_carried (λ _ link. link) (back w) sheet.links);
   rows = lines_restored rows w sheet.rows kept.lines;
   columns = lines_restored columns w sheet.columns kept.lines;
@@ -45,7 +46,10 @@ sheet_back w kept sheet = record sheet {
 
 -- a workbook taken back along an edit of the lines of the sheet of an id: every sheet is, and all else stays
 abbrev pub book_back : Along → EditKind → ℕ → KeptLines → Book → Book
-book_back a e id kept book = record book { worksheets = map (λ sheet. sheet_back (way_of a (edit_moves a.last e) id (name_of (sheet_of book id)) sheet) kept sheet) book.worksheets }
+book_back a e id kept book = record book {
+  worksheets = map (λ sheet. sheet_back
+      (way_of a (edit_moves a.last e) id (name_of (sheet_of book id)) sheet) kept sheet) book.worksheets;
+}
 
 -- the keys and the merges of what is kept lie inside the sheet
 pub record LieInside (a : Along) (kept : KeptLines) : Type 0 where

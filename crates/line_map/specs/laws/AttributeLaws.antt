@@ -1,5 +1,6 @@
 -- The law of followers for what lines have of their own.
-use Rattle.std.proofs.Common.{◌≡◌, ◌⊎◌, inl, inr, ℕ, zero, suc, ℤ, pos, negsuc, ◌+ℤ◌, ◌-ℤ◌, ◌≤ℤ◌, Bool, true, false, cond, Option, Some, None, refl, ap, sym, subst, ◌∙◌, arith}
+use Rattle.std.proofs.Common.{◌≡◌, ◌⊎◌, inl, inr, ℕ, zero, suc, ℤ, pos, negsuc, ◌+ℤ◌, ◌-ℤ◌, ◌≤ℤ◌, Bool, true, false, cond, Option, Some, None, refl}
+use Rattle.std.proofs.Common.{ap, sym, subst, ◌∙◌, arith}
 use Rattle.std.specs.Prelude.{IfSome, is_some, is_none, ◌&&◌, if◌then◌else◌}
 use Rattle.std.proofs.lemmas.Int.{ints}
 use Rattle.std.specs.Ordering.{int_cmp, eq_by_cmp}
@@ -9,7 +10,8 @@ use Rattle.base_values.specs.Places.{IsLine}
 use Rattle.base_axis.specs.Along.{Along, IsAxis, rows, columns}
 use Rattle.line_edits.specs.declared.Block.{Block}
 use Rattle.line_edits.specs.Edit.{amount}
-use Rattle.line_map.specs.Attributes.{line_goes_along, heir, with_line, filled, block_given, block_heirs, heirs, lines_carried, lines_part, lines_restored, LinesLie}
+use Rattle.line_map.specs.Attributes.{line_goes_along, heir, with_line, filled, block_given, block_heirs, heirs, lines_carried, lines_part}
+use Rattle.line_map.specs.Attributes.{lines_restored, LinesLie}
 use Rattle.base_maps.specs.Carried.{if_there, moved_map, lost_map, overlaid}
 use Rattle.line_edits.specs.Edit.{within, is_in_block}
 use Rattle.line_edits.specs.Moves.{is_brought}
@@ -77,7 +79,8 @@ module _ {X : Type 0} where
       at_test true same g = subst P (sym (one_key int_cmp int_cmp_total int_cmp-IsAntisymmetric n k same)) here
       at_test false apart g = rest n x g
 
-  filled_at : (last : ℤ) (x : X) (first : ℤ) (i : ℕ) (o : Option ℤ) → within last (first +ℤ pos i) ≡ o → (m : FinMap int_cmp X) → KeysAre (IsFilled last first (pos i)) m → KeysAre (IsFilled last first (pos (suc i))) (with_line o x m)
+  filled_at : (last : ℤ) (x : X) (first : ℤ) (i : ℕ) (o : Option ℤ) → within last (first +ℤ pos i) ≡ o → (m : FinMap int_cmp X) →
+      KeysAre (IsFilled last first (pos i)) m → KeysAre (IsFilled last first (pos (suc i))) (with_line o x m)
   filled_at last x first i None e m h = λ n y g. ((h n y g).0, later first i n (h n y g).1)
   filled_at last x first i (Some k) e m h =
       let at = within_both last (first +ℤ pos i) k e in
@@ -97,12 +100,14 @@ module _ {X : Type 0} where
 
   heirs_given : (b : Along) (same : X → X → Bool) (o : Option Block) (m : FinMap int_cmp X) → KeysAre (IsGiven b.last o) (heirs b same o m)
   heirs_given b same None m = nothing_held (IsGiven b.last None)
-  heirs_given b same (Some block) m = elim (b.of false true) as (λ t. KeysAre (IsGiven b.last (Some block)) (if t then block_heirs b.last same m block else empty))
+  heirs_given b same (Some block) m = elim (b.of false true) as (λ t. KeysAre (IsGiven b.last (Some block))
+      (if t then block_heirs b.last same m block else empty))
       [ true ↦ given_lines b.last block _ | false ↦ nothing_held (IsGiven b.last (Some block)) ]
 
   -- one more line that is filled
   pub filled_more : (last : ℤ) (x : X) (first : ℤ) (i : ℕ) (line : ℤ) (before after m : FinMap int_cmp X) →
-      before ≡ overlaid (filled last x first i) m → after ≡ with_line (within last line) x before → line ≡ first +ℤ pos i → after ≡ overlaid (filled last x first (suc i)) m
+      before ≡ overlaid (filled last x first i) m → after ≡ with_line (within last line) x before → line ≡ first +ℤ pos i →
+      after ≡ overlaid (filled last x first (suc i)) m
   unfolding filled
   filled_more last x first i line before after m was now here =
       now ∙ (λ j. with_line (within last (here j)) x (was j)) ∙ laid_line (within last (first +ℤ pos i)) (filled last x first i)
@@ -120,11 +125,14 @@ module _ {X : Type 0} where
   filled_none last x first m = still m
 
   -- a block that takes nothing
-  pub none_taken : (last : ℤ) (same : X → X → Bool) (block : Block) (m made : FinMap int_cmp X) (before after : ℤ) → before ≡ block.first -ℤ pos 1 → after ≡ block.first → heir same (get m before) (get m after) ≡ None → made ≡ overlaid (block_heirs last same m block) made
-  none_taken last same block m made before after p q h = still made ∙ ap (λ o. overlaid (block_given last block o) made) (sym h) ∙ (λ i. overlaid (block_given last block (heir same (get m (p i)) (get m (q i)))) made)
+  pub none_taken : (last : ℤ) (same : X → X → Bool) (block : Block) (m made : FinMap int_cmp X) (before after : ℤ) → before ≡ block.first -ℤ pos 1 →
+      after ≡ block.first → heir same (get m before) (get m after) ≡ None → made ≡ overlaid (block_heirs last same m block) made
+  none_taken last same block m made before after p q h = still made ∙ ap (λ o. overlaid (block_given last block o) made) (sym h)
+      ∙ (λ i. overlaid (block_given last block (heir same (get m (p i)) (get m (q i)))) made)
 
   -- lines that are no columns, or none that are brought in
-  pub none_brought : (b : Along) (same : X → X → Bool) (o : Option Block) (m made : FinMap int_cmp X) → (o ≡ None) ⊎ (b.of false true ≡ false) → made ≡ overlaid (heirs b same o m) made
+  pub none_brought : (b : Along) (same : X → X → Bool) (o : Option Block) (m made : FinMap int_cmp X) → (o ≡ None) ⊎ (b.of false true ≡ false) →
+      made ≡ overlaid (heirs b same o m) made
   none_brought b same None m made h = still made
   none_brought b same (Some block) m made (inl h) = absurd (cc)
   none_brought b same (Some block) m made (inr h) = still made ∙ ap (λ t. overlaid (if t then block_heirs b.last same m block else empty) made) (sym h)
@@ -146,7 +154,8 @@ module _ {X : Type 0} where
 
   module _ (w : Way) (is : IsWay w) where
     moved_are : (m : FinMap int_cmp X) → KeysAre (IsLine w.along.last) (moved_map w.moves.to m)
-    moved_are m n x g = at_key (w.moves.from n) refl (sym (get-moved_map int_cmp int_cmp_total int_cmp-IsAntisymmetric w.moves.to w.moves.from is.one_to_one.inverse m n) ∙ g)
+    moved_are m n x g =
+        at_key (w.moves.from n) refl (sym (get-moved_map int_cmp int_cmp_total int_cmp-IsAntisymmetric w.moves.to w.moves.from is.one_to_one.inverse m n) ∙ g)
       where
         at_key : (s : Option ℤ) → w.moves.from n ≡ s → if_there s (get m) ≡ Some x → IsLine w.along.last n
         at_key None e f = absurd (cc)
@@ -163,14 +172,15 @@ module _ {X : Type 0} where
 
     -- what is carried along lies on the axis
     pub lines_stay : (b : Along) → IsAxis b → (same : X → X → Bool) (m : FinMap int_cmp X) → LinesLie b m → LinesLie b (lines_carried b same w m)
-    lines_stay b i same m lie = elim (line_goes_along b w) as (λ t. line_goes_along b w ≡ t → LinesLie b (if t then overlaid (heirs b same w.moves.inserted m) (moved_map w.moves.to m) else m)) [
-      | true ↦ λ along.
-          let last : w.along.last ≡ b.last = same_last w.along b is.axis i (both_of w.is_edited (is_along w.along b) along).1 in
-          overlaid_are (IsLine b.last) (heirs b same w.moves.inserted m) (moved_map w.moves.to m)
-          (λ n y h. (heirs_given b same w.moves.inserted m n y h).0)
-          (λ n y h. let Q : ℤ → Type 0 = λ l. IsLine l n in subst Q last (moved_are m n y h))
-      | false ↦ λ apart. lie
-    ] refl
+    lines_stay b i same m lie = elim (line_goes_along b w) as (λ t. line_goes_along b w ≡ t →
+        LinesLie b (if t then overlaid (heirs b same w.moves.inserted m) (moved_map w.moves.to m) else m)) [
+          | true ↦ λ along.
+              let last : w.along.last ≡ b.last = same_last w.along b is.axis i (both_of w.is_edited (is_along w.along b) along).1 in
+              overlaid_are (IsLine b.last) (heirs b same w.moves.inserted m) (moved_map w.moves.to m)
+              (λ n y h. (heirs_given b same w.moves.inserted m n y h).0)
+              (λ n y h. let Q : ℤ → Type 0 = λ l. IsLine l n in subst Q last (moved_are m n y h))
+          | false ↦ λ apart. lie
+        ] refl
 
     -- so does what is kept
     pub lines_kept_fit : (b : Along) (m : FinMap int_cmp X) → LinesLie b m → (k : FinMap int_cmp X) → lines_part b w m ≡ Some k → LinesLie b k
@@ -181,12 +191,17 @@ module _ {X : Type 0} where
         at_test false g = absurd (cc)
 
     -- where nothing is kept, nothing went along
-    pub lines_come_back : (b : Along) (same : X → X → Bool) (m : FinMap int_cmp X) → lines_part b w m ≡ None → lines_carried b same (back w) (lines_carried b same w m) ≡ m
+    pub lines_come_back : (b : Along) (same : X → X → Bool) (m : FinMap int_cmp X) → lines_part b w m ≡ None →
+        lines_carried b same (back w) (lines_carried b same w m) ≡ m
     lines_come_back b same m h = at_test (line_goes_along b w) refl h
       where
-        at_test : (t : Bool) → line_goes_along b w ≡ t → (if t then Some (lost_map w.moves.to m) else None) ≡ None → lines_carried b same (back w) (lines_carried b same w m) ≡ m
+        at_test : (t : Bool) → line_goes_along b w ≡ t → (if t then Some (lost_map w.moves.to m) else None) ≡ None →
+            lines_carried b same (back w) (lines_carried b same w m) ≡ m
         at_test true e g = absurd (cc)
-        at_test false e g = λ i. if e i then overlaid (heirs b same (back w).moves.inserted (if e i then overlaid (heirs b same w.moves.inserted m) (moved_map w.moves.to m) else m)) (moved_map w.moves.from (if e i then overlaid (heirs b same w.moves.inserted m) (moved_map w.moves.to m) else m)) else (if e i then overlaid (heirs b same w.moves.inserted m) (moved_map w.moves.to m) else m)
+        at_test false e g = λ i. if e i then overlaid (heirs b same (back w).moves.inserted
+            (if e i then overlaid (heirs b same w.moves.inserted m) (moved_map w.moves.to m) else m))
+            (moved_map w.moves.from (if e i then overlaid (heirs b same w.moves.inserted m) (moved_map w.moves.to m) else m)) else
+            (if e i then overlaid (heirs b same w.moves.inserted m) (moved_map w.moves.to m) else m)
 
     -- a line that came from somewhere was not brought in
     not_given : (b : Along) (same : X → X → Bool) (m : FinMap int_cmp X) (p q : ℤ) → w.moves.to p ≡ Some q → get (heirs b same w.moves.inserted m) q ≡ None
@@ -205,7 +220,8 @@ module _ {X : Type 0} where
     -- what goes back with what was kept is the map
     lines_return : (b : Along) (same : X → X → Bool) (m : FinMap int_cmp X) → overlaid (lost_map w.moves.to m) (moved_map w.moves.from (gone b same m)) ≡ m
     lines_return b same m = laid_over int_cmp int_cmp_total int_cmp-IsAntisymmetric w.moves.to m (moved_map w.moves.from (gone b same m)) (λ p.
-        get-moved_map int_cmp int_cmp_total int_cmp-IsAntisymmetric w.moves.from w.moves.to (turned_inverse is.one_to_one.inverse) (gone b same m) p ∙ at_key p (w.moves.to p) refl)
+        get-moved_map int_cmp int_cmp_total int_cmp-IsAntisymmetric w.moves.from w.moves.to (turned_inverse is.one_to_one.inverse) (gone b same m) p
+        ∙ at_key p (w.moves.to p) refl)
       where
         at_key : (p : ℤ) (t : Option ℤ) → w.moves.to p ≡ t → if_there t (get (gone b same m)) ≡ cond (is_some t) (get m p) None
         at_key p None e = refl
@@ -216,12 +232,16 @@ module _ {X : Type 0} where
             ∙ ap (λ s. if_there s (get m)) (is.one_to_one.inverse.back p q e)
 
     -- the law of followers for what lines have
-    pub lines_restore : (b : Along) (same : X → X → Bool) (m : FinMap int_cmp X) (k : FinMap int_cmp X) → lines_part b w m ≡ Some k → lines_restored b w (lines_carried b same w m) k ≡ m
+    pub lines_restore : (b : Along) (same : X → X → Bool) (m : FinMap int_cmp X) (k : FinMap int_cmp X) → lines_part b w m ≡ Some k →
+        lines_restored b w (lines_carried b same w m) k ≡ m
     lines_restore b same m k h = at_test (line_goes_along b w) refl h
       where
-        at_test : (t : Bool) → line_goes_along b w ≡ t → (if t then Some (lost_map w.moves.to m) else None) ≡ Some k → lines_restored b w (lines_carried b same w m) k ≡ m
+        at_test : (t : Bool) → line_goes_along b w ≡ t → (if t then Some (lost_map w.moves.to m) else None) ≡ Some k →
+            lines_restored b w (lines_carried b same w m) k ≡ m
         at_test true e g =
             let kept : k ≡ lost_map w.moves.to m = cc in
-            (λ i. if e i then overlaid (kept i) (moved_map w.moves.from (if e i then overlaid (heirs b same w.moves.inserted m) (moved_map w.moves.to m) else m)) else (if e i then overlaid (heirs b same w.moves.inserted m) (moved_map w.moves.to m) else m))
+            (λ i. if e i then overlaid (kept i) (moved_map w.moves.from
+            (if e i then overlaid (heirs b same w.moves.inserted m) (moved_map w.moves.to m) else m)) else
+            (if e i then overlaid (heirs b same w.moves.inserted m) (moved_map w.moves.to m) else m))
             ∙ lines_return b same m
         at_test false e g = absurd (cc)

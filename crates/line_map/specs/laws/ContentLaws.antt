@@ -18,7 +18,8 @@ abbrev carried_at : Way → Content → Option Node → Content
 carried_at w content o = with_new_tree content (if_there o (λ tree. Some (tree_carried w tree)))
 
 -- the tree of a content that is carried along
-tree_after : (w : Way) (content : Content) (tree : Node) → tree_of content ≡ Some tree → tree_of (with_tree content (tree_carried w tree)) ≡ Some (tree_carried w tree)
+tree_after : (w : Way) (content : Content) (tree : Node) → tree_of content ≡ Some tree →
+    tree_of (with_tree content (tree_carried w tree)) ≡ Some (tree_carried w tree)
 tree_after w content tree h = tree_of-with_tree content (tree_carried w tree) ∙ ap (option_map (λ _. tree_carried w tree)) h
 
 -- a content without a tree stays, and of another one the tree is carried along
@@ -30,12 +31,14 @@ carried_some w content tree h = ap (carried_at w content) h
 
 stays_at : (w : Way) → IsWay w → (content : Content) (o : Option Node) → tree_of content ≡ o → ContentLies (back w) (content_carried w content)
 stays_at w is content None h = subst (λ o. IfSome o (TreeLies (back w))) (sym (ap tree_of (carried_none w content h) ∙ h)) tt
-stays_at w is content (Some tree) h = subst (λ o. IfSome o (TreeLies (back w))) (sym (ap tree_of (carried_some w content tree h) ∙ tree_after w content tree h)) (tree_stays w is tree)
+stays_at w is content (Some tree) h = subst (λ o. IfSome o (TreeLies (back w)))
+    (sym (ap tree_of (carried_some w content tree h) ∙ tree_after w content tree h)) (tree_stays w is tree)
 
 pub content_stays : (w : Way) → IsWay w → (content : Content) → ContentLies w content → ContentLies (back w) (content_carried w content)
 content_stays w is content lies = stays_at w is content _ refl
 
-back_at : (w : Way) (content : Content) (o : Option Node) → tree_of content ≡ o → if_there o (tree_part w) ≡ None → content_carried (back w) (content_carried w content) ≡ content
+back_at : (w : Way) (content : Content) (o : Option Node) → tree_of content ≡ o → if_there o (tree_part w) ≡ None →
+    content_carried (back w) (content_carried w content) ≡ content
 back_at w content None h none = ap (content_carried (back w)) (carried_none w content h) ∙ carried_none (back w) content h
 back_at w content (Some tree) h none =
     ap (content_carried (back w)) (carried_some w content tree h)
@@ -47,7 +50,17 @@ back_at w content (Some tree) h none =
 pub content_comes_back : (w : Way) (content : Content) → content_part w content ≡ None → content_carried (back w) (content_carried w content) ≡ content
 content_comes_back w content h = back_at w content _ refl h
 
-restored_at : (w : Way) (content : Content) (o : Option Node) → tree_of content ≡ o → (part : Node) → if_there o (tree_part w) ≡ Some part → with_tree (content_carried w content) part ≡ content
+-- a cell whose formula has this tree, carried along. It stays where the tree does
+pub cell_with_tree : (w : Way) (cell : Cell) (tree : Node) → tree_of cell.content ≡ Some tree →
+    cell_carried w cell ≡ record cell { content = with_tree cell.content (tree_carried w tree) }
+cell_with_tree w cell tree h = λ i. record cell { content = carried_some w cell.content tree h i }
+
+pub cell_still : (w : Way) (cell : Cell) (tree : Node) → tree_of cell.content ≡ Some tree → tree_carried w tree ≡ tree → cell_carried w cell ≡ cell
+cell_still w cell tree h still =
+    cell_with_tree w cell tree h ∙ (λ i. record cell { content = (ap (with_tree cell.content) still ∙ with_own_tree cell.content tree h) i })
+
+restored_at : (w : Way) (content : Content) (o : Option Node) → tree_of content ≡ o → (part : Node) → if_there o (tree_part w) ≡ Some part →
+    with_tree (content_carried w content) part ≡ content
 restored_at w content None h part some = absurd (cc)
 restored_at w content (Some tree) h part some =
     (λ i. with_tree (carried_some w content tree h i) (tree_restores w tree part some i))

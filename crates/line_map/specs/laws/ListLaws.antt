@@ -19,17 +19,20 @@ fits_at Fits None h = tt
 fits_at Fits (Some k) h = h k refl
 
 module _ {F K : Type 0} (P : F → Type 0) where
-  fit : (part : F → Option K) (Fits : K → Type 0) → ((x : F) → P x → (k : K) → part x ≡ Some k → Fits k) → (xs : List F) → AllByRecursion P xs → AllByRecursion (λ o. IfSome o Fits) (map part xs)
+  fit : (part : F → Option K) (Fits : K → Type 0) → ((x : F) → P x → (k : K) → part x ≡ Some k → Fits k) → (xs : List F) → AllByRecursion P xs →
+      AllByRecursion (λ o. IfSome o Fits) (map part xs)
   fit part Fits h [] all = tt
   fit part Fits h (x ∷ xs) all = (fits_at Fits (part x) (h x all.0), fit part Fits h xs all.1)
 
   -- the parts of items fit
-  pub parts_fit : (part : F → Option K) (Fits : K → Type 0) → ((x : F) → P x → (k : K) → part x ≡ Some k → Fits k) → (xs : List F) → All P xs → (ks : List (Option K)) → Some (map part xs) ≡ Some ks → All (λ o. IfSome o Fits) ks
+  pub parts_fit : (part : F → Option K) (Fits : K → Type 0) → ((x : F) → P x → (k : K) → part x ≡ Some k → Fits k) → (xs : List F) → All P xs →
+      (ks : List (Option K)) → Some (map part xs) ≡ Some ks → All (λ o. IfSome o Fits) ks
   parts_fit part Fits h xs all ks is =
       let same : map part xs ≡ ks = cc in
       subst (All (λ o. IfSome o Fits)) same (All-from_recursion (λ o. IfSome o Fits) (map part xs) (fit part Fits h xs (recursion_from_All P xs all)))
 
-  module _ (carry home : F → F) (restore : F → K → F) (part : F → Option K) (back : (x : F) → P x → part x ≡ None → home (carry x) ≡ x) (regained : (x : F) → P x → (k : K) → part x ≡ Some k → restore (carry x) k ≡ x) where
+  module _ (carry home : F → F) (restore : F → K → F) (part : F → Option K) (back : (x : F) → P x → part x ≡ None → home (carry x) ≡ x)
+      (regained : (x : F) → P x → (k : K) → part x ≡ Some k → restore (carry x) k ≡ x) where
     settles : (x : F) → P x → (o : Option K) → part x ≡ o → settled home restore o (carry x) ≡ x
     settles x lies None h = back x lies h
     settles x lies (Some k) h = regained x lies k h

@@ -1,8 +1,8 @@
 -- The law of followers for merges.
-use Rattle.std.proofs.Common.{◌≡◌, ◌∙◌, ap, ◌++◌, ℕ, ◌+◌, ◌<◌, length, take, get_or, ℤ, true, false, List, [], ◌∷◌, Option, Some, None, subst, sym}
+use Rattle.std.proofs.Common.{◌≡◌, ℤ, true, false, List, Option, Some, None, subst, sym}
 use Rattle.std.specs.Prelude.{IfSome, if◌then◌else◌}
 use Rattle.std.specs.Cmp.Lexicographic.{pointwise_decides}
-use Rattle.std.specs.List.{All, AllByRecursion, filter_map, cons_option}
+use Rattle.std.specs.List.{filter_map}
 use Rattle.base_axis.specs.Along.{Along, IsAxis}
 use Rattle.base_axis.specs.declared.MergedCell.{MergedCell}
 use Rattle.base_axis.specs.contracts.merge_list.MergeListPartialEq.TheImpl as equality
@@ -16,7 +16,8 @@ use Rattle.line_map.specs.Merges.{merge_carried, merges_carried, merges_part, Me
 use Rattle.line_map.specs.Way.{Way, IsWay, back}
 use Rattle.line_map.specs.laws.TrialLaws.{trial_comes_back, trial_part}
 
-put_inside : (a : Along) → IsAxis a → (merge : MergedCell) → IsInside merge → (o : Option (ℤ × ℤ)) → IfSome {T = ℤ × ℤ} o (λ lines. AreLines a.last lines.0 lines.1) →
+put_inside : (a : Along) → IsAxis a → (merge : MergedCell) → IsInside merge → (o : Option (ℤ × ℤ)) →
+    IfSome {T = ℤ × ℤ} o (λ lines. AreLines a.last lines.0 lines.1) →
     IfSome {T = MergedCell} (if_there o (λ lines. Some (with_lines a merge lines.0 lines.1))) IsInside
 put_inside a is merge h None i = tt
 put_inside a is merge h (Some lines) i = put_lines_inside a is merge lines.0 lines.1 h i.0 i.1 i.2
@@ -26,7 +27,8 @@ merge_stays : (w : Way) → IsWay w → (merge : MergedCell) → IsInside merge 
 merge_stays w is merge h =
     let a = w.along in
     put_inside a is.axis merge h _
-    (is.one_to_one.merged_inside (first_line a merge) (last_line a merge) (across a merge) (first_inside a is.axis merge h, last_inside a is.axis merge h, lines_in_order a is.axis merge h))
+    (is.one_to_one.merged_inside (first_line a merge) (last_line a merge) (across a merge)
+    (first_inside a is.axis merge h, last_inside a is.axis merge h, lines_in_order a is.axis merge h))
 
 pub left_stay : (w : Way) → IsWay w → (merges : List MergedCell) → MergesLie merges → MergesLie (filter_map (merge_carried w) merges)
 left_stay w is merges h = all_found IsInside IsInside (merge_carried w) (merge_stays w is) merges h
@@ -42,5 +44,6 @@ merges_come_back w merges h = trial_comes_back equality.ghosts.eq merges_carried
 pub merges_restore : (w : Way) (merges part : List MergedCell) → merges_part w merges ≡ Some part → part ≡ merges
 merges_restore w merges part h = trial_part equality.ghosts.eq merges_carried w merges part h
 
-pub merges_part_fits : (w : Way) → IsWay w → (merges : List MergedCell) → MergesLie merges → (part : List MergedCell) → merges_part w merges ≡ Some part → MergesLie part
+pub merges_part_fits : (w : Way) → IsWay w → (merges : List MergedCell) → MergesLie merges → (part : List MergedCell) → merges_part w merges ≡ Some part →
+    MergesLie part
 merges_part_fits w is merges h part kept = subst MergesLie (sym (merges_restore w merges part kept)) h

@@ -1,5 +1,5 @@
 -- The law of followers for trees, and that what is carried along stays in the sheet.
-use Rattle.std.proofs.Common.{◌≡◌, ℤ, pos, Bool, true, false, Option, Some, None, refl, sym, ◌∙◌, arith}
+use Rattle.std.proofs.Common.{◌≡◌, ℤ, pos, Bool, true, false, Option, Some, None, refl, ◌∙◌, arith}
 use Rattle.std.specs.Prelude.{IfSome, ◌&&◌, if◌then◌else◌}
 use Rattle.std.proofs.lemmas.Int.{ints}
 use Rattle.base_values.specs.declared.Position.{Position}
@@ -16,12 +16,12 @@ use Rattle.formula_tree.specs.laws.PlacedLaws.{placed-moved}
 use Rattle.base_maps.specs.Carried.{if_there}
 use Rattle.line_edits.specs.Moves.{place_image}
 use Rattle.line_map.specs.Trees.{corner_of, target, following, tree_carried, tree_part, TreeLies}
-use Rattle.line_map.specs.Trial.{part_by_trial}
 use Rattle.line_map.specs.Way.{Way, IsWay, back}
 use Rattle.line_map.specs.laws.TrialLaws.{trial_comes_back, trial_part}
 use Rattle.line_edits.specs.laws.PlaceLaws.{image_inside}
 
-inside_at : (b : Bool) (row column : ℤ) → (is_line (pos 1048576) row && is_line (pos 16384) column) ≡ b → IfSome (if b then Some (record { row = row; column = column }) else None) IsPlace
+inside_at : (b : Bool) (row column : ℤ) → (is_line (pos 1048576) row && is_line (pos 16384) column) ≡ b →
+    IfSome (if b then Some (record { row = row; column = column }) else None) IsPlace
 inside_at true row column h = ((grind (arith, ints), grind (arith, ints)), (grind (arith, ints), grind (arith, ints)))
 inside_at false row column h = tt
 
@@ -41,11 +41,14 @@ target_inside w is false corner = corner_inside w.from corner
 are_lines : (row column : ℤ) → IsRow row → IsColumn column → (is_line (pos 1048576) row && is_line (pos 16384) column) ≡ true
 are_lines row column h i = let a = h.0 in let b = h.1 in let c = i.0 in let d = i.1 in grind (arith, ints)
 
-landed : (to : Position) (corner : Corner) (o : Option Position) → IfSome o IsPlace → IfSome (if_there o (λ place. Some (corner_of to corner place))) (λ c. is_inside to c ≡ true)
+-- a corner that lands on a place of the sheet lies inside
+pub landed : (to : Position) (corner : Corner) (o : Option Position) → IfSome o IsPlace →
+    IfSome (if_there o (λ place. Some (corner_of to corner place))) (λ c. is_inside to c ≡ true)
 unfolding is_inside
 landed to corner None h = tt
 landed to corner (Some place) h =
-    (λ i. is_line (pos 1048576) (corner_row-corner_to to corner.absolute_row corner.absolute_column place i) && is_line (pos 16384) (corner_column-corner_to to corner.absolute_row corner.absolute_column place i))
+    (λ i. is_line (pos 1048576) (corner_row-corner_to to corner.absolute_row corner.absolute_column place i) && is_line (pos 16384)
+    (corner_column-corner_to to corner.absolute_row corner.absolute_column place i))
     ∙ are_lines place.row place.column h.0 h.1
 
 -- the corners of a tree that is carried along lie inside the sheet, and those of each range are in order
@@ -65,16 +68,3 @@ tree_comes_back w tree h = trial_comes_back (same_value the_row.coded) tree_carr
 
 pub tree_restores : (w : Way) (tree part : Node) → tree_part w tree ≡ Some part → part ≡ tree
 tree_restores w tree part h = trial_part (same_value the_row.coded) tree_carried w tree part h
-
-none_at : (tree returned : Node) → returned ≡ tree → None ≡ (if same_value the_row.coded returned tree then None else Some tree)
-none_at tree returned h = sym ((λ i. if (same_value_decides the_row.coded returned tree).1 h i then None else Some tree))
-
--- of a tree that comes back nothing is kept
-pub no_tree_part : (w : Way) (tree : Node) → tree_carried (back w) (tree_carried w tree) ≡ tree → None ≡ tree_part w tree
-unfolding part_by_trial
-no_tree_part w tree h = none_at tree (tree_carried (back w) (tree_carried w tree)) h
-
--- what is kept of a tree, by the test of what comes back
-pub tree_part_at : (w : Way) (tree : Node) (b : Bool) → same_value the_row.coded (tree_carried (back w) (tree_carried w tree)) tree ≡ b → tree_part w tree ≡ (if b then None else Some tree)
-unfolding part_by_trial
-tree_part_at w tree b h = λ i. if h i then None else Some tree

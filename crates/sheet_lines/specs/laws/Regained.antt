@@ -48,12 +48,15 @@ laid_at : {X : Type 0} (to : Position → Option Position) (b : Bool) (given m r
 laid_at to true given m returned h = ap (λ l. overlaid l returned) (h refl)
 laid_at to false given m returned h =
     sym (nothing_overlaid position_cmp position_total exact_positions returned)
-    ∙ ap (λ l. overlaid l returned) (same_map position_total exact_positions empty (lost_map Some m) (λ p. get-empty position_cmp p ∙ sym (get-lost_map position_cmp position_total exact_positions Some m p)))
+    ∙ ap (λ l. overlaid l returned) (same_map position_total exact_positions empty (lost_map Some m)
+    (λ p. get-empty position_cmp p ∙ sym (get-lost_map position_cmp position_total exact_positions Some m p)))
 
 module _ (w : Way) (is : IsWay w) where
   -- a map goes back with what was lost of the edited sheet, where each entry that goes somewhere settles to what it was
-  map_regained : {X P : Type 0} (carry : Way → X → X) (restore : Way → X → P → X) (parts : Position → Option P) (m given : FinMap position_cmp X) → (w.is_edited ≡ true → given ≡ lost_map (place_image w.along w.moves.to) m) →
-      ((p q : Position) (x : X) → place_goes w p ≡ Some q → get m p ≡ Some x → settled (carry (back (at w p q))) (restore (at w p q)) (parts p) (carry (at w p q) x) ≡ x) →
+  map_regained : {X P : Type 0} (carry : Way → X → X) (restore : Way → X → P → X) (parts : Position → Option P) (m given : FinMap position_cmp X) →
+      (w.is_edited ≡ true → given ≡ lost_map (place_image w.along w.moves.to) m) →
+      ((p q : Position) (x : X) → place_goes w p ≡ Some q → get m p ≡ Some x →
+      settled (carry (back (at w p q))) (restore (at w p q)) (parts p) (carry (at w p q) x) ≡ x) →
       with_lost w given (places_restored carry restore w parts (places_carried carry w m)) ≡ m
   unfolding place_goes
   map_regained carry restore parts m given lost settles =
@@ -66,7 +69,8 @@ module _ (w : Way) (is : IsWay w) where
   settles_at v x (Some k) h = cell_restores v x k h
 
   -- the cells of a sheet, with trees that are those kept of them
-  cells_regained : (cells given : FinMap position_cmp Cell) (trees : Position → Option Node) → (w.is_edited ≡ true → given ≡ lost_map (place_image w.along w.moves.to) cells) →
+  cells_regained : (cells given : FinMap position_cmp Cell) (trees : Position → Option Node) →
+      (w.is_edited ≡ true → given ≡ lost_map (place_image w.along w.moves.to) cells) →
       ((p : Position) → trees p ≡ if_there (get cells p) (λ cell. if_there (place_goes w p) (λ q. cell_part (at w p q) cell))) →
       with_lost w given (places_restored cell_carried (λ _ cell tree. cell_restored cell tree) w trees (places_carried cell_carried w cells)) ≡ cells
   cells_regained cells given trees lost kept = map_regained cell_carried (λ _ cell tree. cell_restored cell tree) trees cells given lost (λ p q x there held.
@@ -75,22 +79,28 @@ module _ (w : Way) (is : IsWay w) where
       ∙ settles_at (at w p q) x (cell_part (at w p q) x) refl)
 
   -- what the lines of an axis have
-  attributes_regained : (b : Along) (m given : FinMap int_cmp LineAttr) → (line_goes_along b w ≡ true → given ≡ lost_map w.moves.to m) → lines_restored b w (lines_carried b attribute.ghosts.eq w m) given ≡ m
+  attributes_regained : (b : Along) (m given : FinMap int_cmp LineAttr) → (line_goes_along b w ≡ true → given ≡ lost_map w.moves.to m) →
+      lines_restored b w (lines_carried b attribute.ghosts.eq w m) given ≡ m
   attributes_regained b m given lost = by_axis (line_goes_along b w) refl
     where
       by_axis : (along : Bool) → line_goes_along b w ≡ along → lines_restored b w (lines_carried b attribute.ghosts.eq w m) given ≡ m
       by_axis true h = lines_restore w is b attribute.ghosts.eq m given (ap (λ t. if t then Some (lost_map w.moves.to m) else None) h ∙ ap Some (sym (lost h)))
-      by_axis false h = ap (λ t. if t then overlaid given (moved_map w.moves.from (if t then overlaid (heirs b attribute.ghosts.eq w.moves.inserted m) (moved_map w.moves.to m) else m)) else (if t then overlaid (heirs b attribute.ghosts.eq w.moves.inserted m) (moved_map w.moves.to m) else m)) h
+      by_axis false h = ap (λ t. if t then overlaid given (moved_map w.moves.from
+          (if t then overlaid (heirs b attribute.ghosts.eq w.moves.inserted m) (moved_map w.moves.to m) else m)) else
+          (if t then overlaid (heirs b attribute.ghosts.eq w.moves.inserted m) (moved_map w.moves.to m) else m)) h
 
 -- on another sheet than the edited one merges stay
 apart : (w : Way) → w.is_edited ≡ false → (merges : List MergedCell) → merges_carried (back w) (merges_carried w merges) ≡ merges
 unfolding merges_carried
-apart w h merges = ap (λ b. if b then filter_map (merge_carried (back w)) (if b then filter_map (merge_carried w) merges else merges) else (if b then filter_map (merge_carried w) merges else merges)) h
+apart w h merges = ap (λ b. if b then filter_map (merge_carried (back w)) (if b then filter_map (merge_carried w) merges else merges) else
+    (if b then filter_map (merge_carried w) merges else merges)) h
 
-merges_regained : (w : Way) (merges : List MergedCell) (kept : Option (List MergedCell)) → (w.is_edited ≡ true → kept ≡ merges_part w merges) → merges_back w kept (merges_carried w merges) ≡ merges
+merges_regained : (w : Way) (merges : List MergedCell) (kept : Option (List MergedCell)) → (w.is_edited ≡ true → kept ≡ merges_part w merges) →
+    merges_back w kept (merges_carried w merges) ≡ merges
 merges_regained w merges kept lost = at_sheet w.is_edited refl
   where
-    at_part : (o : Option (List MergedCell)) → merges_part w merges ≡ o → settled (merges_carried (back w)) (λ _ list. list) o (merges_carried w merges) ≡ merges
+    at_part : (o : Option (List MergedCell)) → merges_part w merges ≡ o →
+        settled (merges_carried (back w)) (λ _ list. list) o (merges_carried w merges) ≡ merges
     at_part None h = merges_come_back w merges h
     at_part (Some part) h = merges_restore w merges part h
 
@@ -108,20 +118,28 @@ columns_alone a l h = by_axis l.one_of
 -- ---- a workbook
 
 -- the trees that are kept under an id are those of the formulas of its sheet
-pub formulas_at : (a : Along) (m : LineMoves) (id : ℕ) (edited : List ℕ) (book : Book) → HasDistinctIds book → (n : ℕ) (p : Position) → get (formulas_kept a m id edited book.worksheets) (place_on n p) ≡
-    if_there (sheet_of book n) (λ sheet. if_there (get sheet.cells p) (λ cell. if_there (place_goes (way_of a m id edited sheet) p) (λ q. cell_part (at (way_of a m id edited sheet) p q) cell)))
-formulas_at a m id edited book distinct n p = get-all_under (λ sheet. sheet.id) (trees_kept a m id edited) book.worksheets distinct n p ∙ at_sheet (sheet_of book n)
+pub formulas_at : (a : Along) (m : LineMoves) (id : ℕ) (edited : List ℕ) (book : Book) → HasDistinctIds book → (n : ℕ) (p : Position) →
+    get (formulas_kept a m id edited book.worksheets) (place_on n p) ≡
+    if_there (sheet_of book n) (λ sheet. if_there (get sheet.cells p) (λ cell. if_there (place_goes (way_of a m id edited sheet) p)
+    (λ q. cell_part (at (way_of a m id edited sheet) p q) cell)))
+formulas_at a m id edited book distinct n p = get-all_under (λ sheet. sheet.id) (trees_kept a m id edited) book.worksheets distinct n p
+    ∙ at_sheet (sheet_of book n)
   where
     at_sheet : (o : Option Sheet) → if_there o (λ sheet. get (trees_kept a m id edited sheet) p) ≡
-        if_there o (λ sheet. if_there (get sheet.cells p) (λ cell. if_there (place_goes (way_of a m id edited sheet) p) (λ q. cell_part (at (way_of a m id edited sheet) p q) cell)))
+        if_there o (λ sheet. if_there (get sheet.cells p) (λ cell. if_there (place_goes (way_of a m id edited sheet) p)
+        (λ q. cell_part (at (way_of a m id edited sheet) p q) cell)))
     at_sheet None = refl
-    at_sheet (Some sheet) = let w : Way = way_of a m id edited sheet in get-parts_map position_cmp position_total exact_positions (place_goes w) (λ p q x. cell_part (at w p q) x) sheet.cells p
+    at_sheet (Some sheet) = let w : Way = way_of a m id edited sheet in
+        get-parts_map position_cmp position_total exact_positions (place_goes w) (λ p q x. cell_part (at w p q) x) sheet.cells p
 
 -- the edited sheet keeps its name
 same_name : (a : Along) (m : LineMoves) (id : ℕ) (edited : List ℕ) (n : ℕ) (sheets : List Sheet) →
-    name_of (found_by (λ sheet. sheet.id) n (map (λ sheet. sheet_followed (way_of a m id edited sheet) sheet) sheets)) ≡ name_of (found_by (λ sheet. sheet.id) n sheets)
+    name_of (found_by (λ sheet. sheet.id) n (map (λ sheet. sheet_followed (way_of a m id edited sheet) sheet) sheets)) ≡ name_of
+    (found_by (λ sheet. sheet.id) n sheets)
 same_name a m id edited n [] = refl
-same_name a m id edited n (sheet ∷ sheets) = elim (sheet.id == n) as (λ b. name_of (if b then Some (sheet_followed (way_of a m id edited sheet) sheet) else found_by (λ sheet. sheet.id) n (map (λ sheet. sheet_followed (way_of a m id edited sheet) sheet) sheets)) ≡ name_of (if b then Some sheet else found_by (λ sheet. sheet.id) n sheets))
+same_name a m id edited n (sheet ∷ sheets) = elim (sheet.id == n) as (λ b. name_of
+    (if b then Some (sheet_followed (way_of a m id edited sheet) sheet) else found_by (λ sheet. sheet.id) n
+    (map (λ sheet. sheet_followed (way_of a m id edited sheet) sheet) sheets)) ≡ name_of (if b then Some sheet else found_by (λ sheet. sheet.id) n sheets))
     [ true ↦ refl | false ↦ same_name a m id edited n sheets ]
 
 module _ (a : Along) (l : IsAxis a) (e : EditKind) (valid : IsValid a.last e) (id : ℕ) (book : Book) (distinct : HasDistinctIds book) where
@@ -139,24 +157,33 @@ module _ (a : Along) (l : IsAxis a) (e : EditKind) (valid : IsValid a.last e) (i
       let w : Way = way_to sheet in
       let is : IsWay w = record { axis = l; one_to_one = edit_one_to_one a.last e valid } in
       let it : (sheet.id == id) ≡ true → sheet_of book id ≡ Some sheet = (λ same. ap (sheet_of book) (sym ((unsigned_Decides sheet.id id).0 same)) ∙ found) in
-      let lines : (sheet.id == id) ≡ true → kept.lines ≡ lost_map moves.to (lines_of a sheet) = (λ same. ap (of_sheet (λ s. lost_map moves.to (lines_of a s))) (it same)) in
+      let lines : (sheet.id == id) ≡ true → kept.lines ≡ lost_map moves.to (lines_of a sheet) =
+      (λ same. ap (of_sheet (λ s. lost_map moves.to (lines_of a s))) (it same)) in
       λ i. record sheet {
-        cells = cells_regained w is sheet.cells kept.cells (λ p. get kept.formulas (place_on sheet.id p)) (λ same. ap (of_sheet (λ s. lost_map (place_image a moves.to) s.cells)) (it same))
+        cells = cells_regained w is sheet.cells kept.cells (λ p. get kept.formulas (place_on sheet.id p))
+            (λ same. ap (of_sheet (λ s. lost_map (place_image a moves.to) s.cells)) (it same))
             (λ p. formulas_at a moves id (name_of (sheet_of book id)) book distinct sheet.id p
-            ∙ ap (λ o. if_there o (λ s. if_there (get s.cells p) (λ cell. if_there (place_goes (way_to s) p) (λ q. cell_part (at (way_to s) p q) cell)))) found) i;
-        links = map_regained w is {P = Unit {0}} (λ _ link. link) (λ _ link _. link) (λ _. None) sheet.links kept.links (λ same. ap (of_sheet (λ s. lost_map (place_image a moves.to) s.links)) (it same)) (λ p q x there held. refl) i;
-        rows = attributes_regained w is rows sheet.rows kept.lines (λ h. let along = both_of w.is_edited (is_along a rows) h in lines along.0 ∙ ap (λ t. lost_map moves.to (if t then sheet.rows else sheet.columns)) along.1) i;
-        columns = attributes_regained w is columns sheet.columns kept.lines (λ h. let along = both_of w.is_edited (is_along a columns) h in lines along.0 ∙ ap (λ t. lost_map moves.to (if t then sheet.rows else sheet.columns)) (columns_alone a l along.1)) i;
+            ∙ ap (λ o. if_there o (λ s. if_there (get s.cells p) (λ cell. if_there (place_goes (way_to s) p)
+            (λ q. cell_part (at (way_to s) p q) cell)))) found) i;
+        links = map_regained w is {P = Unit {0}} (λ _ link. link) (λ _ link _. link) (λ _. None) sheet.links kept.links
+            (λ same. ap (of_sheet (λ s. lost_map (place_image a moves.to) s.links)) (it same)) (λ p q x there held. refl) i;
+        rows = attributes_regained w is rows sheet.rows kept.lines (λ h. let along = both_of w.is_edited (is_along a rows) h in lines along.0
+            ∙ ap (λ t. lost_map moves.to (if t then sheet.rows else sheet.columns)) along.1) i;
+        columns = attributes_regained w is columns sheet.columns kept.lines
+            (λ h. let along = both_of w.is_edited (is_along a columns) h in lines along.0
+            ∙ ap (λ t. lost_map moves.to (if t then sheet.rows else sheet.columns)) (columns_alone a l along.1)) i;
         merges = merges_regained w sheet.merges kept.merges (λ same. ap (merges_kept a moves id (name_of (sheet_of book id))) (it same)) i;
       }
 
-  all_regained : (sheets : List Sheet) → AllByRecursion (λ sheet. sheet_of book sheet.id ≡ Some sheet) sheets → map (λ sheet. sheet_back (way_to sheet) kept sheet) (map (λ sheet. sheet_followed (way_to sheet) sheet) sheets) ≡ sheets
+  all_regained : (sheets : List Sheet) → AllByRecursion (λ sheet. sheet_of book sheet.id ≡ Some sheet) sheets →
+      map (λ sheet. sheet_back (way_to sheet) kept sheet) (map (λ sheet. sheet_followed (way_to sheet) sheet) sheets) ≡ sheets
   all_regained [] found = refl
   all_regained (sheet ∷ sheets) found = λ i. sheet_regained sheet found.0 i ∷ all_regained sheets found.1 i
 
   -- going back with what was kept gives the workbook
   pub book_regained : book_back a e id kept (book_followed a e id book) ≡ book
   book_regained = λ i. record book {
-    worksheets = (ap (λ name. map (λ sheet. sheet_back (way_of a moves id name sheet) kept sheet) (book_followed a e id book).worksheets) (same_name a moves id (name_of (sheet_of book id)) id book.worksheets)
+    worksheets = (ap (λ name. map (λ sheet. sheet_back (way_of a moves id name sheet) kept sheet) (book_followed a e id book).worksheets)
+        (same_name a moves id (name_of (sheet_of book id)) id book.worksheets)
         ∙ all_regained book.worksheets (all_found (λ sheet. sheet.id) book.worksheets distinct)) i;
   }

@@ -60,7 +60,8 @@ pub record Stays (P : Position → Cell → Type 0) (Q : Position → Node → T
 abbrev pub HasKeptNumbers : Node → Type 0
 HasKeptNumbers tree = IsTrue (has_kept_numbers tree)
 
-kept_with : (w : Way) (content : Content) (o : Option Node) → IsKeptContent content → IfSome o HasKeptNumbers → IsKeptContent (with_new_tree content (if_there o (λ tree. Some (tree_carried w tree))))
+kept_with : (w : Way) (content : Content) (o : Option Node) → IsKeptContent content → IfSome o HasKeptNumbers →
+    IsKeptContent (with_new_tree content (if_there o (λ tree. Some (tree_carried w tree))))
 unfolding tree_carried
 kept_with w content None h k = h
 kept_with w content (Some tree) h k = with_tree-kept content (tree_carried w tree) h (subst IsTrue (sym (numbers-moved Kept w.to (following w) tree)) k)
@@ -80,7 +81,8 @@ placed_tree p k (Some tree) h = h
 pub places_stay : Stays IsPlacedCell (λ place tree. is_placed place tree ≡ true)
 places_stay = record {
   carried = λ w is p q x h. cell_stays (at w p q) (at_is_way w is p q) x h;
-  restored = λ p q x k h placed. subst (λ o. IfSome o (λ tree. is_placed p tree ≡ true)) (sym (tree_of-with_tree x.content k)) (placed_tree p k (tree_of x.content) placed);
+  restored = λ p q x k h placed. subst (λ o. IfSome o (λ tree. is_placed p tree ≡ true)) (sym (tree_of-with_tree x.content k))
+      (placed_tree p k (tree_of x.content) placed);
 }
 
 -- ---- sheets
@@ -90,7 +92,8 @@ module _ (w : Way) (is : IsWay w) where
     -- a fact of cells holds of those that follow
     pub followed_are : Each P (places_carried cell_carried w cells)
     followed_are =
-        each_gathered position_cmp position_total exact_positions P (place_goes w) (place_goes (back w)) (goes_inverse w is) (λ p q x. Some (cell_carried (at w p q) x)) cells
+        each_gathered position_cmp position_total exact_positions P (place_goes w) (place_goes (back w)) (goes_inverse w is)
+        (λ p q x. Some (cell_carried (at w p q) x)) cells
         (λ p q x there held. stays.carried w is p q x (each_found position_cmp P cells all p x held))
 
     settled_are : (p q : Position) (x : Cell) → P q x → (o : Option Node) → IfSome o (Q p) → P p (settled (cell_carried (back (at w p q))) cell_restored o x)
@@ -98,13 +101,16 @@ module _ (w : Way) (is : IsWay w) where
     settled_are p q x h (Some k) part = stays.restored p q x k h part
 
     -- and of those that are taken back, with cells and trees of which it holds
-    pub back_are : (lost : FinMap position_cmp Cell) (parts : Position → Option Node) → Each P lost → ((p : Position) → IfSome (parts p) (Q p)) → Each P (with_lost w lost (places_restored cell_carried (λ _ cell tree. cell_restored cell tree) w parts cells))
+    pub back_are : (lost : FinMap position_cmp Cell) (parts : Position → Option Node) → Each P lost → ((p : Position) → IfSome (parts p) (Q p)) →
+        Each P (with_lost w lost (places_restored cell_carried (λ _ cell tree. cell_restored cell tree) w parts cells))
     back_are lost parts laid fit =
         let restored = places_restored cell_carried (λ _ cell tree. cell_restored cell tree) w parts cells in
         let all_restored : Each P restored =
-        each_gathered position_cmp position_total exact_positions P (place_goes (back w)) (place_goes w) (turned_inverse (goes_inverse w is)) (λ q p x. Some (settled (cell_carried (back (at w p q))) cell_restored (parts p) x)) cells
+        each_gathered position_cmp position_total exact_positions P (place_goes (back w)) (place_goes w) (turned_inverse (goes_inverse w is))
+        (λ q p x. Some (settled (cell_carried (back (at w p q))) cell_restored (parts p) x)) cells
         (λ q p x home held. settled_are p q x (each_found position_cmp P cells all q x held) (parts p) (fit p)) in
-        elim w.is_edited as (λ t. Each P (if t then overlaid lost restored else restored)) [ true ↦ each_overlaid position_cmp position_total exact_positions P lost restored laid all_restored | false ↦ all_restored ]
+        elim w.is_edited as (λ t. Each P (if t then overlaid lost restored else restored))
+        [ true ↦ each_overlaid position_cmp position_total exact_positions P lost restored laid all_restored | false ↦ all_restored ]
 
   part_at : (v : Way) (o : Option Node) → IfSome o HasKeptNumbers → IfSome (if_there o (tree_part v)) HasKeptNumbers
   part_at v None h = tt
@@ -117,11 +123,13 @@ module _ (w : Way) (is : IsWay w) where
   -- numbers of the trees that are kept of cells are kept
   pub parts_kept : (m : FinMap position_cmp Cell) → KeptCells m → AreKeptFormulas (places_parts cell_part w m)
   parts_kept m h =
-      each_gathered position_cmp position_total exact_positions (λ _. HasKeptNumbers) Some Some own_inverse (λ p _ x. if_there (place_goes w p) (λ q. cell_part (at w p q) x)) m
+      each_gathered position_cmp position_total exact_positions (λ _. HasKeptNumbers) Some Some own_inverse
+      (λ p _ x. if_there (place_goes w p) (λ q. cell_part (at w p q) x)) m
       (λ p q x there held. part_kept p (place_goes w p) x (each_found position_cmp (λ _. IsKeptCell) m h p x held))
 
 -- what the lines of the edited axis have lies on it
-pub lost_lines_lie : (a : Along) → IsAxis a → (sheet : Sheet) → LinesLie rows sheet.rows → LinesLie columns sheet.columns → (to : ℤ → Option ℤ) → LinesLie a (lost_map to (lines_of a sheet))
+pub lost_lines_lie : (a : Along) → IsAxis a → (sheet : Sheet) → LinesLie rows sheet.rows → LinesLie columns sheet.columns → (to : ℤ → Option ℤ) →
+    LinesLie a (lost_map to (lines_of a sheet))
 lost_lines_lie a l sheet h i to = keys_lost int_cmp int_cmp_total exact_signed (IsLine a.last) to (lines_of a sheet) (by_axis l.one_of)
   where
     by_axis : (a ≡ rows) ⊎ (a ≡ columns) → LinesLie a (lines_of a sheet)
@@ -129,13 +137,16 @@ lost_lines_lie a l sheet h i to = keys_lost int_cmp int_cmp_total exact_signed (
     by_axis (inr is) = subst (λ b. LinesLie b (lines_of b sheet)) (sym is) i
 
 -- on the edited sheet what goes nowhere is what has no image
-pub lost_places : {X : Type 0} (w : Way) → w.is_edited ≡ true → (m : FinMap position_cmp X) → lost_map (place_goes w) m ≡ lost_map (place_image w.along w.moves.to) m
+pub lost_places : {X : Type 0} (w : Way) → w.is_edited ≡ true → (m : FinMap position_cmp X) →
+    lost_map (place_goes w) m ≡ lost_map (place_image w.along w.moves.to) m
 unfolding place_goes
 lost_places w e m = ap (λ b. lost_map (λ p. if b then place_image w.along w.moves.to p else Some p) m) e
 
 -- merges that are taken back lie inside
-merges_return : (w : Way) → IsWay w → (kept : Option (List MergedCell)) (merges : List MergedCell) → IfSome kept MergesLie → MergesLie merges → MergesLie (merges_back w kept merges)
-merges_return w is kept merges h lie = elim w.is_edited as (λ b. MergesLie (settled (merges_carried (back w)) (λ _ list. list) (if b then kept else None) merges)) [ true ↦ at_kept kept h | false ↦ at_kept None tt ]
+merges_return : (w : Way) → IsWay w → (kept : Option (List MergedCell)) (merges : List MergedCell) → IfSome kept MergesLie → MergesLie merges →
+    MergesLie (merges_back w kept merges)
+merges_return w is kept merges h lie = elim w.is_edited as (λ b. MergesLie
+    (settled (merges_carried (back w)) (λ _ list. list) (if b then kept else None) merges)) [ true ↦ at_kept kept h | false ↦ at_kept None tt ]
   where
     at_kept : (o : Option (List MergedCell)) → IfSome o MergesLie → MergesLie (settled (merges_carried (back w)) (λ _ list. list) o merges)
     at_kept None i = merges_stay (back w) (back_is_way w is) merges lie
@@ -143,11 +154,13 @@ merges_return w is kept merges h lie = elim w.is_edited as (λ b. MergesLie (set
 
 -- ---- workbooks
 
-all_mapped : (P : Sheet → Type 0) (f : Sheet → Sheet) → ((sheet : Sheet) → P sheet → P (f sheet)) → (sheets : List Sheet) → AllByRecursion P sheets → AllByRecursion P (map f sheets)
+all_mapped : (P : Sheet → Type 0) (f : Sheet → Sheet) → ((sheet : Sheet) → P sheet → P (f sheet)) → (sheets : List Sheet) → AllByRecursion P sheets →
+    AllByRecursion P (map f sheets)
 all_mapped P f step [] all = tt
 all_mapped P f step (sheet ∷ sheets) all = (step sheet all.0, all_mapped P f step sheets all.1)
 
-pub way_is : (a : Along) → IsAxis a → (e : EditKind) → IsValid a.last e → (id : ℕ) (edited : List ℕ) (sheet : Sheet) → IsWay (way_of a (edit_moves a.last e) id edited sheet)
+pub way_is : (a : Along) → IsAxis a → (e : EditKind) → IsValid a.last e → (id : ℕ) (edited : List ℕ) (sheet : Sheet) →
+    IsWay (way_of a (edit_moves a.last e) id edited sheet)
 way_is a l e valid id edited sheet = record { axis = l; one_to_one = edit_one_to_one a.last e valid }
 
 module _ (a : Along) (l : IsAxis a) (e : EditKind) (valid : IsValid a.last e) (id : ℕ) (book : Book) (placed : IsPlacedBook book) where
@@ -162,7 +175,8 @@ module _ (a : Along) (l : IsAxis a) (e : EditKind) (valid : IsValid a.last e) (i
   followed_placed = all_mapped IsPlacedSheet (λ sheet. sheet_followed (way_to sheet) sheet)
       (λ sheet h. let w : Way = way_to sheet in record {
         cells = each_found position_cmp IsPlacedCell (places_carried cell_carried w sheet.cells)
-            (followed_are w (is_way_to sheet) IsPlacedCell (λ place tree. is_placed place tree ≡ true) places_stay sheet.cells (each_from position_cmp IsPlacedCell sheet.cells h.cells));
+            (followed_are w (is_way_to sheet) IsPlacedCell (λ place tree. is_placed place tree ≡ true) places_stay sheet.cells
+            (each_from position_cmp IsPlacedCell sheet.cells h.cells));
         merges = merges_stay w (is_way_to sheet) sheet.merges h.merges;
       }) book.worksheets placed
 
@@ -171,7 +185,8 @@ module _ (a : Along) (l : IsAxis a) (e : EditKind) (valid : IsValid a.last e) (i
   back_placed kept inside lines = all_mapped IsPlacedSheet (λ sheet. sheet_back (way_to sheet) kept sheet)
       (λ sheet h. let w : Way = way_to sheet in record {
         cells = each_found position_cmp IsPlacedCell (sheet_back w kept sheet).cells
-            (back_are w (is_way_to sheet) IsPlacedCell (λ place tree. is_placed place tree ≡ true) places_stay sheet.cells (each_from position_cmp IsPlacedCell sheet.cells h.cells)
+            (back_are w (is_way_to sheet) IsPlacedCell (λ place tree. is_placed place tree ≡ true) places_stay sheet.cells
+            (each_from position_cmp IsPlacedCell sheet.cells h.cells)
             kept.cells (λ place. get kept.formulas (place_on sheet.id place)) (each_from position_cmp IsPlacedCell kept.cells lines.cells)
             (λ p. holds_of (λ tree. is_placed p tree ≡ true) (get kept.formulas (place_on sheet.id p)) (λ tree. lines.formulas (place_on sheet.id p) tree)));
         merges = merges_return w (is_way_to sheet) kept.merges sheet.merges inside.merges h.merges;

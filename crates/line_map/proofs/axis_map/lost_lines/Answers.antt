@@ -15,12 +15,15 @@ use Rattle.line_map.proofs.axis_map.lost_lines.Goals as goal
 
 pub loop-line-preserved : goal.loop-line-preserved
 loop-line-preserved g c =
-    let on : IsLine g.B.Axis.along.last c.in-Some.line.now = first_holds (λ e. IsLine g.B.Axis.along.last e.0) c.loop-line.invariant.1 (rest_more deref_pair c.loop-line.line-iterator c.next.new.self c.next.result (c.in-Some.line, c.in-Some.value) c.in-Some.is c.next.ensures.steps) in
+    let on : IsLine g.B.Axis.along.last c.in-Some.line.now = first_holds (λ e. IsLine g.B.Axis.along.last e.0) c.loop-line.invariant.1
+    (rest_more deref_pair c.loop-line.line-iterator c.next.new.self c.next.result (c.in-Some.line, c.in-Some.value) c.in-Some.is c.next.ensures.steps) in
     let last = g.met.B.Axis.lawful.last_high in
     let key : to_z w32 (of_z w32 c.in-Some.line.now) ≡ c.in-Some.line.now = omega (arith, ints, on.0, on.1, last) in (
       made_on int_cmp_total int_cmp-IsAntisymmetric c.loop-line.invariant.0 own_inverse (c.in-Some.line, c.in-Some.value) c.in-Some.is c.next.ensures.steps
-          (c.in_ok-keep_lost.ensures.lost ∙ ap (λ (n : ℤ). with_made (entry_made Some (if_lost (g.M.LineMap.moves c.args.lines.now).to) (n, c.in-Some.value.now)) c.loop-line.lost) key),
-      rest_hold (λ e. IsLine g.B.Axis.along.last e.0) c.loop-line.invariant.1 (rest_more deref_pair c.loop-line.line-iterator c.next.new.self c.next.result (c.in-Some.line, c.in-Some.value) c.in-Some.is c.next.ensures.steps),
+          (c.in_ok-keep_lost.ensures.lost ∙ ap (λ (n : ℤ). with_made (entry_made Some (if_lost (g.M.LineMap.moves c.args.lines.now).to)
+          (n, c.in-Some.value.now)) c.loop-line.lost) key),
+      rest_hold (λ e. IsLine g.B.Axis.along.last e.0) c.loop-line.invariant.1
+          (rest_more deref_pair c.loop-line.line-iterator c.next.new.self c.next.result (c.in-Some.line, c.in-Some.value) c.in-Some.is c.next.ensures.steps),
     )
 
 pub returns-clause-map : goal.returns-clause-map

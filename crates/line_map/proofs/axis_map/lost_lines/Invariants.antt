@@ -7,4 +7,5 @@ use Rattle.base_maps.specs.laws.Loops.{Made}
 use Rattle.line_map.proofs.axis_map.lost_lines.Given as goal
 
 abbrev pub invariant-loop-line : goal.invariant-loop-line
-invariant-loop-line g l = Made deref_pair Some (if_lost (g.M.LineMap.moves l.fn.lines).to) l.fn.map l.yielded l.line-iterator l.lost × All (λ entry. IsLine g.B.Axis.along.last entry.0) l.line-iterator
+invariant-loop-line g l = Made deref_pair Some (if_lost (g.M.LineMap.moves l.fn.lines).to) l.fn.map l.yielded l.line-iterator l.lost × All
+    (λ entry. IsLine g.B.Axis.along.last entry.0) l.line-iterator

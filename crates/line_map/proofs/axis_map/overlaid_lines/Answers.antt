@@ -11,7 +11,9 @@ use Rattle.line_map.proofs.axis_map.overlaid_lines.Goals as goal
 
 pub put_line-requires : goal.put_line-requires
 put_line-requires g c =
-    let on : IsLine g.B.Axis.along.last c.in-Some.line.now = c.requires c.in-Some.line.now c.in-Some.value.now (laid_held int_cmp_total int_cmp-IsAntisymmetric c.loop-line.invariant c.next.new.self (c.in-Some.line, c.in-Some.value) c.in-Some.is c.next.ensures.steps) in
+    let on : IsLine g.B.Axis.along.last c.in-Some.line.now = c.requires c.in-Some.line.now c.in-Some.value.now
+    (laid_held int_cmp_total int_cmp-IsAntisymmetric c.loop-line.invariant c.next.new.self
+    (c.in-Some.line, c.in-Some.value) c.in-Some.is c.next.ensures.steps) in
     let last = g.met.B.Axis.lawful.last_high in
     let key : to_z w32 (of_z w32 c.in-Some.line.now) ≡ c.in-Some.line.now = omega (arith, ints, on.0, on.1, last) in
     let P : ℤ → Type 0 = IsLine g.B.Axis.along.last in
@@ -22,7 +24,9 @@ loop-line-init g c = record { all = search rules; now = sym (nothing_overlaid in
 
 pub loop-line-preserved : goal.loop-line-preserved
 loop-line-preserved g c =
-    let on : IsLine g.B.Axis.along.last c.in-Some.line.now = c.requires c.in-Some.line.now c.in-Some.value.now (laid_held int_cmp_total int_cmp-IsAntisymmetric c.loop-line.invariant c.next.new.self (c.in-Some.line, c.in-Some.value) c.in-Some.is c.next.ensures.steps) in
+    let on : IsLine g.B.Axis.along.last c.in-Some.line.now = c.requires c.in-Some.line.now c.in-Some.value.now
+    (laid_held int_cmp_total int_cmp-IsAntisymmetric c.loop-line.invariant c.next.new.self
+    (c.in-Some.line, c.in-Some.value) c.in-Some.is c.next.ensures.steps) in
     let last = g.met.B.Axis.lawful.last_high in
     let key : to_z w32 (of_z w32 c.in-Some.line.now) ≡ c.in-Some.line.now = omega (arith, ints, on.0, on.1, last) in
     laid_on int_cmp_total int_cmp-IsAntisymmetric c.loop-line.invariant (c.in-Some.line, c.in-Some.value) c.in-Some.is c.next.ensures.steps

@@ -16,8 +16,11 @@ merged-requires-clause-lines g c =
     let order = lines_in_order a is c.args.merge c.requires in
     let high = is.last_high in
     let f : c.lines-first.result.0 ≡ first_line a c.args.merge = c.lines-first.ensures.first in
-    let e : c.lines-first.result.1 ≡ last_line a c.args.merge = c.lines-first.ensures.last in
-    ((omega (arith, ints, first.0, first.1, f), omega (arith, ints, first.0, first.1, f)), (omega (arith, ints, last.0, last.1, e), omega (arith, ints, last.0, last.1, e)), omega (arith, ints, order))
+    let e : c.lines-first.result.1 ≡ last_line a c.args.merge = c.lines-first.ensures.last in (
+      (omega (arith, ints, first.0, first.1, f), omega (arith, ints, first.0, first.1, f)),
+      (omega (arith, ints, last.0, last.1, e), omega (arith, ints, last.0, last.1, e)),
+      omega (arith, ints, order),
+    )
 
 pub returns : goal.returns
 returns g c =

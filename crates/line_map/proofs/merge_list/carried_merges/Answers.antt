@@ -9,7 +9,7 @@ use Rattle.line_map.proofs.merge_list.carried_merges.Goals as goal
 
 pub loop-merge-preserved : goal.loop-merge-preserved
 loop-merge-preserved g c =
-    c.in_ok-put_last.ensures.merges
+    c.in_ok-put_last.ensures.items
     ∙ (λ i. c.loop-merge.invariant i ++ cons_option (c.carried_merge.ensures i) [])
     ∙ sym (one_left (merge_carried (way c.args.route.now)) c.args.merges.now c.loop-merge.merge-index _ (omega arith))
 

@@ -11,12 +11,15 @@ use Rattle.line_map.specs.Way.{place_goes, way}
 use Rattle.line_map.proofs.place_map.lost_places.Goals as goal
 
 pub keep_lost-requires : goal.keep_lost-requires
-keep_lost-requires g c = first_holds (λ e. IsPlace e.0) c.loop-place.invariant.1 (rest_more deref_pair c.loop-place.place-iterator c.next.new.self c.next.result (c.in-Some.place, c.in-Some.item) c.in-Some.is c.next.ensures.steps)
+keep_lost-requires g c = first_holds (λ e. IsPlace e.0) c.loop-place.invariant.1
+    (rest_more deref_pair c.loop-place.place-iterator c.next.new.self c.next.result (c.in-Some.place, c.in-Some.item) c.in-Some.is c.next.ensures.steps)
 
 pub loop-place-preserved : goal.loop-place-preserved
 loop-place-preserved g c = (
-  made_on position_total exact_positions c.loop-place.invariant.0 own_inverse (c.in-Some.place, c.in-Some.item) c.in-Some.is c.next.ensures.steps c.in_ok-keep_lost.ensures.lost,
-  rest_hold (λ e. IsPlace e.0) c.loop-place.invariant.1 (rest_more deref_pair c.loop-place.place-iterator c.next.new.self c.next.result (c.in-Some.place, c.in-Some.item) c.in-Some.is c.next.ensures.steps),
+  made_on position_total exact_positions c.loop-place.invariant.0 own_inverse
+      (c.in-Some.place, c.in-Some.item) c.in-Some.is c.next.ensures.steps c.in_ok-keep_lost.ensures.lost,
+  rest_hold (λ e. IsPlace e.0) c.loop-place.invariant.1 (rest_more deref_pair c.loop-place.place-iterator c.next.new.self c.next.result
+      (c.in-Some.place, c.in-Some.item) c.in-Some.is c.next.ensures.steps),
 )
 
 pub returns-clause-map : goal.returns-clause-map

@@ -8,4 +8,5 @@ use Rattle.line_map.specs.Way.{place_goes, way}
 use Rattle.line_map.proofs.place_map.lost_places.Given as goal
 
 abbrev pub invariant-loop-place : goal.invariant-loop-place
-invariant-loop-place g l = Made deref_pair Some (if_lost (place_goes (way l.fn.route))) l.fn.map l.yielded l.place-iterator l.lost × All (λ entry. IsPlace entry.0) l.place-iterator
+invariant-loop-place g l = Made deref_pair Some (if_lost (place_goes (way l.fn.route))) l.fn.map l.yielded l.place-iterator l.lost × All
+    (λ entry. IsPlace entry.0) l.place-iterator

@@ -1,19 +1,38 @@
+use Rattle.std.proofs.Common.{ap, ◌++◌, [], ◌∙◌}
+use Rattle.std.proofs.lemmas.Result.{IfOk-weaker}
+use Rattle.std.specs.List.{cons_option}
 use Rattle.base_values.specs.laws.Places.{position_total, exact_positions}
 use Rattle.base_maps.specs.laws.Inverses.{turned_inverse}
-use Rattle.base_maps.specs.laws.Loops.{made_held, made_on, made_all}
-use Rattle.line_map.specs.Way.{way}
-use Rattle.line_map.specs.laws.WayLaws.{goes_inverse}
+use Rattle.line_map.specs.Way.{back, way}
+use Rattle.line_map.specs.laws.Listed.{listed_held, listed_on, listed_all}
+use Rattle.line_map.specs.laws.WayLaws.{back_is_way, goes_inverse, goes_there}
 use Rattle.line_map.proofs.place_map.restored_places.Goals as goal
 
-pub restore_entry-requires-clause-inside : goal.restore_entry-requires-clause-inside
-restore_entry-requires-clause-inside g c = c.requires.lie.places _ _ (made_held position_total exact_positions c.loop-to.invariant c.next.new.self (c.in-Some.to, c.in-Some.item) c.in-Some.is c.next.ensures.steps)
+pub restored_entry-requires-clause-inside : goal.restored_entry-requires-clause-inside
+restored_entry-requires-clause-inside g c =
+    c.requires.lie.places _ _ (listed_held position_total exact_positions c.loop-to.invariant c.next.new.self
+    (c.in-Some.to, c.in-Some.item) c.in-Some.is c.next.ensures.steps)
 
-pub restore_entry-requires-clause-lies : goal.restore_entry-requires-clause-lies
-restore_entry-requires-clause-lies g c = λ from there. c.requires.lie.items _ from _ (made_held position_total exact_positions c.loop-to.invariant c.next.new.self (c.in-Some.to, c.in-Some.item) c.in-Some.is c.next.ensures.steps) there
+pub restored_entry-requires-clause-lies : goal.restored_entry-requires-clause-lies
+restored_entry-requires-clause-lies g c =
+    λ from there. c.requires.lie.items _ from _ (listed_held position_total exact_positions c.loop-to.invariant c.next.new.self
+    (c.in-Some.to, c.in-Some.item) c.in-Some.is c.next.ensures.steps) there
 
 pub loop-to-preserved : goal.loop-to-preserved
 loop-to-preserved g c =
-    made_on position_total exact_positions c.loop-to.invariant (turned_inverse (goes_inverse (way c.args.route.now) c.is_way.ensures)) (c.in-Some.to, c.in-Some.item) c.in-Some.is c.next.ensures.steps c.in_ok-restore_entry.ensures.made
+    let w = way c.args.route.now in
+    let inside = c.requires.lie.places _ _ (listed_held position_total exact_positions c.loop-to.invariant c.next.new.self
+    (c.in-Some.to, c.in-Some.item) c.in-Some.is c.next.ensures.steps) in
+    listed_on position_total exact_positions c.loop-to.invariant (c.in-Some.to, c.in-Some.item) c.in-Some.is c.next.ensures.steps
+    (λ q there. goes_there (back w) (back_is_way w c.is_way.ensures) c.in-Some.to.now q inside there)
+    (c.in_ok-put_last.ensures.items ∙ ap (λ o. c.loop-to.made ++ cons_option o []) c.in_ok-restored_entry.ensures.entry)
+
+pub of_entries-requires : goal.of_entries-requires
+of_entries-requires g c = record { inside = c.loop-to.invariant.inside }
 
 pub returns-clause-map : goal.returns-clause-map
-returns-clause-map g c = made_all position_total exact_positions c.loop-to.invariant c.next.new.self c.in-None.is c.next.ensures.steps
+returns-clause-map g c =
+    IfOk-weaker c.of_entries.result _ _
+    (λ made is. is ∙ listed_all position_total exact_positions c.loop-to.invariant
+    (turned_inverse (goes_inverse (way c.args.route.now) c.is_way.ensures)) c.next.new.self c.in-None.is c.next.ensures.steps)
+    c.of_entries.ensures.map

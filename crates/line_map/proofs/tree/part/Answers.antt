@@ -1,27 +1,20 @@
-use Rattle.std.proofs.Common.{◌≡◌, true, false, Some, ap, sym, subst, ◌∙◌}
-use Rattle.base_values.specs.CodedEq.{same_value}
-use Rattle.formula_tree.specs.declared.Node.{Node}
-use Rattle.formula_tree.specs.contracts.node.Node.{the_row}
-use Rattle.line_map.specs.Trees.{tree_carried}
-use Rattle.line_map.specs.Way.{back, way}
-use Rattle.line_map.specs.laws.TreeLaws.{no_tree_part, tree_part_at}
+use Rattle.std.proofs.Common.{◌≡◌, true, false, Some, None, ap, sym, ◌∙◌}
+use Rattle.std.specs.Prelude.{if◌then◌else◌}
+use Rattle.line_map.specs.MustKeep.{must_keep}
+use Rattle.line_map.specs.Way.{way}
+use Rattle.line_map.specs.laws.MustKeepLaws.{part_by_corners}
 use Rattle.line_map.proofs.tree.part.Goals as goal
 
-pub returns-then-is_given_back-clause-part : goal.returns-then-is_given_back-clause-part
-returns-then-is_given_back-clause-part g c =
-    let w = way c.args.route.now in
-    let P : Node → Type 0 = λ n. tree_carried (back w) (tree_carried w n) ≡ n in
-    no_tree_part w c.args.tree.now (subst P c.get.ensures (c.is_given_back.ensures c.if-is_given_back.true))
-
-pub returns-then-eq-clause-part : goal.returns-then-eq-clause-part
-returns-then-eq-clause-part g c =
+pub returns-then-not-must_keep_along-clause-part : goal.returns-then-not-must_keep_along-clause-part
+returns-then-not-must_keep_along-clause-part g c =
     let w = way c.args.route.now in
     let tree = c.args.tree.now in
-    sym (tree_part_at w tree true (ap (λ n. same_value the_row.coded n tree) (sym c.in_ok-returned.ensures.tree) ∙ sym c.eq-2.ensures ∙ c.if-eq.true))
+    let kept : must_keep w tree ≡ false = sym (ap (must_keep w) c.get.ensures) ∙ sym c.must_keep_along.ensures ∙ c.if-not-must_keep_along.true in
+    sym (part_by_corners w c.is_way.ensures tree c.requires ∙ (λ i. if kept i then Some tree else None))
 
 pub returns-clause-part : goal.returns-clause-part
 returns-clause-part g c =
     let w = way c.args.route.now in
     let tree = c.args.tree.now in
-    ap Some c.in_ok-copy_of.ensures.copy
-    ∙ sym (tree_part_at w tree false (ap (λ n. same_value the_row.coded n tree) (sym c.in_ok-returned.ensures.tree) ∙ sym c.eq-2.ensures ∙ c.if-eq.false))
+    let kept : must_keep w tree ≡ true = sym (ap (must_keep w) c.get.ensures) ∙ sym c.must_keep_along.ensures ∙ c.if-not-must_keep_along.false in
+    ap Some c.in_ok-copy_of.ensures.copy ∙ sym (part_by_corners w c.is_way.ensures tree c.requires ∙ (λ i. if kept i then Some tree else None))

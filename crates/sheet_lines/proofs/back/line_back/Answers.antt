@@ -12,7 +12,8 @@ returns-clause-workbook g c =
     let a = g.A.Axis.along in
     let by = c.edited_by-edited.ensures in
     IfOk-weaker c.with_worksheets.result _ _ (λ book is. is ∙ (λ i. record c.args.workbook.now {
-      worksheets = (c.in_ok-made.ensures.sheets ∙ (λ j. map (λ sheet. sheet_back (way_of a (edit_moves a.last (by.map j).kind) (by.id j) (by.name j) sheet) c.args.kept.now sheet) (c.worksheets.ensures j))) i;
+      worksheets = (c.in_ok-made.ensures.sheets ∙ (λ j. map (λ sheet. sheet_back
+          (way_of a (edit_moves a.last (by.map j).kind) (by.id j) (by.name j) sheet) c.args.kept.now sheet) (c.worksheets.ensures j))) i;
     })) c.with_worksheets.ensures.book
 
 pub returns-clause-placed : goal.returns-clause-placed
@@ -20,5 +21,6 @@ returns-clause-placed g c = λ lines.
     IfOk-weaker c.with_worksheets.result _ _
     (λ book is.
     subst IsPlacedBook (sym is)
-    (back_placed g.A.Axis.along g.met.A.Axis.lawful c.args.edit.now.kind c.requires.valid c.args.sheet_id c.args.workbook.now c.requires.placed c.args.kept.now c.requires.inside lines))
+    (back_placed g.A.Axis.along g.met.A.Axis.lawful c.args.edit.now.kind c.requires.valid c.args.sheet_id
+    c.args.workbook.now c.requires.placed c.args.kept.now c.requires.inside lines))
     (returns-clause-workbook g c)

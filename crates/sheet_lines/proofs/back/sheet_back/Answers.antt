@@ -15,7 +15,8 @@ use Rattle.sheet_lines.proofs.back.sheet_back.Goals as goal
 pub with_entries-requires : goal.with_entries-requires
 with_entries-requires g c =
     subst KeptCells (sym c.in_ok-cells.ensures.map)
-    (back_are (way c.route_on-route.result) c.route_on-route.ensures.is (λ _. IsKeptCell) (λ _. HasKeptNumbers) numbers_stay c.cell_map-cells.result.now c.cell_map-cells.ensures.kept
+    (back_are (way c.route_on-route.result) c.route_on-route.ensures.is (λ _. IsKeptCell)
+    (λ _. HasKeptNumbers) numbers_stay c.cell_map-cells.result.now c.cell_map-cells.ensures.kept
     c.args.kept.now.cells _ c.requires.numbers.cells (λ p. c.requires.numbers.formulas (place_on c.get_sheet_id-id.result p)))
 
 pub returns-clause-sheet : goal.returns-clause-sheet
@@ -23,7 +24,9 @@ returns-clause-sheet g c =
     let kept = c.args.kept.now in
     let to = c.route_on-route.ensures.way in
     IfOk-weaker c.with_entries.result _ _ (λ made is. is ∙ (λ i. record c.args.sheet.now {
-      cells = (c.in_ok-cells.ensures.map ∙ (λ j. with_lost (to j) kept.cells (places_restored cell_carried (λ _ cell tree. cell_restored cell tree) (to j) (λ place. get kept.formulas (place_on (c.get_sheet_id-id.ensures j) place)) (c.cell_map-cells.ensures.map j)))) i;
+      cells = (c.in_ok-cells.ensures.map ∙ (λ j. with_lost (to j) kept.cells
+          (places_restored cell_carried (λ _ cell tree. cell_restored cell tree) (to j)
+          (λ place. get kept.formulas (place_on (c.get_sheet_id-id.ensures j) place)) (c.cell_map-cells.ensures.map j)))) i;
       links = (c.in_ok-links.ensures.map ∙ (λ j. with_lost (to j) kept.links (places_carried (λ _ link. link) (back (to j)) (c.link_map-links.ensures j)))) i;
       rows = (c.in_ok-rows.ensures.lines ∙ (λ j. lines_restored rows (to j) (c.row_map.ensures j) kept.lines)) i;
       columns = (c.in_ok-columns.ensures.lines ∙ (λ j. lines_restored columns (to j) (c.column_map.ensures j) kept.lines)) i;

@@ -27,7 +27,8 @@ merges_lie book id sheet placed found = (found_holds (λ s. s.id == id) IsPlaced
 
 pub part-requires : goal.part-requires
 part-requires g c =
-    subst MergesLie (sym c.merge_list.ensures) (merges_lie c.args.workbook.now c.args.edited.now.id c.in-Some.sheet.now c.requires.placed (sym c.sheet_of.ensures ∙ ap option_copied c.in-Some.is))
+    subst MergesLie (sym c.merge_list.ensures) (merges_lie c.args.workbook.now c.args.edited.now.id c.in-Some.sheet.now c.requires.placed
+    (sym c.sheet_of.ensures ∙ ap option_copied c.in-Some.is))
 
 pub returns-clause-kept : goal.returns-clause-kept
 returns-clause-kept g c =
@@ -56,7 +57,8 @@ returns-clause-kept g c =
 
 pub returns-clause-numbers : goal.returns-clause-numbers
 returns-clause-numbers g c = record {
-  cells = subst KeptCells (sym c.in_ok-lost_places.ensures.map) (each_lost position_cmp position_total exact_positions (λ _. IsKeptCell) (place_goes (way c.route_on-route.result)) c.cell_map-cells.result.now c.cell_map-cells.ensures.kept);
+  cells = subst KeptCells (sym c.in_ok-lost_places.ensures.map) (each_lost position_cmp position_total exact_positions (λ _. IsKeptCell)
+      (place_goes (way c.route_on-route.result)) c.cell_map-cells.result.now c.cell_map-cells.ensures.kept);
   formulas = c.in_ok-formulas.ensures.numbers;
 }
 
@@ -64,11 +66,16 @@ pub returns-clause-inside : goal.returns-clause-inside
 returns-clause-inside g c =
     let goes = place_goes (way c.route_on-route.result) in
     let sheet = c.in-Some.sheet.now in record {
-      cells = subst KeysInside (sym c.in_ok-lost_places.ensures.map) (keys_lost position_cmp position_total exact_positions IsPlace goes c.cell_map-cells.result.now c.places_inside.ensures);
-      links = subst KeysInside (sym c.in_ok-lost_places-2.ensures.map) (keys_lost position_cmp position_total exact_positions IsPlace goes c.link_map-links.result.now c.places_inside-2.ensures);
+      cells = subst KeysInside (sym c.in_ok-lost_places.ensures.map)
+          (keys_lost position_cmp position_total exact_positions IsPlace goes c.cell_map-cells.result.now c.places_inside.ensures);
+      links = subst KeysInside (sym c.in_ok-lost_places-2.ensures.map)
+          (keys_lost position_cmp position_total exact_positions IsPlace goes c.link_map-links.result.now c.places_inside-2.ensures);
       lines = subst (LinesLie g.A.Axis.along) (sym c.in_ok-lost_attributes.ensures.lines)
-          (lost_lines_lie g.A.Axis.along g.met.A.Axis.lawful sheet (subst (LinesLie rows) c.row_map.ensures c.lines_inside.ensures) (subst (LinesLie columns) c.column_map.ensures c.lines_inside-2.ensures) (g.M.LineMap.moves c.args.edited.now.map.now).to);
+          (lost_lines_lie g.A.Axis.along g.met.A.Axis.lawful sheet (subst (LinesLie rows) c.row_map.ensures c.lines_inside.ensures)
+          (subst (LinesLie columns) c.column_map.ensures c.lines_inside-2.ensures) (g.M.LineMap.moves c.args.edited.now.map.now).to);
       merges = subst (λ o. IfSome o MergesLie) (sym c.in_ok-merges.ensures.part)
-          (holds_of MergesLie (merges_part (way c.route_on-route.result) c.merge_list.result.now) (merges_part_fits (way c.route_on-route.result) c.route_on-route.ensures.is c.merge_list.result.now
-          (subst MergesLie (sym c.merge_list.ensures) (merges_lie c.args.workbook.now c.args.edited.now.id sheet c.requires.placed (sym c.sheet_of.ensures ∙ ap option_copied c.in-Some.is)))));
+          (holds_of MergesLie (merges_part (way c.route_on-route.result) c.merge_list.result.now)
+          (merges_part_fits (way c.route_on-route.result) c.route_on-route.ensures.is c.merge_list.result.now
+          (subst MergesLie (sym c.merge_list.ensures) (merges_lie c.args.workbook.now c.args.edited.now.id sheet c.requires.placed
+          (sym c.sheet_of.ensures ∙ ap option_copied c.in-Some.is)))));
     }

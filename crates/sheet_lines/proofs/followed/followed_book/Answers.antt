@@ -11,7 +11,8 @@ returns-clause-book g c =
     let a = g.A.Axis.along in
     let by = c.edited_by-edited.ensures in
     IfOk-weaker c.with_worksheets.result _ _ (λ book is. is ∙ (λ i. record c.args.workbook.now {
-      worksheets = (c.in_ok-sheets.ensures.sheets ∙ (λ j. map (λ sheet. sheet_followed (way_of a (edit_moves a.last (by.map j).kind) (by.id j) (by.name j) sheet) sheet) (c.worksheets.ensures j))) i;
+      worksheets = (c.in_ok-sheets.ensures.sheets ∙ (λ j. map (λ sheet. sheet_followed
+          (way_of a (edit_moves a.last (by.map j).kind) (by.id j) (by.name j) sheet) sheet) (c.worksheets.ensures j))) i;
     })) c.with_worksheets.ensures.book
 
 pub returns-clause-placed : goal.returns-clause-placed

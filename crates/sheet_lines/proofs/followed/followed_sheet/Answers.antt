@@ -5,4 +5,6 @@ use Rattle.sheet_lines.specs.laws.Stays.{HasKeptNumbers, followed_are, numbers_s
 use Rattle.sheet_lines.proofs.followed.followed_sheet.Goals as goal
 
 pub with_entries-requires : goal.with_entries-requires
-with_entries-requires g c = subst KeptCells (sym c.in_ok-cells.ensures.value) (followed_are (way c.route_on-route.result) c.route_on-route.ensures.is (λ _. IsKeptCell) (λ _. HasKeptNumbers) numbers_stay c.cell_map-2.result.now c.cell_map-2.ensures.kept)
+with_entries-requires g c = subst KeptCells (sym c.in_ok-cells.ensures.value)
+    (followed_are (way c.route_on-route.result) c.route_on-route.ensures.is (λ _. IsKeptCell)
+    (λ _. HasKeptNumbers) numbers_stay c.cell_map-2.result.now c.cell_map-2.ensures.kept)

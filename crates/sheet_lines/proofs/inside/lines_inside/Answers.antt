@@ -8,4 +8,5 @@ use Rattle.base_maps.specs.laws.Each.{keys_listed}
 use Rattle.sheet_lines.proofs.inside.lines_inside.Goals as goal
 
 pub returns : goal.returns
-returns g c = keys_listed int_cmp int_cmp_total exact_signed (IsLine g.B.Axis.along.last) c.args.map.now (subst (All (λ e. IsLine g.B.Axis.along.last e.0)) c.iter.ensures.entries c.iter.ensures.inside)
+returns g c = keys_listed int_cmp int_cmp_total exact_signed (IsLine g.B.Axis.along.last) c.args.map.now
+    (subst (All (λ e. IsLine g.B.Axis.along.last e.0)) c.iter.ensures.entries c.iter.ensures.inside)

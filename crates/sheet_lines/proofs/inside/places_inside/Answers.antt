@@ -6,4 +6,5 @@ use Rattle.base_maps.specs.laws.Each.{keys_listed}
 use Rattle.sheet_lines.proofs.inside.places_inside.Goals as goal
 
 pub returns : goal.returns
-returns g c = keys_listed position_cmp position_total exact_positions IsPlace c.args.map.now (subst (All (λ e. IsPlace e.0)) c.iter.ensures.entries c.iter.ensures.inside)
+returns g c = keys_listed position_cmp position_total exact_positions IsPlace c.args.map.now
+    (subst (All (λ e. IsPlace e.0)) c.iter.ensures.entries c.iter.ensures.inside)

@@ -26,10 +26,13 @@ loop-sheet-preserved g c =
     let i = c.loop-sheet.sheet-index in
     let within : i < length sheets = omega arith in (
       c.in_ok-put_under.ensures.ok
-          ∙ (λ j. put_under (c.get_sheet_id.ensures j) ((c.in_ok-trees.ensures.map ∙ (λ k. places_parts cell_part (c.route_on.ensures.way k) (c.cell_map-cells.ensures.map k))) j) (c.loop-sheet.invariant.0 j))
+          ∙ (λ j. put_under (c.get_sheet_id.ensures j) ((c.in_ok-trees.ensures.map
+          ∙ (λ k. places_parts cell_part (c.route_on.ensures.way k) (c.cell_map-cells.ensures.map k))) j) (c.loop-sheet.invariant.0 j))
           ∙ sym (fold_more (λ made sheet. put_under sheet.id (trees_of sheet) made) empty sheets i c.sheet-item.result within
-          ∙ ap (λ sheet. put_under sheet.id (trees_of sheet) (formulas_kept g.A.Axis.along (g.M.LineMap.moves edited.map.now) edited.id edited.name.now (take i sheets))) (sym c.sheet-item.is)),
+          ∙ ap (λ sheet. put_under sheet.id (trees_of sheet) (formulas_kept g.A.Axis.along (g.M.LineMap.moves edited.map.now) edited.id edited.name.now
+          (take i sheets))) (sym c.sheet-item.is)),
       subst AreKeptFormulas (sym c.in_ok-put_under.ensures.ok)
           (put_under_are (λ tree. IsTrue (has_kept_numbers tree)) c.get_sheet_id.result c.in_ok-trees.trees c.loop-sheet.kept
-          (subst AreKeptFormulas (sym c.in_ok-trees.ensures.map) (parts_kept (way c.route_on.result) c.route_on.ensures.is c.cell_map-cells.result.now c.cell_map-cells.ensures.kept)) c.loop-sheet.invariant.1),
+          (subst AreKeptFormulas (sym c.in_ok-trees.ensures.map) (parts_kept
+          (way c.route_on.result) c.route_on.ensures.is c.cell_map-cells.result.now c.cell_map-cells.ensures.kept)) c.loop-sheet.invariant.1),
     )

@@ -24,7 +24,8 @@ returns-clause-cells g c edited sheet q =
     let a = g.A.Axis.along in
     let e = c.args.edit.now.kind in
     let w = way_of a (edit_moves a.last e) c.args.sheet_id edited sheet in
-    get-carried_map position_cmp position_total exact_positions (place_goes w) (place_goes (back w)) (goes_inverse w (way_is a g.met.A.Axis.lawful e c.requires.valid c.args.sheet_id edited sheet)) (λ p q x. cell_carried (at w p q) x) sheet.cells q
+    get-carried_map position_cmp position_total exact_positions (place_goes w) (place_goes (back w))
+    (goes_inverse w (way_is a g.met.A.Axis.lawful e c.requires.valid c.args.sheet_id edited sheet)) (λ p q x. cell_carried (at w p q) x) sheet.cells q
 
 pub returns-clause-lost_cells : goal.returns-clause-lost_cells
 returns-clause-lost_cells g c sheet p found =
@@ -43,7 +44,8 @@ returns-clause-lost_lines g c sheet n found =
     ap (λ o. get (of_sheet (λ s. lost_map to (lines_of a s)) o) n) found ∙ get-lost_map int_cmp int_cmp_total exact_signed to (lines_of a sheet) n
 
 pub returns-clause-merges : goal.returns-clause-merges
-returns-clause-merges g c sheet found = ap (merges_kept g.A.Axis.along (edit_moves g.A.Axis.along.last c.args.edit.now.kind) c.args.sheet_id (name_of (sheet_of c.args.workbook.now c.args.sheet_id))) found
+returns-clause-merges g c sheet found = ap (merges_kept g.A.Axis.along (edit_moves g.A.Axis.along.last c.args.edit.now.kind) c.args.sheet_id
+    (name_of (sheet_of c.args.workbook.now c.args.sheet_id))) found
 
 pub returns-clause-trees : goal.returns-clause-trees
 returns-clause-trees g c id p =

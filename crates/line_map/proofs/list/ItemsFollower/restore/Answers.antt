@@ -12,7 +12,8 @@ loop-i-preserved g c =
     let items = c.as_slice-items.result.now in
     let parts = c.as_slice-parts.result.now in
     let i = c.loop-i.i in
-    let more : items_restored carry restore (take (i + 1) items) (take (i + 1) parts) ≡ items_restored carry restore (take i items) (take i parts) ++ (settled carry restore c.index-parts-i.result c.index-items-i.result ∷ []) =
+    let more : items_restored carry restore (take (i + 1) items) (take (i + 1) parts) ≡ items_restored carry restore (take i items) (take i parts) ++
+    (settled carry restore c.index-parts-i.result c.index-items-i.result ∷ []) =
     zip_more (λ x part. settled carry restore part x) items parts i _ _ (omega arith) (omega arith) c.index-items-i.is c.index-parts-i.is in
     search (rules, more)
 

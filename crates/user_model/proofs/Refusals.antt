@@ -97,11 +97,11 @@ OnlyDone (Err error) = IsOfDiff error
 applied_only : (at : ℕ) (entries : List QueueDiffs) (s : State) → OnlyDone (applied_from at entries s).1
 applied_only at [] s = tt
 applied_only at (entry ∷ entries) s =
-    go (in_entry at (follow entry.kind s.present entry.list)) (entry_only at (follow entry.kind s.present entry.list) (follow_only entry.kind s.present entry.list))
+    go (λ t. applied_only (at + 1) entries t) (in_entry at (follow entry.kind s.present entry.list)) (entry_only at (follow entry.kind s.present entry.list) (follow_only entry.kind s.present entry.list))
   where
-    go : (r : Result Book EditError) → Only r → OnlyDone (go_on s (map_ok (outside s) r) (applied_from (at + 1) entries)).1
-    go (Ok later) h = applied_only (at + 1) entries (outside s later)
-    go (Err error) h = h
+    go : ((t : State) → OnlyDone (applied_from (at + 1) entries t).1) → (r : Result Book EditError) → Only r → OnlyDone (go_on s (map_ok (outside s) r) (applied_from (at + 1) entries)).1
+    go rest (Ok later) h = rest (outside s later)
+    go rest (Err error) h = h
 
 -- what was read is not refused as unread
 pub never_unread : (result : Result (Unit {0}) EditError) (new : Document) (entries : List QueueDiffs) (s : State) → Leaves result new entries s → result ≡ Err ParseDiffs → ⊥

@@ -1,6 +1,4 @@
 mod Ends
 mod Lines
-mod Onlys
 mod Runs
 mod Syncs
-mod Typed

@@ -1,5 +1,5 @@
 use Rattle.std.proofs.lemmas.Result.{err_from_is_err_and}
-use Rattle.script_editor.specs.Machine.{start}
+use Rattle.edit_script.specs.Script.{start}
 use Rattle.edit_script.proofs.output.output_text.Goals as goal
 
 pub returns-in_err-run_lines-clause-only : goal.returns-in_err-run_lines-clause-only

@@ -1,6 +1,6 @@
 -- A step of the model, which the machine makes or refuses.
-use Rattle.std.proofs.Common.{◌≡◌, ◌≢◌, ◌++◌, ℕ, Bool, true, false, List, [], ◌∷◌, Option, Some, Result, Ok, Err, refl, ap, sym, subst, ◌∙◌}
-use Rattle.std.specs.Prelude.{OnOk, OnErr, IfErr, IsOkAnd, IsOkUnless, if◌then◌else◌}
+use Rattle.std.proofs.Common.{◌≡◌, ◌≢◌, ◌++◌, Bool, true, false, List, [], ◌∷◌, Some, Result, Ok, Err, refl, ap, sym, subst, ◌∙◌}
+use Rattle.std.specs.Prelude.{OnOk, OnErr, IfErr, IsOkUnless, if◌then◌else◌}
 use Rattle.base_values.specs.declared.EditError.{EditError}
 use Rattle.base_values.specs.declared.EditError.TheVariants.{NoMemory}
 use Rattle.base_values.specs.Answers.{map_ok}
@@ -12,7 +12,7 @@ use Rattle.edit_plans.specs.Edits.{Edit, changed, is_silent}
 use Rattle.user_model.specs.Machine.{Step, State, edited, edit_of, moved, redo_from, redo_list, redo_of, redo_stale, undo_from, undo_list, undo_of, undo_stale}
 use Rattle.user_model.specs.Document.{Document}
 use Rattle.user_model.specs.Stands.{StandsFor, Moves, Turns}
-use Rattle.user_model.specs.Values.{Session as Values}
+use Rattle.user_model.specs.Values.{Session as Opened}
 use Rattle.edit_script.specs.Script.{outcome, state_after}
 use Rattle.edit_script.specs.Session.{SessionStands, Runs}
 use Rattle.edit_script.specs.declared.session.Session.{Session}
@@ -38,6 +38,7 @@ undo_keeps s = steps s.past
     stale : (lists : List (List Diff)) → KeepsSync (undo_stale lists s) s
     stale [] = refl
     stale (list ∷ lists) = made_keeps (λ earlier. moved Undo list earlier [] [] lists (list ∷ redo_list s) s) s (λ book. refl) (backed s.present list)
+
     steps : (past : List Step) → KeepsSync (undo_from past s) s
     steps [] = stale s.stale_undo
     steps (step ∷ past) = refl
@@ -48,6 +49,7 @@ redo_keeps s = steps s.undone
     stale : (lists : List (List Diff)) → KeepsSync (redo_stale lists s) s
     stale [] = refl
     stale (list ∷ lists) = made_keeps (λ later. moved Redo list later [] [] (list ∷ undo_list s) lists s) s (λ book. refl) (forwarded s.present list)
+
     steps : (undone : List Step) → KeepsSync (redo_from undone s) s
     steps [] = stale s.stale_redo
     steps (step ∷ undone) = refl
@@ -56,13 +58,13 @@ pub moves_turn : {T : Type 0} (result : Result T EditError) (new : Document) (ex
 moves_turn result new expected moves = record { done = moves.done; refused = moves.refused }
 
 -- the model after a step that was answered
-answered : (done : Result (Unit {0}) EditError) (old new : Values) (s : State) (expected : Result State EditError) → StandsFor old.document s → Turns done new.document expected
+answered : (done : Result (Unit {0}) EditError) (old new : Opened) (s : State) (expected : Result State EditError) → StandsFor old.document s → Turns done new.document expected
     → OnErr done (new ≡ old) → IfErr done (λ error. error ≢ NoMemory) → (outcome done ≡ outcome expected) × StandsFor new.document (state_after expected s)
 answered (Ok u) old new s (Ok next) stands turns err memory = (refl, turns.done)
 answered (Ok u) old new s (Err error) stands turns err memory = absurd turns.done
 answered (Err error) old new s expected stands turns err memory =
     let refused = turns.refused memory in
-    (sym (ap outcome refused), subst (λ (e : Result State EditError). StandsFor new.document (state_after e s)) (sym refused) (subst (λ (v : Values). StandsFor v.document s) (sym err) stands))
+    (sym (ap outcome refused), subst (λ (e : Result State EditError). StandsFor new.document (state_after e s)) (sym refused) (subst (λ (v : Opened). StandsFor v.document s) (sym err) stands))
 
 -- a command that made a step and wrote its outcome ran
 pub step_runs : (result done : Result (Unit {0}) EditError) (old new : Session) (s : State) (expected : Result State EditError) → KeepsSync expected s → SessionStands old s

@@ -1,4 +1,6 @@
 mod Ends
 mod Lines
 mod Runs
+mod Starts
+mod Steps
 mod Syncs

@@ -2,8 +2,9 @@ ghost use Rattle.std.specs.Prelude.{◌≡◌, ◌≢◌, ◌++◌, [], codes, s
 ghost use Rattle.base_values.specs.Answers.{map_ok};
 ghost use Rattle.base_values.specs.declared.EditError.TheVariants.{NoMemory};
 ghost use Rattle.script_dump.specs.Text.{line, hex};
-ghost use Rattle.edit_script.specs.Script.{refusal, outcome, got};
+ghost use Rattle.edit_script.specs.Script.{refusal, outcome, got, start};
 ghost use Rattle.user_model.specs.Reading.{rectangle_of};
+ghost use Rattle.user_model.specs.Stands.{StandsFor};
 
 use base_axis::Area;
 use base_values::EditError;
@@ -112,7 +113,7 @@ impl Session {
     ghost use Rattle.script_lines.specs.Commands.{command_of};
     ghost use Rattle.script_lines.specs.declared.Command.TheVariants as command;
     ghost use Rattle.user_model.specs.Machine.{State};
-    ghost use Rattle.edit_script.specs.Script.{line_reply, line_next, lines_of, replies, after, start};
+    ghost use Rattle.edit_script.specs.Script.{line_reply, line_next, lines_of, replies, after};
     ghost use Rattle.edit_script.specs.Session.{SessionStands, Runs, RunsCommand, SoundThrough};
 
     /// A new workbook, a second copy equal to it, and no answer yet.

@@ -36,9 +36,14 @@ fn hits_merge(sheet: &Worksheet, area: MergedCell) -> bool
     }
 }
 
-/// A rectangle inside the sheet that an array may fill. It takes no memory.
-fn free_area(sheet: &Worksheet, area: MergedCell) -> Result<MergedCell, EditError>
+/// The rectangle, if an array may fill it. It takes no memory.
+///
+/// `InvalidArea` where the rectangle is empty or reaches outside the sheet, else `CoveredCell` where a
+/// merge meets it, or covers its one cell, else `ArrayCell` where it meets an array of more than one
+/// cell.
+pub fn free_area(sheet: &Worksheet, area: MergedCell) -> Result<MergedCell, EditError>
     ensures area { result ≡ free_area sheet.now area }
+    ensures same { IfOk result (λ free. free ≡ area) }
     ensures sure { result ≢ Err NoMemory }
 {
     if !area.is_inside() {

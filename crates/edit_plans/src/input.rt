@@ -32,9 +32,14 @@ fn is_covered(sheet: &Worksheet, place: Position) -> bool
     sheet.is_covered_cell(place.row, place.column)
 }
 
-/// A place to which an input may go. It takes no memory.
-fn free_place(sheet: &Worksheet, place: Position) -> Result<Position, EditError>
-    ensures { result ≡ free_place sheet.now place }
+/// The place, if an input may go to it. It takes no memory.
+///
+/// `CoveredCell` where a merge covers the place, else `ArrayCell` where an array of more than one
+/// cell holds it.
+pub fn free_place(sheet: &Worksheet, place: Position) -> Result<Position, EditError>
+    ensures free { result ≡ free_place sheet.now place }
+    ensures same { IfOk result (λ found. found ≡ place) }
+    ensures sure { result ≢ Err NoMemory }
 {
     if is_covered(sheet, place) {
         return Err(EditError::CoveredCell);

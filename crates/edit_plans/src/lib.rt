@@ -12,9 +12,9 @@ mod list;
 mod merge;
 mod unmerge;
 
-pub use array::plan_array;
+pub use array::{free_area, plan_array};
 pub use hidden::grown_delta;
-pub use input::plan_input;
+pub use input::{free_place, plan_input};
 pub use laws::edits_have_records;
 pub use link::plan_link;
 pub use merge::plan_merge;

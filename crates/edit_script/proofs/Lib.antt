@@ -1,6 +1,6 @@
 mod Ends
 mod Lines
-mod Onlys
 mod Runs
+mod Starts
+mod Steps
 mod Syncs
-mod Typed

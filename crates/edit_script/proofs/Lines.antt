@@ -4,7 +4,7 @@ use Rattle.std.specs.Prelude.{◌==◌}
 use Rattle.base_values.specs.declared.EditError.{EditError}
 use Rattle.script_lines.specs.Commands.{command_of}
 use Rattle.script_lines.specs.declared.Command.{Command}
-use Rattle.script_editor.specs.Machine.{State}
+use Rattle.user_model.specs.Machine.{State}
 use Rattle.edit_script.specs.declared.session.Session.{Session}
 use Rattle.edit_script.specs.Session.{Runs}
 use Rattle.edit_script.specs.Script.{said, next_said, line_reply, line_next}

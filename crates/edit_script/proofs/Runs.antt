@@ -3,7 +3,7 @@ use Rattle.std.proofs.Common.{◌≡◌, ℕ, List, ◌∷◌, ◌++◌, sym, ap
 use Rattle.std.specs.declared.option.Option.{Option}
 use Rattle.std.specs.declared.option.Option.TheVariants.{Some}
 use Rattle.script_lines.specs.Parts.{parts_at, parts_after, without_return}
-use Rattle.script_editor.specs.Machine.{State}
+use Rattle.user_model.specs.Machine.{State}
 use Rattle.edit_script.specs.declared.session.Session.{Session}
 use Rattle.edit_script.specs.Session.{SessionStands, SoundThrough}
 use Rattle.edit_script.specs.Script.{replies, after, line_reply, line_next}
@@ -31,5 +31,5 @@ reached_more out script first old new bytes line rest reached parts told stands 
           ∙ ap (λ ls. old.out.items ++ replies ls s) (sym parts)
           ∙ reached.told;
       left = ap (λ ls. after ls s) (sym parts) ∙ reached.left;
-      sound = λ rest_sound. reached.sound (subst (λ ls. SoundThrough ls s) (sym parts) (reached.stands.editor.sound, rest_sound));
+      sound = λ rest_sound. reached.sound (subst (λ ls. SoundThrough ls s) (sym parts) (reached.stands.model.sound, rest_sound));
     }

@@ -1,4 +1,3 @@
-pub mod Copies
 pub mod Run
 pub mod Script
 pub mod Session

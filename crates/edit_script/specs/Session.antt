@@ -1,21 +1,21 @@
 -- For which states of the machine a session stands.
-use Rattle.std.proofs.Common.{◌≡◌, ◌++◌, ℕ, List, [], ◌∷◌}
+use Rattle.std.proofs.Common.{◌≡◌, ◌++◌, ℕ, List, [], ◌∷◌, Some}
 use Rattle.std.specs.Prelude.{OnOk, IsOkUnless}
 use Rattle.base_values.specs.declared.EditError.{EditError}
 use Rattle.base_values.specs.declared.EditError.TheVariants.{NoMemory}
 use Rattle.std.specs.declared.result.Result.{Result}
 use Rattle.script_lines.specs.Parts.{without_return}
 use Rattle.script_lines.specs.declared.Command.{Command}
-use Rattle.script_editor.specs.Machine.{State}
-use Rattle.script_editor.specs.Sound.{IsSound}
-use Rattle.script_editor.specs.Stands.{StandsFor}
+use Rattle.user_model.specs.Machine.{State}
+use Rattle.user_model.specs.Sound.{IsSound}
+use Rattle.user_model.specs.Stands.{StandsFor}
 use Rattle.edit_script.specs.declared.session.Session.{Session}
 use Rattle.edit_script.specs.Script.{reply_to, next_of, line_next}
 
--- the editor stands for the state, and the second copy is the workbook at the last sync
+-- the model stands for the state, and the second copy is the workbook at the last sync
 pub record SessionStands (session : Session) (s : State) : Type 0 where
-  pub editor : StandsFor session.editor s
-  pub copy : session.copy.workbook ≡ s.synced
+  pub model : StandsFor session.model.document s
+  pub copy : s.synced ≡ Some session.copy.document.book
 
 -- a command wrote its answer and took the session to what stands for the next state, unless memory ran out: nothing else stops
 -- it, so no line is answered by a refused diff

@@ -7,7 +7,6 @@
 
 mod output;
 mod run;
-mod second_copy;
 mod session;
 
 pub use run::{run_script, run_script_surely};

@@ -1,7 +1,6 @@
 ghost use Rattle.std.specs.Prelude.{◌≡◌, OnOk, IfOk, IsOkUnless};
 ghost use Rattle.base_values.specs.declared.EditError.TheVariants.{NoMemory};
-ghost use Rattle.script_editor.specs.Machine.{start};
-ghost use Rattle.edit_script.specs.Script.{lines_of, output_of};
+ghost use Rattle.edit_script.specs.Script.{lines_of, output_of, start};
 ghost use Rattle.edit_script.specs.Session.{SoundThrough};
 
 use crate::session::Session;
@@ -18,13 +17,12 @@ pub(crate) fn output_text(alloc: Global, script: &[u8]) -> Result<Vec<u8>, EditE
     let mut session = Session::new(alloc)?;
     session.run_lines(script)?;
     push_line(&mut session.out, b"copy")?;
-    push_dump(alloc, &mut session.out, session.copy.workbook())?;
+    push_dump(alloc, &mut session.out, session.copy.get_model())?;
     let Session {
         alloc: _,
-        editor: _,
+        model: _,
         copy: _,
         out,
-        scratch: _,
     } = session;
     Ok(out)
 }

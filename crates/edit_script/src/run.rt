@@ -2,8 +2,7 @@ ghost use Rattle.std.specs.Prelude.{◌≡◌, ◌≢◌, ◌↔◌, ◌+◌, �
 ghost use Rattle.std.specs.Io.KnownBytes.{append_known};
 ghost use Rattle.script_ends.specs.Faults.{Rose};
 ghost use Rattle.script_ends.specs.Took.{TookAtMost, AddedFront};
-ghost use Rattle.script_editor.specs.Machine.{start};
-ghost use Rattle.edit_script.specs.Script.{lines_of, output_of};
+ghost use Rattle.edit_script.specs.Script.{lines_of, output_of, start};
 ghost use Rattle.edit_script.specs.Session.{SoundThrough};
 ghost use Rattle.edit_script.specs.Run.{Ran};
 

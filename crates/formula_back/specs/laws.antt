@@ -1,3 +1,4 @@
 pub mod LeafEquations
 pub mod LeafLaws
 pub mod MovedNumbers
+pub mod StillLaws

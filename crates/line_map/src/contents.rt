@@ -1,7 +1,8 @@
 ghost use Rattle.std.specs.Prelude.{◌≡◌, IfOk, IsOkUnless, Some};
 ghost use Rattle.base_values.specs.declared.EditError.TheVariants.{NoMemory};
 ghost use Rattle.cell_content.specs.Lens.{tree_of};
-ghost use Rattle.line_map.specs.Contents.{cell_carried};
+ghost use Rattle.line_map.specs.Contents.{cell_carried, cell_part};
+ghost use Rattle.line_map.specs.Trees.{TreeLies};
 ghost use Rattle.line_map.specs.Way.{way};
 
 use crate::follower::Follower;
@@ -88,6 +89,21 @@ fn with_content(
     Ok(Shared::new(alloc, Cell { content, style })?)
 }
 
+/// A cell whose formula has this tree, with the tree carried along.
+fn moved_cell<A: Axis, M: LineMap<A>>(
+    alloc: Global,
+    route: &Route<'_, A, M>,
+    cell: &Shared<Cell>,
+    tree: &Node,
+) -> Result<Shared<Cell>, EditError>
+    requires { tree_of cell.now.content ≡ Some tree.now }
+    ensures cell { IfOk result (λ carried. carried ≡ cell_carried (way route.now) cell.now) }
+    ensures only { IsOkUnless result NoMemory }
+{
+    let tree = Shared::new(alloc, carried_node(alloc, route, tree)?)?;
+    with_content(alloc, cell, with_tree(&cell.get().content, tree)?)
+}
+
 /// A cell whose formula has this tree, carried along. One that stays the same is shared.
 fn carried_cell<A: Axis, M: LineMap<A>>(
     alloc: Global,
@@ -102,8 +118,29 @@ fn carried_cell<A: Axis, M: LineMap<A>>(
     if stays(route, tree) {
         return copy_of(cell);
     }
-    let tree = Shared::new(alloc, carried_node(alloc, route, tree)?)?;
-    with_content(alloc, cell, with_tree(&cell.get().content, tree)?)
+    moved_cell(alloc, route, cell, tree)
+}
+
+/// A cell whose formula has this tree, carried along, and the tree where it has to be kept. One that
+/// stays the same is shared, and its tree has not to be kept.
+fn carried_cell_with_part<A: Axis, M: LineMap<A>>(
+    alloc: Global,
+    route: &Route<'_, A, M>,
+    cell: &Shared<Cell>,
+    tree: &Shared<Node>,
+) -> Result<(Shared<Cell>, Option<Shared<Node>>), EditError>
+    requires tree { tree_of cell.now.content ≡ Some tree.now }
+    requires lies { TreeLies (way route.now) tree.now }
+    ensures cell { IfOk result (λ both. both.0 ≡ cell_carried (way route.now) cell.now) }
+    ensures part { IfOk result (λ both. both.1 ≡ cell_part (way route.now) cell.now) }
+    ensures only { IsOkUnless result NoMemory }
+{
+    route.is_way();
+    if stays(route, tree.get()) {
+        return Ok((copy_of(cell)?, None));
+    }
+    let part = tree.part(alloc, route)?;
+    Ok((moved_cell(alloc, route, cell, tree.get())?, part))
 }
 
 /// Of a cell the content follows, and the style stays. A cell that stays the same is shared.
@@ -141,6 +178,17 @@ impl<A: Axis> Follower<A> for Shared<Cell> {
         route: &Route<'_, A, M>,
     ) -> Result<Option<Shared<Node>>, EditError> {
         self.get().content.part(alloc, route)
+    }
+
+    fn carry_with_part<M: LineMap<A>>(
+        &self,
+        alloc: Global,
+        route: &Route<'_, A, M>,
+    ) -> Result<(Shared<Cell>, Option<Shared<Node>>), EditError> {
+        match tree_of(&self.get().content) {
+            Some(tree) => carried_cell_with_part(alloc, route, self, tree),
+            None => Ok((copy_of(self)?, None)),
+        }
     }
 
     fn restore<M: LineMap<A>>(

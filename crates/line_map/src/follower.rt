@@ -1,10 +1,10 @@
-ghost use Rattle.std.specs.Prelude.{◌≡◌, IfOk, IfSome, IsOkUnless, None, Option, Some};
+ghost use Rattle.std.specs.Prelude.{◌≡◌, IfOk, IfSome, IsOkUnless, None, Option, Some, if◌then◌else◌};
 ghost use Rattle.base_values.specs.declared.EditError.TheVariants.{NoMemory};
 ghost use Rattle.line_map.specs.Way.{Way, IsWay, back, way};
 
 use crate::route::Route;
 use base_axis::Axis;
-use base_values::EditError;
+use base_values::{EditError, Exact, copy_of};
 use line_edits::LineMap;
 use std::alloc::Global;
 
@@ -46,6 +46,22 @@ pub trait Follower<A: Axis>: Drop {
         ensures part { IfOk result (λ part. part ≡ part_of (way route.now) self.now) }
         ensures only { IsOkUnless result NoMemory };
 
+    /// The value carried along a route, and what has to be kept of it.
+    fn carry_with_part<M: LineMap<A>>(
+        &self,
+        alloc: Global,
+        route: &Route<'_, A, M>,
+    ) -> Result<(Self, Option<Self::Part>), EditError>
+        requires { Lies (way route.now) self.now }
+        ensures value { IfOk result (λ both. both.0 ≡ carry_of (way route.now) self.now) }
+        ensures part { IfOk result (λ both. both.1 ≡ part_of (way route.now) self.now) }
+        ensures only { IsOkUnless result NoMemory }
+    {
+        let value = self.carry(alloc, route)?;
+        let part = self.part(alloc, route)?;
+        Ok((value, part))
+    }
+
     /// The value before, from the one that was carried along the route and from its part.
     fn restore<M: LineMap<A>>(
         &self,
@@ -69,4 +85,16 @@ pub trait Follower<A: Axis>: Drop {
 
     /// The law of followers: what was kept restores the value.
     ghost restores: { (w : Way) → IsWay w → (v : Self) → Lies w v → (k : Self.Part) → part_of w v ≡ Some k → restore_of w (carry_of w v) k ≡ v };
+}
+
+/// The value, where it has to be kept.
+pub(crate) fn kept_where<T: Exact>(must_keep: bool, value: &T) -> Result<Option<T>, EditError>
+    ensures part { IfOk result (λ part. part ≡ (if must_keep then Some value.now else None)) }
+    ensures only { IsOkUnless result NoMemory }
+{
+    if must_keep {
+        Ok(Some(copy_of(value)?))
+    } else {
+        Ok(None)
+    }
 }

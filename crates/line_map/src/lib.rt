@@ -5,6 +5,7 @@
 #![tactic(auto)]
 
 mod axis_map;
+mod carried_places;
 mod contents;
 mod follow;
 mod follower;
@@ -20,6 +21,7 @@ mod tree_at;
 mod ways;
 
 pub use axis_map::{lost_lines, overlaid_lines};
+pub use carried_places::carried_with_kept;
 pub use contents::Nothing;
 pub use follow::{Follow, there_and_back};
 pub use follower::Follower;

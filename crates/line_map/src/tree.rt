@@ -3,10 +3,10 @@ ghost use Rattle.base_tables.specs.Folding.{same_folded};
 ghost use Rattle.base_values.specs.Places.{IsPlace};
 ghost use Rattle.base_values.specs.declared.EditError.TheVariants.{NoMemory};
 ghost use Rattle.formula_tree.specs.OnSheet.{is_on_sheet};
-ghost use Rattle.line_map.specs.Trees.{TreeLies, target, is_exposed, moved_corner, tree_carried, tree_part};
+ghost use Rattle.line_map.specs.Trees.{target, is_exposed, moved_corner, tree_carried};
 ghost use Rattle.line_map.specs.Way.{way};
 
-use crate::follower::Follower;
+use crate::follower::{Follower, kept_where};
 use crate::keeping::must_keep_along;
 use crate::route::Route;
 use base_axis::Axis;
@@ -148,38 +148,7 @@ pub(crate) fn stays<A: Axis, M: LineMap<A>>(route: &Route<'_, A, M>, tree: &Node
     is_still(tree, route.to, &Following { route })
 }
 
-/// The tree of a formula, carried along. One that stays the same is shared.
-fn carried<A: Axis, M: LineMap<A>>(
-    alloc: Global,
-    route: &Route<'_, A, M>,
-    tree: &Shared<Node>,
-) -> Result<Shared<Node>, EditError>
-    ensures tree { IfOk result (λ carried. carried ≡ tree_carried (way route.now) tree.now) }
-    ensures only { IsOkUnless result NoMemory }
-{
-    if stays(route, tree.get()) {
-        return copy_of(tree);
-    }
-    Ok(Shared::new(alloc, carried_node(alloc, route, tree.get())?)?)
-}
-
-/// The tree, where the way back does not give it.
-fn part<A: Axis, M: LineMap<A>>(
-    route: &Route<'_, A, M>,
-    tree: &Shared<Node>,
-) -> Result<Option<Shared<Node>>, EditError>
-    requires { TreeLies (way route.now) tree.now }
-    ensures part { IfOk result (λ part. part ≡ tree_part (way route.now) tree.now) }
-    ensures only { IsOkUnless result NoMemory }
-{
-    route.is_way();
-    if !must_keep_along(route, tree.get()) {
-        return Ok(None);
-    }
-    Ok(Some(copy_of(tree)?))
-}
-
-/// A formula's tree follows with its cell.
+/// A formula's tree follows with its cell. One that stays the same is shared.
 impl<A: Axis> Follower<A> for Shared<Node> {
     ghost use Rattle.std.specs.Prelude.{⊤};
     ghost use Rattle.line_map.specs.Trees.{TreeLies, tree_carried, tree_part};
@@ -202,7 +171,10 @@ impl<A: Axis> Follower<A> for Shared<Node> {
         alloc: Global,
         route: &Route<'_, A, M>,
     ) -> Result<Shared<Node>, EditError> {
-        carried(alloc, route, self)
+        if stays(route, self.get()) {
+            return copy_of(self);
+        }
+        Ok(Shared::new(alloc, carried_node(alloc, route, self.get())?)?)
     }
 
     fn part<M: LineMap<A>>(
@@ -210,7 +182,8 @@ impl<A: Axis> Follower<A> for Shared<Node> {
         _alloc: Global,
         route: &Route<'_, A, M>,
     ) -> Result<Option<Shared<Node>>, EditError> {
-        part(route, self)
+        route.is_way();
+        kept_where(must_keep_along(route, self.get()), self)
     }
 
     fn restore<M: LineMap<A>>(

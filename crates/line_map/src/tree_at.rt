@@ -3,10 +3,9 @@ ghost use Rattle.base_tables.specs.Folding.{same_folded};
 ghost use Rattle.base_values.specs.Places.{IsPlace};
 ghost use Rattle.base_values.specs.declared.EditError.TheVariants.{NoMemory};
 ghost use Rattle.line_edits.specs.Moves.{place_image};
-ghost use Rattle.line_map.specs.TreeAt.{TreeAtLies, tree_at_carried, tree_at_part};
 ghost use Rattle.line_map.specs.Way.{way};
 
-use crate::follower::Follower;
+use crate::follower::{Follower, kept_where};
 use crate::keeping::must_keep_tree;
 use crate::route::Route;
 use crate::tree::carried_node;
@@ -95,47 +94,8 @@ fn replaced(tree: &TreeAt, node: Node, place: Position) -> Result<TreeAt, EditEr
     })
 }
 
-/// The tree carried along. It stays whole where its cell goes nowhere.
-#[tactic(auto, unfolding(crate::specs::TreeAt::tree_at_carried, crate::specs::TreeAt::tree_goes))]
-fn carried<A: Axis, M: LineMap<A>>(
-    alloc: Global,
-    route: &Route<'_, A, M>,
-    tree: &TreeAt,
-) -> Result<TreeAt, EditError>
-    requires { IsPlace tree.now.place }
-    ensures tree { IfOk result (λ there. there ≡ tree_at_carried (way route.now) tree.now) }
-    ensures inside { IfOk result (λ there. IsPlace there.place) }
-    ensures only { IsOkUnless result NoMemory }
-{
-    let (own, edited) = (tree.sheet.as_str(), tree.edited.as_str());
-    match goes(route, own, edited, tree.place) {
-        Some(to) => {
-            let there = named(route, own, edited, tree.place, to);
-            let node = carried_node(alloc, &there, &tree.node)?;
-            replaced(tree, node, to)
-        }
-        None => copy_of(tree),
-    }
-}
-
-/// The tree, where the way back does not give it.
-fn part<A: Axis, M: LineMap<A>>(
-    route: &Route<'_, A, M>,
-    tree: &TreeAt,
-) -> Result<Option<TreeAt>, EditError>
-    requires { TreeAtLies tree.now }
-    ensures part { IfOk result (λ part. part ≡ tree_at_part (way route.now) tree.now) }
-    ensures only { IsOkUnless result NoMemory }
-{
-    route.is_way();
-    let (own, edited) = (tree.sheet.as_str(), tree.edited.as_str());
-    if !must_keep_tree(route, &tree.node, own, tree.place, edited) {
-        return Ok(None);
-    }
-    Ok(Some(copy_of(tree)?))
-}
-
-/// A tree with its own place and names is carried along on its sheet.
+/// A tree with its own place and names is carried along on its sheet. It stays whole where its cell
+/// goes nowhere.
 impl<A: Axis> Follower<A> for TreeAt {
     ghost use Rattle.std.specs.Prelude.{⊤};
     ghost use Rattle.line_map.specs.TreeAt.{TreeAtLies, tree_at_carried, tree_at_part};
@@ -154,12 +114,21 @@ impl<A: Axis> Follower<A> for TreeAt {
 
     ghost restore_of = { λ _ _ part. part };
 
+    #[tactic(auto, unfolding(crate::specs::TreeAt::tree_at_carried, crate::specs::TreeAt::tree_goes))]
     fn carry<M: LineMap<A>>(
         &self,
         alloc: Global,
         route: &Route<'_, A, M>,
     ) -> Result<TreeAt, EditError> {
-        carried(alloc, route, self)
+        let (own, edited) = (self.sheet.as_str(), self.edited.as_str());
+        match goes(route, own, edited, self.place) {
+            Some(to) => {
+                let there = named(route, own, edited, self.place, to);
+                let node = carried_node(alloc, &there, &self.node)?;
+                replaced(self, node, to)
+            }
+            None => copy_of(self),
+        }
     }
 
     fn part<M: LineMap<A>>(
@@ -167,7 +136,12 @@ impl<A: Axis> Follower<A> for TreeAt {
         _alloc: Global,
         route: &Route<'_, A, M>,
     ) -> Result<Option<TreeAt>, EditError> {
-        part(route, self)
+        route.is_way();
+        let (own, edited) = (self.sheet.as_str(), self.edited.as_str());
+        kept_where(
+            must_keep_tree(route, &self.node, own, self.place, edited),
+            self,
+        )
     }
 
     fn restore<M: LineMap<A>>(

@@ -1,4 +1,4 @@
-ghost use Rattle.std.specs.Prelude.{◌≡◌, ◌∷◌, [], IsOk, IsTrue, true, OnOk, OnErr, IfSome, IsOkUnless, MatchOption, Ok};
+ghost use Rattle.std.specs.Prelude.{◌≡◌, ◌∷◌, [], length, IsOk, IsTrue, true, OnOk, OnErr, IfSome, IsOkUnless, MatchOption, Ok};
 ghost use Rattle.base_values.specs.Answers.{Changes};
 ghost use Rattle.base_values.specs.declared.EditError.TheVariants.{NoMemory};
 ghost use Rattle.sheet_history.specs.Diffs.{IsKeptList};
@@ -46,6 +46,20 @@ impl History {
             redo: Vec::new(alloc),
             has_room: false,
         }
+    }
+
+    /// How many lists there are to undo. It takes no memory.
+    pub fn undo_len(&self) -> usize
+        ensures { result ≡ length self.now.undo }
+    {
+        self.undo.len()
+    }
+
+    /// How many lists there are to redo. It takes no memory.
+    pub fn redo_len(&self) -> usize
+        ensures { result ≡ length self.now.redo }
+    {
+        self.redo.len()
     }
 
     /// Makes room for one list more on either stack, so that the next `push`, `undo` or `redo`

@@ -18,7 +18,7 @@ pub use history::History;
 pub use laws::{
     line_records_go_both_ways, records_are_computed, records_are_unique, records_go_both_ways,
 };
-pub use replay::replay_in_place;
+pub use replay::{follow_in_place, replay_in_place};
 
 #[cfg(test)]
 mod tests;

@@ -147,6 +147,29 @@ fn follow_back(alloc: Global, workbook: &mut Workbook, list: &DiffList) -> Resul
     Ok(())
 }
 
+/// Follows a list in its direction, in the well-formed workbook itself, and leaves a well-formed one.
+///
+/// `DiffRefused` as `forward` and `back` answer it; it and `NoMemory` leave the workbook. Where a test
+/// of the result has to be made the list is followed on a copy. A list of one link needs none, and
+/// neither does one of one cell that has a font, is no array, and has no content or stands at no hidden
+/// place. For such a cell the merges and the arrays of more than one cell of its sheet are looked at,
+/// and no other cell.
+pub fn follow_in_place(
+    alloc: Global,
+    workbook: &mut Workbook,
+    kind: DiffType,
+    list: &DiffList,
+) -> Result<(), EditError>
+    requires kept { IsKeptList list.now }
+    requires rules { IsWellFormed workbook.old }
+    ensures { Edits result workbook.old workbook.new (follow kind workbook.old list.now) }
+{
+    match kind {
+        DiffType::Undo => follow_back(alloc, workbook, list),
+        DiffType::Redo => follow_forward(alloc, workbook, list),
+    }
+}
+
 /// Follows one entry of a queue. `at` is its number in the queue.
 fn follow_entry(
     alloc: Global,
@@ -158,11 +181,7 @@ fn follow_entry(
     requires rules { IsWellFormed workbook.old }
     ensures { Edits result workbook.old workbook.new (in_entry at (follow entry.now.kind workbook.old entry.now.list)) }
 {
-    let followed = match entry.kind {
-        DiffType::Undo => follow_back(alloc, workbook, &entry.list),
-        DiffType::Redo => follow_forward(alloc, workbook, &entry.list),
-    };
-    match followed {
+    match follow_in_place(alloc, workbook, entry.kind, &entry.list) {
         Err(EditError::DiffRefused { entry: _, diff }) => {
             Err(EditError::DiffRefused { entry: at, diff })
         }
@@ -189,10 +208,7 @@ fn follow_by_rule(
 /// its list back, an entry of redo makes its changes.
 ///
 /// `DiffRefused` with the numbers of the first entry and diff that do not fit: exactly the entries
-/// before that one stand. After `NoMemory` some first entries stand. An entry of one link costs no
-/// copy of the workbook and no test of it, and so does one of one cell that has a font, is no array,
-/// and has no content or stands at no hidden place. For such a cell the merges and the arrays of more
-/// than one cell of its sheet are looked at, and no other cell.
+/// before that one stand. After `NoMemory` some first entries stand.
 pub fn replay_in_place(
     alloc: Global,
     workbook: &mut Workbook,

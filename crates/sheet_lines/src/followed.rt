@@ -2,18 +2,47 @@ ghost use Rattle.std.specs.Prelude.{◌≡◌, map, IfOk, IsOkUnless};
 ghost use Rattle.std.specs.List.{AllByRecursion};
 ghost use Rattle.base_values.specs.declared.EditError.TheVariants.{NoMemory};
 ghost use Rattle.line_edits.specs.Edit.{IsValid, opposite_of};
+ghost use Rattle.line_map.specs.Way.{way};
+ghost use Rattle.sheet_grid.specs.KeptCell.{KeptCells};
 ghost use Rattle.sheet_lines.specs.Followed.{way_on, sheet_followed, book_followed};
+ghost use Rattle.sheet_lines.specs.Kept.{trees_kept, formulas_kept};
+ghost use Rattle.sheet_lines.specs.KeptNumbers.{AreKeptFormulas};
 ghost use Rattle.sheet_lines.specs.Sheets.{sheet_of, name_of, IsPlacedSheet, IsPlacedBook};
 
 use crate::edited_sheet::EditedSheet;
 use crate::inside::{lines_inside, places_inside};
 use crate::sheets::{name_of, route_on};
 use base_axis::Axis;
-use base_values::{EditError, Items};
-use line_map::{Follower, LineEdit, LineMap};
-use sheet_grid::{Workbook, Worksheet};
+use base_maps::SheetPlaceMap;
+use base_shared::Shared;
+use base_values::{EditError, Items, PlaceMap};
+use formula_tree::Node;
+use line_map::{Follower, KeptMap, LineEdit, LineMap, Route, carried_with_kept};
+use sheet_grid::{Cell, Workbook, Worksheet};
 use std::alloc::Global;
 use std::marker::PhantomData;
+
+/// A sheet with these cells, whose links, rows, columns and merges are carried along.
+fn followed_with<A: Axis, M: LineMap<A>>(
+    alloc: Global,
+    route: &Route<'_, A, M>,
+    sheet: &Worksheet,
+    cells: PlaceMap<Shared<Cell>>,
+) -> Result<Worksheet, EditError>
+    requires placed { IsPlacedSheet sheet.now }
+    requires kept { KeptCells cells }
+    ensures sheet { IfOk result (λ followed. followed ≡ record (sheet_followed (way route.now) sheet.now) { cells = cells }) }
+    ensures only { IsOkUnless result NoMemory }
+{
+    places_inside(sheet.link_map());
+    lines_inside(sheet.row_map());
+    lines_inside(sheet.column_map());
+    let links = sheet.link_map().carry(alloc, route)?;
+    let rows = sheet.row_map().carry(alloc, route)?;
+    let columns = sheet.column_map().carry(alloc, route)?;
+    let merges = sheet.merge_list().carry(alloc, route)?;
+    sheet.with_entries(cells, links, rows, columns, merges)
+}
 
 /// A sheet along the map: each part of it is carried along.
 fn followed_sheet<A: Axis, M: LineMap<A>>(
@@ -25,17 +54,52 @@ fn followed_sheet<A: Axis, M: LineMap<A>>(
     ensures sheet { IfOk result (λ followed. followed ≡ sheet_followed (way_on edited.now sheet.now) sheet.now) }
     ensures only { IsOkUnless result NoMemory }
 {
-    let route = route_on(edited, sheet);
-    places_inside(sheet.cell_map());
-    places_inside(sheet.link_map());
-    lines_inside(sheet.row_map());
-    lines_inside(sheet.column_map());
-    let cells = sheet.cell_map().carry(alloc, &route)?;
-    let links = sheet.link_map().carry(alloc, &route)?;
-    let rows = sheet.row_map().carry(alloc, &route)?;
-    let columns = sheet.column_map().carry(alloc, &route)?;
-    let merges = sheet.merge_list().carry(alloc, &route)?;
-    sheet.with_entries(cells, links, rows, columns, merges)
+    let (route, map) = (route_on(edited, sheet), sheet.cell_map());
+    places_inside(map);
+    let cells = map.carry(alloc, &route)?;
+    followed_with(alloc, &route, sheet, cells)
+}
+
+/// A sheet along the map, and what is kept of its cells, in one walk over them.
+fn followed_and_kept<A: Axis, M: LineMap<A>>(
+    alloc: Global,
+    edited: &EditedSheet<'_, A, M>,
+    sheet: &Worksheet,
+) -> Result<(Worksheet, KeptMap<Shared<Cell>, Shared<Node>>), EditError>
+    requires { IsPlacedSheet sheet.now }
+    ensures sheet { IfOk result (λ both. both.0 ≡ sheet_followed (way_on edited.now sheet.now) sheet.now) }
+    ensures trees { IfOk result (λ both. both.1.parts ≡ trees_kept A.along (M.moves edited.now.map.now) edited.now.id edited.now.name.now sheet.now) }
+    ensures numbers { IfOk result (λ both. AreKeptFormulas both.1.parts) }
+    ensures only { IsOkUnless result NoMemory }
+{
+    let (route, map) = (route_on(edited, sheet), sheet.cell_map());
+    places_inside(map);
+    let (cells, kept) = carried_with_kept(alloc, &route, map)?;
+    let followed = followed_with(alloc, &route, sheet, cells)?;
+    Ok((followed, kept))
+}
+
+/// The sheets along the map, and the trees of each sheet's formulas that go somewhere and that the
+/// way back does not give, under the id of the sheet and their places before.
+pub(crate) fn followed_with_formulas<A: Axis, M: LineMap<A>>(
+    alloc: Global,
+    edited: &EditedSheet<'_, A, M>,
+    sheets: &[Worksheet],
+) -> Result<(Items<Worksheet>, SheetPlaceMap<Shared<Node>>), EditError>
+    requires { AllByRecursion IsPlacedSheet sheets.now }
+    ensures sheets { IfOk result (λ both. both.0 ≡ map (λ sheet. sheet_followed (way_on edited.now sheet) sheet) sheets.now) }
+    ensures formulas { IfOk result (λ both. both.1 ≡ formulas_kept A.along (M.moves edited.now.map.now) edited.now.id edited.now.name.now sheets.now) }
+    ensures numbers { IfOk result (λ both. AreKeptFormulas both.1) }
+    ensures only { IsOkUnless result NoMemory }
+{
+    let mut made = Items::empty(alloc);
+    let mut formulas = SheetPlaceMap::new(alloc);
+    for sheet in sheets {
+        let (followed, kept) = followed_and_kept(alloc, edited, sheet)?;
+        formulas.put_under(sheet.get_sheet_id(), &kept.parts)?;
+        made.push(followed)?;
+    }
+    Ok((made, formulas))
 }
 
 fn followed_sheets<A: Axis, M: LineMap<A>>(

@@ -49,55 +49,55 @@ neither false b = refl
 pub same_layers : (x y : Node-F Node) (m n : Node) → roll-Node x ≡ m → roll-Node y ≡ n → m ≡ n → x ≡ y
 same_layers x y m n p q e = sym (out-roll-Node x) ∙ ap out-Node (p ∙ e ∙ sym q) ∙ out-roll-Node y
 
-same_colon : (a b c d : Node) → node.Colon a b ≡ node.Colon c d → (a ≡ c) × (b ≡ d)
+pub same_colon : (a b c d : Node) → node.Colon a b ≡ node.Colon c d → (a ≡ c) × (b ≡ d)
 same_colon a b c d e = let same = same_layers (Node-F.Colon a b) (Node-F.Colon c d) _ _ (node.rolls-Colon a b) (node.rolls-Colon c d) e in (cc, cc)
 
-same_concatenate : (a b c d : Node) → node.Concatenate a b ≡ node.Concatenate c d → (a ≡ c) × (b ≡ d)
+pub same_concatenate : (a b c d : Node) → node.Concatenate a b ≡ node.Concatenate c d → (a ≡ c) × (b ≡ d)
 same_concatenate a b c d e = let same = same_layers (Node-F.Concatenate a b) (Node-F.Concatenate c d) _ _ (node.rolls-Concatenate a b)
     (node.rolls-Concatenate c d) e in (cc, cc)
 
-same_compare : (kind : CompareKind) (a b c d : Node) → node.Compare kind a b ≡ node.Compare kind c d → (a ≡ c) × (b ≡ d)
+pub same_compare : (kind : CompareKind) (a b c d : Node) → node.Compare kind a b ≡ node.Compare kind c d → (a ≡ c) × (b ≡ d)
 same_compare kind a b c d e = let same = same_layers (Node-F.Compare kind a b) (Node-F.Compare kind c d) _ _ (node.rolls-Compare kind a b)
     (node.rolls-Compare kind c d) e in (cc, cc)
 
-same_sum : (kind : SumKind) (a b c d : Node) → node.Sum kind a b ≡ node.Sum kind c d → (a ≡ c) × (b ≡ d)
+pub same_sum : (kind : SumKind) (a b c d : Node) → node.Sum kind a b ≡ node.Sum kind c d → (a ≡ c) × (b ≡ d)
 same_sum kind a b c d e = let same = same_layers (Node-F.Sum kind a b) (Node-F.Sum kind c d) _ _ (node.rolls-Sum kind a b) (node.rolls-Sum kind c d) e in
     (cc, cc)
 
-same_product : (kind : ProductKind) (a b c d : Node) → node.Product kind a b ≡ node.Product kind c d → (a ≡ c) × (b ≡ d)
+pub same_product : (kind : ProductKind) (a b c d : Node) → node.Product kind a b ≡ node.Product kind c d → (a ≡ c) × (b ≡ d)
 same_product kind a b c d e = let same = same_layers (Node-F.Product kind a b) (Node-F.Product kind c d) _ _ (node.rolls-Product kind a b)
     (node.rolls-Product kind c d) e in (cc, cc)
 
-same_power : (a b c d : Node) → node.Power a b ≡ node.Power c d → (a ≡ c) × (b ≡ d)
+pub same_power : (a b c d : Node) → node.Power a b ≡ node.Power c d → (a ≡ c) × (b ≡ d)
 same_power a b c d e = let same = same_layers (Node-F.Power a b) (Node-F.Power c d) _ _ (node.rolls-Power a b) (node.rolls-Power c d) e in (cc, cc)
 
-same_unary : (kind : UnaryKind) (a c : Node) → node.Unary kind a ≡ node.Unary kind c → a ≡ c
+pub same_unary : (kind : UnaryKind) (a c : Node) → node.Unary kind a ≡ node.Unary kind c → a ≡ c
 same_unary kind a c e = let same = same_layers (Node-F.Unary kind a) (Node-F.Unary kind c) _ _ (node.rolls-Unary kind a) (node.rolls-Unary kind c) e in cc
 
-same_spill : (a c : Node) → node.Spill a ≡ node.Spill c → a ≡ c
+pub same_spill : (a c : Node) → node.Spill a ≡ node.Spill c → a ≡ c
 same_spill a c e = let same = same_layers (Node-F.Spill a) (Node-F.Spill c) _ _ (node.rolls-Spill a) (node.rolls-Spill c) e in cc
 
-same_lambda : (parameters : List Parameter) (a c : Node) → node.Lambda parameters a ≡ node.Lambda parameters c → a ≡ c
+pub same_lambda : (parameters : List Parameter) (a c : Node) → node.Lambda parameters a ≡ node.Lambda parameters c → a ≡ c
 same_lambda parameters a c e = let same = same_layers (Node-F.Lambda parameters a) (Node-F.Lambda parameters c) _ _ (node.rolls-Lambda parameters a)
     (node.rolls-Lambda parameters c) e in cc
 
-same_implicit_intersection : (a c : Node) → node.ImplicitIntersection a ≡ node.ImplicitIntersection c → a ≡ c
+pub same_implicit_intersection : (a c : Node) → node.ImplicitIntersection a ≡ node.ImplicitIntersection c → a ≡ c
 same_implicit_intersection a c e = let same = same_layers (Node-F.ImplicitIntersection a) (Node-F.ImplicitIntersection c) _ _
     (node.rolls-ImplicitIntersection a) (node.rolls-ImplicitIntersection c) e in cc
 
-same_call : (function : Function) (a c : List Node) → node.Call function a ≡ node.Call function c → a ≡ c
+pub same_call : (function : Function) (a c : List Node) → node.Call function a ≡ node.Call function c → a ≡ c
 same_call function a c e = let same = same_layers (Node-F.Call function a) (Node-F.Call function c) _ _ (node.rolls-Call function a)
     (node.rolls-Call function c) e in cc
 
-same_named_call : (name : List ℕ) (a c : List Node) → node.NamedCall name a ≡ node.NamedCall name c → a ≡ c
+pub same_named_call : (name : List ℕ) (a c : List Node) → node.NamedCall name a ≡ node.NamedCall name c → a ≡ c
 same_named_call name a c e = let same = same_layers (Node-F.NamedCall name a) (Node-F.NamedCall name c) _ _ (node.rolls-NamedCall name a)
     (node.rolls-NamedCall name c) e in cc
 
-same_lambda_call : (a c : Node) (b d : List Node) → node.LambdaCall a b ≡ node.LambdaCall c d → (a ≡ c) × (b ≡ d)
+pub same_lambda_call : (a c : Node) (b d : List Node) → node.LambdaCall a b ≡ node.LambdaCall c d → (a ≡ c) × (b ≡ d)
 same_lambda_call a c b d e = let same = same_layers (Node-F.LambdaCall a b) (Node-F.LambdaCall c d) _ _ (node.rolls-LambdaCall a b)
     (node.rolls-LambdaCall c d) e in (cc, cc)
 
-same_heads : (x y : Node) (xs ys : List Node) → x ∷ xs ≡ y ∷ ys → (x ≡ y) × (xs ≡ ys)
+pub same_heads : (x y : Node) (xs ys : List Node) → x ∷ xs ≡ y ∷ ys → (x ≡ y) × (xs ≡ ys)
 same_heads x y xs ys e = (cc, cc)
 
 -- ---- there and back

@@ -137,14 +137,6 @@ module _ {X : Type 0} where
   none_brought b same (Some block) m made (inl h) = absurd (cc)
   none_brought b same (Some block) m made (inr h) = still made ∙ ap (λ t. overlaid (if t then block_heirs b.last same m block else empty) made) (sym h)
 
-  -- a line that is not of the axis has nothing
-  pub nothing_outside : (b : Along) (m : FinMap int_cmp X) → LinesLie b m → (n : ℤ) → n ≤ℤ pos 0 → get m n ≡ None
-  nothing_outside b m lie n low = at_key (get m n) refl
-    where
-      at_key : (o : Option X) → get m n ≡ o → o ≡ None
-      at_key None e = refl
-      at_key (Some x) e = absurd (omega (arith, ints, (lie n x e).0))
-
   overlaid_are : (P : ℤ → Type 0) (over m : FinMap int_cmp X) → KeysAre P over → KeysAre P m → KeysAre P (overlaid over m)
   overlaid_are P over m h i n x g = at_key (get over n) refl (sym (get-overlaid int_cmp int_cmp_total int_cmp-IsAntisymmetric over m n) ∙ g)
     where

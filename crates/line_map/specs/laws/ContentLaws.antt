@@ -50,15 +50,6 @@ back_at w content (Some tree) h none =
 pub content_comes_back : (w : Way) (content : Content) → content_part w content ≡ None → content_carried (back w) (content_carried w content) ≡ content
 content_comes_back w content h = back_at w content _ refl h
 
--- a cell whose formula has this tree, carried along. It stays where the tree does
-pub cell_with_tree : (w : Way) (cell : Cell) (tree : Node) → tree_of cell.content ≡ Some tree →
-    cell_carried w cell ≡ record cell { content = with_tree cell.content (tree_carried w tree) }
-cell_with_tree w cell tree h = λ i. record cell { content = carried_some w cell.content tree h i }
-
-pub cell_still : (w : Way) (cell : Cell) (tree : Node) → tree_of cell.content ≡ Some tree → tree_carried w tree ≡ tree → cell_carried w cell ≡ cell
-cell_still w cell tree h still =
-    cell_with_tree w cell tree h ∙ (λ i. record cell { content = (ap (with_tree cell.content) still ∙ with_own_tree cell.content tree h) i })
-
 restored_at : (w : Way) (content : Content) (o : Option Node) → tree_of content ≡ o → (part : Node) → if_there o (tree_part w) ≡ Some part →
     with_tree (content_carried w content) part ≡ content
 restored_at w content None h part some = absurd (cc)

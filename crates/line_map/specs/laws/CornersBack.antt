@@ -113,43 +113,35 @@ pub record LinesBack (go come : Position → Option Position) : Type 0 where
   pub row_back : ℤ → Option ℤ
   pub column : ℤ → Option ℤ
   pub column_back : ℤ → Option ℤ
-  pub rows_inverse : Inverse row row_back
-  pub columns_inverse : Inverse column column_back
   pub there : ByLines go row column
   pub returns : ByLines come row_back column_back
 
-axis_back : (a : Along) → (a ≡ rows) ⊎ (a ≡ columns) → (m : LineMoves) → Inverse m.to m.from → LinesBack (place_image a m.to) (place_image a m.from)
-axis_back a (inl is) m inverse = subst (λ x. LinesBack (place_image x m.to) (place_image x m.from)) (sym is) (record {
+axis_back : (a : Along) → (a ≡ rows) ⊎ (a ≡ columns) → (m : LineMoves) → LinesBack (place_image a m.to) (place_image a m.from)
+axis_back a (inl is) m = subst (λ x. LinesBack (place_image x m.to) (place_image x m.from)) (sym is) (record {
   row = m.to;
   row_back = m.from;
   column = Some;
   column_back = Some;
-  rows_inverse = inverse;
-  columns_inverse = own_inverse;
   there = rows_by_lines m.to;
   returns = rows_by_lines m.from;
 })
-axis_back a (inr is) m inverse = subst (λ x. LinesBack (place_image x m.to) (place_image x m.from)) (sym is) (record {
+axis_back a (inr is) m = subst (λ x. LinesBack (place_image x m.to) (place_image x m.from)) (sym is) (record {
   row = Some;
   row_back = Some;
   column = m.to;
   column_back = m.from;
-  rows_inverse = own_inverse;
-  columns_inverse = inverse;
   there = columns_by_lines m.to;
   returns = columns_by_lines m.from;
 })
 
 pub goes_back : (w : Way) → IsWay w → (b : Bool) → LinesBack (place_goes (exposing w b)) (place_goes (exposing (back w) b))
 unfolding place_goes
-goes_back w is true = axis_back w.along is.axis.one_of w.moves is.one_to_one.inverse
+goes_back w is true = axis_back w.along is.axis.one_of w.moves
 goes_back w is false = record {
   row = Some;
   row_back = Some;
   column = Some;
   column_back = Some;
-  rows_inverse = own_inverse;
-  columns_inverse = own_inverse;
   there = own_by_lines;
   returns = own_by_lines;
 }

@@ -19,6 +19,7 @@ use Rattle.formula_tree.specs.Moved.{moved, reference_to, range_to}
 use Rattle.formula_tree.specs.OnSheet.{is_on_sheet}
 use Rattle.formula_tree.specs.Placed.{is_placed_range}
 use Rattle.formula_back.specs.laws.LeafLaws.{same_layers, TellsLeaves, tells_trees}
+use Rattle.formula_back.specs.laws.StillLaws.{PassesNoStill, still_passes_none}
 use Rattle.line_map.specs.MustKeep.{keeps_reference, is_given_up, keeps_range, kept_leaves, must_keep}
 use Rattle.line_map.specs.Trees.{corner_of, is_exposed, moved_corner, following, tree_carried, tree_part, TreeLies}
 use Rattle.line_map.specs.Way.{Way, IsWay, back, place_goes}
@@ -281,3 +282,41 @@ module _ (w : Way) (is : IsWay w) where
   pub part_by_corners : (tree : Node) → TreeLies w tree → tree_part w tree ≡ (if must_keep w tree then Some tree else None)
   part_by_corners tree lies =
       trial_told (same_value the_row.coded) tree_carried (same_value_decides the_row.coded) w tree (must_keep w tree) (kept_exactly tree lies)
+
+-- ---- trees that stay
+
+not_whole : (a b : Bool) → a && not b ≡ true → b ≡ false
+not_whole a b h = grind arith
+
+module _ (w : Way) (sheet : Option (List ℕ)) where
+  still_reference : (corner : Corner) (b : Bool) (o : Option Corner) → moved_corner w b corner ≡ o → reference_to sheet o ≡ node.Reference sheet corner →
+      (b && is_none (moved_corner w true corner)) ≡ false
+  unfolding reference_to
+  still_reference corner true (Some c) goes same = ap is_none goes
+  still_reference corner true None goes same = no_reference sheet corner same
+  still_reference corner false o goes same = refl
+
+  still_range : (first second : Corner) (b : Bool) → is_exposed w sheet first second ≡ b → (o p : Option Corner) → moved_corner w b first ≡ o →
+      moved_corner w b second ≡ p → range_to w.to sheet o p ≡ node.Range sheet first second →
+      (b && is_given_up w (moved_corner w true first) (moved_corner w true second)) ≡ false
+  unfolding range_to is_exposed
+  still_range first second true exposed (Some r) (Some s) f g same =
+      let ends = same_ranges sheet (lower_corner w.to r s) (higher_corner w.to r s) first second same in
+      (λ i. is_given_up w (f i) (g i))
+      ∙ (λ i. w.along.of (is_whole_rows (ends.0 i) (ends.1 i)) (is_whole_columns (ends.0 i) (ends.1 i)))
+      ∙ not_whole (is_on_sheet w.own w.edited sheet) (w.along.of (is_whole_rows first second) (is_whole_columns first second)) exposed
+  still_range first second true exposed (Some r) None f g same = no_range _ _ sheet first second same
+  still_range first second true exposed None p f g same = no_range _ _ sheet first second same
+  still_range first second false exposed o p f g same = refl
+
+-- a tree that stays as it is has not to be kept
+pub still_is_not_kept : (w : Way) (tree : Node) → tree_carried w tree ≡ tree → must_keep w tree ≡ false
+unfolding must_keep tree_carried keeps_reference keeps_range
+still_is_not_kept w tree = still_passes_none w.to (following w) (kept_leaves w) (record {
+  reference = λ sheet corner. still_reference w sheet corner (is_on_sheet w.own w.edited sheet) _ refl;
+  range = λ sheet first second. still_range w sheet first second (is_exposed w sheet first second) refl _ _ refl refl;
+}) tree
+
+-- so nothing is kept of it
+pub still_has_no_part : (w : Way) → IsWay w → (tree : Node) → TreeLies w tree → tree_carried w tree ≡ tree → tree_part w tree ≡ None
+still_has_no_part w is tree lies still = part_by_corners w is tree lies ∙ ap (λ b. if b then Some tree else None) (still_is_not_kept w tree still)

@@ -52,14 +52,14 @@ returns-clause-kept g c =
           ∙ (λ j. merges_part (c.route_on-route.ensures.way j) (c.merge_list.ensures j))
           ∙ (λ j. merges_part (way_of a moves edited.id (c.requires.name j) sheet) sheet.merges)
           ∙ sym (ap (merges_kept a moves edited.id (name_of (sheet_of c.args.workbook.now edited.id))) found)) i;
-      formulas = (c.in_ok-formulas.ensures.kept ∙ (λ j. formulas_kept a moves edited.id (c.requires.name j) (c.worksheets.ensures j))) i;
+      formulas = (c.requires.formulas ∙ (λ j. formulas_kept a moves edited.id (c.requires.name j) c.args.workbook.now.worksheets)) i;
     }
 
 pub returns-clause-numbers : goal.returns-clause-numbers
 returns-clause-numbers g c = record {
   cells = subst KeptCells (sym c.in_ok-lost_places.ensures.map) (each_lost position_cmp position_total exact_positions (λ _. IsKeptCell)
       (place_goes (way c.route_on-route.result)) c.cell_map-cells.result.now c.cell_map-cells.ensures.kept);
-  formulas = c.in_ok-formulas.ensures.numbers;
+  formulas = c.requires.kept_numbers;
 }
 
 pub returns-clause-inside : goal.returns-clause-inside

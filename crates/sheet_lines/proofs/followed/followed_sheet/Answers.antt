@@ -4,7 +4,7 @@ use Rattle.sheet_grid.specs.KeptCell.{IsKeptCell, KeptCells}
 use Rattle.sheet_lines.specs.laws.Stays.{HasKeptNumbers, followed_are, numbers_stay}
 use Rattle.sheet_lines.proofs.followed.followed_sheet.Goals as goal
 
-pub with_entries-requires : goal.with_entries-requires
-with_entries-requires g c = subst KeptCells (sym c.in_ok-cells.ensures.value)
+pub followed_with-requires-clause-kept : goal.followed_with-requires-clause-kept
+followed_with-requires-clause-kept g c = subst KeptCells (sym c.in_ok-cells.ensures.value)
     (followed_are (way c.route_on-route.result) c.route_on-route.ensures.is (λ _. IsKeptCell)
-    (λ _. HasKeptNumbers) numbers_stay c.cell_map-2.result.now c.cell_map-2.ensures.kept)
+    (λ _. HasKeptNumbers) numbers_stay c.cell_map-map.result.now c.cell_map-map.ensures.kept)

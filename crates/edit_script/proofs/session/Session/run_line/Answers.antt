@@ -16,6 +16,6 @@ returns-in_ok-push_line-in-None c = λ state stands.
     (sym c.in-None.is ∙ c.in_ok-command.ensures.value)
     (record {
       out = c.in_ok-push_line-in-None.ensures;
-      stands = record { editor = stands.editor; copy = stands.copy };
+      stands = record { model = stands.model; copy = stands.copy };
       only = tt;
     })

@@ -1,6 +1,6 @@
 use Rattle.std.proofs.Common.{◌+◌, length}
 use Rattle.std.specs.Option.{option_map, option_map_or}
-use Rattle.script_editor.specs.Machine.{State}
+use Rattle.user_model.specs.Machine.{State}
 use Rattle.edit_script.specs.Session.{SessionStands}
 use Rattle.edit_script.proofs.Runs.{Reached}
 use Rattle.edit_script.proofs.session.Session.run_lines.Given as goal

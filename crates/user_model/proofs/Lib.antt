@@ -1,0 +1,17 @@
+mod Documents
+mod EntrySteps
+mod Inputs
+mod KeptLines
+mod LinePlans
+mod LineSteps
+mod Lists
+mod MoveSteps
+mod Moving
+mod Recording
+mod Refusals
+mod Unread
+mod Received
+mod Sounds
+mod Spelled
+mod Tested
+mod Typed

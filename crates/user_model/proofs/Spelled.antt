@@ -1,0 +1,62 @@
+-- The record of two well-formed workbooks can be spelled.
+use Rattle.std.proofs.Common.{◌≡◌, ℕ, true, List, [], ◌∷◌, map, Option, Some, None, is_some, refl, ap, ◌∙◌}
+use Rattle.std.specs.Prelude.{IsTrue}
+use Rattle.std.specs.List.{AllByRecursion}
+use Rattle.std.proofs.lemmas.List.Elements.{recursion_from_All}
+use Rattle.base_values.specs.declared.Position.{Position}
+use Rattle.cell_content.specs.Fitting.{fits_at}
+use Rattle.sheet_grid.specs.declared.Cell.{Cell}
+use Rattle.sheet_grid.specs.Arrays.{array_at}
+use Rattle.sheet_grid.specs.Book.{Book}
+use Rattle.sheet_grid.specs.FittingCells.{is_shallow_entry}
+use Rattle.sheet_grid.specs.laws.FittingLaws.{shallow_entry}
+use Rattle.sheet_rules.specs.WellFormed.{is_place, IsWellFormed}
+use Rattle.sheet_rules.specs.laws.EntryLaws.{both}
+use Rattle.sheet_lines.specs.Sheets.{sheet_of}
+use Rattle.sheet_history.specs.declared.Diff.{Diff}
+use Rattle.sheet_history.specs.declared.Diff.TheVariants.{Cell as CellDiff, Link as LinkDiff, Merges as MergesDiff, Lines as LinesDiff}
+use Rattle.sheet_history.specs.Diffs.{IsKeptDiff, IsKeptList}
+use Rattle.sheet_history.specs.Entries.{lies_inside, cell_stands_at, value_fits, accepts}
+use Rattle.sheet_history.specs.Entries.EntryKey.{CellKey}
+use Rattle.sheet_history.specs.Entries.EntryValue.{CellValue}
+use Rattle.sheet_history.specs.Records.{Change, change_of, IsRecord}
+use Rattle.sheet_history.specs.laws.BothWays.{AllFit}
+use Rattle.sheet_history.specs.laws.SoundEntries.{entries_fit}
+use Rattle.sheet_wire.specs.QueueBytes.{IsKnownDiff}
+use Rattle.sheet_wire.specs.laws.Fitting.{known_diff}
+use Rattle.user_model.specs.Spellable.{AreSpellable}
+
+-- a cell that may stand at its place is not deep
+shallow_standing : (place : Position) (entry : Option Cell) → cell_stands_at place entry ≡ true → IsTrue (is_shallow_entry entry)
+shallow_standing place None stands = refl
+shallow_standing place (Some cell) stands = shallow_entry place (Some cell) (both (fits_at place cell.content) (lies_inside (array_at place cell.content)) stands).0
+
+module _ (w : Book) where
+  shallow : (id : ℕ) (place : Position) (entry : Option Cell) → accepts w (CellKey id place) (CellValue entry) ≡ true → IsTrue (is_shallow_entry entry)
+  unfolding accepts
+  shallow id place entry accepted =
+      let fits = (both (is_some (sheet_of w id)) (value_fits (CellKey id place) (CellValue entry)) accepted).1 in
+      shallow_standing place entry (both (is_place place) (cell_stands_at place entry) fits).1
+
+  -- a diff whose values the workbook can take can be spelled
+  known : (diff : Diff) (c : Change) → change_of diff ≡ Some c → accepts w c.0 c.1.1 ≡ true → accepts w c.0 c.1.0 ≡ true → IsKeptDiff diff → IsKnownDiff diff
+  known (CellDiff id place old new) c is news olds kept =
+      let same : ◌≡◌ {A = Change} (CellKey id place, (CellValue old, CellValue new)) c = cc in
+      known_diff (CellDiff id place old new) kept
+      (shallow id place old (ap (λ (x : Change). accepts w x.0 x.1.0) same ∙ olds), shallow id place new (ap (λ (x : Change). accepts w x.0 x.1.1) same ∙ news)) tt
+  known (LinkDiff id place old new) c is news olds kept = tt
+  known (MergesDiff id old new) c is news olds kept = tt
+  known (LinesDiff id axis edit lines) c is news olds kept = absurd (cc)
+
+  all_known : (list : List Diff) (changes : List Change) → map change_of list ≡ map Some changes → AllFit w changes → AllByRecursion IsKeptDiff list → AreSpellable list
+  all_known [] [] is fit kept = tt
+  all_known [] (c ∷ changes) is fit kept = absurd (cc)
+  all_known (diff ∷ list) [] is fit kept = absurd (cc)
+  all_known (diff ∷ list) (c ∷ changes) is fit kept =
+      let one : change_of diff ≡ Some c = cc in
+      let rest : map change_of list ≡ map Some changes = cc in
+      (known diff c one fit.0 fit.1 kept.0, all_known list changes rest fit.2 kept.1)
+
+pub record_spellable : (earlier later : Book) (list : List Diff) → IsWellFormed earlier → IsWellFormed later → IsRecord earlier later list → IsKeptList list → AreSpellable list
+record_spellable earlier later list before after is kept =
+    all_known earlier list is.changes is.made_of (entries_fit earlier later list before after is) (recursion_from_All IsKeptDiff list kept)

@@ -1,0 +1,43 @@
+-- Bytes of another copy that are read, and bytes that are not.
+use Rattle.std.proofs.Common.{◌≡◌, ◌≢◌, ℕ, List, Result, Ok, Err, refl, ap, sym, subst, ◌∙◌}
+use Rattle.base_values.specs.declared.EditError.{EditError}
+use Rattle.base_values.specs.declared.EditError.TheVariants.{NoMemory, ParseDiffs}
+use Rattle.base_values.specs.Answers.{Answers, Edits}
+use Rattle.sheet_history.specs.declared.QueueDiffs.{QueueDiffs}
+use Rattle.sheet_wire.specs.QueueBytes.{IsNoQueue}
+use Rattle.user_model.specs.Document.{Document}
+use Rattle.user_model.specs.Machine.{State, applied}
+use Rattle.user_model.specs.Stands.{StandsFor, IsReached, Leaves}
+use Rattle.user_model.specs.Values.{Session}
+
+only_memory : (error : EditError) → ((error ≢ NoMemory) → ⊥) → error ≡ NoMemory
+only_memory NoMemory h = refl
+only_memory _ h = absurd (h (λ e. cc))
+
+-- bytes of a queue that are not read leave the model: memory is short
+pub unread_leaves : (error : EditError) (doc : Document) (entries : List QueueDiffs) (s : State) → StandsFor doc s → Answers {T = List QueueDiffs} (Err error) (Ok entries) → Leaves (Err error) doc entries s
+unread_leaves error doc entries s stands again =
+    let short : error ≡ NoMemory =
+    only_memory error (λ other. let never : ◌≡◌ {A = Result (List QueueDiffs) EditError} (Ok entries) (Err error) = again.refused other in cc) in
+    subst (λ e. Leaves (Err e) doc entries s) (sym short) (0, stands)
+
+-- bytes of no queue are refused with ParseDiffs
+pub unread_edits : (inside seen : Session) → inside ≡ seen → (bytes : List ℕ) (error : EditError) → (error ≢ NoMemory → (error ≡ ParseDiffs) × IsNoQueue bytes) → Edits (Err error) seen inside (Err ParseDiffs)
+unread_edits inside seen same bytes error refused = record { done = tt; refused = (same, λ other. ap Err (sym (refused other).0)) }
+
+pub parse_no_queue : (bytes : List ℕ) (error : EditError) → (error ≢ NoMemory → (error ≡ ParseDiffs) × IsNoQueue bytes)
+    → ◌≡◌ {A = Result (Unit {0}) EditError} (Err error) (Err ParseDiffs) → IsNoQueue bytes
+parse_no_queue bytes error refused is =
+    let same : error ≡ ParseDiffs = cc in
+    (refused (λ short. let never : ParseDiffs ≡ NoMemory = sym same ∙ short in cc)).1
+
+-- what was read is the queue that was spelled
+pub read_leaves : (result : Result (Unit {0}) EditError) (new : Document) (queue entries : List QueueDiffs) (s : State)
+    → Answers (Ok queue) (Ok entries) → Leaves result new queue s → Leaves result new entries s
+read_leaves result new queue entries s again leaves = let same : queue ≡ entries = cc in subst (λ q. Leaves result new q s) same leaves
+
+-- where entries were taken, the document stands for some state
+pub left_reached : (result : Result (Unit {0}) EditError) (new : Document) (entries : List QueueDiffs) (s : State) → Leaves result new entries s → IsReached new
+left_reached (Ok u) new entries s leaves = ((applied entries s).0, leaves.1)
+left_reached (Err NoMemory) new entries s leaves = (_, leaves.1)
+left_reached (Err error) new entries s leaves = ((applied entries s).0, leaves.1)

@@ -1,0 +1,31 @@
+use Rattle.std.proofs.Common.{◌≡◌, true, Ok, refl}
+use Rattle.sheet_grid.specs.Book.{Book}
+use Rattle.sheet_rules.specs.WellFormed.{IsWellFormed}
+use Rattle.edit_plans.specs.Plans.{HasRecord}
+use Rattle.edit_plans.specs.Edits.{Edit, IsGiven, changed, is_of_entries}
+use Rattle.edit_plans.specs.Edits.Edit.{Input, ArrayInput, SetLink, Merge, Unmerge, Lines, MoveLines}
+use Rattle.user_model.specs.BothWays.{GoesBothWays}
+use Rattle.user_model.proofs.EntrySteps.{of_entries, entries_both}
+use Rattle.user_model.proofs.LineSteps.{lines_go_both_ways}
+use Rattle.user_model.proofs.MoveSteps.{moves_go_both_ways}
+use Rattle.user_model.proofs.laws.edits_go_both_ways.Goals as goal
+
+pub returns : goal.returns
+returns c = go
+  where
+    by_record : (edit : Edit) (earlier later : Book) → is_of_entries edit ≡ true → IsWellFormed earlier → HasRecord earlier later → GoesBothWays edit earlier later
+    by_record edit earlier later is rules it = entries_both edit (of_entries edit is) earlier later it.list rules it.rules it.exact
+
+    by_law : (edit : Edit) (earlier later : Book) → is_of_entries edit ≡ true → IsWellFormed earlier → IsGiven edit → changed edit earlier ≡ Ok later → GoesBothWays edit earlier later
+    by_law edit earlier later is rules given how = by_record edit earlier later is rules (c.edits_have_records.ensures edit earlier later is given rules how)
+
+    go : (edit : Edit) (earlier later : Book) → IsWellFormed earlier → IsGiven edit → changed edit earlier ≡ Ok later → GoesBothWays edit earlier later
+    go (Input index row column content) earlier later rules given how = by_law (Input index row column content) earlier later refl rules given how
+    go (ArrayInput index r tree) earlier later rules given how = by_law (ArrayInput index r tree) earlier later refl rules given how
+    go (SetLink index row column link) earlier later rules given how = by_law (SetLink index row column link) earlier later refl rules given how
+    go (Merge index r) earlier later rules given how = by_law (Merge index r) earlier later refl rules given how
+    go (Unmerge index row column) earlier later rules given how = by_law (Unmerge index row column) earlier later refl rules given how
+    go (Lines index axis kind) earlier later rules given how =
+        lines_go_both_ways index axis kind earlier later rules how
+    go (MoveLines index axis first count delta) earlier later rules given how =
+        moves_go_both_ways index axis first count delta earlier later rules how

@@ -1,0 +1,14 @@
+use Rattle.std.proofs.Common.{◌≡◌, ◌⊎◌}
+use Rattle.user_model.specs.Machine.{State}
+use Rattle.user_model.specs.Opened.{document_in, session_of}
+use Rattle.user_model.specs.Stands.{StandsFor}
+use Rattle.user_model.specs.Values.{IsMade}
+use Rattle.user_model.proofs.Received.{Reached}
+use Rattle.user_model.proofs.open_book.OpenBook.receive_all.Given as goal
+
+-- whatever state it stood for at first, it stands for the one after the first entries
+abbrev pub invariant-loop-index : goal.invariant-loop-index
+invariant-loop-index g l =
+    ((first : State) → StandsFor (document_in l.fn.self) first → Reached l.queue first l.index (document_in l.self))
+    × (IsMade g.R.Recalc.Fits (session_of l.self l.results) ⊎ (session_of l.self l.results ≡ session_of l.fn.self l.fn.results))
+    × (l.results.paused ≡ l.fn.results.paused)

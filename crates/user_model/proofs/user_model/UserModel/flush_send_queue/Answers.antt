@@ -1,0 +1,23 @@
+use Rattle.std.proofs.Common.{rules, refl, ap, sym, subst, ◌∙◌}
+use Rattle.sheet_wire.specs.QueueBytes.{spell_queue, FitsQueue, IsKnownQueue}
+use Rattle.user_model.specs.Machine.{synced_of}
+use Rattle.user_model.specs.Opened.{document_in}
+use Rattle.user_model.specs.Values.{Session}
+use Rattle.user_model.proofs.Moving.{flushed_carries, flushed_fits, queued_known, synced_document}
+use Rattle.user_model.proofs.user_model.UserModel.flush_send_queue.Goals as goal
+
+pub encode_queue-requires : goal.encode_queue-requires
+encode_queue-requires g c = record { known = subst IsKnownQueue (sym c.as_slice.ensures.items) (queued_known (document_in c.self.inside.book) c.self.invariant) }
+
+pub returns-clause-carries : goal.returns-clause-carries
+returns-clause-carries g c = λ state stands.
+    flushed_carries c.args.self.now.document state c.in_ok-bytes.bytes.items stands
+    ((c.in_ok-bytes.ensures {u = _}).spelled ∙ ap spell_queue c.as_slice.ensures.items ∙ ap (λ (seen : Session). spell_queue seen.document.queue) c.self.view_is)
+
+pub returns-clause-fits : goal.returns-clause-fits
+returns-clause-fits g c = λ state stands.
+    flushed_fits c.args.self.now.document state stands
+    (subst (λ (seen : Session). FitsQueue seen.document.queue) c.self.view_is (subst FitsQueue c.as_slice.ensures.items (c.in_ok-bytes.ensures {u = _}).fits))
+
+pub invariant_of-self : goal.invariant_of-self
+invariant_of-self g c = let is = c.self.invariant in (synced_of is.0, synced_document (document_in c.self.inside.book) _ is.0 is.1 (search rules))

@@ -1,0 +1,11 @@
+use Rattle.std.proofs.Common.{subst}
+use Rattle.user_model.specs.Stands.{IsReached}
+use Rattle.user_model.specs.Values.{Session}
+use Rattle.user_model.proofs.Moving.{reached_rules}
+use Rattle.user_model.proofs.user_model.UserModel.get_model.Goals as goal
+
+pub returns-clause-rules : goal.returns-clause-rules
+returns-clause-rules g c = reached_rules c.args.self.now.document (subst (λ (seen : Session). IsReached seen.document) c.self.view_is c.self.invariant)
+
+pub returns-clause-reached : goal.returns-clause-reached
+returns-clause-reached g c = subst (λ (seen : Session). IsReached seen.document) c.self.view_is c.self.invariant

@@ -1,0 +1,21 @@
+use Rattle.std.proofs.Common.{refl, w32, SFits}
+use Rattle.std.proofs.lemmas.Int.{to_z-of_z}
+use Rattle.edit_plans.specs.Edits.Edit.{Unmerge}
+use Rattle.user_model.specs.Opened.{document_in}
+use Rattle.user_model.proofs.Moving.{plan_of, reached_rules}
+use Rattle.user_model.proofs.user_model.UserModel.unmerge_cells.Goals as goal
+
+pub plan_unmerge-plan-requires : goal.plan_unmerge-plan-requires
+plan_unmerge-plan-requires g c = record { rules = reached_rules (document_in c.self.inside.book) c.self.invariant }
+
+pub make-requires : goal.make-requires
+make-requires g c =
+    let row_fits : SFits w32 c.args.row = c.ranges.row in
+    let column_fits : SFits w32 c.args.column = c.ranges.column in
+    (Unmerge c.args.sheet c.args.row c.args.column, plan_of _ c.plan_unmerge-plan.result c.self.inside.book c.self.inside.results _ c.self.view_is refl (simp to_z-of_z at c.plan_unmerge-plan.ensures.planned))
+
+pub returns-clause-next : goal.returns-clause-next
+returns-clause-next g c = λ state.
+    let row_fits : SFits w32 c.args.row = c.ranges.row in
+    let column_fits : SFits w32 c.args.column = c.ranges.column in
+    c.make.ensures.next _ state (plan_of (Unmerge c.args.sheet c.args.row c.args.column) c.plan_unmerge-plan.result c.self.inside.book c.self.inside.results _ c.self.view_is refl (simp to_z-of_z at c.plan_unmerge-plan.ensures.planned))

@@ -1,0 +1,56 @@
+-- For which states of the machine a user model stands, and what its calls do with them.
+use Rattle.std.proofs.Common.{◌≡◌, ◌≢◌, ℕ, List, take, Result, Ok, Err}
+use Rattle.std.specs.Prelude.{OnOk, IfOk, IfErr, IsOk, IsOkAnd, IsTrue}
+use Rattle.base_values.specs.declared.EditError.{EditError}
+use Rattle.base_values.specs.declared.EditError.TheVariants.{NoMemory}
+use Rattle.sheet_history.specs.declared.Diff.{Diff}
+use Rattle.sheet_history.specs.declared.QueueDiffs.{QueueDiffs}
+use Rattle.edit_plans.specs.Edits.{Edit, changed, is_of_entries}
+use Rattle.edit_plans.specs.Plans.{Plans}
+use Rattle.user_model.specs.Document.{Document, document}
+use Rattle.user_model.specs.Machine.{State, applied}
+use Rattle.user_model.specs.Sound.{IsSound}
+use Rattle.user_model.specs.Values.{Session}
+
+-- a document stands for each sound state that it is the document of
+pub record StandsFor (doc : Document) (s : State) : Type 0 where
+  pub document : doc ≡ document s
+  pub sound : IsSound s
+
+-- it stands for some state
+abbrev pub IsReached : Document → Type 0
+IsReached doc = (s : State) × StandsFor doc s
+
+-- a call takes a model to a document that stands for the expected state, or refuses as expected. Only where a state is expected may it be
+-- out of memory
+pub record Moves {T : Type 0} (result : Result T EditError) (new : Document) (expected : Result State EditError) : Type 0 where
+  pub done : OnOk result (IsOkAnd expected (StandsFor new))
+  pub refused : IfErr result (λ error. error ≢ NoMemory → expected ≡ Err error)
+  pub memory : IfErr result (λ error. error ≡ NoMemory → IsOk expected)
+
+-- the same of a call whose tests take memory
+pub record Turns {T : Type 0} (result : Result T EditError) (new : Document) (expected : Result State EditError) : Type 0 where
+  pub done : OnOk result (IsOkAnd expected (StandsFor new))
+  pub refused : IfErr result (λ error. error ≢ NoMemory → expected ≡ Err error)
+
+-- what a call answers of the entries of another copy's queue, and where it leaves the model: the entries before a refused one stand, and
+-- after want of memory some first ones do
+abbrev pub Leaves : Result (Unit {0}) EditError → Document → List QueueDiffs → State → Type 0
+Leaves (Err NoMemory) new entries s = (count : ℕ) × StandsFor new (applied (take count entries) s).0
+Leaves result new entries s = ((applied entries s).1 ≡ result) × StandsFor new (applied entries s).0
+
+-- a call opens a model whose document stands for the expected state, or refuses as expected. Only where a state is expected may it be out
+-- of memory
+pub record Opens (result : Result Session EditError) (expected : Result State EditError) : Type 0 where
+  pub done : IfOk result (λ session. IsOkAnd expected (StandsFor session.document))
+  pub refused : IfErr result (λ error. error ≢ NoMemory → expected ≡ Err error)
+  pub memory : IfErr result (λ error. error ≡ NoMemory → IsOk expected)
+
+-- a result is that of the plan of an edit by entries, which has the record of its change or refuses it
+pub record IsPlanOf (edit : Edit) (plan : Result (List Diff) EditError) (doc : Document) : Type 0 where
+  pub of_entries : IsTrue (is_of_entries edit)
+  pub plans : Plans plan doc.book (changed edit doc.book)
+
+-- of some edit
+abbrev pub IsAnyPlan : Result (List Diff) EditError → Document → Type 0
+IsAnyPlan plan doc = (edit : Edit) × IsPlanOf edit plan doc

@@ -1,0 +1,28 @@
+-- What is computed of a workbook.
+use Rattle.std.proofs.Common.{◌≡◌, Bool, true, false, List, [], ◌∷◌}
+use Rattle.sheet_grid.specs.Book.{Book}
+use Rattle.sheet_grid.specs.Computed.{Values, no_values}
+use Rattle.user_model.specs.Document.{Document}
+
+-- a document that is open, its computed values, and whether these wait
+pub record Session : Type 0 where
+  pub document : Document
+  pub values : Values
+  pub paused : Bool
+
+-- values that were just made fit the workbook. While they wait there are none
+abbrev pub AreMade : (Book → Values → Type 0) → Bool → Book → Values → Type 0
+AreMade Fits true book values = values ≡ no_values
+AreMade Fits false book values = Fits book values
+
+abbrev pub IsMade : (Book → Values → Type 0) → Session → Type 0
+IsMade Fits session = AreMade Fits session.paused session.document.book session.values
+
+-- where nothing was to do all stays, else values were made
+abbrev pub Makes : Bool → (Book → Values → Type 0) → Session → Session → Type 0
+Makes true Fits old new = new ≡ old
+Makes false Fits old new = IsMade Fits new
+
+abbrev pub is_none_left : {A : Type 0} → List A → Bool
+is_none_left [] = true
+is_none_left (x ∷ xs) = false

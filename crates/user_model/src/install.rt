@@ -1,0 +1,172 @@
+ghost use Rattle.std.specs.Prelude.{◌≡◌, true, false, IfOk, IsOk, OnOk, OnErr, IsOkUnless};
+ghost use Rattle.base_values.specs.Answers.{Answers, Edits};
+ghost use Rattle.base_values.specs.declared.EditError.TheVariants.{NoMemory};
+ghost use Rattle.sheet_rules.specs.WellFormed.{IsWellFormed};
+ghost use Rattle.sheet_history.specs.Diffs.{IsKeptList, follow};
+ghost use Rattle.user_model.specs.Untested.{follow_untested};
+ghost use Rattle.user_model.specs.Values.{AreMade};
+
+use crate::recalc::{Recalc, Results};
+use base_values::EditError;
+use sheet_grid::{Computed, Workbook};
+use sheet_history::{
+    DiffList, DiffType, back, back_in_place, follow_in_place, forward, forward_in_place,
+};
+use std::alloc::Global;
+
+/// The well-formed workbook after a list, in its direction, or the refusal of the list.
+fn followed(
+    alloc: Global,
+    workbook: &Workbook,
+    kind: DiffType,
+    list: &DiffList,
+) -> Result<Workbook, EditError>
+    requires kept { IsKeptList list.now }
+    requires rules { IsWellFormed workbook.now }
+    ensures { Answers result (follow kind workbook.now list.now) }
+{
+    match kind {
+        DiffType::Undo => back(alloc, workbook, list),
+        DiffType::Redo => forward(alloc, workbook, list),
+    }
+}
+
+/// Follows a list in the workbook itself, and does not test the result.
+fn follow_untested(
+    alloc: Global,
+    workbook: &mut Workbook,
+    kind: DiffType,
+    list: &DiffList,
+) -> Result<(), EditError>
+    requires kept { IsKeptList list.now }
+    requires rules { IsWellFormed workbook.old }
+    ensures { Edits result workbook.old workbook.new (follow_untested kind workbook.old list.now) }
+{
+    match kind {
+        DiffType::Undo => back_in_place(alloc, workbook, list),
+        DiffType::Redo => forward_in_place(alloc, workbook, list),
+    }
+}
+
+/// Follows a list in the workbook itself, or refuses it. Where it is `kept`, it is known not to be
+/// refused, and the result is not tested.
+fn follow(
+    alloc: Global,
+    workbook: &mut Workbook,
+    kind: DiffType,
+    list: &DiffList,
+    kept: bool,
+) -> Result<(), EditError>
+    requires kept { IsKeptList list.now }
+    requires rules { IsWellFormed workbook.old }
+    requires works { kept ≡ true → IsOk (follow kind workbook.old list.now) }
+    ensures { Edits result workbook.old workbook.new (follow kind workbook.old list.now) }
+{
+    if kept {
+        return follow_untested(alloc, workbook, kind, list);
+    }
+    follow_in_place(alloc, workbook, kind, list)
+}
+
+/// The values of a workbook, or none while they wait.
+pub(crate) fn values_of<R: Recalc>(
+    alloc: Global,
+    workbook: &Workbook,
+    paused: bool,
+    recalc: &mut R,
+) -> Result<Computed, EditError>
+    ensures made { IfOk result (AreMade R.Fits paused workbook.now) }
+    ensures only { IsOkUnless result NoMemory }
+    ensures sure { (paused ≡ false → R.Sure) → IsOk result }
+{
+    if paused {
+        return Ok(Computed::new(alloc));
+    }
+    recalc.compute(alloc, workbook)
+}
+
+/// Follows a list on a copy of the workbook, and makes the values of that. An error changes
+/// nothing.
+fn install_on_copy<R: Recalc>(
+    alloc: Global,
+    workbook: &mut Workbook,
+    results: &mut Results,
+    recalc: &mut R,
+    kind: DiffType,
+    list: &DiffList,
+) -> Result<(), EditError>
+    requires kept { IsKeptList list.now }
+    requires rules { IsWellFormed workbook.old }
+    ensures installed { Edits result workbook.old workbook.new (follow kind workbook.old list.now) }
+    ensures made { OnOk result (AreMade R.Fits results.new.paused workbook.new results.new.values) }
+    ensures err { OnErr result (results.new ≡ results.old) }
+    ensures paused { results.new.paused ≡ results.old.paused }
+{
+    let later = followed(alloc, workbook, kind, list)?;
+    let values = values_of(alloc, &later, results.paused, recalc)?;
+    results.values = values;
+    *workbook = later;
+    Ok(())
+}
+
+/// Follows a list in the workbook itself, and then makes its values, which must not want memory. An
+/// error changes nothing.
+fn install_in_place<R: Recalc>(
+    alloc: Global,
+    workbook: &mut Workbook,
+    results: &mut Results,
+    recalc: &mut R,
+    kind: DiffType,
+    list: &DiffList,
+    kept: bool,
+) -> Result<(), EditError>
+    requires kept { IsKeptList list.now }
+    requires rules { IsWellFormed workbook.old }
+    requires works { kept ≡ true → IsOk (follow kind workbook.old list.now) }
+    requires sure { results.old.paused ≡ false → R.Sure }
+    ensures installed { Edits result workbook.old workbook.new (follow kind workbook.old list.now) }
+    ensures made { OnOk result (AreMade R.Fits results.new.paused workbook.new results.new.values) }
+    ensures err { OnErr result (results.new ≡ results.old) }
+    ensures paused { results.new.paused ≡ results.old.paused }
+{
+    follow(alloc, workbook, kind, list, kept)?;
+    match values_of(alloc, workbook, results.paused, recalc) {
+        Ok(values) => {
+            results.values = values;
+            Ok(())
+        }
+        Err(_) => unreachable!(),
+    }
+}
+
+/// Whether a list can be followed in the workbook itself: no values are made, or surely.
+fn goes_in_place<R: Recalc>(paused: bool, recalc: &R) -> bool
+    ensures { result ≡ true → paused ≡ false → R.Sure }
+{
+    paused || recalc.is_sure()
+}
+
+/// Makes the workbook after a list, in its direction, the present one, with its values, or refuses
+/// the list. Where it is `kept`, it is known not to be refused. An error changes nothing.
+pub(crate) fn install<R: Recalc>(
+    alloc: Global,
+    workbook: &mut Workbook,
+    results: &mut Results,
+    recalc: &mut R,
+    kind: DiffType,
+    list: &DiffList,
+    kept: bool,
+) -> Result<(), EditError>
+    requires kept { IsKeptList list.now }
+    requires rules { IsWellFormed workbook.old }
+    requires works { kept ≡ true → IsOk (follow kind workbook.old list.now) }
+    ensures installed { Edits result workbook.old workbook.new (follow kind workbook.old list.now) }
+    ensures made { OnOk result (AreMade R.Fits results.new.paused workbook.new results.new.values) }
+    ensures err { OnErr result (results.new ≡ results.old) }
+    ensures paused { results.new.paused ≡ results.old.paused }
+{
+    if goes_in_place(results.paused, recalc) {
+        return install_in_place(alloc, workbook, results, recalc, kind, list, kept);
+    }
+    install_on_copy(alloc, workbook, results, recalc, kind, list)
+}

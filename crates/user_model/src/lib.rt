@@ -1,0 +1,22 @@
+//! A workbook as a user of a spreadsheet edits it: with undo, redo, a queue for other copies and
+//! computed values.
+//!
+//! It keeps diffs. The layer above sees the machine that keeps whole earlier and later workbooks:
+//! each call takes every state of the machine that the model stands for to the machine's next one.
+#![tactic(auto)]
+
+mod install;
+mod laws;
+mod open_book;
+mod reading;
+mod recalc;
+mod structure;
+mod user_model;
+
+pub use laws::edits_go_both_ways;
+pub use recalc::{ClearAll, Recalc};
+pub use structure::CellArrayStructure;
+pub use user_model::UserModel;
+
+#[cfg(test)]
+mod tests;

@@ -1,0 +1,795 @@
+ghost use Rattle.std.specs.Prelude.{◌≡◌, ◌⊎◌, List, [], ◌∷◌, true, false, None, Some, Ok, Err, not, IfOk, IfErr, IfSome, IsTrue, OnOk, OnErr, IsOkUnless};
+ghost use Rattle.std.specs.Prelude.{string_bytes};
+ghost use Rattle.base_values.specs.Answers.{Edits, Returns, map_ok};
+ghost use Rattle.base_axis.specs.Rectangles.{anchor_place};
+ghost use Rattle.formula_tree.specs.Numbers.{has_kept_numbers};
+ghost use Rattle.cell_content.specs.declared.Content.TheVariants.{Array};
+ghost use Rattle.cell_content.specs.Fitting.{fits_at};
+ghost use Rattle.cell_content.specs.KeptContent.{IsKeptContent};
+ghost use Rattle.base_values.specs.declared.EditError.TheVariants.{NoMemory, ParseDiffs};
+ghost use Rattle.base_tables.specs.declared.Language.TheVariants.{En};
+ghost use Rattle.line_edits.specs.declared.EditKind.TheVariants.{Insert, Delete};
+ghost use Rattle.sheet_history.specs.LineDiffs.{along_of};
+ghost use Rattle.sheet_history.specs.declared.LineAxis.TheVariants.{Rows, Columns};
+ghost use Rattle.sheet_history.specs.declared.QueueDiffs.{QueueDiffs as Entry};
+ghost use Rattle.sheet_rules.specs.WellFormed.{IsWellFormed};
+ghost use Rattle.sheet_wire.specs.QueueBytes.{FitsQueue, IsNoQueue, spell_queue};
+ghost use Rattle.sheet_actions.specs.Shown.{book_of};
+ghost use Rattle.edit_plans.specs.Edits.{Edit as AnyEdit, is_silent};
+ghost use Rattle.edit_plans.specs.Inputs.{IsInput};
+ghost use Rattle.edit_plans.specs.Edits.Edit.{Input, ArrayInput, SetLink, Merge, Unmerge, Lines, MoveLines};
+ghost use Rattle.user_model.specs.Beginning.{new_state};
+ghost use Rattle.user_model.specs.Reading.{content_text, formula_typed, link_to, rectangle, rectangle_of, typed};
+ghost use Rattle.user_model.specs.Structure.{structure_at};
+ghost use Rattle.user_model.specs.Machine.{State, begun, edit_of, undo_of, redo_of, synced_of, sync_bytes};
+ghost use Rattle.user_model.specs.Sound.{Carries, WhereCarried};
+ghost use Rattle.user_model.specs.Stands.{StandsFor, IsReached, IsAnyPlan, IsPlanOf, Leaves, Moves, Opens, Turns};
+ghost use Rattle.user_model.specs.Values.{IsMade, Makes, is_none_left};
+
+use crate::install::values_of;
+use crate::open_book::OpenBook;
+use crate::reading::{
+    content_text, find_array_place, find_input_place, find_place, link_to, read_at, read_tree_at,
+    rectangle, rectangle_of,
+};
+use crate::recalc::{Recalc, Results};
+use crate::structure::{CellArrayStructure, structure_at};
+use base_axis::{Area, Axis, ColumnAxis, MergedCell, RowAxis};
+use base_shared::Shared;
+use base_tables::{Language, get_language, get_locale, get_zone};
+use base_values::{EditError, Items, copy_of};
+use edit_plans::{plan_array, plan_input, plan_link, plan_merge, plan_unmerge};
+use formula_tree::Node;
+use line_map::EditKind;
+use sheet_actions::Model as PlainModel;
+use sheet_grid::{Content, Link, Workbook};
+use sheet_history::{DiffList, LineAxis};
+use sheet_wire::{decode_queue, encode_queue};
+use std::alloc::Global;
+use std::fmt;
+use std::marker::Model;
+
+/// A workbook as a user edits it: with undo, redo, a queue of what other copies have not had yet, and
+/// computed values. It is one that the machine of whole workbooks reaches, so it is well-formed, and
+/// each step can be taken back.
+///
+/// ```
+/// let mut model = UserModel::new_empty(alloc, "budget", "en", "UTC", "en", ClearAll)?;
+/// model.set_user_input(0, 1, 1, "=SUM(B1:B9)")?;
+/// model.insert_rows(0, 3, 1)?;
+/// model.undo()?;
+/// let bytes = model.flush_send_queue()?;
+/// ```
+#[derive(Drop)]
+pub struct UserModel<R> {
+    book: OpenBook,
+    results: Results,
+    recalc: R,
+}
+
+impl<R> Model for UserModel<R> {
+    ghost use Rattle.std.specs.Coded.{codes};
+    ghost use Rattle.std.specs.FinMap as fin;
+    ghost use Rattle.base_maps.specs.SheetPlaces.{coded_sheet_place};
+    ghost use Rattle.formula_tree.specs.contracts.node.Node as node;
+    ghost use Rattle.sheet_grid.specs.contracts.workbook.Workbook as workbook;
+    ghost use Rattle.sheet_history.specs.contracts.diff.Diff as diff;
+    ghost use Rattle.user_model.specs.Values.{Session};
+
+    ghost Value = { Session };
+
+    ghost coded = { Prim.hlevel (codes, coded_sheet_place, node.the_row.coded, workbook.the_row.coded, diff.the_row.coded, fin.code) };
+
+    ghost use Rattle.user_model.specs.Opened.{document_in, session_of};
+    ghost use Rattle.user_model.specs.Stands.{IsReached};
+
+    ghost view = { λ model. session_of model.book model.results };
+
+    ghost invariant = { λ model. IsReached (document_in model.book) };
+}
+
+/// Opens a workbook with nothing to undo, and makes its values.
+fn open<R: Recalc + Drop>(
+    alloc: Global,
+    workbook: Workbook,
+    language: Language,
+    recalc: R,
+) -> Result<UserModel<R>, EditError>
+    requires rules { IsWellFormed workbook }
+    ensures stands { IfOk result (λ model. StandsFor model.document (begun language workbook)) }
+    ensures fits { IfOk result (λ model. R.Fits model.document.book model.values) }
+    ensures paused { IfOk result (λ model. model.paused ≡ false) }
+    ensures only { IsOkUnless result NoMemory }
+{
+    let mut recalc = recalc;
+    let results = Results {
+        values: recalc.compute(alloc, &workbook)?,
+        paused: false,
+    };
+    let book = OpenBook::new(alloc, workbook, language)?;
+    Ok(UserModel {
+        book,
+        results,
+        recalc,
+    })
+}
+
+impl<R> fmt::Debug for UserModel<R> {
+    fn fmt<W: fmt::Write>(&self, f: &mut fmt::Formatter<W>) -> fmt::Result {
+        f.write_str("UserModel")
+    }
+}
+
+impl<R: Recalc + Drop> UserModel<R> {
+    /// A new workbook with a name and one empty sheet, `Sheet1` of id 1, in a locale, a time zone and
+    /// a display language that are given by their names. Its values are made.
+    ///
+    /// `LocaleName`, `ZoneName` and `LanguageName`, in this order, where there is none of that name,
+    /// else `NoMemory` where there is not enough. docs/FORMULAS.md has the names.
+    ///
+    /// ```
+    /// let model = UserModel::new_empty(alloc, "budget", "de", "Europe/Berlin", "de", ClearAll)?;
+    /// ```
+    pub fn new_empty(
+        alloc: Global,
+        name: &str,
+        locale: &str,
+        zone: &str,
+        language: &str,
+        recalc: R,
+    ) -> Result<UserModel<R>, EditError>
+        ensures opens { Opens result (new_state name.now locale.now zone.now language.now) }
+        ensures fits { IfOk result (λ model. R.Fits model.document.book model.values) }
+        ensures paused { IfOk result (λ model. model.paused ≡ false) }
+    {
+        let locale = get_locale(locale)?;
+        let zone = get_zone(zone)?;
+        let language = get_language(language)?;
+        let workbook = Workbook::new_empty(alloc, name, locale, zone)?;
+        open(alloc, workbook, language, recalc)
+    }
+
+    /// A model of a copy of a plain model's workbook. Its display language is English, and its values
+    /// are made. The only error is `NoMemory`.
+    ///
+    /// ```
+    /// let model = UserModel::from_model(alloc, &plain, ClearAll)?;
+    /// ```
+    pub fn from_model(
+        alloc: Global,
+        model: &PlainModel,
+        recalc: R,
+    ) -> Result<UserModel<R>, EditError>
+        ensures stands { IfOk result (λ opened. StandsFor opened.document (begun En (book_of model.now))) }
+        ensures fits { IfOk result (λ opened. R.Fits opened.document.book opened.values) }
+        ensures paused { IfOk result (λ opened. opened.paused ≡ false) }
+        ensures only { IsOkUnless result NoMemory }
+    {
+        open(alloc, copy_of(model.workbook())?, Language::En, recalc)
+    }
+
+    /// The workbook as it is now. It takes no memory.
+    ///
+    /// ```
+    /// let first = model.get_model().worksheet(0)?;
+    /// ```
+    pub fn get_model(&self) -> &Workbook
+        ensures now { result.now ≡ self.now.document.book }
+        ensures rules { IsWellFormed self.now.document.book }
+        ensures reached { IsReached self.now.document }
+    {
+        &self.book.workbook
+    }
+
+    /// The name of the workbook. It takes no memory.
+    pub fn get_name(&self) -> &str
+        ensures { result.now ≡ self.now.document.book.name }
+    {
+        self.book.workbook.name()
+    }
+
+    /// The text that the cell at a row and a column of the sheet at an index shows for editing: read
+    /// as an input there, it gives the content again. It is empty where there is no cell.
+    ///
+    /// `InvalidSheet` where there is no such sheet, else `InvalidRow` where the row is outside the
+    /// sheet, else `InvalidColumn` where the column is, else `NoMemory` where there is not enough.
+    ///
+    /// ```
+    /// let text = model.get_cell_content(0, 2, 2)?;
+    /// ```
+    pub fn get_cell_content(&self, sheet: u32, row: i32, column: i32) -> Result<String, EditError>
+        ensures { Returns (map_ok string_bytes result) (content_text sheet row column self.now.document.book self.now.document.language) }
+    {
+        let book = &self.book;
+        content_text(
+            book.alloc,
+            &book.workbook,
+            book.language,
+            sheet,
+            row,
+            column,
+        )
+    }
+
+    /// How the cell at a row and a column of the sheet at an index stands to the arrays of the sheet.
+    /// Entered arrays come before dynamic formulas, and of either the first by position; a dynamic
+    /// formula without a computed value fills one cell.
+    ///
+    /// `InvalidSheet` where there is no such sheet, else `InvalidRow` where the row is outside the
+    /// sheet, else `InvalidColumn` where the column is.
+    ///
+    /// ```
+    /// if let CellArrayStructure::ArrayAnchor(width, height) = model.get_cell_array_structure(0, 1, 1)? {
+    /// }
+    /// ```
+    pub fn get_cell_array_structure(
+        &self,
+        sheet: u32,
+        row: i32,
+        column: i32,
+    ) -> Result<CellArrayStructure, EditError>
+        ensures { Returns result (structure_at sheet row column self.now.values self.now.document.book) }
+    {
+        structure_at(
+            &self.results.values,
+            &self.book.workbook,
+            sheet,
+            row,
+            column,
+        )
+    }
+
+    /// Whether there is something to take back. It takes no memory.
+    pub fn can_undo(&self) -> bool
+        ensures { result ≡ not (is_none_left self.now.document.undo) }
+    {
+        self.book.history.last_undo().is_some()
+    }
+
+    /// Whether there is something to make again. It takes no memory.
+    pub fn can_redo(&self) -> bool
+        ensures { result ≡ not (is_none_left self.now.document.redo) }
+    {
+        self.book.history.last_redo().is_some()
+    }
+
+    /// From now on computed values wait: a change leaves none. It takes no memory.
+    ///
+    /// ```
+    /// model.pause_evaluation();
+    /// model.set_user_input(0, 1, 1, "3")?;
+    /// model.resume_evaluation();
+    /// model.evaluate()?;
+    /// ```
+    pub fn pause_evaluation(&mut self)
+        ensures { self.new ≡ record self.old { paused = true } }
+    {
+        self.results.paused = true;
+    }
+
+    /// From now on values are made with each change. It computes nothing itself, and takes no memory.
+    pub fn resume_evaluation(&mut self)
+        ensures { self.new ≡ record self.old { paused = false } }
+    {
+        self.results.paused = false;
+    }
+
+    /// Makes the values of the workbook, also while they wait. The only error is `NoMemory`, and
+    /// nothing has changed then.
+    pub fn evaluate(&mut self) -> Result<(), EditError>
+        ensures document { self.new.document ≡ self.old.document }
+        ensures fits { OnOk result (R.Fits self.new.document.book self.new.values) }
+        ensures only { IsOkUnless result NoMemory }
+        ensures err { OnErr result (self.new ≡ self.old) }
+        ensures paused { self.new.paused ≡ self.old.paused }
+    {
+        let values = self.recalc.compute(self.book.alloc, &self.book.workbook)?;
+        self.results.values = values;
+        Ok(())
+    }
+
+    /// Makes what a plan says, and records it, or refuses as the plan does.
+    fn make(&mut self, plan: Result<DiffList, EditError>) -> Result<(), EditError>
+        requires { IsAnyPlan plan self.now.document }
+        ensures next { (edit : AnyEdit) (state : State) → IsPlanOf edit plan self.old.document → StandsFor self.old.document state → Moves result self.new.document (edit_of edit state) }
+        ensures made { OnOk result (IsMade R.Fits self.new) }
+        ensures err { OnErr result (self.new ≡ self.old) }
+        ensures paused { self.new.paused ≡ self.old.paused }
+    {
+        self.book.make(&mut self.results, &mut self.recalc, plan)
+    }
+
+    /// Edits lines along an axis, which is `A`.
+    fn edit_lines<A: Axis>(
+        &mut self,
+        sheet: u32,
+        axis: LineAxis,
+        kind: EditKind,
+    ) -> Result<(), EditError>
+        requires { A.along ≡ along_of axis }
+        ensures next { (state : State) → StandsFor self.old.document state → Moves result self.new.document (edit_of (Lines sheet axis kind) state) }
+        ensures made { OnOk result (IsMade R.Fits self.new) }
+        ensures err { OnErr result (self.new ≡ self.old) }
+        ensures paused { self.new.paused ≡ self.old.paused }
+    {
+        self.book
+            .edit_lines::<R, A>(&mut self.results, &mut self.recalc, sheet, axis, kind)
+    }
+
+    /// Moves lines along an axis, which is `A`, past the hidden ones in the way.
+    fn move_lines<A: Axis>(
+        &mut self,
+        sheet: u32,
+        axis: LineAxis,
+        first: i32,
+        count: i32,
+        delta: i32,
+    ) -> Result<(), EditError>
+        requires { A.along ≡ along_of axis }
+        ensures next { (state : State) → StandsFor self.old.document state → Moves result self.new.document (edit_of (MoveLines sheet axis first count delta) state) }
+        ensures made { OnOk result (Makes (is_silent (MoveLines sheet axis first count delta)) R.Fits self.old self.new) }
+        ensures err { OnErr result (self.new ≡ self.old) }
+        ensures paused { self.new.paused ≡ self.old.paused }
+    {
+        self.book.move_lines::<R, A>(
+            &mut self.results,
+            &mut self.recalc,
+            sheet,
+            axis,
+            first,
+            count,
+            delta,
+        )
+    }
+
+    /// Puts a content at a row and a column of the sheet at an index, and records the change.
+    fn set_content(
+        &mut self,
+        sheet: u32,
+        row: i32,
+        column: i32,
+        content: Content,
+    ) -> Result<(), EditError>
+        requires kept { IsKeptContent content }
+        requires input { IsInput row column content }
+        ensures next { (state : State) → StandsFor self.old.document state → Moves result self.new.document (edit_of (Input sheet row column content) state) }
+        ensures made { OnOk result (IsMade R.Fits self.new) }
+        ensures err { OnErr result (self.new ≡ self.old) }
+        ensures paused { self.new.paused ≡ self.old.paused }
+    {
+        let book = &self.book;
+        let plan = plan_input(
+            book.alloc,
+            &book.plain,
+            &book.workbook,
+            sheet,
+            row,
+            column,
+            content,
+        );
+        self.make(plan)
+    }
+
+    /// Reads a text as a user types it into the cell at a row and a column of the sheet at an index,
+    /// in the workbook's locale and the display language, and records the change. Sheets are counted
+    /// from 0, rows and columns from 1. What follows `=` is a formula, what follows `'` a text; a text
+    /// that is no formula is kept as it is. The cell keeps its style; a new one has the style that its
+    /// place showed. An empty text takes the content and the link away, and makes no cell.
+    ///
+    /// `InvalidSheet` where there is no such sheet, else `InvalidRow` where the row is outside the
+    /// sheet, else `InvalidColumn` where the column is, else `CoveredCell` where a merge covers the
+    /// cell, else `ArrayCell` where an array of more than one cell holds it, else `NoMemory` where
+    /// there is not enough. An error changes nothing.
+    ///
+    /// ```
+    /// model.set_user_input(0, 1, 1, "Rent")?;
+    /// model.set_user_input(0, 1, 2, "1250.50")?;
+    /// model.set_user_input(0, 2, 2, "=B1*12")?;
+    /// ```
+    pub fn set_user_input(
+        &mut self,
+        sheet: u32,
+        row: i32,
+        column: i32,
+        value: &str,
+    ) -> Result<(), EditError>
+        ensures next { (state : State) → StandsFor self.old.document state → Moves result self.new.document (edit_of (Input sheet row column (typed state.present state.language row column value.now)) state) }
+        ensures made { OnOk result (IsMade R.Fits self.new) }
+        ensures err { OnErr result (self.new ≡ self.old) }
+        ensures paused { self.new.paused ≡ self.old.paused }
+    {
+        let book = &self.book;
+        let place = find_input_place(&book.workbook, sheet, row, column)?;
+        let content = read_at(
+            book.alloc,
+            place,
+            value,
+            book.workbook.locale(),
+            book.language,
+        )?;
+        self.set_content(sheet, row, column, content)
+    }
+
+    /// Puts an array formula in a rectangle of the sheet at an index.
+    fn set_array(
+        &mut self,
+        sheet: u32,
+        area: MergedCell,
+        tree: Shared<Node>,
+    ) -> Result<(), EditError>
+        requires kept { IsTrue (has_kept_numbers tree) }
+        requires fits { IsTrue (fits_at (anchor_place area) (Array tree area.width area.height)) }
+        ensures next { (state : State) → StandsFor self.old.document state → Moves result self.new.document (edit_of (ArrayInput sheet area tree) state) }
+        ensures made { OnOk result (IsMade R.Fits self.new) }
+        ensures err { OnErr result (self.new ≡ self.old) }
+        ensures paused { self.new.paused ≡ self.old.paused }
+    {
+        let book = &self.book;
+        let plan = plan_array(book.alloc, &book.plain, &book.workbook, sheet, area, tree);
+        self.make(plan)
+    }
+
+    /// Reads a text as an array formula, with or without its `=`, whose values fill a rectangle, and
+    /// records the change. The rectangle is given by the row and the column of its first cell and by
+    /// how many columns wide and rows high it is. The first cell keeps its style, or has the one that
+    /// its place showed; the other cells lose their contents, and links stay.
+    ///
+    /// `InvalidSheet` where there is no such sheet, else `InvalidRow` where the row is outside the
+    /// sheet, else `InvalidColumn` where the column is, else `InvalidArea` where the rectangle is
+    /// empty or reaches outside, else `CoveredCell` where a merge meets it, or covers it where it is
+    /// one cell, else `ArrayCell` where an array of more than one cell meets it, else `NoMemory` where
+    /// there is not enough. An error changes nothing.
+    ///
+    /// ```
+    /// model.set_user_array_formula(0, 1, 4, 1, 3, "=A1:A3*B1:B3")?;
+    /// ```
+    pub fn set_user_array_formula(
+        &mut self,
+        sheet: u32,
+        row: i32,
+        column: i32,
+        width: i32,
+        height: i32,
+        formula: &str,
+    ) -> Result<(), EditError>
+        ensures next { (state : State) → StandsFor self.old.document state → Moves result self.new.document (edit_of (ArrayInput sheet (rectangle row column width height) (formula_typed state.present state.language row column formula.now)) state) }
+        ensures made { OnOk result (IsMade R.Fits self.new) }
+        ensures err { OnErr result (self.new ≡ self.old) }
+        ensures paused { self.new.paused ≡ self.old.paused }
+    {
+        let book = &self.book;
+        let area = rectangle(row, column, width, height);
+        let place = find_array_place(&book.workbook, sheet, area)?;
+        let tree = read_tree_at(
+            book.alloc,
+            place,
+            formula,
+            book.workbook.locale(),
+            book.language,
+        )?;
+        self.set_array(sheet, area, tree)
+    }
+
+    /// Puts a link at a row and a column of the sheet at an index, or takes the one there away, and
+    /// records the change.
+    fn put_link(
+        &mut self,
+        sheet: u32,
+        row: i32,
+        column: i32,
+        link: Option<Link>,
+    ) -> Result<(), EditError>
+        ensures next { (state : State) → StandsFor self.old.document state → Moves result self.new.document (edit_of (SetLink sheet row column link) state) }
+        ensures made { OnOk result (IsMade R.Fits self.new) }
+        ensures err { OnErr result (self.new ≡ self.old) }
+        ensures paused { self.new.paused ≡ self.old.paused }
+    {
+        let book = &self.book;
+        let plan = plan_link(book.alloc, &book.workbook, sheet, row, column, link);
+        self.make(plan)
+    }
+
+    /// Puts a link to a target at a row and a column of the sheet at an index, counted from 0, and
+    /// records the change. Rows and columns are counted from 1.
+    ///
+    /// `InvalidSheet` where there is no such sheet, else `InvalidRow` where the row is outside the
+    /// sheet, else `InvalidColumn` where the column is, else `NoMemory` where there is not enough. An
+    /// error changes nothing.
+    ///
+    /// ```
+    /// model.set_cell_link(0, 1, 1, "https://example.org/rent")?;
+    /// ```
+    pub fn set_cell_link(
+        &mut self,
+        sheet: u32,
+        row: i32,
+        column: i32,
+        target: &str,
+    ) -> Result<(), EditError>
+        ensures next { (state : State) → StandsFor self.old.document state → Moves result self.new.document (edit_of (SetLink sheet row column (Some (link_to target.now))) state) }
+        ensures made { OnOk result (IsMade R.Fits self.new) }
+        ensures err { OnErr result (self.new ≡ self.old) }
+        ensures paused { self.new.paused ≡ self.old.paused }
+    {
+        let book = &self.book;
+        let _place = find_place(&book.workbook, sheet, row, column)?;
+        let link = link_to(book.alloc, target)?;
+        self.put_link(sheet, row, column, Some(link))
+    }
+
+    /// Takes the link at a row and a column of the sheet at an index away, and records the change.
+    /// Where there is none nothing else is changed. The errors are those of `set_cell_link`.
+    ///
+    /// ```
+    /// model.delete_cell_link(0, 1, 1)?;
+    /// ```
+    pub fn delete_cell_link(&mut self, sheet: u32, row: i32, column: i32) -> Result<(), EditError>
+        ensures next { (state : State) → StandsFor self.old.document state → Moves result self.new.document (edit_of (SetLink sheet row column None) state) }
+        ensures made { OnOk result (IsMade R.Fits self.new) }
+        ensures err { OnErr result (self.new ≡ self.old) }
+        ensures paused { self.new.paused ≡ self.old.paused }
+    {
+        self.put_link(sheet, row, column, None)
+    }
+
+    /// Merges the cells of a rectangle of a sheet, and records the change. The cells that the merge
+    /// covers lose their contents.
+    ///
+    /// `InvalidSheet` where there is no such sheet, else `InvalidArea` where the rectangle has fewer
+    /// than two cells or reaches outside the sheet, else `MergeOverlap` where it meets a merge, else
+    /// `ArrayCell` where it meets an array of more than one cell, else `NoMemory` where there is not
+    /// enough. An error changes nothing.
+    ///
+    /// ```
+    /// model.merge_cells(&Area { sheet: 0, row: 1, column: 1, width: 3, height: 1 })?;
+    /// ```
+    pub fn merge_cells(&mut self, area: &Area) -> Result<(), EditError>
+        ensures next { (state : State) → StandsFor self.old.document state → Moves result self.new.document (edit_of (Merge area.now.sheet (rectangle_of area.now)) state) }
+        ensures made { OnOk result (IsMade R.Fits self.new) }
+        ensures err { OnErr result (self.new ≡ self.old) }
+        ensures paused { self.new.paused ≡ self.old.paused }
+    {
+        self.merge(area.sheet, rectangle_of(area))
+    }
+
+    /// Merges the cells of a rectangle of the sheet at an index.
+    fn merge(&mut self, sheet: u32, area: MergedCell) -> Result<(), EditError>
+        ensures next { (state : State) → StandsFor self.old.document state → Moves result self.new.document (edit_of (Merge sheet area) state) }
+        ensures made { OnOk result (IsMade R.Fits self.new) }
+        ensures err { OnErr result (self.new ≡ self.old) }
+        ensures paused { self.new.paused ≡ self.old.paused }
+    {
+        let book = &self.book;
+        let plan = plan_merge(book.alloc, &book.workbook, sheet, area);
+        self.make(plan)
+    }
+
+    /// Dissolves the merge that holds a row and a column of the sheet at an index, and records the
+    /// change.
+    ///
+    /// `InvalidSheet` where there is no such sheet, else `InvalidRow` where the row is outside the
+    /// sheet, else `InvalidColumn` where the column is, else `NoMerge` where no merge holds the cell,
+    /// else `NoMemory` where there is not enough. An error changes nothing.
+    pub fn unmerge_cells(&mut self, sheet: u32, row: i32, column: i32) -> Result<(), EditError>
+        ensures next { (state : State) → StandsFor self.old.document state → Moves result self.new.document (edit_of (Unmerge sheet row column) state) }
+        ensures made { OnOk result (IsMade R.Fits self.new) }
+        ensures err { OnErr result (self.new ≡ self.old) }
+        ensures paused { self.new.paused ≡ self.old.paused }
+    {
+        let book = &self.book;
+        let plan = plan_unmerge(book.alloc, &book.workbook, sheet, row, column);
+        self.make(plan)
+    }
+
+    /// Inserts empty rows in the sheet at an index, as many as the count, before a row. Its cells
+    /// with their links, its merges and its rows go where their lines go, and the formulas of all
+    /// sheets follow.
+    ///
+    /// `InvalidSheet` where there is no such sheet, else `BadCount` where the count is below 1, else
+    /// `InvalidRow` where the row is outside the sheet, else `SplitsArray` where an array stands on
+    /// both sides of it, else `OverEdge` where the last row with a cell, or that an array fills, and
+    /// the count together exceed the last row of the sheet, else `NoMemory` where there is not
+    /// enough. An error changes nothing. docs/MODEL.md has the rules.
+    pub fn insert_rows(&mut self, sheet: u32, row: i32, count: i32) -> Result<(), EditError>
+        ensures next { (state : State) → StandsFor self.old.document state → Moves result self.new.document (edit_of (Lines sheet Rows (Insert row count)) state) }
+        ensures made { OnOk result (IsMade R.Fits self.new) }
+        ensures err { OnErr result (self.new ≡ self.old) }
+        ensures paused { self.new.paused ≡ self.old.paused }
+    {
+        self.edit_lines::<RowAxis>(
+            sheet,
+            LineAxis::Rows,
+            EditKind::Insert { first: row, count },
+        )
+    }
+
+    /// Inserts empty columns in the sheet at an index, as many as the count, before a column. Its cells
+    /// with their links, its merges and its columns go where their lines go, and the formulas of all
+    /// sheets follow.
+    ///
+    /// `InvalidSheet` where there is no such sheet, else `BadCount` where the count is below 1, else
+    /// `InvalidColumn` where the column is outside the sheet, else `SplitsArray` where an array stands on
+    /// both sides of it, else `OverEdge` where the last column with a cell, or that an array fills, and
+    /// the count together exceed the last column of the sheet, else `NoMemory` where there is not
+    /// enough. An error changes nothing. docs/MODEL.md has the rules.
+    pub fn insert_columns(&mut self, sheet: u32, column: i32, count: i32) -> Result<(), EditError>
+        ensures next { (state : State) → StandsFor self.old.document state → Moves result self.new.document (edit_of (Lines sheet Columns (Insert column count)) state) }
+        ensures made { OnOk result (IsMade R.Fits self.new) }
+        ensures err { OnErr result (self.new ≡ self.old) }
+        ensures paused { self.new.paused ≡ self.old.paused }
+    {
+        self.edit_lines::<ColumnAxis>(
+            sheet,
+            LineAxis::Columns,
+            EditKind::Insert {
+                first: column,
+                count,
+            },
+        )
+    }
+
+    /// Deletes rows of the sheet at an index, as many as the count, from a row on. What stood there
+    /// can be taken back by `undo`.
+    ///
+    /// `InvalidSheet`, `BadCount` and `InvalidRow` as `insert_rows` answers them, else
+    /// `TargetOutOfBounds` where the last row to delete is outside the sheet, else `SplitsArray`
+    /// where an array has some of these rows and others, else `NoMemory` where there is not enough.
+    /// An error changes nothing. docs/MODEL.md has the rules.
+    pub fn delete_rows(&mut self, sheet: u32, row: i32, count: i32) -> Result<(), EditError>
+        ensures next { (state : State) → StandsFor self.old.document state → Moves result self.new.document (edit_of (Lines sheet Rows (Delete row count)) state) }
+        ensures made { OnOk result (IsMade R.Fits self.new) }
+        ensures err { OnErr result (self.new ≡ self.old) }
+        ensures paused { self.new.paused ≡ self.old.paused }
+    {
+        self.edit_lines::<RowAxis>(
+            sheet,
+            LineAxis::Rows,
+            EditKind::Delete { first: row, count },
+        )
+    }
+
+    /// Deletes columns of the sheet at an index, as many as the count, from a column on. What stood there
+    /// can be taken back by `undo`.
+    ///
+    /// `InvalidSheet`, `BadCount` and `InvalidColumn` as `insert_columns` answers them, else
+    /// `TargetOutOfBounds` where the last column to delete is outside the sheet, else `SplitsArray`
+    /// where an array has some of these columns and others, else `NoMemory` where there is not enough.
+    /// An error changes nothing. docs/MODEL.md has the rules.
+    pub fn delete_columns(&mut self, sheet: u32, column: i32, count: i32) -> Result<(), EditError>
+        ensures next { (state : State) → StandsFor self.old.document state → Moves result self.new.document (edit_of (Lines sheet Columns (Delete column count)) state) }
+        ensures made { OnOk result (IsMade R.Fits self.new) }
+        ensures err { OnErr result (self.new ≡ self.old) }
+        ensures paused { self.new.paused ≡ self.old.paused }
+    {
+        self.edit_lines::<ColumnAxis>(
+            sheet,
+            LineAxis::Columns,
+            EditKind::Delete {
+                first: column,
+                count,
+            },
+        )
+    }
+
+    /// Moves rows of the sheet at an index, as many as the count, from a first one on, by `delta`
+    /// rows on, or back where it is below 0. Hidden rows in the way are passed too, beyond `delta`.
+    /// What stands there goes along, and the formulas of all sheets follow.
+    ///
+    /// Where `delta` is 0 or the count below 1 nothing is done and recorded, whatever else is asked.
+    /// Else `InvalidSheet` where there is no such sheet, else `TargetOutOfBounds` where one of these
+    /// rows, or where it goes, is outside the sheet, else `SplitsArray` where an array has some of the
+    /// rows, or some that they pass, and others, else `SplitsMerge` where a merge has, else `NoMemory`
+    /// where there is not enough. An error changes nothing. docs/MODEL.md has the rules.
+    pub fn move_rows_action(
+        &mut self,
+        sheet: u32,
+        first: i32,
+        count: i32,
+        delta: i32,
+    ) -> Result<(), EditError>
+        ensures next { (state : State) → StandsFor self.old.document state → Moves result self.new.document (edit_of (MoveLines sheet Rows first count delta) state) }
+        ensures made { OnOk result (Makes (is_silent (MoveLines sheet Rows first count delta)) R.Fits self.old self.new) }
+        ensures err { OnErr result (self.new ≡ self.old) }
+        ensures paused { self.new.paused ≡ self.old.paused }
+    {
+        self.move_lines::<RowAxis>(sheet, LineAxis::Rows, first, count, delta)
+    }
+
+    /// Moves columns of the sheet at an index, as many as the count, from a first one on, by `delta`
+    /// columns on, or back where it is below 0. Hidden columns in the way are passed too, beyond `delta`.
+    /// What stands there goes along, and the formulas of all sheets follow.
+    ///
+    /// Where `delta` is 0 or the count below 1 nothing is done and recorded, whatever else is asked.
+    /// Else `InvalidSheet` where there is no such sheet, else `TargetOutOfBounds` where one of these
+    /// columns, or where it goes, is outside the sheet, else `SplitsArray` where an array has some of the
+    /// columns, or some that they pass, and others, else `SplitsMerge` where a merge has, else `NoMemory`
+    /// where there is not enough. An error changes nothing. docs/MODEL.md has the rules.
+    pub fn move_columns_action(
+        &mut self,
+        sheet: u32,
+        first: i32,
+        count: i32,
+        delta: i32,
+    ) -> Result<(), EditError>
+        ensures next { (state : State) → StandsFor self.old.document state → Moves result self.new.document (edit_of (MoveLines sheet Columns first count delta) state) }
+        ensures made { OnOk result (Makes (is_silent (MoveLines sheet Columns first count delta)) R.Fits self.old self.new) }
+        ensures err { OnErr result (self.new ≡ self.old) }
+        ensures paused { self.new.paused ≡ self.old.paused }
+    {
+        self.move_lines::<ColumnAxis>(sheet, LineAxis::Columns, first, count, delta)
+    }
+
+    /// Takes the newest step back. Without one nothing is done.
+    ///
+    /// `DiffRefused` where the step was one from before entries of another copy came, and these stand
+    /// in its way, else `NoMemory` where there is not enough. An error changes nothing.
+    ///
+    /// ```
+    /// model.set_user_input(0, 1, 1, "3")?;
+    /// model.undo()?;
+    /// model.redo()?;
+    /// ```
+    pub fn undo(&mut self) -> Result<(), EditError>
+        ensures next { (state : State) → StandsFor self.old.document state → Turns result self.new.document (undo_of state) }
+        ensures made { OnOk result (Makes (is_none_left self.old.document.undo) R.Fits self.old self.new) }
+        ensures err { OnErr result (self.new ≡ self.old) }
+        ensures paused { self.new.paused ≡ self.old.paused }
+    {
+        self.book.take_back(&mut self.results, &mut self.recalc)
+    }
+
+    /// Makes the newest undone step again. Without one nothing is done. The errors are those of
+    /// `undo`, and change nothing.
+    pub fn redo(&mut self) -> Result<(), EditError>
+        ensures next { (state : State) → StandsFor self.old.document state → Turns result self.new.document (redo_of state) }
+        ensures made { OnOk result (Makes (is_none_left self.old.document.redo) R.Fits self.old self.new) }
+        ensures err { OnErr result (self.new ≡ self.old) }
+        ensures paused { self.new.paused ≡ self.old.paused }
+    {
+        self.book.make_again(&mut self.results, &mut self.recalc)
+    }
+
+    /// The bytes of all that was done since the last flush, which are then no longer kept. The only
+    /// error is `NoMemory`, and nothing has changed then.
+    ///
+    /// The bytes carry the workbook at the flush before, and any equal to it, to the present one.
+    ///
+    /// ```
+    /// let bytes = model.flush_send_queue()?;
+    /// other.apply_external_diffs(&bytes)?;
+    /// ```
+    pub fn flush_send_queue(&mut self) -> Result<Vec<u8>, EditError>
+        ensures bytes { (state : State) → StandsFor self.old.document state → IfOk result (λ bytes. bytes.items ≡ sync_bytes state) }
+        ensures carries { (state : State) → StandsFor self.old.document state → IfOk result (λ bytes. IfSome state.synced (λ book. Carries state.sent bytes.items book state.present)) }
+        ensures fits { (state : State) → StandsFor self.old.document state → OnOk result (FitsQueue state.sent) }
+        ensures next { (state : State) → StandsFor self.old.document state → Moves result self.new.document (Ok (synced_of state)) }
+        ensures values { self.new.values ≡ self.old.values }
+        ensures err { OnErr result (self.new ≡ self.old) }
+        ensures paused { self.new.paused ≡ self.old.paused }
+    {
+        let bytes = encode_queue(self.book.alloc, self.book.queue.as_slice())?;
+        self.book.queue = Items::empty(self.book.alloc);
+        Ok(bytes)
+    }
+
+    /// Takes the workbook along the bytes of another copy's queue, entry by entry. The stacks and the
+    /// queue stay.
+    ///
+    /// `ParseDiffs` exactly where the bytes are no queue's, and nothing has changed then. `DiffRefused`
+    /// with the numbers of the first entry and diff that do not fit; exactly the entries before it
+    /// stand. After `NoMemory` some first entries stand. Bytes of `flush_send_queue` that carry this
+    /// workbook to a later one lead there, and `NoMemory` is then the only error.
+    pub fn apply_external_diffs(&mut self, bytes: &[u8]) -> Result<(), EditError>
+        ensures next { (state : State) (entries : List Entry) → StandsFor self.old.document state → FitsQueue entries → bytes.now ≡ spell_queue entries → Leaves result self.new.document entries state }
+        ensures led { WhereCarried bytes.now self.old.document.book (λ later. OnOk result (self.new.document.book ≡ later)) }
+        ensures carried { WhereCarried bytes.now self.old.document.book (λ later. IsOkUnless result NoMemory) }
+        ensures unspelled { IsNoQueue bytes.now → Edits result self.old self.new (Err ParseDiffs) }
+        ensures parsed { result ≡ Err ParseDiffs → IsNoQueue bytes.now }
+        ensures made { IsMade R.Fits self.new ⊎ (self.new ≡ self.old) }
+        ensures paused { self.new.paused ≡ self.old.paused }
+    {
+        let queue = decode_queue(self.book.alloc, self.book.plain.shared(), bytes)?;
+        self.book
+            .receive_all(&mut self.results, &mut self.recalc, queue.as_slice())
+    }
+}

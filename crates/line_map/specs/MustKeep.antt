@@ -4,8 +4,9 @@ use Rattle.base_values.specs.declared.Position.{Position}
 use Rattle.base_axis.specs.Along.{Along}
 use Rattle.formula_tree.specs.declared.Corner.{Corner}
 use Rattle.formula_tree.specs.declared.Node.{Node}
-use Rattle.formula_tree.specs.Corners.{is_whole_rows, is_whole_columns, lower_corner, higher_corner}
+use Rattle.formula_tree.specs.Corners.{is_inside, lower_corner, higher_corner}
 use Rattle.formula_tree.specs.OnSheet.{is_on_sheet}
+use Rattle.formula_tree.specs.Placed.{is_placed_range}
 use Rattle.formula_back.specs.Leaves.{LeafTests, has_leaf}
 use Rattle.line_edits.specs.declared.EditKind.{EditKind}
 use Rattle.line_edits.specs.declared.EditKind.TheVariants.{Insert, Delete, Move}
@@ -13,7 +14,7 @@ use Rattle.line_edits.specs.Edit.{opposite_of}
 use Rattle.line_map.specs.declared.tree_at.TreeAt.{TreeAt}
 use Rattle.line_map.specs.Alone.{edit_way}
 use Rattle.line_map.specs.TreeAt.{tree_goes, tree_at_carried, way_of_tree}
-use Rattle.line_map.specs.Trees.{is_exposed, moved_corner}
+use Rattle.line_map.specs.Trees.{is_exposed, is_whole, moved_corner}
 use Rattle.line_map.specs.Way.{Way, back}
 
 -- a reference has to be kept where it is on the edited sheet and its place has no image
@@ -22,10 +23,7 @@ keeps_reference w sheet corner = is_on_sheet w.own w.edited sheet && is_none (mo
 
 -- the corners of an exposed range give it up: one of them has no image, or their images make the range whole along the axis
 abbrev pub is_given_up : Way → Option Corner → Option Corner → Bool
-is_given_up w (Some first) (Some second) =
-    let lower = lower_corner w.to first second in
-    let higher = higher_corner w.to first second in
-    w.along.of (is_whole_rows lower higher) (is_whole_columns lower higher)
+is_given_up w (Some first) (Some second) = is_whole w.along (lower_corner w.to first second) (higher_corner w.to first second)
 is_given_up w (Some first) None = true
 is_given_up w None second = true
 
@@ -48,8 +46,16 @@ pub record BecomesWhole (w : Way) (sheet : Option (List ℕ)) (first second : Co
   pub other : Corner
   pub first_goes : moved_corner w true first ≡ Some one
   pub second_goes : moved_corner w true second ≡ Some other
-  pub whole : w.along.of (is_whole_rows (lower_corner w.to one other) (higher_corner w.to one other))
-      (is_whole_columns (lower_corner w.to one other) (higher_corner w.to one other)) ≡ true
+  pub whole : is_whole w.along (lower_corner w.to one other) (higher_corner w.to one other) ≡ true
+
+-- no reference whose place lies inside has to be kept
+abbrev pub KeepsNoReference : Way → Type 0
+KeepsNoReference w = (sheet : Option (List ℕ)) (corner : Corner) → is_inside w.from corner ≡ true → keeps_reference w sheet corner ≡ false
+
+-- each range that has to be kept becomes whole, where its corners lie inside and in order
+abbrev pub KeepsRangesThatBecomeWhole : Way → Type 0
+KeepsRangesThatBecomeWhole w = (sheet : Option (List ℕ)) (first second : Corner) → is_placed_range w.from first second ≡ true →
+    keeps_range w sheet first second ≡ true → BecomesWhole w sheet first second
 
 -- the edit is a move
 abbrev pub is_move : EditKind → Bool

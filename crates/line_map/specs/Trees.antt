@@ -3,6 +3,7 @@ use Rattle.std.proofs.Common.{◌≡◌, ℕ, Bool, true, List, Option, Some}
 use Rattle.std.specs.Prelude.{not, ◌&&◌, if◌then◌else◌}
 use Rattle.base_values.specs.declared.Position.{Position}
 use Rattle.base_values.specs.CodedEq.{same_value}
+use Rattle.base_axis.specs.Along.{Along}
 use Rattle.formula_tree.specs.declared.Corner.{Corner}
 use Rattle.formula_tree.specs.declared.Node.{Node}
 use Rattle.formula_tree.specs.contracts.node.Node.{the_row}
@@ -13,7 +14,7 @@ use Rattle.formula_tree.specs.Placed.{is_placed}
 use Rattle.base_maps.specs.Carried.{if_there}
 use Rattle.line_edits.specs.Moves.{place_image}
 use Rattle.line_map.specs.Trial.{part_by_trial}
-use Rattle.line_map.specs.Way.{Way}
+use Rattle.line_map.specs.Way.{Way, back}
 
 -- the corner with the same marks that stands there, seen from a place
 abbrev pub corner_of : Position → Corner → Position → Corner
@@ -23,9 +24,13 @@ corner_of to corner target = corner_to to corner.absolute_row corner.absolute_co
 unfoldable pub target : Way → Bool → Corner → Option Position
 target w exposed corner = if exposed then if_there (corner_at w.from corner) (place_image w.along w.moves.to) else corner_at w.from corner
 
+-- a range takes all lines of the axis
+abbrev pub is_whole : Along → Corner → Corner → Bool
+is_whole a first second = a.of (is_whole_rows first second) (is_whole_columns first second)
+
 -- the corners of a range are exposed where it is on the edited sheet and isn't whole along the axis
 unfoldable pub is_exposed : Way → Option (List ℕ) → Corner → Corner → Bool
-is_exposed w sheet first second = is_on_sheet w.own w.edited sheet && not (w.along.of (is_whole_rows first second) (is_whole_columns first second))
+is_exposed w sheet first second = is_on_sheet w.own w.edited sheet && not (is_whole w.along first second)
 
 -- a corner of a formula: its offsets are those from the new place
 abbrev pub moved_corner : Way → Bool → Corner → Option Corner
@@ -42,6 +47,10 @@ following w = record {
 -- the tree of a formula
 unfoldable pub tree_carried : Way → Node → Node
 tree_carried w tree = moved w.to (following w) tree
+
+-- the way there and the way back give the tree
+abbrev pub ComesBack : Way → Node → Type 0
+ComesBack w tree = tree_carried (back w) (tree_carried w tree) ≡ tree
 
 -- what is kept of a tree: the tree itself, where the way back does not give it
 abbrev pub tree_part : Way → Node → Option Node

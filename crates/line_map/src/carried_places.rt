@@ -5,7 +5,7 @@ ghost use Rattle.base_values.specs.declared.EditError.TheVariants.{NoMemory};
 ghost use Rattle.base_values.specs.Places.{IsPlace};
 ghost use Rattle.base_maps.specs.Carried.{entry_made, if_lost, if_there, lost_map};
 ghost use Rattle.base_maps.specs.laws.Gathering.{with_made};
-ghost use Rattle.line_map.specs.Maps.{AllLie, places_carried, places_parts};
+ghost use Rattle.line_map.specs.Maps.{AllLie, carried_entry, kept_entry, places_carried, places_parts};
 ghost use Rattle.line_map.specs.Way.{at, place_goes, way};
 
 use crate::follower::Follower;
@@ -48,9 +48,9 @@ fn carried_entry<A: Axis, M: LineMap<A>, F: Follower<A> + Exact>(
 ) -> Result<CarriedEntry<F, F::Part>, EditError>
     requires inside { IsPlace from }
     requires lies { (to : Position) → place_goes (way route.now) from ≡ Some to → F.Lies (at (way route.now) from to) item.now }
-    ensures carried { IfOk result (λ entry. entry.carried ≡ entry_made (place_goes (way route.now)) (λ p q x. Some (F.carry_of (at (way route.now) p q) x)) (from, item.now)) }
+    ensures carried { IfOk result (λ entry. entry.carried ≡ carried_entry F.carry_of (way route.now) (from, item.now)) }
     ensures lost { IfOk result (λ entry. entry.lost ≡ entry_made Some (if_lost (place_goes (way route.now))) (from, item.now)) }
-    ensures part { IfOk result (λ entry. entry.part ≡ entry_made Some (λ p _ x. if_there (place_goes (way route.now) p) (λ q. F.part_of (at (way route.now) p q) x)) (from, item.now)) }
+    ensures part { IfOk result (λ entry. entry.part ≡ kept_entry F.part_of (way route.now) (from, item.now)) }
     ensures only { IsOkUnless result NoMemory }
 {
     match route.goes(from) {

@@ -1,7 +1,6 @@
 ghost use Rattle.std.specs.Prelude.{◌≡◌, true, not, is_some};
 ghost use Rattle.std.specs.Bool.{Decides};
 ghost use Rattle.base_values.specs.Places.{IsPlace};
-ghost use Rattle.formula_tree.specs.Corners.{is_whole_rows, is_whole_columns};
 ghost use Rattle.formula_tree.specs.Placed.{is_placed};
 ghost use Rattle.line_edits.specs.Edit.{IsValid};
 ghost use Rattle.line_map.specs.Alone.{edit_way};
@@ -11,25 +10,14 @@ ghost use Rattle.line_map.specs.Way.{way};
 
 use crate::follow::edit_route;
 use crate::route::Route;
-use crate::tree::{Following, is_exposed, is_on_edited, moved_corner};
+use crate::tree::{Following, is_exposed, is_on_edited, is_whole, moved_corner};
 use crate::tree_at::{goes, named};
 use base_axis::Axis;
 use base_shared::Shared;
 use base_values::{Position, Text};
 use formula_back::{LeafTest, has_leaf};
-use formula_tree::{Corner, Node, is_whole_columns, is_whole_rows, order_corners};
+use formula_tree::{Corner, Node, order_corners};
 use line_edits::{LineEdit, LineMap};
-
-/// Whether a range takes all lines of the axis.
-fn is_whole<A: Axis>(first: Corner, second: Corner) -> bool
-    ensures { result ≡ A.along.of (is_whole_rows first second) (is_whole_columns first second) }
-{
-    let (rows, columns) = (
-        is_whole_rows(first, second),
-        is_whole_columns(first, second),
-    );
-    A::of(rows, columns)
-}
 
 /// Whether a reference has to be kept: it is on the edited sheet, and its place has no image.
 #[tactic(auto, unfolding(crate::specs::MustKeep::keeps_reference))]

@@ -1,17 +1,15 @@
 //! What the maps and trees are that a route carries along, and which trees are kept.
 
-ghost use Rattle.std.specs.Prelude.{◌≡◌, ℕ, true, false, not, List, Option, Some, None, is_none, if◌then◌else◌};
+ghost use Rattle.std.specs.Prelude.{◌≡◌, true, not, Some, None, if◌then◌else◌};
 ghost use Rattle.std.specs.Bool.{Decides};
 ghost use Rattle.std.specs.FinMap.{get};
 ghost use Rattle.base_values.specs.declared.Position.{Position};
-ghost use Rattle.formula_tree.specs.declared.Corner.{Corner};
-ghost use Rattle.formula_tree.specs.Corners.{is_inside};
-ghost use Rattle.formula_tree.specs.Placed.{is_placed, is_placed_range};
-ghost use Rattle.base_maps.specs.Carried.{if_there, lost_map};
-ghost use Rattle.line_map.specs.Maps.{places_carried, places_parts};
-ghost use Rattle.line_map.specs.MustKeep.{must_keep, keeps_reference, keeps_range, BecomesWhole, is_move};
-ghost use Rattle.line_map.specs.Trees.{TreeLies, tree_carried, tree_part};
-ghost use Rattle.line_map.specs.Way.{at, back, place_goes, way};
+ghost use Rattle.formula_tree.specs.Placed.{is_placed};
+ghost use Rattle.base_maps.specs.Carried.{lost_map};
+ghost use Rattle.line_map.specs.Maps.{entry_carried, entry_lost, entry_part, places_carried, places_parts};
+ghost use Rattle.line_map.specs.MustKeep.{must_keep, is_move, KeepsNoReference, KeepsRangesThatBecomeWhole};
+ghost use Rattle.line_map.specs.Trees.{ComesBack, TreeLies, tree_carried, tree_part};
+ghost use Rattle.line_map.specs.Way.{place_goes, way};
 
 use crate::follower::Follower;
 use crate::route::Route;
@@ -28,9 +26,9 @@ pub fn entries_of_maps<A: Axis, M: LineMap<A>, F: Follower<A>>(
     route: &Route<'_, A, M>,
     map: &PlaceMap<F>,
 )
-    ensures carried { (q : Position) → get (places_carried F.carry_of (way route.now) map.now) q ≡ if_there (place_goes (back (way route.now)) q) (λ p. if_there (get map.now p) (λ x. Some (F.carry_of (at (way route.now) p q) x))) }
-    ensures lost { (p : Position) → get (lost_map (place_goes (way route.now)) map.now) p ≡ (if is_none (place_goes (way route.now) p) then get map.now p else None) }
-    ensures parts { (p : Position) → get (places_parts F.part_of (way route.now) map.now) p ≡ if_there (get map.now p) (λ x. if_there (place_goes (way route.now) p) (λ q. F.part_of (at (way route.now) p q) x)) }
+    ensures carried { (q : Position) → get (places_carried F.carry_of (way route.now) map.now) q ≡ entry_carried F.carry_of (way route.now) map.now q }
+    ensures lost { (p : Position) → get (lost_map (place_goes (way route.now)) map.now) p ≡ entry_lost (way route.now) map.now p }
+    ensures parts { (p : Position) → get (places_parts F.part_of (way route.now) map.now) p ≡ entry_part F.part_of (way route.now) map.now p }
 {
     route.is_way();
     let _ = map;
@@ -52,7 +50,7 @@ pub fn followed_is_placed<A: Axis, M: LineMap<A>>(route: &Route<'_, A, M>, tree:
 /// is the tree. This holds of every map on lines, so of insertions, deletions and moves.
 pub fn kept_by_corners<A: Axis, M: LineMap<A>>(route: &Route<'_, A, M>, tree: &Shared<Node>)
     requires { TreeLies (way route.now) tree.now }
-    ensures exact { Decides (not (must_keep (way route.now) tree.now)) (tree_carried (back (way route.now)) (tree_carried (way route.now) tree.now) ≡ tree.now) }
+    ensures exact { Decides (not (must_keep (way route.now) tree.now)) (ComesBack (way route.now) tree.now) }
     ensures part { tree_part (way route.now) tree.now ≡ (if must_keep (way route.now) tree.now then Some tree.now else None) }
 {
     route.is_way();
@@ -63,8 +61,8 @@ pub fn kept_by_corners<A: Axis, M: LineMap<A>>(route: &Route<'_, A, M>, tree: &S
 /// to be has images of both corners, and the range between these is whole along the axis.
 pub fn moves_keep_whole_ranges<A: Axis>(route: &Route<'_, A, LineEdit<A>>)
     requires { is_move route.now.map.now.kind ≡ true }
-    ensures references { (sheet : Option (List ℕ)) (corner : Corner) → is_inside (way route.now).from corner ≡ true → keeps_reference (way route.now) sheet corner ≡ false }
-    ensures ranges { (sheet : Option (List ℕ)) (first second : Corner) → is_placed_range (way route.now).from first second ≡ true → keeps_range (way route.now) sheet first second ≡ true → BecomesWhole (way route.now) sheet first second }
+    ensures references { KeepsNoReference (way route.now) }
+    ensures ranges { KeepsRangesThatBecomeWhole (way route.now) }
 {
     route.is_way();
 }

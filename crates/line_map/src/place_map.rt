@@ -6,9 +6,9 @@ ghost use Rattle.std.specs.FinMap.{get, entries, insert};
 ghost use Rattle.base_values.specs.declared.Position.{Position};
 ghost use Rattle.base_values.specs.declared.EditError.TheVariants.{NoMemory};
 ghost use Rattle.base_values.specs.Places.{IsPlace};
-ghost use Rattle.base_maps.specs.Carried.{entry_made, if_lost, if_there, lost_map, overlaid, settled};
+ghost use Rattle.base_maps.specs.Carried.{entry_made, if_lost, lost_map, overlaid};
 ghost use Rattle.base_maps.specs.laws.Gathering.{with_made};
-ghost use Rattle.line_map.specs.Maps.{AllLie, KeysInside, PartsFit, places_carried, places_parts, places_restored};
+ghost use Rattle.line_map.specs.Maps.{AllLie, KeysInside, PartsFit, carried_entry, kept_entry, restored_entry, places_carried, places_parts, places_restored};
 ghost use Rattle.line_map.specs.Way.{at, back, place_goes, way};
 
 use crate::follower::Follower;
@@ -50,7 +50,7 @@ fn carried_entry<A: Axis, M: LineMap<A>, F: Follower<A>>(
 ) -> Result<Option<(Position, F)>, EditError>
     requires inside { IsPlace from }
     requires lies { (to : Position) → place_goes (way route.now) from ≡ Some to → F.Lies (at (way route.now) from to) item.now }
-    ensures entry { IfOk result (λ entry. entry ≡ entry_made (place_goes (way route.now)) (λ p q x. Some (F.carry_of (at (way route.now) p q) x)) (from, item.now)) }
+    ensures entry { IfOk result (λ entry. entry ≡ carried_entry F.carry_of (way route.now) (from, item.now)) }
     ensures only { IsOkUnless result NoMemory }
 {
     match route.goes(from) {
@@ -120,7 +120,7 @@ fn keep_part<A: Axis, M: LineMap<A>, F: Follower<A>>(
 ) -> Result<(), EditError>
     requires inside { IsPlace from }
     requires lies { (to : Position) → place_goes (way route.now) from ≡ Some to → F.Lies (at (way route.now) from to) item.now }
-    ensures parts { OnOk result (parts.new ≡ with_made (entry_made Some (λ p _ x. if_there (place_goes (way route.now) p) (λ q. F.part_of (at (way route.now) p q) x)) (from, item.now)) parts.old) }
+    ensures parts { OnOk result (parts.new ≡ with_made (kept_entry F.part_of (way route.now) (from, item.now)) parts.old) }
     ensures only { IsOkUnless result NoMemory }
 {
     if let Some(to) = route.goes(from) {
@@ -159,7 +159,7 @@ fn restored_entry<A: Axis, M: LineMap<A>, F: Follower<A>, L: Parts<Part = F::Par
     requires inside { IsPlace to }
     requires lies { (from : Position) → place_goes (back (way route.now)) to ≡ Some from → F.Lies (at (back (way route.now)) to from) item.now }
     requires fit { PartsFit F.Fits (way route.now) (L.part_at parts.now) }
-    ensures entry { IfOk result (λ entry. entry ≡ entry_made (place_goes (back (way route.now))) (λ q p x. Some (settled (F.carry_of (back (at (way route.now) p q))) (F.restore_of (at (way route.now) p q)) (L.part_at parts.now p) x)) (to, item.now)) }
+    ensures entry { IfOk result (λ entry. entry ≡ restored_entry F.carry_of F.restore_of (way route.now) (L.part_at parts.now) (to, item.now)) }
     ensures only { IsOkUnless result NoMemory }
 {
     route.is_way();

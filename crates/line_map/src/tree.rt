@@ -3,7 +3,7 @@ ghost use Rattle.base_tables.specs.Folding.{same_folded};
 ghost use Rattle.base_values.specs.Places.{IsPlace};
 ghost use Rattle.base_values.specs.declared.EditError.TheVariants.{NoMemory};
 ghost use Rattle.formula_tree.specs.OnSheet.{is_on_sheet};
-ghost use Rattle.line_map.specs.Trees.{target, is_exposed, moved_corner, tree_carried};
+ghost use Rattle.line_map.specs.Trees.{target, is_exposed, is_whole, moved_corner, tree_carried};
 ghost use Rattle.line_map.specs.Way.{way};
 
 use crate::follower::{Follower, kept_where};
@@ -84,6 +84,17 @@ pub(crate) fn is_on_edited<A: Axis, M: LineMap<A>>(
     }
 }
 
+/// Whether a range takes all lines of the axis.
+pub(crate) fn is_whole<A: Axis>(first: Corner, second: Corner) -> bool
+    ensures { result ≡ is_whole A.along first second }
+{
+    let (rows, columns) = (
+        is_whole_rows(first, second),
+        is_whole_columns(first, second),
+    );
+    A::of(rows, columns)
+}
+
 /// Whether the corners of a range are exposed: on the edited sheet, and not of a range that is
 /// whole along the axis.
 #[tactic(auto, unfolding(crate::specs::Trees::is_exposed))]
@@ -95,11 +106,7 @@ pub(crate) fn is_exposed<A: Axis, M: LineMap<A>>(
 ) -> bool
     ensures { result ≡ is_exposed (way route.now) sheet.now first second }
 {
-    let (rows, columns) = (
-        is_whole_rows(first, second),
-        is_whole_columns(first, second),
-    );
-    is_on_edited(route, sheet) && !A::of(rows, columns)
+    is_on_edited(route, sheet) && !is_whole::<A>(first, second)
 }
 
 impl<'r, 'a, A: Axis, M: LineMap<A>> CornerMap for Following<'r, 'a, A, M> {

@@ -282,29 +282,24 @@ module _ (w : Way) (is : IsWay w) (b : Bool) (first second : Corner) (r s : Posi
       (mixed_inside rows_exchanged columns_exchanged s r second_image first_image)
 
   -- they go back to the corners that they were, which may be exchanged
-  pub lower_goes_back : moved_corner (back w) b lower_there ≡ Some first_back
-  lower_goes_back =
-      let p = place_of w.from first in
-      let q = place_of w.from second in
+  goes_home : (c d : Corner) (t u : Position) → IsPlace t → IsPlace u → place_goes (exposing w b) (place_of w.from c) ≡ Some t →
+      place_goes (exposing w b) (place_of w.from d) ≡ Some u →
+      moved_corner (back w) b (corner_of w.to (crossed rows_exchanged columns_exchanged c d) (mixed rows_exchanged columns_exchanged t u)) ≡
+      Some (crossed rows_exchanged columns_exchanged c d)
+  goes_home c d t u t_inside u_inside e f =
+      let p = place_of w.from c in
+      let q = place_of w.from d in
       let lines = goes_back w is b in
-      ap (moved_corner (back w) b) lower_is
-      ∙ home w b first_back (mixed rows_exchanged columns_exchanged r s) (mixed rows_exchanged columns_exchanged p q)
-      (mixed_inside rows_exchanged columns_exchanged r s first_image second_image)
-      (mixed_goes _ lines.row_back lines.column_back lines.returns rows_exchanged columns_exchanged r s p q (source_of p r goes_first)
-      (source_of q s goes_second))
-      (crossed_stands w.from rows_exchanged columns_exchanged first second)
+      home w b (crossed rows_exchanged columns_exchanged c d) (mixed rows_exchanged columns_exchanged t u) (mixed rows_exchanged columns_exchanged p q)
+      (mixed_inside rows_exchanged columns_exchanged t u t_inside u_inside)
+      (mixed_goes _ lines.row_back lines.column_back lines.returns rows_exchanged columns_exchanged t u p q (source_of p t e) (source_of q u f))
+      (crossed_stands w.from rows_exchanged columns_exchanged c d)
+
+  pub lower_goes_back : moved_corner (back w) b lower_there ≡ Some first_back
+  lower_goes_back = ap (moved_corner (back w) b) lower_is ∙ goes_home first second r s first_image second_image goes_first goes_second
 
   pub higher_goes_back : moved_corner (back w) b higher_there ≡ Some second_back
-  higher_goes_back =
-      let p = place_of w.from first in
-      let q = place_of w.from second in
-      let lines = goes_back w is b in
-      ap (moved_corner (back w) b) higher_is
-      ∙ home w b second_back (mixed rows_exchanged columns_exchanged s r) (mixed rows_exchanged columns_exchanged q p)
-      (mixed_inside rows_exchanged columns_exchanged s r second_image first_image)
-      (mixed_goes _ lines.row_back lines.column_back lines.returns rows_exchanged columns_exchanged s r q p (source_of q s goes_second)
-      (source_of p r goes_first))
-      (crossed_stands w.from rows_exchanged columns_exchanged second first)
+  higher_goes_back = ap (moved_corner (back w) b) higher_is ∙ goes_home second first s r second_image first_image goes_second goes_first
 
   module _ (in_order : are_in_order w.from first second ≡ true) where
     rows_again : are_rows_reversed w.from first_back second_back ≡ rows_exchanged

@@ -12,7 +12,7 @@ use Rattle.formula_tree.specs.declared.Node.{Node}
 use Rattle.formula_tree.specs.declared.Node.TheVariants as node
 use Rattle.formula_tree.specs.declared.Node.TheOpen.{Node-F}
 use Rattle.formula_tree.specs.contracts.node.Node.{the_row}
-use Rattle.formula_tree.specs.Corners.{is_inside, are_in_order, is_whole_rows, is_whole_columns, lower_corner, higher_corner}
+use Rattle.formula_tree.specs.Corners.{is_inside, are_in_order, lower_corner, higher_corner}
 use Rattle.formula_tree.specs.laws.CornerLaws.{in_order-ordered, lower-in_order, higher-in_order}
 use Rattle.formula_tree.specs.laws.MovedEquations.{moved_reference, moved_range, moved_colon, moved_error}
 use Rattle.formula_tree.specs.Moved.{moved, reference_to, range_to}
@@ -21,7 +21,7 @@ use Rattle.formula_tree.specs.Placed.{is_placed_range}
 use Rattle.formula_back.specs.laws.LeafLaws.{same_layers, TellsLeaves, tells_trees}
 use Rattle.formula_back.specs.laws.StillLaws.{PassesNoStill, still_passes_none}
 use Rattle.line_map.specs.MustKeep.{keeps_reference, is_given_up, keeps_range, kept_leaves, must_keep}
-use Rattle.line_map.specs.Trees.{corner_of, is_exposed, moved_corner, following, tree_carried, tree_part, TreeLies}
+use Rattle.line_map.specs.Trees.{corner_of, is_exposed, is_whole, moved_corner, following, tree_carried, tree_part, ComesBack, TreeLies}
 use Rattle.line_map.specs.Way.{Way, IsWay, back, place_goes}
 use Rattle.line_map.specs.laws.CornersBack.{place_of, exposing, exposing_is_way, moved_goes, home, lower_there, higher_there, first_image}
 use Rattle.line_map.specs.laws.CornersBack.{lower_inside, higher_inside, lower_goes_back, higher_goes_back, lower_again, higher_again, order_stays}
@@ -124,10 +124,10 @@ module _ (w : Way) (is : IsWay w) where
       abbrev high : Corner
       high = higher_there w is b first second r s goes_first goes_second placed.first_inside placed.second_inside
 
-      abbrev is_whole : Bool
-      is_whole = w.along.of (is_whole_rows low high) (is_whole_columns low high)
+      abbrev is_whole_there : Bool
+      is_whole_there = is_whole w.along low high
 
-      given_up : is_given_up w (moved_corner w b first) (moved_corner w b second) ≡ is_whole
+      given_up : is_given_up w (moved_corner w b first) (moved_corner w b second) ≡ is_whole_there
       given_up = λ i. is_given_up w (found b first r placed.first_inside goes_first i) (found b second s placed.second_inside goes_second i)
 
       goes_and_comes : (e : Bool) → is_exposed w sheet low high ≡ e → range_back b ≡ range_to w.from sheet (moved_corner (back w) e low)
@@ -173,11 +173,11 @@ module _ (w : Way) (is : IsWay w) where
           (stays_there high (higher_inside w is b first second r s goes_first goes_second placed.first_inside placed.second_inside) i))
           ∙ (λ i. node.Range sheet (lower-in_order w.from low_back high_back in_order_back i) (higher-in_order w.from low_back high_back in_order_back i))
 
-      whole_back : w.along.of (is_whole_rows low_back high_back) (is_whole_columns low_back high_back) ≡ is_whole
+      whole_back : is_whole w.along low_back high_back ≡ is_whole_there
       whole_back = λ i. w.along.of (whole_rows_stay w.to w.from low high i) (whole_columns_stay w.to w.from low high i)
 
     abbrev was_whole : Bool
-    was_whole = w.along.of (is_whole_rows first second) (is_whole_columns first second)
+    was_whole = is_whole w.along first second
 
     exposed_parts : is_exposed w sheet first second ≡ true → (is_on_sheet w.own w.edited sheet ≡ true) × (was_whole ≡ false)
     unfolding is_exposed
@@ -186,7 +186,7 @@ module _ (w : Way) (is : IsWay w) where
         parts : (a c : Bool) → a && not c ≡ true → (a ≡ true) × (c ≡ false)
         parts a c e = (grind arith, grind arith)
 
-    exposed_of : (a b : Corner) (on whole : Bool) → is_on_sheet w.own w.edited sheet ≡ on → w.along.of (is_whole_rows a b) (is_whole_columns a b) ≡ whole →
+    exposed_of : (a b : Corner) (on whole : Bool) → is_on_sheet w.own w.edited sheet ≡ on → is_whole w.along a b ≡ whole →
         is_exposed w sheet a b ≡ on && not whole
     unfolding is_exposed
     exposed_of a b on whole e f = λ i. e i && not (f i)
@@ -233,7 +233,7 @@ module _ (w : Way) (is : IsWay w) where
 
     both_told : (r s : Position) (f : place_goes (exposing w true) (place_of w.from first) ≡ Some r)
         (g : place_goes (exposing w true) (place_of w.from second) ≡ Some s) →
-        is_exposed w sheet first second ≡ true → (whole : Bool) → is_whole true r s f g ≡ whole → Told true
+        is_exposed w sheet first second ≡ true → (whole : Bool) → is_whole_there true r s f g ≡ whole → Told true
     both_told r s f g exposed false e = (
       λ _. range_returns true r s f g (exposed_of (low true r s f g) (high true r s f g) true false (exposed_parts exposed).0 e),
       λ _. ap not (given_up true r s f g ∙ e),
@@ -244,7 +244,7 @@ module _ (w : Way) (is : IsWay w) where
           let was : was_whole ≡ false = (exposed_parts exposed).1 in
           let hidden = exposed_of (low true r s f g) (high true r s f g) true true (exposed_parts exposed).0 e in
           let corners = same_ranges sheet (low_back true r s f g) (high_back true r s f g) first second (sym (whole_returns true r s f g hidden) ∙ same) in
-          let is_still : was_whole ≡ true = sym (λ i. w.along.of (is_whole_rows (corners.0 i) (corners.1 i)) (is_whole_columns (corners.0 i) (corners.1 i)))
+          let is_still : was_whole ≡ true = sym (λ i. is_whole w.along (corners.0 i) (corners.1 i))
           ∙ whole_back true r s f g ∙ e in
           absurd (cc),
     )
@@ -274,7 +274,7 @@ module _ (w : Way) (is : IsWay w) where
   }
 
   -- there and back gives a formula whose corners lie inside and in order exactly where it has not to be kept
-  pub kept_exactly : (tree : Node) → TreeLies w tree → Decides (not (must_keep w tree)) (tree_carried (back w) (tree_carried w tree) ≡ tree)
+  pub kept_exactly : (tree : Node) → TreeLies w tree → Decides (not (must_keep w tree)) (ComesBack w tree)
   unfolding must_keep tree_carried
   kept_exactly tree lies = tells_trees w.from w.to (following w) (following (back w)) (kept_leaves w) leaves_told tree lies
 
@@ -303,8 +303,8 @@ module _ (w : Way) (sheet : Option (List ℕ)) where
   still_range first second true exposed (Some r) (Some s) f g same =
       let ends = same_ranges sheet (lower_corner w.to r s) (higher_corner w.to r s) first second same in
       (λ i. is_given_up w (f i) (g i))
-      ∙ (λ i. w.along.of (is_whole_rows (ends.0 i) (ends.1 i)) (is_whole_columns (ends.0 i) (ends.1 i)))
-      ∙ not_whole (is_on_sheet w.own w.edited sheet) (w.along.of (is_whole_rows first second) (is_whole_columns first second)) exposed
+      ∙ (λ i. is_whole w.along (ends.0 i) (ends.1 i))
+      ∙ not_whole (is_on_sheet w.own w.edited sheet) (is_whole w.along first second) exposed
   still_range first second true exposed (Some r) None f g same = no_range _ _ sheet first second same
   still_range first second true exposed None p f g same = no_range _ _ sheet first second same
   still_range first second false exposed o p f g same = refl

@@ -1,4 +1,3 @@
 mod DiffLemmas
 mod Placed
-mod ReplayLemmas
 mod Standing

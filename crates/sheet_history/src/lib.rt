@@ -6,19 +6,19 @@
 
 mod apply;
 mod diff;
+mod follow;
 mod history;
 mod laws;
 mod line_diffs;
 mod put;
-mod replay;
 
 pub use apply::{back, back_in_place, forward, forward_in_place};
 pub use diff::{Diff, DiffList, DiffType, LineAxis, QueueDiffs};
+pub use follow::follow_in_place;
 pub use history::History;
 pub use laws::{
     line_records_go_both_ways, records_are_computed, records_are_unique, records_go_both_ways,
 };
-pub use replay::{follow_in_place, replay_in_place};
 
 #[cfg(test)]
 mod tests;

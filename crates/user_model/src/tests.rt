@@ -79,7 +79,7 @@ fn hidden_book(alloc: Global) -> Result<UserModel<ClearAll>, EditError> {
     };
     sheet.put_column(4, Some(column))?;
     let plain = PlainModel::from_workbook(alloc, workbook)?;
-    UserModel::from_model(alloc, &plain, ClearAll)
+    UserModel::from_model(alloc, plain, ClearAll)
 }
 
 /// Names of locales, zones and languages are refused in this order.
@@ -243,7 +243,7 @@ fn dynamic_formulas_fill_cells(rt: HostRuntime) -> Result<(), Fail> {
         fails: &fails,
     };
     let plain = PlainModel::from_workbook(alloc, workbook)?;
-    let mut model = UserModel::from_model(alloc, &plain, counting)?;
+    let mut model = UserModel::from_model(alloc, plain, counting)?;
     assert_eq!(rt;
         model.get_cell_array_structure(0, 1, 1)?,
         CellArrayStructure::DynamicAnchor(2, 2)

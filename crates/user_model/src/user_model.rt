@@ -37,7 +37,7 @@ use crate::structure::{CellArrayStructure, structure_at};
 use base_axis::{Area, Axis, ColumnAxis, MergedCell, RowAxis};
 use base_shared::Shared;
 use base_tables::{Language, get_language, get_locale, get_zone};
-use base_values::{EditError, Items, copy_of};
+use base_values::{EditError, Items};
 use edit_plans::{plan_array, plan_input, plan_link, plan_merge, plan_unmerge};
 use formula_tree::Node;
 use line_map::EditKind;
@@ -149,23 +149,23 @@ impl<R: Recalc + Drop> UserModel<R> {
         open(alloc, workbook, language, recalc)
     }
 
-    /// A model of a copy of a plain model's workbook. Its display language is English, and its values
-    /// are made. The only error is `NoMemory`.
+    /// A model of a plain model's workbook. Its display language is English, and its values are made.
+    /// The only error is `NoMemory`.
     ///
     /// ```
-    /// let model = UserModel::from_model(alloc, &plain, ClearAll)?;
+    /// let model = UserModel::from_model(alloc, plain, ClearAll)?;
     /// ```
     pub fn from_model(
         alloc: Global,
-        model: &PlainModel,
+        model: PlainModel,
         recalc: R,
     ) -> Result<UserModel<R>, EditError>
-        ensures stands { IfOk result (λ opened. StandsFor opened.document (begun En (book_of model.now))) }
+        ensures stands { IfOk result (λ opened. StandsFor opened.document (begun En (book_of model))) }
         ensures fits { IfOk result (λ opened. R.Fits opened.document.book opened.values) }
         ensures paused { IfOk result (λ opened. opened.paused ≡ false) }
         ensures only { IsOkUnless result NoMemory }
     {
-        open(alloc, copy_of(model.workbook())?, Language::En, recalc)
+        open(alloc, model.into_workbook(), Language::En, recalc)
     }
 
     /// The workbook as it is now. It takes no memory.

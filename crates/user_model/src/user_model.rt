@@ -125,7 +125,7 @@ impl<R: Recalc + Drop> UserModel<R> {
     /// a display language that are given by their names. Its values are made.
     ///
     /// `LocaleName`, `ZoneName` and `LanguageName`, in this order, where there is none of that name,
-    /// else `NoMemory` where there is not enough. docs/FORMULAS.md has the names.
+    /// else `NoMemory` where there is not enough. docs/MODEL.md tells where the names stand.
     ///
     /// ```
     /// let model = UserModel::new_empty(alloc, "budget", "de", "Europe/Berlin", "de", ClearAll)?;

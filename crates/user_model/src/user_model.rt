@@ -1,4 +1,4 @@
-ghost use Rattle.std.specs.Prelude.{◌≡◌, ◌⊎◌, List, true, false, None, Some, Ok, Err, not, IfOk, IfSome, IsTrue, OnOk, OnErr, IsOkUnless};
+ghost use Rattle.std.specs.Prelude.{◌≡◌, ◌⊎◌, true, false, None, Some, Ok, Err, not, IfOk, IsTrue, OnOk, OnErr, IsOkUnless};
 ghost use Rattle.std.specs.Prelude.{string_bytes};
 ghost use Rattle.base_values.specs.Answers.{Edits, Returns, map_ok};
 ghost use Rattle.base_axis.specs.Rectangles.{anchor_place};
@@ -8,19 +8,19 @@ ghost use Rattle.cell_content.specs.Fitting.{fits_at};
 ghost use Rattle.cell_content.specs.KeptContent.{IsKeptContent};
 ghost use Rattle.base_values.specs.declared.EditError.TheVariants.{NoMemory, ParseDiffs};
 ghost use Rattle.base_tables.specs.declared.Language.TheVariants.{En};
-ghost use Rattle.sheet_history.specs.declared.QueueDiffs.{QueueDiffs as Entry};
 ghost use Rattle.sheet_rules.specs.WellFormed.{IsWellFormed};
-ghost use Rattle.sheet_wire.specs.QueueBytes.{FitsQueue, IsNoQueue, spell_queue};
+ghost use Rattle.sheet_wire.specs.QueueBytes.{FitsQueue, IsNoQueue};
 ghost use Rattle.sheet_actions.specs.Shown.{book_of};
 ghost use Rattle.edit_plans.specs.Edits.{Edit as AnyEdit};
 ghost use Rattle.edit_plans.specs.Inputs.{IsInput};
 ghost use Rattle.edit_plans.specs.Edits.Edit.{Input, ArrayInput, SetLink, Merge, Unmerge};
 ghost use Rattle.user_model.specs.Beginning.{new_state};
-ghost use Rattle.user_model.specs.Reading.{content_text, formula_typed, link_to, rectangle, rectangle_of, typed};
+ghost use Rattle.user_model.specs.Reading.{content_text, link_to, rectangle, rectangle_of};
+ghost use Rattle.user_model.specs.Typing.{array_typed, text_typed};
 ghost use Rattle.user_model.specs.Structure.{structure_at};
 ghost use Rattle.user_model.specs.Machine.{State, begun, edit_of, undo_of, redo_of, synced_of, sync_bytes};
-ghost use Rattle.user_model.specs.Sound.{Carries, WhereCarried};
-ghost use Rattle.user_model.specs.Stands.{StandsFor, IsReached, IsAnyPlan, IsPlanOf, Leaves, Moves, Opens, Turns};
+ghost use Rattle.user_model.specs.Sound.{CarriesOn, WhereCarried, WhereSpelled};
+ghost use Rattle.user_model.specs.Stands.{StandsFor, IsReached, IsAnyPlan, IsPlanOf, Leaves, Moves, OnStates, Opens, Steps, Turns};
 ghost use Rattle.user_model.specs.Values.{IsMade, LeavesMade, Makes, is_none_left};
 
 mod lines;
@@ -330,7 +330,7 @@ impl<R: Recalc + Drop> UserModel<R> {
     ) -> Result<(), EditError>
         requires kept { IsKeptContent content }
         requires input { IsInput row column content }
-        ensures next { (state : State) → StandsFor self.old.document state → Moves result self.new.document (edit_of (Input sheet row column content) state) }
+        ensures next { Steps result self.old.document self.new.document (edit_of (Input sheet row column content)) }
         ensures made { OnOk result (IsMade R.Fits self.new) }
         ensures err { OnErr result (self.new ≡ self.old) }
         ensures paused { self.new.paused ≡ self.old.paused }
@@ -371,7 +371,7 @@ impl<R: Recalc + Drop> UserModel<R> {
         column: i32,
         value: &str,
     ) -> Result<(), EditError>
-        ensures next { (state : State) → StandsFor self.old.document state → Moves result self.new.document (edit_of (Input sheet row column (typed state.present state.language row column value.now)) state) }
+        ensures next { Steps result self.old.document self.new.document (text_typed sheet row column value.now) }
         ensures made { OnOk result (IsMade R.Fits self.new) }
         ensures err { OnErr result (self.new ≡ self.old) }
         ensures paused { self.new.paused ≡ self.old.paused }
@@ -397,7 +397,7 @@ impl<R: Recalc + Drop> UserModel<R> {
     ) -> Result<(), EditError>
         requires kept { IsTrue (has_kept_numbers tree) }
         requires fits { IsTrue (fits_at (anchor_place area) (Array tree area.width area.height)) }
-        ensures next { (state : State) → StandsFor self.old.document state → Moves result self.new.document (edit_of (ArrayInput sheet area tree) state) }
+        ensures next { Steps result self.old.document self.new.document (edit_of (ArrayInput sheet area tree)) }
         ensures made { OnOk result (IsMade R.Fits self.new) }
         ensures err { OnErr result (self.new ≡ self.old) }
         ensures paused { self.new.paused ≡ self.old.paused }
@@ -430,7 +430,7 @@ impl<R: Recalc + Drop> UserModel<R> {
         height: i32,
         formula: &str,
     ) -> Result<(), EditError>
-        ensures next { (state : State) → StandsFor self.old.document state → Moves result self.new.document (edit_of (ArrayInput sheet (rectangle row column width height) (formula_typed state.present state.language row column formula.now)) state) }
+        ensures next { Steps result self.old.document self.new.document (array_typed sheet (rectangle row column width height) formula.now) }
         ensures made { OnOk result (IsMade R.Fits self.new) }
         ensures err { OnErr result (self.new ≡ self.old) }
         ensures paused { self.new.paused ≡ self.old.paused }
@@ -457,7 +457,7 @@ impl<R: Recalc + Drop> UserModel<R> {
         column: i32,
         link: Option<Link>,
     ) -> Result<(), EditError>
-        ensures next { (state : State) → StandsFor self.old.document state → Moves result self.new.document (edit_of (SetLink sheet row column link) state) }
+        ensures next { Steps result self.old.document self.new.document (edit_of (SetLink sheet row column link)) }
         ensures made { OnOk result (IsMade R.Fits self.new) }
         ensures err { OnErr result (self.new ≡ self.old) }
         ensures paused { self.new.paused ≡ self.old.paused }
@@ -484,7 +484,7 @@ impl<R: Recalc + Drop> UserModel<R> {
         column: i32,
         target: &str,
     ) -> Result<(), EditError>
-        ensures next { (state : State) → StandsFor self.old.document state → Moves result self.new.document (edit_of (SetLink sheet row column (Some (link_to target.now))) state) }
+        ensures next { Steps result self.old.document self.new.document (edit_of (SetLink sheet row column (Some (link_to target.now)))) }
         ensures made { OnOk result (IsMade R.Fits self.new) }
         ensures err { OnErr result (self.new ≡ self.old) }
         ensures paused { self.new.paused ≡ self.old.paused }
@@ -502,7 +502,7 @@ impl<R: Recalc + Drop> UserModel<R> {
     /// model.delete_cell_link(0, 1, 1)?;
     /// ```
     pub fn delete_cell_link(&mut self, sheet: u32, row: i32, column: i32) -> Result<(), EditError>
-        ensures next { (state : State) → StandsFor self.old.document state → Moves result self.new.document (edit_of (SetLink sheet row column None) state) }
+        ensures next { Steps result self.old.document self.new.document (edit_of (SetLink sheet row column None)) }
         ensures made { OnOk result (IsMade R.Fits self.new) }
         ensures err { OnErr result (self.new ≡ self.old) }
         ensures paused { self.new.paused ≡ self.old.paused }
@@ -522,7 +522,7 @@ impl<R: Recalc + Drop> UserModel<R> {
     /// model.merge_cells(&Area { sheet: 0, row: 1, column: 1, width: 3, height: 1 })?;
     /// ```
     pub fn merge_cells(&mut self, area: &Area) -> Result<(), EditError>
-        ensures next { (state : State) → StandsFor self.old.document state → Moves result self.new.document (edit_of (Merge area.now.sheet (rectangle_of area.now)) state) }
+        ensures next { Steps result self.old.document self.new.document (edit_of (Merge area.now.sheet (rectangle_of area.now))) }
         ensures made { OnOk result (IsMade R.Fits self.new) }
         ensures err { OnErr result (self.new ≡ self.old) }
         ensures paused { self.new.paused ≡ self.old.paused }
@@ -532,7 +532,7 @@ impl<R: Recalc + Drop> UserModel<R> {
 
     /// Merges the cells of a rectangle of the sheet at an index.
     fn merge(&mut self, sheet: u32, area: MergedCell) -> Result<(), EditError>
-        ensures next { (state : State) → StandsFor self.old.document state → Moves result self.new.document (edit_of (Merge sheet area) state) }
+        ensures next { Steps result self.old.document self.new.document (edit_of (Merge sheet area)) }
         ensures made { OnOk result (IsMade R.Fits self.new) }
         ensures err { OnErr result (self.new ≡ self.old) }
         ensures paused { self.new.paused ≡ self.old.paused }
@@ -553,7 +553,7 @@ impl<R: Recalc + Drop> UserModel<R> {
     /// model.unmerge_cells(0, 1, 2)?;
     /// ```
     pub fn unmerge_cells(&mut self, sheet: u32, row: i32, column: i32) -> Result<(), EditError>
-        ensures next { (state : State) → StandsFor self.old.document state → Moves result self.new.document (edit_of (Unmerge sheet row column) state) }
+        ensures next { Steps result self.old.document self.new.document (edit_of (Unmerge sheet row column)) }
         ensures made { OnOk result (IsMade R.Fits self.new) }
         ensures err { OnErr result (self.new ≡ self.old) }
         ensures paused { self.new.paused ≡ self.old.paused }
@@ -574,7 +574,7 @@ impl<R: Recalc + Drop> UserModel<R> {
     /// model.redo()?;
     /// ```
     pub fn undo(&mut self) -> Result<(), EditError>
-        ensures next { (state : State) → StandsFor self.old.document state → Turns result self.new.document (undo_of state) }
+        ensures next { OnStates self.old.document (λ state. Turns result self.new.document (undo_of state)) }
         ensures made { OnOk result (Makes (is_none_left self.old.document.undo) R.Fits self.old self.new) }
         ensures err { OnErr result (self.new ≡ self.old) }
         ensures paused { self.new.paused ≡ self.old.paused }
@@ -590,7 +590,7 @@ impl<R: Recalc + Drop> UserModel<R> {
     /// model.redo()?;
     /// ```
     pub fn redo(&mut self) -> Result<(), EditError>
-        ensures next { (state : State) → StandsFor self.old.document state → Turns result self.new.document (redo_of state) }
+        ensures next { OnStates self.old.document (λ state. Turns result self.new.document (redo_of state)) }
         ensures made { OnOk result (Makes (is_none_left self.old.document.redo) R.Fits self.old self.new) }
         ensures err { OnErr result (self.new ≡ self.old) }
         ensures paused { self.new.paused ≡ self.old.paused }
@@ -608,10 +608,10 @@ impl<R: Recalc + Drop> UserModel<R> {
     /// other.apply_external_diffs(&bytes)?;
     /// ```
     pub fn flush_send_queue(&mut self) -> Result<Vec<u8>, EditError>
-        ensures bytes { (state : State) → StandsFor self.old.document state → IfOk result (λ bytes. bytes.items ≡ sync_bytes state) }
-        ensures carries { (state : State) → StandsFor self.old.document state → IfOk result (λ bytes. IfSome state.synced (λ book. Carries state.sent bytes.items book state.present)) }
-        ensures fits { (state : State) → StandsFor self.old.document state → OnOk result (FitsQueue state.sent) }
-        ensures next { (state : State) → StandsFor self.old.document state → Moves result self.new.document (Ok (synced_of state)) }
+        ensures bytes { OnStates self.old.document (λ state. IfOk result (λ bytes. bytes.items ≡ sync_bytes state)) }
+        ensures carries { OnStates self.old.document (λ state. IfOk result (λ bytes. CarriesOn bytes.items state)) }
+        ensures fits { OnStates self.old.document (λ state. OnOk result (FitsQueue state.sent)) }
+        ensures next { Steps result self.old.document self.new.document (λ state. Ok (synced_of state)) }
         ensures values { self.new.values ≡ self.old.values }
         ensures err { OnErr result (self.new ≡ self.old) }
         ensures paused { self.new.paused ≡ self.old.paused }
@@ -634,12 +634,12 @@ impl<R: Recalc + Drop> UserModel<R> {
     /// second.apply_external_diffs(&bytes)?;
     /// ```
     pub fn apply_external_diffs(&mut self, bytes: &[u8]) -> Result<(), EditError>
-        ensures next { (state : State) (entries : List Entry) → StandsFor self.old.document state → FitsQueue entries → bytes.now ≡ spell_queue entries → Leaves result self.new.document entries state }
+        ensures next { OnStates self.old.document (λ state. WhereSpelled bytes.now (λ entries. Leaves result self.new.document entries state)) }
         ensures led { WhereCarried bytes.now self.old.document.book (λ later. OnOk result (self.new.document.book ≡ later)) }
         ensures carried { WhereCarried bytes.now self.old.document.book (λ later. IsOkUnless result NoMemory) }
         ensures unspelled { IsNoQueue bytes.now → Edits result self.old self.new (Err ParseDiffs) }
         ensures parsed { result ≡ Err ParseDiffs → IsNoQueue bytes.now }
-        ensures made { (entries : List Entry) → FitsQueue entries → bytes.now ≡ spell_queue entries → LeavesMade result entries R.Fits self.old self.new }
+        ensures made { WhereSpelled bytes.now (λ entries. LeavesMade result entries R.Fits self.old self.new) }
         ensures made_or_same { IsMade R.Fits self.new ⊎ (self.new ≡ self.old) }
         ensures paused { self.new.paused ≡ self.old.paused }
     {

@@ -6,8 +6,8 @@ ghost use Rattle.sheet_history.specs.LineDiffs.{along_of};
 ghost use Rattle.sheet_history.specs.declared.LineAxis.TheVariants.{Rows, Columns};
 ghost use Rattle.edit_plans.specs.Edits.{is_silent};
 ghost use Rattle.edit_plans.specs.Edits.Edit.{Lines, MoveLines};
-ghost use Rattle.user_model.specs.Machine.{State, edit_of};
-ghost use Rattle.user_model.specs.Stands.{StandsFor, Moves};
+ghost use Rattle.user_model.specs.Machine.{edit_of};
+ghost use Rattle.user_model.specs.Stands.{Steps};
 ghost use Rattle.user_model.specs.Values.{IsMade, Makes};
 
 use super::UserModel;
@@ -26,7 +26,7 @@ impl<R: Recalc + Drop> UserModel<R> {
         kind: EditKind,
     ) -> Result<(), EditError>
         requires { A.along ≡ along_of axis }
-        ensures next { (state : State) → StandsFor self.old.document state → Moves result self.new.document (edit_of (Lines sheet axis kind) state) }
+        ensures next { Steps result self.old.document self.new.document (edit_of (Lines sheet axis kind)) }
         ensures made { OnOk result (IsMade R.Fits self.new) }
         ensures err { OnErr result (self.new ≡ self.old) }
         ensures paused { self.new.paused ≡ self.old.paused }
@@ -45,7 +45,7 @@ impl<R: Recalc + Drop> UserModel<R> {
         delta: i32,
     ) -> Result<(), EditError>
         requires { A.along ≡ along_of axis }
-        ensures next { (state : State) → StandsFor self.old.document state → Moves result self.new.document (edit_of (MoveLines sheet axis first count delta) state) }
+        ensures next { Steps result self.old.document self.new.document (edit_of (MoveLines sheet axis first count delta)) }
         ensures made { OnOk result (Makes (is_silent (MoveLines sheet axis first count delta)) R.Fits self.old self.new) }
         ensures err { OnErr result (self.new ≡ self.old) }
         ensures paused { self.new.paused ≡ self.old.paused }
@@ -75,7 +75,7 @@ impl<R: Recalc + Drop> UserModel<R> {
     /// model.insert_rows(0, 3, 2)?; // what stood in row 3 stands in row 5
     /// ```
     pub fn insert_rows(&mut self, sheet: u32, row: i32, count: i32) -> Result<(), EditError>
-        ensures next { (state : State) → StandsFor self.old.document state → Moves result self.new.document (edit_of (Lines sheet Rows (Insert row count)) state) }
+        ensures next { Steps result self.old.document self.new.document (edit_of (Lines sheet Rows (Insert row count))) }
         ensures made { OnOk result (IsMade R.Fits self.new) }
         ensures err { OnErr result (self.new ≡ self.old) }
         ensures paused { self.new.paused ≡ self.old.paused }
@@ -101,7 +101,7 @@ impl<R: Recalc + Drop> UserModel<R> {
     /// model.insert_columns(0, 1, 1)?; // what stood in column A stands in column B
     /// ```
     pub fn insert_columns(&mut self, sheet: u32, column: i32, count: i32) -> Result<(), EditError>
-        ensures next { (state : State) → StandsFor self.old.document state → Moves result self.new.document (edit_of (Lines sheet Columns (Insert column count)) state) }
+        ensures next { Steps result self.old.document self.new.document (edit_of (Lines sheet Columns (Insert column count))) }
         ensures made { OnOk result (IsMade R.Fits self.new) }
         ensures err { OnErr result (self.new ≡ self.old) }
         ensures paused { self.new.paused ≡ self.old.paused }
@@ -128,7 +128,7 @@ impl<R: Recalc + Drop> UserModel<R> {
     /// model.delete_rows(0, 3, 2)?; // rows 3 and 4
     /// ```
     pub fn delete_rows(&mut self, sheet: u32, row: i32, count: i32) -> Result<(), EditError>
-        ensures next { (state : State) → StandsFor self.old.document state → Moves result self.new.document (edit_of (Lines sheet Rows (Delete row count)) state) }
+        ensures next { Steps result self.old.document self.new.document (edit_of (Lines sheet Rows (Delete row count))) }
         ensures made { OnOk result (IsMade R.Fits self.new) }
         ensures err { OnErr result (self.new ≡ self.old) }
         ensures paused { self.new.paused ≡ self.old.paused }
@@ -152,7 +152,7 @@ impl<R: Recalc + Drop> UserModel<R> {
     /// model.delete_columns(0, 2, 1)?; // column B
     /// ```
     pub fn delete_columns(&mut self, sheet: u32, column: i32, count: i32) -> Result<(), EditError>
-        ensures next { (state : State) → StandsFor self.old.document state → Moves result self.new.document (edit_of (Lines sheet Columns (Delete column count)) state) }
+        ensures next { Steps result self.old.document self.new.document (edit_of (Lines sheet Columns (Delete column count))) }
         ensures made { OnOk result (IsMade R.Fits self.new) }
         ensures err { OnErr result (self.new ≡ self.old) }
         ensures paused { self.new.paused ≡ self.old.paused }
@@ -187,7 +187,7 @@ impl<R: Recalc + Drop> UserModel<R> {
         count: i32,
         delta: i32,
     ) -> Result<(), EditError>
-        ensures next { (state : State) → StandsFor self.old.document state → Moves result self.new.document (edit_of (MoveLines sheet Rows first count delta) state) }
+        ensures next { Steps result self.old.document self.new.document (edit_of (MoveLines sheet Rows first count delta)) }
         ensures made { OnOk result (Makes (is_silent (MoveLines sheet Rows first count delta)) R.Fits self.old self.new) }
         ensures err { OnErr result (self.new ≡ self.old) }
         ensures paused { self.new.paused ≡ self.old.paused }
@@ -215,7 +215,7 @@ impl<R: Recalc + Drop> UserModel<R> {
         count: i32,
         delta: i32,
     ) -> Result<(), EditError>
-        ensures next { (state : State) → StandsFor self.old.document state → Moves result self.new.document (edit_of (MoveLines sheet Columns first count delta) state) }
+        ensures next { Steps result self.old.document self.new.document (edit_of (MoveLines sheet Columns first count delta)) }
         ensures made { OnOk result (Makes (is_silent (MoveLines sheet Columns first count delta)) R.Fits self.old self.new) }
         ensures err { OnErr result (self.new ≡ self.old) }
         ensures paused { self.new.paused ≡ self.old.paused }

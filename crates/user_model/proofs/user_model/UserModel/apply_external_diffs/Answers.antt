@@ -21,19 +21,19 @@ receive_all-requires-clause-reached g c = c.self.invariant
 pub returns-in_err-queue-clause-next : goal.returns-in_err-queue-clause-next
 returns-in_err-queue-clause-next g c =
     let p = err_from_is_err_and c.from_residual.result c.from_residual.ensures.1 in
-    rw (p.1, p.2) (λ s entries stands fits spelled. unread_leaves c.in_err-queue.field-0.0 c.args.self.now.document entries s stands (c.in_err-queue.ensures.again entries fits spelled))
+    rw (p.1, p.2) (λ s stands entries fits spelled. unread_leaves c.in_err-queue.field-0.0 c.args.self.now.document entries s stands (c.in_err-queue.ensures.again entries fits spelled))
 
 pub returns-in_err-queue-clause-led : goal.returns-in_err-queue-clause-led
 returns-in_err-queue-clause-led g c =
     let is = c.self.invariant in
     let stands = subst (λ (seen : Session). StandsFor seen.document is.0) c.self.view_is is.1 in
-    carried_there c.from_residual.result c.args.self.now.document c.args.self.now.document is.0 c.args.bytes.now stands (λ entries fits spelled. returns-in_err-queue-clause-next g c is.0 entries stands fits spelled)
+    carried_there c.from_residual.result c.args.self.now.document c.args.self.now.document is.0 c.args.bytes.now stands (λ entries fits spelled. returns-in_err-queue-clause-next g c is.0 stands entries fits spelled)
 
 pub returns-in_err-queue-clause-carried : goal.returns-in_err-queue-clause-carried
 returns-in_err-queue-clause-carried g c =
     let is = c.self.invariant in
     let stands = subst (λ (seen : Session). StandsFor seen.document is.0) c.self.view_is is.1 in
-    carried_only c.from_residual.result c.args.self.now.document c.args.self.now.document is.0 c.args.bytes.now stands (λ entries fits spelled. returns-in_err-queue-clause-next g c is.0 entries stands fits spelled)
+    carried_only c.from_residual.result c.args.self.now.document c.args.self.now.document is.0 c.args.bytes.now stands (λ entries fits spelled. returns-in_err-queue-clause-next g c is.0 stands entries fits spelled)
 
 pub returns-in_err-queue-clause-unspelled : goal.returns-in_err-queue-clause-unspelled
 returns-in_err-queue-clause-unspelled g c =
@@ -54,7 +54,7 @@ pub returns-in_err-queue-clause-made_or_same : goal.returns-in_err-queue-clause-
 returns-in_err-queue-clause-made_or_same g c = inr refl
 
 pub returns-clause-next : goal.returns-clause-next
-returns-clause-next g c = λ s entries stands fits spelled.
+returns-clause-next g c = λ s stands entries fits spelled.
     read_leaves c.receive_all.result (document_in c.receive_all.new.self) c.in_ok-queue.queue entries s ((c.in_ok-queue.ensures {u = _}).again entries fits spelled)
     (subst (λ q. Leaves c.receive_all.result (document_in c.receive_all.new.self) q s) c.as_slice.ensures.items
     (c.receive_all.ensures.next s (subst (λ (seen : Session). StandsFor seen.document s) (sym c.self.view_is) stands)))
@@ -63,13 +63,13 @@ pub returns-clause-led : goal.returns-clause-led
 returns-clause-led g c =
     let is = c.self.invariant in
     let stands = subst (λ (seen : Session). StandsFor seen.document is.0) c.self.view_is is.1 in
-    carried_there c.receive_all.result c.args.self.now.document (document_in c.receive_all.new.self) is.0 c.args.bytes.now stands (λ entries fits spelled. returns-clause-next g c is.0 entries stands fits spelled)
+    carried_there c.receive_all.result c.args.self.now.document (document_in c.receive_all.new.self) is.0 c.args.bytes.now stands (λ entries fits spelled. returns-clause-next g c is.0 stands entries fits spelled)
 
 pub returns-clause-carried : goal.returns-clause-carried
 returns-clause-carried g c =
     let is = c.self.invariant in
     let stands = subst (λ (seen : Session). StandsFor seen.document is.0) c.self.view_is is.1 in
-    carried_only c.receive_all.result c.args.self.now.document (document_in c.receive_all.new.self) is.0 c.args.bytes.now stands (λ entries fits spelled. returns-clause-next g c is.0 entries stands fits spelled)
+    carried_only c.receive_all.result c.args.self.now.document (document_in c.receive_all.new.self) is.0 c.args.bytes.now stands (λ entries fits spelled. returns-clause-next g c is.0 stands entries fits spelled)
 
 pub returns-clause-unspelled : goal.returns-clause-unspelled
 returns-clause-unspelled g c = λ none. absurd (none c.in_ok-queue.queue (c.in_ok-queue.ensures {u = _}).fits (c.in_ok-queue.ensures {u = _}).spelled)

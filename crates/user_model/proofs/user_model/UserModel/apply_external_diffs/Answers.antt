@@ -83,12 +83,12 @@ pub returns-clause-made : goal.returns-clause-made
 returns-clause-made g c = λ entries fits spelled.
     read_made c.receive_all.result c.in_ok-queue.queue entries g.R.Recalc.Fits c.args.self.now (session_of c.receive_all.new.self c.receive_all.new.results) ((c.in_ok-queue.ensures {u = _}).again entries fits spelled)
     (subst (λ q. LeavesMade c.receive_all.result q g.R.Recalc.Fits c.args.self.now (session_of c.receive_all.new.self c.receive_all.new.results)) c.as_slice.ensures.items
-    (subst (λ (seen : Session). LeavesMade c.receive_all.result _ g.R.Recalc.Fits seen (session_of c.receive_all.new.self c.receive_all.new.results)) c.self.view_is c.receive_all.ensures.made))
+    (subst (λ (seen : Session). LeavesMade c.receive_all.result c.as_slice.result.now g.R.Recalc.Fits seen (session_of c.receive_all.new.self c.receive_all.new.results)) c.self.view_is c.receive_all.ensures.made))
 
 pub returns-clause-made_or_same : goal.returns-clause-made_or_same
 returns-clause-made_or_same g c =
     subst (λ (seen : Session). IsMade g.R.Recalc.Fits (session_of c.receive_all.new.self c.receive_all.new.results) ⊎ (session_of c.receive_all.new.self c.receive_all.new.results ≡ seen)) c.self.view_is
-    (left_made c.receive_all.result _ g.R.Recalc.Fits _ _ c.receive_all.ensures.made)
+    (left_made c.receive_all.result c.as_slice.result.now g.R.Recalc.Fits _ _ c.receive_all.ensures.made)
 
 pub invariant_of-self : goal.invariant_of-self
 invariant_of-self g c =

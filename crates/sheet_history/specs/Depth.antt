@@ -7,7 +7,7 @@ use Rattle.formula_tree.specs.Depth.{is_within}
 use Rattle.sheet_grid.specs.FittingCells.{is_shallow_entry}
 use Rattle.sheet_lines.specs.declared.KeptLines.{KeptLines}
 use Rattle.sheet_history.specs.declared.diff.Diff.{Diff}
-use Rattle.sheet_history.specs.declared.diff.Diff.TheVariants.{Cell as CellDiff, Link as LinkDiff, Merges as MergesDiff, Lines as LinesDiff}
+use Rattle.sheet_history.specs.declared.diff.Diff.TheVariants.{Cell as CellDiff, Link as LinkDiff, Merges as MergesDiff, Field as FieldDiff, Lines as LinesDiff}
 
 -- so is each kept formula
 pub record AreShallowLines (kept : KeptLines) : Type 0 where
@@ -19,4 +19,5 @@ abbrev pub IsShallowDiff : Diff → Type 0
 IsShallowDiff (CellDiff sheet place old new) = IsTrue (is_shallow_entry old) × IsTrue (is_shallow_entry new)
 IsShallowDiff (LinkDiff sheet place old new) = Unit {0}
 IsShallowDiff (MergesDiff sheet old new) = Unit {0}
+IsShallowDiff (FieldDiff sheet change) = Unit {0}
 IsShallowDiff (LinesDiff sheet axis edit kept) = AreShallowLines kept

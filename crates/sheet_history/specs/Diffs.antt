@@ -10,13 +10,14 @@ use Rattle.sheet_grid.specs.KeptCell.{IsKeptCell}
 use Rattle.sheet_rules.specs.WellFormed.{broken_rule}
 use Rattle.sheet_lines.specs.KeptNumbers.{AreKeptLines}
 use Rattle.sheet_history.specs.declared.diff.Diff.{Diff}
-use Rattle.sheet_history.specs.declared.diff.Diff.TheVariants.{Cell as CellDiff, Link as LinkDiff, Merges as MergesDiff, Lines as LinesDiff}
+use Rattle.sheet_history.specs.declared.diff.Diff.TheVariants.{Cell as CellDiff, Link as LinkDiff, Merges as MergesDiff, Field as FieldDiff, Lines as LinesDiff}
 use Rattle.sheet_history.specs.declared.diff.DiffType.{DiffType}
 use Rattle.sheet_history.specs.declared.diff.DiffType.TheVariants.{Undo, Redo}
 use Rattle.sheet_history.specs.declared.diff.QueueDiffs.{QueueDiffs}
 use Rattle.sheet_history.specs.Entries.{EntryKey, EntryValue, value_fits, with_sheet_entry, accepts, put_entry}
-use Rattle.sheet_history.specs.Entries.EntryKey.{CellKey, LinkKey, MergesKey}
-use Rattle.sheet_history.specs.Entries.EntryValue.{CellValue, LinkValue, MergesValue}
+use Rattle.sheet_history.specs.Entries.EntryKey.{CellKey, LinkKey, MergesKey, FieldKey}
+use Rattle.sheet_history.specs.Entries.EntryValue.{CellValue, LinkValue, MergesValue, FieldValue}
+use Rattle.sheet_history.specs.Fields.{old_of, new_of, changed_field}
 use Rattle.sheet_history.specs.LineDiffs.{along_of, lines_forward, lines_back}
 
 -- the sheet with a value at a key. Where it may not stand there, the diff of that number is refused
@@ -32,6 +33,7 @@ abbrev pub step_forward : ℕ → Book → Diff → Result Book EditError
 step_forward at book (CellDiff sheet place old new) = put_in at book (CellKey sheet place) (CellValue new)
 step_forward at book (LinkDiff sheet place old new) = put_in at book (LinkKey sheet place) (LinkValue new)
 step_forward at book (MergesDiff sheet old new) = put_in at book (MergesKey sheet) (MergesValue new)
+step_forward at book (FieldDiff sheet change) = put_in at book (FieldKey sheet (changed_field change)) (FieldValue (new_of change))
 step_forward at book (LinesDiff sheet axis edit kept) = lines_forward at (along_of axis) sheet edit kept book
 
 -- back puts the old value, or takes the lines back
@@ -39,6 +41,7 @@ abbrev pub step_back : ℕ → Book → Diff → Result Book EditError
 step_back at book (CellDiff sheet place old new) = put_in at book (CellKey sheet place) (CellValue old)
 step_back at book (LinkDiff sheet place old new) = put_in at book (LinkKey sheet place) (LinkValue old)
 step_back at book (MergesDiff sheet old new) = put_in at book (MergesKey sheet) (MergesValue old)
+step_back at book (FieldDiff sheet change) = put_in at book (FieldKey sheet (changed_field change)) (FieldValue (old_of change))
 step_back at book (LinesDiff sheet axis edit kept) = lines_back at (along_of axis) sheet edit kept book
 
 -- the diffs in order, where the first has the number at
@@ -120,6 +123,7 @@ abbrev pub IsKeptDiff : Diff → Type 0
 IsKeptDiff (CellDiff sheet place old new) = IfSome old IsKeptCell × IfSome new IsKeptCell
 IsKeptDiff (LinkDiff sheet place old new) = Unit {0}
 IsKeptDiff (MergesDiff sheet old new) = Unit {0}
+IsKeptDiff (FieldDiff sheet change) = Unit {0}
 IsKeptDiff (LinesDiff sheet axis edit kept) = AreKeptLines kept
 
 abbrev pub IsKeptList : List Diff → Type 0

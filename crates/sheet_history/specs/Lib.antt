@@ -1,4 +1,5 @@
 pub mod Entries
+pub mod Fields
 pub mod LineDiffs
 pub mod Diffs
 pub mod Depth

@@ -1,4 +1,6 @@
 pub mod DiffEquals
+pub mod FieldEquals
+pub mod FieldLaws
 pub mod Entries
 pub mod EntryLaws
 pub mod PutLaws

@@ -10,7 +10,7 @@ ghost use Rattle.sheet_history.specs.Diffs.{IsKeptDiff, IsKeptList, backed, by_r
 
 use crate::diff::{Diff, DiffList, LineAxis};
 use crate::line_diffs::{lines_back, lines_forward};
-use crate::put::{put_cell, put_link, put_merges};
+use crate::put::{put_cell, put_field, put_link, put_merges};
 use base_axis::{ColumnAxis, RowAxis};
 use base_values::{EditError, copy_of};
 use line_map::{EditKind, LineEdit};
@@ -98,6 +98,7 @@ fn apply_forward(
             new,
         } => put_link(workbook, *sheet, *position, new, at),
         Diff::Merges { sheet, old: _, new } => put_merges(workbook, *sheet, new, at),
+        Diff::Field { sheet, change } => put_field(workbook, *sheet, change.new_value(), at),
         Diff::Lines {
             sheet,
             axis,
@@ -128,6 +129,7 @@ fn apply_back(alloc: Global, workbook: &mut Workbook, diff: &Diff, at: u64) -> R
             new: _,
         } => put_link(workbook, *sheet, *position, old, at),
         Diff::Merges { sheet, old, new: _ } => put_merges(workbook, *sheet, old, at),
+        Diff::Field { sheet, change } => put_field(workbook, *sheet, change.old_value(), at),
         Diff::Lines {
             sheet,
             axis,

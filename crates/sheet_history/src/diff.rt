@@ -1,3 +1,4 @@
+use crate::field::FieldChange;
 use base_axis::MergeList;
 use base_shared::Shared;
 use base_values::{Exact, Items, Position};
@@ -35,6 +36,8 @@ pub enum Diff {
         old: MergeList,
         new: MergeList,
     },
+    /// A field of the sheet with that id.
+    Field { sheet: u32, change: FieldChange },
     /// Lines along an axis that were inserted in the sheet with that id, deleted from it or moved,
     /// and what the opposite edit does not give back.
     Lines {

@@ -6,6 +6,7 @@
 
 mod apply;
 mod diff;
+mod field;
 mod history;
 mod laws;
 mod line_diffs;
@@ -14,6 +15,7 @@ mod replay;
 
 pub use apply::{back, back_in_place, forward, forward_in_place};
 pub use diff::{Diff, DiffList, DiffType, LineAxis, QueueDiffs};
+pub use field::{FieldChange, SheetField};
 pub use history::History;
 pub use laws::{
     line_records_go_both_ways, records_are_computed, records_are_unique, records_go_both_ways,

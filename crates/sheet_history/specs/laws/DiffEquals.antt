@@ -11,8 +11,9 @@ use Rattle.sheet_grid.specs.laws.CellEquals.{cell_equals}
 use Rattle.sheet_grid.specs.laws.LineEquals.{link_equals}
 use Rattle.line_edits.specs.laws.Equals.{kind_equals}
 use Rattle.sheet_lines.specs.laws.KeptEquals.{kept_equals}
+use Rattle.sheet_history.specs.laws.FieldEquals.{field_change_equals}
 use Rattle.sheet_history.specs.declared.diff.Diff.{Diff}
-use Rattle.sheet_history.specs.declared.diff.Diff.TheVariants.{Cell as CellDiff, Link as LinkDiff, Merges as MergesDiff, Lines as LinesDiff}
+use Rattle.sheet_history.specs.declared.diff.Diff.TheVariants.{Cell as CellDiff, Link as LinkDiff, Merges as MergesDiff, Field as FieldDiff, Lines as LinesDiff}
 use Rattle.sheet_history.specs.declared.diff.DiffType.{DiffType}
 use Rattle.sheet_history.specs.declared.diff.DiffType.TheVariants.{Undo, Redo}
 use Rattle.sheet_history.specs.declared.diff.QueueDiffs.{QueueDiffs}
@@ -86,6 +87,14 @@ diff_equals (MergesDiff s o n) (MergesDiff t u v) =
 
     new_of : MergesDiff s o n ≡ MergesDiff t u v → n ≡ v
     new_of e = cc
+diff_equals (FieldDiff s c) (FieldDiff t d) =
+    Decides-like _ (λ h i. FieldDiff (h.0 i) (h.1 i)) (λ e. (sheet_of e, change_of e)) (Decides-and _ _ (unsigned_Decides _ _) (field_change_equals _ _))
+  where
+    sheet_of : FieldDiff s c ≡ FieldDiff t d → s ≡ t
+    sheet_of e = cc
+
+    change_of : FieldDiff s c ≡ FieldDiff t d → c ≡ d
+    change_of e = cc
 diff_equals _ _ = (λ e. cc, λ e. cc)
 
 pub diff_type_equals : (a b : DiffType) → Decides (diff_type.ghosts.eq a b) (a ≡ b)

@@ -1,11 +1,10 @@
 //! The list of the sheets: what they are called, and sheets that come, go and move.
 
-ghost use Rattle.std.specs.Prelude.{◌≡◌, ◌≢◌, ◌<◌, ◌≤◌, length, vec_len, slice_index_or, Err, IfOk, OnOk, OnErr, IsOkUnless};
+ghost use Rattle.std.specs.Prelude.{◌≡◌, ◌≢◌, ◌<◌, ◌≤◌, length, vec_len, Err, IfOk, OnOk, OnErr, IsOkUnless};
 ghost use Rattle.std.specs.List.{insert, remove};
 ghost use Rattle.base_values.specs.Answers.{Changes};
 ghost use Rattle.base_values.specs.declared.EditError.TheVariants.{NoMemory};
 ghost use Rattle.sheet_grid.specs.Book.{ids_of, names_of, sheet_inserted, sheet_removed, sheets_moved, sheet_moved};
-ghost use Rattle.sheet_grid.specs.Sheet.{Sheet};
 
 use super::Workbook;
 use crate::worksheet::Worksheet;
@@ -19,7 +18,8 @@ fn names_of(alloc: Global, sheets: &[Worksheet]) -> Result<Items<Text>, EditErro
 {
     let mut names = Items::empty(alloc);
     for sheet in sheets {
-        names.push(sheet.copied_name()?)?;
+        let name = sheet.copied_name()?;
+        names.push(name)?;
     }
     Ok(names)
 }
@@ -28,18 +28,21 @@ fn ids_of(alloc: Global, sheets: &[Worksheet]) -> Result<Items<u32>, EditError>
     ensures ids { IfOk result (λ ids. ids ≡ ids_of sheets.now) }
     ensures only { IsOkUnless result NoMemory }
 {
-    let mut ids = Items::empty(alloc);
-    for sheet in sheets {
-        ids.push(sheet.get_sheet_id())?;
-    }
-    Ok(ids)
+    let ids: Vec<u32> = sheets
+        .iter()
+        .map(|sheet| sheet.get_sheet_id())
+        .collect(alloc)?;
+    Ok(Items::new(ids))
 }
 
 /// The sheets, taken out of a workbook.
 fn taken(alloc: Global, sheets: &mut Items<Worksheet>) -> Vec<Worksheet>
-    ensures { result.items ≡ sheets.old }
+    ensures items { result.items ≡ sheets.old }
+    ensures len { vec_len result ≡ length sheets.old }
 {
-    mem::replace(sheets, Items::empty(alloc)).into_vec()
+    let list = mem::replace(sheets, Items::empty(alloc)).into_vec();
+    let _ = list.as_slice();
+    list
 }
 
 fn insert_sheet(
@@ -69,10 +72,12 @@ fn remove_sheet(alloc: Global, sheets: &mut Items<Worksheet>, at: usize)
     *sheets = Items::new(list);
 }
 
-/// Takes an item of a list from one index to another.
+/// Takes an item of a list from one index to another. There is room for as many as there are, so it
+/// goes back in without a growth.
 fn move_item(list: &mut Vec<Worksheet>, from: usize, to: usize) -> Result<(), EditError>
     requires from { from < vec_len list.old }
     requires to { to < vec_len list.old }
+    requires len { vec_len list.old ≡ length list.old.items }
     ensures ok { OnOk result (list.new.items ≡ sheets_moved list.old.items from to) }
     ensures err { OnErr result (list.new.items ≡ list.old.items) }
     ensures only { IsOkUnless result NoMemory }

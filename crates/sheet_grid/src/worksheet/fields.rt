@@ -2,9 +2,8 @@
 //! another name.
 
 ghost use Rattle.std.specs.Prelude.{◌≡◌, Ok, IfOk, IsOkUnless};
-ghost use Rattle.base_values.specs.Answers.{Returns, Changes};
+ghost use Rattle.base_values.specs.Answers.{Changes};
 ghost use Rattle.base_values.specs.declared.EditError.TheVariants.{NoMemory};
-ghost use Rattle.sheet_grid.specs.Sheet.{Sheet};
 
 use super::Worksheet;
 use crate::state::SheetState;
@@ -14,7 +13,8 @@ use base_values::{EditError, Text, copy_of};
 impl Worksheet {
     /// A copy of the name of the sheet. `NoMemory` alone is an error.
     pub fn copied_name(&self) -> Result<Text, EditError>
-        ensures { Returns result (Ok self.now.name) }
+        ensures name { IfOk result (λ name. name ≡ self.now.name) }
+        ensures only { IsOkUnless result NoMemory }
     {
         copy_of(&self.name)
     }

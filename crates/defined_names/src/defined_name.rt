@@ -1,7 +1,8 @@
 ghost use Rattle.std.specs.Prelude.{◌≡◌};
-ghost use Rattle.defined_names.specs.Names.{is_scoped_to};
+ghost use Rattle.defined_names.specs.Names.{is_scoped_to, is_same_name};
 
 use base_shared::Shared;
+use base_tables::same_by_folding;
 use base_values::{Exact, Text};
 use formula_tree::Node;
 
@@ -24,6 +25,14 @@ impl DefinedName {
             Some(scope) => scope == sheet_id,
             None => false,
         }
+    }
+
+    /// Whether another name is known in the same sheet, or both are in the whole workbook, and the two
+    /// are equal by case folding.
+    pub fn is_same_name(&self, other: &DefinedName) -> bool
+        ensures { result ≡ is_same_name self.now other.now }
+    {
+        self.scope == other.scope && same_by_folding(self.name.as_str(), other.name.as_str())
     }
 }
 

@@ -165,11 +165,7 @@ impl NameList {
     }
 
     /// The names of the sheet of an id, by their places in the list. `NoMemory` alone is an error.
-    pub fn of_sheet(
-        &self,
-        alloc: Global,
-        sheet_id: u32,
-    ) -> Result<IndexMap<DefinedName>, EditError>
+    pub fn of_sheet(&self, alloc: Global, sheet_id: u32) -> Result<IndexMap<DefinedName>, EditError>
         ensures names { IfOk result (λ kept. kept ≡ kept_names sheet_id self.now) }
         ensures numbers { IfOk result AreKeptPlaced }
         ensures only { IsOkUnless result NoMemory }

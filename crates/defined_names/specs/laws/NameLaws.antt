@@ -1,11 +1,13 @@
 -- The names of a sheet that went come back, and those of a copy go; and the numbers of trees stay ones that a workbook keeps.
-use Rattle.std.proofs.Common.{◌≡◌, ℕ, ◌+◌, ◌-◌, ◌<◌, ◌==◌, Bool, true, false, cond, not, List, [], ◌∷◌, ◌++◌, length, take, drop, Option, Some, None, refl, ap, sym, subst, ◌∙◌, append_assoc, arith, nat_tests}
+use Rattle.std.proofs.Common.{◌≡◌, ℕ, ◌+◌, ◌-◌, ◌<◌, ◌==◌, Bool, true, false, cond, not, List, [], ◌∷◌, ◌++◌, length, take, drop, Option, Some, None, refl, ap, sym, subst, ◌∙◌, append_assoc, arith}
 use Rattle.std.specs.Prelude.{IfSome, All, ◌&&◌}
-use Rattle.std.specs.Cmp.{nat_cmp_total}
+use Rattle.std.specs.Cmp.{nat_cmp_total, unsigned_Decides}
+use Rattle.std.specs.declared.cmp.Ordering.TheVariants.{Less, Equal, Greater}
 use Rattle.std.specs.List.{AllByRecursion, cons_option, enumerate_from, filter, filter_map, insert, list_all}
 use Rattle.std.specs.Ordering.{is_lt, nat_cmp}
 use Rattle.std.specs.FinMap.{FinMap, entries, get, is_sorted}
 use Rattle.std.specs.FinMap.Entries.{below_all}
+use Rattle.std.proofs.lemmas.Bool.{lt-ltb}
 use Rattle.std.proofs.lemmas.List.{append-nil, length-append}
 use Rattle.std.proofs.lemmas.List.Edits.{insert-append_right}
 use Rattle.std.proofs.lemmas.List.Elements.{All-append, All-drop, All-filter, All-take, filter-append, All-from_recursion, recursion_from_All}
@@ -48,20 +50,21 @@ restored_kept kept names placed_are all = put_kept (entries kept) names (entries
 
 -- ---- places
 
+both : (a b : Bool) → a ≡ true → b ≡ true → (a && b) ≡ true
+both true b h i = i
+both false b h i = absurd (cc)
+
+lower : (m n : ℕ) → m < n → is_lt (nat_cmp m n) ≡ true
+lower m n h = ap (λ b. is_lt (cond b Less (cond (m == n) Equal Greater))) (lt-ltb m n h)
+
 -- each of the places is at least the first one
 below_placed : (id low at : ℕ) (names : List DefinedName) → low < at → below_all nat_cmp low (placed_names id at names) ≡ true
 below_placed id low at [] less = refl
 below_placed id low at (name ∷ names) less =
-    elim (is_scoped_to id name) as (λ b. below_all nat_cmp low (cond b ((at, name) ∷ placed_names id (at + 1) names) (placed_names id (at + 1) names)) ≡ true)
-    [ true ↦ both (is_lt (nat_cmp low at)) (below_all nat_cmp low (placed_names id (at + 1) names)) (lower low at less) (below_placed id low (at + 1) names (omega arith))
-    | false ↦ below_placed id low (at + 1) names (omega arith) ]
-  where
-    both : (a b : Bool) → a ≡ true → b ≡ true → (a && b) ≡ true
-    both true b h i = i
-    both false b h i = absurd (cc)
-
-    lower : (m n : ℕ) → m < n → is_lt (nat_cmp m n) ≡ true
-    lower m n h = grind (arith, nat_tests)
+    elim (is_scoped_to id name) as (λ b. below_all nat_cmp low (cond b ((at, name) ∷ placed_names id (at + 1) names) (placed_names id (at + 1) names)) ≡ true) [
+      | true ↦ both (is_lt (nat_cmp low at)) (below_all nat_cmp low (placed_names id (at + 1) names)) (lower low at less) (below_placed id low (at + 1) names (omega arith))
+      | false ↦ below_placed id low (at + 1) names (omega arith)
+    ]
 
 pub placed_rise : (id at : ℕ) (names : List DefinedName) → is_sorted nat_cmp (placed_names id at names) ≡ true
 placed_rise id at [] = refl
@@ -91,15 +94,13 @@ put_behind front rest at name is =
 put_back : (id at : ℕ) (front names : List DefinedName) → length front ≡ at → names_put (placed_names id at names) (front ++ names_left id names) ≡ front ++ names
 put_back id at front [] is = refl
 put_back id at front (name ∷ names) is =
-    elim (is_scoped_to id name) as (λ b. names_put (cond b ((at, name) ∷ placed_names id (at + 1) names) (placed_names id (at + 1) names)) (front ++ cond (not b) (name ∷ names_left id names) (names_left id names)) ≡ front ++ name ∷ names)
-    [ true ↦ ap (names_put (placed_names id (at + 1) names)) (put_behind front (names_left id names) at name is) ∙ rest
-    | false ↦ ap (names_put (placed_names id (at + 1) names)) (sym (append_assoc front (name ∷ []) (names_left id names))) ∙ rest ]
-  where
-    longer : length (front ++ name ∷ []) ≡ at + 1
-    longer = omega (arith, length-append front (name ∷ []))
-
-    rest : names_put (placed_names id (at + 1) names) ((front ++ name ∷ []) ++ names_left id names) ≡ front ++ name ∷ names
-    rest = put_back id (at + 1) (front ++ name ∷ []) names longer ∙ append_assoc front (name ∷ []) names
+    let longer : length (front ++ name ∷ []) ≡ at + 1 = omega (arith, length-append front (name ∷ [])) in
+    let rest : names_put (placed_names id (at + 1) names) ((front ++ name ∷ []) ++ names_left id names) ≡ front ++ name ∷ names =
+    put_back id (at + 1) (front ++ name ∷ []) names longer ∙ append_assoc front (name ∷ []) names in
+    elim (is_scoped_to id name) as (λ b. names_put (cond b ((at, name) ∷ placed_names id (at + 1) names) (placed_names id (at + 1) names)) (front ++ cond (not b) (name ∷ names_left id names) (names_left id names)) ≡ front ++ name ∷ names) [
+      | true ↦ ap (names_put (placed_names id (at + 1) names)) (put_behind front (names_left id names) at name is) ∙ rest
+      | false ↦ ap (names_put (placed_names id (at + 1) names)) (sym (append_assoc front (name ∷ []) (names_left id names))) ∙ rest
+    ]
 
 -- the names of a sheet that went, put back, are where they were
 pub names_come_back : (id : ℕ) (names : List DefinedName) → names_restored (kept_names id names) (names_left id names) ≡ names
@@ -108,26 +109,25 @@ names_come_back id names = ap (λ placed. names_put placed (names_left id names)
 -- ---- where a sheet is copied, and the copy goes
 
 -- where no name is one of a sheet, all are left
-pub none_left_out : (id : ℕ) (names : List DefinedName) → list_all (λ name. not (is_scoped_to id name)) names ≡ true → names_left id names ≡ names
+pub none_left_out : (id : ℕ) (names : List DefinedName) → list_all (λ (name : DefinedName). not (is_scoped_to id name)) names ≡ true → names_left id names ≡ names
 none_left_out id [] none = refl
-none_left_out id (name ∷ names) none = go (is_scoped_to id name) none
-  where
-    go : (b : Bool) → (not b && list_all (λ other. not (is_scoped_to id other)) names) ≡ true → cond (not b) (name ∷ names_left id names) (names_left id names) ≡ name ∷ names
-    go true h = absurd (cc)
-    go false h = ap (λ ns. name ∷ ns) (none_left_out id names h)
+none_left_out id (name ∷ names) none =
+    elim (is_scoped_to id name) as (λ b. (not b && list_all (λ (other : DefinedName). not (is_scoped_to id other)) names) ≡ true → cond (not b) (name ∷ names_left id names) (names_left id names) ≡ name ∷ names)
+    [ true ↦ λ h. absurd (let never : false ≡ true = h in cc) | false ↦ λ h. ap (λ ns. name ∷ ns) (none_left_out id names h) ] none
 
 copies_go : (source id : ℕ) (names : List DefinedName) → names_left id (filter_map (copied_name source id) names) ≡ []
 copies_go source id [] = refl
 copies_go source id (name ∷ names) =
-    elim (is_scoped_to source name) as (λ b. names_left id (cons_option (cond b (Some (name_in id name)) None) (filter_map (copied_name source id) names)) ≡ [])
-    [ true ↦ ap (λ same. cond (not same) (name_in id name ∷ names_left id (filter_map (copied_name source id) names)) (names_left id (filter_map (copied_name source id) names))) (own id) ∙ copies_go source id names
-    | false ↦ copies_go source id names ]
+    elim (is_scoped_to source name) as (λ b. names_left id (cons_option (cond b (Some (name_in id name)) None) (filter_map (copied_name source id) names)) ≡ []) [
+      | true ↦ ap (λ same. cond (not same) (name_in id name ∷ names_left id (filter_map (copied_name source id) names)) (names_left id (filter_map (copied_name source id) names))) (own id) ∙ copies_go source id names
+      | false ↦ copies_go source id names
+    ]
   where
     own : (n : ℕ) → (n == n) ≡ true
-    own n = grind (arith, nat_tests)
+    own n = (unsigned_Decides n n).1 refl
 
 -- without the names of a copy the names are as before
-pub copied_go : (source id : ℕ) (names : List DefinedName) → list_all (λ name. not (is_scoped_to id name)) names ≡ true → names_left id (names_copied source id names) ≡ names
+pub copied_go : (source id : ℕ) (names : List DefinedName) → list_all (λ (name : DefinedName). not (is_scoped_to id name)) names ≡ true → names_left id (names_copied source id names) ≡ names
 copied_go source id names none =
     filter-append (λ name. not (is_scoped_to id name)) names (filter_map (copied_name source id) names)
     ∙ (λ i. none_left_out id names none i ++ copies_go source id names i)

@@ -2,7 +2,7 @@ use Rattle.std.proofs.Common.{sym, subst}
 use Rattle.std.proofs.lemmas.Result.{IfOk-weaker}
 use Rattle.defined_names.specs.Names.{AreKeptPlaced}
 use Rattle.defined_names.specs.laws.NameLaws.{kept_are_kept}
-use Rattle.defined_names.proofs.of_sheets.NameList.of_sheet.Goals as goal
+use Rattle.defined_names.proofs.name_list.NameList.of_sheet.Goals as goal
 
 pub returns-clause-numbers : goal.returns-clause-numbers
 returns-clause-numbers c =

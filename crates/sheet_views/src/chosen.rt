@@ -1,6 +1,7 @@
 //! Which sheet is selected after an edit, and what of it.
 
-ghost use Rattle.std.specs.Prelude.{◌≡◌, ◌<◌, length, position, take, drop, ◌+◌};
+ghost use Rattle.std.specs.Prelude.{◌≡◌, ◌<◌, length, slice_get};
+ghost use Rattle.std.specs.List.{position};
 ghost use Rattle.std.specs.Option.{option_copied, option_map};
 ghost use Rattle.sheet_views.specs.Chosen.{id_of, id_at, is_shown, is_visible, next_visible, selected_after_delete, last_index, range_of, viewed};
 
@@ -35,7 +36,7 @@ pub fn next_visible(sheets: &[Worksheet], index: usize) -> Option<usize>
     }
 }
 
-/// The index that is selected after the sheet at an index, of so many, was deleted: the one before,
+/// The index that is selected after the sheet at an index, of so many, was deleted: the one before it,
 /// where it was the last one, else the same as before.
 pub fn selected_after_delete(count: usize, index: usize, selected: usize) -> usize
     requires { index < count }
@@ -57,10 +58,16 @@ fn id_of(sheet: Option<&Worksheet>) -> Option<u32>
     }
 }
 
+fn sheet_at(sheets: &[Worksheet], index: usize) -> Option<&Worksheet>
+    ensures { option_copied result ≡ slice_get sheets.now index }
+{
+    sheets.get(index)
+}
+
 fn id_at(sheets: &[Worksheet], index: usize) -> Option<u32>
     ensures { result ≡ id_at sheets.now index }
 {
-    id_of(sheets.get(index))
+    id_of(sheet_at(sheets, index))
 }
 
 /// The id of the sheet that a view shows.

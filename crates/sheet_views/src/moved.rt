@@ -21,9 +21,5 @@ pub fn selected_sheet_after_move(selected: u32, from: u32, to: u32) -> u32
         return to;
     }
     let rest = without(selected, from);
-    if rest >= to {
-        rest + 1
-    } else {
-        rest
-    }
+    if rest >= to { rest + 1 } else { rest }
 }

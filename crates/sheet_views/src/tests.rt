@@ -1,4 +1,6 @@
-use crate::{View, next_visible, selected_after_delete, selected_sheet_after_move, viewed, viewed_id};
+use crate::{
+    View, next_visible, selected_after_delete, selected_sheet_after_move, viewed, viewed_id,
+};
 use base_values::{EditError, Items};
 use sheet_grid::{SheetState, Worksheet};
 use std::alloc::Global;

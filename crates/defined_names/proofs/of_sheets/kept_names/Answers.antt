@@ -9,9 +9,9 @@ loop-place-preserved c =
     let id = c.args.sheet_id in
     let names = c.args.names.now in
     let i = c.loop-place.place in
-    let name = c.name-item.result in
+    let name = c.index-names-place.result in
     let within : i < length names = omega arith in
     c.in_ok-keep_name.ensures.kept
     ∙ ap (λ kept. cond (is_scoped_to id name) (fin.insert kept i name) kept) c.loop-place.invariant
-    ∙ ap (λ other. cond (is_scoped_to id other) (fin.insert (kept_names id (take i names)) i other) (kept_names id (take i names))) c.name-item.is
+    ∙ ap (λ other. cond (is_scoped_to id other) (fin.insert (kept_names id (take i names)) i other) (kept_names id (take i names))) c.index-names-place.is
     ∙ sym (kept_more id names i name within)

@@ -37,7 +37,10 @@ pub enum Diff {
         new: MergeList,
     },
     /// A field of the sheet with that id.
-    Field { sheet: u32, change: FieldChange },
+    Field {
+        sheet: u32,
+        change: FieldChange,
+    },
     /// Lines along an axis that were inserted in the sheet with that id, deleted from it or moved,
     /// and what the opposite edit does not give back.
     Lines {

@@ -58,22 +58,13 @@ fn cell_stands_at(place: Position, entry: &Option<Shared<Cell>>) -> bool
     }
 }
 
-fn index_of(workbook: &Workbook, id: u32) -> Option<usize>
-    ensures { result ≡ index_of workbook.now id }
-{
-    workbook
-        .worksheets()
-        .iter()
-        .position(|sheet| sheet.get_sheet_id() == id)
-}
-
 /// The index of the first sheet of an id. One that 32 bits do not count is not found for want of
 /// memory, since no machine holds so many sheets.
 fn sheet_index(workbook: &Workbook, id: u32) -> Result<Option<u32>, EditError>
     ensures index { IfOk result (λ index. index ≡ index_of workbook.now id) }
     ensures only { IsOkUnless result NoMemory }
 {
-    match index_of(workbook, id) {
+    match workbook.index_of(id) {
         Some(index) => match u32::try_from(index) {
             Ok(index) => Ok(Some(index)),
             Err(_) => Err(EditError::NoMemory),

@@ -116,7 +116,6 @@ nothing_in sheet (LinkKey id place) own none =
 nothing_in sheet (MergesKey id) own none =
     let parts = apart_from (MergesKey id) (map (CellKey sheet.id) (fin.keys sheet.cells)) (map (LinkKey sheet.id) (fin.keys sheet.links)) (single_keys sheet.id) none in
     absurd (true≢false (sym (own_key key_cmp key_total exact_keys (MergesKey id)) ∙ ap (λ n. eq_by_cmp key_cmp (MergesKey id) (MergesKey n)) (sym own) ∙ (neither _ _ parts.2).0))
-
 nothing_in sheet (FieldKey id field) own none =
     let parts = apart_from (FieldKey id field) (map (CellKey sheet.id) (fin.keys sheet.cells)) (map (LinkKey sheet.id) (fin.keys sheet.links)) (single_keys sheet.id) none in
     absurd (true≢false (sym (own_key key_cmp key_total exact_keys (FieldKey id field)) ∙ ap (λ n. eq_by_cmp key_cmp (FieldKey id field) (FieldKey n field)) (sym own) ∙ not_single (FieldKey id field) sheet.id field parts.2))

@@ -1,4 +1,5 @@
 mod DiffLemmas
 mod Placed
 mod ReplayLemmas
+mod SheetPlaced
 mod Standing

@@ -60,7 +60,7 @@ fn cell_stands_at(place: Position, entry: &Option<Shared<Cell>>) -> bool
 
 /// The index of the first sheet of an id. One that 32 bits do not count is not found for want of
 /// memory, since no machine holds so many sheets.
-fn sheet_index(workbook: &Workbook, id: u32) -> Result<Option<u32>, EditError>
+pub(crate) fn sheet_index(workbook: &Workbook, id: u32) -> Result<Option<u32>, EditError>
     ensures index { IfOk result (λ index. index ≡ index_of workbook.now id) }
     ensures only { IsOkUnless result NoMemory }
 {

@@ -3,6 +3,7 @@
 ghost use Rattle.std.specs.Prelude.{◌≡◌};
 ghost use Rattle.std.specs.List.{list_all, list_any};
 ghost use Rattle.cell_content.specs.Fitting.{tree_fits_at};
+ghost use Rattle.defined_names.specs.declared.DefinedName.{DefinedName};
 ghost use Rattle.defined_names.specs.Legal.{is_defined_name};
 ghost use Rattle.defined_names.specs.Names.{is_same_name};
 ghost use Rattle.sheet_rules.specs.Names.{first_place, have_name_trees, has_living_scope, are_names};
@@ -35,7 +36,7 @@ fn is_legal(name: &DefinedName) -> bool
 }
 
 fn are_legal(names: &[DefinedName]) -> bool
-    ensures { result ≡ list_all (λ name. is_defined_name name.name) names.now }
+    ensures { result ≡ list_all (λ (name : DefinedName). is_defined_name name.name) names.now }
 {
     names.iter().all(is_legal)
 }

@@ -1,7 +1,4 @@
 // Which rule workbooks break. What is expected was taken from the rules of docs/MODEL.md.
-ghost use Rattle.std.specs.Prelude.{OnOk};
-ghost use Rattle.defined_names.specs.Names.{AreKeptNames};
-
 use crate::broken_rule;
 use base_axis::MergedCell;
 use base_shared::Shared;
@@ -9,7 +6,7 @@ use base_styles::Style;
 use base_tables::{Locale, Zone};
 use base_values::{EditError, Items, Text, copy_of};
 use cell_content::Content;
-use defined_names::DefinedName;
+use defined_names::{DefinedName, NameList};
 use formula_tree::{Corner, Node, has_kept_numbers};
 use sheet_grid::{Cell, ColumnAttr, DefaultStyle, RowAttr, Workbook, Worksheet};
 use std::alloc::Global;
@@ -286,17 +283,14 @@ fn occupied(rt: HostRuntime) -> Result<(), Fail> {
     Ok(())
 }
 
-/// Puts a name for TRUE behind others.
+/// Puts a name behind others, whose tree has no number that is not kept.
 fn push_name(
     alloc: Global,
-    names: &mut Items<DefinedName>,
+    names: &mut NameList,
     name: &str,
     scope: Option<u32>,
-) -> Result<(), EditError>
-    requires { AreKeptNames names.old }
-    ensures { OnOk result (AreKeptNames names.new) }
-{
-    let formula = Node::Boolean(true);
+    formula: Node,
+) -> Result<(), EditError> {
     if has_kept_numbers(&formula) {
         names.push(DefinedName {
             name: Text::new(String::from_str(alloc, name)?),
@@ -313,17 +307,17 @@ fn broken_by_names(
     first: (&str, Option<u32>),
     second: (&str, Option<u32>),
 ) -> Result<Option<u8>, EditError> {
-    let mut names = Items::empty(alloc);
-    push_name(alloc, &mut names, first.0, first.1)?;
-    push_name(alloc, &mut names, second.0, second.1)?;
+    let mut names = NameList::empty(alloc);
+    push_name(alloc, &mut names, first.0, first.1, Node::Boolean(true))?;
+    push_name(alloc, &mut names, second.0, second.1, Node::Boolean(true))?;
     let mut book = Workbook::new_empty(alloc, "book", Locale::En, Zone::Utc)?;
-    book.set_defined_names(names);
+    book.set_name_list(names);
     Ok(broken_rule(&book))
 }
 
 /// Which defined names may stand beside each other.
 #[test]
-fn defined_names(rt: HostRuntime) -> Result<(), Fail> {
+fn names_beside_each_other(rt: HostRuntime) -> Result<(), Fail> {
     for (first, second, rule) in [
         (("Rate", None), ("Tax", None), None),
         (("Rate", None), ("rate", None), Some(8)),
@@ -349,17 +343,11 @@ fn broken_by_tree(alloc: Global, row: i32) -> Result<Option<u8>, EditError> {
         absolute_column: false,
         column: 0,
     };
+    let mut names = NameList::empty(alloc);
     let formula = Node::Reference(None, corner);
+    push_name(alloc, &mut names, "Rate", None, formula)?;
     let mut book = Workbook::new_empty(alloc, "book", Locale::En, Zone::Utc)?;
-    if has_kept_numbers(&formula) {
-        let mut names = Items::empty(alloc);
-        names.push(DefinedName {
-            name: Text::new(String::from_str(alloc, "Rate")?),
-            scope: None,
-            formula: Shared::new(alloc, formula)?,
-        })?;
-        book.set_defined_names(names);
-    }
+    book.set_name_list(names);
     Ok(broken_rule(&book))
 }
 

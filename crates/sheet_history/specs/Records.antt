@@ -22,7 +22,7 @@ use Rattle.sheet_history.specs.declared.field.SheetField.{SheetField}
 use Rattle.sheet_history.specs.declared.field.SheetField.TheVariants as value
 use Rattle.sheet_history.specs.declared.field.FieldChange.TheVariants as change
 use Rattle.sheet_history.specs.contracts.field.SheetFieldPartialEq.TheImpl as field
-use Rattle.sheet_history.specs.declared.diff.Diff.TheVariants.{Cell as CellDiff, Link as LinkDiff, Merges as MergesDiff, Field as FieldDiff, Lines as LinesDiff}
+use Rattle.sheet_history.specs.declared.diff.Diff.TheVariants.{Cell as CellDiff, Link as LinkDiff, Merges as MergesDiff, Field as FieldDiff, Lines as LinesDiff, NewSheet as NewDiff, DuplicateSheet as CopyDiff, DeleteSheet as DeletionDiff, MoveSheet as MoveDiff}
 use Rattle.sheet_history.specs.Entries.{EntryKey, EntryValue, key_cmp, entry_at, frame_of}
 use Rattle.sheet_history.specs.Entries.EntryKey.{CellKey, LinkKey, MergesKey, FieldKey}
 use Rattle.sheet_history.specs.Entries.EntryValue.{CellValue, LinkValue, MergesValue, FieldValue}
@@ -53,6 +53,10 @@ change_of (LinkDiff sheet place old new) = Some (LinkKey sheet place, (LinkValue
 change_of (MergesDiff sheet old new) = Some (MergesKey sheet, (MergesValue old, MergesValue new))
 change_of (FieldDiff sheet change) = Some (FieldKey sheet (changed_field change), (FieldValue (old_of change), FieldValue (new_of change)))
 change_of (LinesDiff sheet axis edit kept) = None
+change_of (NewDiff sheet index name) = None
+change_of (CopyDiff source sheet index name) = None
+change_of (DeletionDiff index kept) = None
+change_of (MoveDiff sheet from to) = None
 
 -- a list has, in the order of their keys, exactly the entries in which the later workbook differs from the earlier one, which
 -- differ in nothing else

@@ -10,7 +10,7 @@ use Rattle.sheet_rules.specs.Occupied.{may_stand}
 use Rattle.sheet_rules.specs.WellFormed.{has_font}
 use Rattle.sheet_lines.specs.Sheets.{sheet_of}
 use Rattle.sheet_history.specs.declared.diff.Diff.{Diff}
-use Rattle.sheet_history.specs.declared.diff.Diff.TheVariants.{Cell as CellDiff, Link as LinkDiff, Merges as MergesDiff, Field as FieldDiff, Lines as LinesDiff}
+use Rattle.sheet_history.specs.declared.diff.Diff.TheVariants.{Cell as CellDiff, Link as LinkDiff, Merges as MergesDiff, Field as FieldDiff, Lines as LinesDiff, NewSheet as NewDiff, DuplicateSheet as CopyDiff, DeleteSheet as DeletionDiff, MoveSheet as MoveDiff}
 
 -- what is put, a cell or none, has a font of at least size 1
 abbrev pub entry_has_font : Option Cell → Bool
@@ -39,6 +39,10 @@ keeps_rules book (LinkDiff id place old new ∷ []) = true
 keeps_rules book (MergesDiff id old new ∷ []) = false
 keeps_rules book (FieldDiff id change ∷ []) = true
 keeps_rules book (LinesDiff id axis edit kept ∷ []) = false
+keeps_rules book (NewDiff sheet index name ∷ []) = false
+keeps_rules book (CopyDiff source sheet index name ∷ []) = false
+keeps_rules book (DeletionDiff index kept ∷ []) = false
+keeps_rules book (MoveDiff sheet from to ∷ []) = false
 keeps_rules book (first ∷ second ∷ rest) = false
 
 -- and one that leaves one for sure where it is taken back
@@ -49,4 +53,8 @@ keeps_rules_back book (LinkDiff id place old new ∷ []) = true
 keeps_rules_back book (MergesDiff id old new ∷ []) = false
 keeps_rules_back book (FieldDiff id change ∷ []) = true
 keeps_rules_back book (LinesDiff id axis edit kept ∷ []) = false
+keeps_rules_back book (NewDiff sheet index name ∷ []) = false
+keeps_rules_back book (CopyDiff source sheet index name ∷ []) = false
+keeps_rules_back book (DeletionDiff index kept ∷ []) = false
+keeps_rules_back book (MoveDiff sheet from to ∷ []) = false
 keeps_rules_back book (first ∷ second ∷ rest) = false

@@ -10,6 +10,9 @@ ghost use Rattle.sheet_history.specs.Diffs.{IsKeptDiff, IsKeptList, backed, by_r
 
 use crate::diff::{Diff, DiffList, LineAxis};
 use crate::line_diffs::{lines_back, lines_forward};
+use crate::sheet_diffs::{
+    copy_back, copy_forward, deletion_back, deletion_forward, new_back, new_forward, sheet_moves,
+};
 use crate::put::{put_cell, put_field, put_link, put_merges};
 use base_axis::{ColumnAxis, RowAxis};
 use base_values::{EditError, copy_of};
@@ -105,6 +108,17 @@ fn apply_forward(
             edit,
             kept,
         } => edit_forward(alloc, workbook, *sheet, *axis, *edit, kept.get(), at),
+        Diff::NewSheet { sheet, index, name } => {
+            new_forward(alloc, workbook, *sheet, *index, name.as_str(), at)
+        }
+        Diff::DuplicateSheet {
+            source,
+            sheet,
+            index,
+            name,
+        } => copy_forward(workbook, *source, *sheet, *index, name.as_str(), at),
+        Diff::DeleteSheet { index: _, kept } => deletion_forward(alloc, workbook, kept.get(), at),
+        Diff::MoveSheet { sheet, from, to } => sheet_moves(workbook, *sheet, *from, *to, at),
     }
 }
 
@@ -136,6 +150,19 @@ fn apply_back(alloc: Global, workbook: &mut Workbook, diff: &Diff, at: u64) -> R
             edit,
             kept,
         } => edit_back(alloc, workbook, *sheet, *axis, *edit, kept.get(), at),
+        Diff::NewSheet {
+            sheet,
+            index: _,
+            name: _,
+        } => new_back(workbook, *sheet, at),
+        Diff::DuplicateSheet {
+            source: _,
+            sheet,
+            index: _,
+            name: _,
+        } => copy_back(alloc, workbook, *sheet, at),
+        Diff::DeleteSheet { index, kept } => deletion_back(workbook, *index, kept.get(), at),
+        Diff::MoveSheet { sheet, from, to } => sheet_moves(workbook, *sheet, *to, *from, at),
     }
 }
 

@@ -13,6 +13,7 @@ mod laws;
 mod line_diffs;
 mod put;
 mod replay;
+mod sheet_diffs;
 
 pub use apply::{back, back_in_place, forward, forward_in_place};
 pub use diff::{Diff, DiffList, DiffType, LineAxis, QueueDiffs};

@@ -17,7 +17,7 @@ use Rattle.sheet_history.specs.Entries.EntryValue.{CellValue, LinkValue, FieldVa
 use Rattle.sheet_history.specs.Untested.{cell_keeps_rules, entry_has_font, may_stand_on, keeps_rules, keeps_rules_back}
 use Rattle.sheet_history.specs.laws.RuleLaws.{well_formed-cell, well_formed-link, well_formed-field}
 use Rattle.sheet_history.specs.declared.diff.Diff.{Diff}
-use Rattle.sheet_history.specs.declared.diff.Diff.TheVariants.{Cell as CellDiff, Link as LinkDiff, Merges as MergesDiff, Field as FieldDiff, Lines as LinesDiff}
+use Rattle.sheet_history.specs.declared.diff.Diff.TheVariants.{Cell as CellDiff, Link as LinkDiff, Merges as MergesDiff, Field as FieldDiff, Lines as LinesDiff, NewSheet as NewDiff, DuplicateSheet as CopyDiff, DeleteSheet as DeletionDiff, MoveSheet as MoveDiff}
 use Rattle.sheet_history.specs.declared.diff.DiffType.{DiffType}
 use Rattle.sheet_history.specs.declared.diff.DiffType.TheVariants.{Undo, Redo}
 use Rattle.sheet_history.specs.declared.field.SheetField.{SheetField}
@@ -89,6 +89,10 @@ made_rules book (LinkDiff id place old new ∷ []) keeps rules next is = link_ru
 made_rules book (MergesDiff id old new ∷ []) keeps rules next is = absurd (cc)
 made_rules book (FieldDiff id change ∷ []) keeps rules next is = field_rules 0 book id (changed_field change) (new_of change) next rules (sym (and_then-Ok _) ∙ is)
 made_rules book (LinesDiff id axis edit kept ∷ []) keeps rules next is = absurd (cc)
+made_rules book (NewDiff id index name ∷ []) keeps rules next is = absurd (cc)
+made_rules book (CopyDiff source id index name ∷ []) keeps rules next is = absurd (cc)
+made_rules book (DeletionDiff index kept ∷ []) keeps rules next is = absurd (cc)
+made_rules book (MoveDiff id from to ∷ []) keeps rules next is = absurd (cc)
 made_rules book (first ∷ second ∷ rest) keeps rules next is = absurd (cc)
 
 taken_back_rules : (book : Book) (diffs : List Diff) → keeps_rules_back book diffs ≡ true → IsWellFormed book → (next : Book) → taken_back book diffs ≡ Ok next → IsWellFormed next
@@ -98,6 +102,10 @@ taken_back_rules book (LinkDiff id place old new ∷ []) keeps rules next is = l
 taken_back_rules book (MergesDiff id old new ∷ []) keeps rules next is = absurd (cc)
 taken_back_rules book (FieldDiff id change ∷ []) keeps rules next is = field_rules 0 book id (changed_field change) (old_of change) next rules is
 taken_back_rules book (LinesDiff id axis edit kept ∷ []) keeps rules next is = absurd (cc)
+taken_back_rules book (NewDiff id index name ∷ []) keeps rules next is = absurd (cc)
+taken_back_rules book (CopyDiff source id index name ∷ []) keeps rules next is = absurd (cc)
+taken_back_rules book (DeletionDiff index kept ∷ []) keeps rules next is = absurd (cc)
+taken_back_rules book (MoveDiff id from to ∷ []) keeps rules next is = absurd (cc)
 taken_back_rules book (first ∷ second ∷ rest) keeps rules next is = absurd (cc)
 
 -- the result of such a list needs no test

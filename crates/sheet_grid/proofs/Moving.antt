@@ -1,5 +1,5 @@
 -- A sheet that is taken from one index to another.
-use Rattle.std.proofs.Common.{◌≡◌, ℕ, ◌<◌, Bool, cond, List, length, get_or, Result, Ok, Err, refl, ap}
+use Rattle.std.proofs.Common.{◌≡◌, ℕ, ◌<◌, Bool, cond, List, length, get_or, Result, refl, ap, ◌∙◌}
 use Rattle.std.specs.Prelude.{IsOk, is_ok}
 use Rattle.std.specs.List.{insert, remove}
 use Rattle.std.specs.Option.{option_map_or}
@@ -9,8 +9,7 @@ use Rattle.sheet_grid.specs.Book.{sheets_moved}
 
 -- what a call leaves that has gone well
 pub gone_well : {A E X : Type 0} (result : Result A E) (x y z : X) → IsOk result → z ≡ cond (is_ok result) x y → z ≡ x
-gone_well (Ok value) x y z fine is = is
-gone_well (Err error) x y z fine is = absurd fine
+gone_well result x y z fine is = is ∙ ap (λ b. cond b x y) fine
 
 -- the sheet that stands at the index is taken out, and put in
 pub moved_is : (sheets : List Sheet) (from to : ℕ) (sheet : Sheet) → from < length sheets → sheet ≡ get_or sheets from sheet → sheets_moved sheets from to ≡ insert (remove sheets from) to sheet

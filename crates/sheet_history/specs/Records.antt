@@ -19,9 +19,9 @@ use Rattle.sheet_lines.specs.Kept.{kept_lines}
 use Rattle.sheet_history.specs.declared.diff.Diff.{Diff}
 use Rattle.sheet_history.specs.declared.diff.LineAxis.{LineAxis}
 use Rattle.sheet_history.specs.declared.field.SheetField.{SheetField}
-use Rattle.sheet_history.specs.declared.field.SheetField.TheVariants as value
-use Rattle.sheet_history.specs.declared.field.FieldChange.TheVariants as change
-use Rattle.sheet_history.specs.contracts.field.SheetFieldPartialEq.TheImpl as field
+use Rattle.sheet_history.specs.declared.field.SheetField.TheVariants as field_value
+use Rattle.sheet_history.specs.declared.field.FieldChange.TheVariants as field_change
+use Rattle.sheet_history.specs.contracts.field.SheetFieldPartialEq.TheImpl as sheet_field
 use Rattle.sheet_history.specs.declared.diff.Diff.TheVariants.{Cell as CellDiff, Link as LinkDiff, Merges as MergesDiff, Field as FieldDiff, Lines as LinesDiff, NewSheet as NewDiff, DuplicateSheet as CopyDiff, DeleteSheet as DeletionDiff, MoveSheet as MoveDiff}
 use Rattle.sheet_history.specs.Entries.{EntryKey, EntryValue, key_cmp, entry_at, frame_of}
 use Rattle.sheet_history.specs.Entries.EntryKey.{CellKey, LinkKey, MergesKey, FieldKey}
@@ -34,7 +34,7 @@ abbrev pub same_entry_value : EntryValue → EntryValue → Bool
 same_entry_value (CellValue a) (CellValue b) = same_entry a b
 same_entry_value (LinkValue a) (LinkValue b) = option_eq link.ghosts.eq a b
 same_entry_value (MergesValue a) (MergesValue b) = pointwise merged.ghosts.eq a b
-same_entry_value (FieldValue a) (FieldValue b) = field.ghosts.eq a b
+same_entry_value (FieldValue a) (FieldValue b) = sheet_field.ghosts.eq a b
 same_entry_value _ _ = false
 
 -- the entry before and after, where they differ
@@ -69,9 +69,9 @@ pub record IsRecord (earlier later : Book) (diffs : List Diff) : Type 0 where
 
 -- the diff of a field: its values are of one field
 abbrev pub field_diff : ℕ → SheetField → SheetField → List Diff
-field_diff sheet (value.State old) (value.State new) = FieldDiff sheet (change.State old new) ∷ []
-field_diff sheet (value.Color old) (value.Color new) = FieldDiff sheet (change.Color old new) ∷ []
-field_diff sheet (value.GridLines old) (value.GridLines new) = FieldDiff sheet (change.GridLines old new) ∷ []
+field_diff sheet (field_value.State old) (field_value.State new) = FieldDiff sheet (field_change.State old new) ∷ []
+field_diff sheet (field_value.Color old) (field_value.Color new) = FieldDiff sheet (field_change.Color old new) ∷ []
+field_diff sheet (field_value.GridLines old) (field_value.GridLines new) = FieldDiff sheet (field_change.GridLines old new) ∷ []
 field_diff _ _ _ = []
 
 -- the diff of a change: its values are of its key's kind

@@ -12,7 +12,7 @@ use Rattle.sheet_history.specs.Entries.{EntryKey, Rank, rank_of, rank_cmp, key_c
 use Rattle.sheet_history.specs.Entries.EntryKey.{CellKey, LinkKey, MergesKey, FieldKey}
 use Rattle.sheet_history.specs.Entries.EntryValue.{CellValue, LinkValue, MergesValue, FieldValue}
 use Rattle.sheet_history.specs.declared.field.FieldChange.{FieldChange}
-use Rattle.sheet_history.specs.declared.field.FieldChange.TheVariants as change
+use Rattle.sheet_history.specs.declared.field.FieldChange.TheVariants as field_change
 use Rattle.sheet_history.specs.Fields.{old_of, new_of, changed_field}
 use Rattle.sheet_history.specs.Fields.Field.{ColorField, StateField, GridField}
 use Rattle.sheet_history.specs.Records.{Change, change_of, field_diff, diff_of, IsRecord}
@@ -56,9 +56,9 @@ holds b e = subst T (sym e) tt
 
 -- the diff of the two values of a change is that of the change
 own_diff : (sheet : ℕ) (one : FieldChange) → field_diff sheet (old_of one) (new_of one) ≡ FieldDiff sheet one ∷ []
-own_diff sheet (change.State old new) = refl
-own_diff sheet (change.Color old new) = refl
-own_diff sheet (change.GridLines old new) = refl
+own_diff sheet (field_change.State old new) = refl
+own_diff sheet (field_change.Color old new) = refl
+own_diff sheet (field_change.GridLines old new) = refl
 
 -- a diff is the one of its change
 pub diff_of-change_of : (diff : Diff) (change : Change) → change_of diff ≡ Some change → diff_of change.0 change.1.0 change.1.1 ≡ diff ∷ []

@@ -180,8 +180,9 @@ def main():
     _, _, _, fast_read = pair(f"bytes of a formula, read {READS} times", long_formula)
     _, _, _, fast_print = pair("arguments printed in five forms", printed_call, PRINTER, (FEW, MANY))
     _, _, _, fast_names = pair("bound names printed for Excel", printed_names, PRINTER, (FEW, MANY))
-    all_fast = fast and fast_back and fast_sync and fast_set and fast_read and fast_print and fast_names and fast_lines and fast_records
-    sys.exit(0 if all_fast else 1)
+    scripts = [fast, fast_back, fast_sync, fast_set, fast_read, fast_records]
+    programs = [fast_print, fast_names, fast_lines]
+    sys.exit(0 if all(scripts + programs) else 1)
 
 
 if __name__ == "__main__":

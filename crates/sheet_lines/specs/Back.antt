@@ -20,7 +20,8 @@ use Rattle.sheet_grid.specs.declared.Cell.{Cell}
 use Rattle.sheet_grid.specs.Sheet.{Sheet}
 use Rattle.sheet_grid.specs.Book.{Book}
 use Rattle.sheet_lines.specs.declared.kept.KeptLines.{KeptLines}
-use Rattle.sheet_lines.specs.Followed.{way_of_edit}
+use Rattle.sheet_lines.specs.Followed.{way_of_edit, book_followed}
+use Rattle.sheet_lines.specs.Kept.{kept_lines}
 use Rattle.sheet_lines.specs.Sheets.{IsPlacedCell}
 
 -- what came back, on the edited sheet with the lost entries in place of its own
@@ -48,6 +49,10 @@ abbrev pub book_back : Along → EditKind → ℕ → KeptLines → Book → Boo
 book_back a e id kept book = record book {
   worksheets = map (λ sheet. sheet_back (way_of_edit a e id book sheet) kept sheet) book.worksheets;
 }
+
+-- a workbook after an edit of the lines of the sheet of an id was made and taken back with what was kept
+abbrev pub there_and_back : Along → EditKind → ℕ → Book → Book
+there_and_back a e id book = book_back a e id (kept_lines a e id book) (book_followed a e id book)
 
 -- the keys and the merges of what is kept lie inside the sheet
 pub record LieInside (a : Along) (kept : KeptLines) : Type 0 where

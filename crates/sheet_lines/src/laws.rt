@@ -6,10 +6,9 @@ ghost use Rattle.line_edits.specs.Moves.{edit_moves};
 ghost use Rattle.line_map.specs.Maps.{entry_lost};
 ghost use Rattle.line_map.specs.Merges.{merges_part};
 ghost use Rattle.sheet_grid.specs.Sheet.{Sheet};
-ghost use Rattle.sheet_lines.specs.Back.{book_back};
+ghost use Rattle.sheet_lines.specs.Back.{there_and_back};
 ghost use Rattle.sheet_lines.specs.Entries.{CarriesCells, KeepsTree, OfEdited, line_lost};
-ghost use Rattle.sheet_lines.specs.Followed.{way_of, book_followed};
-ghost use Rattle.sheet_lines.specs.Kept.{kept_lines};
+ghost use Rattle.sheet_lines.specs.Followed.{way_of};
 ghost use Rattle.sheet_lines.specs.Sheets.{HasDistinctIds};
 
 use base_axis::Axis;
@@ -21,7 +20,7 @@ use sheet_grid::Workbook;
 pub fn edit_and_back<A: Axis>(workbook: &Workbook, sheet_id: u32, edit: &LineEdit<A>)
     requires valid { IsValid A.along.last edit.now.kind }
     requires distinct { HasDistinctIds workbook.now }
-    ensures { book_back A.along edit.now.kind sheet_id (kept_lines A.along edit.now.kind sheet_id workbook.now) (book_followed A.along edit.now.kind sheet_id workbook.now) ≡ workbook.now }
+    ensures { there_and_back A.along edit.now.kind sheet_id workbook.now ≡ workbook.now }
 {
     let _ = workbook;
     let _ = sheet_id;

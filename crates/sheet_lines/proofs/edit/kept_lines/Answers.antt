@@ -47,7 +47,8 @@ returns-clause-kept g c =
     let found : sheet_of book edited.id ≡ Some sheet = sym c.sheet_of.ensures ∙ ap option_copied c.in-Some.is in
     let it : (sheet.id == edited.id) ≡ true = found_passes (λ s. s.id == edited.id) book.worksheets sheet found in
     λ i. record {
-      cells = (lost_are a moves edited.id book sheet c.unwrap.result found (sym c.requires.lost ∙ c.unwrap.ensures) ∙ sym (ap (of_sheet (cells_lost a moves)) found)) i;
+      cells = (lost_are a moves edited.id book sheet c.unwrap.result found (sym c.requires.lost ∙ c.unwrap.ensures)
+          ∙ sym (ap (of_sheet (cells_lost a moves)) found)) i;
       links = (c.in_ok-links.ensures.links
           ∙ lost_places (way_on edited sheet) it sheet.links
           ∙ sym (ap (of_sheet (λ s. lost_map (place_image a moves.to) s.links)) found)) i;

@@ -3,7 +3,7 @@
 
 Run ./run once before, and `rt run <stdin` in crates/bench_formulas and crates/bench_lines, so that the
 programs are built. The second input of each pair is ten times as long; the aim is that it takes at
-most 25 times as long, and 30 times where lines are edited and taken back.
+most 25 times as long, and 30 times where lines are edited by themselves.
 The memory is the greatest resident set of the run.
 """
 
@@ -124,16 +124,26 @@ def edit_times(edit, count):
     return edited, back
 
 
-def line_edits():
+def recorded_times(edit, count):
+    """The same through the user model: an edit with its record, and an undo, in scripts of the program."""
+    script = formulas(count)
+    edits = [f"{edit} 0 3 1" + (" 1" if edit.startswith("move") else "")] * LINE_ROUNDS
+    built, _, _ = run(EDITOR, script)
+    edited = run(EDITOR, script + edits)[0] - built
+    back = run(EDITOR, script + edits + ["undo"] * LINE_ROUNDS)[0] - built - edited
+    return edited, back
+
+
+def line_edits(times, what, aim):
     """How the time of each edit of lines grows, and of going back."""
     fast = True
     for edit in LINE_EDITS:
-        for name, small, large in zip((edit, f"{edit}, taken back"), edit_times(edit, SMALL), edit_times(edit, LARGE)):
+        for name, small, large in zip((edit, f"{edit}, taken back"), times(edit, SMALL), times(edit, LARGE)):
             ratio = large / small
-            state = "ok" if ratio <= LINE_AIM else "TOO SLOW"
-            print(f"{name}: {SMALL} and {LARGE} formulas, ratio {ratio:.1f} (at most {LINE_AIM}: {state})")
+            state = "ok" if ratio <= aim else "TOO SLOW"
+            print(f"{name}, {what}: {SMALL} and {LARGE} formulas, ratio {ratio:.1f} (at most {aim}: {state})")
             print(f"  {large / LINE_ROUNDS / LARGE * 1e9:.0f} ns a formula")
-            fast = fast and ratio <= LINE_AIM
+            fast = fast and ratio <= aim
     return fast
 
 
@@ -156,7 +166,8 @@ def main():
         sys.exit("bench: build the printing program first, by `rt run <stdin` in crates/bench_formulas")
     if not os.path.exists(LINES):
         sys.exit("bench: build the program of line edits first, by `rt run <stdin` in crates/bench_lines")
-    fast_lines = line_edits()
+    fast_lines = line_edits(edit_times, "by itself", LINE_AIM)
+    fast_records = line_edits(recorded_times, "through the user model", AIM)
     seconds, _, memory, fast = pair("sets", sets)
     print(f"  {seconds / LARGE * 1e9:.0f} ns an edit, at most {memory / LARGE:.0f} bytes a set cell in all")
     _, _, _, fast_back = pair("sets, undos and redos", all_and_back)
@@ -169,8 +180,9 @@ def main():
     _, _, _, fast_read = pair(f"bytes of a formula, read {READS} times", long_formula)
     _, _, _, fast_print = pair("arguments printed in five forms", printed_call, PRINTER, (FEW, MANY))
     _, _, _, fast_names = pair("bound names printed for Excel", printed_names, PRINTER, (FEW, MANY))
-    all_fast = fast and fast_back and fast_sync and fast_set and fast_read and fast_print and fast_names and fast_lines
-    sys.exit(0 if all_fast else 1)
+    scripts = [fast, fast_back, fast_sync, fast_set, fast_read, fast_records]
+    programs = [fast_print, fast_names, fast_lines]
+    sys.exit(0 if all(scripts + programs) else 1)
 
 
 if __name__ == "__main__":

@@ -7,6 +7,8 @@ use base_values::EditError;
 use std::alloc::Global;
 use user_model::{ClearAll, UserModel};
 
+type Budget = UserModel<ClearAll>;
+
 /// What the template is filled with: a row, what stands in its first column, and what in its second.
 const LINES: [(i32, &str, &str); 5] = [
     (1, "Expense", "A month"),
@@ -17,51 +19,73 @@ const LINES: [(i32, &str, &str); 5] = [
 ];
 
 /// A new workbook in English, whose formulas are kept and not computed.
-fn new_budget(alloc: Global) -> Result<UserModel<ClearAll>, EditError> {
+fn new_budget(alloc: Global) -> Result<Budget, EditError> {
     UserModel::new_empty(alloc, "budget", "en", "UTC", "en", ClearAll)
 }
 
-fn fill(model: &mut UserModel<ClearAll>) -> Result<(), EditError> {
+fn put_line(model: &mut Budget, row: i32, name: &str, amount: &str) -> Result<(), EditError> {
+    model.set_user_input(0, row, 1, name)?;
+    model.set_user_input(0, row, 2, amount)
+}
+
+fn fill(model: &mut Budget) -> Result<(), EditError> {
     for (row, name, amount) in LINES {
-        model.set_user_input(0, row, 1, name)?;
-        model.set_user_input(0, row, 2, amount)?;
+        put_line(model, row, name, amount)?;
     }
     Ok(())
 }
 
 /// One more expense above the one in the third row. The total follows.
-fn insert_power(model: &mut UserModel<ClearAll>) -> Result<(), EditError> {
+fn insert_power(model: &mut Budget) -> Result<(), EditError> {
     model.insert_rows(0, 3, 1)?;
-    model.set_user_input(0, 3, 1, "Power")?;
-    model.set_user_input(0, 3, 2, "75")
+    put_line(model, 3, "Power", "75")
 }
 
-/// The first rows of the workbook, as a user would type them.
-fn shown(alloc: Global, model: &UserModel<ClearAll>, rows: i32) -> Result<String, EditError> {
-    let mut text = String::new(alloc);
+/// The row and its two texts are three steps.
+fn take_power_back(model: &mut Budget) -> Result<(), EditError> {
+    model.undo()?;
+    model.undo()?;
+    model.undo()
+}
+
+/// Sends what was done to a copy.
+fn send(from: &mut Budget, to: &mut Budget) -> Result<(), EditError> {
+    let bytes = from.flush_send_queue()?;
+    to.apply_external_diffs(&bytes)
+}
+
+/// A title, and below it the first rows of the workbook as a user would type them.
+fn show(text: &mut String, title: &str, model: &Budget, rows: i32) -> Result<(), EditError> {
+    text.push_str(title)?;
     for row in 1..=rows {
         text.push_str(model.get_cell_content(0, row, 1)?.as_str())?;
         text.push('\t')?;
         text.push_str(model.get_cell_content(0, row, 2)?.as_str())?;
         text.push('\n')?;
     }
+    Ok(text.push('\n')?)
+}
+
+/// Fills the first copy, takes a row in and back, sends all to the second, and shows both.
+fn tell(text: &mut String, first: &mut Budget, second: &mut Budget) -> Result<(), EditError> {
+    fill(first)?;
+    insert_power(first)?;
+    show(text, "With one more row:\n", first, 6)?;
+    take_power_back(first)?;
+    send(first, second)?;
+    show(text, "Without it:\n", first, 5)?;
+    show(text, "The second copy:\n", second, 5)
+}
+
+fn report(alloc: Global) -> Result<String, EditError> {
+    let mut text = String::new(alloc);
+    let mut first = new_budget(alloc)?;
+    let mut second = new_budget(alloc)?;
+    tell(&mut text, &mut first, &mut second)?;
     Ok(text)
 }
 
 fn main(rt: HostRuntime) -> Result<()> {
-    let alloc = rt.alloc();
-    let mut first = new_budget(alloc)?;
-    let mut second = new_budget(alloc)?;
-    fill(&mut first)?;
-    insert_power(&mut first)?;
-    println!(rt; "With one more row:\n{}", shown(alloc, &first, 6)?.as_str())?;
-    // The two texts and the row are three steps.
-    for _ in 0..3 {
-        first.undo()?;
-    }
-    let bytes = first.flush_send_queue()?;
-    second.apply_external_diffs(&bytes)?;
-    println!(rt; "Without it:\n{}", shown(alloc, &first, 5)?.as_str())?;
-    println!(rt; "The second copy:\n{}", shown(alloc, &second, 5)?.as_str())?;
+    print!(rt; "{}", report(rt.alloc())?.as_str())?;
     Ok(())
 }

@@ -49,6 +49,14 @@ impl Model {
         &self.workbook
     }
 
+    /// The workbook as it is now, without a copy.
+    pub fn into_workbook(self) -> Workbook
+        ensures now { result ≡ book_of self }
+        ensures rules { IsWellFormed (book_of self) }
+    {
+        self.workbook
+    }
+
     /// Edits lines of the sheet of an id.
     fn edit_lines<A: Axis>(&mut self, id: u32, edit: &LineEdit<A>) -> Result<(), EditError>
         requires valid { IsValid A.along.last edit.now.kind }

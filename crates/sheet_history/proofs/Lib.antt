@@ -1,5 +1,4 @@
 mod DiffLemmas
 mod Placed
-mod ReplayLemmas
 mod SheetPlaced
 mod Standing

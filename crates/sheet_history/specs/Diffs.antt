@@ -1,8 +1,8 @@
 -- What diffs do to a workbook, forward and back.
-use Rattle.std.proofs.Common.{◌≡◌, ◌≢◌, ℕ, ◌+◌, List, [], ◌∷◌, length, take, Option, Some, None, Result, Ok, Err}
-use Rattle.std.specs.Prelude.{IfSome, IfErr, OnOk, All, if◌then◌else◌}
+use Rattle.std.proofs.Common.{ℕ, ◌+◌, List, [], ◌∷◌, length, Option, Some, None, Result, Ok, Err}
+use Rattle.std.specs.Prelude.{IfSome, All, if◌then◌else◌}
 use Rattle.base_values.specs.declared.EditError.{EditError}
-use Rattle.base_values.specs.declared.EditError.TheVariants.{DiffRefused, NoMemory}
+use Rattle.base_values.specs.declared.EditError.TheVariants.{DiffRefused}
 use Rattle.base_values.specs.Answers.{and_then}
 use Rattle.sheet_grid.specs.Book.{Book}
 use Rattle.sheet_grid.specs.Sheet.{Sheet}
@@ -111,23 +111,6 @@ replayed_from at book (entry ∷ entries) = and_then (in_entry at (follow entry.
 -- the workbook after all entries of a queue
 abbrev pub replayed : Book → List QueueDiffs → Result Book EditError
 replayed book entries = replayed_from 0 book entries
-
--- some first entries of a queue lead from one workbook to the other
-pub record IsFrontOf (entries : List QueueDiffs) (old new : Book) : Type 0 where
-  pub count : ℕ
-  pub led : replayed old (take count entries) ≡ Ok new
-
--- what stands after an error: before a refused diff of an entry exactly the entries before that one, and after another error some
--- first entries
-abbrev pub StandsAfter : EditError → (entries : List QueueDiffs) (old new : Book) → Type 0
-StandsAfter (DiffRefused entry diff) entries old new = replayed old (take entry entries) ≡ Ok new
-StandsAfter _ entries old new = IsFrontOf entries old new
-
--- a queue is followed to its end, or to the first entry that is refused. Where there is no memory some first entries stand
-pub record Replays (result : Result (Unit {0}) EditError) (old new : Book) (entries : List QueueDiffs) : Type 0 where
-  pub done : OnOk result (replayed old entries ≡ Ok new)
-  pub refused : IfErr result (λ error. error ≢ NoMemory → replayed old entries ≡ Err error)
-  pub stands : IfErr result (λ error. StandsAfter error entries old new)
 
 -- every number of a kept sheet and of the trees of its names is as a sheet keeps it
 pub record IsKeptSheet (kept : KeptSheet) : Type 0 where

@@ -14,6 +14,7 @@ use Rattle.sheet_grid.specs.contracts.link.LinkPartialEq.TheImpl as link
 use Rattle.sheet_grid.specs.Sheet.{Sheet}
 use Rattle.sheet_grid.specs.Book.{Book}
 use Rattle.sheet_rules.specs.WellFormed.{IsWellFormed}
+use Rattle.sheet_lines.specs.Followed.{book_followed}
 use Rattle.sheet_lines.specs.Sheets.{sheet_of}
 use Rattle.sheet_lines.specs.Kept.{kept_lines}
 use Rattle.sheet_history.specs.declared.diff.Diff.{Diff}
@@ -95,6 +96,15 @@ pub record IsLineEdit (axis : LineAxis) (e : EditKind) (id : ℕ) (book : Book) 
   pub valid : IsValid (along_of axis).last e
   pub rules : IsWellFormed book
   pub there : IsTrue (is_there_inside (along_of axis) e (sheet_of book id))
+
+-- what holds of each record of two well-formed workbooks: of the list, the earlier workbook and the later one
+abbrev pub OfRecords : (List Diff → Book → Book → Type 0) → Type 0
+OfRecords Holds = (earlier later : Book) (list : List Diff) → IsWellFormed earlier → IsWellFormed later → IsRecord earlier later list → Holds list earlier later
+
+-- what holds of the record of each edit of lines of a well-formed workbook: of the list, the earlier workbook and the later one
+abbrev pub OfLineEdits : (List Diff → Book → Book → Type 0) → Type 0
+OfLineEdits Holds = (axis : LineAxis) (e : EditKind) (id : ℕ) (book : Book) → IsLineEdit axis e id book →
+    Holds (line_record axis e id book) book (book_followed (along_of axis) e id book)
 
 -- ---- the record as a function of two workbooks
 

@@ -7,7 +7,6 @@ use Rattle.base_axis.specs.declared.MergedCell.{MergedCell}
 use Rattle.base_maps.specs.Carried.{overlaid, settled}
 use Rattle.base_maps.specs.Tagged.{place_on}
 use Rattle.line_edits.specs.declared.EditKind.{EditKind}
-use Rattle.line_edits.specs.Moves.{edit_moves}
 use Rattle.line_map.specs.Attributes.{lines_restored, LinesLie}
 use Rattle.line_map.specs.Contents.{cell_carried, cell_restored}
 use Rattle.line_map.specs.Maps.{places_carried, places_restored, KeysInside}
@@ -21,8 +20,9 @@ use Rattle.sheet_grid.specs.declared.Cell.{Cell}
 use Rattle.sheet_grid.specs.Sheet.{Sheet}
 use Rattle.sheet_grid.specs.Book.{Book}
 use Rattle.sheet_lines.specs.declared.kept.KeptLines.{KeptLines}
-use Rattle.sheet_lines.specs.Followed.{way_of}
-use Rattle.sheet_lines.specs.Sheets.{IsPlacedCell, sheet_of, name_of}
+use Rattle.sheet_lines.specs.Followed.{way_of_edit, book_followed}
+use Rattle.sheet_lines.specs.Kept.{kept_lines}
+use Rattle.sheet_lines.specs.Sheets.{IsPlacedCell}
 
 -- what came back, on the edited sheet with the lost entries in place of its own
 abbrev pub with_lost : {K X : Type 0} {R : K → K → Ordering} → Way → FinMap R X → FinMap R X → FinMap R X
@@ -47,9 +47,12 @@ sheet_back w kept sheet = record sheet {
 -- a workbook taken back along an edit of the lines of the sheet of an id: every sheet is, and all else stays
 abbrev pub book_back : Along → EditKind → ℕ → KeptLines → Book → Book
 book_back a e id kept book = record book {
-  worksheets = map (λ sheet. sheet_back
-      (way_of a (edit_moves a.last e) id (name_of (sheet_of book id)) sheet) kept sheet) book.worksheets;
+  worksheets = map (λ sheet. sheet_back (way_of_edit a e id book sheet) kept sheet) book.worksheets;
 }
+
+-- a workbook after an edit of the lines of the sheet of an id was made and taken back with what was kept
+abbrev pub there_and_back : Along → EditKind → ℕ → Book → Book
+there_and_back a e id book = book_back a e id (kept_lines a e id book) (book_followed a e id book)
 
 -- the keys and the merges of what is kept lie inside the sheet
 pub record LieInside (a : Along) (kept : KeptLines) : Type 0 where

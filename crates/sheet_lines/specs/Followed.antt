@@ -28,6 +28,10 @@ way_of a m id edited sheet = record {
   to = record { row = pos 1; column = pos 1 };
 }
 
+-- how an edit of the lines of the sheet of an id meets a sheet of the workbook
+abbrev pub way_of_edit : Along → EditKind → ℕ → Book → Sheet → Way
+way_of_edit a e id book sheet = way_of a (edit_moves a.last e) id (name_of (sheet_of book id)) sheet
+
 -- a sheet's cells, links, rows, columns and merges, each where it goes
 abbrev pub sheet_followed : Way → Sheet → Sheet
 sheet_followed w sheet = record sheet {

@@ -1,5 +1,7 @@
 -- What taking the lines back does not give of a workbook.
-use Rattle.std.specs.Prelude.{ℕ, true, false, List, Option, Some, None, if◌then◌else◌}
+use Rattle.std.specs.Prelude.{ℕ, ◌==◌, true, false, List, Option, Some, None, if◌then◌else◌}
+use Rattle.std.specs.List.{find}
+use Rattle.std.specs.Option.{option_map}
 use Rattle.std.specs.Ordering.{int_cmp}
 use Rattle.std.specs.declared.cmp.Ordering.{Ordering}
 use Rattle.std.specs.FinMap.{FinMap, empty}
@@ -15,6 +17,7 @@ use Rattle.line_edits.specs.Moves.{LineMoves, edit_moves, place_image}
 use Rattle.line_map.specs.Contents.{cell_part}
 use Rattle.line_map.specs.Maps.{places_parts}
 use Rattle.line_map.specs.Merges.{merges_part}
+use Rattle.sheet_grid.specs.declared.Cell.{Cell}
 use Rattle.sheet_grid.specs.declared.LineAttr.{LineAttr}
 use Rattle.sheet_grid.specs.Sheet.{Sheet}
 use Rattle.sheet_grid.specs.Book.{Book}
@@ -30,6 +33,14 @@ lines_of a sheet = if a.of true false then sheet.rows else sheet.columns
 abbrev pub of_sheet : {K X : Type 0} {R : K → K → Ordering} → (Sheet → FinMap R X) → Option Sheet → FinMap R X
 of_sheet entries_of None = empty
 of_sheet entries_of (Some sheet) = entries_of sheet
+
+-- the cells of a sheet whose places have no image
+abbrev pub cells_lost : Along → LineMoves → Sheet → FinMap position_cmp Cell
+cells_lost a m sheet = lost_map (place_image a m.to) sheet.cells
+
+-- those of the first sheet of an id, if there is one
+abbrev pub first_lost : Along → LineMoves → ℕ → List Sheet → Option (FinMap position_cmp Cell)
+first_lost a m id sheets = option_map (cells_lost a m) (find (λ sheet. sheet.id == id) sheets)
 
 -- the trees kept of a sheet's formulas that go somewhere, under their places before
 abbrev pub trees_kept : Along → LineMoves → ℕ → List ℕ → Sheet → FinMap position_cmp Node
@@ -47,7 +58,7 @@ merges_kept a m id edited found = if_there found (λ sheet. merges_part (way_of 
 -- that the way back does not give
 abbrev pub lines_kept : Along → LineMoves → ℕ → Book → KeptLines
 lines_kept a m id book = record {
-  cells = of_sheet (λ sheet. lost_map (place_image a m.to) sheet.cells) (sheet_of book id);
+  cells = of_sheet (cells_lost a m) (sheet_of book id);
   links = of_sheet (λ sheet. lost_map (place_image a m.to) sheet.links) (sheet_of book id);
   lines = of_sheet (λ sheet. lost_map m.to (lines_of a sheet)) (sheet_of book id);
   formulas = formulas_kept a m id (name_of (sheet_of book id)) book.worksheets;

@@ -3,37 +3,35 @@ ghost use Rattle.base_values.specs.declared.EditError.TheVariants.{NoMemory};
 ghost use Rattle.line_edits.specs.Edit.{IsValid};
 ghost use Rattle.sheet_lines.specs.Back.{LieInside};
 ghost use Rattle.sheet_lines.specs.Followed.{book_followed};
-ghost use Rattle.sheet_lines.specs.Kept.{formulas_kept, kept_lines, lines_kept};
+ghost use Rattle.sheet_lines.specs.Kept.{first_lost, formulas_kept, kept_lines, lines_kept};
 ghost use Rattle.sheet_lines.specs.KeptNumbers.{AreKeptFormulas, AreKeptLines};
 ghost use Rattle.sheet_lines.specs.Sheets.{sheet_of, name_of, IsPlacedBook};
 
 use crate::edited_sheet::EditedSheet;
-use crate::followed::{edited_by, followed_with_formulas};
+use crate::followed::{KeptOfCells, edited_by, followed_with_kept};
 use crate::inside::{lines_inside, places_inside};
-use crate::keeping::lost_attributes;
+use crate::keeping::{lost_attributes, lost_links};
 use crate::kept::KeptLines;
 use crate::sheets::{route_on, sheet_of};
 use base_axis::Axis;
-use base_maps::SheetPlaceMap;
-use base_shared::Shared;
 use base_values::EditError;
-use formula_tree::Node;
-use line_map::{Follower, LineEdit, LineMap, lost_places};
+use line_map::{Follower, LineEdit, LineMap};
 use sheet_grid::Workbook;
 use std::alloc::Global;
 
-/// What is kept of a workbook whose sheet of an id is edited, with the kept trees of its formulas.
+/// What is kept of a workbook whose sheet of an id is edited, with what is kept of its cells.
 fn kept_lines<A: Axis, M: LineMap<A>>(
     alloc: Global,
     edited: &EditedSheet<'_, A, M>,
     workbook: &Workbook,
-    formulas: SheetPlaceMap<Shared<Node>>,
+    cells: KeptOfCells,
 ) -> Result<KeptLines, EditError>
     requires there { IsTrue (is_some (sheet_of workbook.now edited.now.id)) }
     requires name { edited.now.name.now ≡ name_of (sheet_of workbook.now edited.now.id) }
     requires placed { IsPlacedBook workbook.now }
-    requires formulas { formulas ≡ formulas_kept A.along (M.moves edited.now.map.now) edited.now.id edited.now.name.now workbook.now.worksheets }
-    requires kept_numbers { AreKeptFormulas formulas }
+    requires lost { cells.lost ≡ first_lost A.along (M.moves edited.now.map.now) edited.now.id workbook.now.worksheets }
+    requires formulas { cells.formulas ≡ formulas_kept A.along (M.moves edited.now.map.now) edited.now.id edited.now.name.now workbook.now.worksheets }
+    requires kept_numbers { AreKeptFormulas cells.formulas }
     ensures kept { IfOk result (λ kept. kept ≡ lines_kept A.along (M.moves edited.now.map.now) edited.now.id workbook.now) }
     ensures numbers { IfOk result AreKeptLines }
     ensures inside { IfOk result (LieInside A.along) }
@@ -42,18 +40,18 @@ fn kept_lines<A: Axis, M: LineMap<A>>(
     let Some(sheet) = sheet_of(workbook, edited.id) else {
         unreachable!()
     };
-    let route = route_on(edited, sheet);
-    let (cells, links) = (sheet.cell_map(), sheet.link_map());
-    places_inside(cells);
-    places_inside(links);
+    places_inside(sheet.cell_map());
+    places_inside(sheet.link_map());
     lines_inside(sheet.row_map());
     lines_inside(sheet.column_map());
-    let merges = sheet.merge_list().part(alloc, &route)?;
+    let links = lost_links(alloc, edited, sheet)?;
+    let lines = lost_attributes(alloc, edited, sheet)?;
+    let merges = sheet.merge_list().part(alloc, &route_on(edited, sheet))?;
     Ok(KeptLines {
-        cells: lost_places(alloc, &route, cells)?,
-        links: lost_places(alloc, &route, links)?,
-        lines: lost_attributes(alloc, edited, sheet)?,
-        formulas,
+        cells: cells.lost.unwrap(),
+        links,
+        lines,
+        formulas: cells.formulas,
         merges,
     })
 }
@@ -80,8 +78,8 @@ pub fn line_edit<A: Axis>(
 {
     let opposite = edit.opposite();
     let edited = edited_by(workbook, sheet_id, edit, &opposite);
-    let (sheets, formulas) = followed_with_formulas(alloc, &edited, workbook.worksheets())?;
+    let (sheets, cells) = followed_with_kept(alloc, &edited, workbook.worksheets())?;
     let followed = workbook.with_worksheets(sheets)?;
-    let kept = kept_lines(alloc, &edited, workbook, formulas)?;
+    let kept = kept_lines(alloc, &edited, workbook, cells)?;
     Ok((followed, kept))
 }

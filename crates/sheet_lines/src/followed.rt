@@ -1,11 +1,15 @@
-ghost use Rattle.std.specs.Prelude.{◌≡◌, map, IfOk, IsOkUnless};
+ghost use Rattle.std.specs.Prelude.{◌≡◌, ◌==◌, map, IfOk, IsOkUnless};
+ghost use Rattle.std.specs.Bool.{then_some};
 ghost use Rattle.std.specs.List.{AllByRecursion};
+ghost use Rattle.std.specs.Option.{option_or};
 ghost use Rattle.base_values.specs.declared.EditError.TheVariants.{NoMemory};
+ghost use Rattle.base_maps.specs.Carried.{lost_map};
+ghost use Rattle.base_maps.specs.Tagged.{put_under};
 ghost use Rattle.line_edits.specs.Edit.{IsValid, opposite_of};
-ghost use Rattle.line_map.specs.Way.{way};
+ghost use Rattle.line_map.specs.Way.{place_goes, way};
 ghost use Rattle.sheet_grid.specs.KeptCell.{KeptCells};
 ghost use Rattle.sheet_lines.specs.Followed.{way_on, sheet_followed, book_followed};
-ghost use Rattle.sheet_lines.specs.Kept.{trees_kept, formulas_kept};
+ghost use Rattle.sheet_lines.specs.Kept.{trees_kept, first_lost, formulas_kept};
 ghost use Rattle.sheet_lines.specs.KeptNumbers.{AreKeptFormulas};
 ghost use Rattle.sheet_lines.specs.Sheets.{sheet_of, name_of, IsPlacedSheet, IsPlacedBook};
 
@@ -13,7 +17,7 @@ use crate::edited_sheet::EditedSheet;
 use crate::inside::{lines_inside, places_inside};
 use crate::sheets::{name_of, route_on};
 use base_axis::Axis;
-use base_maps::SheetPlaceMap;
+use base_maps::{PositionMap, SheetPlaceMap};
 use base_shared::Shared;
 use base_values::{EditError, Items, PlaceMap};
 use formula_tree::Node;
@@ -21,6 +25,16 @@ use line_map::{Follower, KeptMap, LineEdit, LineMap, Route, carried_with_kept};
 use sheet_grid::{Cell, Workbook, Worksheet};
 use std::alloc::Global;
 use std::marker::PhantomData;
+
+/// What is kept of the cells of a workbook's sheets.
+#[derive(Drop)]
+pub(crate) struct KeptOfCells {
+    /// The lost cells of the first sheet with the edited id, if there is one.
+    pub(crate) lost: Option<PositionMap<Shared<Cell>>>,
+    /// The trees of the other formulas that do not come back, by the ids of their sheets and their
+    /// positions before the edit.
+    pub(crate) formulas: SheetPlaceMap<Shared<Node>>,
+}
 
 /// A sheet with these cells, whose links, rows, columns and merges are carried along.
 fn followed_with<A: Axis, M: LineMap<A>>(
@@ -68,6 +82,7 @@ fn followed_and_kept<A: Axis, M: LineMap<A>>(
 ) -> Result<(Worksheet, KeptMap<Shared<Cell>, Shared<Node>>), EditError>
     requires { IsPlacedSheet sheet.now }
     ensures sheet { IfOk result (λ both. both.0 ≡ sheet_followed (way_on edited.now sheet.now) sheet.now) }
+    ensures lost { IfOk result (λ both. both.1.lost ≡ lost_map (place_goes (way_on edited.now sheet.now)) sheet.now.cells) }
     ensures trees { IfOk result (λ both. both.1.parts ≡ trees_kept A.along (M.moves edited.now.map.now) edited.now.id edited.now.name.now sheet.now) }
     ensures numbers { IfOk result (λ both. AreKeptFormulas both.1.parts) }
     ensures only { IsOkUnless result NoMemory }
@@ -79,27 +94,47 @@ fn followed_and_kept<A: Axis, M: LineMap<A>>(
     Ok((followed, kept))
 }
 
-/// The sheets along the map, and the trees of each sheet's formulas that go somewhere and that the
-/// way back does not give, under the id of the sheet and their places before.
-pub(crate) fn followed_with_formulas<A: Axis, M: LineMap<A>>(
+/// What is kept of the cells of some sheets, and what of one sheet more.
+fn with_sheet<A: Axis, M: LineMap<A>>(
+    edited: &EditedSheet<'_, A, M>,
+    kept: KeptOfCells,
+    sheet: &Worksheet,
+    more: KeptMap<Shared<Cell>, Shared<Node>>,
+) -> Result<KeptOfCells, EditError>
+    ensures lost { IfOk result (λ all. all.lost ≡ option_or kept.lost (then_some (sheet.now.id == edited.now.id) more.lost)) }
+    ensures formulas { IfOk result (λ all. all.formulas ≡ put_under sheet.now.id more.parts kept.formulas) }
+    ensures only { IsOkUnless result NoMemory }
+{
+    let (id, mut formulas) = (sheet.get_sheet_id(), kept.formulas);
+    formulas.put_under(id, &more.parts)?;
+    let lost = kept.lost.or((id == edited.id).then_some(more.lost));
+    Ok(KeptOfCells { lost, formulas })
+}
+
+/// The sheets along the map, and what is kept of their cells, in one walk over the cells: the lost
+/// ones of the first sheet with the edited id, and the trees of each sheet's formulas that go
+/// somewhere and that the way back does not give, under the id of the sheet and their places before.
+pub(crate) fn followed_with_kept<A: Axis, M: LineMap<A>>(
     alloc: Global,
     edited: &EditedSheet<'_, A, M>,
     sheets: &[Worksheet],
-) -> Result<(Items<Worksheet>, SheetPlaceMap<Shared<Node>>), EditError>
+) -> Result<(Items<Worksheet>, KeptOfCells), EditError>
     requires { AllByRecursion IsPlacedSheet sheets.now }
     ensures sheets { IfOk result (λ both. both.0 ≡ map (λ sheet. sheet_followed (way_on edited.now sheet) sheet) sheets.now) }
-    ensures formulas { IfOk result (λ both. both.1 ≡ formulas_kept A.along (M.moves edited.now.map.now) edited.now.id edited.now.name.now sheets.now) }
-    ensures numbers { IfOk result (λ both. AreKeptFormulas both.1) }
+    ensures lost { IfOk result (λ both. both.1.lost ≡ first_lost A.along (M.moves edited.now.map.now) edited.now.id sheets.now) }
+    ensures formulas { IfOk result (λ both. both.1.formulas ≡ formulas_kept A.along (M.moves edited.now.map.now) edited.now.id edited.now.name.now sheets.now) }
+    ensures numbers { IfOk result (λ both. AreKeptFormulas both.1.formulas) }
     ensures only { IsOkUnless result NoMemory }
 {
-    let mut made = Items::empty(alloc);
-    let mut formulas = SheetPlaceMap::new(alloc);
+    let (mut made, lost) = (Items::empty(alloc), None);
+    let formulas = SheetPlaceMap::new(alloc);
+    let mut kept = KeptOfCells { lost, formulas };
     for sheet in sheets {
-        let (followed, kept) = followed_and_kept(alloc, edited, sheet)?;
-        formulas.put_under(sheet.get_sheet_id(), &kept.parts)?;
+        let (followed, more) = followed_and_kept(alloc, edited, sheet)?;
+        kept = with_sheet(edited, kept, sheet, more)?;
         made.push(followed)?;
     }
-    Ok((made, formulas))
+    Ok((made, kept))
 }
 
 fn followed_sheets<A: Axis, M: LineMap<A>>(

@@ -1,9 +1,9 @@
 -- How a document takes the entries of another copy's queue.
-use Rattle.std.proofs.Common.{◌≡◌, ◌≢◌, ◌⊎◌, inl, inr, ℕ, zero, suc, ◌+◌, ◌<◌, ◌≤◌, List, [], ◌∷◌, ◌++◌, length, take, drop, Result, Ok, Err, refl, sym, ap, subst, ◌∙◌, arith, length-take}
+use Rattle.std.proofs.Common.{◌≡◌, ◌≢◌, ◌⊎◌, inl, inr, Bool, true, false, ℕ, zero, suc, ◌+◌, ◌<◌, ◌≤◌, List, [], ◌∷◌, ◌++◌, length, take, drop, Result, Ok, Err, refl, sym, ap, subst, ◌∙◌, arith, length-take}
 use Rattle.std.specs.Prelude.{IsOkAnd, IsOkUnless, OnErr, OnOk}
 use Rattle.std.specs.List.{AllByRecursion}
 use Rattle.base_values.specs.declared.EditError.{EditError}
-use Rattle.base_values.specs.declared.EditError.TheVariants.{NoMemory, ParseDiffs}
+use Rattle.base_values.specs.declared.EditError.TheVariants.{DiffRefused, NoMemory, ParseDiffs}
 use Rattle.base_values.specs.Answers.{and_then, map_ok}
 use Rattle.sheet_grid.specs.Book.{Book}
 use Rattle.sheet_grid.specs.Computed.{Values}
@@ -14,7 +14,7 @@ use Rattle.user_model.specs.Document.{Document}
 use Rattle.user_model.specs.Machine.{State, received, go_on, outside, applied_from, applied}
 use Rattle.user_model.specs.Sound.{WhereCarried}
 use Rattle.user_model.specs.Stands.{StandsFor, IsReached, Leaves, Turns}
-use Rattle.user_model.specs.Values.{Session, IsMade}
+use Rattle.user_model.specs.Values.{Session, IsMade, LeavesMade, Makes, MakesAfter, is_none_left}
 
 -- the first entries of a queue were taken
 pub record Reached (entries : List QueueDiffs) (first : State) (i : ℕ) (doc : Document) : Type 0 where
@@ -98,10 +98,54 @@ module _ (entries : List QueueDiffs) (first : State) (i : ℕ) (doc : Document) 
 
 -- ---- values
 
--- a refused entry leaves what was made, or what was there at first
-pub still_made : (Fits : Book → Values → Type 0) (first old new : Session) → new ≡ old → IsMade Fits old ⊎ (old ≡ first) → IsMade Fits new ⊎ (new ≡ first)
-still_made Fits first old new same (inl made) = inl (subst (IsMade Fits) (sym same) made)
-still_made Fits first old new same (inr other) = inr (same ∙ other)
+-- all entries are the first ones up to their number, or to one past it
+take_all : {A : Type 0} (n : ℕ) (xs : List A) → length xs ≤ n → take n xs ≡ xs
+take_all zero [] h = refl
+take_all (suc n) [] h = refl
+take_all zero (x ∷ xs) h = absurd (omega (arith, h))
+take_all (suc n) (x ∷ xs) h = ap (λ l. x ∷ l) (take_all n xs (omega (arith, h)))
+
+-- of a list that ends in an entry some entry is left
+some_left : {A : Type 0} (xs : List A) (x : A) → is_none_left (xs ++ x ∷ []) ≡ false
+some_left [] x = refl
+some_left (y ∷ xs) x = refl
+
+-- a refusal in an entry has its number
+number_is : (i : ℕ) (r : Result Book EditError) (f : Book → State) (at diff : ℕ) → map_ok f (in_entry i r) ≡ Err (DiffRefused at diff) → at ≡ i
+number_is i (Ok book) f at diff is = absurd (let never : ◌≡◌ {A = Result State EditError} (Ok (f book)) (Err (DiffRefused at diff)) = is in cc)
+number_is i (Err (DiffRefused entry other)) f at diff is = let same : ◌≡◌ {A = Result State EditError} (Err (DiffRefused i other)) (Err (DiffRefused at diff)) = is in cc
+number_is i (Err error) f at diff is = absurd (let never : ◌≡◌ {A = Result State EditError} (Err error) (Err (DiffRefused at diff)) = is in cc)
+
+module _ (Fits : Book → Values → Type 0) (first old : Session) where
+  -- one entry more was followed, and values were made
+  pub made_next : (entries : List QueueDiffs) (i : ℕ) (e : QueueDiffs) → take (i + 1) entries ≡ take i entries ++ e ∷ [] → IsMade Fits old → MakesAfter (i + 1) entries Fits first old
+  made_next entries i e front made = subst (λ b. Makes b Fits first old) (sym (ap (λ l. is_none_left l) front ∙ some_left (take i entries) e)) made
+
+  -- all entries were followed
+  pub made_all : (entries : List QueueDiffs) (i : ℕ) → length entries ≤ i → MakesAfter i entries Fits first old → Makes (is_none_left entries) Fits first old
+  made_all entries i over made = subst (λ l. Makes (is_none_left l) Fits first old) (take_all i entries over) made
+
+  -- a refused entry leaves what was made by those before it, or what was there at first
+  pub made_refused : (new : Session) → new ≡ old → (entries : List QueueDiffs) (i : ℕ) (r : Result Book EditError) (f : Book → State) → MakesAfter i entries Fits first old
+      → (error : EditError) → (error ≢ NoMemory → map_ok f (in_entry i r) ≡ Err error) → LeavesMade (Err error) entries Fits first new
+  made_refused new same entries i r f made = by_error
+    where
+      after : MakesAfter i entries Fits first new
+      after = subst (λ n. MakesAfter i entries Fits first n) (sym same) made
+
+      by_error : (error : EditError) → (error ≢ NoMemory → map_ok f (in_entry i r) ≡ Err error) → LeavesMade (Err error) entries Fits first new
+      by_error (DiffRefused at diff) refused = subst (λ n. MakesAfter n entries Fits first new) (sym (number_is i r f at diff (refused (λ is. cc)))) after
+      by_error error refused = (i, after)
+
+-- values were made, or all stays
+either_made : (none : Bool) (Fits : Book → Values → Type 0) (old new : Session) → Makes none Fits old new → IsMade Fits new ⊎ (new ≡ old)
+either_made true Fits old new same = inr same
+either_made false Fits old new made = inl made
+
+pub left_made : (result : Result (Unit {0}) EditError) (entries : List QueueDiffs) (Fits : Book → Values → Type 0) (old new : Session) → LeavesMade result entries Fits old new → IsMade Fits new ⊎ (new ≡ old)
+left_made (Ok u) entries Fits old new made = either_made (is_none_left entries) Fits old new made
+left_made (Err (DiffRefused at diff)) entries Fits old new made = either_made (is_none_left (take at entries)) Fits old new made
+left_made (Err error) entries Fits old new made = either_made (is_none_left (take made.0 entries)) Fits old new made.1
 
 -- ---- entries that lead to a later workbook
 

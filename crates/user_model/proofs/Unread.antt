@@ -3,12 +3,14 @@ use Rattle.std.proofs.Common.{◌≡◌, ◌≢◌, ℕ, List, Result, Ok, Err, 
 use Rattle.base_values.specs.declared.EditError.{EditError}
 use Rattle.base_values.specs.declared.EditError.TheVariants.{NoMemory, ParseDiffs}
 use Rattle.base_values.specs.Answers.{Answers, Edits}
+use Rattle.sheet_grid.specs.Book.{Book}
+use Rattle.sheet_grid.specs.Computed.{Values}
 use Rattle.sheet_history.specs.declared.QueueDiffs.{QueueDiffs}
 use Rattle.sheet_wire.specs.QueueBytes.{IsNoQueue}
 use Rattle.user_model.specs.Document.{Document}
 use Rattle.user_model.specs.Machine.{State, applied}
 use Rattle.user_model.specs.Stands.{StandsFor, IsReached, Leaves}
-use Rattle.user_model.specs.Values.{Session}
+use Rattle.user_model.specs.Values.{Session, LeavesMade}
 
 only_memory : (error : EditError) → ((error ≢ NoMemory) → ⊥) → error ≡ NoMemory
 only_memory NoMemory h = refl
@@ -20,6 +22,13 @@ unread_leaves error doc entries s stands again =
     let short : error ≡ NoMemory =
     only_memory error (λ other. let never : ◌≡◌ {A = Result (List QueueDiffs) EditError} (Ok entries) (Err error) = again.refused other in cc) in
     subst (λ e. Leaves (Err e) doc entries s) (sym short) (0, stands)
+
+pub unread_made : (error : EditError) (entries : List QueueDiffs) (Fits : Book → Values → Type 0) (session : Session) → Answers {T = List QueueDiffs} (Err error) (Ok entries)
+    → LeavesMade (Err error) entries Fits session session
+unread_made error entries Fits session again =
+    let short : error ≡ NoMemory =
+    only_memory error (λ other. let never : ◌≡◌ {A = Result (List QueueDiffs) EditError} (Ok entries) (Err error) = again.refused other in cc) in
+    subst (λ e. LeavesMade (Err e) entries Fits session session) (sym short) (0, refl)
 
 -- bytes of no queue are refused with ParseDiffs
 pub unread_edits : (inside seen : Session) → inside ≡ seen → (bytes : List ℕ) (error : EditError) → (error ≢ NoMemory → (error ≡ ParseDiffs) × IsNoQueue bytes) → Edits (Err error) seen inside (Err ParseDiffs)
@@ -35,6 +44,10 @@ parse_no_queue bytes error refused is =
 pub read_leaves : (result : Result (Unit {0}) EditError) (new : Document) (queue entries : List QueueDiffs) (s : State)
     → Answers (Ok queue) (Ok entries) → Leaves result new queue s → Leaves result new entries s
 read_leaves result new queue entries s again leaves = let same : queue ≡ entries = cc in subst (λ q. Leaves result new q s) same leaves
+
+pub read_made : (result : Result (Unit {0}) EditError) (queue entries : List QueueDiffs) (Fits : Book → Values → Type 0) (old new : Session)
+    → Answers (Ok queue) (Ok entries) → LeavesMade result queue Fits old new → LeavesMade result entries Fits old new
+read_made result queue entries Fits old new again made = let same : queue ≡ entries = cc in subst (λ q. LeavesMade result q Fits old new) same made
 
 -- where entries were taken, the document stands for some state
 pub left_reached : (result : Result (Unit {0}) EditError) (new : Document) (entries : List QueueDiffs) (s : State) → Leaves result new entries s → IsReached new

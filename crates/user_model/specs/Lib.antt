@@ -11,4 +11,5 @@ pub mod Untested
 pub mod Beginning
 pub mod Places
 pub mod Reading
+pub mod Typing
 pub mod Structure

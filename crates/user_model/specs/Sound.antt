@@ -60,6 +60,14 @@ pub record Carries (entries : List QueueDiffs) (bytes : List ℕ) (earlier later
   pub spelled : bytes ≡ spell_queue entries
   pub led : replayed earlier entries ≡ Ok later
 
+-- bytes carry the workbook of the last sync, where it is known, to the present one
+abbrev pub CarriesOn : List ℕ → State → Type 0
+CarriesOn bytes s = IfSome s.synced (λ book. Carries s.sent bytes book s.present)
+
+-- what is said of the entries that bytes spell
+abbrev pub WhereSpelled : List ℕ → (List QueueDiffs → Type 0) → Type 0
+WhereSpelled bytes Said = (entries : List QueueDiffs) → FitsQueue entries → bytes ≡ spell_queue entries → Said entries
+
 -- what is said of each later workbook to which bytes carry an earlier one
 abbrev pub WhereCarried : List ℕ → Book → (Book → Type 0) → Type 0
 WhereCarried bytes earlier Said = (entries : List QueueDiffs) (later : Book) → FitsQueue entries → Carries entries bytes earlier later → Said later

@@ -21,12 +21,20 @@ pub record StandsFor (doc : Document) (s : State) : Type 0 where
 abbrev pub IsReached : Document → Type 0
 IsReached doc = (s : State) × StandsFor doc s
 
+-- what holds of each state that a document stands for
+abbrev pub OnStates : Document → (State → Type 0) → Type 0
+OnStates doc Holds = (state : State) → StandsFor doc state → Holds state
+
 -- a call takes a model to a document that stands for the expected state, or refuses as expected. Only where a state is expected may it be
 -- out of memory
 pub record Moves {T : Type 0} (result : Result T EditError) (new : Document) (expected : Result State EditError) : Type 0 where
   pub done : OnOk result (IsOkAnd expected (StandsFor new))
   pub refused : IfErr result (λ error. error ≢ NoMemory → expected ≡ Err error)
   pub memory : IfErr result (λ error. error ≡ NoMemory → IsOk expected)
+
+-- it does so from each state that the document before stands for
+abbrev pub Steps : {T : Type 0} → Result T EditError → Document → Document → (State → Result State EditError) → Type 0
+Steps result old new next = OnStates old (λ state. Moves result new (next state))
 
 -- the same of a call whose tests take memory
 pub record Turns {T : Type 0} (result : Result T EditError) (new : Document) (expected : Result State EditError) : Type 0 where

@@ -5,13 +5,14 @@ use Rattle.std.specs.FinMap as fin
 use Rattle.base_values.specs.declared.EditError.{EditError}
 use Rattle.base_values.specs.declared.Position.{Position}
 use Rattle.base_values.specs.Answers.{and_then, map_ok}
+use Rattle.base_values.specs.Places.{place_of}
 use Rattle.base_axis.specs.declared.MergedCell.{MergedCell}
 use Rattle.base_axis.specs.Rectangles.{holds}
 use Rattle.cell_content.specs.declared.Content.{Content}
 use Rattle.cell_content.specs.declared.Content.TheVariants.{Dynamic, Array}
 use Rattle.sheet_grid.specs.declared.Cell.{Cell}
 use Rattle.sheet_grid.specs.Arrays.{arrays_of}
-use Rattle.sheet_grid.specs.Sheet.{Sheet, cell_at}
+use Rattle.sheet_grid.specs.Sheet.{Sheet}
 use Rattle.sheet_grid.specs.Book.{Book, sheet_at}
 use Rattle.sheet_grid.specs.declared.computed.ComputedValue.{ComputedValue}
 use Rattle.sheet_grid.specs.Computed.{Values, value_at}
@@ -59,4 +60,4 @@ structure_in values sheet place content = in_array (find (λ r. holds r place) (
 abbrev pub structure_at : ℕ → ℤ → ℤ → Values → Book → Result CellArrayStructure EditError
 structure_at index row column values book =
     and_then (sheet_at book index) (λ sheet.
-    map_ok (λ cell. structure_in values sheet (record { row = row; column = column }) (content_in cell)) (cell_at sheet row column))
+    map_ok (λ place. structure_in values sheet place (content_in (fin.get sheet.cells place))) (place_of row column))

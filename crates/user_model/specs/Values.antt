@@ -1,7 +1,10 @@
 -- What is computed of a workbook.
-use Rattle.std.proofs.Common.{◌≡◌, Bool, true, false, List, [], ◌∷◌}
+use Rattle.std.proofs.Common.{◌≡◌, ℕ, Bool, true, false, List, [], ◌∷◌, take, Result, Ok, Err}
+use Rattle.base_values.specs.declared.EditError.{EditError}
+use Rattle.base_values.specs.declared.EditError.TheVariants.{DiffRefused}
 use Rattle.sheet_grid.specs.Book.{Book}
 use Rattle.sheet_grid.specs.Computed.{Values, no_values}
+use Rattle.sheet_history.specs.declared.QueueDiffs.{QueueDiffs}
 use Rattle.user_model.specs.Document.{Document}
 
 -- a document that is open, its computed values, and whether these wait
@@ -26,3 +29,14 @@ Makes false Fits old new = IsMade Fits new
 abbrev pub is_none_left : {A : Type 0} → List A → Bool
 is_none_left [] = true
 is_none_left (x ∷ xs) = false
+
+-- after some first entries of another copy's queue values were made, and without any all stays
+abbrev pub MakesAfter : ℕ → List QueueDiffs → (Book → Values → Type 0) → Session → Session → Type 0
+MakesAfter count entries Fits old new = Makes (is_none_left (take count entries)) Fits old new
+
+-- the values after the entries of another copy's queue. After a refused entry they are as after those before it, and after want of memory as
+-- after some first ones
+abbrev pub LeavesMade : Result (Unit {0}) EditError → List QueueDiffs → (Book → Values → Type 0) → Session → Session → Type 0
+LeavesMade (Ok done) entries Fits old new = Makes (is_none_left entries) Fits old new
+LeavesMade (Err (DiffRefused at diff)) entries Fits old new = MakesAfter at entries Fits old new
+LeavesMade (Err error) entries Fits old new = (count : ℕ) × MakesAfter count entries Fits old new

@@ -10,6 +10,10 @@ use edit_plans::edits_have_records;
 /// well-formed workbook, and its record takes the earlier workbook to the later one and the later
 /// one back, also where results are tested. A content has to be one that may stand at its place, and
 /// an array goes to a rectangle only.
+///
+/// ```
+/// edits_go_both_ways(); // from here on a proof may use the law
+/// ```
 pub fn edits_go_both_ways()
     ensures { (edit : Edit) (earlier later : Book) → IsWellFormed earlier → IsGiven edit → changed edit earlier ≡ Ok later → GoesBothWays edit earlier later }
 {

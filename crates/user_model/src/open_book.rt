@@ -1,4 +1,4 @@
-ghost use Rattle.std.specs.Prelude.{◌≡◌, ◌≢◌, ◌⊎◌, ◌||◌, length, true, Ok, Err, [], ◌∷◌, pos, take, int_lt, nat_lt, IfOk, IfNone, IfSome, IsOk, IsTrue, OnOk, OnErr, IsOkUnless};
+ghost use Rattle.std.specs.Prelude.{◌≡◌, ◌≢◌, ◌||◌, length, true, Ok, Err, [], ◌∷◌, pos, take, int_lt, nat_lt, IfOk, IfNone, IfSome, IsOk, IsTrue, OnOk, OnErr, IsOkUnless};
 ghost use Rattle.std.specs.Ordering.{int_eq};
 ghost use Rattle.base_values.specs.Answers.{Returns, Changes, Edits, map_ok};
 ghost use Rattle.base_values.specs.declared.EditError.TheVariants.{NoMemory};
@@ -262,7 +262,7 @@ impl OpenBook {
     ghost use Rattle.user_model.specs.Sound.{IsSoundChange};
     ghost use Rattle.user_model.specs.Machine.{State, begun};
     ghost use Rattle.user_model.specs.Stands.{IsAnyPlan, IsPlanOf, IsReached, Leaves, StandsFor};
-    ghost use Rattle.user_model.specs.Values.{AreMade, IsMade, Makes, is_none_left};
+    ghost use Rattle.user_model.specs.Values.{AreMade, IsMade, LeavesMade, Makes, is_none_left};
 
     /// A workbook with nothing to undo and nothing to send.
     pub(crate) fn new(
@@ -562,7 +562,7 @@ impl OpenBook {
         requires kept { IsKeptQueue queue.now }
         requires reached { IsReached (document_in self.now) }
         ensures next { (state : State) → StandsFor (document_in self.old) state → Leaves result (document_in self.new) queue.now state }
-        ensures made { IsMade R.Fits (session_of self.new results.new) ⊎ (session_of self.new results.new ≡ session_of self.old results.old) }
+        ensures made { LeavesMade result queue.now R.Fits (session_of self.old results.old) (session_of self.new results.new) }
         ensures paused { results.new.paused ≡ results.old.paused }
     {
         for (index, entry) in queue.iter().enumerate() {

@@ -12,6 +12,18 @@ use std::alloc::Global;
 /// Nothing is said of the values but that they fit the workbook, in the sense that the implementor
 /// gives by `Fits`. An implementor writes `compute` alone; one that never wants memory also says so
 /// by `Sure` and `is_sure`.
+///
+/// ```
+/// impl Recalc for Ones {
+///     ghost Fits = { λ _ _. Unit {0} };
+///
+///     fn compute(&mut self, alloc: Global, _workbook: &Workbook) -> Result<Computed, EditError> {
+///         let mut values = Computed::new(alloc);
+///         values.put(1, 1, 1, Content::Boolean(true), 1, 1)?;
+///         Ok(values)
+///     }
+/// }
+/// ```
 pub trait Recalc {
     /// Which values fit a workbook.
     ghost Fits: { Book → Values → Type 0 };

@@ -1,6 +1,6 @@
 ghost use Rattle.std.specs.Prelude.{◌≡◌};
 ghost use Rattle.std.specs.List.{find};
-ghost use Rattle.base_values.specs.Answers.{Returns};
+ghost use Rattle.std.specs.Option.{option_copied};
 ghost use Rattle.base_axis.specs.Rectangles.{holds};
 ghost use Rattle.sheet_grid.specs.Arrays.{arrays_of};
 ghost use Rattle.sheet_grid.specs.Computed.{value_at};
@@ -9,10 +9,15 @@ ghost use Rattle.user_model.specs.Structure.{extent_of, dynamic_at, dynamics_of,
 
 use base_axis::MergedCell;
 use base_shared::Shared;
-use base_values::{EditError, Position};
+use base_values::{EditError, Position, place_of};
 use sheet_grid::{Cell, Computed, Content, Workbook, Worksheet, array_at};
 
 /// How a cell stands to the arrays of its sheet. Widths are in columns, heights in rows.
+///
+/// ```
+/// model.set_user_array_formula(0, 1, 4, 1, 3, "=A1:A3*2")?;
+/// let below = model.get_cell_array_structure(0, 2, 4)?; // ArrayChild(1, 4, 1, 3)
+/// ```
 #[derive(Clone, Copy, Debug, PartialEq, Eq)]
 pub enum CellArrayStructure {
     /// No array has it.
@@ -113,9 +118,9 @@ fn structure_of(
     values: &Computed,
     sheet: &Worksheet,
     place: Position,
-    cell: &Option<Shared<Cell>>,
+    cell: Option<&Shared<Cell>>,
 ) -> CellArrayStructure
-    ensures { result ≡ structure_in values.now sheet.now place (content_in cell.now) }
+    ensures { result ≡ structure_in values.now sheet.now place (content_in (option_copied cell.entry)) }
 {
     match cell {
         Some(cell) => structure_in(values, sheet, place, &cell.get().content),
@@ -123,7 +128,8 @@ fn structure_of(
     }
 }
 
-/// How the cell at a row and a column of the sheet at an index stands to the arrays of the sheet.
+/// How the cell at a row and a column of the sheet at an index stands to the arrays of the sheet. It
+/// takes no memory.
 pub(crate) fn structure_at(
     values: &Computed,
     workbook: &Workbook,
@@ -131,10 +137,10 @@ pub(crate) fn structure_at(
     row: i32,
     column: i32,
 ) -> Result<CellArrayStructure, EditError>
-    ensures { Returns result (structure_at sheet row column values.now workbook.now) }
+    ensures { result ≡ structure_at sheet row column values.now workbook.now }
 {
     let found = workbook.worksheet(sheet)?;
-    let cell = found.shared_cell(row, column)?;
-    let place = Position { row, column };
-    Ok(structure_of(values, found, place, &cell))
+    let place = place_of(row, column)?;
+    let cell = found.cell_map().get(place);
+    Ok(structure_of(values, found, place, cell))
 }

@@ -1,4 +1,4 @@
-ghost use Rattle.std.specs.Prelude.{◌≡◌, ◌⊎◌, List, [], ◌∷◌, true, false, None, Some, Ok, Err, not, IfOk, IfErr, IfSome, IsTrue, OnOk, OnErr, IsOkUnless};
+ghost use Rattle.std.specs.Prelude.{◌≡◌, ◌⊎◌, true, false, None, Some, Ok, Err, not, IfOk, IsTrue, OnOk, OnErr, IsOkUnless};
 ghost use Rattle.std.specs.Prelude.{string_bytes};
 ghost use Rattle.base_values.specs.Answers.{Edits, Returns, map_ok};
 ghost use Rattle.base_axis.specs.Rectangles.{anchor_place};
@@ -8,25 +8,23 @@ ghost use Rattle.cell_content.specs.Fitting.{fits_at};
 ghost use Rattle.cell_content.specs.KeptContent.{IsKeptContent};
 ghost use Rattle.base_values.specs.declared.EditError.TheVariants.{NoMemory, ParseDiffs};
 ghost use Rattle.base_tables.specs.declared.Language.TheVariants.{En};
-ghost use Rattle.line_edits.specs.declared.EditKind.TheVariants.{Insert, Delete};
-ghost use Rattle.sheet_history.specs.LineDiffs.{along_of};
-ghost use Rattle.sheet_history.specs.declared.LineAxis.TheVariants.{Rows, Columns};
-ghost use Rattle.sheet_history.specs.declared.QueueDiffs.{QueueDiffs as Entry};
 ghost use Rattle.sheet_rules.specs.WellFormed.{IsWellFormed};
-ghost use Rattle.sheet_wire.specs.QueueBytes.{FitsQueue, IsNoQueue, spell_queue};
+ghost use Rattle.sheet_wire.specs.QueueBytes.{FitsQueue, IsNoQueue};
 ghost use Rattle.sheet_actions.specs.Shown.{book_of};
-ghost use Rattle.edit_plans.specs.Edits.{Edit as AnyEdit, is_silent};
+ghost use Rattle.edit_plans.specs.Edits.{Edit as AnyEdit};
 ghost use Rattle.edit_plans.specs.Inputs.{IsInput};
-ghost use Rattle.edit_plans.specs.Edits.Edit.{Input, ArrayInput, SetLink, Merge, Unmerge, Lines, MoveLines};
+ghost use Rattle.edit_plans.specs.Edits.Edit.{Input, ArrayInput, SetLink, Merge, Unmerge};
 ghost use Rattle.user_model.specs.Beginning.{new_state};
-ghost use Rattle.user_model.specs.Reading.{content_text, formula_typed, link_to, rectangle, rectangle_of, typed};
+ghost use Rattle.user_model.specs.Reading.{content_text, link_to, rectangle, rectangle_of};
+ghost use Rattle.user_model.specs.Typing.{array_typed, text_typed};
 ghost use Rattle.user_model.specs.Structure.{structure_at};
 ghost use Rattle.user_model.specs.Machine.{State, begun, edit_of, undo_of, redo_of, synced_of, sync_bytes};
-ghost use Rattle.user_model.specs.Sound.{Carries, WhereCarried};
-ghost use Rattle.user_model.specs.Stands.{StandsFor, IsReached, IsAnyPlan, IsPlanOf, Leaves, Moves, Opens, Turns};
-ghost use Rattle.user_model.specs.Values.{IsMade, Makes, is_none_left};
+ghost use Rattle.user_model.specs.Sound.{CarriesOn, WhereCarried, WhereSpelled};
+ghost use Rattle.user_model.specs.Stands.{StandsFor, IsReached, IsAnyPlan, IsPlanOf, Leaves, Moves, OnStates, Opens, Steps, Turns};
+ghost use Rattle.user_model.specs.Values.{IsMade, LeavesMade, Makes, is_none_left};
 
-use crate::install::values_of;
+mod lines;
+
 use crate::open_book::OpenBook;
 use crate::reading::{
     content_text, find_array_place, find_input_place, find_place, link_to, read_at, read_tree_at,
@@ -34,16 +32,15 @@ use crate::reading::{
 };
 use crate::recalc::{Recalc, Results};
 use crate::structure::{CellArrayStructure, structure_at};
-use base_axis::{Area, Axis, ColumnAxis, MergedCell, RowAxis};
+use base_axis::{Area, MergedCell};
 use base_shared::Shared;
 use base_tables::{Language, get_language, get_locale, get_zone};
-use base_values::{EditError, Items, copy_of};
+use base_values::{EditError, Items};
 use edit_plans::{plan_array, plan_input, plan_link, plan_merge, plan_unmerge};
 use formula_tree::Node;
-use line_map::EditKind;
 use sheet_actions::Model as PlainModel;
 use sheet_grid::{Content, Link, Workbook};
-use sheet_history::{DiffList, LineAxis};
+use sheet_history::DiffList;
 use sheet_wire::{decode_queue, encode_queue};
 use std::alloc::Global;
 use std::fmt;
@@ -125,7 +122,7 @@ impl<R: Recalc + Drop> UserModel<R> {
     /// a display language that are given by their names. Its values are made.
     ///
     /// `LocaleName`, `ZoneName` and `LanguageName`, in this order, where there is none of that name,
-    /// else `NoMemory` where there is not enough. docs/FORMULAS.md has the names.
+    /// else `NoMemory` where there is not enough. docs/MODEL.md tells where the names stand.
     ///
     /// ```
     /// let model = UserModel::new_empty(alloc, "budget", "de", "Europe/Berlin", "de", ClearAll)?;
@@ -149,23 +146,23 @@ impl<R: Recalc + Drop> UserModel<R> {
         open(alloc, workbook, language, recalc)
     }
 
-    /// A model of a copy of a plain model's workbook. Its display language is English, and its values
-    /// are made. The only error is `NoMemory`.
+    /// A model of a plain model's workbook. Its display language is English, and its values are made.
+    /// The only error is `NoMemory`.
     ///
     /// ```
-    /// let model = UserModel::from_model(alloc, &plain, ClearAll)?;
+    /// let model = UserModel::from_model(alloc, plain, ClearAll)?;
     /// ```
     pub fn from_model(
         alloc: Global,
-        model: &PlainModel,
+        model: PlainModel,
         recalc: R,
     ) -> Result<UserModel<R>, EditError>
-        ensures stands { IfOk result (λ opened. StandsFor opened.document (begun En (book_of model.now))) }
+        ensures stands { IfOk result (λ opened. StandsFor opened.document (begun En (book_of model))) }
         ensures fits { IfOk result (λ opened. R.Fits opened.document.book opened.values) }
         ensures paused { IfOk result (λ opened. opened.paused ≡ false) }
         ensures only { IsOkUnless result NoMemory }
     {
-        open(alloc, copy_of(model.workbook())?, Language::En, recalc)
+        open(alloc, model.into_workbook(), Language::En, recalc)
     }
 
     /// The workbook as it is now. It takes no memory.
@@ -182,6 +179,10 @@ impl<R: Recalc + Drop> UserModel<R> {
     }
 
     /// The name of the workbook. It takes no memory.
+    ///
+    /// ```
+    /// let name = model.get_name();
+    /// ```
     pub fn get_name(&self) -> &str
         ensures { result.now ≡ self.now.document.book.name }
     {
@@ -213,14 +214,13 @@ impl<R: Recalc + Drop> UserModel<R> {
 
     /// How the cell at a row and a column of the sheet at an index stands to the arrays of the sheet.
     /// Entered arrays come before dynamic formulas, and of either the first by position; a dynamic
-    /// formula without a computed value fills one cell.
+    /// formula without a computed value fills one cell. It takes no memory.
     ///
     /// `InvalidSheet` where there is no such sheet, else `InvalidRow` where the row is outside the
     /// sheet, else `InvalidColumn` where the column is.
     ///
     /// ```
-    /// if let CellArrayStructure::ArrayAnchor(width, height) = model.get_cell_array_structure(0, 1, 1)? {
-    /// }
+    /// let is_alone = model.get_cell_array_structure(0, 1, 1)? == CellArrayStructure::SingleCell;
     /// ```
     pub fn get_cell_array_structure(
         &self,
@@ -228,7 +228,7 @@ impl<R: Recalc + Drop> UserModel<R> {
         row: i32,
         column: i32,
     ) -> Result<CellArrayStructure, EditError>
-        ensures { Returns result (structure_at sheet row column self.now.values self.now.document.book) }
+        ensures { result ≡ structure_at sheet row column self.now.values self.now.document.book }
     {
         structure_at(
             &self.results.values,
@@ -240,6 +240,12 @@ impl<R: Recalc + Drop> UserModel<R> {
     }
 
     /// Whether there is something to take back. It takes no memory.
+    ///
+    /// ```
+    /// if model.can_undo() {
+    ///     model.undo()?;
+    /// }
+    /// ```
     pub fn can_undo(&self) -> bool
         ensures { result ≡ not (is_none_left self.now.document.undo) }
     {
@@ -247,6 +253,12 @@ impl<R: Recalc + Drop> UserModel<R> {
     }
 
     /// Whether there is something to make again. It takes no memory.
+    ///
+    /// ```
+    /// if model.can_redo() {
+    ///     model.redo()?;
+    /// }
+    /// ```
     pub fn can_redo(&self) -> bool
         ensures { result ≡ not (is_none_left self.now.document.redo) }
     {
@@ -268,6 +280,11 @@ impl<R: Recalc + Drop> UserModel<R> {
     }
 
     /// From now on values are made with each change. It computes nothing itself, and takes no memory.
+    ///
+    /// ```
+    /// model.resume_evaluation();
+    /// model.evaluate()?;
+    /// ```
     pub fn resume_evaluation(&mut self)
         ensures { self.new ≡ record self.old { paused = false } }
     {
@@ -276,6 +293,10 @@ impl<R: Recalc + Drop> UserModel<R> {
 
     /// Makes the values of the workbook, also while they wait. The only error is `NoMemory`, and
     /// nothing has changed then.
+    ///
+    /// ```
+    /// model.evaluate()?;
+    /// ```
     pub fn evaluate(&mut self) -> Result<(), EditError>
         ensures document { self.new.document ≡ self.old.document }
         ensures fits { OnOk result (R.Fits self.new.document.book self.new.values) }
@@ -299,49 +320,6 @@ impl<R: Recalc + Drop> UserModel<R> {
         self.book.make(&mut self.results, &mut self.recalc, plan)
     }
 
-    /// Edits lines along an axis, which is `A`.
-    fn edit_lines<A: Axis>(
-        &mut self,
-        sheet: u32,
-        axis: LineAxis,
-        kind: EditKind,
-    ) -> Result<(), EditError>
-        requires { A.along ≡ along_of axis }
-        ensures next { (state : State) → StandsFor self.old.document state → Moves result self.new.document (edit_of (Lines sheet axis kind) state) }
-        ensures made { OnOk result (IsMade R.Fits self.new) }
-        ensures err { OnErr result (self.new ≡ self.old) }
-        ensures paused { self.new.paused ≡ self.old.paused }
-    {
-        self.book
-            .edit_lines::<R, A>(&mut self.results, &mut self.recalc, sheet, axis, kind)
-    }
-
-    /// Moves lines along an axis, which is `A`, past the hidden ones in the way.
-    fn move_lines<A: Axis>(
-        &mut self,
-        sheet: u32,
-        axis: LineAxis,
-        first: i32,
-        count: i32,
-        delta: i32,
-    ) -> Result<(), EditError>
-        requires { A.along ≡ along_of axis }
-        ensures next { (state : State) → StandsFor self.old.document state → Moves result self.new.document (edit_of (MoveLines sheet axis first count delta) state) }
-        ensures made { OnOk result (Makes (is_silent (MoveLines sheet axis first count delta)) R.Fits self.old self.new) }
-        ensures err { OnErr result (self.new ≡ self.old) }
-        ensures paused { self.new.paused ≡ self.old.paused }
-    {
-        self.book.move_lines::<R, A>(
-            &mut self.results,
-            &mut self.recalc,
-            sheet,
-            axis,
-            first,
-            count,
-            delta,
-        )
-    }
-
     /// Puts a content at a row and a column of the sheet at an index, and records the change.
     fn set_content(
         &mut self,
@@ -352,7 +330,7 @@ impl<R: Recalc + Drop> UserModel<R> {
     ) -> Result<(), EditError>
         requires kept { IsKeptContent content }
         requires input { IsInput row column content }
-        ensures next { (state : State) → StandsFor self.old.document state → Moves result self.new.document (edit_of (Input sheet row column content) state) }
+        ensures next { Steps result self.old.document self.new.document (edit_of (Input sheet row column content)) }
         ensures made { OnOk result (IsMade R.Fits self.new) }
         ensures err { OnErr result (self.new ≡ self.old) }
         ensures paused { self.new.paused ≡ self.old.paused }
@@ -393,7 +371,7 @@ impl<R: Recalc + Drop> UserModel<R> {
         column: i32,
         value: &str,
     ) -> Result<(), EditError>
-        ensures next { (state : State) → StandsFor self.old.document state → Moves result self.new.document (edit_of (Input sheet row column (typed state.present state.language row column value.now)) state) }
+        ensures next { Steps result self.old.document self.new.document (text_typed sheet row column value.now) }
         ensures made { OnOk result (IsMade R.Fits self.new) }
         ensures err { OnErr result (self.new ≡ self.old) }
         ensures paused { self.new.paused ≡ self.old.paused }
@@ -419,7 +397,7 @@ impl<R: Recalc + Drop> UserModel<R> {
     ) -> Result<(), EditError>
         requires kept { IsTrue (has_kept_numbers tree) }
         requires fits { IsTrue (fits_at (anchor_place area) (Array tree area.width area.height)) }
-        ensures next { (state : State) → StandsFor self.old.document state → Moves result self.new.document (edit_of (ArrayInput sheet area tree) state) }
+        ensures next { Steps result self.old.document self.new.document (edit_of (ArrayInput sheet area tree)) }
         ensures made { OnOk result (IsMade R.Fits self.new) }
         ensures err { OnErr result (self.new ≡ self.old) }
         ensures paused { self.new.paused ≡ self.old.paused }
@@ -452,7 +430,7 @@ impl<R: Recalc + Drop> UserModel<R> {
         height: i32,
         formula: &str,
     ) -> Result<(), EditError>
-        ensures next { (state : State) → StandsFor self.old.document state → Moves result self.new.document (edit_of (ArrayInput sheet (rectangle row column width height) (formula_typed state.present state.language row column formula.now)) state) }
+        ensures next { Steps result self.old.document self.new.document (array_typed sheet (rectangle row column width height) formula.now) }
         ensures made { OnOk result (IsMade R.Fits self.new) }
         ensures err { OnErr result (self.new ≡ self.old) }
         ensures paused { self.new.paused ≡ self.old.paused }
@@ -479,7 +457,7 @@ impl<R: Recalc + Drop> UserModel<R> {
         column: i32,
         link: Option<Link>,
     ) -> Result<(), EditError>
-        ensures next { (state : State) → StandsFor self.old.document state → Moves result self.new.document (edit_of (SetLink sheet row column link) state) }
+        ensures next { Steps result self.old.document self.new.document (edit_of (SetLink sheet row column link)) }
         ensures made { OnOk result (IsMade R.Fits self.new) }
         ensures err { OnErr result (self.new ≡ self.old) }
         ensures paused { self.new.paused ≡ self.old.paused }
@@ -506,7 +484,7 @@ impl<R: Recalc + Drop> UserModel<R> {
         column: i32,
         target: &str,
     ) -> Result<(), EditError>
-        ensures next { (state : State) → StandsFor self.old.document state → Moves result self.new.document (edit_of (SetLink sheet row column (Some (link_to target.now))) state) }
+        ensures next { Steps result self.old.document self.new.document (edit_of (SetLink sheet row column (Some (link_to target.now)))) }
         ensures made { OnOk result (IsMade R.Fits self.new) }
         ensures err { OnErr result (self.new ≡ self.old) }
         ensures paused { self.new.paused ≡ self.old.paused }
@@ -524,7 +502,7 @@ impl<R: Recalc + Drop> UserModel<R> {
     /// model.delete_cell_link(0, 1, 1)?;
     /// ```
     pub fn delete_cell_link(&mut self, sheet: u32, row: i32, column: i32) -> Result<(), EditError>
-        ensures next { (state : State) → StandsFor self.old.document state → Moves result self.new.document (edit_of (SetLink sheet row column None) state) }
+        ensures next { Steps result self.old.document self.new.document (edit_of (SetLink sheet row column None)) }
         ensures made { OnOk result (IsMade R.Fits self.new) }
         ensures err { OnErr result (self.new ≡ self.old) }
         ensures paused { self.new.paused ≡ self.old.paused }
@@ -544,7 +522,7 @@ impl<R: Recalc + Drop> UserModel<R> {
     /// model.merge_cells(&Area { sheet: 0, row: 1, column: 1, width: 3, height: 1 })?;
     /// ```
     pub fn merge_cells(&mut self, area: &Area) -> Result<(), EditError>
-        ensures next { (state : State) → StandsFor self.old.document state → Moves result self.new.document (edit_of (Merge area.now.sheet (rectangle_of area.now)) state) }
+        ensures next { Steps result self.old.document self.new.document (edit_of (Merge area.now.sheet (rectangle_of area.now))) }
         ensures made { OnOk result (IsMade R.Fits self.new) }
         ensures err { OnErr result (self.new ≡ self.old) }
         ensures paused { self.new.paused ≡ self.old.paused }
@@ -554,7 +532,7 @@ impl<R: Recalc + Drop> UserModel<R> {
 
     /// Merges the cells of a rectangle of the sheet at an index.
     fn merge(&mut self, sheet: u32, area: MergedCell) -> Result<(), EditError>
-        ensures next { (state : State) → StandsFor self.old.document state → Moves result self.new.document (edit_of (Merge sheet area) state) }
+        ensures next { Steps result self.old.document self.new.document (edit_of (Merge sheet area)) }
         ensures made { OnOk result (IsMade R.Fits self.new) }
         ensures err { OnErr result (self.new ≡ self.old) }
         ensures paused { self.new.paused ≡ self.old.paused }
@@ -570,8 +548,12 @@ impl<R: Recalc + Drop> UserModel<R> {
     /// `InvalidSheet` where there is no such sheet, else `InvalidRow` where the row is outside the
     /// sheet, else `InvalidColumn` where the column is, else `NoMerge` where no merge holds the cell,
     /// else `NoMemory` where there is not enough. An error changes nothing.
+    ///
+    /// ```
+    /// model.unmerge_cells(0, 1, 2)?;
+    /// ```
     pub fn unmerge_cells(&mut self, sheet: u32, row: i32, column: i32) -> Result<(), EditError>
-        ensures next { (state : State) → StandsFor self.old.document state → Moves result self.new.document (edit_of (Unmerge sheet row column) state) }
+        ensures next { Steps result self.old.document self.new.document (edit_of (Unmerge sheet row column)) }
         ensures made { OnOk result (IsMade R.Fits self.new) }
         ensures err { OnErr result (self.new ≡ self.old) }
         ensures paused { self.new.paused ≡ self.old.paused }
@@ -579,144 +561,6 @@ impl<R: Recalc + Drop> UserModel<R> {
         let book = &self.book;
         let plan = plan_unmerge(book.alloc, &book.workbook, sheet, row, column);
         self.make(plan)
-    }
-
-    /// Inserts empty rows in the sheet at an index, as many as the count, before a row. Its cells
-    /// with their links, its merges and its rows go where their lines go, and the formulas of all
-    /// sheets follow.
-    ///
-    /// `InvalidSheet` where there is no such sheet, else `BadCount` where the count is below 1, else
-    /// `InvalidRow` where the row is outside the sheet, else `SplitsArray` where an array stands on
-    /// both sides of it, else `OverEdge` where the last row with a cell, or that an array fills, and
-    /// the count together exceed the last row of the sheet, else `NoMemory` where there is not
-    /// enough. An error changes nothing. docs/MODEL.md has the rules.
-    pub fn insert_rows(&mut self, sheet: u32, row: i32, count: i32) -> Result<(), EditError>
-        ensures next { (state : State) → StandsFor self.old.document state → Moves result self.new.document (edit_of (Lines sheet Rows (Insert row count)) state) }
-        ensures made { OnOk result (IsMade R.Fits self.new) }
-        ensures err { OnErr result (self.new ≡ self.old) }
-        ensures paused { self.new.paused ≡ self.old.paused }
-    {
-        self.edit_lines::<RowAxis>(
-            sheet,
-            LineAxis::Rows,
-            EditKind::Insert { first: row, count },
-        )
-    }
-
-    /// Inserts empty columns in the sheet at an index, as many as the count, before a column. Its cells
-    /// with their links, its merges and its columns go where their lines go, and the formulas of all
-    /// sheets follow.
-    ///
-    /// `InvalidSheet` where there is no such sheet, else `BadCount` where the count is below 1, else
-    /// `InvalidColumn` where the column is outside the sheet, else `SplitsArray` where an array stands on
-    /// both sides of it, else `OverEdge` where the last column with a cell, or that an array fills, and
-    /// the count together exceed the last column of the sheet, else `NoMemory` where there is not
-    /// enough. An error changes nothing. docs/MODEL.md has the rules.
-    pub fn insert_columns(&mut self, sheet: u32, column: i32, count: i32) -> Result<(), EditError>
-        ensures next { (state : State) → StandsFor self.old.document state → Moves result self.new.document (edit_of (Lines sheet Columns (Insert column count)) state) }
-        ensures made { OnOk result (IsMade R.Fits self.new) }
-        ensures err { OnErr result (self.new ≡ self.old) }
-        ensures paused { self.new.paused ≡ self.old.paused }
-    {
-        self.edit_lines::<ColumnAxis>(
-            sheet,
-            LineAxis::Columns,
-            EditKind::Insert {
-                first: column,
-                count,
-            },
-        )
-    }
-
-    /// Deletes rows of the sheet at an index, as many as the count, from a row on. What stood there
-    /// can be taken back by `undo`.
-    ///
-    /// `InvalidSheet`, `BadCount` and `InvalidRow` as `insert_rows` answers them, else
-    /// `TargetOutOfBounds` where the last row to delete is outside the sheet, else `SplitsArray`
-    /// where an array has some of these rows and others, else `NoMemory` where there is not enough.
-    /// An error changes nothing. docs/MODEL.md has the rules.
-    pub fn delete_rows(&mut self, sheet: u32, row: i32, count: i32) -> Result<(), EditError>
-        ensures next { (state : State) → StandsFor self.old.document state → Moves result self.new.document (edit_of (Lines sheet Rows (Delete row count)) state) }
-        ensures made { OnOk result (IsMade R.Fits self.new) }
-        ensures err { OnErr result (self.new ≡ self.old) }
-        ensures paused { self.new.paused ≡ self.old.paused }
-    {
-        self.edit_lines::<RowAxis>(
-            sheet,
-            LineAxis::Rows,
-            EditKind::Delete { first: row, count },
-        )
-    }
-
-    /// Deletes columns of the sheet at an index, as many as the count, from a column on. What stood there
-    /// can be taken back by `undo`.
-    ///
-    /// `InvalidSheet`, `BadCount` and `InvalidColumn` as `insert_columns` answers them, else
-    /// `TargetOutOfBounds` where the last column to delete is outside the sheet, else `SplitsArray`
-    /// where an array has some of these columns and others, else `NoMemory` where there is not enough.
-    /// An error changes nothing. docs/MODEL.md has the rules.
-    pub fn delete_columns(&mut self, sheet: u32, column: i32, count: i32) -> Result<(), EditError>
-        ensures next { (state : State) → StandsFor self.old.document state → Moves result self.new.document (edit_of (Lines sheet Columns (Delete column count)) state) }
-        ensures made { OnOk result (IsMade R.Fits self.new) }
-        ensures err { OnErr result (self.new ≡ self.old) }
-        ensures paused { self.new.paused ≡ self.old.paused }
-    {
-        self.edit_lines::<ColumnAxis>(
-            sheet,
-            LineAxis::Columns,
-            EditKind::Delete {
-                first: column,
-                count,
-            },
-        )
-    }
-
-    /// Moves rows of the sheet at an index, as many as the count, from a first one on, by `delta`
-    /// rows on, or back where it is below 0. Hidden rows in the way are passed too, beyond `delta`.
-    /// What stands there goes along, and the formulas of all sheets follow.
-    ///
-    /// Where `delta` is 0 or the count below 1 nothing is done and recorded, whatever else is asked.
-    /// Else `InvalidSheet` where there is no such sheet, else `TargetOutOfBounds` where one of these
-    /// rows, or where it goes, is outside the sheet, else `SplitsArray` where an array has some of the
-    /// rows, or some that they pass, and others, else `SplitsMerge` where a merge has, else `NoMemory`
-    /// where there is not enough. An error changes nothing. docs/MODEL.md has the rules.
-    pub fn move_rows_action(
-        &mut self,
-        sheet: u32,
-        first: i32,
-        count: i32,
-        delta: i32,
-    ) -> Result<(), EditError>
-        ensures next { (state : State) → StandsFor self.old.document state → Moves result self.new.document (edit_of (MoveLines sheet Rows first count delta) state) }
-        ensures made { OnOk result (Makes (is_silent (MoveLines sheet Rows first count delta)) R.Fits self.old self.new) }
-        ensures err { OnErr result (self.new ≡ self.old) }
-        ensures paused { self.new.paused ≡ self.old.paused }
-    {
-        self.move_lines::<RowAxis>(sheet, LineAxis::Rows, first, count, delta)
-    }
-
-    /// Moves columns of the sheet at an index, as many as the count, from a first one on, by `delta`
-    /// columns on, or back where it is below 0. Hidden columns in the way are passed too, beyond `delta`.
-    /// What stands there goes along, and the formulas of all sheets follow.
-    ///
-    /// Where `delta` is 0 or the count below 1 nothing is done and recorded, whatever else is asked.
-    /// Else `InvalidSheet` where there is no such sheet, else `TargetOutOfBounds` where one of these
-    /// columns, or where it goes, is outside the sheet, else `SplitsArray` where an array has some of the
-    /// columns, or some that they pass, and others, else `SplitsMerge` where a merge has, else `NoMemory`
-    /// where there is not enough. An error changes nothing. docs/MODEL.md has the rules.
-    pub fn move_columns_action(
-        &mut self,
-        sheet: u32,
-        first: i32,
-        count: i32,
-        delta: i32,
-    ) -> Result<(), EditError>
-        ensures next { (state : State) → StandsFor self.old.document state → Moves result self.new.document (edit_of (MoveLines sheet Columns first count delta) state) }
-        ensures made { OnOk result (Makes (is_silent (MoveLines sheet Columns first count delta)) R.Fits self.old self.new) }
-        ensures err { OnErr result (self.new ≡ self.old) }
-        ensures paused { self.new.paused ≡ self.old.paused }
-    {
-        self.move_lines::<ColumnAxis>(sheet, LineAxis::Columns, first, count, delta)
     }
 
     /// Takes the newest step back. Without one nothing is done.
@@ -730,7 +574,7 @@ impl<R: Recalc + Drop> UserModel<R> {
     /// model.redo()?;
     /// ```
     pub fn undo(&mut self) -> Result<(), EditError>
-        ensures next { (state : State) → StandsFor self.old.document state → Turns result self.new.document (undo_of state) }
+        ensures next { OnStates self.old.document (λ state. Turns result self.new.document (undo_of state)) }
         ensures made { OnOk result (Makes (is_none_left self.old.document.undo) R.Fits self.old self.new) }
         ensures err { OnErr result (self.new ≡ self.old) }
         ensures paused { self.new.paused ≡ self.old.paused }
@@ -740,8 +584,13 @@ impl<R: Recalc + Drop> UserModel<R> {
 
     /// Makes the newest undone step again. Without one nothing is done. The errors are those of
     /// `undo`, and change nothing.
+    ///
+    /// ```
+    /// model.undo()?;
+    /// model.redo()?;
+    /// ```
     pub fn redo(&mut self) -> Result<(), EditError>
-        ensures next { (state : State) → StandsFor self.old.document state → Turns result self.new.document (redo_of state) }
+        ensures next { OnStates self.old.document (λ state. Turns result self.new.document (redo_of state)) }
         ensures made { OnOk result (Makes (is_none_left self.old.document.redo) R.Fits self.old self.new) }
         ensures err { OnErr result (self.new ≡ self.old) }
         ensures paused { self.new.paused ≡ self.old.paused }
@@ -759,10 +608,10 @@ impl<R: Recalc + Drop> UserModel<R> {
     /// other.apply_external_diffs(&bytes)?;
     /// ```
     pub fn flush_send_queue(&mut self) -> Result<Vec<u8>, EditError>
-        ensures bytes { (state : State) → StandsFor self.old.document state → IfOk result (λ bytes. bytes.items ≡ sync_bytes state) }
-        ensures carries { (state : State) → StandsFor self.old.document state → IfOk result (λ bytes. IfSome state.synced (λ book. Carries state.sent bytes.items book state.present)) }
-        ensures fits { (state : State) → StandsFor self.old.document state → OnOk result (FitsQueue state.sent) }
-        ensures next { (state : State) → StandsFor self.old.document state → Moves result self.new.document (Ok (synced_of state)) }
+        ensures bytes { OnStates self.old.document (λ state. IfOk result (λ bytes. bytes.items ≡ sync_bytes state)) }
+        ensures carries { OnStates self.old.document (λ state. IfOk result (λ bytes. CarriesOn bytes.items state)) }
+        ensures fits { OnStates self.old.document (λ state. OnOk result (FitsQueue state.sent)) }
+        ensures next { Steps result self.old.document self.new.document (λ state. Ok (synced_of state)) }
         ensures values { self.new.values ≡ self.old.values }
         ensures err { OnErr result (self.new ≡ self.old) }
         ensures paused { self.new.paused ≡ self.old.paused }
@@ -779,13 +628,19 @@ impl<R: Recalc + Drop> UserModel<R> {
     /// with the numbers of the first entry and diff that do not fit; exactly the entries before it
     /// stand. After `NoMemory` some first entries stand. Bytes of `flush_send_queue` that carry this
     /// workbook to a later one lead there, and `NoMemory` is then the only error.
+    ///
+    /// ```
+    /// let bytes = first.flush_send_queue()?;
+    /// second.apply_external_diffs(&bytes)?;
+    /// ```
     pub fn apply_external_diffs(&mut self, bytes: &[u8]) -> Result<(), EditError>
-        ensures next { (state : State) (entries : List Entry) → StandsFor self.old.document state → FitsQueue entries → bytes.now ≡ spell_queue entries → Leaves result self.new.document entries state }
+        ensures next { OnStates self.old.document (λ state. WhereSpelled bytes.now (λ entries. Leaves result self.new.document entries state)) }
         ensures led { WhereCarried bytes.now self.old.document.book (λ later. OnOk result (self.new.document.book ≡ later)) }
         ensures carried { WhereCarried bytes.now self.old.document.book (λ later. IsOkUnless result NoMemory) }
         ensures unspelled { IsNoQueue bytes.now → Edits result self.old self.new (Err ParseDiffs) }
         ensures parsed { result ≡ Err ParseDiffs → IsNoQueue bytes.now }
-        ensures made { IsMade R.Fits self.new ⊎ (self.new ≡ self.old) }
+        ensures made { WhereSpelled bytes.now (λ entries. LeavesMade result entries R.Fits self.old self.new) }
+        ensures made_or_same { IsMade R.Fits self.new ⊎ (self.new ≡ self.old) }
         ensures paused { self.new.paused ≡ self.old.paused }
     {
         let queue = decode_queue(self.book.alloc, self.book.plain.shared(), bytes)?;

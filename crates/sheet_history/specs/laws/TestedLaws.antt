@@ -4,7 +4,6 @@ use Rattle.std.specs.Prelude.{IsTrue, is_some}
 use Rattle.base_values.specs.declared.EditError.{EditError}
 use Rattle.base_values.specs.declared.EditError.TheVariants.{DiffRefused}
 use Rattle.base_values.specs.declared.Position.{Position}
-use Rattle.base_values.specs.Answers.{Edits}
 use Rattle.sheet_grid.specs.declared.Cell.{Cell}
 use Rattle.sheet_grid.specs.declared.Link.{Link}
 use Rattle.sheet_grid.specs.Book.{Book}
@@ -126,9 +125,3 @@ in_entry_is at (Err error) next is = absurd (let never : ◌≡◌ {A = Result B
 
 pub entry_rules : (at : ℕ) (kind : DiffType) (book : Book) (diffs : List Diff) (next : Book) → in_entry at (follow kind book diffs) ≡ Ok next → IsWellFormed next
 entry_rules at kind book diffs next is = follow_rules kind book diffs next (in_entry_is at (follow kind book diffs) next is)
-
--- an edit that may have been refused keeps what its result has
-pub edit_keeps : (P : Book → Type 0) (result : Result (Unit {0}) EditError) (old new : Book) (expected : Result Book EditError) → Edits result old new expected
-    → ((next : Book) → expected ≡ Ok next → P next) → P old → P new
-edit_keeps P (Ok done) old new expected edits keeps all = keeps new edits.done
-edit_keeps P (Err error) old new expected edits keeps all = subst P (sym edits.refused.0) all

@@ -24,11 +24,11 @@ use Rattle.sheet_grid.specs.Sheet.{Sheet}
 use Rattle.sheet_grid.specs.Book.{Book}
 use Rattle.line_edits.specs.declared.EditKind.{EditKind}
 use Rattle.line_edits.specs.Edit.{IsValid}
-use Rattle.line_edits.specs.Moves.{LineMoves, IsOneToOne, edit_moves, place_image}
+use Rattle.line_edits.specs.Moves.{LineMoves, edit_moves, place_image}
 use Rattle.line_edits.specs.laws.OneToOne.{edit_one_to_one}
 use Rattle.line_map.specs.Attributes.{line_goes_along, heirs, lines_carried, lines_restored}
 use Rattle.line_map.specs.Contents.{cell_carried, cell_part, cell_restored}
-use Rattle.line_map.specs.Maps.{places_carried, places_restored}
+use Rattle.line_map.specs.Maps.{entry_part, places_carried, places_restored}
 use Rattle.line_map.specs.Merges.{merge_carried, merges_carried, merges_part}
 use Rattle.line_map.specs.Way.{Way, IsWay, at, back, place_goes, is_along}
 use Rattle.line_map.specs.laws.AttributeLaws.{both_of, lines_restore}
@@ -37,8 +37,8 @@ use Rattle.line_map.specs.laws.MergeLaws.{merges_come_back, merges_restore}
 use Rattle.line_map.specs.laws.WayLaws.{goes_inverse}
 use Rattle.sheet_lines.specs.declared.kept.KeptLines.{KeptLines}
 use Rattle.sheet_lines.specs.Back.{with_lost, merges_back, sheet_back, book_back}
-use Rattle.sheet_lines.specs.Followed.{way_of, sheet_followed, book_followed}
-use Rattle.sheet_lines.specs.Kept.{lines_of, of_sheet, trees_kept, formulas_kept, merges_kept, kept_lines}
+use Rattle.sheet_lines.specs.Followed.{way_of, way_of_edit, sheet_followed, book_followed}
+use Rattle.sheet_lines.specs.Kept.{lines_of, of_sheet, cells_lost, trees_kept, formulas_kept, merges_kept, kept_lines}
 use Rattle.sheet_lines.specs.Sheets.{sheet_of, name_of, HasDistinctIds}
 
 -- ---- a sheet
@@ -71,7 +71,7 @@ module _ (w : Way) (is : IsWay w) where
   -- the cells of a sheet, with trees that are those kept of them
   cells_regained : (cells given : FinMap position_cmp Cell) (trees : Position → Option Node) →
       (w.is_edited ≡ true → given ≡ lost_map (place_image w.along w.moves.to) cells) →
-      ((p : Position) → trees p ≡ if_there (get cells p) (λ cell. if_there (place_goes w p) (λ q. cell_part (at w p q) cell))) →
+      ((p : Position) → trees p ≡ entry_part cell_part w cells p) →
       with_lost w given (places_restored cell_carried (λ _ cell tree. cell_restored cell tree) w trees (places_carried cell_carried w cells)) ≡ cells
   cells_regained cells given trees lost kept = map_regained cell_carried (λ _ cell tree. cell_restored cell tree) trees cells given lost (λ p q x there held.
       ap (λ o. settled (cell_carried (back (at w p q))) cell_restored o (cell_carried (at w p q) x))
@@ -120,14 +120,12 @@ columns_alone a l h = by_axis l.one_of
 -- the trees that are kept under an id are those of the formulas of its sheet
 pub formulas_at : (a : Along) (m : LineMoves) (id : ℕ) (edited : List ℕ) (book : Book) → HasDistinctIds book → (n : ℕ) (p : Position) →
     get (formulas_kept a m id edited book.worksheets) (place_on n p) ≡
-    if_there (sheet_of book n) (λ sheet. if_there (get sheet.cells p) (λ cell. if_there (place_goes (way_of a m id edited sheet) p)
-    (λ q. cell_part (at (way_of a m id edited sheet) p q) cell)))
+    if_there (sheet_of book n) (λ sheet. entry_part cell_part (way_of a m id edited sheet) sheet.cells p)
 formulas_at a m id edited book distinct n p = get-all_under (λ sheet. sheet.id) (trees_kept a m id edited) book.worksheets distinct n p
     ∙ at_sheet (sheet_of book n)
   where
     at_sheet : (o : Option Sheet) → if_there o (λ sheet. get (trees_kept a m id edited sheet) p) ≡
-        if_there o (λ sheet. if_there (get sheet.cells p) (λ cell. if_there (place_goes (way_of a m id edited sheet) p)
-        (λ q. cell_part (at (way_of a m id edited sheet) p q) cell)))
+        if_there o (λ sheet. entry_part cell_part (way_of a m id edited sheet) sheet.cells p)
     at_sheet None = refl
     at_sheet (Some sheet) = let w : Way = way_of a m id edited sheet in
         get-parts_map position_cmp position_total exact_positions (place_goes w) (λ p q x. cell_part (at w p q) x) sheet.cells p
@@ -147,7 +145,7 @@ module _ (a : Along) (l : IsAxis a) (e : EditKind) (valid : IsValid a.last e) (i
   moves = edit_moves a.last e
 
   abbrev way_to : Sheet → Way
-  way_to sheet = way_of a moves id (name_of (sheet_of book id)) sheet
+  way_to sheet = way_of_edit a e id book sheet
 
   abbrev kept : KeptLines
   kept = kept_lines a e id book
@@ -161,10 +159,9 @@ module _ (a : Along) (l : IsAxis a) (e : EditKind) (valid : IsValid a.last e) (i
       (λ same. ap (of_sheet (λ s. lost_map moves.to (lines_of a s))) (it same)) in
       λ i. record sheet {
         cells = cells_regained w is sheet.cells kept.cells (λ p. get kept.formulas (place_on sheet.id p))
-            (λ same. ap (of_sheet (λ s. lost_map (place_image a moves.to) s.cells)) (it same))
+            (λ same. ap (of_sheet (cells_lost a moves)) (it same))
             (λ p. formulas_at a moves id (name_of (sheet_of book id)) book distinct sheet.id p
-            ∙ ap (λ o. if_there o (λ s. if_there (get s.cells p) (λ cell. if_there (place_goes (way_to s) p)
-            (λ q. cell_part (at (way_to s) p q) cell)))) found) i;
+            ∙ ap (λ o. if_there o (λ s. entry_part cell_part (way_to s) s.cells p)) found) i;
         links = map_regained w is {P = Unit {0}} (λ _ link. link) (λ _ link _. link) (λ _. None) sheet.links kept.links
             (λ same. ap (of_sheet (λ s. lost_map (place_image a moves.to) s.links)) (it same)) (λ p q x there held. refl) i;
         rows = attributes_regained w is rows sheet.rows kept.lines (λ h. let along = both_of w.is_edited (is_along a rows) h in lines along.0

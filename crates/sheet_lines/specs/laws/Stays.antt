@@ -1,5 +1,5 @@
 -- What holds of a workbook that follows, and of one that is taken back.
-use Rattle.std.proofs.Common.{◌≡◌, ◌⊎◌, inl, inr, ℕ, ℤ, true, false, List, [], ◌∷◌, map, Option, Some, None, refl, ap, sym, subst}
+use Rattle.std.proofs.Common.{◌≡◌, ◌⊎◌, inl, inr, ℕ, ℤ, true, false, List, [], ◌∷◌, map, Option, Some, None, ap, sym, subst}
 use Rattle.std.specs.Prelude.{IfSome, IsTrue, if◌then◌else◌}
 use Rattle.std.specs.Option.{option_map}
 use Rattle.std.specs.List.{AllByRecursion}
@@ -45,7 +45,7 @@ use Rattle.line_map.specs.laws.TreeLaws.{tree_restores}
 use Rattle.line_map.specs.laws.WayLaws.{at_is_way, back_is_way, goes_inverse}
 use Rattle.sheet_lines.specs.declared.kept.KeptLines.{KeptLines}
 use Rattle.sheet_lines.specs.Back.{with_lost, merges_back, sheet_back, book_back, LieInside, ArePlacedLines}
-use Rattle.sheet_lines.specs.Followed.{way_of, sheet_followed, book_followed}
+use Rattle.sheet_lines.specs.Followed.{way_of, way_of_edit, sheet_followed, book_followed}
 use Rattle.sheet_lines.specs.Kept.{lines_of}
 use Rattle.sheet_lines.specs.KeptNumbers.{AreKeptFormulas}
 use Rattle.sheet_lines.specs.Sheets.{IsPlacedCell, IsPlacedSheet, IsPlacedBook, sheet_of, name_of}
@@ -165,7 +165,7 @@ way_is a l e valid id edited sheet = record { axis = l; one_to_one = edit_one_to
 
 module _ (a : Along) (l : IsAxis a) (e : EditKind) (valid : IsValid a.last e) (id : ℕ) (book : Book) (placed : IsPlacedBook book) where
   abbrev way_to : Sheet → Way
-  way_to sheet = way_of a (edit_moves a.last e) id (name_of (sheet_of book id)) sheet
+  way_to sheet = way_of_edit a e id book sheet
 
   is_way_to : (sheet : Sheet) → IsWay (way_to sheet)
   is_way_to sheet = way_is a l e valid id (name_of (sheet_of book id)) sheet

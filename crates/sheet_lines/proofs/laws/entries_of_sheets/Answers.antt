@@ -1,22 +1,30 @@
-use Rattle.std.proofs.Common.{ap, ◌∙◌}
+use Rattle.std.proofs.Common.{◌≡◌, ℕ, Some, ap, sym, ◌∙◌}
+use Rattle.std.specs.Prelude.{◌==◌}
 use Rattle.std.specs.Cmp.{int_cmp_total}
-use Rattle.std.specs.FinMap.{get}
+use Rattle.std.specs.FinMap.{FinMap, get}
 use Rattle.std.specs.Ordering.{int_cmp}
 use Rattle.std.proofs.lemmas.Map.Lookups.{exact_signed}
 use Rattle.base_values.specs.Places.{position_cmp}
 use Rattle.base_values.specs.laws.Places.{position_total, exact_positions}
+use Rattle.base_values.specs.declared.Position.{Position}
+use Rattle.base_axis.specs.Along.{Along}
 use Rattle.base_maps.specs.Carried.{lost_map}
 use Rattle.base_maps.specs.laws.CarriedLaws.{get-carried_map}
 use Rattle.base_maps.specs.laws.Gathering.{get-lost_map}
+use Rattle.base_maps.specs.laws.Found.{found_passes}
+use Rattle.line_edits.specs.declared.EditKind.{EditKind}
 use Rattle.line_edits.specs.Moves.{edit_moves, place_image}
 use Rattle.line_map.specs.Contents.{cell_carried}
+use Rattle.line_map.specs.Maps.{entry_lost}
 use Rattle.line_map.specs.Way.{at, back, place_goes}
 use Rattle.line_map.specs.laws.WayLaws.{goes_inverse}
-use Rattle.sheet_lines.specs.Followed.{way_of}
-use Rattle.sheet_lines.specs.Kept.{lines_of, of_sheet, merges_kept}
+use Rattle.sheet_grid.specs.Book.{Book}
+use Rattle.sheet_grid.specs.Sheet.{Sheet}
+use Rattle.sheet_lines.specs.Followed.{way_of, way_of_edit}
+use Rattle.sheet_lines.specs.Kept.{lines_of, of_sheet, cells_lost, merges_kept}
 use Rattle.sheet_lines.specs.Sheets.{sheet_of, name_of}
 use Rattle.sheet_lines.specs.laws.Regained.{formulas_at}
-use Rattle.sheet_lines.specs.laws.Stays.{way_is}
+use Rattle.sheet_lines.specs.laws.Stays.{lost_places, way_is}
 use Rattle.sheet_lines.proofs.laws.entries_of_sheets.Goals as goal
 
 pub returns-clause-cells : goal.returns-clause-cells
@@ -27,18 +35,31 @@ returns-clause-cells g c edited sheet q =
     get-carried_map position_cmp position_total exact_positions (place_goes w) (place_goes (back w))
     (goes_inverse w (way_is a g.met.A.Axis.lawful e c.requires.valid c.args.sheet_id edited sheet)) (λ p q x. cell_carried (at w p q) x) sheet.cells q
 
+-- what is lost of the edited sheet by place
+lost_entries : {X : Type 0} (a : Along) (e : EditKind) (id : ℕ) (book : Book) (sheet : Sheet) (m : FinMap position_cmp X) →
+    sheet_of book id ≡ Some sheet → (p : Position) →
+    get (lost_map (place_image a (edit_moves a.last e).to) m) p ≡ entry_lost (way_of_edit a e id book sheet) m p
+lost_entries a e id book sheet m found p =
+    let w = way_of_edit a e id book sheet in
+    ap (λ lost. get lost p) (sym (lost_places w (found_passes (λ s. s.id == id) book.worksheets sheet found) m))
+    ∙ get-lost_map position_cmp position_total exact_positions (place_goes w) m p
+
 pub returns-clause-lost_cells : goal.returns-clause-lost_cells
-returns-clause-lost_cells g c sheet p found =
-    let to = place_image g.A.Axis.along (edit_moves g.A.Axis.along.last c.args.edit.now.kind).to in
-    ap (λ o. get (of_sheet (λ s. lost_map to s.cells) o) p) found ∙ get-lost_map position_cmp position_total exact_positions to sheet.cells p
+returns-clause-lost_cells g c sheet found p =
+    let a = g.A.Axis.along in
+    let e = c.args.edit.now.kind in
+    ap (λ o. get (of_sheet (cells_lost a (edit_moves a.last e)) o) p) found
+    ∙ lost_entries a e c.args.sheet_id c.args.workbook.now sheet sheet.cells found p
 
 pub returns-clause-lost_links : goal.returns-clause-lost_links
-returns-clause-lost_links g c sheet p found =
-    let to = place_image g.A.Axis.along (edit_moves g.A.Axis.along.last c.args.edit.now.kind).to in
-    ap (λ o. get (of_sheet (λ s. lost_map to s.links) o) p) found ∙ get-lost_map position_cmp position_total exact_positions to sheet.links p
+returns-clause-lost_links g c sheet found p =
+    let a = g.A.Axis.along in
+    let e = c.args.edit.now.kind in
+    ap (λ o. get (of_sheet (λ s. lost_map (place_image a (edit_moves a.last e).to) s.links) o) p) found
+    ∙ lost_entries a e c.args.sheet_id c.args.workbook.now sheet sheet.links found p
 
 pub returns-clause-lost_lines : goal.returns-clause-lost_lines
-returns-clause-lost_lines g c sheet n found =
+returns-clause-lost_lines g c sheet found n =
     let a = g.A.Axis.along in
     let to = (edit_moves a.last c.args.edit.now.kind).to in
     ap (λ o. get (of_sheet (λ s. lost_map to (lines_of a s)) o) n) found ∙ get-lost_map int_cmp int_cmp_total exact_signed to (lines_of a sheet) n

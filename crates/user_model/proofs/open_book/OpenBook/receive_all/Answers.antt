@@ -1,14 +1,16 @@
-use Rattle.std.proofs.Common.{◌≡◌, inl, inr, ◌+◌, ◌<◌, ◌≤◌, Ok, ◌∷◌, ◌++◌, [], List, length, drop, take, refl, sym, ap, subst, ◌∙◌, rules}
+use Rattle.std.proofs.Common.{◌≡◌, ◌+◌, ◌<◌, ◌≤◌, Ok, ◌∷◌, ◌++◌, [], List, length, drop, take, refl, sym, ap, subst, ◌∙◌, rules}
 use Rattle.std.proofs.lemmas.Result.{err_from_is_err_and}
 use Rattle.std.proofs.lemmas.List.{drop_more, take_more}
 use Rattle.sheet_history.specs.declared.QueueDiffs.{QueueDiffs}
+use Rattle.sheet_history.specs.Diffs.{follow}
+use Rattle.user_model.specs.Machine.{outside}
 use Rattle.user_model.specs.Opened.{document_in, session_of}
 use Rattle.user_model.proofs.Moving.{edits_same, received_turns, reached_rules}
-use Rattle.user_model.proofs.Received.{drop_all, reached_start, reached_next, reached_refused, reached_end, still_made}
+use Rattle.user_model.proofs.Received.{drop_all, made_all, made_next, made_refused, reached_start, reached_next, reached_refused, reached_end}
 use Rattle.user_model.proofs.open_book.OpenBook.receive_all.Goals as goal
 
 pub loop-index-init : goal.loop-index-init
-loop-index-init g c = ((λ s stands. reached_start c.args.queue.now s (document_in c.args.self.now) stands), inr refl, refl)
+loop-index-init g c = ((λ s stands. reached_start c.args.queue.now s (document_in c.args.self.now) stands), refl, refl)
 
 pub receive-requires-clause-rules : goal.receive-requires-clause-rules
 receive-requires-clause-rules g c =
@@ -27,7 +29,7 @@ loop-index-preserved g c =
           let reached = c.loop-index.invariant.0 s stands in
           let to = received_turns i e (document_in c.loop-index.self) (document_in c.receive.new.self) (Ok c.in_ok-receive.field-0) (c.in_ok-receive.ensures {u = _}).document reached.now reached.stands in
           reached_next q s i (document_in c.loop-index.self) reached e here (document_in c.receive.new.self) within front to.done),
-      inl (c.in_ok-receive.ensures {u = _}).made,
+      made_next g.R.Recalc.Fits (session_of c.args.self.now c.args.results.now) (session_of c.receive.new.self c.receive.new.results) q i e front (c.in_ok-receive.ensures {u = _}).made,
       c.receive.ensures.paused ∙ c.loop-index.invariant.2,
     )
 
@@ -46,8 +48,14 @@ returns-in_err-receive-clause-next g c =
 
 pub returns-in_err-receive-clause-made : goal.returns-in_err-receive-clause-made
 returns-in_err-receive-clause-made g c =
-    still_made g.R.Recalc.Fits (session_of c.args.self.now c.args.results.now) (session_of c.loop-index.self c.loop-index.results) _
-    (λ i. record { document = c.in_err-receive.ensures.document.refused.0 i; values = (c.in_err-receive.ensures.err i).values; paused = (c.in_err-receive.ensures.err i).paused }) c.loop-index.invariant.1
+    let i = c.loop-index.index in
+    let e = c.index-queue-index.result in
+    let reached = c.loop-index.invariant.0 c.requires.reached.0 c.requires.reached.1 in
+    let to = received_turns i e (document_in c.loop-index.self) _ _ c.in_err-receive.ensures.document reached.now reached.stands in
+    let p = err_from_is_err_and c.from_residual.result c.from_residual.ensures.1 in
+    rw (p.1, p.2) (made_refused g.R.Recalc.Fits (session_of c.args.self.now c.args.results.now) (session_of c.loop-index.self c.loop-index.results) _
+    (λ j. record { document = c.in_err-receive.ensures.document.refused.0 j; values = (c.in_err-receive.ensures.err j).values; paused = (c.in_err-receive.ensures.err j).paused })
+    c.args.queue.now i (follow e.kind reached.now.present e.list) (outside reached.now) c.loop-index.invariant.1 c.in_err-receive.field-0.0 to.refused)
 
 pub returns-in_err-receive-clause-paused : goal.returns-in_err-receive-clause-paused
 returns-in_err-receive-clause-paused g c = c.receive.ensures.paused ∙ c.loop-index.invariant.2
@@ -58,7 +66,9 @@ returns-clause-next g c = λ s stands.
     reached_end c.args.queue.now s c.loop-index.index (document_in c.loop-index.self) (c.loop-index.invariant.0 s stands) (drop_all c.loop-index.index c.args.queue.now over)
 
 pub returns-clause-made : goal.returns-clause-made
-returns-clause-made g c = c.loop-index.invariant.1
+returns-clause-made g c =
+    let over : length c.args.queue.now ≤ c.loop-index.index = search rules in
+    made_all g.R.Recalc.Fits (session_of c.args.self.now c.args.results.now) (session_of c.loop-index.self c.loop-index.results) c.args.queue.now c.loop-index.index over c.loop-index.invariant.1
 
 pub returns-clause-paused : goal.returns-clause-paused
 returns-clause-paused g c = c.loop-index.invariant.2

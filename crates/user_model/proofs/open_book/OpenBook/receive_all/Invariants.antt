@@ -1,8 +1,8 @@
-use Rattle.std.proofs.Common.{◌≡◌, ◌⊎◌}
+use Rattle.std.proofs.Common.{◌≡◌}
 use Rattle.user_model.specs.Machine.{State}
 use Rattle.user_model.specs.Opened.{document_in, session_of}
 use Rattle.user_model.specs.Stands.{StandsFor}
-use Rattle.user_model.specs.Values.{IsMade}
+use Rattle.user_model.specs.Values.{MakesAfter}
 use Rattle.user_model.proofs.Received.{Reached}
 use Rattle.user_model.proofs.open_book.OpenBook.receive_all.Given as goal
 
@@ -10,5 +10,5 @@ use Rattle.user_model.proofs.open_book.OpenBook.receive_all.Given as goal
 abbrev pub invariant-loop-index : goal.invariant-loop-index
 invariant-loop-index g l =
     ((first : State) → StandsFor (document_in l.fn.self) first → Reached l.queue first l.index (document_in l.self))
-    × (IsMade g.R.Recalc.Fits (session_of l.self l.results) ⊎ (session_of l.self l.results ≡ session_of l.fn.self l.fn.results))
+    × MakesAfter l.index l.queue g.R.Recalc.Fits (session_of l.fn.self l.fn.results) (session_of l.self l.results)
     × (l.results.paused ≡ l.fn.results.paused)

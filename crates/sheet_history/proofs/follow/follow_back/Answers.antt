@@ -1,7 +1,7 @@
 use Rattle.std.proofs.Common.{◌≡◌, true, rules}
 use Rattle.sheet_history.specs.Untested.{keeps_rules_back}
 use Rattle.sheet_history.specs.laws.TestedLaws.{backed-taken_back}
-use Rattle.sheet_history.proofs.replay.follow_back.Goals as goal
+use Rattle.sheet_history.proofs.follow.follow_back.Goals as goal
 
 pub returns-then-keeps_rules_back : goal.returns-then-keeps_rules_back
 returns-then-keeps_rules_back c =

@@ -4,11 +4,11 @@ ghost use Rattle.sheet_grid.specs.Merges.{is_empty};
 ghost use Rattle.sheet_rules.specs.Occupied.{may_stand};
 ghost use Rattle.sheet_rules.specs.WellFormed.{IsWellFormed};
 ghost use Rattle.sheet_lines.specs.Sheets.{sheet_of};
-ghost use Rattle.sheet_history.specs.Diffs.{IsKeptList, IsKeptQueue, Replays, backed, follow, forwarded, in_entry};
+ghost use Rattle.sheet_history.specs.Diffs.{IsKeptList, backed, follow, forwarded};
 ghost use Rattle.sheet_history.specs.Untested.{cell_keeps_rules, entry_has_font, is_no_array, keeps_rules, keeps_rules_back, may_stand_on};
 
 use crate::apply::{back, back_in_place, forward, forward_in_place};
-use crate::diff::{Diff, DiffList, DiffType, QueueDiffs};
+use crate::diff::{Diff, DiffList, DiffType};
 use base_shared::Shared;
 use base_values::{EditError, Position};
 use cell_content::Content;
@@ -170,59 +170,4 @@ pub fn follow_in_place(
         DiffType::Undo => follow_back(alloc, workbook, list),
         DiffType::Redo => follow_forward(alloc, workbook, list),
     }
-}
-
-/// Follows one entry of a queue. `at` is its number in the queue.
-fn follow_entry(
-    alloc: Global,
-    workbook: &mut Workbook,
-    entry: &QueueDiffs,
-    at: u64,
-) -> Result<(), EditError>
-    requires kept { IsKeptList entry.now.list }
-    requires rules { IsWellFormed workbook.old }
-    ensures { Edits result workbook.old workbook.new (in_entry at (follow entry.now.kind workbook.old entry.now.list)) }
-{
-    match follow_in_place(alloc, workbook, entry.kind, &entry.list) {
-        Err(EditError::DiffRefused { entry: _, diff }) => {
-            Err(EditError::DiffRefused { entry: at, diff })
-        }
-        other => other,
-    }
-}
-
-/// Follows one entry of a queue, which leaves a well-formed workbook.
-fn follow_by_rule(
-    alloc: Global,
-    workbook: &mut Workbook,
-    entry: &QueueDiffs,
-    at: u64,
-) -> Result<(), EditError>
-    requires kept { IsKeptList entry.now.list }
-    requires rules { IsWellFormed workbook.old }
-    ensures followed { Edits result workbook.old workbook.new (in_entry at (follow entry.now.kind workbook.old entry.now.list)) }
-    ensures rules { IsWellFormed workbook.new }
-{
-    follow_entry(alloc, workbook, entry, at)
-}
-
-/// Follows the entries of a queue one after another, in the workbook itself: an entry of undo takes
-/// its list back, an entry of redo makes its changes.
-///
-/// `DiffRefused` with the numbers of the first entry and diff that do not fit: exactly the entries
-/// before that one stand. After `NoMemory` some first entries stand.
-pub fn replay_in_place(
-    alloc: Global,
-    workbook: &mut Workbook,
-    queue: &[QueueDiffs],
-) -> Result<(), EditError>
-    requires kept { IsKeptQueue queue.now }
-    requires rules { IsWellFormed workbook.old }
-    ensures replayed { Replays result workbook.old workbook.new queue.now }
-    ensures rules { IsWellFormed workbook.new }
-{
-    for (index, entry) in queue.iter().enumerate() {
-        follow_by_rule(alloc, workbook, entry, index as u64)?;
-    }
-    Ok(())
 }

@@ -1,7 +1,7 @@
 use Rattle.std.proofs.Common.{◌≡◌, true, rules}
 use Rattle.sheet_history.specs.Untested.{keeps_rules}
 use Rattle.sheet_history.specs.laws.TestedLaws.{forwarded-made}
-use Rattle.sheet_history.proofs.replay.follow_forward.Goals as goal
+use Rattle.sheet_history.proofs.follow.follow_forward.Goals as goal
 
 pub returns-then-keeps_rules : goal.returns-then-keeps_rules
 returns-then-keeps_rules c =

@@ -1,6 +1,4 @@
 // A user model as its users call it. What stands where was worked out by hand from docs/MODEL.md.
-ghost use Rattle.std.specs.Prelude.{◌≡◌, Unit};
-
 use crate::{CellArrayStructure, ClearAll, Recalc, UserModel};
 use base_axis::Area;
 use base_shared::Shared;

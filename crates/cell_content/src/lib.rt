@@ -10,7 +10,7 @@ mod fitting;
 mod lens;
 
 pub use content::Content;
-pub use fitting::fits_at;
+pub use fitting::{fits_at, tree_fits_at};
 pub use lens::{tree_of, with_tree};
 
 #[cfg(test)]

@@ -12,3 +12,4 @@ pub mod MappedMaps
 pub mod MergeRecords
 pub mod PlanLaws
 pub mod SheetRecords
+pub mod FreeNames

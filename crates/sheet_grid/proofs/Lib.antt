@@ -2,4 +2,5 @@ mod BookLemmas
 mod Indexes
 mod Kepts
 mod LineLemmas
+mod Moving
 mod Rectangles

@@ -13,6 +13,7 @@ ghost use Rattle.sheet_grid.specs.Sheet.{Sheet, new_sheet, cell_at, cell_put, co
 ghost use Rattle.cell_content.specs.declared.Content.TheVariants.{Empty, Number, Boolean, Error as ErrorValue, Text as TextValue, Formula, Dynamic, Array};
 
 mod entries;
+mod fields;
 mod lines;
 mod merges;
 mod sizes;

@@ -1,3 +1,4 @@
 mod DiffLemmas
 mod Placed
+mod SheetPlaced
 mod Standing

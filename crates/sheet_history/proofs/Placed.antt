@@ -31,8 +31,12 @@ use Rattle.sheet_rules.specs.Occupied.{have_merges}
 use Rattle.sheet_rules.specs.WellFormed.{is_place, have_trees, IsWellFormed}
 use Rattle.sheet_lines.specs.Sheets.{IsPlacedCell, IsPlacedSheet, IsPlacedBook, sheet_of}
 use Rattle.sheet_history.specs.Entries.{EntryKey, EntryValue, cell_stands_at, value_fits, sheet_id_of, with_sheet_entry, with_changed, put_entry, accepts}
-use Rattle.sheet_history.specs.Entries.EntryKey.{CellKey, LinkKey, MergesKey}
-use Rattle.sheet_history.specs.Entries.EntryValue.{CellValue, LinkValue, MergesValue}
+use Rattle.sheet_history.specs.Entries.EntryKey.{CellKey, LinkKey, MergesKey, FieldKey}
+use Rattle.sheet_history.specs.Entries.EntryValue.{CellValue, LinkValue, MergesValue, FieldValue}
+use Rattle.sheet_history.specs.declared.field.SheetField.{SheetField}
+use Rattle.sheet_history.specs.declared.field.SheetField.TheVariants as value
+use Rattle.sheet_history.specs.Fields.{Field, with_field}
+use Rattle.sheet_history.specs.Fields.Field.{ColorField, StateField, GridField}
 use Rattle.sheet_history.specs.Diffs.{put_in}
 use Rattle.sheet_history.specs.laws.EntryLaws.{decide}
 use Rattle.sheet_history.specs.laws.SoundEntries.{sheet_merges_inside}
@@ -90,11 +94,18 @@ fits_there : (place : Position) (entry : Option Cell) → cell_stands_at place e
 fits_there place None fits = refl
 fits_there place (Some cell) fits = (both _ _ fits).0
 
+placed_field : (s : Sheet) (field : Field) (v : SheetField) → IsPlacedSheet s → IsPlacedSheet (with_field field v s)
+placed_field s ColorField (value.Color v) all = record { cells = all.cells; merges = all.merges }
+placed_field s StateField (value.State v) all = record { cells = all.cells; merges = all.merges }
+placed_field s GridField (value.GridLines v) all = record { cells = all.cells; merges = all.merges }
+placed_field s _ _ all = all
+
 -- of a sheet with an entry that fits
 placed_entry : (s : Sheet) (k : EntryKey) (v : EntryValue) → value_fits k v ≡ true → IsPlacedSheet s → IsPlacedSheet (with_sheet_entry k v s)
 placed_entry s (CellKey id place) (CellValue entry) fits all = placed-put s place entry (fits_there place entry (both (is_place place) (cell_stands_at place entry) fits).1) all
 placed_entry s (LinkKey id place) (LinkValue entry) fits all = record { cells = all.cells; merges = all.merges }
 placed_entry s (MergesKey id) (MergesValue merges) fits all = record { cells = all.cells; merges = merges_lie merges fits }
+placed_entry s (FieldKey id field) (FieldValue v) fits all = placed_field s field v all
 placed_entry s _ _ fits all = absurd (let never : false ≡ true = fits in cc)
 
 each_changed : (P : Sheet → Type 0) (f : Sheet → Sheet) → ((s : Sheet) → P s → P (f s)) → (id : ℕ) (ss : List Sheet) → AllByRecursion P ss → AllByRecursion P (with_changed id f ss)

@@ -6,18 +6,22 @@ use Rattle.base_values.specs.declared.EditError.TheVariants.{DiffRefused}
 use Rattle.base_values.specs.Answers.{and_then}
 use Rattle.sheet_grid.specs.Book.{Book}
 use Rattle.sheet_grid.specs.Sheet.{Sheet}
-use Rattle.sheet_grid.specs.KeptCell.{IsKeptCell}
+use Rattle.defined_names.specs.Names.{AreKeptPlaced}
+use Rattle.sheet_grid.specs.KeptCell.{IsKeptCell, KeptCells}
 use Rattle.sheet_rules.specs.WellFormed.{broken_rule}
 use Rattle.sheet_lines.specs.KeptNumbers.{AreKeptLines}
 use Rattle.sheet_history.specs.declared.diff.Diff.{Diff}
-use Rattle.sheet_history.specs.declared.diff.Diff.TheVariants.{Cell as CellDiff, Link as LinkDiff, Merges as MergesDiff, Lines as LinesDiff}
+use Rattle.sheet_history.specs.declared.diff.Diff.TheVariants.{Cell as CellDiff, Link as LinkDiff, Merges as MergesDiff, Field as FieldDiff, Lines as LinesDiff, NewSheet as NewDiff, DuplicateSheet as CopyDiff, DeleteSheet as DeletionDiff, MoveSheet as MoveDiff}
 use Rattle.sheet_history.specs.declared.diff.DiffType.{DiffType}
 use Rattle.sheet_history.specs.declared.diff.DiffType.TheVariants.{Undo, Redo}
 use Rattle.sheet_history.specs.declared.diff.QueueDiffs.{QueueDiffs}
 use Rattle.sheet_history.specs.Entries.{EntryKey, EntryValue, value_fits, with_sheet_entry, accepts, put_entry}
-use Rattle.sheet_history.specs.Entries.EntryKey.{CellKey, LinkKey, MergesKey}
-use Rattle.sheet_history.specs.Entries.EntryValue.{CellValue, LinkValue, MergesValue}
+use Rattle.sheet_history.specs.Entries.EntryKey.{CellKey, LinkKey, MergesKey, FieldKey}
+use Rattle.sheet_history.specs.Entries.EntryValue.{CellValue, LinkValue, MergesValue, FieldValue}
+use Rattle.sheet_history.specs.Fields.{old_of, new_of, changed_field}
 use Rattle.sheet_history.specs.LineDiffs.{along_of, lines_forward, lines_back}
+use Rattle.sheet_history.specs.declared.kept_sheet.KeptSheet.{KeptSheet}
+use Rattle.sheet_history.specs.SheetDiffs.{new_forward, new_back, copy_forward, copy_back, deletion_forward, deletion_back, sheet_moves}
 
 -- the sheet with a value at a key. Where it may not stand there, the diff of that number is refused
 abbrev pub sheet_put : ℕ → EntryKey → EntryValue → Sheet → Result Sheet EditError
@@ -27,19 +31,29 @@ sheet_put at key value sheet = if value_fits key value then Ok (with_sheet_entry
 unfoldable pub put_in : ℕ → Book → EntryKey → EntryValue → Result Book EditError
 put_in at book key value = if accepts book key value then Ok (put_entry book key value) else Err (DiffRefused 0 at)
 
--- forward puts the new value, or edits the lines
+-- forward puts the new value, edits the lines, or makes the change of the list of sheets
 abbrev pub step_forward : ℕ → Book → Diff → Result Book EditError
 step_forward at book (CellDiff sheet place old new) = put_in at book (CellKey sheet place) (CellValue new)
 step_forward at book (LinkDiff sheet place old new) = put_in at book (LinkKey sheet place) (LinkValue new)
 step_forward at book (MergesDiff sheet old new) = put_in at book (MergesKey sheet) (MergesValue new)
+step_forward at book (FieldDiff sheet change) = put_in at book (FieldKey sheet (changed_field change)) (FieldValue (new_of change))
 step_forward at book (LinesDiff sheet axis edit kept) = lines_forward at (along_of axis) sheet edit kept book
+step_forward at book (NewDiff sheet index name) = new_forward at sheet index name book
+step_forward at book (CopyDiff source sheet index name) = copy_forward at source sheet index name book
+step_forward at book (DeletionDiff index kept) = deletion_forward at kept book
+step_forward at book (MoveDiff sheet from to) = sheet_moves at sheet from to book
 
--- back puts the old value, or takes the lines back
+-- back puts the old value, takes the lines back, or the change of the list of sheets
 abbrev pub step_back : ℕ → Book → Diff → Result Book EditError
 step_back at book (CellDiff sheet place old new) = put_in at book (CellKey sheet place) (CellValue old)
 step_back at book (LinkDiff sheet place old new) = put_in at book (LinkKey sheet place) (LinkValue old)
 step_back at book (MergesDiff sheet old new) = put_in at book (MergesKey sheet) (MergesValue old)
+step_back at book (FieldDiff sheet change) = put_in at book (FieldKey sheet (changed_field change)) (FieldValue (old_of change))
 step_back at book (LinesDiff sheet axis edit kept) = lines_back at (along_of axis) sheet edit kept book
+step_back at book (NewDiff sheet index name) = new_back at sheet book
+step_back at book (CopyDiff source sheet index name) = copy_back at sheet book
+step_back at book (DeletionDiff index kept) = deletion_back at index kept book
+step_back at book (MoveDiff sheet from to) = sheet_moves at sheet to from book
 
 -- the diffs in order, where the first has the number at
 abbrev pub forward_from : ℕ → Book → List Diff → Result Book EditError
@@ -98,12 +112,22 @@ replayed_from at book (entry ∷ entries) = and_then (in_entry at (follow entry.
 abbrev pub replayed : Book → List QueueDiffs → Result Book EditError
 replayed book entries = replayed_from 0 book entries
 
+-- every number of a kept sheet and of the trees of its names is as a sheet keeps it
+pub record IsKeptSheet (kept : KeptSheet) : Type 0 where
+  pub cells : KeptCells kept.sheet.cells
+  pub names : AreKeptPlaced kept.names
+
 -- every number of what a diff holds is as a sheet keeps it
 abbrev pub IsKeptDiff : Diff → Type 0
 IsKeptDiff (CellDiff sheet place old new) = IfSome old IsKeptCell × IfSome new IsKeptCell
 IsKeptDiff (LinkDiff sheet place old new) = Unit {0}
 IsKeptDiff (MergesDiff sheet old new) = Unit {0}
+IsKeptDiff (FieldDiff sheet change) = Unit {0}
 IsKeptDiff (LinesDiff sheet axis edit kept) = AreKeptLines kept
+IsKeptDiff (NewDiff sheet index name) = Unit {0}
+IsKeptDiff (CopyDiff source sheet index name) = Unit {0}
+IsKeptDiff (DeletionDiff index kept) = IsKeptSheet kept
+IsKeptDiff (MoveDiff sheet from to) = Unit {0}
 
 abbrev pub IsKeptList : List Diff → Type 0
 IsKeptList diffs = All IsKeptDiff diffs

@@ -1,5 +1,7 @@
 pub mod Entries
+pub mod Fields
 pub mod LineDiffs
+pub mod SheetDiffs
 pub mod Diffs
 pub mod Depth
 pub mod Untested

@@ -1,4 +1,4 @@
--- Lists whose results need no test: nothing, one link, or one cell that cannot break a rule.
+-- Lists whose results need no test: nothing, one link, one field of a sheet, or one cell that cannot break a rule.
 use Rattle.std.proofs.Common.{Bool, true, false, ◌&&◌, List, [], ◌∷◌, Option, Some, None}
 use Rattle.std.specs.Prelude.{is_none}
 use Rattle.base_values.specs.declared.Position.{Position}
@@ -10,7 +10,7 @@ use Rattle.sheet_rules.specs.Occupied.{may_stand}
 use Rattle.sheet_rules.specs.WellFormed.{has_font}
 use Rattle.sheet_lines.specs.Sheets.{sheet_of}
 use Rattle.sheet_history.specs.declared.diff.Diff.{Diff}
-use Rattle.sheet_history.specs.declared.diff.Diff.TheVariants.{Cell as CellDiff, Link as LinkDiff, Merges as MergesDiff, Lines as LinesDiff}
+use Rattle.sheet_history.specs.declared.diff.Diff.TheVariants.{Cell as CellDiff, Link as LinkDiff, Merges as MergesDiff, Field as FieldDiff, Lines as LinesDiff, NewSheet as NewDiff, DuplicateSheet as CopyDiff, DeleteSheet as DeletionDiff, MoveSheet as MoveDiff}
 
 -- what is put, a cell or none, has a font of at least size 1
 abbrev pub entry_has_font : Option Cell → Bool
@@ -37,7 +37,12 @@ keeps_rules book [] = true
 keeps_rules book (CellDiff id place old new ∷ []) = cell_keeps_rules (sheet_of book id) place new
 keeps_rules book (LinkDiff id place old new ∷ []) = true
 keeps_rules book (MergesDiff id old new ∷ []) = false
+keeps_rules book (FieldDiff id change ∷ []) = true
 keeps_rules book (LinesDiff id axis edit kept ∷ []) = false
+keeps_rules book (NewDiff sheet index name ∷ []) = false
+keeps_rules book (CopyDiff source sheet index name ∷ []) = false
+keeps_rules book (DeletionDiff index kept ∷ []) = false
+keeps_rules book (MoveDiff sheet from to ∷ []) = false
 keeps_rules book (first ∷ second ∷ rest) = false
 
 -- and one that leaves one for sure where it is taken back
@@ -46,5 +51,10 @@ keeps_rules_back book [] = true
 keeps_rules_back book (CellDiff id place old new ∷ []) = cell_keeps_rules (sheet_of book id) place old
 keeps_rules_back book (LinkDiff id place old new ∷ []) = true
 keeps_rules_back book (MergesDiff id old new ∷ []) = false
+keeps_rules_back book (FieldDiff id change ∷ []) = true
 keeps_rules_back book (LinesDiff id axis edit kept ∷ []) = false
+keeps_rules_back book (NewDiff sheet index name ∷ []) = false
+keeps_rules_back book (CopyDiff source sheet index name ∷ []) = false
+keeps_rules_back book (DeletionDiff index kept ∷ []) = false
+keeps_rules_back book (MoveDiff sheet from to ∷ []) = false
 keeps_rules_back book (first ∷ second ∷ rest) = false

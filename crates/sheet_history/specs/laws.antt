@@ -1,4 +1,8 @@
 pub mod DiffEquals
+pub mod FieldEquals
+pub mod FieldLaws
+pub mod KeptSheetEquals
+pub mod ListEdits
 pub mod Entries
 pub mod EntryLaws
 pub mod PutLaws
@@ -13,5 +17,6 @@ pub mod OneEntry
 pub mod ReplayLaws
 pub mod RuleLaws
 pub mod TestedLaws
+pub mod SheetDiffLaws
 pub mod SoundEntries
 pub mod HistoryEquals

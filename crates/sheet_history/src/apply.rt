@@ -10,7 +10,10 @@ ghost use Rattle.sheet_history.specs.Diffs.{IsKeptDiff, IsKeptList, backed, by_r
 
 use crate::diff::{Diff, DiffList, LineAxis};
 use crate::line_diffs::{lines_back, lines_forward};
-use crate::put::{put_cell, put_link, put_merges};
+use crate::sheet_diffs::{
+    copy_back, copy_forward, deletion_back, deletion_forward, new_back, new_forward, sheet_moves,
+};
+use crate::put::{put_cell, put_field, put_link, put_merges};
 use base_axis::{ColumnAxis, RowAxis};
 use base_values::{EditError, copy_of};
 use line_map::{EditKind, LineEdit};
@@ -98,12 +101,24 @@ fn apply_forward(
             new,
         } => put_link(workbook, *sheet, *position, new, at),
         Diff::Merges { sheet, old: _, new } => put_merges(workbook, *sheet, new, at),
+        Diff::Field { sheet, change } => put_field(workbook, *sheet, change.new_value(), at),
         Diff::Lines {
             sheet,
             axis,
             edit,
             kept,
         } => edit_forward(alloc, workbook, *sheet, *axis, *edit, kept.get(), at),
+        Diff::NewSheet { sheet, index, name } => {
+            new_forward(alloc, workbook, *sheet, *index, name.as_str(), at)
+        }
+        Diff::DuplicateSheet {
+            source,
+            sheet,
+            index,
+            name,
+        } => copy_forward(workbook, *source, *sheet, *index, name.as_str(), at),
+        Diff::DeleteSheet { index: _, kept } => deletion_forward(alloc, workbook, kept.get(), at),
+        Diff::MoveSheet { sheet, from, to } => sheet_moves(workbook, *sheet, *from, *to, at),
     }
 }
 
@@ -128,12 +143,26 @@ fn apply_back(alloc: Global, workbook: &mut Workbook, diff: &Diff, at: u64) -> R
             new: _,
         } => put_link(workbook, *sheet, *position, old, at),
         Diff::Merges { sheet, old, new: _ } => put_merges(workbook, *sheet, old, at),
+        Diff::Field { sheet, change } => put_field(workbook, *sheet, change.old_value(), at),
         Diff::Lines {
             sheet,
             axis,
             edit,
             kept,
         } => edit_back(alloc, workbook, *sheet, *axis, *edit, kept.get(), at),
+        Diff::NewSheet {
+            sheet,
+            index: _,
+            name: _,
+        } => new_back(workbook, *sheet, at),
+        Diff::DuplicateSheet {
+            source: _,
+            sheet,
+            index: _,
+            name: _,
+        } => copy_back(alloc, workbook, *sheet, at),
+        Diff::DeleteSheet { index, kept } => deletion_back(workbook, *index, kept.get(), at),
+        Diff::MoveSheet { sheet, from, to } => sheet_moves(workbook, *sheet, *to, *from, at),
     }
 }
 

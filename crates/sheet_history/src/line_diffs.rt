@@ -7,7 +7,6 @@ ghost use Rattle.std.specs.FinMap.{entries};
 ghost use Rattle.base_values.specs.Answers.{Edits};
 ghost use Rattle.base_values.specs.Places.{is_line};
 ghost use Rattle.base_values.specs.declared.Position.{Position};
-ghost use Rattle.cell_content.specs.Fitting.{tree_fits_at};
 ghost use Rattle.line_edits.specs.Edit.{IsValid, image_at, opposite_of};
 ghost use Rattle.line_edits.specs.Moves.{place_image};
 ghost use Rattle.sheet_grid.specs.Arrays.{array_at};
@@ -24,8 +23,8 @@ use base_axis::{Axis, MergeList};
 use base_maps::{NumberMap, PositionMap, SheetPlaceMap};
 use base_shared::Shared;
 use base_values::{EditError, LAST_COLUMN, LAST_ROW, PlaceMap, Position};
-use cell_content::{fits_at, tree_of};
-use formula_tree::{MAX_DEPTH, Node, has_no_negative_number, is_at_most_deep, is_placed};
+use cell_content::{fits_at, tree_fits_at, tree_of};
+use formula_tree::Node;
 use line_map::{EditKind, LineEdit};
 use sheet_grid::{Cell, Workbook, Worksheet};
 use sheet_lines::{KeptLines, followed_book, line_back, sheet_of};
@@ -175,13 +174,6 @@ fn cells_fit(cells: &PositionMap<Shared<Cell>>) -> bool
     cells
         .iter()
         .all(|(place, cell)| fits_at(*place, &cell.get().content))
-}
-
-#[tactic(auto, using(std::proofs::lemmas::Bool::Decides::nat_tests), unfolding(formula_tree::specs::Depth::is_within, cell_content::specs::Fitting::tree_fits_at))]
-fn tree_fits_at(place: Position, tree: &Node) -> bool
-    ensures { result ≡ tree_fits_at place tree.now }
-{
-    is_placed(tree, place) && is_at_most_deep(tree, MAX_DEPTH) && has_no_negative_number(tree)
 }
 
 fn is_formula(cell: Option<&Shared<Cell>>) -> bool

@@ -10,12 +10,12 @@ ghost use Rattle.sheet_lines.specs.Sheets.{sheet_of, name_of, IsPlacedBook};
 use crate::edited_sheet::EditedSheet;
 use crate::followed::{KeptOfCells, edited_by, followed_with_kept};
 use crate::inside::{lines_inside, places_inside};
-use crate::keeping::lost_attributes;
+use crate::keeping::{lost_attributes, lost_links};
 use crate::kept::KeptLines;
 use crate::sheets::{route_on, sheet_of};
 use base_axis::Axis;
 use base_values::EditError;
-use line_map::{Follower, LineEdit, LineMap, lost_places};
+use line_map::{Follower, LineEdit, LineMap};
 use sheet_grid::Workbook;
 use std::alloc::Global;
 
@@ -40,15 +40,13 @@ fn kept_lines<A: Axis, M: LineMap<A>>(
     let Some(sheet) = sheet_of(workbook, edited.id) else {
         unreachable!()
     };
-    let route = route_on(edited, sheet);
-    let links = sheet.link_map();
     places_inside(sheet.cell_map());
-    places_inside(links);
+    places_inside(sheet.link_map());
     lines_inside(sheet.row_map());
     lines_inside(sheet.column_map());
-    let links = lost_places(alloc, &route, links)?;
+    let links = lost_links(alloc, edited, sheet)?;
     let lines = lost_attributes(alloc, edited, sheet)?;
-    let merges = sheet.merge_list().part(alloc, &route)?;
+    let merges = sheet.merge_list().part(alloc, &route_on(edited, sheet))?;
     Ok(KeptLines {
         cells: cells.lost.unwrap(),
         links,

@@ -15,10 +15,11 @@ use Rattle.sheet_grid.specs.Book.{Book}
 use Rattle.sheet_rules.specs.laws.EntryLaws.{both}
 use Rattle.sheet_lines.specs.Sheets.{HasDistinctIds}
 use Rattle.sheet_history.specs.declared.diff.Diff.{Diff}
-use Rattle.sheet_history.specs.declared.diff.Diff.TheVariants.{Cell as CellDiff, Link as LinkDiff, Merges as MergesDiff, Lines as LinesDiff}
+use Rattle.sheet_history.specs.declared.diff.Diff.TheVariants.{Cell as CellDiff, Link as LinkDiff, Merges as MergesDiff, Field as FieldDiff, Lines as LinesDiff, NewSheet as NewDiff, DuplicateSheet as CopyDiff, DeleteSheet as DeletionDiff, MoveSheet as MoveDiff}
 use Rattle.sheet_history.specs.Entries.{EntryKey, EntryValue, key_cmp, entry_at, put_entry, accepts, nothing_at, frame_of}
-use Rattle.sheet_history.specs.Entries.EntryKey.{CellKey, LinkKey, MergesKey}
-use Rattle.sheet_history.specs.Entries.EntryValue.{CellValue, LinkValue, MergesValue}
+use Rattle.sheet_history.specs.Entries.EntryKey.{CellKey, LinkKey, MergesKey, FieldKey}
+use Rattle.sheet_history.specs.Entries.EntryValue.{CellValue, LinkValue, MergesValue, FieldValue}
+use Rattle.sheet_history.specs.Fields.{old_of, new_of, changed_field}
 use Rattle.sheet_history.specs.Diffs.{put_in, step_forward, step_back, forward_from, back_from, made, taken_back}
 use Rattle.sheet_history.specs.Records.{same_entry_value, changed_entry, Change, change_of, IsRecord}
 use Rattle.sheet_history.specs.laws.EntryLaws.{decide, entry_at-put_entry, entry_at-put_entry_other, frame_of-put_entry, accepts-frame_of, is_some-entry_at, accepts-nothing_at, same_book}
@@ -85,7 +86,13 @@ step_by_new at w (LinkDiff sheet place old new) c h =
     let same : ◌≡◌ {A = Change} (LinkKey sheet place, (LinkValue old, LinkValue new)) c = cc in ap (λ (x : Change). put_in at w x.0 x.1.1) same
 step_by_new at w (MergesDiff sheet old new) c h =
     let same : ◌≡◌ {A = Change} (MergesKey sheet, (MergesValue old, MergesValue new)) c = cc in ap (λ (x : Change). put_in at w x.0 x.1.1) same
+step_by_new at w (FieldDiff sheet change) c h =
+    let same : ◌≡◌ {A = Change} (FieldKey sheet (changed_field change), (FieldValue (old_of change), FieldValue (new_of change))) c = cc in ap (λ (x : Change). put_in at w x.0 x.1.1) same
 step_by_new at w (LinesDiff _ _ _ _) c h = absurd (cc)
+step_by_new at w (NewDiff _ _ _) c h = absurd (cc)
+step_by_new at w (CopyDiff _ _ _ _) c h = absurd (cc)
+step_by_new at w (DeletionDiff _ _) c h = absurd (cc)
+step_by_new at w (MoveDiff _ _ _) c h = absurd (cc)
 
 step_by_old : (at : ℕ) (w : Book) (d : Diff) (c : Change) → change_of d ≡ Some c → step_back at w d ≡ put_in at w c.0 c.1.0
 step_by_old at w (CellDiff sheet place old new) c h =
@@ -94,7 +101,13 @@ step_by_old at w (LinkDiff sheet place old new) c h =
     let same : ◌≡◌ {A = Change} (LinkKey sheet place, (LinkValue old, LinkValue new)) c = cc in ap (λ (x : Change). put_in at w x.0 x.1.0) same
 step_by_old at w (MergesDiff sheet old new) c h =
     let same : ◌≡◌ {A = Change} (MergesKey sheet, (MergesValue old, MergesValue new)) c = cc in ap (λ (x : Change). put_in at w x.0 x.1.0) same
+step_by_old at w (FieldDiff sheet change) c h =
+    let same : ◌≡◌ {A = Change} (FieldKey sheet (changed_field change), (FieldValue (old_of change), FieldValue (new_of change))) c = cc in ap (λ (x : Change). put_in at w x.0 x.1.0) same
 step_by_old at w (LinesDiff _ _ _ _) c h = absurd (cc)
+step_by_old at w (NewDiff _ _ _) c h = absurd (cc)
+step_by_old at w (CopyDiff _ _ _ _) c h = absurd (cc)
+step_by_old at w (DeletionDiff _ _) c h = absurd (cc)
+step_by_old at w (MoveDiff _ _ _) c h = absurd (cc)
 
 forward_done : (at : ℕ) (w0 w : Book) (ds : List Diff) (cs : List Change) → map change_of ds ≡ map Some cs → frame_of w0 ≡ frame_of w → AllFit w0 cs → forward_from at w ds ≡ Ok (put_news w cs)
 forward_done at w0 w [] [] is e h = refl

@@ -23,12 +23,13 @@ use Rattle.sheet_rules.specs.WellFormed.{is_place, stands_inside, IsWellFormed}
 use Rattle.sheet_lines.specs.Sheets.{sheet_of}
 use Rattle.sheet_history.specs.declared.diff.Diff.{Diff}
 use Rattle.sheet_history.specs.Entries.{EntryKey, EntryValue, sheet_id_of, sheet_entry, lies_inside, cell_stands_at, value_fits, nothing_at, entry_at, accepts}
-use Rattle.sheet_history.specs.Entries.EntryKey.{CellKey, LinkKey, MergesKey}
+use Rattle.sheet_history.specs.Entries.EntryKey.{CellKey, LinkKey, MergesKey, FieldKey}
 use Rattle.sheet_history.specs.Entries.EntryValue.{CellValue, LinkValue, MergesValue}
 use Rattle.sheet_history.specs.Diffs.{made, taken_back, forwarded, backed, tested}
 use Rattle.sheet_history.specs.Records.{IsRecord}
 use Rattle.sheet_history.specs.laws.BothWays.{AllFit, IsSound, fit, record_forward, record_back}
 use Rattle.sheet_history.specs.laws.Entries.{entry_holds}
+use Rattle.sheet_history.specs.laws.FieldLaws.{field_is_of}
 use Rattle.sheet_history.specs.laws.RuleLaws.{KeepsSheetRules, sheet_rules}
 use Rattle.sheet_history.specs.laws.TestedLaws.{by_rule-kept}
 
@@ -80,6 +81,7 @@ entry_fits s h (LinkKey id place) = go (fin.get s.links place) refl
     go None found = inr (ap LinkValue found)
     go (Some link) found = inl (link_place s h.inside place link found)
 entry_fits s h (MergesKey id) = inl (sheet_merges_inside s h.merges)
+entry_fits s h (FieldKey id field) = inl (field_is_of field s)
 
 -- so it is with each entry of a well-formed workbook
 pub sound_by_rules : (w : Book) → IsWellFormed w → IsSound w

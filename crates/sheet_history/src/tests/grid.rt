@@ -1,10 +1,10 @@
 use base_decimal::Decimal;
 use base_shared::Shared;
 use base_styles::Style;
-use base_tables::{Error, Locale};
+use base_tables::{Error, Locale, Zone};
 use base_values::{EditError, Text};
 use formula_tree::{Node, has_kept_numbers};
-use sheet_grid::{ColumnAttr, Link, RowAttr, Worksheet};
+use sheet_grid::{ColumnAttr, Link, RowAttr, Workbook, Worksheet};
 use std::alloc::Global;
 use std::test::Fail;
 
@@ -79,5 +79,35 @@ fn sheets_with_ample_memory(rt: HostRuntime) -> Result<(), Fail> {
     assert_eq!(rt; sheet.links().count(), 1);
     assert_eq!(rt; sheet.rows().count(), 1);
     assert_eq!(rt; sheet.columns().count(), 1);
+    Ok(())
+}
+
+/// The sheet at an index of a workbook has an id and a name.
+fn stands(book: &Workbook, index: u32, id: u32, name: &str) -> Result<bool, EditError> {
+    let ids = book.get_worksheet_ids()?;
+    let names = book.get_worksheet_names()?;
+    let at = index as usize;
+    Ok(ids.get(at) == Some(&id) && names.get(at).is_some_and(|text| text.as_str() == name))
+}
+
+/// Sheets of a workbook come, move and go, each call once where there is enough memory.
+#[test]
+fn sheets_of_a_workbook(rt: HostRuntime) -> Result<(), Fail> {
+    let alloc = rt.alloc();
+    let mut book = Workbook::new_empty(alloc, "book", Locale::En, Zone::Utc)?;
+    let copy = book.worksheet(0)?.copy_as(7, "Copy")?;
+    book.insert_worksheet(1, copy)?;
+    book.insert_worksheet(0, Worksheet::new(alloc, 4, "First")?)?;
+    book.move_worksheet(0, 2)?;
+    book.worksheet_mut(0)?.set_name("Renamed")?;
+    assert!(rt; stands(&book, 0, 1, "Renamed")?);
+    assert!(rt; stands(&book, 1, 7, "Copy")?);
+    assert!(rt; stands(&book, 2, 4, "First")?);
+    assert!(rt; book.move_worksheet(3, 0).is_err());
+    book.remove_worksheet(1)?;
+    assert!(rt; stands(&book, 1, 4, "First")?);
+    assert!(rt; book.remove_worksheet(2).is_err());
+    assert!(rt; book.insert_worksheet(3, Worksheet::new(alloc, 9, "Far")?).is_err());
+    assert_eq!(rt; book.worksheets().len(), 2);
     Ok(())
 }

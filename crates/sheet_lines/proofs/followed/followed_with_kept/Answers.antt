@@ -1,7 +1,8 @@
-use Rattle.std.proofs.Common.{rules, ℕ, Bool, true, false, List, [], ◌∷◌, ◌++◌, ◌+◌, ◌<◌, length, map, take, get_or, Option, Some, None, refl, ap, sym, subst, ◌∙◌, arith}
+use Rattle.std.proofs.Common.{rules, ℕ, Bool, true, false, List, [], ◌∷◌, ◌++◌, ◌+◌, ◌<◌, length, map, take, get_or, Option, Some, None, refl}
+use Rattle.std.proofs.Common.{ap, sym, subst, ◌∙◌, arith}
 use Rattle.std.specs.Prelude.{◌≡◌, ◌==◌, cond, IsTrue}
 use Rattle.std.specs.Bool.{then_some}
-use Rattle.std.specs.FinMap.{FinMap, empty}
+use Rattle.std.specs.FinMap.{empty}
 use Rattle.std.specs.List.{find}
 use Rattle.std.specs.Option.{option_map, option_or}
 use Rattle.std.proofs.lemmas.List.{map_more, take_more}
@@ -81,7 +82,8 @@ loop-sheet-preserved g c =
               ∙ ap (λ sheet. put_under sheet.id (trees_of sheet) (formulas_kept a moves edited.id edited.name.now
               (take i sheets))) (sym c.sheet-item.is)),
           subst AreKeptFormulas (sym c.in_ok-kept.ensures.formulas)
-              (put_under_are (λ tree. IsTrue (has_kept_numbers tree)) c.sheet-item.result.id _ c.loop-sheet.kept.formulas kept.numbers c.loop-sheet.invariant.1.1.1),
+              (put_under_are (λ tree. IsTrue (has_kept_numbers tree)) c.sheet-item.result.id _ c.loop-sheet.kept.formulas
+              kept.numbers c.loop-sheet.invariant.1.1.1),
         ),
       ),
     )

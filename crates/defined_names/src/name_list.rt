@@ -1,7 +1,7 @@
-ghost use Rattle.std.specs.Prelude.{◌≡◌, []};
+ghost use Rattle.std.specs.Prelude.{◌≡◌, [], ◌∷◌, ◌++◌, OnOk, OnErr};
 ghost use Rattle.std.specs.Cmp.{partial_equiv_from_equiv};
 ghost use Rattle.std.specs.Cmp.Lexicographic.{pointwise, lists_per, lists_equiv};
-ghost use Rattle.defined_names.specs.Names.{AreKeptNames};
+ghost use Rattle.defined_names.specs.Names.{AreKeptNames, IsKeptName};
 ghost use Rattle.defined_names.specs.contracts.defined_name.DefinedNamePartialEq.TheImpl as name;
 ghost use Rattle.defined_names.specs.laws.NameEquals.{name_equiv};
 
@@ -49,6 +49,16 @@ impl NameList {
         NameList {
             items: Items::empty(alloc),
         }
+    }
+
+    /// Adds a name at the end. Where memory runs out the list is as it was.
+    pub fn push(&mut self, name: DefinedName) -> Result<(), AllocError>
+        requires { IsKeptName name }
+        ensures ok { OnOk result (self.new ≡ self.old ++ name ∷ []) }
+        ensures err { OnErr result (self.new ≡ self.old) }
+    {
+        self.items.push(name)?;
+        Ok(())
     }
 
     /// Lends the list of the names.

@@ -1,9 +1,6 @@
-ghost use Rattle.std.specs.Prelude.{OnOk};
-ghost use Rattle.defined_names.specs.Names.{AreKeptNames};
-
 use crate::{DefinedName, NameList, is_defined_name};
 use base_shared::Shared;
-use base_values::{EditError, Items, Text, copy_of, same};
+use base_values::{EditError, Text, copy_of, same};
 use formula_tree::{Node, has_kept_numbers};
 use std::alloc::Global;
 use std::test::Fail;
@@ -34,13 +31,10 @@ fn legal_names(rt: HostRuntime) -> Result<(), Fail> {
 /// Puts a name for TRUE behind others.
 fn push_name(
     alloc: Global,
-    names: &mut Items<DefinedName>,
+    names: &mut NameList,
     name: &str,
     scope: Option<u32>,
-) -> Result<(), EditError>
-    requires { AreKeptNames names.old }
-    ensures { OnOk result (AreKeptNames names.new) }
-{
+) -> Result<(), EditError> {
     let formula = Node::Boolean(true);
     if has_kept_numbers(&formula) {
         names.push(DefinedName {
@@ -54,12 +48,12 @@ fn push_name(
 
 /// Four names: two of the sheet of id 1, one of that of id 2, and one of the workbook.
 fn four(alloc: Global) -> Result<NameList, EditError> {
-    let mut names = Items::empty(alloc);
+    let mut names = NameList::empty(alloc);
     push_name(alloc, &mut names, "First", Some(1))?;
     push_name(alloc, &mut names, "Second", None)?;
     push_name(alloc, &mut names, "Third", Some(2))?;
     push_name(alloc, &mut names, "Fourth", Some(1))?;
-    Ok(NameList::new(names))
+    Ok(names)
 }
 
 /// The names of a sheet go and come back.

@@ -196,8 +196,7 @@ impl Worksheet {
         }
     }
 
-    /// The cell at a row and a column, if there is one, held together with the sheet: it takes no
-    /// memory.
+    /// The cell at a row and a column, if there is one, held together with the sheet: it is not copied.
     ///
     /// `InvalidRow` where the row is outside the sheet, else `InvalidColumn` where the column is.
     pub fn shared_cell(&self, row: i32, column: i32) -> Result<Option<Shared<Cell>>, EditError>

@@ -1,5 +1,5 @@
 -- What is said of documents holds of the states that they stand for.
-use Rattle.std.proofs.Common.{◌≡◌, ◌≢◌, ℕ, List, [], Result, Ok, Err, refl, ap, sym, subst, ◌∙◌}
+use Rattle.std.proofs.Common.{◌≡◌, ◌≢◌, ℕ, false, List, [], Result, Ok, Err, refl, ap, sym, subst, ◌∙◌}
 use Rattle.std.specs.Prelude.{OnOk, OnErr, IfErr, IfSome, IsOk, IsOkAnd, IsTrue}
 use Rattle.std.proofs.Common.{Option, Some, None}
 use Rattle.base_values.specs.declared.EditError.{EditError}
@@ -10,8 +10,10 @@ use Rattle.sheet_rules.specs.WellFormed.{IsWellFormed}
 use Rattle.sheet_history.specs.declared.QueueDiffs.{QueueDiffs}
 use Rattle.sheet_history.specs.Diffs.{replayed}
 use Rattle.sheet_wire.specs.QueueBytes.{IsKnownQueue, FitsQueue, spell_queue}
-use Rattle.edit_plans.specs.Edits.{Edit, changed, is_of_entries}
-use Rattle.edit_plans.specs.Plans.{Plans}
+use Rattle.sheet_views.specs.declared.View.{View}
+use Rattle.edit_plans.specs.Edits.{Edit, changed, is_of_entries, is_of_sheets, is_silent}
+use Rattle.edit_plans.specs.Plans.{Plans, PlansSheets}
+use Rattle.edit_plans.specs.ViewSteps.{selected_by}
 use Rattle.sheet_history.specs.declared.Diff.{Diff}
 use Rattle.user_model.specs.declared.open_book.OpenBook.{OpenBook}
 use Rattle.user_model.specs.declared.recalc.Results.{Results}
@@ -22,7 +24,9 @@ use Rattle.user_model.specs.Sound.{Carries, IsSound, IsSoundChange}
 use Rattle.user_model.specs.Stands.{StandsFor, IsReached, IsPlanOf, Moves, Turns}
 use Rattle.user_model.specs.Values.{Session}
 use Rattle.user_model.proofs.Documents.{document_edited, document_undone, document_redone, document_taken}
-use Rattle.user_model.proofs.Sounds.{sound_edit, sound_undo, sound_redo, sound_sync, sound_received}
+use Rattle.user_model.proofs.EntrySteps.{entries_plan}
+use Rattle.user_model.proofs.SheetSteps.{SheetLaw, sheets_plan}
+use Rattle.user_model.proofs.Sounds.{sound_edit, sound_undo, sound_redo, sound_seen, sound_sync, sound_received}
 
 -- ---- results
 
@@ -165,6 +169,22 @@ pub flushed_fits : (doc : Document) (s : State) → StandsFor doc s → FitsQueu
 flushed_fits doc s stands fits = subst (λ (d : Document). FitsQueue d.queue) stands.document fits
 
 -- a plan of the workbook inside is one of the document that callers see
-pub plan_of : (edit : Edit) (plan : Result (List Diff) EditError) (book : OpenBook) (results : Results) (seen : Session) → session_of book results ≡ seen → IsTrue (is_of_entries edit)
-    → Plans plan (document_in book).book (changed edit (document_in book).book) → IsPlanOf edit plan seen.document
-plan_of edit plan book results seen same is plans = subst (λ (session : Session). IsPlanOf edit plan session.document) same (record { of_entries = is; plans = plans })
+module _ (edit : Edit) (plan : Result (List Diff) EditError) (selected : ℕ) (book : OpenBook) (results : Results) (seen : Session) (same : session_of book results ≡ seen)
+    (reached : IsReached (document_in book)) (selects : selected_by edit book.workbook book.view.sheet ≡ selected) where
+  pub plan_of : IsTrue (is_of_entries edit) → Plans plan book.workbook (changed edit book.workbook) → IsPlanOf edit plan selected seen.document
+  plan_of is plans =
+      subst (λ (session : Session). IsPlanOf edit plan selected session.document) same (entries_plan edit is (document_in book) (reached_rules (document_in book) reached) plan selected selects plans)
+
+  pub sheet_plan_of : SheetLaw → IsTrue (is_of_sheets edit) → is_silent edit book.workbook ≡ false → PlansSheets edit plan book.workbook → IsPlanOf edit plan selected seen.document
+  sheet_plan_of law is loud plans =
+      subst (λ (session : Session). IsPlanOf edit plan selected session.document) same
+      (sheets_plan law edit is (document_in book) (reached_rules (document_in book) reached) plan selected loud selects plans)
+
+-- ---- views
+
+-- the document with another view stands for the state with it
+pub seen_stands : (doc : Document) (s : State) (view : View) → StandsFor doc s → StandsFor (record doc { view = view }) (record s { view = view })
+seen_stands doc s view is = record { document = ap (λ (d : Document). record d { view = view }) is.document; sound = sound_seen s is.sound view }
+
+pub seen_reached : (doc : Document) (view : View) → IsReached doc → IsReached (record doc { view = view })
+seen_reached doc view is = (record is.0 { view = view }, seen_stands doc is.0 view is.1)

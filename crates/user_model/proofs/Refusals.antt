@@ -99,8 +99,8 @@ applied_only at [] s = tt
 applied_only at (entry ∷ entries) s =
     go (λ t. applied_only (at + 1) entries t) (in_entry at (follow entry.kind s.present entry.list)) (entry_only at (follow entry.kind s.present entry.list) (follow_only entry.kind s.present entry.list))
   where
-    go : ((t : State) → OnlyDone (applied_from (at + 1) entries t).1) → (r : Result Book EditError) → Only r → OnlyDone (go_on s (map_ok (outside s) r) (applied_from (at + 1) entries)).1
-    go rest (Ok later) h = rest (outside s later)
+    go : ((t : State) → OnlyDone (applied_from (at + 1) entries t).1) → (r : Result Book EditError) → Only r → OnlyDone (go_on s (map_ok (outside entry s) r) (applied_from (at + 1) entries)).1
+    go rest (Ok later) h = rest (outside entry s later)
     go rest (Err error) h = h
 
 -- what was read is not refused as unread

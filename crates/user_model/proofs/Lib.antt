@@ -12,6 +12,8 @@ mod Recording
 mod Refusals
 mod Unread
 mod Received
+mod SheetSteps
+mod SheetsSpelled
 mod Sounds
 mod Spelled
 mod Tested

@@ -196,7 +196,7 @@ pub(crate) fn install_viewed<R: Recalc>(
     ensures paused { results.new.paused ≡ results.old.paused }
 {
     let diffs = list.get().as_slice();
-    let selected = selection_followed(alloc, kind, workbook, diffs, view.sheet)?;
+    let selected = selection_followed(kind, workbook, diffs, view.sheet)?;
     let was = viewed_id(workbook.worksheets(), *view);
     install(alloc, workbook, results, recalc, kind, list, kept)?;
     *view = viewed(was, workbook.worksheets(), selected as usize, *view);

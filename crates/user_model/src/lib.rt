@@ -21,6 +21,3 @@ pub use recalc::{ClearAll, Recalc};
 pub use sheet_views::{View, selected_sheet_after_move};
 pub use structure::CellArrayStructure;
 pub use user_model::UserModel;
-
-#[cfg(test)]
-mod tests;

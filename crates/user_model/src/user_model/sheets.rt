@@ -1,6 +1,6 @@
 //! Sheets that a user adds, copies, deletes, moves, hides, colours and lists.
 
-ghost use Rattle.std.specs.Prelude.{◌≡◌, Ok, OnOk, OnErr};
+ghost use Rattle.std.specs.Prelude.{◌≡◌, false, Ok, OnOk, OnErr};
 ghost use Rattle.base_values.specs.Answers.{Returns};
 ghost use Rattle.sheet_grid.specs.declared.SheetState.TheVariants.{Visible, Hidden};
 ghost use Rattle.sheet_history.specs.declared.SheetField.TheVariants as field;
@@ -50,6 +50,7 @@ impl<R: Recalc + Drop> UserModel<R> {
         ensures err { OnErr result (self.new ≡ self.old) }
         ensures paused { self.new.paused ≡ self.old.paused }
     {
+        // For the proof alone.
         sheet_edits_go_both_ways();
         let book = &self.book;
         let selected = selected_by_new(&book.workbook);
@@ -75,6 +76,7 @@ impl<R: Recalc + Drop> UserModel<R> {
         ensures err { OnErr result (self.new ≡ self.old) }
         ensures paused { self.new.paused ≡ self.old.paused }
     {
+        // For the proof alone.
         sheet_edits_go_both_ways();
         let book = &self.book;
         let selected = selected_by_copy(sheet);
@@ -98,6 +100,7 @@ impl<R: Recalc + Drop> UserModel<R> {
         ensures err { OnErr result (self.new ≡ self.old) }
         ensures paused { self.new.paused ≡ self.old.paused }
     {
+        // For the proof alone.
         sheet_edits_go_both_ways();
         let book = &self.book;
         let selected = selected_by_deletion(&book.workbook, sheet, book.view.sheet as usize);
@@ -121,11 +124,23 @@ impl<R: Recalc + Drop> UserModel<R> {
         ensures err { OnErr result (self.new ≡ self.old) }
         ensures paused { self.new.paused ≡ self.old.paused }
     {
-        sheet_edits_go_both_ways();
-        let book = &self.book;
-        if stays_there(&book.workbook, from, to) {
+        if stays_there(&self.book.workbook, from, to) {
             return Ok(());
         }
+        self.take_sheet(from, to)
+    }
+
+    /// Takes the sheet at an index to another index, and records the change.
+    fn take_sheet(&mut self, from: u32, to: u32) -> Result<(), EditError>
+        requires { is_silent (edit.MoveSheet from to) self.now.document.book ≡ false }
+        ensures next { Steps result self.old.document self.new.document (edit_of (edit.MoveSheet from to)) }
+        ensures made { OnOk result (IsMade R.Fits self.new) }
+        ensures err { OnErr result (self.new ≡ self.old) }
+        ensures paused { self.new.paused ≡ self.old.paused }
+    {
+        // For the proof alone.
+        sheet_edits_go_both_ways();
+        let book = &self.book;
         let selected = selected_sheet_after_move(book.view.sheet, from, to) as usize;
         let plan = plan_moved_sheet(book.alloc, &book.workbook, from, to);
         self.make(plan, selected)

@@ -4,8 +4,8 @@ ghost use Rattle.std.specs.Prelude.{◌≡◌, ◌≢◌, Err};
 ghost use Rattle.base_values.specs.Answers.{Edits, map_ok};
 ghost use Rattle.base_values.specs.declared.EditError.TheVariants.{NoMemory};
 ghost use Rattle.sheet_views.specs.Views.{range_chosen};
-ghost use Rattle.user_model.specs.Machine.{range_selected, sheet_selected};
-ghost use Rattle.user_model.specs.Stands.{Steps};
+ghost use Rattle.user_model.specs.Machine.{looking, range_selected, sheet_selected};
+ghost use Rattle.user_model.specs.Stands.{Moves, OnStates, Steps};
 ghost use Rattle.user_model.specs.Values.{seeing};
 ghost use Rattle.user_model.specs.Views.{sheet_chosen};
 
@@ -29,10 +29,26 @@ impl<R: Recalc + Drop> UserModel<R> {
     }
 
     /// Puts another view in place of the one before.
-    fn look(&mut self, view: View)
+    fn put_view(&mut self, view: View)
         ensures { self.new ≡ seeing self.old view }
     {
         self.book.view = view;
+    }
+
+    /// Puts a view that was chosen in place of the one before, or refuses as the choice does.
+    fn look(&mut self, chosen: Result<View, EditError>) -> Result<(), EditError>
+        requires { chosen ≢ Err NoMemory }
+        ensures seen { Edits result self.old self.new (map_ok (seeing self.old) chosen) }
+        ensures next { OnStates self.old.document (λ state. Moves result self.new.document (looking chosen state)) }
+        ensures sure { result ≢ Err NoMemory }
+    {
+        match chosen {
+            Ok(view) => {
+                self.put_view(view);
+                Ok(())
+            }
+            Err(error) => Err(error),
+        }
     }
 
     /// Selects the sheet at an index, at A1 where another one was selected. It is no edit: nothing is
@@ -48,9 +64,8 @@ impl<R: Recalc + Drop> UserModel<R> {
         ensures next { Steps result self.old.document self.new.document (sheet_selected sheet) }
         ensures sure { result ≢ Err NoMemory }
     {
-        let view = choose_sheet(&self.book.workbook, sheet, self.book.view)?;
-        self.look(view);
-        Ok(())
+        let chosen = choose_sheet(&self.book.workbook, sheet, self.book.view);
+        self.look(chosen)
     }
 
     /// Selects a rectangle of the selected sheet by its first row, its first column, its last row and
@@ -74,11 +89,8 @@ impl<R: Recalc + Drop> UserModel<R> {
         ensures next { Steps result self.old.document self.new.document (range_selected first_row first_column last_row last_column) }
         ensures sure { result ≢ Err NoMemory }
     {
-        let view = self
-            .book
-            .view
-            .with_range(first_row, first_column, last_row, last_column)?;
-        self.look(view);
-        Ok(())
+        let view = self.book.view;
+        let chosen = view.with_range(first_row, first_column, last_row, last_column);
+        self.look(chosen)
     }
 }

@@ -12,4 +12,3 @@ pub mod MappedMaps
 pub mod MergeRecords
 pub mod PlanLaws
 pub mod SheetRecords
-pub mod FreeNames

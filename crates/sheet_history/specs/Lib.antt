@@ -7,4 +7,5 @@ pub mod Depth
 pub mod Untested
 pub mod Stacks
 pub mod Records
+pub mod Selection
 pub mod laws

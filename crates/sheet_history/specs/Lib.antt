@@ -1,7 +1,6 @@
 pub mod Entries
 pub mod Fields
 pub mod LineDiffs
-pub mod SheetDiffs
 pub mod Diffs
 pub mod Depth
 pub mod Untested

@@ -1,8 +1,8 @@
 use crate::field::FieldChange;
-use crate::kept_sheet::KeptSheet;
 use base_axis::MergeList;
 use base_shared::Shared;
 use base_values::{Exact, Items, Position, Text};
+use book_sheets::KeptSheet;
 use line_map::EditKind;
 use sheet_grid::{Cell, Link};
 use sheet_lines::KeptLines;

@@ -230,11 +230,7 @@ fn has_move(list: &[Diff]) -> bool
 /// sheet comes or goes.
 ///
 /// `NoMemory` alone is an error. A list that moves no sheet takes no memory.
-#[tactic(
-    auto,
-    using(crate::proofs::Following::selection_stays),
-    unfolding(crate::specs::Selection::selection_followed)
-)]
+#[tactic(auto, using(crate::proofs::Following::selection_stays), unfolding(crate::specs::Selection::selection_followed))]
 pub fn selection_followed(
     kind: DiffType,
     workbook: &Workbook,

@@ -283,7 +283,10 @@ fn fields_go_and_return(rt: HostRuntime) -> Result<(), Fail> {
     let list = fields_of(alloc, 1)?;
     let later = forward(alloc, &start, &list)?;
     assert_eq!(rt; later.worksheet(0)?.state(), SheetState::Hidden);
-    assert_eq!(rt; later.worksheet(0)?.color(), Color::Theme(ThemeColor::Accent1));
+    assert_eq!(rt;
+        later.worksheet(0)?.color(),
+        Color::Theme(ThemeColor::Accent1)
+    );
     assert!(rt; !later.worksheet(0)?.show_grid_lines());
     assert!(rt; is_well_formed(&later));
     assert!(rt; back(alloc, &later, &list)? == start);

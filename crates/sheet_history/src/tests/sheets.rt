@@ -61,9 +61,18 @@ fn sheets_come_and_go(rt: HostRuntime) -> Result<(), Fail> {
     assert!(rt; back(alloc, &later, &list)? == start);
     let diffs = list.get().as_slice();
     for (before, after) in [(0, 1), (1, 2), (2, 0)] {
-        assert_eq!(rt; selection_followed(DiffType::Redo, &start, diffs, before)?, after);
-        assert_eq!(rt; selection_followed(DiffType::Undo, &later, diffs, after)?, before);
+        assert_eq!(rt;
+            selection_followed(DiffType::Redo, &start, diffs, before)?,
+            after
+        );
+        assert_eq!(rt;
+            selection_followed(DiffType::Undo, &later, diffs, after)?,
+            before
+        );
     }
-    assert_eq!(rt; selection_followed(DiffType::Redo, &start, &diffs[..2], 7)?, 7);
+    assert_eq!(rt;
+        selection_followed(DiffType::Redo, &start, &diffs[..2], 7)?,
+        7
+    );
     Ok(())
 }

@@ -250,28 +250,36 @@ fn merges_go_and_return(rt: HostRuntime) -> Result<(), Fail> {
     Ok(())
 }
 
-/// A list of three changes of fields of the sheet of an id: it is hidden, gets a colour, and loses its grid
-/// lines.
+/// A list of three changes of fields of the sheet of an id: it is hidden, gets a colour, and loses its
+/// grid lines.
 fn fields_of(alloc: Global, sheet: u32) -> Result<DiffList, EditError>
     ensures { IfOk result IsKeptList }
 {
+    let hidden = FieldChange::State {
+        old: SheetState::Visible,
+        new: SheetState::Hidden,
+    };
+    let coloured = FieldChange::Color {
+        old: Color::None,
+        new: Color::Theme(ThemeColor::Accent1),
+    };
+    let plain = FieldChange::GridLines {
+        old: true,
+        new: false,
+    };
     let mut list = Items::empty(alloc);
-    for change in [
-        FieldChange::State {
-            old: SheetState::Visible,
-            new: SheetState::Hidden,
-        },
-        FieldChange::Color {
-            old: Color::None,
-            new: Color::Theme(ThemeColor::Accent1),
-        },
-        FieldChange::GridLines {
-            old: true,
-            new: false,
-        },
-    ] {
-        list.push(Diff::Field { sheet, change })?;
-    }
+    list.push(Diff::Field {
+        sheet,
+        change: hidden,
+    })?;
+    list.push(Diff::Field {
+        sheet,
+        change: coloured,
+    })?;
+    list.push(Diff::Field {
+        sheet,
+        change: plain,
+    })?;
     Ok(Shared::new(alloc, list)?)
 }
 

@@ -56,7 +56,8 @@ fn sheets_come_and_go(rt: HostRuntime) -> Result<(), Fail> {
     let start = one_sheet(alloc)?;
     let list = three_sheets(alloc)?;
     let later = forward(alloc, &start, &list)?;
-    assert!(rt; later.get_worksheet_ids()?.as_slice() == [2, 3, 1]);
+    let ids = later.get_worksheet_ids()?;
+    assert!(rt; ids.as_slice() == [2, 3, 1].as_slice());
     assert!(rt; is_well_formed(&later));
     assert!(rt; back(alloc, &later, &list)? == start);
     let diffs = list.get().as_slice();

@@ -10,12 +10,12 @@ ghost use Rattle.sheet_history.specs.Diffs.{IsKeptDiff, IsKeptList, backed, by_r
 
 use crate::diff::{Diff, DiffList, LineAxis};
 use crate::line_diffs::{lines_back, lines_forward};
-use crate::sheet_diffs::{
-    copy_back, copy_forward, deletion_back, deletion_forward, new_back, new_forward, sheet_moves,
-};
 use crate::put::{put_cell, put_field, put_link, put_merges};
 use base_axis::{ColumnAxis, RowAxis};
 use base_values::{EditError, copy_of};
+use book_sheets::{
+    copy_back, copy_forward, deletion_back, deletion_forward, new_back, new_forward, sheet_moves,
+};
 use line_map::{EditKind, LineEdit};
 use sheet_grid::Workbook;
 use sheet_lines::KeptLines;

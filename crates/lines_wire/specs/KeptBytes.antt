@@ -21,7 +21,7 @@ use Rattle.formula_wire.specs.Carried.{FitsNode, IsKnownNode}
 use Rattle.cell_wire.specs.CellBytes.{spell_position, position_at, FitsPosition, spell_cell, cell_at, FitsCell, IsKnownCell}
 use Rattle.cell_wire.specs.LinkBytes.{spell_link, link_at, FitsLink}
 use Rattle.cell_wire.specs.MergeBytes.{spell_merges, merges_at, FitsMerges}
-use Rattle.lines_wire.specs.MapBytes.{spell_map, map_of_at, FitsMap}
+use Rattle.map_wire.specs.MapBytes.{spell_map, map_of_at, FitsMap}
 use Rattle.lines_wire.specs.PartBytes.{spell_sheet_place, sheet_place_at, FitsSheetPlace, spell_line, line_at, FitsLine}
 
 -- ---- maps

@@ -7,8 +7,6 @@ ghost use Rattle.base_wire.specs.Spelling.{spell_option};
 ghost use Rattle.cell_wire.specs.MergeBytes.{spell_merges, FitsMerges};
 ghost use Rattle.lines_wire.specs.KeptBytes.{kept_at, no_rules, spell_kept, FitsKept, IsKnownKept};
 
-use crate::maps::MapPart;
-use crate::reading::read;
 use crate::values::{LinePart, SheetPlacePart};
 use base_axis::MergeList;
 use base_maps::{NumberMap, PositionMap, SheetPlaceMap};
@@ -19,6 +17,7 @@ use base_wire::Part;
 use cell_wire::{CellPart, LinkPart, MergeListPart, PositionPart};
 use formula_tree::Node;
 use formula_wire::NodePart;
+use map_wire::{MapPart, read};
 use sheet_grid::{Cell, LineAttr, Link};
 use sheet_lines::KeptLines;
 use std::alloc::{AllocError, Global};
@@ -31,7 +30,7 @@ type LinesPart = MapPart<NumberMap<LineAttr>, i32, LinePart>;
 
 type FormulasPart = MapPart<SheetPlaceMap<Shared<Node>>, SheetPlacePart, Shared<NodePart>>;
 
-#[tactic(auto, using(crate::proofs::Known::any_option))]
+#[tactic(auto, using(map_wire::specs::laws::MapFits::any_option))]
 fn put_kept_merges(out: &mut Vec<u8>, merges: &Option<MergeList>) -> Result<(), AllocError>
     ensures spelled { OnOk result (out.new.items ≡ out.old.items ++ spell_option spell_merges merges.now) }
     ensures fits { OnOk result (IfSome merges.now FitsMerges) }

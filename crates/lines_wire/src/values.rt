@@ -3,13 +3,13 @@
 ghost use Rattle.base_values.specs.Answers.{Answers, map_ok};
 ghost use Rattle.lines_wire.specs.PartBytes.{line_at, sheet_place_at};
 
-use crate::reading::read;
 use base_maps::SheetPlace;
 use base_shared::Shared;
 use base_styles::Style;
 use base_values::EditError;
 use base_wire::Part;
 use cell_wire::{PositionPart, StylePart};
+use map_wire::read;
 use sheet_grid::LineAttr;
 use std::alloc::{AllocError, Global};
 
@@ -105,7 +105,7 @@ impl Part for LinePart {
 
     ghost reading = { line_at };
 
-    #[tactic(auto, using(crate::proofs::Known::any_option))]
+    #[tactic(auto, using(map_wire::specs::laws::MapFits::any_option))]
     fn put(out: &mut Vec<u8>, value: &LineAttr) -> Result<(), AllocError> {
         Option::<i32>::put(out, &value.size)?;
         Option::<StylePart>::put(out, &value.style)?;

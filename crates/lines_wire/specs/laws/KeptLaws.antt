@@ -25,9 +25,9 @@ use Rattle.cell_wire.specs.laws.Formats.{position_format, position_some, cell_fo
 use Rattle.cell_wire.specs.LinkBytes.{spell_link, FitsLink}
 use Rattle.cell_wire.specs.MergeBytes.{spell_merges, FitsMerges}
 use Rattle.cell_wire.specs.laws.MergeLaws.{link_format, merges_format}
-use Rattle.lines_wire.specs.MapBytes.{spell_map, FitsMap}
+use Rattle.map_wire.specs.MapBytes.{spell_map, FitsMap}
 use Rattle.lines_wire.specs.PartBytes.{spell_sheet_place, FitsSheetPlace, spell_line, FitsLine}
-use Rattle.lines_wire.specs.laws.MapLaws.{map_format}
+use Rattle.map_wire.specs.laws.MapLaws.{map_format}
 use Rattle.lines_wire.specs.laws.PartLaws.{sheet_place_format, sheet_place_some, line_format}
 use Rattle.lines_wire.specs.KeptBytes.{cells_at, links_at, lines_at, formulas_at, kept_merges_at, no_rules, spell_kept, kept_made, kept_at, FitsKept}
 

@@ -31,6 +31,7 @@ fn tree_of(alloc: Global, text: &str, profile: Profile) -> Result<Option<Node>, 
     ensures positive { IfOk result (λ o. IfSome o (λ tree. has_no_negative_number tree ≡ true)) }
     ensures memory { IsOkUnless result NoMemory }
 {
+    // For the proof alone: two laws.
     text_spells_one_list();
     tokens_derive_one_tree();
     match lex_text(alloc, text, profile)? {
@@ -111,6 +112,7 @@ pub fn text_has_one_tree()
     ensures formula { (profile : AnyProfile) (text : List ℕ) (tree : Tree) → IsFormula profile text tree → is_parse_error tree ≡ false }
     ensures read { (profile : AnyProfile) (text : List ℕ) → IsRead profile text (formula_of profile text) }
 {
+    // For the proof alone: two laws.
     text_spells_one_list();
     tokens_derive_one_tree();
 }

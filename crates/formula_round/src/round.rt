@@ -24,6 +24,7 @@ pub fn normal_trees_read_back()
     ensures formula { (p : AnyProfile) (tree : Tree) → IsKeptNormal p tree → IsFormula p (text_at p tree) tree }
     ensures read { (p : AnyProfile) (tree : Tree) → IsKeptNormal p tree → formula_of p (text_at p tree) ≡ tree }
 {
+    // For the proof alone.
     text_has_one_tree();
 }
 
@@ -33,6 +34,7 @@ pub fn normal_trees_read_back()
 pub fn normal_contents_read_back()
     ensures { (p : AnyProfile) (content : AnyContent) → is_normal_content p content ≡ true → IsKeptContent content → input_of p (input_text p content) ≡ content }
 {
+    // For the proof alone: two laws.
     contents_read_again();
     normal_trees_read_back();
 }

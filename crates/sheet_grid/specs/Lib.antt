@@ -3,7 +3,6 @@ pub mod Arrays
 pub mod Book
 pub mod Computed
 pub mod Dimension
-pub mod FittingCells
 pub mod KeptCell
 pub mod Lines
 pub mod Merges

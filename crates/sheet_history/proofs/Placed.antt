@@ -21,7 +21,7 @@ use Rattle.cell_content.specs.Fitting.{tree_fits_at}
 use Rattle.cell_content.specs.Lens.{tree_of}
 use Rattle.base_maps.specs.laws.Keys.{one_key}
 use Rattle.sheet_grid.specs.declared.Cell.{Cell}
-use Rattle.sheet_grid.specs.FittingCells.{entry_fits_at}
+use Rattle.sheet_grid.specs.laws.FittingCells.{entry_fits_at}
 use Rattle.sheet_grid.specs.Sheet.{Sheet, with_cell}
 use Rattle.sheet_grid.specs.Book.{Book}
 use Rattle.sheet_rules.specs.laws.EntryLaws.{both}

@@ -4,7 +4,7 @@ use Rattle.std.specs.FinMap.{get}
 use Rattle.base_values.specs.declared.Position.{Position}
 use Rattle.base_maps.specs.declared.SheetPlace.{SheetPlace}
 use Rattle.formula_tree.specs.Depth.{is_within}
-use Rattle.sheet_grid.specs.FittingCells.{is_shallow_entry}
+use Rattle.sheet_grid.specs.laws.FittingCells.{is_shallow_entry}
 use Rattle.sheet_lines.specs.declared.KeptLines.{KeptLines}
 use Rattle.sheet_history.specs.declared.kept_sheet.KeptSheet.{KeptSheet}
 use Rattle.sheet_history.specs.declared.diff.Diff.{Diff}

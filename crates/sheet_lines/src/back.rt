@@ -100,6 +100,7 @@ fn lines_back<A: Axis, B: Axis, M: LineMap<A>>(
     if !route.is_edited || !A::of(B::of(true, false), B::of(false, true)) {
         return copy_of(lines);
     }
+    // For the proof: what lies inside.
     lines_inside(lines);
     lines.restore(alloc, route, &kept.lines)
 }
@@ -141,6 +142,7 @@ fn sheet_back<A: Axis, M: LineMap<A>>(
     let route = route_on(edited, sheet);
     let (formulas, id) = (&kept.formulas, sheet.get_sheet_id());
     let (cells, links) = (sheet.cell_map(), sheet.link_map());
+    // For the proof: what lies inside.
     places_inside(cells);
     places_inside(links);
     let cells = map_back(

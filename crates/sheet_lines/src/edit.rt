@@ -40,6 +40,7 @@ fn kept_lines<A: Axis, M: LineMap<A>>(
     let Some(sheet) = sheet_of(workbook, edited.id) else {
         unreachable!()
     };
+    // For the proof: what lies inside.
     places_inside(sheet.cell_map());
     places_inside(sheet.link_map());
     lines_inside(sheet.row_map());

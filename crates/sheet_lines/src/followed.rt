@@ -69,6 +69,7 @@ fn followed_sheet<A: Axis, M: LineMap<A>>(
     ensures only { IsOkUnless result NoMemory }
 {
     let (route, map) = (route_on(edited, sheet), sheet.cell_map());
+    // For the proof: what lies inside.
     places_inside(map);
     let cells = map.carry(alloc, &route)?;
     followed_with(alloc, &route, sheet, cells)
@@ -88,6 +89,7 @@ fn followed_and_kept<A: Axis, M: LineMap<A>>(
     ensures only { IsOkUnless result NoMemory }
 {
     let (route, map) = (route_on(edited, sheet), sheet.cell_map());
+    // For the proof: what lies inside.
     places_inside(map);
     let (cells, kept) = carried_with_kept(alloc, &route, map)?;
     let followed = followed_with(alloc, &route, sheet, cells)?;

@@ -8,7 +8,7 @@ use Rattle.cell_content.specs.Fitting.{fits_at}
 use Rattle.sheet_grid.specs.declared.Cell.{Cell}
 use Rattle.sheet_grid.specs.Arrays.{array_at}
 use Rattle.sheet_grid.specs.Book.{Book}
-use Rattle.sheet_grid.specs.FittingCells.{is_shallow_entry}
+use Rattle.sheet_grid.specs.laws.FittingCells.{is_shallow_entry}
 use Rattle.sheet_grid.specs.laws.FittingLaws.{shallow_entry}
 use Rattle.sheet_rules.specs.WellFormed.{is_place, IsWellFormed}
 use Rattle.sheet_rules.specs.laws.EntryLaws.{both}

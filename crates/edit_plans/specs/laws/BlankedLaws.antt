@@ -14,11 +14,12 @@ use Rattle.cell_content.specs.declared.Content.{Content}
 use Rattle.cell_content.specs.declared.Content.TheVariants.{Array}
 use Rattle.sheet_grid.specs.declared.Cell.{Cell}
 use Rattle.sheet_grid.specs.Arrays.{array_at, where_large, large_array_at, arrays_of, large_arrays_of}
-use Rattle.sheet_grid.specs.FittingCells.{entry_fits_at}
+use Rattle.sheet_grid.specs.laws.FittingCells.{entry_fits_at}
 use Rattle.sheet_grid.specs.KeptCell.{IsKeptCell, KeptCells}
 use Rattle.sheet_grid.specs.Merges.{is_empty}
 use Rattle.sheet_grid.specs.Sheet.{Sheet}
-use Rattle.sheet_rules.specs.Occupied.{meets_any, have_arrays, have_merges, covers, are_hidden_blank, array_in, large_array_in}
+use Rattle.sheet_rules.specs.Occupied.{meets_any, have_arrays, have_merges, covers, are_hidden_blank}
+use Rattle.sheet_rules.specs.laws.ArraysIn.{array_in, large_array_in}
 use Rattle.sheet_rules.specs.WellFormed.{is_place, stands_inside, have_trees, has_font, have_attributes}
 use Rattle.sheet_rules.specs.laws.EntryLaws.{both}
 use Rattle.sheet_rules.specs.laws.OccupiedLaws.{keeps_arrays, have_arrays_from, keeps_merges, have_merges_from, keeps_hidden, are_hidden_blank_from}

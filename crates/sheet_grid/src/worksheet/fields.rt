@@ -1,4 +1,4 @@
-//! The name, the state, the colour and the grid lines of a sheet, and copies that have another id and
+//! The name, the state, the colour, the grid lines and the frozen lines of a sheet, and copies that have another id and
 //! another name.
 
 ghost use Rattle.std.specs.Prelude.{◌≡◌, Ok, IfOk, IsOkUnless};
@@ -48,6 +48,20 @@ impl Worksheet {
         ensures { self.new ≡ record self.old { show_grid_lines = show } }
     {
         self.show_grid_lines = show;
+    }
+
+    /// Sets how many rows at the top stay in sight. The count may be any. It takes no memory.
+    pub fn set_frozen_rows(&mut self, count: i32)
+        ensures { self.new ≡ record self.old { frozen_rows = count } }
+    {
+        self.frozen_rows = count;
+    }
+
+    /// Sets how many columns at the left stay in sight. The count may be any. It takes no memory.
+    pub fn set_frozen_columns(&mut self, count: i32)
+        ensures { self.new ≡ record self.old { frozen_columns = count } }
+    {
+        self.frozen_columns = count;
     }
 
     /// A copy of the sheet that has another id and another name. `NoMemory` alone is an error.

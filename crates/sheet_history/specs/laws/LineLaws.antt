@@ -45,7 +45,7 @@ use Rattle.sheet_grid.specs.declared.LineAttr.{LineAttr}
 use Rattle.sheet_grid.specs.declared.Link.{Link}
 use Rattle.sheet_grid.specs.Sheet.{Sheet}
 use Rattle.sheet_grid.specs.Book.{Book}
-use Rattle.sheet_grid.specs.FittingCells.{entry_fits_at, is_shallow_entry, CellsFit}
+use Rattle.sheet_grid.specs.laws.FittingCells.{entry_fits_at, is_shallow_entry, CellsFit}
 use Rattle.sheet_grid.specs.laws.FittingLaws.{shallow_entry}
 use Rattle.sheet_rules.specs.laws.EntryLaws.{both}
 use Rattle.sheet_rules.specs.WellFormed.{is_place, stands_inside, have_trees, IsWellFormed}

@@ -11,7 +11,7 @@ use Rattle.base_tables.specs.Folding.{same_folded}
 use Rattle.sheet_grid.specs.declared.Cell.{Cell}
 use Rattle.sheet_grid.specs.declared.LineAttr.{LineAttr}
 use Rattle.sheet_grid.specs.declared.Link.{Link}
-use Rattle.sheet_grid.specs.FittingCells.{entry_fits_at}
+use Rattle.sheet_grid.specs.laws.FittingCells.{entry_fits_at}
 use Rattle.sheet_grid.specs.laws.FittingLaws.{cells_fit-put}
 use Rattle.sheet_grid.specs.Sheet.{Sheet, with_cell}
 use Rattle.sheet_grid.specs.Book.{Book}

@@ -20,7 +20,7 @@ use Rattle.base_axis.specs.Rectangles.{is_inside}
 use Rattle.sheet_grid.specs.Arrays.{array_at, large_array_at}
 use Rattle.sheet_grid.specs.Sheet.{Sheet, new_sheet}
 use Rattle.sheet_grid.specs.Book.{Book, new_book}
-use Rattle.sheet_grid.specs.FittingCells.{entry_fits_at, CellsFit, SheetsFit}
+use Rattle.sheet_grid.specs.laws.FittingCells.{entry_fits_at, CellsFit, SheetsFit}
 use Rattle.sheet_rules.specs.Names.{have_name_trees, are_names}
 use Rattle.sheet_rules.specs.Occupied.{are_apart, have_arrays, meets_any, have_merges, covers_blanks, are_hidden_blank}
 use Rattle.sheet_rules.specs.SheetNames.{is_sheet_name}

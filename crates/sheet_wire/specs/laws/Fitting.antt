@@ -8,7 +8,7 @@ use Rattle.formula_tree.specs.Depth.{is_within}
 use Rattle.formula_tree.specs.Numbers.{has_kept_numbers}
 use Rattle.formula_tree.specs.declared.Node.{Node}
 use Rattle.sheet_grid.specs.declared.Cell.{Cell}
-use Rattle.sheet_grid.specs.FittingCells.{is_shallow_entry}
+use Rattle.sheet_grid.specs.laws.FittingCells.{is_shallow_entry}
 use Rattle.sheet_grid.specs.KeptCell.{IsKeptCell}
 use Rattle.sheet_history.specs.declared.Diff.{Diff}
 use Rattle.sheet_history.specs.declared.Diff.TheVariants.{Cell as CellDiff, Link as LinkDiff, Merges as MergesDiff, Lines as LinesDiff}

@@ -1,8 +1,8 @@
--- The bytes of whole sheets, which have no rules yet and no frozen lines.
-use Rattle.std.specs.Prelude.{ℕ, ℤ, pos, ◌≡◌, ◌<◌, ◌^◌, Bool, true, ◌&&◌, List, ◌++◌, IfSome}
+-- The bytes of whole sheets, which have no rules yet.
+use Rattle.std.specs.Prelude.{ℕ, ℤ, pos, ◌<◌, ◌^◌, Bool, List, ◌++◌, IfSome, FitsSigned}
 use Rattle.std.specs.FinMap.{FinMap, get}
 use Rattle.std.specs.Int.{w32, to_be_bytes}
-use Rattle.std.specs.Ordering.{int_cmp, int_eq}
+use Rattle.std.specs.Ordering.{int_cmp}
 use Rattle.base_axis.specs.declared.MergedCell.{MergedCell}
 use Rattle.base_styles.specs.declared.Color.{Color}
 use Rattle.base_values.specs.declared.Position.{Position}
@@ -13,7 +13,7 @@ use Rattle.sheet_grid.specs.declared.LineAttr.{LineAttr}
 use Rattle.sheet_grid.specs.declared.Link.{Link}
 use Rattle.sheet_grid.specs.declared.SheetState.{SheetState}
 use Rattle.base_wire.specs.Parts.{boolean_at}
-use Rattle.base_wire.specs.Reading.{Reader, plain, map_at, ◌⊗◌, after, check_at, code_at, number_at, signed_at, text_at}
+use Rattle.base_wire.specs.Reading.{Reader, plain, map_at, ◌⊗◌, after, code_at, number_at, signed_at, text_at}
 use Rattle.base_wire.specs.Spelling.{spell_signed, spell_code, boolean_code, spell_text, FitsText}
 use Rattle.map_wire.specs.MapBytes.{spell_map, FitsMap, no_items}
 use Rattle.cell_wire.specs.StyleBytes.{spell_color, color_at, FitsColor}
@@ -25,13 +25,6 @@ use Rattle.grid_wire.specs.KeyBytes.{place_map_at, axis_map_at}
 use Rattle.grid_wire.specs.LineBytes.{spell_line, line_at, FitsLine, IsKnownLine}
 
 -- ---- its fields
-
--- how many rows and how many columns are frozen: none
-abbrev pub is_unfrozen : ℤ × ℤ → Bool
-is_unfrozen x = int_eq x.0 (pos 0) && int_eq x.1 (pos 0)
-
-unfoldable pub frozen_at : Reader (ℤ × ℤ)
-frozen_at = check_at is_unfrozen (signed_at w32 ⊗ signed_at w32)
 
 -- the id, the name, the state, the colour, whether grid lines are drawn, and how many rows and columns are frozen
 unfoldable pub spell_fields : Sheet → List ℕ
@@ -60,14 +53,15 @@ abbrev pub bared : Sheet → Sheet
 bared sheet = bare_sheet (fields_of sheet)
 
 unfoldable pub fields_at : Reader Sheet
-fields_at = map_at bare_sheet (number_at w32 ⊗ text_at ⊗ code_at state_code states ⊗ color_at ⊗ boolean_at ⊗ frozen_at)
+fields_at = map_at bare_sheet (number_at w32 ⊗ text_at ⊗ code_at state_code states ⊗ color_at ⊗ boolean_at ⊗ signed_at w32 ⊗ signed_at w32)
 
--- an id of 32 bits, a text of Rust, a colour that bytes can carry, and no frozen lines
+-- an id of 32 bits, a text of Rust, a colour that bytes can carry, and counts of 32 bits
 pub record FitsFields (sheet : Sheet) : Type 0 where
   pub id : sheet.id < 2 ^ 32
   pub name : FitsText sheet.name
   pub color : FitsColor sheet.color
-  pub unfrozen : is_unfrozen (sheet.frozen_rows, sheet.frozen_columns) ≡ true
+  pub frozen_rows : FitsSigned w32 sheet.frozen_rows
+  pub frozen_columns : FitsSigned w32 sheet.frozen_columns
 
 -- ---- what stands in it
 

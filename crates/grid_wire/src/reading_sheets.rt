@@ -1,9 +1,9 @@
 //! Whole sheets from the front of bytes.
 
-ghost use Rattle.std.specs.Prelude.{◌≡◌, pos, IfOk};
+ghost use Rattle.std.specs.Prelude.{IfOk};
 ghost use Rattle.base_values.specs.Answers.{Answers, map_ok};
 ghost use Rattle.sheet_grid.specs.KeptCell.{KeptCells};
-ghost use Rattle.grid_wire.specs.SheetBytes.{cells_at, fields_at, frozen_at, sheet_at};
+ghost use Rattle.grid_wire.specs.SheetBytes.{cells_at, fields_at, sheet_at};
 
 use crate::colors::{ColorPart, StatePart};
 use crate::keys::{axis_map_at, place_map_at};
@@ -17,21 +17,6 @@ use map_wire::{after_no_items, read};
 use sheet_grid::{Cell, Worksheet};
 use std::alloc::Global;
 
-/// How many rows and how many columns are frozen, which is none.
-#[tactic(auto, unfolding(crate::specs::SheetBytes::frozen_at))]
-fn frozen_at(alloc: Global, bytes: &[u8]) -> Result<((i32, i32), &[u8]), EditError>
-    ensures read { Answers (map_ok (λ x. (x.0, x.1.now)) result) (frozen_at bytes.now) }
-    ensures none { IfOk result (λ x. x.0 ≡ (pos 0, pos 0)) }
-{
-    let (rows, rest) = read::<i32>(alloc, &(), bytes)?;
-    let (columns, rest) = read::<i32>(alloc, &(), rest)?;
-    if rows == 0 && columns == 0 {
-        Ok(((rows, columns), rest))
-    } else {
-        Err(EditError::ParseDiffs)
-    }
-}
-
 /// A sheet that has the fields at the front of bytes, and nothing else.
 #[tactic(auto, unfolding(crate::specs::SheetBytes::fields_at))]
 fn fields_at(alloc: Global, bytes: &[u8]) -> Result<(Worksheet, &[u8]), EditError>
@@ -42,11 +27,14 @@ fn fields_at(alloc: Global, bytes: &[u8]) -> Result<(Worksheet, &[u8]), EditErro
     let (state, rest) = read::<StatePart>(alloc, &(), rest)?;
     let (color, rest) = read::<ColorPart>(alloc, &(), rest)?;
     let (show_grid_lines, rest) = read::<bool>(alloc, &(), rest)?;
-    let (_none, rest) = frozen_at(alloc, rest)?;
+    let (frozen_rows, rest) = read::<i32>(alloc, &(), rest)?;
+    let (frozen_columns, rest) = read::<i32>(alloc, &(), rest)?;
     let mut sheet = Worksheet::new(alloc, id, name.as_str())?;
     sheet.set_state(state);
     sheet.set_color(&color);
     sheet.set_show_grid_lines(show_grid_lines);
+    sheet.set_frozen_rows(frozen_rows);
+    sheet.set_frozen_columns(frozen_columns);
     Ok((sheet, rest))
 }
 

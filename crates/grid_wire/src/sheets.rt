@@ -14,8 +14,8 @@ use std::alloc::{AllocError, Global};
 /// (docs/FORMATS.md, "Bytes").
 ///
 /// Bytes spell none where a key lies outside the sheet, where a map's keys don't rise strictly, where a
-/// row or a column has nothing of its own, where a count of frozen lines is not 0, or where there are
-/// rules. Each style that is read and equal to that of the context shares it.
+/// row or a column has nothing of its own, or where there are rules. Each style that is read and equal
+/// to that of the context shares it.
 pub struct SheetPart;
 
 impl Part for SheetPart {

@@ -1,9 +1,8 @@
 //! Whole sheets at the end of bytes. Out of memory may leave some of their bytes there.
 
-ghost use Rattle.std.specs.Prelude.{◌≡◌, ◌++◌, true, OnOk};
-ghost use Rattle.std.specs.Int.{w32};
-ghost use Rattle.base_wire.specs.Spelling.{spell_signed, spell_text, FitsText};
-ghost use Rattle.grid_wire.specs.SheetBytes.{is_unfrozen, spell_entries, spell_fields, spell_sheet, FitsEntries, FitsFields, FitsSheet, IsKnownSheet};
+ghost use Rattle.std.specs.Prelude.{◌≡◌, ◌++◌, OnOk};
+ghost use Rattle.base_wire.specs.Spelling.{spell_text, FitsText};
+ghost use Rattle.grid_wire.specs.SheetBytes.{spell_entries, spell_fields, spell_sheet, FitsEntries, FitsFields, FitsSheet, IsKnownSheet};
 
 use crate::colors::{ColorPart, StatePart};
 use crate::keys::{put_axis_map, put_place_map};
@@ -23,20 +22,6 @@ fn put_text(out: &mut Vec<u8>, text: &str) -> Result<(), AllocError>
     out.extend_from_slice(bytes)
 }
 
-/// Adds how many rows and how many columns are frozen. No call freezes any, so a sheet that has some
-/// does not come here; of one that did no bytes would be read again, and it ends as out of memory does.
-fn put_frozen(out: &mut Vec<u8>, rows: i32, columns: i32) -> Result<(), AllocError>
-    ensures spelled { OnOk result (out.new.items ≡ out.old.items ++ (spell_signed w32 rows ++ spell_signed w32 columns)) }
-    ensures unfrozen { OnOk result (is_unfrozen (rows, columns) ≡ true) }
-{
-    if rows == 0 && columns == 0 {
-        i32::put(out, &rows)?;
-        i32::put(out, &columns)
-    } else {
-        Err(AllocError)
-    }
-}
-
 #[tactic(auto, unfolding(crate::specs::SheetBytes::spell_fields))]
 fn put_fields(out: &mut Vec<u8>, sheet: &Worksheet) -> Result<(), AllocError>
     ensures spelled { OnOk result (out.new.items ≡ out.old.items ++ spell_fields sheet.now) }
@@ -47,7 +32,8 @@ fn put_fields(out: &mut Vec<u8>, sheet: &Worksheet) -> Result<(), AllocError>
     StatePart::put(out, &sheet.state())?;
     ColorPart::put(out, &sheet.color())?;
     out.push(boolean_code(sheet.show_grid_lines()))?;
-    put_frozen(out, sheet.frozen_rows(), sheet.frozen_columns())
+    i32::put(out, &sheet.frozen_rows())?;
+    i32::put(out, &sheet.frozen_columns())
 }
 
 /// Adds rows, columns, cells, links, merges, and no rules.

@@ -5,6 +5,7 @@
 //! is, it is one of [`Keyed`], which says how the map is seen as a finite one.
 #![tactic(auto)]
 
+mod entries;
 mod keyed;
 mod maps;
 mod reading;

@@ -6,12 +6,13 @@ ghost use Rattle.std.specs.FinMap.{from_entries, is_sorted};
 ghost use Rattle.std.specs.List.{AllByRecursion};
 ghost use Rattle.base_values.specs.Answers.{Answers, map_ok};
 ghost use Rattle.base_values.specs.declared.EditError.TheVariants.{NoMemory};
-ghost use Rattle.base_wire.specs.Reading.{◌⊗◌, count_at, many_at, rest_after};
+ghost use Rattle.base_wire.specs.Reading.{rest_after};
 ghost use Rattle.base_wire.specs.Spelling.{Both};
 ghost use Rattle.map_wire.specs.MapBytes.{entries_at, map_of_at, no_items};
 
+use crate::entries::EntryPart;
 use crate::keyed::Keyed;
-use base_values::EditError;
+use base_values::{EditError, Items};
 use base_wire::Part;
 use std::alloc::Global;
 
@@ -27,50 +28,6 @@ pub fn read<'a, P: Part>(
     P::take(alloc, context, bytes)
 }
 
-/// A count of entries, which is no greater than the number of the bytes after it: each entry takes one
-/// at least.
-fn count_at(alloc: Global, bytes: &[u8]) -> Result<(u64, &[u8]), EditError>
-    ensures { Answers (map_ok (λ x. (x.0, x.1.now)) result) (count_at bytes.now) }
-{
-    let (count, rest) = read::<u64>(alloc, &(), bytes)?;
-    if (rest.len() as u64) < count {
-        return Err(EditError::ParseDiffs);
-    }
-    Ok((count, rest))
-}
-
-/// A key and its value.
-fn entry_at<'a, K: Part<Context = ()>, P: Part>(
-    alloc: Global,
-    context: &P::Context,
-    bytes: &'a [u8],
-) -> Result<((K::Value, P::Value), &'a [u8]), EditError>
-    ensures { Answers (map_ok (λ x. (x.0, x.1.now)) result) ((K.reading ⊗ P.reading) bytes.now) }
-{
-    let (key, rest) = read::<K>(alloc, &(), bytes)?;
-    let (value, rest) = read::<P>(alloc, context, rest)?;
-    Ok(((key, value), rest))
-}
-
-/// The entries of a map, so many.
-fn entries_of<'a, K: Part<Context = ()>, P: Part>(
-    alloc: Global,
-    context: &P::Context,
-    count: u64,
-    bytes: &'a [u8],
-) -> Result<(Vec<(K::Value, P::Value)>, &'a [u8]), EditError>
-    ensures { Answers (map_ok (λ x. (x.0.items, x.1.now)) result) (many_at (K.reading ⊗ P.reading) count bytes.now) }
-{
-    let mut entries = Vec::new(alloc);
-    let mut rest = bytes;
-    'reads: for _ in 0..count {
-        let (entry, after) = entry_at::<K, P>(alloc, context, rest)?;
-        entries.push(entry)?;
-        rest = after;
-    }
-    Ok((entries, rest))
-}
-
 /// Whether the keys of entries rise strictly.
 fn ascends<M: Keyed<K, V>, K, V>(entries: &[(K, V)]) -> bool
     ensures { result ≡ is_sorted M.order entries.now }
@@ -83,18 +40,17 @@ fn ascends<M: Keyed<K, V>, K, V>(entries: &[(K, V)]) -> bool
     true
 }
 
-/// A count and so many entries, whose keys rise strictly.
+/// A list of entries, whose keys rise strictly.
 fn sorted_entries_at<'a, M: Keyed<K::Value, P::Value>, K: Part<Context = ()>, P: Part>(
     alloc: Global,
     context: &P::Context,
     bytes: &'a [u8],
-) -> Result<(Vec<(K::Value, P::Value)>, &'a [u8]), EditError>
-    ensures read { Answers (map_ok (λ x. (x.0.items, x.1.now)) result) (entries_at M.order K.reading P.reading bytes.now) }
-    ensures sorted { IfOk result (λ x. IsTrue (is_sorted M.order x.0.items)) }
+) -> Result<(Items<(K::Value, P::Value)>, &'a [u8]), EditError>
+    ensures read { Answers (map_ok (λ x. (x.0, x.1.now)) result) (entries_at M.order K.reading P.reading bytes.now) }
+    ensures sorted { IfOk result (λ x. IsTrue (is_sorted M.order x.0)) }
 {
-    let (count, rest) = count_at(alloc, bytes)?;
-    let (entries, rest) = entries_of::<K, P>(alloc, context, count, rest)?;
-    if !ascends::<M, K::Value, P::Value>(&entries) {
+    let (entries, rest) = read::<Items<EntryPart<K, P>>>(alloc, context, bytes)?;
+    if !ascends::<M, K::Value, P::Value>(entries.as_slice()) {
         return Err(EditError::ParseDiffs);
     }
     Ok((entries, rest))
@@ -109,10 +65,10 @@ pub fn entries_at<'a, M: Keyed<K::Value, P::Value>, K: Part<Context = ()>, P: Pa
     alloc: Global,
     context: &P::Context,
     bytes: &'a [u8],
-) -> Result<(Vec<(K::Value, P::Value)>, &'a [u8]), EditError>
-    ensures read { Answers (map_ok (λ x. (x.0.items, x.1.now)) result) (entries_at M.order K.reading P.reading bytes.now) }
-    ensures fits { IfOk result (λ x. AllByRecursion (Both K.Fits P.Fits) x.0.items) }
-    ensures sorted { IfOk result (λ x. IsTrue (is_sorted M.order x.0.items)) }
+) -> Result<(Items<(K::Value, P::Value)>, &'a [u8]), EditError>
+    ensures read { Answers (map_ok (λ x. (x.0, x.1.now)) result) (entries_at M.order K.reading P.reading bytes.now) }
+    ensures fits { IfOk result (λ x. AllByRecursion (Both K.Fits P.Fits) x.0) }
+    ensures sorted { IfOk result (λ x. IsTrue (is_sorted M.order x.0)) }
 {
     sorted_entries_at::<M, K, P>(alloc, context, bytes)
 }
@@ -152,6 +108,6 @@ pub(crate) fn map_at<'a, M: Keyed<K::Value, P::Value>, K: Part<Context = ()>, P:
     ensures { Answers (map_ok (λ x. (x.0, x.1.now)) result) (map_of_at M.order M.made K.reading P.reading bytes.now) }
 {
     let (entries, rest) = sorted_entries_at::<M, K, P>(alloc, context, bytes)?;
-    let map = map_of::<M, K::Value, P::Value>(alloc, entries)?;
+    let map = map_of::<M, K::Value, P::Value>(alloc, entries.into_vec())?;
     Ok((map, rest))
 }

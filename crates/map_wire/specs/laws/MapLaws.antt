@@ -8,7 +8,7 @@ use Rattle.std.specs.FinMap.{FinMap, entries, entries_sorted, from_entries, is_s
 use Rattle.base_maps.specs.laws.Gathering.{own_entries}
 use Rattle.base_maps.specs.laws.Known.{entries_again}
 use Rattle.base_wire.specs.Reading.{Reader, plain, after}
-use Rattle.base_wire.specs.Spelling.{Any, Both, FitsItems}
+use Rattle.base_wire.specs.Spelling.{Any, Both, FitsItems, spell_both}
 use Rattle.base_wire.specs.laws.Format.{Format, list_format}
 use Rattle.base_wire.specs.laws.Formats.{after_format, both_format, check_format, made_format}
 use Rattle.base_wire.specs.laws.Refusals.{plain_plain}
@@ -19,11 +19,15 @@ holds : (b : Bool) → T b → b ≡ true
 holds true h = refl
 holds false h = absurd h
 
+-- an entry takes a byte at least
+pub entry_some : {K X : Type 0} (s : K → List ℕ) → ((k : K) → 1 ≤ length (s k)) → (t : X → List ℕ) → (e : K × X) → 1 ≤ length (spell_both s t e)
+entry_some s some t e = omega (arith, some e.0, length-append (s e.0) (t e.1))
+
 module _ {K X : Type 0} {R : K → K → Ordering} (total : IsTotalOrder R) (exact : CmpEqualImpliesEq R) where
   module _ {F : K → Type 0} {G : X → Type 0} {s : K → List ℕ} {t : X → List ℕ} {r : Reader K} {n : Reader X} where
     -- entries in order
     pub entries_format : Format F s r → Format G t n → ((k : K) → 1 ≤ length (s k)) → Format (λ es. FitsItems (Both F G) es × (is_sorted R es ≡ true)) (spell_entries s t) (entries_at R r n)
-    entries_format key value some = check_format (list_format (both_format key value) (λ e. omega (arith, some e.0, length-append (s e.0) (t e.1)))) (is_sorted R)
+    entries_format key value some = check_format (list_format (both_format key value) (entry_some s some t)) (is_sorted R)
 
     -- a map that is seen as a finite map, and made of it
     pub map_format : {M : Type 0} → Format F s r → Format G t n → ((k : K) → 1 ≤ length (s k)) → (seen : M → FinMap R X) (made : FinMap R X → M) → ((m : FinMap R X) → seen (made m) ≡ m) → ((map : M) → made (seen map) ≡ map)

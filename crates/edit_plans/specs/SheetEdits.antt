@@ -5,7 +5,7 @@ use Rattle.base_values.specs.declared.EditError.TheVariants.{OnlySheet}
 use Rattle.base_values.specs.Answers.{and_then, map_ok}
 use Rattle.defined_names.specs.Names.{kept_names, names_left, names_copied}
 use Rattle.sheet_grid.specs.Sheet.{Sheet, new_sheet}
-use Rattle.sheet_grid.specs.Book.{Book, names_of, sheet_at, sheet_edit, sheet_moved}
+use Rattle.sheet_grid.specs.Book.{Book, ids_of, names_of, sheet_at, sheet_edit, sheet_moved}
 use Rattle.sheet_naming.specs.FreeNames.{new_name, copy_name}
 use Rattle.sheet_naming.specs.NextIds.{next_id}
 use Rattle.book_sheets.specs.SheetDiffs.{with_sheet_at, without_sheet_at, sheet_as}
@@ -22,7 +22,7 @@ with_new_sheet book id = with_sheet_at (length book.worksheets) (new_sheet id (n
 
 -- a sheet is added: there is no further id
 unfoldable pub sheet_added : Book → Result Book EditError
-sheet_added book = map_ok (with_new_sheet book) (next_id book)
+sheet_added book = map_ok (with_new_sheet book) (next_id (ids_of book.worksheets))
 
 -- the copy of the sheet at an index, with an id, stands behind it, and the names that are known in that sheet alone are copied
 abbrev pub with_copy : ℕ → Book → Sheet → ℕ → Book
@@ -31,7 +31,7 @@ with_copy index book sheet id =
 
 -- a sheet is copied: there is no such sheet, or no further id
 unfoldable pub sheet_copied : ℕ → Book → Result Book EditError
-sheet_copied index book = and_then (sheet_at book index) (λ sheet. map_ok (with_copy index book sheet) (next_id book))
+sheet_copied index book = and_then (sheet_at book index) (λ sheet. map_ok (with_copy index book sheet) (next_id (ids_of book.worksheets)))
 
 -- a sheet goes, with the names that are known in it alone: there is no such sheet, or it is the only one
 unfoldable pub sheet_deleted : ℕ → Book → Result Book EditError
@@ -66,10 +66,10 @@ one_diff (Ok diff) = diff ∷ []
 one_diff (Err error) = []
 
 abbrev pub added_record : Book → List Diff
-added_record book = one_diff (map_ok (new_diff book) (next_id book))
+added_record book = one_diff (map_ok (new_diff book) (next_id (ids_of book.worksheets)))
 
 abbrev pub copied_record : ℕ → Book → List Diff
-copied_record index book = one_diff (and_then (sheet_at book index) (λ sheet. map_ok (copy_diff index book sheet) (next_id book)))
+copied_record index book = one_diff (and_then (sheet_at book index) (λ sheet. map_ok (copy_diff index book sheet) (next_id (ids_of book.worksheets))))
 
 abbrev pub deleted_record : ℕ → Book → List Diff
 deleted_record index book = one_diff (map_ok (deletion_diff index book) (sheet_at book index))

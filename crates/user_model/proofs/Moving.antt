@@ -147,23 +147,6 @@ pub same_session : {T : Type 0} (result : Result T EditError) (book later : Open
 same_session (Ok value) book later results made seen is one two = tt
 same_session (Err error) book later results made seen is one two = (λ i. record { document = one i; values = (two i).values; paused = (two i).paused }) ∙ is
 
--- a view that was chosen is the one of the state
-pub looked : (old new : Session) (s : State) (view : View) → new ≡ seeing old view → StandsFor old.document s → Moves {T = Unit {0}} (Ok tt) new.document (looking (Ok view) s)
-looked old new s view is stands =
-    record { done = subst (λ (session : Session). StandsFor session.document (record s { view = view })) (sym is) (seen_stands old.document s view stands); refused = tt; memory = tt }
-
--- and one that was refused is not
-pub not_looked : (old : Session) (s : State) (error : EditError) → error ≢ NoMemory → StandsFor old.document s → Moves {T = Unit {0}} (Err error) old.document (looking (Err error) s)
-not_looked old s error sure stands = record { done = tt; refused = λ other. refl; memory = λ short. absurd (sure short) }
-
--- to choose a rectangle takes no memory
-pub range_sure : (result : Result View EditError) (view : View) (first_row first_column last_row last_column : ℤ) → result ≡ range_chosen view first_row first_column last_row last_column → result ≢ Err NoMemory
-range_sure result view first_row first_column last_row last_column is short = go (is_range first_row first_column last_row last_column) (sym is ∙ short)
-  where
-    go : (b : Bool) {seen : View} → ◌≡◌ {A = Result View EditError} (cond b (Ok seen) (Err InvalidArea)) (Err NoMemory) → ⊥
-    go true never = cc
-    go false never = cc
-
 -- ---- silent edits
 
 -- an edit that does nothing leaves the state
@@ -215,3 +198,20 @@ seen_stands doc s view is = record { document = ap (λ (d : Document). record d 
 
 pub seen_reached : (doc : Document) (view : View) → IsReached doc → IsReached (record doc { view = view })
 seen_reached doc view is = (record is.0 { view = view }, seen_stands doc is.0 view is.1)
+
+-- a view that was chosen is the one of the state
+pub looked : (old new : Session) (s : State) (view : View) → new ≡ seeing old view → StandsFor old.document s → Moves {T = Unit {0}} (Ok tt) new.document (looking (Ok view) s)
+looked old new s view is stands =
+    record { done = subst (λ (session : Session). StandsFor session.document (record s { view = view })) (sym is) (seen_stands old.document s view stands); refused = tt; memory = tt }
+
+-- and one that was refused is not
+pub not_looked : (old : Session) (s : State) (error : EditError) → error ≢ NoMemory → StandsFor old.document s → Moves {T = Unit {0}} (Err error) old.document (looking (Err error) s)
+not_looked old s error sure stands = record { done = tt; refused = λ other. refl; memory = λ short. absurd (sure short) }
+
+-- to choose a rectangle takes no memory
+pub range_sure : (result : Result View EditError) (view : View) (first_row first_column last_row last_column : ℤ) → result ≡ range_chosen view first_row first_column last_row last_column → result ≢ Err NoMemory
+range_sure result view first_row first_column last_row last_column is short = go (is_range first_row first_column last_row last_column) _ (sym is ∙ short)
+  where
+    go : (b : Bool) (seen : View) → ◌≡◌ {A = Result View EditError} (cond b (Ok seen) (Err InvalidArea)) (Err NoMemory) → ⊥
+    go true seen never = cc
+    go false seen never = cc

@@ -1,6 +1,6 @@
 -- An edit of the list of the sheets is a sound step, and its record is its one diff.
 use Rattle.std.proofs.Common.{◌≡◌, ◌⊎◌, inl, inr, ◌<◌, ◌≤◌, ℕ, true, false, cond, List, length, Option, Some, None, Result, Ok, Err, refl, ap, sym, subst, ◌∙◌}
-use Rattle.std.specs.Prelude.{◌&&◌, nat_lt, slice_get, IfOk, IsOkAnd, IsTrue}
+use Rattle.std.specs.Prelude.{◌&&◌, nat_lt, get_or, slice_get, IfOk, IsOkAnd, IsTrue}
 use Rattle.std.proofs.lemmas.Bool.{le-ltb}
 use Rattle.std.proofs.lemmas.Option.{slice_get_cases}
 use Rattle.base_values.specs.declared.EditError.{EditError}
@@ -46,30 +46,29 @@ module _ (earlier later : Book) where
       go (Ok id) is = refl
       go (Err error) is = never_accepted error later is
 
+  abbrev copied : ℕ → Result Sheet EditError → Result Diff EditError
+  copied index s = and_then s (λ sheet. map_ok (copy_diff index earlier sheet) (next_id ids))
+
   copied_exact : (index : ℕ) → changed (CopySheet index) earlier ≡ Ok later → IsExact (CopySheet index) earlier later (copied_record index earlier)
   unfolding sheet_copied
   copied_exact index how = at (sheet_at earlier index) how
     where
-      abbrev diff_of : Result Sheet EditError → Result Diff EditError
-      diff_of s = and_then s (λ sheet. map_ok (copy_diff index earlier sheet) (next_id ids))
-
       of : (sheet : Sheet) (id : Result ℕ EditError) → map_ok (with_copy index earlier sheet) id ≡ Ok later
           → IsOneDiff (map_ok (copy_diff index earlier sheet) id) (one_diff (map_ok (copy_diff index earlier sheet) id))
       of sheet (Ok id) is = refl
       of sheet (Err error) is = never_accepted error later is
 
-      at : (s : Result Sheet EditError) → and_then s (λ sheet. map_ok (with_copy index earlier sheet) (next_id ids)) ≡ Ok later → IsOneDiff (diff_of s) (one_diff (diff_of s))
+      at : (s : Result Sheet EditError) → and_then s (λ sheet. map_ok (with_copy index earlier sheet) (next_id ids)) ≡ Ok later → IsOneDiff (copied index s) (one_diff (copied index s))
       at (Ok sheet) is = of sheet (next_id ids) is
       at (Err error) is = never_accepted error later is
 
   deleted_exact : (index : ℕ) → changed (DeleteSheet index) earlier ≡ Ok later → IsExact (DeleteSheet index) earlier later (deleted_record index earlier)
   unfolding sheet_deleted
-  deleted_exact index how = at (sheet_at earlier index) how
+  deleted_exact index how = at (sheet_at earlier index) (λ sheet. _) how
     where
-      at : {then : Sheet → Result Book EditError} → (s : Result Sheet EditError) → and_then s then ≡ Ok later
-          → IsOneDiff (map_ok (deletion_diff index earlier) s) (one_diff (map_ok (deletion_diff index earlier) s))
-      at (Ok sheet) is = refl
-      at (Err error) is = never_accepted error later is
+      at : (s : Result Sheet EditError) (f : Sheet → Result Book EditError) → and_then s f ≡ Ok later → IsOneDiff (map_ok (deletion_diff index earlier) s) (one_diff (map_ok (deletion_diff index earlier) s))
+      at (Ok sheet) f is = refl
+      at (Err error) f is = never_accepted error later is
 
   module _ (from to : ℕ) where
     -- a sheet that is not there is not taken away
@@ -81,17 +80,17 @@ module _ (earlier later : Book) where
         refused past =
             sym (ap (λ b. cond (b && nat_lt to (length earlier.worksheets)) (Ok (record earlier { worksheets = sheets_moved earlier.worksheets from to })) (Err InvalidSheet)) past) ∙ how
 
-        go : ((x : Sheet) × (from < length earlier.worksheets) × (slice_get earlier.worksheets from ≡ Some x) × _) ⊎ ((length earlier.worksheets ≤ from) × (slice_get earlier.worksheets from ≡ None)) → ⊥
+        go : ((x : Sheet) × (from < length earlier.worksheets) × (slice_get earlier.worksheets from ≡ Some x) × (get_or earlier.worksheets from x ≡ x)) ⊎ ((length earlier.worksheets ≤ from) × (slice_get earlier.worksheets from ≡ None)) → ⊥
         go (inl there) = let never : ◌≡◌ {A = Option Sheet} (Some there.0) None = sym there.2 ∙ none in cc
         go (inr past) = never_accepted InvalidSheet later (refused (le-ltb from (length earlier.worksheets) past.0))
+
+    abbrev taken : Option Sheet → Result Diff EditError
+    taken o = map_ok (move_diff from to) (ok_or InvalidSheet o)
 
     taken_exact : changed (MoveSheet from to) earlier ≡ Ok later → IsExact (MoveSheet from to) earlier later (taken_record from to earlier)
     taken_exact how = go (slice_get earlier.worksheets from) refl
       where
-        abbrev diff_of : Option Sheet → Result Diff EditError
-        diff_of o = map_ok (move_diff from to) (ok_or InvalidSheet o)
-
-        go : (o : Option Sheet) → slice_get earlier.worksheets from ≡ o → IsOneDiff (diff_of o) (one_diff (diff_of o))
+        go : (o : Option Sheet) → slice_get earlier.worksheets from ≡ o → IsOneDiff (taken o) (one_diff (taken o))
         go (Some sheet) is = refl
         go None is = absurd (never_taken is how)
 

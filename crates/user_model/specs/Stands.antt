@@ -62,11 +62,11 @@ pub record IsStepBy (edit : Edit) (earlier : Book) (list : List Diff) (later : B
   pub step : IsSoundStep (record { edit = edit; before = earlier; after = later })
   pub kept : IsKeptList list
 
--- a result is that of the plan of an edit that does something and selects the sheet at an index: it has the record of the edit's change,
--- or refuses it
+-- a result is that of the plan of an edit that does something and, where it is accepted, selects the sheet at an index: it has the record
+-- of the edit's change, or refuses it
 pub record IsPlanOf (edit : Edit) (plan : Result (List Diff) EditError) (selected : ℕ) (doc : Document) : Type 0 where
   pub loud : is_silent edit doc.book ≡ false
-  pub selects : selected_by edit doc.book doc.view.sheet ≡ selected
+  pub selects : IsOk (changed edit doc.book) → selected_by edit doc.book doc.view.sheet ≡ selected
   pub planned : IfOk plan (λ list. IsOkAnd (changed edit doc.book) (IsStepBy edit doc.book list))
   pub refused : IfErr plan (λ error. error ≢ NoMemory → changed edit doc.book ≡ Err error)
   pub memory : IfErr plan (λ error. error ≡ NoMemory → IsOk (changed edit doc.book))

@@ -196,7 +196,7 @@ fn by_rule(workbook: Workbook, at: u64) -> Result<Workbook, EditError>
 /// `DiffRefused` with entry 0 and the number of the first diff that cannot be made; where each can,
 /// but the result breaks a rule, with the number of diffs. A cell cannot be put where its sheet is
 /// not there, its position is outside, or it may not stand there. docs/MODEL.md says when lines can
-/// be inserted, deleted and moved.
+/// be inserted, deleted and moved, and when a sheet can come, go and move.
 pub fn forward(alloc: Global, workbook: &Workbook, list: &DiffList) -> Result<Workbook, EditError>
     requires kept { IsKeptList list.now }
     requires rules { IsWellFormed workbook.now }

@@ -13,4 +13,5 @@ pub mod MergeRecords
 pub mod PlanLaws
 pub mod SheetRecords
 pub mod SheetEditLaws
+pub mod SheetPlans
 pub mod FieldPlans

@@ -2,7 +2,9 @@
 
 ghost use Rattle.std.specs.Prelude.{◌≡◌, ◌<◌, ◌≤◌, [], ◌∷◌, length, IfOk, IsOkUnless};
 ghost use Rattle.base_values.specs.declared.EditError.TheVariants.{NoMemory};
+ghost use Rattle.sheet_grid.specs.Book.{ids_of};
 ghost use Rattle.sheet_rules.specs.WellFormed.{IsWellFormed};
+ghost use Rattle.sheet_naming.specs.NextIds.{next_id};
 ghost use Rattle.sheet_history.specs.Diffs.{IsKeptDiff, IsKeptList};
 ghost use Rattle.edit_plans.specs.Edits.Edit.{AddSheet, CopySheet, DeleteSheet, MoveSheet};
 ghost use Rattle.edit_plans.specs.Plans.{PlansSheets};
@@ -25,6 +27,19 @@ fn list_of_one(alloc: Global, diff: Diff) -> Result<DiffList, EditError>
     ensures only { IsOkUnless result NoMemory }
 {
     list_of_two(alloc, Some(diff), None)
+}
+
+/// The id of the next sheet of a workbook.
+fn next_sheet_id(workbook: &Workbook) -> Result<u32, EditError>
+    ensures { result ≡ next_id (ids_of workbook.now.worksheets) }
+{
+    next_id(workbook.worksheets())
+}
+
+fn sheet_count(workbook: &Workbook) -> usize
+    ensures { result ≡ length workbook.now.worksheets }
+{
+    workbook.worksheets().len()
 }
 
 /// The diff of a new sheet of an id.
@@ -89,7 +104,7 @@ pub fn plan_new_sheet(alloc: Global, workbook: &Workbook) -> Result<DiffList, Ed
     requires rules { IsWellFormed workbook.now }
     ensures planned { PlansSheets AddSheet result workbook.now }
 {
-    let sheet = next_id(workbook.worksheets())?;
+    let sheet = next_sheet_id(workbook)?;
     let diff = new_diff(alloc, workbook, sheet)?;
     list_of_one(alloc, diff)
 }
@@ -109,7 +124,7 @@ pub fn plan_copied_sheet(
     ensures planned { PlansSheets (CopySheet sheet) result workbook.now }
 {
     let source = workbook.worksheet(sheet)?;
-    let id = next_id(workbook.worksheets())?;
+    let id = next_sheet_id(workbook)?;
     let diff = copy_diff(alloc, workbook, sheet, source, id)?;
     list_of_one(alloc, diff)
 }
@@ -128,7 +143,7 @@ pub fn plan_deleted_sheet(
     ensures planned { PlansSheets (DeleteSheet sheet) result workbook.now }
 {
     let found = workbook.worksheet(sheet)?;
-    if workbook.worksheets().len() == 1 {
+    if sheet_count(workbook) == 1 {
         return Err(EditError::OnlySheet);
     }
     let diff = deletion_diff(alloc, workbook, sheet, found)?;
@@ -149,7 +164,7 @@ pub fn plan_moved_sheet(
     ensures planned { PlansSheets (MoveSheet from to) result workbook.now }
 {
     let found = workbook.worksheet(from)?;
-    if to as usize >= workbook.worksheets().len() {
+    if to as usize >= sheet_count(workbook) {
         return Err(EditError::InvalidSheet);
     }
     let diff = Diff::MoveSheet {

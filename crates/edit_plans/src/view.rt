@@ -9,19 +9,18 @@ use sheet_grid::{SheetState, Workbook};
 use sheet_history::SheetField;
 use sheet_views::{next_visible, selected_after_delete, selected_sheet_after_move};
 
-/// The index that a new sheet of a workbook selects: its own. It takes no memory, as the others here.
-pub fn selected_by_new(workbook: &Workbook, selected: u32) -> usize
-    ensures { result ≡ selected_by AddSheet workbook.now selected }
+/// The index that a new sheet of a workbook selects, whichever was selected: its own. It takes no
+/// memory, as the others here.
+pub fn selected_by_new(workbook: &Workbook, _selected: u32) -> usize
+    ensures { result ≡ selected_by AddSheet workbook.now _selected }
 {
-    let _ = selected; // For the clause alone.
     workbook.worksheets().len()
 }
 
-/// The index that a copy of the sheet at an index selects: its own.
-pub fn selected_by_copy(workbook: &Workbook, sheet: u32, selected: u32) -> usize
-    ensures { result ≡ selected_by (CopySheet sheet) workbook.now selected }
+/// The index that a copy of the sheet at an index selects, whichever was selected: its own.
+pub fn selected_by_copy(_workbook: &Workbook, sheet: u32, _selected: u32) -> usize
+    ensures { result ≡ selected_by (CopySheet sheet) _workbook.now _selected }
 {
-    let _ = (workbook, selected); // For the clause alone.
     sheet as usize + 1
 }
 
@@ -39,10 +38,9 @@ pub fn selected_by_deletion(workbook: &Workbook, sheet: u32, selected: u32) -> u
 }
 
 /// The index of the selected sheet after the sheet at `from` is taken to the index `to`.
-pub fn selected_by_move(workbook: &Workbook, from: u32, to: u32, selected: u32) -> usize
-    ensures { result ≡ selected_by (MoveSheet from to) workbook.now selected }
+pub fn selected_by_move(_workbook: &Workbook, from: u32, to: u32, selected: u32) -> usize
+    ensures { result ≡ selected_by (MoveSheet from to) _workbook.now selected }
 {
-    let _ = workbook; // For the clause alone.
     selected_sheet_after_move(selected, from, to) as usize
 }
 

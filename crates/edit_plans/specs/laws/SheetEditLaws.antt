@@ -99,7 +99,7 @@ module _ (w : Book) (rules : IsWellFormed w) (id : ℕ) (found : next_id (ids_of
       omega (arith, few, same)
 
 -- the sheet at an index, if it is one
-sheet_there : (w : Book) (index : ℕ) (sheet : Sheet) → sheet_at w index ≡ Ok sheet → slice_get w.worksheets index ≡ Some sheet
+pub sheet_there : (w : Book) (index : ℕ) (sheet : Sheet) → sheet_at w index ≡ Ok sheet → slice_get w.worksheets index ≡ Some sheet
 sheet_there w index sheet at = go (slice_get w.worksheets index) refl at
   where
     go : (o : Option Sheet) → slice_get w.worksheets index ≡ o → ok_or InvalidSheet o ≡ Ok sheet → slice_get w.worksheets index ≡ Some sheet
@@ -234,21 +234,3 @@ goes_both_ways (Unmerge index row column) earlier later is rules how = absurd (l
 goes_both_ways (Lines index axis kind) earlier later is rules how = absurd (let never : false ≡ true = is in cc)
 goes_both_ways (MoveLines index axis first count delta) earlier later is rules how = absurd (let never : false ≡ true = is in cc)
 goes_both_ways (SetField index value) earlier later is rules how = absurd (let never : false ≡ true = is in cc)
-
--- ---- what a plan returns
-
--- a refusal that is expected
-pub sheets_refused : (edit : Edit) (book : Book) (error : EditError) → changed edit book ≡ Err error → error ≢ NoMemory → PlansSheets edit (Err error) book
-sheets_refused edit book error is sure = record { planned = tt; refused = λ other. is; memory = λ short. absurd (sure short) }
-
--- the record of the change that is expected, or no memory
-pub sheets_planned : (edit : Edit) (book later : Book) (result : Result (List Diff) EditError) → IsTrue (is_of_sheets edit) → IsWellFormed book
-    → changed edit book ≡ Ok later → IsOkUnless result NoMemory → IfOk result (λ list. list ≡ record_of edit book later) → IfOk result IsKeptList
-    → PlansSheets edit result book
-sheets_planned edit book later (Ok list) of_sheets rules how only is kept =
-    let goes = goes_both_ways edit book later of_sheets rules how in
-    let plan : IsSheetPlan edit book list later =
-    record { recorded = is; forth = ap (forwarded book) is ∙ goes.forth; rules = goes.rules; kept = kept } in
-    record { planned = subst (λ e. IsOkAnd e (IsSheetPlan edit book list)) (sym how) plan; refused = tt; memory = tt }
-sheets_planned edit book later (Err error) of_sheets rules how only is kept =
-    record { planned = tt; refused = λ other. absurd (other only); memory = λ short. subst IsOk (sym how) refl }

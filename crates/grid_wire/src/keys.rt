@@ -13,7 +13,7 @@ ghost use Rattle.grid_wire.specs.KeyBytes.{axis_line_at, axis_map_at, is_place, 
 
 use base_axis::{Axis, AxisMap};
 use base_maps::{NumberMap, PositionMap};
-use base_values::{EditError, Items, LAST_COLUMN, LAST_ROW, PlaceMap, Position};
+use base_values::{EditError, LAST_COLUMN, LAST_ROW, PlaceMap, Position};
 use base_wire::Part;
 use cell_wire::PositionPart;
 use map_wire::{entries_at, put_entries, read};
@@ -144,9 +144,8 @@ pub(crate) fn place_map_at<'a, P: Part>(
 ) -> Result<(PlaceMap<P::Value>, &'a [u8]), EditError>
     ensures { Answers (map_ok (λ x. (x.0, x.1.now)) result) (place_map_at P.reading bytes.now) }
 {
-    let (entries, rest) =
-        entries_at::<PositionMap<P::Value>, PlacePart, P>(alloc, context, bytes)?;
-    let map = PlaceMap::of_entries(alloc, Items::new(entries))?;
+    let (entries, rest) = entries_at::<PositionMap<P::Value>, PlacePart, P>(alloc, context, bytes)?;
+    let map = PlaceMap::of_entries(alloc, entries)?;
     Ok((map, rest))
 }
 
@@ -159,9 +158,10 @@ pub(crate) fn axis_map_at<'a, A: Axis, P: Part>(
 ) -> Result<(AxisMap<A, P::Value>, &'a [u8]), EditError>
     ensures { Answers (map_ok (λ x. (x.0, x.1.now)) result) (axis_map_at A.along.last P.reading bytes.now) }
 {
-    let (entries, rest) =
-        entries_at::<NumberMap<P::Value>, AxisLinePart<A>, P>(alloc, context, bytes)?;
-    let map = AxisMap::of_entries(alloc, Items::new(entries))?;
+    let (entries, rest) = entries_at::<NumberMap<P::Value>, AxisLinePart<A>, P>(
+        alloc, context, bytes,
+    )?;
+    let map = AxisMap::of_entries(alloc, entries)?;
     Ok((map, rest))
 }
 

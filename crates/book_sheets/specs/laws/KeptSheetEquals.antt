@@ -6,8 +6,8 @@ use Rattle.std.proofs.lemmas.Bool.Decides.{Decides-like, Decides-and}
 use Rattle.base_values.specs.laws.KeyMap.{same_entries_decides}
 use Rattle.defined_names.specs.laws.NameEquals.{defined_name_equals}
 use Rattle.sheet_grid.specs.laws.SheetEquals.{worksheet_equals}
-use Rattle.sheet_history.specs.declared.kept_sheet.KeptSheet.{KeptSheet}
-use Rattle.sheet_history.specs.contracts.kept_sheet.KeptSheetPartialEq.TheImpl as kept
+use Rattle.book_sheets.specs.declared.kept_sheet.KeptSheet.{KeptSheet}
+use Rattle.book_sheets.specs.contracts.kept_sheet.KeptSheetPartialEq.TheImpl as kept
 
 pub kept_sheet_equals : (a b : KeptSheet) → Decides (kept.ghosts.eq a b) (a ≡ b)
 kept_sheet_equals a b =

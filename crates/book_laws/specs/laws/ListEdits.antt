@@ -42,7 +42,7 @@ length_removed (y ∷ ys) (suc i) x h = ap suc (length_removed ys i x h)
 -- ---- the first item that passes a test
 
 module _ {X : Type 0} (p : X → Bool) where
-  not_first : (n : ℕ) (y : X) (ys : List X) → position_from p n (y ∷ ys) ≡ None → (p y ≡ false) × (position_from p (n + 1) ys ≡ None)
+  pub not_first : (n : ℕ) (y : X) (ys : List X) → position_from p n (y ∷ ys) ≡ None → (p y ≡ false) × (position_from p (n + 1) ys ≡ None)
   not_first n y ys h = go (p y) refl h
     where
       go : (b : Bool) → p y ≡ b → cond b (Some n) (position_from p (n + 1) ys) ≡ None → (p y ≡ false) × (position_from p (n + 1) ys ≡ None)

@@ -2,7 +2,7 @@
 use Rattle.std.proofs.Common.{◌≡◌, ◌≢◌, ℕ, zero, suc, ◌+◌, ◌≤◌, ◌<◌, Bool, true, false, cond, ◌&&◌, List, [], ◌∷◌, map, length, Option, Some, None, is_none, Result, Ok, Err, refl, ap, sym, subst, ◌∙◌, arith, true≢false}
 use Rattle.std.specs.Prelude.{◌==◌, slice_get, nat_le, nat_lt}
 use Rattle.std.specs.Cmp.{unsigned_Decides}
-use Rattle.std.specs.List.{insert, remove, position_from, IsDistinct, AllByRecursion}
+use Rattle.std.specs.List.{find, insert, remove, position_from, IsDistinct, AllByRecursion}
 use Rattle.std.specs.Option.{option_map_or}
 use Rattle.std.proofs.lemmas.Bool.{lt-ltb, le-leb}
 use Rattle.std.proofs.lemmas.Iterator.Adapters.{position_from-zero}
@@ -13,10 +13,11 @@ use Rattle.defined_names.specs.declared.DefinedName.{DefinedName}
 use Rattle.sheet_grid.specs.Sheet.{Sheet}
 use Rattle.sheet_grid.specs.Book.{Book, index_of, sheets_moved}
 use Rattle.sheet_lines.specs.Sheets.{HasDistinctIds}
-use Rattle.sheet_history.specs.SheetDiffs.{may_come, with_sheet_at, sheet_comes, without_sheet_at, goes_from, sheet_goes, moved_from, sheet_moves}
-use Rattle.sheet_history.specs.laws.ListEdits.{remove_inserted, insert_removed, get_inserted, got_within, length_inserted, length_removed, found_inserted}
+use Rattle.book_sheets.specs.SheetDiffs.{may_come, with_sheet_at, sheet_comes, without_sheet_at, goes_from, sheet_goes, moved_from, sheet_moves}
+use Rattle.book_laws.specs.laws.Turned.{ids_turned}
+use Rattle.book_laws.specs.laws.ListEdits.{remove_inserted, insert_removed, get_inserted, got_within, length_inserted, length_removed, found_inserted}
 
-abbrev has_id : ℕ → Sheet → Bool
+abbrev pub has_id : ℕ → Sheet → Bool
 has_id id sheet = sheet.id == id
 
 -- ---- a sheet that comes, and goes again
@@ -46,16 +47,9 @@ module _ (at index : ℕ) (sheet : Sheet) (names : List DefinedName) (w : Book) 
 -- ---- a sheet that goes, and comes again
 
 -- an id that differs from all of some sheets is not found among them
-none_among : (id n : ℕ) (ss : List Sheet) → AllByRecursion (λ other. (id == other) ≡ false) (map (λ (s : Sheet). s.id) ss) → position_from (has_id id) n ss ≡ None
+pub none_among : (id n : ℕ) (ss : List Sheet) → AllByRecursion (λ other. (id == other) ≡ false) (map (λ (s : Sheet). s.id) ss) → position_from (has_id id) n ss ≡ None
 none_among id n [] others = refl
-none_among id n (s ∷ ss) others = ap (λ b. cond b (Some n) (position_from (has_id id) (n + 1) ss)) (other_way id s.id others.0) ∙ none_among id (n + 1) ss others.1
-  where
-    other_way : (a b : ℕ) → (a == b) ≡ false → (b == a) ≡ false
-    other_way a b apart = go (b == a) refl
-      where
-        go : (t : Bool) → (b == a) ≡ t → t ≡ false
-        go true is = absurd (true≢false (sym ((unsigned_Decides a b).1 (sym ((unsigned_Decides b a).0 is))) ∙ apart))
-        go false is = refl
+none_among id n (s ∷ ss) others = ap (λ b. cond b (Some n) (position_from (has_id id) (n + 1) ss)) (ids_turned id s.id others.0) ∙ none_among id (n + 1) ss others.1
 
 -- it differs from the id of each of them
 differs_from : (id i : ℕ) (ss : List Sheet) (sheet : Sheet) → AllByRecursion (λ other. (id == other) ≡ false) (map (λ (s : Sheet). s.id) ss) → slice_get ss i ≡ Some sheet → (id == sheet.id) ≡ false
@@ -73,7 +67,36 @@ none_left n zero (s ∷ ss) sheet own found =
 none_left n (suc i) (s ∷ ss) sheet own found =
     ap (λ b. cond b (Some n) (position_from (has_id sheet.id) (n + 1) (remove ss i))) (differs_from s.id i ss sheet own.0 found) ∙ none_left (n + 1) i ss sheet own.1 found
 
-module _ (w : Book) (own : HasDistinctIds w) (index : ℕ) (sheet : Sheet) (stands : slice_get w.worksheets index ≡ Some sheet) (is : index_of w sheet.id ≡ Some index) where
+-- of distinct ids the one at an index is the first of its id
+pub placed_at : (n i : ℕ) (ss : List Sheet) (sheet : Sheet) → IsDistinct ◌==◌ (map (λ (s : Sheet). s.id) ss) → slice_get ss i ≡ Some sheet → position_from (has_id sheet.id) n ss ≡ Some (n + i)
+unfolding IsDistinct
+placed_at n i [] sheet own found = absurd (cc)
+placed_at n zero (s ∷ ss) sheet own found =
+    let same : s ≡ sheet = same_Some s sheet found in
+    let itself : has_id sheet.id s ≡ true = (unsigned_Decides s.id sheet.id).1 (ap (λ (t : Sheet). t.id) same) in
+    let here : n ≡ n + 0 = omega arith in
+    ap (λ b. cond b (Some n) (position_from (has_id sheet.id) (n + 1) ss)) itself ∙ ap Some here
+placed_at n (suc i) (s ∷ ss) sheet own found =
+    let on : (n + 1) + i ≡ n + suc i = omega arith in
+    ap (λ b. cond b (Some n) (position_from (has_id sheet.id) (n + 1) ss)) (differs_from s.id i ss sheet own.0 found) ∙ placed_at (n + 1) i ss sheet own.1 found ∙ ap Some on
+
+-- and found by it
+pub found_at : (i : ℕ) (ss : List Sheet) (sheet : Sheet) → IsDistinct ◌==◌ (map (λ (s : Sheet). s.id) ss) → slice_get ss i ≡ Some sheet → find (has_id sheet.id) ss ≡ Some sheet
+unfolding IsDistinct
+found_at i [] sheet own found = absurd (cc)
+found_at zero (s ∷ ss) sheet own found =
+    let same : s ≡ sheet = same_Some s sheet found in
+    let itself : has_id sheet.id s ≡ true = (unsigned_Decides s.id sheet.id).1 (ap (λ (t : Sheet). t.id) same) in
+    ap (λ b. cond b (Some s) (find (has_id sheet.id) ss)) itself ∙ found
+found_at (suc i) (s ∷ ss) sheet own found = ap (λ b. cond b (Some s) (find (has_id sheet.id) ss)) (differs_from s.id i ss sheet own.0 found) ∙ found_at i ss sheet own.1 found
+
+module _ (w : Book) (own : HasDistinctIds w) (index : ℕ) (sheet : Sheet) (stands : slice_get w.worksheets index ≡ Some sheet) where
+  is : index_of w sheet.id ≡ Some index
+  is = position_from-zero (has_id sheet.id) w.worksheets ∙ placed_at 0 index w.worksheets sheet own stands ∙ ap Some zero_more
+    where
+      zero_more : 0 + index ≡ index
+      zero_more = omega arith
+
   -- it goes
   pub goes : (at : ℕ) (left : List DefinedName) → sheet_goes at sheet.id left w ≡ Ok (without_sheet_at index left w)
   goes at left = ap (λ o. goes_from at o left w) is

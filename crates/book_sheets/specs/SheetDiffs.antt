@@ -1,5 +1,5 @@
 -- When a diff of the list of a workbook's sheets is made, and when it is taken back.
-use Rattle.std.proofs.Common.{ℕ, ◌+◌, Bool, List, length, Option, Some, None, Result, Ok, Err}
+use Rattle.std.proofs.Common.{ℕ, ◌+◌, Bool, true, List, length, Option, Some, None, Result, Ok, Err}
 use Rattle.std.specs.Prelude.{◌&&◌, is_none, nat_le, nat_lt, if◌then◌else◌}
 use Rattle.std.specs.List.{insert, list_all, remove}
 use Rattle.std.specs.Ordering.{nat_cmp}
@@ -7,19 +7,20 @@ use Rattle.std.specs.FinMap.{FinMap, entries, len}
 use Rattle.base_values.specs.declared.EditError.{EditError}
 use Rattle.base_values.specs.declared.EditError.TheVariants.{DiffRefused}
 use Rattle.base_values.specs.declared.Position.{Position}
+use Rattle.base_values.specs.Places.{position_cmp}
+use Rattle.base_axis.specs.declared.MergedCell.{MergedCell}
 use Rattle.base_axis.specs.Rectangles.{is_inside}
-use Rattle.cell_content.specs.Fitting.{tree_fits_at}
+use Rattle.cell_content.specs.Fitting.{fits_at, tree_fits_at}
 use Rattle.defined_names.specs.declared.DefinedName.{DefinedName}
-use Rattle.defined_names.specs.Names.{names_left, names_restored, names_copied}
+use Rattle.defined_names.specs.Names.{AreKeptPlaced, kept_names, names_left, names_restored, names_copied}
 use Rattle.sheet_grid.specs.Arrays.{array_at}
 use Rattle.sheet_grid.specs.declared.Cell.{Cell}
+use Rattle.sheet_grid.specs.KeptCell.{KeptCells}
 use Rattle.sheet_grid.specs.Sheet.{Sheet, new_sheet}
 use Rattle.sheet_grid.specs.Book.{Book, index_of, sheets_moved}
 use Rattle.sheet_rules.specs.Names.{first_place}
 use Rattle.sheet_lines.specs.Sheets.{sheet_of}
-use Rattle.sheet_history.specs.declared.kept_sheet.KeptSheet.{KeptSheet}
-use Rattle.sheet_history.specs.Entries.{lies_inside}
-use Rattle.sheet_history.specs.LineDiffs.{cells_fit}
+use Rattle.book_sheets.specs.declared.kept_sheet.KeptSheet.{KeptSheet}
 
 -- ---- a sheet comes
 
@@ -75,11 +76,29 @@ copy_forward at source id index name book = copied_from at (sheet_of book source
 unfoldable pub copy_back : ℕ → ℕ → Book → Result Book EditError
 copy_back at id book = sheet_goes at id (names_left id book.names) book
 
--- ---- a deleted sheet
+-- ---- what is kept of a deleted sheet
 
--- each array and each merge of a kept sheet lies inside
+-- a sheet, and of these names those that are known in it alone
+abbrev pub kept_of : Sheet → List DefinedName → KeptSheet
+kept_of sheet names = record { sheet = sheet; names = kept_names sheet.id names }
+
+-- every number of a kept sheet and of the trees of its names is as a workbook keeps it
+pub record IsKeptSheet (kept : KeptSheet) : Type 0 where
+  pub cells : KeptCells kept.sheet.cells
+  pub names : AreKeptPlaced kept.names
+
+-- a rectangle, if there is one, lies inside the sheet
+abbrev pub lies_inside : Option MergedCell → Bool
+lies_inside None = true
+lies_inside (Some r) = is_inside r
+
+-- each array and each merge of a sheet lies inside
 unfoldable pub sheet_lies_inside : Sheet → Bool
 sheet_lies_inside sheet = list_all (λ (entry : Position × Cell). lies_inside (array_at entry.0 entry.1.content)) (entries sheet.cells) && list_all is_inside sheet.merges
+
+-- the formula of each cell fits its place
+unfoldable pub cells_fit : FinMap position_cmp Cell → Bool
+cells_fit cells = list_all (λ (entry : Position × Cell). fits_at entry.0 entry.1.content) (entries cells)
 
 -- the places of kept names are ones of the list of names when they are back in it
 abbrev pub are_places : ℕ → FinMap nat_cmp DefinedName → Bool
@@ -92,6 +111,8 @@ names_fit names = list_all (λ (entry : ℕ × DefinedName). tree_fits_at first_
 -- what is kept may come back among so many names
 unfoldable pub may_come_back : ℕ → KeptSheet → Bool
 may_come_back count kept = sheet_lies_inside kept.sheet && cells_fit kept.sheet.cells && (are_places count kept.names && names_fit kept.names)
+
+-- ---- a deleted sheet
 
 -- the sheet goes, with the names that are known in it alone
 unfoldable pub deletion_forward : ℕ → KeptSheet → Book → Result Book EditError

@@ -173,7 +173,8 @@ pub(crate) fn put_place_map<P: Part>(
     ensures spelled { OnOk result (out.new.items ≡ out.old.items ++ spell_map spell_position P.spelling map.now) }
     ensures fits { OnOk result (((place : Position) → IfSome (get map.now place) P.Known) → FitsMap IsPlace P.Fits map.now) }
 {
-    put_entries::<PlacePart, P>(out, map.iter())
+    put_entries::<PlacePart, P>(out, map.iter())?;
+    Ok(())
 }
 
 /// Adds a map from lines of an axis.
@@ -184,5 +185,6 @@ pub(crate) fn put_axis_map<A: Axis, P: Part>(
     ensures spelled { OnOk result (out.new.items ≡ out.old.items ++ spell_map (spell_signed w32) P.spelling map.now) }
     ensures fits { OnOk result (((line : ℤ) → IfSome (get map.now line) P.Known) → FitsMap (IsLine A.along.last) P.Fits map.now) }
 {
-    put_entries::<AxisLinePart<A>, P>(out, map.iter())
+    put_entries::<AxisLinePart<A>, P>(out, map.iter())?;
+    Ok(())
 }

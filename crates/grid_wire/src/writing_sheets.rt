@@ -47,7 +47,8 @@ fn put_entries(out: &mut Vec<u8>, sheet: &Worksheet) -> Result<(), AllocError>
     put_place_map::<CellPart>(out, sheet.cell_map())?;
     put_place_map::<LinkPart>(out, sheet.link_map())?;
     MergeListPart::put(out, sheet.merge_list())?;
-    out.extend_from_slice(&[0; 8])
+    out.extend_from_slice(&[0; 8])?;
+    Ok(())
 }
 
 #[tactic(auto, unfolding(crate::specs::SheetBytes::spell_sheet))]

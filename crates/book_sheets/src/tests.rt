@@ -55,8 +55,8 @@ fn two(alloc: Global) -> Result<Workbook, EditError>
 }
 
 /// Whether a diff of number 7 was made, or else refused.
-fn was_made(result: Result<(), EditError>) -> Result<bool, EditError> {
-    match result {
+fn was_made(answer: Result<(), EditError>) -> Result<bool, EditError> {
+    match answer {
         Ok(()) => Ok(true),
         Err(EditError::DiffRefused { entry: 0, diff: 7 }) => Ok(false),
         Err(error) => Err(error),

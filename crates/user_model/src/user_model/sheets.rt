@@ -154,8 +154,7 @@ impl<R: Recalc + Drop> UserModel<R> {
         ensures paused { self.new.paused ≡ self.old.paused }
     {
         let book = &self.book;
-        let selected =
-            selected_by_field(&book.workbook, sheet, value, book.view.sheet as usize);
+        let selected = selected_by_field(&book.workbook, sheet, value, book.view.sheet as usize);
         let plan = plan_field(book.alloc, &book.workbook, sheet, value);
         self.make(plan, selected)
     }

@@ -47,12 +47,7 @@ pub fn selected_by_move(_workbook: &Workbook, from: u32, to: u32, selected: u32)
 /// The index that is selected after a field of the sheet at an index gets a value: where the sheet is
 /// hidden, that of the next visible one behind it, else of the first one before it. Else, and where
 /// no other sheet is visible, it is the same as before.
-pub fn selected_by_field(
-    workbook: &Workbook,
-    sheet: u32,
-    value: SheetField,
-    selected: u32,
-) -> usize
+pub fn selected_by_field(workbook: &Workbook, sheet: u32, value: SheetField, selected: u32) -> usize
     requires { sheet < length workbook.now.worksheets }
     ensures { result ≡ selected_by (SetField sheet value) workbook.now selected }
 {

@@ -6,7 +6,7 @@ use Rattle.base_maps.specs.declared.SheetPlace.{SheetPlace}
 use Rattle.formula_tree.specs.Depth.{is_within}
 use Rattle.sheet_grid.specs.laws.FittingCells.{is_shallow_entry}
 use Rattle.sheet_lines.specs.declared.KeptLines.{KeptLines}
-use Rattle.sheet_history.specs.declared.kept_sheet.KeptSheet.{KeptSheet}
+use Rattle.book_sheets.specs.declared.KeptSheet.{KeptSheet}
 use Rattle.sheet_history.specs.declared.diff.Diff.{Diff}
 use Rattle.sheet_history.specs.declared.diff.Diff.TheVariants.{Cell as CellDiff, Link as LinkDiff, Merges as MergesDiff, Field as FieldDiff, Lines as LinesDiff, NewSheet as NewDiff, DuplicateSheet as CopyDiff, DeleteSheet as DeletionDiff, MoveSheet as MoveDiff}
 

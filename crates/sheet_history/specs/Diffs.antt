@@ -6,10 +6,10 @@ use Rattle.base_values.specs.declared.EditError.TheVariants.{DiffRefused}
 use Rattle.base_values.specs.Answers.{and_then}
 use Rattle.sheet_grid.specs.Book.{Book}
 use Rattle.sheet_grid.specs.Sheet.{Sheet}
-use Rattle.defined_names.specs.Names.{AreKeptPlaced}
-use Rattle.sheet_grid.specs.KeptCell.{IsKeptCell, KeptCells}
+use Rattle.sheet_grid.specs.KeptCell.{IsKeptCell}
 use Rattle.sheet_rules.specs.WellFormed.{broken_rule}
 use Rattle.sheet_lines.specs.KeptNumbers.{AreKeptLines}
+use Rattle.book_sheets.specs.SheetDiffs.{IsKeptSheet, new_forward, new_back, copy_forward, copy_back, deletion_forward, deletion_back, sheet_moves}
 use Rattle.sheet_history.specs.declared.diff.Diff.{Diff}
 use Rattle.sheet_history.specs.declared.diff.Diff.TheVariants.{Cell as CellDiff, Link as LinkDiff, Merges as MergesDiff, Field as FieldDiff, Lines as LinesDiff, NewSheet as NewDiff, DuplicateSheet as CopyDiff, DeleteSheet as DeletionDiff, MoveSheet as MoveDiff}
 use Rattle.sheet_history.specs.declared.diff.DiffType.{DiffType}
@@ -20,8 +20,6 @@ use Rattle.sheet_history.specs.Entries.EntryKey.{CellKey, LinkKey, MergesKey, Fi
 use Rattle.sheet_history.specs.Entries.EntryValue.{CellValue, LinkValue, MergesValue, FieldValue}
 use Rattle.sheet_history.specs.Fields.{old_of, new_of, changed_field}
 use Rattle.sheet_history.specs.LineDiffs.{along_of, lines_forward, lines_back}
-use Rattle.sheet_history.specs.declared.kept_sheet.KeptSheet.{KeptSheet}
-use Rattle.sheet_history.specs.SheetDiffs.{new_forward, new_back, copy_forward, copy_back, deletion_forward, deletion_back, sheet_moves}
 
 -- the sheet with a value at a key. Where it may not stand there, the diff of that number is refused
 abbrev pub sheet_put : ℕ → EntryKey → EntryValue → Sheet → Result Sheet EditError
@@ -111,11 +109,6 @@ replayed_from at book (entry ∷ entries) = and_then (in_entry at (follow entry.
 -- the workbook after all entries of a queue
 abbrev pub replayed : Book → List QueueDiffs → Result Book EditError
 replayed book entries = replayed_from 0 book entries
-
--- every number of a kept sheet and of the trees of its names is as a sheet keeps it
-pub record IsKeptSheet (kept : KeptSheet) : Type 0 where
-  pub cells : KeptCells kept.sheet.cells
-  pub names : AreKeptPlaced kept.names
 
 -- every number of what a diff holds is as a sheet keeps it
 abbrev pub IsKeptDiff : Diff → Type 0

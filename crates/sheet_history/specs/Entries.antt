@@ -20,6 +20,7 @@ use Rattle.sheet_grid.specs.Sheet.{Sheet}
 use Rattle.sheet_grid.specs.Book.{Book}
 use Rattle.sheet_rules.specs.WellFormed.{is_place}
 use Rattle.sheet_lines.specs.Sheets.{sheet_of}
+pub use Rattle.book_sheets.specs.SheetDiffs.{lies_inside}
 use Rattle.sheet_history.specs.declared.field.SheetField.{SheetField}
 use Rattle.sheet_history.specs.Fields.{Field, tag_of, field_in, with_field, is_of, plain_field}
 
@@ -90,11 +91,6 @@ with_sheet_entry (LinkKey id place) (LinkValue entry) sheet = record sheet { lin
 with_sheet_entry (MergesKey id) (MergesValue merges) sheet = record sheet { merges = merges }
 with_sheet_entry (FieldKey id field) (FieldValue value) sheet = with_field field value sheet
 with_sheet_entry _ _ sheet = sheet
-
--- a rectangle, if there is one, lies inside the sheet
-abbrev pub lies_inside : Option MergedCell → Bool
-lies_inside None = true
-lies_inside (Some r) = is_inside r
 
 -- what is put at a place, a cell or none, may stand there: a formula fits its place, and an array lies inside the sheet
 abbrev pub cell_stands_at : Position → Option Cell → Bool

@@ -1,8 +1,6 @@
 pub mod DiffEquals
 pub mod FieldEquals
 pub mod FieldLaws
-pub mod KeptSheetEquals
-pub mod ListEdits
 pub mod Entries
 pub mod EntryLaws
 pub mod PutLaws
@@ -17,6 +15,5 @@ pub mod OneEntry
 pub mod ReplayLaws
 pub mod RuleLaws
 pub mod TestedLaws
-pub mod SheetDiffLaws
 pub mod SoundEntries
 pub mod HistoryEquals

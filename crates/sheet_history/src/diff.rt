@@ -1,8 +1,8 @@
 use crate::field::FieldChange;
-use crate::kept_sheet::KeptSheet;
 use base_axis::MergeList;
 use base_shared::Shared;
 use base_values::{Exact, Items, Position, Text};
+use book_sheets::KeptSheet;
 use line_map::EditKind;
 use sheet_grid::{Cell, Link};
 use sheet_lines::KeptLines;
@@ -51,7 +51,11 @@ pub enum Diff {
         kept: Shared<KeptLines>,
     },
     /// An empty sheet of that id and name, which came at an index.
-    NewSheet { sheet: u32, index: u32, name: Text },
+    NewSheet {
+        sheet: u32,
+        index: u32,
+        name: Text,
+    },
     /// A copy, of that id and name, of the sheet of another id, which came at an index.
     DuplicateSheet {
         source: u32,
@@ -60,9 +64,16 @@ pub enum Diff {
         name: Text,
     },
     /// A sheet that went from an index, with the names that were known in it alone.
-    DeleteSheet { index: u32, kept: Shared<KeptSheet> },
+    DeleteSheet {
+        index: u32,
+        kept: Shared<KeptSheet>,
+    },
     /// The sheet of that id, which was taken from an index to another one.
-    MoveSheet { sheet: u32, from: u32, to: u32 },
+    MoveSheet {
+        sheet: u32,
+        from: u32,
+        to: u32,
+    },
 }
 
 /// The record of one edit: the changes that it made. A copy takes no memory.

@@ -9,21 +9,20 @@ mod diff;
 mod field;
 mod follow;
 mod history;
-mod kept_sheet;
 mod laws;
 mod line_diffs;
 mod put;
-mod sheet_diffs;
+mod selection;
 
 pub use apply::{back, back_in_place, forward, forward_in_place};
 pub use diff::{Diff, DiffList, DiffType, LineAxis, QueueDiffs};
 pub use field::{FieldChange, SheetField};
 pub use follow::follow_in_place;
 pub use history::History;
-pub use kept_sheet::KeptSheet;
 pub use laws::{
     line_records_go_both_ways, records_are_computed, records_are_unique, records_go_both_ways,
 };
+pub use selection::selection_followed;
 
 #[cfg(test)]
 mod tests;

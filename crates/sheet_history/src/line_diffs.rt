@@ -10,19 +10,21 @@ ghost use Rattle.base_values.specs.declared.Position.{Position};
 ghost use Rattle.line_edits.specs.Edit.{IsValid, image_at, opposite_of};
 ghost use Rattle.line_edits.specs.Moves.{place_image};
 ghost use Rattle.sheet_grid.specs.Arrays.{array_at};
-ghost use Rattle.sheet_history.specs.Entries.{lies_inside};
 ghost use Rattle.sheet_grid.specs.declared.Cell.{Cell};
 ghost use Rattle.sheet_rules.specs.WellFormed.{is_place};
 ghost use Rattle.sheet_lines.specs.Back.{ArePlacedLines, LieInside};
 ghost use Rattle.sheet_lines.specs.KeptNumbers.{AreKeptLines};
 ghost use Rattle.sheet_lines.specs.Sheets.{IsPlacedBook, sheet_of};
-ghost use Rattle.sheet_history.specs.LineDiffs.{is_pushed_past, stays_inside, is_there_inside, is_lost_place, is_lost_line, all_keys, stand_on_lost, lie_inside, merges_inside, cells_fit, is_formula, is_formula_at, goes_on, tree_stands, formulas_stand, goes_forward, goes_back, lines_forward, lines_back};
+ghost use Rattle.book_sheets.specs.SheetDiffs.{lies_inside, cells_fit};
+ghost use Rattle.sheet_history.specs.LineDiffs.{is_pushed_past, stays_inside, is_there_inside, is_lost_place, is_lost_line, all_keys};
+ghost use Rattle.sheet_history.specs.LineDiffs.{stand_on_lost, lie_inside, merges_inside, is_formula, is_formula_at, goes_on, tree_stands, formulas_stand};
+ghost use Rattle.sheet_history.specs.LineDiffs.{goes_forward, goes_back, lines_forward, lines_back};
 
-use crate::put::{array_lies_inside, merges_lie_inside};
 use base_axis::{Axis, MergeList};
 use base_maps::{NumberMap, PositionMap, SheetPlaceMap};
 use base_shared::Shared;
 use base_values::{EditError, LAST_COLUMN, LAST_ROW, PlaceMap, Position};
+use book_sheets::{array_lies_inside, merges_lie_inside};
 use cell_content::{fits_at, tree_fits_at, tree_of};
 use formula_tree::Node;
 use line_map::{EditKind, LineEdit};
@@ -167,7 +169,7 @@ fn kept_lies_inside<A: Axis>(edit: &LineEdit<A>, kept: &KeptLines) -> bool
 }
 
 /// Whether the formula of each cell fits its place.
-#[tactic(auto, unfolding(crate::specs::LineDiffs::cells_fit))]
+#[tactic(auto, unfolding(book_sheets::specs::SheetDiffs::cells_fit))]
 fn cells_fit(cells: &PositionMap<Shared<Cell>>) -> bool
     ensures { result ≡ cells_fit cells.now }
 {

@@ -1,50 +1,23 @@
 //! Entries of a workbook: a cell, a link, the merges and a field of a sheet, put by the id of their
 //! sheet.
 
-ghost use Rattle.std.specs.Prelude.{◌≡◌, IfOk, IfSome, IsOkUnless, OnOk};
-ghost use Rattle.std.specs.List.{list_all};
-ghost use Rattle.base_axis.specs.Rectangles.{is_inside};
+ghost use Rattle.std.specs.Prelude.{◌≡◌, IfSome, OnOk};
 ghost use Rattle.base_values.specs.Answers.{Edits};
-ghost use Rattle.base_values.specs.declared.EditError.TheVariants.{NoMemory};
-ghost use Rattle.sheet_grid.specs.Arrays.{array_at};
-ghost use Rattle.sheet_grid.specs.Book.{index_of};
 ghost use Rattle.sheet_grid.specs.KeptCell.{IsKeptCell};
 ghost use Rattle.sheet_lines.specs.Sheets.{IsPlacedBook};
-ghost use Rattle.sheet_history.specs.Entries.{cell_stands_at, lies_inside};
+ghost use Rattle.sheet_history.specs.Entries.{cell_stands_at};
 ghost use Rattle.sheet_history.specs.Entries.EntryKey.{CellKey, LinkKey, MergesKey, FieldKey};
 ghost use Rattle.sheet_history.specs.Entries.EntryValue.{CellValue, LinkValue, MergesValue, FieldValue};
 ghost use Rattle.sheet_history.specs.Fields.{field_of, with_field};
 ghost use Rattle.sheet_history.specs.Diffs.{put_in, sheet_put};
 
 use crate::field::SheetField;
-use base_axis::{MergeList, MergedCell};
+use base_axis::MergeList;
 use base_shared::Shared;
 use base_values::{EditError, Position, copy_of};
+use book_sheets::{array_lies_inside, merges_lie_inside, sheet_index};
 use cell_content::fits_at;
-use sheet_grid::{Cell, Link, Workbook, Worksheet, array_at};
-
-fn lies_inside(rectangle: Option<MergedCell>) -> bool
-    ensures { result ≡ lies_inside rectangle }
-{
-    match rectangle {
-        Some(rectangle) => rectangle.is_inside(),
-        None => true,
-    }
-}
-
-/// Whether an array, if the cell is one, lies inside the sheet.
-pub(crate) fn array_lies_inside(place: Position, cell: &Cell) -> bool
-    ensures { result ≡ lies_inside (array_at place cell.now.content) }
-{
-    lies_inside(array_at(place, &cell.content))
-}
-
-/// Whether each merge lies inside the sheet.
-pub(crate) fn merges_lie_inside(merges: &MergeList) -> bool
-    ensures { result ≡ list_all is_inside merges.now }
-{
-    merges.as_slice().iter().all(|merge| merge.is_inside())
-}
+use sheet_grid::{Cell, Link, Workbook, Worksheet};
 
 /// Whether what is put at a place, a cell or none, may stand there.
 fn cell_stands_at(place: Position, entry: &Option<Shared<Cell>>) -> bool
@@ -55,21 +28,6 @@ fn cell_stands_at(place: Position, entry: &Option<Shared<Cell>>) -> bool
             fits_at(place, &cell.get().content) && array_lies_inside(place, cell.get())
         }
         None => true,
-    }
-}
-
-/// The index of the first sheet of an id. One that 32 bits do not count is not found for want of
-/// memory, since no machine holds so many sheets.
-pub(crate) fn sheet_index(workbook: &Workbook, id: u32) -> Result<Option<u32>, EditError>
-    ensures index { IfOk result (λ index. index ≡ index_of workbook.now id) }
-    ensures only { IsOkUnless result NoMemory }
-{
-    match workbook.index_of(id) {
-        Some(index) => match u32::try_from(index) {
-            Ok(index) => Ok(Some(index)),
-            Err(_) => Err(EditError::NoMemory),
-        },
-        None => Ok(None),
     }
 }
 

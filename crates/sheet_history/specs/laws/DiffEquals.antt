@@ -11,8 +11,8 @@ use Rattle.sheet_grid.specs.laws.CellEquals.{cell_equals}
 use Rattle.sheet_grid.specs.laws.LineEquals.{link_equals}
 use Rattle.line_edits.specs.laws.Equals.{kind_equals}
 use Rattle.sheet_lines.specs.laws.KeptEquals.{kept_equals}
+use Rattle.book_sheets.specs.laws.KeptSheetEquals.{kept_sheet_equals}
 use Rattle.sheet_history.specs.laws.FieldEquals.{field_change_equals}
-use Rattle.sheet_history.specs.laws.KeptSheetEquals.{kept_sheet_equals}
 use Rattle.sheet_history.specs.declared.diff.Diff.{Diff}
 use Rattle.sheet_history.specs.declared.diff.Diff.TheVariants.{Cell as CellDiff, Link as LinkDiff, Merges as MergesDiff, Field as FieldDiff, Lines as LinesDiff, NewSheet as NewDiff, DuplicateSheet as CopyDiff, DeleteSheet as DeletionDiff, MoveSheet as MoveDiff}
 use Rattle.sheet_history.specs.declared.diff.DiffType.{DiffType}

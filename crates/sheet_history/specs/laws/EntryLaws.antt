@@ -29,7 +29,7 @@ use Rattle.sheet_history.specs.declared.field.SheetField.{SheetField}
 use Rattle.sheet_history.specs.declared.field.SheetField.TheVariants as value
 use Rattle.sheet_history.specs.Fields.{Field, with_field}
 use Rattle.sheet_history.specs.Fields.Field.{ColorField, StateField, GridField}
-use Rattle.sheet_history.specs.laws.FieldLaws.{field_in-with_field, plain_is_of}
+use Rattle.sheet_history.specs.laws.FieldLaws.{field_in-with_field, fields_stay, plain_is_of}
 use Rattle.sheet_history.specs.Entries.{EntryKey, EntryValue, sheet_id_of, sheet_entry, with_sheet_entry, cell_stands_at, value_fits, nothing_at, with_changed, entry_at, put_entry, accepts, bare_sheet, frame_of}
 use Rattle.sheet_history.specs.Entries.EntryKey.{CellKey, LinkKey, MergesKey, FieldKey}
 use Rattle.sheet_history.specs.Entries.EntryValue.{CellValue, LinkValue, MergesValue, FieldValue}
@@ -64,16 +64,19 @@ entry-with_sheet_entry s _ _ h = absurd (let never : false ≡ true = h in cc)
 cell_apart : (s : Sheet) (id : ℕ) (place : Position) (v : Option Cell) (q : EntryKey) → sheet_id_of q ≡ id → (q ≢ CellKey id place)
     → sheet_entry q (with_sheet_entry (CellKey id place) (CellValue v) s) ≡ sheet_entry q s
 cell_apart s id place v (CellKey j other) ids apart = ap CellValue (get-put_other position_total exact_positions s.cells place v other (λ e. apart (λ i. CellKey (ids i) (e i))))
+cell_apart s id place v (FieldKey j field) ids apart = ap FieldValue (fields_stay field (with_sheet_entry (CellKey id place) (CellValue v) s) s refl refl refl)
 cell_apart s id place v _ ids apart = refl
 
 link_apart : (s : Sheet) (id : ℕ) (place : Position) (v : Option Link) (q : EntryKey) → sheet_id_of q ≡ id → (q ≢ LinkKey id place)
     → sheet_entry q (with_sheet_entry (LinkKey id place) (LinkValue v) s) ≡ sheet_entry q s
 link_apart s id place v (LinkKey j other) ids apart = ap LinkValue (get-put_other position_total exact_positions s.links place v other (λ e. apart (λ i. LinkKey (ids i) (e i))))
+link_apart s id place v (FieldKey j field) ids apart = ap FieldValue (fields_stay field (with_sheet_entry (LinkKey id place) (LinkValue v) s) s refl refl refl)
 link_apart s id place v _ ids apart = refl
 
 merges_apart : (s : Sheet) (id : ℕ) (v : List MergedCell) (q : EntryKey) → sheet_id_of q ≡ id → (q ≢ MergesKey id)
     → sheet_entry q (with_sheet_entry (MergesKey id) (MergesValue v) s) ≡ sheet_entry q s
 merges_apart s id v (MergesKey j) ids apart = absurd (apart (ap MergesKey ids))
+merges_apart s id v (FieldKey j field) ids apart = ap FieldValue (fields_stay field (with_sheet_entry (MergesKey id) (MergesValue v) s) s refl refl refl)
 merges_apart s id v _ ids apart = refl
 
 field_apart : (s : Sheet) (id : ℕ) (field : Field) (v : SheetField) (q : EntryKey) → sheet_id_of q ≡ id → (q ≢ FieldKey id field)

@@ -1,5 +1,5 @@
 -- The laws of the fields of a sheet.
-use Rattle.std.proofs.Common.{◌≡◌, ℕ, true, false, refl}
+use Rattle.std.proofs.Common.{◌≡◌, true, false, refl, ap}
 use Rattle.sheet_grid.specs.Sheet.{Sheet}
 use Rattle.sheet_history.specs.declared.field.SheetField.{SheetField}
 use Rattle.sheet_history.specs.declared.field.SheetField.TheVariants as value
@@ -30,3 +30,9 @@ field_in-with_field ColorField (value.Color color) sheet h = refl
 field_in-with_field StateField (value.State state) sheet h = refl
 field_in-with_field GridField (value.GridLines drawn) sheet h = refl
 field_in-with_field _ _ sheet h = absurd (let never : false ≡ true = h in cc)
+
+-- the fields of sheets that differ in no field
+pub fields_stay : (field : Field) (s t : Sheet) → s.state ≡ t.state → s.color ≡ t.color → s.show_grid_lines ≡ t.show_grid_lines → field_in field s ≡ field_in field t
+fields_stay ColorField s t states colors grids = ap value.Color colors
+fields_stay StateField s t states colors grids = ap value.State states
+fields_stay GridField s t states colors grids = ap value.GridLines grids

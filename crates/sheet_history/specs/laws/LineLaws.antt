@@ -58,8 +58,8 @@ use Rattle.sheet_lines.specs.Back.{book_back}
 use Rattle.sheet_lines.specs.laws.Regained.{book_regained, formulas_at}
 use Rattle.sheet_lines.specs.laws.Stays.{way_is}
 use Rattle.sheet_history.specs.Depth.{AreShallowLines}
-use Rattle.sheet_history.specs.LineDiffs.{is_pushed_past, stays_inside, is_there_inside, is_lost_place, is_lost_line, all_keys, stand_on_lost, merges_inside, lie_inside, cells_fit, tree_stands, formulas_stand, goes_on, goes_forward, goes_back, lines_forward, lines_back}
-use Rattle.sheet_history.specs.Entries.{lies_inside}
+use Rattle.sheet_history.specs.LineDiffs.{is_pushed_past, stays_inside, is_there_inside, is_lost_place, is_lost_line, all_keys, stand_on_lost, merges_inside, lie_inside, tree_stands, formulas_stand, goes_on, goes_forward, goes_back, lines_forward, lines_back}
+use Rattle.book_sheets.specs.SheetDiffs.{lies_inside, cells_fit}
 use Rattle.sheet_history.specs.laws.Entries.{all_entries, entry_holds}
 use Rattle.sheet_history.specs.laws.RuleLaws.{KeepsSheetRules, sheet_rules}
 use Rattle.sheet_history.specs.laws.SoundEntries.{array_inside, sheet_merges_inside}

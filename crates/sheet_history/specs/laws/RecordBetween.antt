@@ -90,20 +90,16 @@ apart_from key one two three none =
     let first = neither (has_key key one) (has_key key two) (sym (list_any-append (eq_by_cmp key_cmp key) one two) ∙ front.0) in
     (first.0, first.1, front.1)
 
+-- a key that is none of some keys is not one that stands among them
+apart_in : (key one : EntryKey) (front back : List EntryKey) → has_key key (front ++ one ∷ back) ≡ false → eq_by_cmp key_cmp key one ≡ false
+apart_in key one [] back none = (neither (eq_by_cmp key_cmp key one) (has_key key back) none).0
+apart_in key one (first ∷ front) back none = apart_in key one front back (neither (eq_by_cmp key_cmp key first) (has_key key (front ++ one ∷ back)) none).1
+
 -- a key that is none of those that each sheet has once is none of a field
 not_single : (key : EntryKey) (id : ℕ) (field : Field) → has_key key (single_keys id) ≡ false → eq_by_cmp key_cmp key (FieldKey id field) ≡ false
-not_single key id field none = go field
-  where
-    behind : has_key key (FieldKey id ColorField ∷ FieldKey id StateField ∷ FieldKey id GridField ∷ []) ≡ false
-    behind = (neither _ _ none).1
-
-    last : has_key key (FieldKey id StateField ∷ FieldKey id GridField ∷ []) ≡ false
-    last = (neither _ _ behind).1
-
-    go : (one : Field) → eq_by_cmp key_cmp key (FieldKey id one) ≡ false
-    go ColorField = (neither _ _ behind).0
-    go StateField = (neither _ _ last).0
-    go GridField = (neither _ _ (neither _ _ last).1).0
+not_single key id ColorField none = apart_in key (FieldKey id ColorField) (MergesKey id ∷ []) (FieldKey id StateField ∷ FieldKey id GridField ∷ []) none
+not_single key id StateField none = apart_in key (FieldKey id StateField) (MergesKey id ∷ FieldKey id ColorField ∷ []) (FieldKey id GridField ∷ []) none
+not_single key id GridField none = apart_in key (FieldKey id GridField) (MergesKey id ∷ FieldKey id ColorField ∷ FieldKey id StateField ∷ []) [] none
 
 -- a sheet has nothing at a key that is none of its own
 nothing_in : (sheet : Sheet) (key : EntryKey) → sheet.id ≡ sheet_id_of key → has_key key (sheet_keys sheet) ≡ false → sheet_entry key sheet ≡ nothing_at key

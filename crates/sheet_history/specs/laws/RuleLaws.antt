@@ -23,6 +23,7 @@ use Rattle.sheet_rules.specs.SheetNames.{is_sheet_name}
 use Rattle.sheet_rules.specs.WellFormed.{are_distinct, ids_of, names_of, are_sheets, is_place, stands_inside, have_trees, have_attributes, are_frozen, is_row, is_column, IsWellFormed, has_font}
 use Rattle.sheet_rules.specs.laws.WellFormedLaws.{well_formed_parts, well_formed_from_parts, cells_fit_from_trees, have_trees_from_cells_fit}
 use Rattle.sheet_lines.specs.Sheets.{sheet_of}
+pub use Rattle.book_sheets.specs.laws.SheetRules.{KeepsSheetRules}
 use Rattle.sheet_history.specs.Entries.{EntryKey, EntryValue, cell_stands_at, value_fits, sheet_id_of, with_sheet_entry, with_changed, bare_sheet, put_entry, accepts}
 use Rattle.sheet_history.specs.Entries.EntryKey.{CellKey, LinkKey, FieldKey}
 use Rattle.sheet_history.specs.Entries.EntryValue.{CellValue, LinkValue, FieldValue}
@@ -66,17 +67,7 @@ length-changed f id (s ∷ ss) =
     (λ hit. λ i. length (cond (hit i) (f s ∷ ss) (s ∷ with_changed id f ss)))
     (λ miss. (λ i. length (cond (miss i) (f s ∷ ss) (s ∷ with_changed id f ss))) ∙ ap suc (length-changed f id ss))
 
--- the rules that are of one sheet
-pub record KeepsSheetRules (s : Sheet) : Type 0 where
-  pub inside : stands_inside s ≡ true
-  pub arrays : have_arrays s ≡ true
-  pub merges : have_merges s ≡ true
-  pub hidden : are_hidden_blank s ≡ true
-  pub trees : have_trees s ≡ true
-  pub attributes : have_attributes s ≡ true
-  pub frozen : are_frozen s ≡ true
-
--- the sheet of an id of a well-formed workbook keeps them
+-- the sheet of an id of a well-formed workbook keeps the rules that are of one sheet
 pub sheet_rules : (w : Book) → IsWellFormed w → (id : ℕ) (s : Sheet) → sheet_of w id ≡ Some s → KeepsSheetRules s
 sheet_rules w rules id s found =
     let parts = well_formed_parts w rules in

@@ -13,7 +13,7 @@ use Rattle.sheet_lines.specs.Sheets.{sheet_of}
 use Rattle.sheet_history.specs.Entries.{EntryKey, EntryValue, sheet_id_of, value_fits, put_entry, accepts}
 use Rattle.sheet_history.specs.Entries.EntryKey.{CellKey, LinkKey, FieldKey}
 use Rattle.sheet_history.specs.Entries.EntryValue.{CellValue, LinkValue, FieldValue}
-use Rattle.sheet_history.specs.Untested.{cell_keeps_rules, entry_has_font, may_stand_on, keeps_rules, keeps_rules_back}
+use Rattle.sheet_history.specs.Untested.{cell_keeps_rules, entry_has_font, may_stand_on, keeps_rules}
 use Rattle.sheet_history.specs.laws.RuleLaws.{well_formed-cell, well_formed-link, well_formed-field}
 use Rattle.sheet_history.specs.declared.diff.Diff.{Diff}
 use Rattle.sheet_history.specs.declared.diff.Diff.TheVariants.{Cell as CellDiff, Link as LinkDiff, Merges as MergesDiff, Field as FieldDiff, Lines as LinesDiff, NewSheet as NewDiff, DuplicateSheet as CopyDiff, DeleteSheet as DeletionDiff, MoveSheet as MoveDiff}
@@ -81,7 +81,7 @@ tested_same at (Err error) rules = refl
 same_of : (book next : Book) → ◌≡◌ {A = Result Book EditError} (Ok book) (Ok next) → book ≡ next
 same_of book next is = cc
 
-made_rules : (book : Book) (diffs : List Diff) → keeps_rules book diffs ≡ true → IsWellFormed book → (next : Book) → made book diffs ≡ Ok next → IsWellFormed next
+made_rules : (book : Book) (diffs : List Diff) → keeps_rules Redo book diffs ≡ true → IsWellFormed book → (next : Book) → made book diffs ≡ Ok next → IsWellFormed next
 made_rules book [] keeps rules next is = subst IsWellFormed (same_of book next is) rules
 made_rules book (CellDiff id place old new ∷ []) keeps rules next is = cell_rules 0 book id place new next keeps rules (sym (and_then-Ok _) ∙ is)
 made_rules book (LinkDiff id place old new ∷ []) keeps rules next is = link_rules 0 book id place new next rules (sym (and_then-Ok _) ∙ is)
@@ -94,7 +94,7 @@ made_rules book (DeletionDiff index kept ∷ []) keeps rules next is = absurd (c
 made_rules book (MoveDiff id from to ∷ []) keeps rules next is = absurd (cc)
 made_rules book (first ∷ second ∷ rest) keeps rules next is = absurd (cc)
 
-taken_back_rules : (book : Book) (diffs : List Diff) → keeps_rules_back book diffs ≡ true → IsWellFormed book → (next : Book) → taken_back book diffs ≡ Ok next → IsWellFormed next
+taken_back_rules : (book : Book) (diffs : List Diff) → keeps_rules Undo book diffs ≡ true → IsWellFormed book → (next : Book) → taken_back book diffs ≡ Ok next → IsWellFormed next
 taken_back_rules book [] keeps rules next is = subst IsWellFormed (same_of book next is) rules
 taken_back_rules book (CellDiff id place old new ∷ []) keeps rules next is = cell_rules 0 book id place old next keeps rules is
 taken_back_rules book (LinkDiff id place old new ∷ []) keeps rules next is = link_rules 0 book id place old next rules is
@@ -108,10 +108,10 @@ taken_back_rules book (MoveDiff id from to ∷ []) keeps rules next is = absurd 
 taken_back_rules book (first ∷ second ∷ rest) keeps rules next is = absurd (cc)
 
 -- the result of such a list needs no test
-pub forwarded-made : (book : Book) (diffs : List Diff) → keeps_rules book diffs ≡ true → IsWellFormed book → forwarded book diffs ≡ made book diffs
+pub forwarded-made : (book : Book) (diffs : List Diff) → keeps_rules Redo book diffs ≡ true → IsWellFormed book → forwarded book diffs ≡ made book diffs
 forwarded-made book diffs keeps rules = tested_same (length diffs) (made book diffs) (made_rules book diffs keeps rules)
 
-pub backed-taken_back : (book : Book) (diffs : List Diff) → keeps_rules_back book diffs ≡ true → IsWellFormed book → backed book diffs ≡ taken_back book diffs
+pub backed-taken_back : (book : Book) (diffs : List Diff) → keeps_rules Undo book diffs ≡ true → IsWellFormed book → backed book diffs ≡ taken_back book diffs
 backed-taken_back book diffs keeps rules = tested_same (length diffs) (taken_back book diffs) (taken_back_rules book diffs keeps rules)
 
 -- what follows a list is well-formed

@@ -107,7 +107,10 @@ fn sheets_of_a_workbook(rt: HostRuntime) -> Result<(), Fail> {
     book.remove_worksheet(1)?;
     assert!(rt; stands(&book, 1, 4, "First")?);
     assert!(rt; book.remove_worksheet(2).is_err());
-    assert!(rt; book.insert_worksheet(3, Worksheet::new(alloc, 9, "Far")?).is_err());
+    assert!(rt;
+        book.insert_worksheet(3, Worksheet::new(alloc, 9, "Far")?)
+            .is_err()
+    );
     assert_eq!(rt; book.worksheets().len(), 2);
     Ok(())
 }

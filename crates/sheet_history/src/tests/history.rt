@@ -3,15 +3,15 @@ ghost use Rattle.sheet_rules.specs.WellFormed.{IsWellFormed};
 ghost use Rattle.sheet_lines.specs.KeptNumbers.{AreKeptLines};
 ghost use Rattle.sheet_history.specs.Diffs.{IsKeptDiff, IsKeptList};
 
-use crate::{Diff, DiffList, LineAxis, back, forward};
+use crate::{Diff, DiffList, FieldChange, LineAxis, back, forward};
 use base_axis::{Axis, ColumnAxis, MergeList, MergedCell, RowAxis};
 use base_maps::{NumberMap, PositionMap, SheetPlaceMap};
 use base_shared::Shared;
-use base_styles::Style;
+use base_styles::{Color, Style, ThemeColor};
 use base_tables::{Locale, Zone};
 use base_values::{EditError, Items, Position};
 use line_map::{EditKind, LineEdit};
-use sheet_grid::{Cell, Content, LineAttr, Workbook};
+use sheet_grid::{Cell, Content, LineAttr, SheetState, Workbook};
 use sheet_lines::{KeptLines, has_sheet, line_edit};
 use sheet_rules::is_well_formed;
 use std::alloc::Global;
@@ -247,5 +247,57 @@ fn merges_go_and_return(rt: HostRuntime) -> Result<(), Fail> {
     assert!(rt; is_refused(forward(alloc, &start, &one), 1));
     let wide = only(alloc, new_merge(alloc, 16385)?)?;
     assert!(rt; is_refused(forward(alloc, &start, &wide), 0));
+    Ok(())
+}
+
+/// A list of three changes of fields of the sheet of an id: it is hidden, gets a colour, and loses its
+/// grid lines.
+fn fields_of(alloc: Global, sheet: u32) -> Result<DiffList, EditError>
+    ensures { IfOk result IsKeptList }
+{
+    let hidden = FieldChange::State {
+        old: SheetState::Visible,
+        new: SheetState::Hidden,
+    };
+    let coloured = FieldChange::Color {
+        old: Color::None,
+        new: Color::Theme(ThemeColor::Accent1),
+    };
+    let plain = FieldChange::GridLines {
+        old: true,
+        new: false,
+    };
+    let mut list = Items::empty(alloc);
+    list.push(Diff::Field {
+        sheet,
+        change: hidden,
+    })?;
+    list.push(Diff::Field {
+        sheet,
+        change: coloured,
+    })?;
+    list.push(Diff::Field {
+        sheet,
+        change: plain,
+    })?;
+    Ok(Shared::new(alloc, list)?)
+}
+
+/// Fields of a sheet go and return. Those of a sheet that is not there are refused.
+#[test]
+fn fields_go_and_return(rt: HostRuntime) -> Result<(), Fail> {
+    let alloc = rt.alloc();
+    let start = empty_book(alloc)?;
+    let list = fields_of(alloc, 1)?;
+    let later = forward(alloc, &start, &list)?;
+    assert_eq!(rt; later.worksheet(0)?.state(), SheetState::Hidden);
+    assert_eq!(rt;
+        later.worksheet(0)?.color(),
+        Color::Theme(ThemeColor::Accent1)
+    );
+    assert!(rt; !later.worksheet(0)?.show_grid_lines());
+    assert!(rt; is_well_formed(&later));
+    assert!(rt; back(alloc, &later, &list)? == start);
+    assert!(rt; is_refused(forward(alloc, &start, &fields_of(alloc, 2)?), 0));
     Ok(())
 }

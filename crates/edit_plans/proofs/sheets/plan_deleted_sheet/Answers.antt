@@ -26,7 +26,7 @@ returns-in_err-diff c =
 pub returns : goal.returns
 returns c = record {
   planned = deletion_planned c.args.workbook.now c.args.sheet c.requires.rules c.in_ok-found.found.now (sym (c.in_ok-found.ensures {u = _}))
-    (grind (arith, c.if-sheet_count-eq1.false, c.sheet_count.ensures))
+      (grind (arith, c.if-sheet_count-eq1.false, c.sheet_count.ensures))
       c.list_of_one.result c.list_of_one.ensures.only
       (subst (λ d. IfOk c.list_of_one.result (λ list. list ≡ d ∷ [])) (c.in_ok-diff.ensures {u = _}).made c.list_of_one.ensures.made) c.list_of_one.ensures.kept;
 }

@@ -1,0 +1,6 @@
+pub mod ColorLaws
+pub mod GridFits
+pub mod KeyLaws
+pub mod LineLaws
+pub mod NameLaws
+pub mod SheetLaws

@@ -7,4 +7,5 @@ pub mod ArrayInputs
 pub mod HiddenLines
 pub mod SheetEdits
 pub mod Edits
+pub mod ViewSteps
 pub mod laws

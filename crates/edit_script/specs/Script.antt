@@ -8,8 +8,10 @@ use Rattle.base_tables.specs.declared.Language.TheVariants.{En as English}
 use Rattle.base_tables.specs.declared.Locale.TheVariants.{En}
 use Rattle.base_tables.specs.declared.Zone.TheVariants.{Utc}
 use Rattle.line_edits.specs.declared.EditKind.TheVariants.{Insert, Delete}
+use Rattle.sheet_grid.specs.declared.SheetState.TheVariants.{Visible, Hidden}
 use Rattle.sheet_grid.specs.Book.{Book, new_book}
 use Rattle.sheet_history.specs.declared.LineAxis.TheVariants.{Rows, Columns}
+use Rattle.sheet_history.specs.declared.SheetField.TheVariants.{State as StateField, Color as ColorField, GridLines as GridField}
 use Rattle.script_lines.specs.Parts.{parts_at, without_return}
 use Rattle.script_lines.specs.Escapes.{escaped}
 use Rattle.script_lines.specs.Commands.{command_of}
@@ -18,7 +20,7 @@ use Rattle.script_lines.specs.declared.Command.TheVariants as command
 use Rattle.script_dump.specs.Text.{line, hex}
 use Rattle.script_dump.specs.Dump.{dump}
 use Rattle.edit_plans.specs.Edits.{Edit}
-use Rattle.edit_plans.specs.Edits.Edit.{Input, ArrayInput, SetLink, Merge, Unmerge, Lines, MoveLines}
+use Rattle.edit_plans.specs.Edits.Edit.{Input, ArrayInput, SetLink, Merge, Unmerge, Lines, MoveLines, AddSheet, CopySheet, DeleteSheet, MoveSheet, SetField}
 use Rattle.user_model.specs.Machine.{State, begun, edit_of, undo_of, redo_of, synced_of, sync_bytes}
 use Rattle.user_model.specs.Reading.{content_text, formula_typed, link_to, typed}
 
@@ -57,6 +59,14 @@ edit_for (command.DeleteRows lines) s = Some (Lines lines.sheet Rows (Delete lin
 edit_for (command.DeleteColumns lines) s = Some (Lines lines.sheet Columns (Delete lines.first lines.count))
 edit_for (command.MoveRows move) s = Some (MoveLines move.sheet Rows move.first move.count move.delta)
 edit_for (command.MoveColumns move) s = Some (MoveLines move.sheet Columns move.first move.count move.delta)
+edit_for command.NewSheet s = Some AddSheet
+edit_for (command.DuplicateSheet sheet) s = Some (CopySheet sheet)
+edit_for (command.DeleteSheet sheet) s = Some (DeleteSheet sheet)
+edit_for (command.MoveSheet move) s = Some (MoveSheet move.from move.to)
+edit_for (command.HideSheet sheet) s = Some (SetField sheet (StateField Hidden))
+edit_for (command.UnhideSheet sheet) s = Some (SetField sheet (StateField Visible))
+edit_for (command.SheetColor named) s = Some (SetField named.sheet (ColorField named.color))
+edit_for (command.GridLines named) s = Some (SetField named.sheet (GridField named.show))
 edit_for other s = None
 
 -- a refused edit leaves all as it was

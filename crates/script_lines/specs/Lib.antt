@@ -1,6 +1,7 @@
 pub mod Parts
 pub mod Number
 pub mod References
+pub mod Colors
 pub mod Escapes
 pub mod Unsupported
 pub mod Commands

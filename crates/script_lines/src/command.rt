@@ -1,4 +1,5 @@
 use base_axis::MergedCell;
+use base_styles::Color;
 use base_values::Text;
 
 /// A cell that a line names.
@@ -42,6 +43,31 @@ pub struct NamedMove {
     pub delta: i32,
 }
 
+/// A sheet that a line names, and where it is to go.
+#[derive(Clone, Copy, Debug, PartialEq, Eq)]
+pub struct NamedSheetMove {
+    /// The index of the sheet.
+    pub from: u32,
+    /// The index that it is to have.
+    pub to: u32,
+}
+
+/// The colour that a line names for a sheet.
+#[derive(Clone, Copy, Debug, PartialEq, Eq)]
+pub struct NamedColor {
+    /// The index of the sheet.
+    pub sheet: u32,
+    pub color: Color,
+}
+
+/// Whether the grid lines of a sheet that a line names are to be drawn.
+#[derive(Clone, Copy, Debug, PartialEq, Eq)]
+pub struct NamedGrid {
+    /// The index of the sheet.
+    pub sheet: u32,
+    pub show: bool,
+}
+
 /// What a line of a script asks for. Rows, columns and counts are those that the line names, and may lie
 /// outside every sheet.
 #[derive(Debug, Drop)]
@@ -72,6 +98,22 @@ pub enum Command {
     MoveRows(NamedMove),
     /// `move-columns S N N N`: move columns, as many as the count from a column on.
     MoveColumns(NamedMove),
+    /// `new-sheet`: put an empty sheet behind the last one.
+    NewSheet,
+    /// `duplicate-sheet S`: put a copy of a sheet behind it.
+    DuplicateSheet(u32),
+    /// `delete-sheet S`: take a sheet away.
+    DeleteSheet(u32),
+    /// `move-sheet S S`: take a sheet to another index.
+    MoveSheet(NamedSheetMove),
+    /// `hide-sheet S`: hide a sheet.
+    HideSheet(u32),
+    /// `unhide-sheet S`: show a sheet again.
+    UnhideSheet(u32),
+    /// `color S COLOUR`: colour the tab of a sheet.
+    SheetColor(NamedColor),
+    /// `grid S 0` or `grid S 1`: draw the grid lines of a sheet or not.
+    GridLines(NamedGrid),
     /// `undo`: take back the last edit.
     Undo,
     /// `redo`: do again what was taken back last.

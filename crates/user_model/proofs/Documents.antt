@@ -10,21 +10,21 @@ use Rattle.sheet_history.specs.declared.Diff.{Diff}
 use Rattle.sheet_history.specs.declared.DiffType.TheVariants.{Undo, Redo}
 use Rattle.sheet_history.specs.declared.QueueDiffs.{QueueDiffs}
 use Rattle.sheet_history.specs.Diffs.{forwarded, backed, follow, in_entry}
-use Rattle.edit_plans.specs.Edits.{Edit, changed, is_silent, record_of}
-use Rattle.user_model.specs.Document.{Document, document, document_edit, document_undo, undo_at, undone, document_redo, redo_at, redone, recorded, beside, document_received, can_undo_step, can_redo_step, stale_after}
-use Rattle.user_model.specs.Machine.{Step, State, step_record, undo_list, redo_list, edited, edit_of, undo_stale, undo_from, undo_of, redo_stale, redo_from, redo_of, outside, received, moved}
+use Rattle.edit_plans.specs.Edits.{Edit, changed, is_silent}
+use Rattle.user_model.specs.Document.{Document, document, document_edit, edited_to, document_undo, undo_at, undone, document_redo, redo_at, redone, beside, document_received, can_undo_step, can_redo_step, stale_after}
+use Rattle.user_model.specs.Machine.{Step, State, step_record, undo_list, redo_list, edited, edit_of, undo_stale, undo_from, undo_of, redo_stale, redo_from, redo_of, seen_along, outside, received, moved}
 use Rattle.user_model.specs.Sound.{Leads, Follows, IsSound}
 
 -- ---- edits
 
 pub document_edited : (edit : Edit) (s : State) → document_edit edit (document s) ≡ map_ok document (edit_of edit s)
-document_edited edit s = either (is_silent edit)
+document_edited edit s = either (is_silent edit s.present)
   where
-    go : (r : Result Book EditError) → map_ok (λ later. recorded (record_of edit s.present later) (document s) later) r ≡ map_ok document (map_ok (edited edit s) r)
+    go : (r : Result Book EditError) → map_ok (edited_to edit (document s)) r ≡ map_ok document (map_ok (edited edit s) r)
     go (Err error) = refl
     go (Ok later) = refl
 
-    either : (b : Bool) → ◌≡◌ {A = Result Document EditError} (cond b (Ok (document s)) (map_ok (λ later. recorded (record_of edit s.present later) (document s) later) (changed edit s.present)))
+    either : (b : Bool) → ◌≡◌ {A = Result Document EditError} (cond b (Ok (document s)) (map_ok (edited_to edit (document s)) (changed edit s.present)))
         (map_ok document (cond b (Ok s) (map_ok (edited edit s) (changed edit s.present))))
     either true = refl
     either false = go (changed edit s.present)
@@ -47,7 +47,7 @@ module _ (s : State) where
     stale_to_undo = record s { past = []; stale_undo = list ∷ stale }
 
     abbrev stale_undone : Book → State
-    stale_undone earlier = moved Undo list earlier [] [] stale (list ∷ redo_list stale_to_undo) stale_to_undo
+    stale_undone earlier = moved Undo list earlier (seen_along Undo list earlier stale_to_undo) [] [] stale (list ∷ redo_list stale_to_undo) stale_to_undo
 
     no_undo_step : can_undo_step (document stale_to_undo) ≡ false
     no_undo_step = none_more (list ∷ stale)
@@ -70,7 +70,7 @@ module _ (s : State) where
     step_to_undo = record s { past = step ∷ past }
 
     abbrev step_undone : State
-    step_undone = moved Undo (step_record step) step.before past (step ∷ s.undone) s.stale_undo s.stale_redo step_to_undo
+    step_undone = moved Undo (step_record step) step.before (seen_along Undo (step_record step) step.before step_to_undo) past (step ∷ s.undone) s.stale_undo s.stale_redo step_to_undo
 
     an_undo_step : can_undo_step (document step_to_undo) ≡ true
     an_undo_step = some_more past step s.stale_undo
@@ -101,7 +101,7 @@ module _ (s : State) where
     stale_to_redo = record s { undone = []; stale_redo = list ∷ stale }
 
     abbrev stale_redone : Book → State
-    stale_redone later = moved Redo list later [] [] (list ∷ undo_list stale_to_redo) stale stale_to_redo
+    stale_redone later = moved Redo list later (seen_along Redo list later stale_to_redo) [] [] (list ∷ undo_list stale_to_redo) stale stale_to_redo
 
     no_redo_step : can_redo_step (document stale_to_redo) ≡ false
     no_redo_step = none_more (list ∷ stale)
@@ -124,7 +124,7 @@ module _ (s : State) where
     step_to_redo = record s { undone = step ∷ undone }
 
     abbrev step_redone : State
-    step_redone = moved Redo (step_record step) step.after (step ∷ s.past) undone s.stale_undo s.stale_redo step_to_redo
+    step_redone = moved Redo (step_record step) step.after (seen_along Redo (step_record step) step.after step_to_redo) (step ∷ s.past) undone s.stale_undo s.stale_redo step_to_redo
 
     a_redo_step : can_redo_step (document step_to_redo) ≡ true
     a_redo_step = some_more undone step s.stale_redo
@@ -151,6 +151,6 @@ document_redone s sound = redo_along s s.undone sound.undone
 pub document_taken : (at : ℕ) (one : QueueDiffs) (s : State) → document_received at one (document s) ≡ map_ok document (received at one s)
 document_taken at one s = go (in_entry at (follow one.kind s.present one.list))
   where
-    go : (r : Result Book EditError) → map_ok (beside (document s)) r ≡ map_ok document (map_ok (outside s) r)
+    go : (r : Result Book EditError) → map_ok (beside one (document s)) r ≡ map_ok document (map_ok (outside one s) r)
     go (Ok later) = refl
     go (Err error) = refl

@@ -22,7 +22,7 @@ use Rattle.sheet_actions.specs.laws.FollowedWellFormed.{followed_well_formed}
 use Rattle.sheet_history.specs.laws.LineRecords.{along_lawful, record_made, record_taken_back}
 use Rattle.edit_plans.specs.Edits.{Edit, changed, lines_record, record_of}
 use Rattle.edit_plans.specs.Edits.Edit.{Lines}
-use Rattle.user_model.specs.Document.{Document, document_edit, recorded, lines_recorded}
+use Rattle.user_model.specs.Document.{Document, document_edit, edited_to, recorded, lines_recorded}
 use Rattle.user_model.specs.Spellable.{AreSpellable}
 use Rattle.user_model.specs.Sound.{IsSoundChange}
 use Rattle.user_model.specs.BothWays.{GoesBothWays}
@@ -101,13 +101,13 @@ module _ (index : ℕ) (axis : LineAxis) (kind : EditKind) (plan : ℕ × EditKi
   pub planned_document : (doc : Document) → IsWellFormed doc.book → lines_planned (along_of axis) kind index doc.book ≡ Ok plan
       → Ok (lines_recorded axis plan.1 plan.0 doc) ≡ document_edit (Lines index axis kind) doc
   planned_document doc rules planned =
-      ap (λ list. Ok (recorded list doc (followed doc.book))) (sym (plan_record doc.book rules planned (followed doc.book)))
-      ∙ sym (ap (map_ok (λ b. recorded (record_of (Lines index axis kind) doc.book b) doc b)) (plan_made doc.book rules planned))
+      ap (λ list. Ok (recorded list doc.view.sheet doc (followed doc.book))) (sym (plan_record doc.book rules planned (followed doc.book)))
+      ∙ sym (ap (map_ok (edited_to (Lines index axis kind) doc)) (plan_made doc.book rules planned))
 
 -- and an edit whose plan is refused is refused
 pub refused_document : (doc : Document) (index : ℕ) (axis : LineAxis) (kind : EditKind) (error : EditError) → lines_planned (along_of axis) kind index doc.book ≡ Err error → document_edit (Lines index axis kind) doc ≡ Err error
 refused_document doc index axis kind error plan =
-    ap (λ r. map_ok (λ later. recorded (record_of (Lines index axis kind) doc.book later) doc later) (map_ok (λ (p : ℕ × EditKind). book_followed (along_of axis) p.1 p.0 doc.book) r)) plan
+    ap (λ r. map_ok (edited_to (Lines index axis kind) doc) (map_ok (λ (p : ℕ × EditKind). book_followed (along_of axis) p.1 p.0 doc.book) r)) plan
 
 -- what is said along an axis holds along the one that names it
 module _ (a : Along) (axis : LineAxis) (named : a ≡ along_of axis) (kind : EditKind) where
@@ -124,5 +124,5 @@ module _ (a : Along) (axis : LineAxis) (named : a ≡ along_of axis) (kind : Edi
 
   -- to install the followed workbook with it is to record the edit
   pub installed_document : (id : ℕ) (doc : Document) (later : Book) (list : List Diff) → later ≡ book_followed a kind id doc.book → list ≡ line_record axis kind id doc.book
-      → ◌≡◌ {A = Result Document EditError} (Ok (recorded list doc later)) (Ok (lines_recorded axis kind id doc))
-  installed_document id doc later list later_is list_is = λ i. Ok (recorded (list_is i) doc ((later_is ∙ ap (λ b. book_followed b kind id doc.book) named) i))
+      → ◌≡◌ {A = Result Document EditError} (Ok (recorded list doc.view.sheet doc later)) (Ok (lines_recorded axis kind id doc))
+  installed_document id doc later list later_is list_is = λ i. Ok (recorded (list_is i) doc.view.sheet doc ((later_is ∙ ap (λ b. book_followed b kind id doc.book) named) i))

@@ -23,7 +23,7 @@ use Rattle.edit_plans.specs.HiddenLines.{grown}
 use Rattle.edit_plans.specs.Edits.{Edit, changed, grown_move, is_silent, lines_record, record_of}
 use Rattle.edit_plans.specs.Edits.Edit.{Lines, MoveLines}
 use Rattle.user_model.specs.BothWays.{GoesBothWays}
-use Rattle.user_model.specs.Document.{Document, document_edit, recorded}
+use Rattle.user_model.specs.Document.{Document, document_edit, edited_to, recorded}
 use Rattle.user_model.specs.Far.{is_far}
 use Rattle.user_model.specs.Sound.{IsLinesRecord, IsSoundChange}
 use Rattle.user_model.specs.Spellable.{AreSpellable}
@@ -108,12 +108,12 @@ module _ (index : ℕ) (axis : LineAxis) (first count delta : ℤ) where
   -- ---- a document
 
   -- a silent move does nothing
-  pub silent_document : (doc : Document) → is_silent move ≡ true → document_edit move doc ≡ Ok doc
-  silent_document doc silent = ap (λ b. cond b (Ok doc) (map_ok (λ later. recorded (record_of move doc.book later) doc later) (changed move doc.book))) silent
+  pub silent_document : (doc : Document) → is_silent move doc.book ≡ true → document_edit move doc ≡ Ok doc
+  silent_document doc silent = ap (λ b. cond b (Ok doc) (map_ok (edited_to move doc) (changed move doc.book))) silent
 
-  module _ (doc : Document) (loud : is_silent move ≡ false) where
+  module _ (doc : Document) (loud : is_silent move doc.book ≡ false) where
     abbrev after_edit : Result Book EditError → Result Document EditError
-    after_edit r = map_ok (λ later. recorded (record_of move doc.book later) doc later) r
+    after_edit r = map_ok (edited_to move doc) r
 
     heard : document_edit move doc ≡ after_edit (changed move doc.book)
     heard = ap (λ b. cond b (Ok doc) (after_edit (changed move doc.book))) loud
@@ -125,7 +125,7 @@ module _ (index : ℕ) (axis : LineAxis) (first count delta : ℤ) where
     module _ (sheet : Sheet) (at : sheet_at doc.book index ≡ Ok sheet) where
       -- it is the edit of its lines
       pub move_document : document_edit (Lines index axis (kind sheet)) doc ≡ document_edit move doc
-      move_document = (λ i. map_ok (λ later. recorded (records doc.book sheet at later i) doc later) (changes doc.book sheet at i)) ∙ sym heard
+      move_document = (λ i. map_ok (λ later. recorded (records doc.book sheet at later i) doc.view.sheet doc later) (changes doc.book sheet at i)) ∙ sym heard
 
       -- and is refused where it goes too far
       pub far_document : is_far (grown (along_of axis) sheet first count delta) ≡ true → document_edit move doc ≡ Err TargetOutOfBounds

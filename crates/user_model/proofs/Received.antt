@@ -157,8 +157,8 @@ applied_led at [] s later is = (refl, cc)
 applied_led at (entry ∷ entries) s later is = go (λ t led. applied_led (at + 1) entries t later led) (in_entry at (follow entry.kind s.present entry.list)) is
   where
     go : ((t : State) → replayed_from (at + 1) t.present entries ≡ Ok later → IsLed (applied_from (at + 1) entries t) later)
-        → (r : Result Book EditError) → and_then r (λ next. replayed_from (at + 1) next entries) ≡ Ok later → IsLed (go_on s (map_ok (outside s) r) (applied_from (at + 1) entries)) later
-    go rest (Ok next) e = rest (outside s next) e
+        → (r : Result Book EditError) → and_then r (λ next. replayed_from (at + 1) next entries) ≡ Ok later → IsLed (go_on s (map_ok (outside entry s) r) (applied_from (at + 1) entries)) later
+    go rest (Ok next) e = rest (outside entry s next) e
     go rest (Err error) e = absurd (let never : ◌≡◌ {A = Result Book EditError} (Err error) (Ok later) = e in cc)
 
 module _ (entries : List QueueDiffs) (s : State) (later : Book) (new : Document) (led : replayed s.present entries ≡ Ok later) where

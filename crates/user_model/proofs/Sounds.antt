@@ -15,8 +15,10 @@ use Rattle.sheet_history.specs.Diffs.{forwarded, backed, follow, in_entry, repla
 use Rattle.sheet_history.specs.laws.ReplayLaws.{replayed_from-push}
 use Rattle.sheet_history.specs.laws.TestedLaws.{tested_rules, entry_rules}
 use Rattle.sheet_wire.specs.QueueBytes.{IsKnownEntry}
+use Rattle.sheet_views.specs.declared.View.{View}
 use Rattle.edit_plans.specs.Edits.{Edit, changed, is_silent}
-use Rattle.user_model.specs.Machine.{Step, State, step_record, begun, undo_list, redo_list, entry, moved, edited, edit_of, undo_stale, undo_from, undo_of, redo_stale, redo_from, redo_of, synced_of, outside, received}
+use Rattle.edit_plans.specs.ViewSteps.{view_after}
+use Rattle.user_model.specs.Machine.{Step, State, step_record, begun, undo_list, redo_list, entry, moved, edited, edit_of, undo_stale, undo_from, undo_of, redo_stale, redo_from, redo_of, seen_along, synced_of, outside, received}
 use Rattle.user_model.specs.Sound.{IsSoundChange, IsSoundStep, Leads, Follows, IsSound}
 use Rattle.user_model.specs.Spellable.{AreSpellable}
 
@@ -60,10 +62,10 @@ module _ (s : State) (sound : IsSound s) where
   redo_spellable = all_append AreSpellable (map step_record s.undone) s.stale_redo (undone_spellable s.undone s.present sound.undone) sound.stale_redo
 
   -- a list that was followed and sent
-  sound_moved : (kind : DiffType) (list : List Diff) (later : Book) (past undone : List Step) (stale_undo stale_redo : List (List Diff))
+  sound_moved : (kind : DiffType) (list : List Diff) (later : Book) (view : View) (past undone : List Step) (stale_undo stale_redo : List (List Diff))
       → IsWellFormed later → follow kind s.present list ≡ Ok later → AreSpellable list → Leads past later → Follows undone later
-      → AllByRecursion AreSpellable stale_undo → AllByRecursion AreSpellable stale_redo → IsSound (moved kind list later past undone stale_undo stale_redo s)
-  sound_moved kind list later past undone stale_undo stale_redo rules is spellable leads follows one two = record {
+      → AllByRecursion AreSpellable stale_undo → AllByRecursion AreSpellable stale_redo → IsSound (moved kind list later view past undone stale_undo stale_redo s)
+  sound_moved kind list later view past undone stale_undo stale_redo rules is spellable leads follows one two = record {
     present = rules;
     past = leads;
     undone = follows;
@@ -78,24 +80,24 @@ module _ (s : State) (sound : IsSound s) where
   sound_edited : (edit : Edit) (later : Book) → IsSoundStep (record { edit = edit; before = s.present; after = later }) → IsSound (edited edit s later)
   sound_edited edit later step =
       let it : Step = record { edit = edit; before = s.present; after = later } in
-      sound_moved Redo (step_record it) later (it ∷ s.past) [] s.stale_undo [] step.after step.forth step.spellable (refl, step, sound.past) tt sound.stale_undo tt
+      sound_moved Redo (step_record it) later (view_after edit s.present later s.view) (it ∷ s.past) [] s.stale_undo [] step.after step.forth step.spellable (refl, step, sound.past) tt sound.stale_undo tt
 
   -- the state after an edit that is not refused is sound, if its step is
   pub sound_edit : (edit : Edit) (next : State) → IsSoundChange edit s.present → edit_of edit s ≡ Ok next → IsSound next
-  sound_edit edit next change is = either (is_silent edit) refl is
+  sound_edit edit next change is = either (is_silent edit s.present) refl is
     where
-      go : is_silent edit ≡ false → (r : Result Book EditError) → changed edit s.present ≡ r → map_ok (edited edit s) r ≡ Ok next → IsSound next
+      go : is_silent edit s.present ≡ false → (r : Result Book EditError) → changed edit s.present ≡ r → map_ok (edited edit s) r ≡ Ok next → IsSound next
       go loud (Err error) how e = absurd (let never : ◌≡◌ {A = Result State EditError} (Err error) (Ok next) = e in cc)
       go loud (Ok later) how e = let same : edited edit s later ≡ next = cc in subst IsSound same (sound_edited edit later (change loud later how))
 
-      either : (b : Bool) → is_silent edit ≡ b → ◌≡◌ {A = Result State EditError} (cond b (Ok s) (map_ok (edited edit s) (changed edit s.present))) (Ok next) → IsSound next
+      either : (b : Bool) → is_silent edit s.present ≡ b → ◌≡◌ {A = Result State EditError} (cond b (Ok s) (map_ok (edited edit s) (changed edit s.present))) (Ok next) → IsSound next
       either true silent e = let same : s ≡ next = cc in subst IsSound same sound
       either false loud e = go loud (changed edit s.present) refl e
 
   -- ---- undo
 
   abbrev stale_undone : List Diff → List (List Diff) → Book → State
-  stale_undone list stale earlier = moved Undo list earlier [] [] stale (list ∷ redo_list s) s
+  stale_undone list stale earlier = moved Undo list earlier (seen_along Undo list earlier s) [] [] stale (list ∷ redo_list s) s
 
   undo_stale_sound : (stale : List (List Diff)) (next : State) → AllByRecursion AreSpellable stale → undo_stale stale s ≡ Ok next → IsSound next
   undo_stale_sound [] next all is = let same : s ≡ next = cc in subst IsSound same sound
@@ -104,15 +106,15 @@ module _ (s : State) (sound : IsSound s) where
       go : (r : Result Book EditError) → backed s.present list ≡ r → map_ok (stale_undone list stale) r ≡ Ok next → IsSound next
       go (Ok earlier) how e =
           let same : stale_undone list stale earlier ≡ next = cc in
-          subst IsSound same (sound_moved Undo list earlier [] [] stale (list ∷ redo_list s) (tested_rules _ _ earlier how) how all.0 tt tt all.1 (all.0, redo_spellable))
+          subst IsSound same (sound_moved Undo list earlier (seen_along Undo list earlier s) [] [] stale (list ∷ redo_list s) (tested_rules _ _ earlier how) how all.0 tt tt all.1 (all.0, redo_spellable))
       go (Err error) how e = absurd (let never : ◌≡◌ {A = Result State EditError} (Err error) (Ok next) = e in cc)
 
   undo_from_sound : (past : List Step) (next : State) → Leads past s.present → undo_from past s ≡ Ok next → IsSound next
   undo_from_sound [] next leads is = undo_stale_sound s.stale_undo next sound.stale_undo is
   undo_from_sound (step ∷ past) next leads is =
-      let same : moved Undo (step_record step) step.before past (step ∷ s.undone) s.stale_undo s.stale_redo s ≡ next = cc in
+      let same : moved Undo (step_record step) step.before (seen_along Undo (step_record step) step.before s) past (step ∷ s.undone) s.stale_undo s.stale_redo s ≡ next = cc in
       subst IsSound same
-      (sound_moved Undo (step_record step) step.before past (step ∷ s.undone) s.stale_undo s.stale_redo leads.1.before
+      (sound_moved Undo (step_record step) step.before (seen_along Undo (step_record step) step.before s) past (step ∷ s.undone) s.stale_undo s.stale_redo leads.1.before
       (ap (λ book. backed book (step_record step)) (sym leads.0) ∙ leads.1.back) leads.1.spellable leads.2
       (refl, leads.1, subst (Follows s.undone) (sym leads.0) sound.undone) sound.stale_undo sound.stale_redo)
 
@@ -122,7 +124,7 @@ module _ (s : State) (sound : IsSound s) where
   -- ---- redo
 
   abbrev stale_redone : List Diff → List (List Diff) → Book → State
-  stale_redone list stale later = moved Redo list later [] [] (list ∷ undo_list s) stale s
+  stale_redone list stale later = moved Redo list later (seen_along Redo list later s) [] [] (list ∷ undo_list s) stale s
 
   redo_stale_sound : (stale : List (List Diff)) (next : State) → AllByRecursion AreSpellable stale → redo_stale stale s ≡ Ok next → IsSound next
   redo_stale_sound [] next all is = let same : s ≡ next = cc in subst IsSound same sound
@@ -131,22 +133,33 @@ module _ (s : State) (sound : IsSound s) where
       go : (r : Result Book EditError) → forwarded s.present list ≡ r → map_ok (stale_redone list stale) r ≡ Ok next → IsSound next
       go (Ok later) how e =
           let same : stale_redone list stale later ≡ next = cc in
-          subst IsSound same (sound_moved Redo list later [] [] (list ∷ undo_list s) stale (tested_rules _ _ later how) how all.0 tt tt (all.0, undo_spellable) all.1)
+          subst IsSound same (sound_moved Redo list later (seen_along Redo list later s) [] [] (list ∷ undo_list s) stale (tested_rules _ _ later how) how all.0 tt tt (all.0, undo_spellable) all.1)
       go (Err error) how e = absurd (let never : ◌≡◌ {A = Result State EditError} (Err error) (Ok next) = e in cc)
 
   redo_from_sound : (undone : List Step) (next : State) → Follows undone s.present → redo_from undone s ≡ Ok next → IsSound next
   redo_from_sound [] next follows is = redo_stale_sound s.stale_redo next sound.stale_redo is
   redo_from_sound (step ∷ undone) next follows is =
-      let same : moved Redo (step_record step) step.after (step ∷ s.past) undone s.stale_undo s.stale_redo s ≡ next = cc in
+      let same : moved Redo (step_record step) step.after (seen_along Redo (step_record step) step.after s) (step ∷ s.past) undone s.stale_undo s.stale_redo s ≡ next = cc in
       subst IsSound same
-      (sound_moved Redo (step_record step) step.after (step ∷ s.past) undone s.stale_undo s.stale_redo follows.1.after
+      (sound_moved Redo (step_record step) step.after (seen_along Redo (step_record step) step.after s) (step ∷ s.past) undone s.stale_undo s.stale_redo follows.1.after
       (ap (λ book. forwarded book (step_record step)) (sym follows.0) ∙ follows.1.forth) follows.1.spellable
       (refl, follows.1, subst (Leads s.past) (sym follows.0) sound.past) follows.2 sound.stale_undo sound.stale_redo)
 
   pub sound_redo : (next : State) → redo_of s ≡ Ok next → IsSound next
   sound_redo next is = redo_from_sound s.undone next sound.undone is
 
-  -- ---- sync, and entries of other copies
+  -- ---- views, sync, and entries of other copies
+
+  pub sound_seen : (view : View) → IsSound (record s { view = view })
+  sound_seen view = record {
+    present = sound.present;
+    past = sound.past;
+    undone = sound.undone;
+    replays = sound.replays;
+    spellable = sound.spellable;
+    stale_undo = sound.stale_undo;
+    stale_redo = sound.stale_redo;
+  }
 
   pub sound_sync : IsSound (synced_of s)
   sound_sync = record { present = sound.present; past = sound.past; undone = sound.undone; replays = refl; spellable = tt; stale_undo = sound.stale_undo; stale_redo = sound.stale_redo }
@@ -154,9 +167,9 @@ module _ (s : State) (sound : IsSound s) where
   pub sound_received : (at : ℕ) (one : QueueDiffs) (next : State) → received at one s ≡ Ok next → IsSound next
   sound_received at one next is = go (in_entry at (follow one.kind s.present one.list)) refl is
     where
-      go : (r : Result Book EditError) → in_entry at (follow one.kind s.present one.list) ≡ r → map_ok (outside s) r ≡ Ok next → IsSound next
+      go : (r : Result Book EditError) → in_entry at (follow one.kind s.present one.list) ≡ r → map_ok (outside one s) r ≡ Ok next → IsSound next
       go (Ok later) how e =
-          let same : outside s later ≡ next = cc in
+          let same : outside one s later ≡ next = cc in
           subst IsSound same (record {
             present = entry_rules at one.kind s.present one.list later how;
             past = tt;

@@ -14,9 +14,10 @@ use Rattle.sheet_rules.specs.WellFormed.{is_place, IsWellFormed}
 use Rattle.sheet_rules.specs.laws.EntryLaws.{both}
 use Rattle.sheet_lines.specs.Sheets.{sheet_of}
 use Rattle.sheet_history.specs.declared.Diff.{Diff}
-use Rattle.sheet_history.specs.declared.Diff.TheVariants.{Cell as CellDiff, Link as LinkDiff, Merges as MergesDiff, Lines as LinesDiff}
+use Rattle.sheet_history.specs.declared.Diff.TheVariants.{Cell as CellDiff, Link as LinkDiff, Merges as MergesDiff, Field as FieldDiff, Lines as LinesDiff, NewSheet as NewDiff, DuplicateSheet as CopyDiff, DeleteSheet as DeletionDiff, MoveSheet as MoveDiff}
 use Rattle.sheet_history.specs.Diffs.{IsKeptDiff, IsKeptList}
-use Rattle.sheet_history.specs.Entries.{lies_inside, cell_stands_at, value_fits, accepts}
+use Rattle.book_sheets.specs.SheetDiffs.{lies_inside}
+use Rattle.sheet_history.specs.Entries.{cell_stands_at, value_fits, accepts}
 use Rattle.sheet_history.specs.Entries.EntryKey.{CellKey}
 use Rattle.sheet_history.specs.Entries.EntryValue.{CellValue}
 use Rattle.sheet_history.specs.Records.{Change, change_of, IsRecord}
@@ -46,7 +47,12 @@ module _ (w : Book) where
       (shallow id place old (ap (λ (x : Change). accepts w x.0 x.1.0) same ∙ olds), shallow id place new (ap (λ (x : Change). accepts w x.0 x.1.1) same ∙ news)) tt
   known (LinkDiff id place old new) c is news olds kept = tt
   known (MergesDiff id old new) c is news olds kept = tt
+  known (FieldDiff id change) c is news olds kept = tt
   known (LinesDiff id axis edit lines) c is news olds kept = absurd (cc)
+  known (NewDiff id index name) c is news olds kept = absurd (cc)
+  known (CopyDiff source id index name) c is news olds kept = absurd (cc)
+  known (DeletionDiff index sheet) c is news olds kept = absurd (cc)
+  known (MoveDiff id from to) c is news olds kept = absurd (cc)
 
   all_known : (list : List Diff) (changes : List Change) → map change_of list ≡ map Some changes → AllFit w changes → AllByRecursion IsKeptDiff list → AreSpellable list
   all_known [] [] is fit kept = tt

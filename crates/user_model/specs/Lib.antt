@@ -1,5 +1,7 @@
 pub mod Far
 pub mod Spellable
+pub mod Views
+pub mod Properties
 pub mod Machine
 pub mod Document
 pub mod Values

@@ -5,13 +5,16 @@ ghost use Rattle.sheet_rules.specs.WellFormed.{IsWellFormed};
 ghost use Rattle.sheet_history.specs.Diffs.{IsKeptList, follow};
 ghost use Rattle.user_model.specs.Untested.{follow_untested};
 ghost use Rattle.user_model.specs.Values.{AreMade};
+ghost use Rattle.user_model.specs.Views.{view_followed};
 
 use crate::recalc::{Recalc, Results};
 use base_values::EditError;
 use sheet_grid::{Computed, Workbook};
 use sheet_history::{
     DiffList, DiffType, back, back_in_place, follow_in_place, forward, forward_in_place,
+    selection_followed,
 };
+use sheet_views::{View, viewed, viewed_id};
 use std::alloc::Global;
 
 /// The well-formed workbook after a list, in its direction, or the refusal of the list.
@@ -169,4 +172,33 @@ pub(crate) fn install<R: Recalc>(
         return install_in_place(alloc, workbook, results, recalc, kind, list, kept);
     }
     install_on_copy(alloc, workbook, results, recalc, kind, list)
+}
+
+/// Follows a list as `install` does, and takes the view along with the sheets that it moves.
+pub(crate) fn install_viewed<R: Recalc>(
+    alloc: Global,
+    workbook: &mut Workbook,
+    view: &mut View,
+    results: &mut Results,
+    recalc: &mut R,
+    kind: DiffType,
+    list: &DiffList,
+    kept: bool,
+) -> Result<(), EditError>
+    requires kept { IsKeptList list.now }
+    requires rules { IsWellFormed workbook.old }
+    requires works { kept ≡ true → IsOk (follow kind workbook.old list.now) }
+    ensures installed { Edits result workbook.old workbook.new (follow kind workbook.old list.now) }
+    ensures seen { OnOk result (view.new ≡ view_followed kind list.now workbook.old workbook.new view.old) }
+    ensures same { OnErr result (view.new ≡ view.old) }
+    ensures made { OnOk result (AreMade R.Fits results.new.paused workbook.new results.new.values) }
+    ensures err { OnErr result (results.new ≡ results.old) }
+    ensures paused { results.new.paused ≡ results.old.paused }
+{
+    let diffs = list.get().as_slice();
+    let selected = selection_followed(kind, workbook, diffs, view.sheet)?;
+    let was = viewed_id(workbook.worksheets(), *view);
+    install(alloc, workbook, results, recalc, kind, list, kept)?;
+    *view = viewed(was, workbook.worksheets(), selected as usize, *view);
+    Ok(())
 }

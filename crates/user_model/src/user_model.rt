@@ -24,6 +24,8 @@ ghost use Rattle.user_model.specs.Stands.{StandsFor, IsReached, IsAnyPlan, IsPla
 ghost use Rattle.user_model.specs.Values.{IsMade, LeavesMade, Makes, is_none_left};
 
 mod lines;
+mod sheets;
+mod views;
 
 use crate::open_book::OpenBook;
 use crate::reading::{
@@ -309,15 +311,17 @@ impl<R: Recalc + Drop> UserModel<R> {
         Ok(())
     }
 
-    /// Makes what a plan says, and records it, or refuses as the plan does.
-    fn make(&mut self, plan: Result<DiffList, EditError>) -> Result<(), EditError>
-        requires { IsAnyPlan plan self.now.document }
-        ensures next { (edit : AnyEdit) (state : State) → IsPlanOf edit plan self.old.document → StandsFor self.old.document state → Moves result self.new.document (edit_of edit state) }
+    /// Makes what a plan says, selects the sheet at an index, and records the edit, or refuses as the
+    /// plan does.
+    fn make(&mut self, plan: Result<DiffList, EditError>, selected: usize) -> Result<(), EditError>
+        requires { IsAnyPlan plan selected self.now.document }
+        ensures next { (edit : AnyEdit) (state : State) → IsPlanOf edit plan selected self.old.document → StandsFor self.old.document state → Moves result self.new.document (edit_of edit state) }
         ensures made { OnOk result (IsMade R.Fits self.new) }
         ensures err { OnErr result (self.new ≡ self.old) }
         ensures paused { self.new.paused ≡ self.old.paused }
     {
-        self.book.make(&mut self.results, &mut self.recalc, plan)
+        self.book
+            .make(&mut self.results, &mut self.recalc, plan, selected)
     }
 
     /// Puts a content at a row and a column of the sheet at an index, and records the change.
@@ -345,7 +349,8 @@ impl<R: Recalc + Drop> UserModel<R> {
             column,
             content,
         );
-        self.make(plan)
+        let selected = book.view.sheet as usize;
+        self.make(plan, selected)
     }
 
     /// Reads a text as a user types it into the cell at a row and a column of the sheet at an index,
@@ -404,7 +409,8 @@ impl<R: Recalc + Drop> UserModel<R> {
     {
         let book = &self.book;
         let plan = plan_array(book.alloc, &book.plain, &book.workbook, sheet, area, tree);
-        self.make(plan)
+        let selected = book.view.sheet as usize;
+        self.make(plan, selected)
     }
 
     /// Reads a text as an array formula, with or without its `=`, whose values fill a rectangle, and
@@ -464,7 +470,8 @@ impl<R: Recalc + Drop> UserModel<R> {
     {
         let book = &self.book;
         let plan = plan_link(book.alloc, &book.workbook, sheet, row, column, link);
-        self.make(plan)
+        let selected = book.view.sheet as usize;
+        self.make(plan, selected)
     }
 
     /// Puts a link to a target at a row and a column of the sheet at an index, counted from 0, and
@@ -539,7 +546,8 @@ impl<R: Recalc + Drop> UserModel<R> {
     {
         let book = &self.book;
         let plan = plan_merge(book.alloc, &book.workbook, sheet, area);
-        self.make(plan)
+        let selected = book.view.sheet as usize;
+        self.make(plan, selected)
     }
 
     /// Dissolves the merge that holds a row and a column of the sheet at an index, and records the
@@ -560,7 +568,8 @@ impl<R: Recalc + Drop> UserModel<R> {
     {
         let book = &self.book;
         let plan = plan_unmerge(book.alloc, &book.workbook, sheet, row, column);
-        self.make(plan)
+        let selected = book.view.sheet as usize;
+        self.make(plan, selected)
     }
 
     /// Takes the newest step back. Without one nothing is done.

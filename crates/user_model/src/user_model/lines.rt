@@ -46,7 +46,7 @@ impl<R: Recalc + Drop> UserModel<R> {
     ) -> Result<(), EditError>
         requires { A.along ≡ along_of axis }
         ensures next { Steps result self.old.document self.new.document (edit_of (MoveLines sheet axis first count delta)) }
-        ensures made { OnOk result (Makes (is_silent (MoveLines sheet axis first count delta)) R.Fits self.old self.new) }
+        ensures made { OnOk result (Makes (is_silent (MoveLines sheet axis first count delta) self.old.document.book) R.Fits self.old self.new) }
         ensures err { OnErr result (self.new ≡ self.old) }
         ensures paused { self.new.paused ≡ self.old.paused }
     {
@@ -188,7 +188,7 @@ impl<R: Recalc + Drop> UserModel<R> {
         delta: i32,
     ) -> Result<(), EditError>
         ensures next { Steps result self.old.document self.new.document (edit_of (MoveLines sheet Rows first count delta)) }
-        ensures made { OnOk result (Makes (is_silent (MoveLines sheet Rows first count delta)) R.Fits self.old self.new) }
+        ensures made { OnOk result (Makes (is_silent (MoveLines sheet Rows first count delta) self.old.document.book) R.Fits self.old self.new) }
         ensures err { OnErr result (self.new ≡ self.old) }
         ensures paused { self.new.paused ≡ self.old.paused }
     {
@@ -216,7 +216,7 @@ impl<R: Recalc + Drop> UserModel<R> {
         delta: i32,
     ) -> Result<(), EditError>
         ensures next { Steps result self.old.document self.new.document (edit_of (MoveLines sheet Columns first count delta)) }
-        ensures made { OnOk result (Makes (is_silent (MoveLines sheet Columns first count delta)) R.Fits self.old self.new) }
+        ensures made { OnOk result (Makes (is_silent (MoveLines sheet Columns first count delta) self.old.document.book) R.Fits self.old self.new) }
         ensures err { OnErr result (self.new ≡ self.old) }
         ensures paused { self.new.paused ≡ self.old.paused }
     {

@@ -1,5 +1,4 @@
 // A user model as its users call it. What stands where was worked out by hand from docs/MODEL.md.
-use crate::{CellArrayStructure, ClearAll, Recalc, UserModel};
 use base_axis::Area;
 use base_shared::Shared;
 use base_styles::Style;
@@ -12,6 +11,7 @@ use std::alloc::Global;
 use std::cell::Cell;
 use std::process::Abort;
 use std::test::Fail;
+use user_model::{CellArrayStructure, ClearAll, Recalc, UserModel};
 
 mod copies;
 mod lines;

@@ -3,16 +3,19 @@ use Rattle.std.specs.Prelude.{ℕ, ◌+◌, ◌==◌, ◌&&◌, nat_lt, Bool, Li
 use Rattle.base_values.specs.declared.EditError.{EditError}
 use Rattle.base_values.specs.declared.EditError.TheVariants.{OnlySheet}
 use Rattle.base_values.specs.Answers.{and_then, map_ok}
-use Rattle.defined_names.specs.Names.{kept_names, names_left, names_copied}
+use Rattle.defined_names.specs.Names.{names_left, names_copied}
 use Rattle.sheet_grid.specs.Sheet.{Sheet, new_sheet}
 use Rattle.sheet_grid.specs.Book.{Book, ids_of, names_of, sheet_at, sheet_edit, sheet_moved}
 use Rattle.sheet_naming.specs.FreeNames.{new_name, copy_name}
 use Rattle.sheet_naming.specs.NextIds.{next_id}
-use Rattle.book_sheets.specs.SheetDiffs.{with_sheet_at, without_sheet_at, sheet_as}
+use Rattle.book_sheets.specs.SheetDiffs.{with_sheet_at, without_sheet_at, sheet_as, kept_of}
 use Rattle.sheet_history.specs.declared.SheetField.{SheetField}
 use Rattle.sheet_history.specs.declared.Diff.{Diff}
 use Rattle.sheet_history.specs.declared.Diff.TheVariants.{NewSheet as NewDiff, DuplicateSheet as CopyDiff, DeleteSheet as DeletionDiff, MoveSheet as MoveDiff}
-use Rattle.sheet_history.specs.Fields.{field_of, with_field}
+use Rattle.sheet_history.specs.Entries.EntryKey.{FieldKey}
+use Rattle.sheet_history.specs.Entries.EntryValue.{FieldValue}
+use Rattle.sheet_history.specs.Fields.{field_of, field_in, with_field}
+use Rattle.sheet_history.specs.Records.{entry_record}
 
 -- ---- the list of the sheets
 
@@ -55,7 +58,7 @@ abbrev pub copy_diff : ℕ → Book → Sheet → ℕ → Diff
 copy_diff index book sheet id = CopyDiff sheet.id id (index + 1) (copy_name (names_of book.worksheets) sheet.name)
 
 abbrev pub deletion_diff : ℕ → Book → Sheet → Diff
-deletion_diff index book sheet = DeletionDiff index (record { sheet = sheet; names = kept_names sheet.id book.names })
+deletion_diff index book sheet = DeletionDiff index (kept_of sheet book.names)
 
 abbrev pub move_diff : ℕ → ℕ → Sheet → Diff
 move_diff from to sheet = MoveDiff sheet.id from to
@@ -82,3 +85,7 @@ taken_record from to book = one_diff (map_ok (move_diff from to) (sheet_at book 
 -- a field of a sheet gets a value: there is no such sheet
 unfoldable pub field_set : ℕ → SheetField → Book → Result Book EditError
 field_set index value book = sheet_edit book index (λ sheet. Ok (with_field (field_of value) value sheet))
+
+-- the change where a field gets a value: nothing where it stays
+abbrev pub field_change : Sheet → SheetField → List Diff
+field_change sheet value = entry_record (FieldKey sheet.id (field_of value)) (FieldValue (field_in (field_of value) sheet)) (FieldValue value)

@@ -13,7 +13,7 @@ ghost use Rattle.grid_wire.specs.KeyBytes.{axis_line_at, axis_map_at, is_place, 
 
 use base_axis::{Axis, AxisMap};
 use base_maps::{NumberMap, PositionMap};
-use base_values::{EditError, Items, LAST_COLUMN, LAST_ROW, PlaceMap, Position};
+use base_values::{EditError, LAST_COLUMN, LAST_ROW, PlaceMap, Position};
 use base_wire::Part;
 use cell_wire::PositionPart;
 use map_wire::{entries_at, put_entries, read};
@@ -44,11 +44,11 @@ fn place_at(alloc: Global, bytes: &[u8]) -> Result<(Position, &[u8]), EditError>
 }
 
 #[tactic(auto, unfolding(crate::specs::KeyBytes::axis_line_at))]
-fn axis_line_at(alloc: Global, last: i32, bytes: &[u8]) -> Result<(i32, &[u8]), EditError>
-    ensures { Answers (map_ok (λ x. (x.0, x.1.now)) result) (axis_line_at last bytes.now) }
+fn axis_line_at<A: Axis>(alloc: Global, bytes: &[u8]) -> Result<(i32, &[u8]), EditError>
+    ensures { Answers (map_ok (λ x. (x.0, x.1.now)) result) (axis_line_at A.along.last bytes.now) }
 {
     let (line, rest) = read::<i32>(alloc, &(), bytes)?;
-    if !is_line(last, line) {
+    if !is_line(A::LAST, line) {
         return Err(EditError::ParseDiffs);
     }
     Ok((line, rest))
@@ -127,7 +127,7 @@ impl<A: Axis> Part for AxisLinePart<A> {
         _context: &(),
         bytes: &'a [u8],
     ) -> Result<(i32, &'a [u8]), EditError> {
-        axis_line_at(alloc, A::LAST, bytes)
+        axis_line_at::<A>(alloc, bytes)
     }
 
     ghost format = { axis_line_format A.along.last A.lawful.last_high };
@@ -144,9 +144,8 @@ pub(crate) fn place_map_at<'a, P: Part>(
 ) -> Result<(PlaceMap<P::Value>, &'a [u8]), EditError>
     ensures { Answers (map_ok (λ x. (x.0, x.1.now)) result) (place_map_at P.reading bytes.now) }
 {
-    let (entries, rest) =
-        entries_at::<PositionMap<P::Value>, PlacePart, P>(alloc, context, bytes)?;
-    let map = PlaceMap::of_entries(alloc, Items::new(entries))?;
+    let (entries, rest) = entries_at::<PositionMap<P::Value>, PlacePart, P>(alloc, context, bytes)?;
+    let map = PlaceMap::of_entries(alloc, entries)?;
     Ok((map, rest))
 }
 
@@ -159,9 +158,10 @@ pub(crate) fn axis_map_at<'a, A: Axis, P: Part>(
 ) -> Result<(AxisMap<A, P::Value>, &'a [u8]), EditError>
     ensures { Answers (map_ok (λ x. (x.0, x.1.now)) result) (axis_map_at A.along.last P.reading bytes.now) }
 {
-    let (entries, rest) =
-        entries_at::<NumberMap<P::Value>, AxisLinePart<A>, P>(alloc, context, bytes)?;
-    let map = AxisMap::of_entries(alloc, Items::new(entries))?;
+    let (entries, rest) = entries_at::<NumberMap<P::Value>, AxisLinePart<A>, P>(
+        alloc, context, bytes,
+    )?;
+    let map = AxisMap::of_entries(alloc, entries)?;
     Ok((map, rest))
 }
 
@@ -173,7 +173,8 @@ pub(crate) fn put_place_map<P: Part>(
     ensures spelled { OnOk result (out.new.items ≡ out.old.items ++ spell_map spell_position P.spelling map.now) }
     ensures fits { OnOk result (((place : Position) → IfSome (get map.now place) P.Known) → FitsMap IsPlace P.Fits map.now) }
 {
-    put_entries::<PlacePart, P>(out, map.iter())
+    put_entries::<PlacePart, P>(out, map.iter())?;
+    Ok(())
 }
 
 /// Adds a map from lines of an axis.
@@ -184,5 +185,6 @@ pub(crate) fn put_axis_map<A: Axis, P: Part>(
     ensures spelled { OnOk result (out.new.items ≡ out.old.items ++ spell_map (spell_signed w32) P.spelling map.now) }
     ensures fits { OnOk result (((line : ℤ) → IfSome (get map.now line) P.Known) → FitsMap (IsLine A.along.last) P.Fits map.now) }
 {
-    put_entries::<AxisLinePart<A>, P>(out, map.iter())
+    put_entries::<AxisLinePart<A>, P>(out, map.iter())?;
+    Ok(())
 }

@@ -38,11 +38,7 @@ fn push_meaning(
 }
 
 /// Writes the word for a name, its scope and itself, each with a space.
-fn push_name_front(
-    alloc: Global,
-    out: &mut Vec<u8>,
-    name: &DefinedName,
-) -> Result<(), AllocError>
+fn push_name_front(alloc: Global, out: &mut Vec<u8>, name: &DefinedName) -> Result<(), AllocError>
     ensures { OnOk result (out.new.items ≡ out.old.items
         ++ (codes "name " ++ (scope_text name.now.scope ++ 32 ∷ (escaped name.now.name ++ 32 ∷ [])))) }
 {

@@ -76,12 +76,7 @@ fn edit_back(
 }
 
 /// Makes a diff's change. `at` is its number in its list.
-fn apply_forward(
-    alloc: Global,
-    workbook: &mut Workbook,
-    diff: &Diff,
-    at: u64,
-) -> Result<(), EditError>
+fn make(alloc: Global, workbook: &mut Workbook, diff: &Diff, at: u64) -> Result<(), EditError>
     requires kept { IsKeptDiff diff.now }
     requires placed { IsPlacedBook workbook.old }
     ensures edits { Edits result workbook.old workbook.new (step_forward at workbook.old diff.now) }
@@ -123,7 +118,7 @@ fn apply_forward(
 }
 
 /// Takes a diff's change back. `at` is its number in its list.
-fn apply_back(alloc: Global, workbook: &mut Workbook, diff: &Diff, at: u64) -> Result<(), EditError>
+fn take_back(alloc: Global, workbook: &mut Workbook, diff: &Diff, at: u64) -> Result<(), EditError>
     requires kept { IsKeptDiff diff.now }
     requires placed { IsPlacedBook workbook.old }
     ensures edits { Edits result workbook.old workbook.new (step_back at workbook.old diff.now) }
@@ -150,17 +145,8 @@ fn apply_back(alloc: Global, workbook: &mut Workbook, diff: &Diff, at: u64) -> R
             edit,
             kept,
         } => edit_back(alloc, workbook, *sheet, *axis, *edit, kept.get(), at),
-        Diff::NewSheet {
-            sheet,
-            index: _,
-            name: _,
-        } => new_back(workbook, *sheet, at),
-        Diff::DuplicateSheet {
-            source: _,
-            sheet,
-            index: _,
-            name: _,
-        } => copy_back(alloc, workbook, *sheet, at),
+        Diff::NewSheet { sheet, .. } => new_back(workbook, *sheet, at),
+        Diff::DuplicateSheet { sheet, .. } => copy_back(alloc, workbook, *sheet, at),
         Diff::DeleteSheet { index, kept } => deletion_back(workbook, *index, kept.get(), at),
         Diff::MoveSheet { sheet, from, to } => sheet_moves(workbook, *sheet, *to, *from, at),
     }
@@ -174,7 +160,7 @@ fn made(alloc: Global, workbook: &Workbook, list: &DiffList) -> Result<Workbook,
 {
     let mut next = copy_of(workbook)?;
     for (index, diff) in list.get().as_slice().iter().enumerate() {
-        apply_forward(alloc, &mut next, diff, index as u64)?;
+        make(alloc, &mut next, diff, index as u64)?;
     }
     Ok(next)
 }
@@ -188,7 +174,7 @@ fn taken_back(alloc: Global, workbook: &Workbook, list: &DiffList) -> Result<Wor
     let diffs = list.get().as_slice();
     let mut next = copy_of(workbook)?;
     for index in (0..diffs.len()).rev() {
-        apply_back(alloc, &mut next, &diffs[index], index as u64)?;
+        take_back(alloc, &mut next, &diffs[index], index as u64)?;
     }
     Ok(next)
 }
@@ -210,7 +196,7 @@ fn by_rule(workbook: Workbook, at: u64) -> Result<Workbook, EditError>
 /// `DiffRefused` with entry 0 and the number of the first diff that cannot be made; where each can,
 /// but the result breaks a rule, with the number of diffs. A cell cannot be put where its sheet is
 /// not there, its position is outside, or it may not stand there. docs/MODEL.md says when lines can
-/// be inserted, deleted and moved.
+/// be inserted, deleted and moved, and when a sheet can come, go and move.
 pub fn forward(alloc: Global, workbook: &Workbook, list: &DiffList) -> Result<Workbook, EditError>
     requires kept { IsKeptList list.now }
     requires rules { IsWellFormed workbook.now }
@@ -246,7 +232,7 @@ pub fn forward_in_place(
 {
     match list.get().as_slice() {
         [] => Ok(()),
-        [diff] => apply_forward(alloc, workbook, diff, 0),
+        [diff] => make(alloc, workbook, diff, 0),
         _ => {
             *workbook = made(alloc, workbook, list)?;
             Ok(())
@@ -267,7 +253,7 @@ pub fn back_in_place(
 {
     match list.get().as_slice() {
         [] => Ok(()),
-        [diff] => apply_back(alloc, workbook, diff, 0),
+        [diff] => take_back(alloc, workbook, diff, 0),
         _ => {
             *workbook = taken_back(alloc, workbook, list)?;
             Ok(())

@@ -16,9 +16,9 @@ ghost use Rattle.sheet_lines.specs.Back.{ArePlacedLines, LieInside};
 ghost use Rattle.sheet_lines.specs.KeptNumbers.{AreKeptLines};
 ghost use Rattle.sheet_lines.specs.Sheets.{IsPlacedBook, sheet_of};
 ghost use Rattle.book_sheets.specs.SheetDiffs.{lies_inside, cells_fit};
-ghost use Rattle.sheet_history.specs.LineDiffs.{is_pushed_past, stays_inside, is_there_inside, is_lost_place, is_lost_line, all_keys, stand_on_lost};
-ghost use Rattle.sheet_history.specs.LineDiffs.{lie_inside, merges_inside, is_formula, is_formula_at, goes_on, tree_stands, formulas_stand, goes_forward, goes_back};
-ghost use Rattle.sheet_history.specs.LineDiffs.{lines_forward, lines_back};
+ghost use Rattle.sheet_history.specs.LineDiffs.{is_pushed_past, stays_inside, is_there_inside, is_lost_place, is_lost_line, all_keys};
+ghost use Rattle.sheet_history.specs.LineDiffs.{stand_on_lost, lie_inside, merges_inside, is_formula, is_formula_at, goes_on, tree_stands, formulas_stand};
+ghost use Rattle.sheet_history.specs.LineDiffs.{goes_forward, goes_back, lines_forward, lines_back};
 
 use base_axis::{Axis, MergeList};
 use base_maps::{NumberMap, PositionMap, SheetPlaceMap};

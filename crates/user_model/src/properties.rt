@@ -40,10 +40,7 @@ fn properties_of(sheet: &Worksheet) -> Result<SheetProperties, EditError>
 }
 
 /// What is listed of sheets, in order.
-fn list_properties(
-    alloc: Global,
-    sheets: &[Worksheet],
-) -> Result<Items<SheetProperties>, EditError>
+fn list_properties(alloc: Global, sheets: &[Worksheet]) -> Result<Items<SheetProperties>, EditError>
     ensures made { IfOk result (λ list. list ≡ map properties_of sheets.now) }
     ensures only { IsOkUnless result NoMemory }
 {

@@ -313,11 +313,7 @@ impl<R: Recalc + Drop> UserModel<R> {
 
     /// Makes what a plan says, selects the sheet at an index, and records the edit, or refuses as the
     /// plan does.
-    fn make(
-        &mut self,
-        plan: Result<DiffList, EditError>,
-        selected: usize,
-    ) -> Result<(), EditError>
+    fn make(&mut self, plan: Result<DiffList, EditError>, selected: usize) -> Result<(), EditError>
         requires { IsAnyPlan plan selected self.now.document }
         ensures next { (edit : AnyEdit) (state : State) → IsPlanOf edit plan selected self.old.document → StandsFor self.old.document state → Moves result self.new.document (edit_of edit state) }
         ensures made { OnOk result (IsMade R.Fits self.new) }

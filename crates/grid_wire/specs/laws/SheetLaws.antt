@@ -15,7 +15,7 @@ use Rattle.cell_wire.specs.LinkBytes.{spell_link, FitsLink}
 use Rattle.cell_wire.specs.laws.Formats.{cell_format}
 use Rattle.cell_wire.specs.laws.MergeLaws.{link_format, merges_format}
 use Rattle.grid_wire.specs.LineBytes.{spell_line, FitsLine}
-use Rattle.grid_wire.specs.SheetBytes.{spell_fields, Fields, bare_sheet, fields_of, bared, fields_at, FitsFields, rows_at, columns_at, cells_at, links_at, spell_entries, spell_sheet, sheet_made, sheet_at, FitsSheet}
+use Rattle.grid_wire.specs.SheetBytes.{spell_fields, bare_sheet, fields_of, bared, fields_at, FitsFields, rows_at, columns_at, cells_at, links_at, spell_entries, spell_sheet, sheet_made, sheet_at, FitsSheet}
 use Rattle.grid_wire.specs.laws.ColorLaws.{color_format, state_format}
 use Rattle.grid_wire.specs.laws.KeyLaws.{axis_map_format, place_map_format}
 use Rattle.grid_wire.specs.laws.LineLaws.{line_format}
@@ -61,10 +61,13 @@ sheet_format =
     made_format (both_format fields_format (both_format rows_format (both_format columns_format (both_format cells_format (both_format links_format (both_format merges_format no_items_format))))))
     sheet_made (λ sheet. (bared sheet, (sheet.rows, (sheet.columns, (sheet.cells, (sheet.links, (sheet.merges, tt)))))))
     (λ sheet fits. (refl, ((record { id = fits.fields.id; name = fits.fields.name; color = fits.fields.color; frozen_rows = fits.fields.frozen_rows; frozen_columns = fits.fields.frozen_columns }, refl), (fits.entries.rows, (fits.entries.columns, (fits.entries.cells, (fits.entries.links, (fits.entries.merges, tt))))))))
-    (λ x fits. (ap (λ (s : Sheet). (s, x.1)) fits.0.1, record {
-      fields = record { id = fits.0.0.id; name = fits.0.0.name; color = fits.0.0.color; frozen_rows = fits.0.0.frozen_rows; frozen_columns = fits.0.0.frozen_columns };
-      entries = record { rows = fits.1.0; columns = fits.1.1.0; cells = fits.1.1.1.0; links = fits.1.1.1.1.0; merges = fits.1.1.1.1.1.0 };
-    }))
+    (λ x fits. (
+      ap (λ (s : Sheet). (s, x.1)) fits.0.1,
+      record {
+        fields = record { id = fits.0.0.id; name = fits.0.0.name; color = fits.0.0.color; frozen_rows = fits.0.0.frozen_rows; frozen_columns = fits.0.0.frozen_columns };
+        entries = record { rows = fits.1.0; columns = fits.1.1.0; cells = fits.1.1.1.0; links = fits.1.1.1.1.0; merges = fits.1.1.1.1.1.0 };
+      },
+    ))
 
 pub sheet_some : (sheet : Sheet) → 1 ≤ length (spell_sheet sheet)
 unfolding spell_fields spell_sheet

@@ -90,7 +90,7 @@ module _ (text : ℕ → List ℕ) (bound : ℕ)
     where
       go : (b : Bool) → taken first ≡ b → (taken (least_free taken (first + 1) more) ≡ false) ⊎ AllByRecursion (λ n. taken n ≡ true) (numbers (first + 1) more)
           → (taken (cond b (least_free taken (first + 1) more) first) ≡ false)
-              ⊎ ((taken first ≡ true) × AllByRecursion (λ n. taken n ≡ true) (numbers (first + 1) more))
+          ⊎ ((taken first ≡ true) × AllByRecursion (λ n. taken n ≡ true) (numbers (first + 1) more))
       go true is (inl free) = inl free
       go true is (inr all) = inr (is, all)
       go false is rest = inl is

@@ -1,5 +1,5 @@
 -- What fits is kept, and what encoding asks of diffs.
-use Rattle.std.proofs.Common.{List, [], ◌∷◌, Option, Some, None}
+use Rattle.std.proofs.Common.{◌<◌, ◌^◌, List, [], ◌∷◌, Option, Some, None}
 use Rattle.std.specs.Prelude.{IfSome, IsTrue}
 use Rattle.std.specs.FinMap.{get}
 use Rattle.std.specs.List.{AllByRecursion}
@@ -7,18 +7,26 @@ use Rattle.std.proofs.lemmas.List.Elements.{All-from_recursion}
 use Rattle.formula_tree.specs.Depth.{is_within}
 use Rattle.formula_tree.specs.Numbers.{has_kept_numbers}
 use Rattle.formula_tree.specs.declared.Node.{Node}
+use Rattle.defined_names.specs.Names.{IsKeptName}
+use Rattle.defined_names.specs.declared.DefinedName.{DefinedName}
 use Rattle.sheet_grid.specs.declared.Cell.{Cell}
 use Rattle.sheet_grid.specs.laws.FittingCells.{is_shallow_entry}
 use Rattle.sheet_grid.specs.KeptCell.{IsKeptCell}
 use Rattle.sheet_history.specs.declared.Diff.{Diff}
-use Rattle.sheet_history.specs.declared.Diff.TheVariants.{Cell as CellDiff, Link as LinkDiff, Merges as MergesDiff, Lines as LinesDiff}
+use Rattle.sheet_history.specs.declared.Diff.TheVariants.{Cell as CellDiff, Link as LinkDiff, Merges as MergesDiff, Field as FieldDiff, Lines as LinesDiff, NewSheet as NewDiff, DuplicateSheet as CopyDiff, DeleteSheet as DeletionDiff, MoveSheet as MoveDiff}
 use Rattle.sheet_history.specs.declared.QueueDiffs.{QueueDiffs}
-use Rattle.sheet_history.specs.Depth.{IsShallowDiff}
+use Rattle.book_sheets.specs.declared.KeptSheet.{KeptSheet}
+use Rattle.book_sheets.specs.SheetDiffs.{IsKeptSheet}
+use Rattle.sheet_history.specs.Depth.{IsShallowDiff, IsShallowSheet}
 use Rattle.sheet_history.specs.Diffs.{IsKeptDiff, IsKeptList, IsKeptQueue}
 use Rattle.formula_wire.specs.Carried.{IsKnownNode}
 use Rattle.cell_wire.specs.CellBytes.{FitsCell, IsKnownCell}
 use Rattle.cell_wire.specs.laws.Fitting.{kept_cell_from_fits}
 use Rattle.lines_wire.specs.laws.KeptFits.{kept_lines_from_fits}
+use Rattle.map_wire.specs.laws.MapFits.{values_hold}
+use Rattle.grid_wire.specs.NameBytes.{FitsName, IsKnownName}
+use Rattle.grid_wire.specs.laws.GridFits.{kept_cells_from_fits, kept_name_from_fits}
+use Rattle.sheet_wire.specs.SheetsBytes.{FitsKeptSheet, IsKnownKeptSheet, HasOwnLines}
 use Rattle.sheet_wire.specs.QueueBytes.{FitsDiff, FitsList, FitsEntry, FitsQueue, IsKeptOfDiff, IsKnownDiff}
 
 -- ---- what fits is kept
@@ -27,12 +35,23 @@ kept_option : (entry : Option Cell) → IfSome entry FitsCell → IfSome entry I
 kept_option None fits = tt
 kept_option (Some cell) fits = kept_cell_from_fits cell fits
 
+kept_sheet_from_fits : (kept : KeptSheet) → FitsKeptSheet kept → IsKeptSheet kept
+kept_sheet_from_fits kept fits = record {
+  cells = kept_cells_from_fits kept.sheet.cells fits.sheet.entries.cells;
+  names = values_hold (λ place. place < 2 ^ 64) FitsName _ kept_name_from_fits kept.names fits.names;
+}
+
 pub kept_diff_from_fits : (diff : Diff) → FitsDiff diff → IsKeptDiff diff
 kept_diff_from_fits (CellDiff sheet place old new) fits =
     (kept_option old fits.old, kept_option new fits.new)
 kept_diff_from_fits (LinkDiff sheet place old new) fits = tt
 kept_diff_from_fits (MergesDiff sheet old new) fits = tt
+kept_diff_from_fits (FieldDiff sheet change) fits = tt
 kept_diff_from_fits (LinesDiff sheet axis edit kept) fits = kept_lines_from_fits kept fits.kept
+kept_diff_from_fits (NewDiff sheet index name) fits = tt
+kept_diff_from_fits (CopyDiff source sheet index name) fits = tt
+kept_diff_from_fits (DeletionDiff index kept) fits = kept_sheet_from_fits kept fits.kept
+kept_diff_from_fits (MoveDiff sheet from to) fits = tt
 
 kept_diffs : (diffs : List Diff) → AllByRecursion FitsDiff diffs → AllByRecursion IsKeptDiff diffs
 kept_diffs [] fits = tt
@@ -60,11 +79,30 @@ known_tree : (tree : Option Node) → IfSome tree (λ t. IsTrue (has_kept_number
 known_tree None kept shallow = tt
 known_tree (Some tree) kept shallow = record { kept = kept; depth = shallow }
 
+known_name : (name : Option DefinedName) → IfSome name IsKeptName → IfSome name (λ n. IsTrue (is_within 64 n.formula)) → IfSome name IsKnownName
+known_name None kept shallow = tt
+known_name (Some name) kept shallow = record { kept = kept; depth = shallow }
+
+known_sheet : (kept : KeptSheet) → IsKeptSheet kept → IsShallowSheet kept → HasOwnLines kept → IsKnownKeptSheet kept
+known_sheet kept numbers shallow own = record {
+  sheet = record {
+    rows = own.rows;
+    columns = own.columns;
+    cells = λ place. known_entry (get kept.sheet.cells place) (numbers.cells place) (shallow.cells place);
+  };
+  names = λ place. known_name (get kept.names place) (numbers.names place) (shallow.names place);
+}
+
 -- a diff whose numbers are kept, and whose formulas are at most 64 deep, can be encoded
 pub known_diff : (diff : Diff) → IsKeptDiff diff → IsShallowDiff diff → IsKeptOfDiff diff → IsKnownDiff diff
 known_diff (CellDiff sheet place old new) kept shallow of_lines = (known_entry old kept.0 shallow.0, known_entry new kept.1 shallow.1)
 known_diff (LinkDiff sheet place old new) kept shallow of_lines = tt
 known_diff (MergesDiff sheet old new) kept shallow of_lines = tt
+known_diff (FieldDiff sheet change) kept shallow of_lines = tt
+known_diff (NewDiff sheet index name) kept shallow of_lines = tt
+known_diff (CopyDiff source sheet index name) kept shallow of_lines = tt
+known_diff (DeletionDiff index part) kept shallow of_lines = known_sheet part kept shallow of_lines
+known_diff (MoveDiff sheet from to) kept shallow of_lines = tt
 known_diff (LinesDiff sheet axis edit lines) kept shallow of_lines = record {
   cells = λ place. known_entry (get lines.cells place) (kept.cells place) (shallow.cells place);
   lines = of_lines;

@@ -10,8 +10,8 @@ loop-index-preserved c =
     let was : back_from 0 c.loop-index.next (take ((c.loop-index.index - 1) + 1) c.as_slice-diffs.result.now) ≡ taken_back c.args.workbook.now c.args.list.now = rw place c.loop-index.invariant.0 in
     search rules
 
-pub returns-in_err-apply_back : goal.returns-in_err-apply_back
-returns-in_err-apply_back c =
+pub returns-in_err-take_back : goal.returns-in_err-take_back
+returns-in_err-take_back c =
     let turn = back_from-take c.loop-index.next c.as_slice-diffs.result.now (c.loop-index.index - 1) c.index-diffs-index.result (omega arith) c.index-diffs-index.is in
     let place : (c.loop-index.index - 1) + 1 ≡ c.loop-index.index = omega arith in
     let was : back_from 0 c.loop-index.next (take ((c.loop-index.index - 1) + 1) c.as_slice-diffs.result.now) ≡ taken_back c.args.workbook.now c.args.list.now = rw place c.loop-index.invariant.0 in

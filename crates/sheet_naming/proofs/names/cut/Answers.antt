@@ -12,7 +12,6 @@ loop-init c = record {
   valid = subst IsUtf8 (sym c.chars-characters.ensures.rest) c.utf8.name;
   whole = whole (c.args.room - 0) (omega arith) ∙ (λ i. c.new-text.ensures.bytes i ++ encode_utf8_all (take c.args.room (chars (c.chars-characters.ensures.rest i))));
 }
-
   where
     whole : (n : ℕ) → n ≡ c.args.room
         → string_bytes c.new-text.result ++ encode_utf8_all (take n (chars (chars_rest c.chars-characters.result)))

@@ -33,7 +33,7 @@ use Rattle.user_model.specs.Values.{Session, seeing}
 use Rattle.user_model.proofs.Documents.{document_edited, document_undone, document_redone, document_taken}
 use Rattle.user_model.proofs.EntrySteps.{entries_plan}
 use Rattle.user_model.proofs.SheetSteps.{SheetLaw, sheets_plan}
-use Rattle.user_model.proofs.Sounds.{sound_edit, sound_undo, sound_redo, sound_seen, sound_sync, sound_received}
+use Rattle.user_model.proofs.Sounds.{leads_on, sound_edit, sound_undo, sound_redo, sound_seen, sound_sync, sound_received}
 
 -- ---- results
 
@@ -172,7 +172,7 @@ synced_document doc new s is same = record {
 }
 
 pub flushed_carries : (doc : Document) (s : State) (bytes : List ℕ) → StandsFor doc s → bytes ≡ spell_queue doc.queue → IfSome s.synced (λ book. Carries s.sent bytes book s.present)
-flushed_carries doc s bytes stands is = go s.synced stands.sound.replays
+flushed_carries doc s bytes stands is = go s.synced (leads_on s stands.sound.carries)
   where
     spelled : bytes ≡ spell_queue s.sent
     spelled = is ∙ ap (λ (d : Document). spell_queue d.queue) stands.document

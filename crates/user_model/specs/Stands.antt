@@ -44,7 +44,7 @@ pub record Turns {T : Type 0} (result : Result T EditError) (new : Document) (ex
   pub refused : IfErr result (λ error. error ≢ NoMemory → expected ≡ Err error)
 
 -- what a call answers of the entries of another copy's queue, and where it leaves the model: the entries before a refused one stand, and
--- after want of memory some first ones do
+-- out of memory, some first ones do
 abbrev pub Leaves : Result (Unit {0}) EditError → Document → List QueueDiffs → State → Type 0
 Leaves (Err NoMemory) new entries s = (count : ℕ) × StandsFor new (applied (take count entries) s).0
 Leaves result new entries s = ((applied entries s).1 ≡ result) × StandsFor new (applied entries s).0

@@ -8,9 +8,11 @@ pub plan_deleted_sheet-plan-requires : goal.plan_deleted_sheet-plan-requires
 plan_deleted_sheet-plan-requires g c = record { rules = reached_rules (document_in c.self.inside.book) c.self.invariant }
 
 pub make-requires : goal.make-requires
-make-requires g c =
-    (DeleteSheet c.args.sheet, sheet_plan_of _ c.plan_deleted_sheet-plan.result _ c.self.inside.book c.self.inside.results _ c.self.view_is c.self.invariant (λ accepted. sym (c.selected_after_deletion-selected.ensures (deletion_there c.args.sheet c.self.inside.book.workbook accepted))) c.sheet_edits_go_both_ways.ensures refl refl
-    c.plan_deleted_sheet-plan.ensures.planned)
+make-requires g c = (
+  DeleteSheet c.args.sheet,
+  sheet_plan_of _ c.plan_deleted_sheet-plan.result _ c.self.inside.book c.self.inside.results _ c.self.view_is c.self.invariant (λ accepted. sym (c.selected_after_deletion-selected.ensures (deletion_there c.args.sheet c.self.inside.book.workbook accepted))) c.sheet_edits_go_both_ways.ensures refl refl
+      c.plan_deleted_sheet-plan.ensures.planned,
+)
 
 pub returns-clause-next : goal.returns-clause-next
 returns-clause-next g c = λ state.

@@ -11,9 +11,11 @@ plan_moved_sheet-plan-requires g c = record { rules = reached_rules (document_in
 
 pub make-requires : goal.make-requires
 make-requires g c =
-    let loud = subst (λ (seen : Session). is_silent (MoveSheet c.args.from c.args.to) seen.document.book ≡ false) (sym c.self.view_is) c.requires in
-    (MoveSheet c.args.from c.args.to, sheet_plan_of _ c.plan_moved_sheet-plan.result _ c.self.inside.book c.self.inside.results _ c.self.view_is c.self.invariant (λ accepted. sym c.selected_by_move-selected.ensures) c.sheet_edits_go_both_ways.ensures refl loud
-    c.plan_moved_sheet-plan.ensures.planned)
+    let loud = subst (λ (seen : Session). is_silent (MoveSheet c.args.from c.args.to) seen.document.book ≡ false) (sym c.self.view_is) c.requires in (
+      MoveSheet c.args.from c.args.to,
+      sheet_plan_of _ c.plan_moved_sheet-plan.result _ c.self.inside.book c.self.inside.results _ c.self.view_is c.self.invariant (λ accepted. sym c.selected_by_move-selected.ensures) c.sheet_edits_go_both_ways.ensures refl loud
+          c.plan_moved_sheet-plan.ensures.planned,
+    )
 
 pub returns-clause-next : goal.returns-clause-next
 returns-clause-next g c = λ state.

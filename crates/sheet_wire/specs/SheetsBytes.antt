@@ -11,15 +11,14 @@ use Rattle.sheet_grid.specs.declared.SheetState.{SheetState}
 use Rattle.book_sheets.specs.declared.KeptSheet.{KeptSheet}
 use Rattle.sheet_history.specs.declared.FieldChange.{FieldChange}
 use Rattle.sheet_history.specs.declared.FieldChange.TheVariants as change
-use Rattle.base_wire.specs.Parts.{boolean_at}
 use Rattle.base_wire.specs.Reading.{Reader, map_at, ◌⊗◌, code_at, number_at, text_at}
 use Rattle.base_wire.specs.Spelling.{Any, spell_code, boolean_code, spell_text, FitsText}
 use Rattle.map_wire.specs.MapBytes.{spell_map, map_of_at, FitsMap}
-use Rattle.cell_wire.specs.StyleBytes.{spell_color, color_at, FitsColor}
+use Rattle.cell_wire.specs.StyleBytes.{spell_color, FitsColor}
 use Rattle.grid_wire.specs.ColorBytes.{state_code, states}
 use Rattle.grid_wire.specs.NameBytes.{spell_name, name_at, FitsName, IsKnownName}
 use Rattle.grid_wire.specs.SheetBytes.{spell_sheet, sheet_at, FitsSheet, IsKnownSheet}
-use Rattle.sheet_wire.specs.ChangeBytes.{spell_sheet_change, sheet_change_at, FitsSheetChange}
+use Rattle.sheet_wire.specs.ChangeBytes.{spell_sheet_change, FitsSheetChange}
 
 -- ---- fields of a sheet
 

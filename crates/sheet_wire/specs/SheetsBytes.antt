@@ -11,15 +11,14 @@ use Rattle.sheet_grid.specs.declared.SheetState.{SheetState}
 use Rattle.book_sheets.specs.declared.KeptSheet.{KeptSheet}
 use Rattle.sheet_history.specs.declared.FieldChange.{FieldChange}
 use Rattle.sheet_history.specs.declared.FieldChange.TheVariants as change
-use Rattle.base_wire.specs.Parts.{boolean_at}
 use Rattle.base_wire.specs.Reading.{Reader, map_at, ◌⊗◌, code_at, number_at, text_at}
 use Rattle.base_wire.specs.Spelling.{Any, spell_code, boolean_code, spell_text, FitsText}
 use Rattle.map_wire.specs.MapBytes.{spell_map, map_of_at, FitsMap}
-use Rattle.cell_wire.specs.StyleBytes.{spell_color, color_at, FitsColor}
+use Rattle.cell_wire.specs.StyleBytes.{spell_color, FitsColor}
 use Rattle.grid_wire.specs.ColorBytes.{state_code, states}
 use Rattle.grid_wire.specs.NameBytes.{spell_name, name_at, FitsName, IsKnownName}
 use Rattle.grid_wire.specs.SheetBytes.{spell_sheet, sheet_at, FitsSheet, IsKnownSheet}
-use Rattle.sheet_wire.specs.ChangeBytes.{spell_sheet_change, sheet_change_at, FitsSheetChange}
+use Rattle.sheet_wire.specs.ChangeBytes.{spell_sheet_change, FitsSheetChange}
 
 -- ---- fields of a sheet
 
@@ -50,10 +49,11 @@ spell_new id index name = to_be_bytes w32 id ++ (to_be_bytes w32 index ++ spell_
 abbrev pub new_parts_at : Reader (ℕ × (ℕ × List ℕ))
 new_parts_at = number_at w32 ⊗ number_at w32 ⊗ text_at
 
-pub record FitsNew (id index : ℕ) (name : List ℕ) : Type 0 where
+-- the parts of a new sheet, which bytes can carry
+pub record FitsNew (id at : ℕ) (text : List ℕ) : Type 0 where
   pub sheet : id < 2 ^ 32
-  pub index : index < 2 ^ 32
-  pub name : FitsText name
+  pub index : at < 2 ^ 32
+  pub name : FitsText text
 
 -- the id of the sheet that is copied, and those parts of the copy
 unfoldable pub spell_copy : ℕ → ℕ → ℕ → List ℕ → List ℕ
@@ -62,9 +62,10 @@ spell_copy source id index name = to_be_bytes w32 source ++ spell_new id index n
 abbrev pub copy_parts_at : Reader (ℕ × (ℕ × (ℕ × List ℕ)))
 copy_parts_at = number_at w32 ⊗ new_parts_at
 
-pub record FitsCopy (source id index : ℕ) (name : List ℕ) : Type 0 where
-  pub source : source < 2 ^ 32
-  pub copy : FitsNew id index name
+-- the parts of a copy, which bytes can carry
+pub record FitsCopy (original id at : ℕ) (text : List ℕ) : Type 0 where
+  pub source : original < 2 ^ 32
+  pub copy : FitsNew id at text
 
 -- ---- deleted sheets
 
@@ -103,8 +104,9 @@ spell_deletion index kept = to_be_bytes w32 index ++ spell_kept_sheet kept
 abbrev pub deletion_parts_at : Reader (ℕ × KeptSheet)
 deletion_parts_at = number_at w32 ⊗ kept_sheet_at
 
-pub record FitsDeletion (index : ℕ) (part : KeptSheet) : Type 0 where
-  pub index : index < 2 ^ 32
+-- an index and a kept sheet that bytes can carry
+pub record FitsDeletion (at : ℕ) (part : KeptSheet) : Type 0 where
+  pub index : at < 2 ^ 32
   pub kept : FitsKeptSheet part
 
 -- ---- moved sheets
@@ -116,7 +118,8 @@ spell_move id from to = to_be_bytes w32 id ++ (to_be_bytes w32 from ++ to_be_byt
 abbrev pub move_parts_at : Reader (ℕ × (ℕ × ℕ))
 move_parts_at = number_at w32 ⊗ number_at w32 ⊗ number_at w32
 
-pub record FitsMove (id from to : ℕ) : Type 0 where
+-- three numbers of 32 bits
+pub record FitsMove (id before later : ℕ) : Type 0 where
   pub sheet : id < 2 ^ 32
-  pub from : from < 2 ^ 32
-  pub to : to < 2 ^ 32
+  pub from : before < 2 ^ 32
+  pub to : later < 2 ^ 32

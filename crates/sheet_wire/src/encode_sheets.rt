@@ -67,9 +67,10 @@ pub(crate) fn put_new(
     ensures spelled { OnOk result (out.new.items ≡ out.old.items ++ spell_new sheet index name.now) }
     ensures fits { OnOk result (FitsNew sheet index name.now) }
 {
-    out.extend_from_slice(&sheet.to_be_bytes())?;
-    out.extend_from_slice(&index.to_be_bytes())?;
-    Text::put(out, name)
+    u32::put(out, &sheet)?;
+    u32::put(out, &index)?;
+    Text::put(out, name)?;
+    Ok(())
 }
 
 /// Adds the id of a sheet, and the id, the index and the name of its copy.
@@ -84,7 +85,7 @@ pub(crate) fn put_copy(
     ensures spelled { OnOk result (out.new.items ≡ out.old.items ++ spell_copy source sheet index name.now) }
     ensures fits { OnOk result (FitsCopy source sheet index name.now) }
 {
-    out.extend_from_slice(&source.to_be_bytes())?;
+    u32::put(out, &source)?;
     put_new(out, sheet, index, name)
 }
 

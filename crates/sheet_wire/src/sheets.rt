@@ -36,7 +36,8 @@ fn put_kept_sheet(out: &mut Vec<u8>, kept: &KeptSheet) -> Result<(), AllocError>
     ensures fits { OnOk result (IsKnownKeptSheet kept.now → FitsKeptSheet kept.now) }
 {
     SheetPart::put(out, &kept.sheet)?;
-    PlacedNamesPart::put(out, &kept.names)
+    PlacedNamesPart::put(out, &kept.names)?;
+    Ok(())
 }
 
 /// A deleted sheet, with the names of its scope by their places.

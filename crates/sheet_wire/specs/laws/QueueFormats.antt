@@ -23,7 +23,7 @@ use Rattle.base_wire.specs.laws.Refusals.{IsPlain, code_plain, if_plain, map_pla
 use Rattle.base_wire.specs.laws.Spelled.{ReadsSpelled, code_spelled, tag_if, tag_map, tag_refused, tagged_spelled}
 use Rattle.cell_wire.specs.CellBytes.{spell_position, FitsPosition, spell_cell, cell_at}
 use Rattle.cell_wire.specs.LinkBytes.{spell_link, link_at}
-use Rattle.cell_wire.specs.MergeBytes.{spell_merges, merges_at, FitsMerges}
+use Rattle.cell_wire.specs.MergeBytes.{spell_merges, merges_at}
 use Rattle.cell_wire.specs.laws.Formats.{position_format, cell_format}
 use Rattle.cell_wire.specs.laws.MergeLaws.{link_format, merges_format}
 use Rattle.lines_wire.specs.EditBytes.{spell_edit, FitsEdit}

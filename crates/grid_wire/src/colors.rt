@@ -1,10 +1,10 @@
 //! Colours and the states of sheets as parts of formats.
 
-ghost use Rattle.std.specs.Prelude.{◌≡◌};
+ghost use Rattle.std.specs.Prelude.{◌≡◌, ◌++◌, OnOk};
 ghost use Rattle.base_values.specs.Answers.{Answers, map_ok, ok_or};
 ghost use Rattle.base_values.specs.declared.EditError.TheVariants.{ParseDiffs};
 ghost use Rattle.base_wire.specs.Reading.{code_at, decoded};
-ghost use Rattle.cell_wire.specs.StyleBytes.{color_at, theme_code, theme_colors};
+ghost use Rattle.cell_wire.specs.StyleBytes.{color_at, spell_color, theme_code, theme_colors, FitsColor};
 ghost use Rattle.grid_wire.specs.ColorBytes.{state_code, states};
 
 use base_styles::{Color, ThemeColor};
@@ -15,31 +15,23 @@ use map_wire::read;
 use sheet_grid::SheetState;
 use std::alloc::{AllocError, Global};
 
-const THEME_COLORS: [ThemeColor; 12] = [
-    ThemeColor::Light1,
-    ThemeColor::Dark1,
-    ThemeColor::Light2,
-    ThemeColor::Dark2,
-    ThemeColor::Accent1,
-    ThemeColor::Accent2,
-    ThemeColor::Accent3,
-    ThemeColor::Accent4,
-    ThemeColor::Accent5,
-    ThemeColor::Accent6,
-    ThemeColor::Hyperlink,
-    ThemeColor::FollowedHyperlink,
-];
-
 fn theme_of(code: u8) -> Result<ThemeColor, EditError>
     ensures { result ≡ ok_or ParseDiffs (decoded theme_code theme_colors code) }
 {
-    let found = THEME_COLORS
-        .iter()
-        .copied()
-        .find(|theme| theme_code(*theme) == code);
-    match found {
-        Some(theme) => Ok(theme),
-        None => Err(EditError::ParseDiffs),
+    match code {
+        0 => Ok(ThemeColor::Light1),
+        1 => Ok(ThemeColor::Dark1),
+        2 => Ok(ThemeColor::Light2),
+        3 => Ok(ThemeColor::Dark2),
+        4 => Ok(ThemeColor::Accent1),
+        5 => Ok(ThemeColor::Accent2),
+        6 => Ok(ThemeColor::Accent3),
+        7 => Ok(ThemeColor::Accent4),
+        8 => Ok(ThemeColor::Accent5),
+        9 => Ok(ThemeColor::Accent6),
+        10 => Ok(ThemeColor::Hyperlink),
+        11 => Ok(ThemeColor::FollowedHyperlink),
+        _ => Err(EditError::ParseDiffs),
     }
 }
 
@@ -70,6 +62,18 @@ fn color_at(alloc: Global, bytes: &[u8]) -> Result<(Color, &[u8]), EditError>
         }
         _ => Err(EditError::ParseDiffs),
     }
+}
+
+fn put_color(out: &mut Vec<u8>, color: Color) -> Result<(), AllocError>
+    ensures spelled { OnOk result (out.new.items ≡ out.old.items ++ spell_color color) }
+    ensures fits { OnOk result (FitsColor color) }
+{
+    match color {
+        Color::None => out.push(0)?,
+        Color::Rgb { red, green, blue } => out.extend_from_slice(&[1, red, green, blue])?,
+        Color::Theme(theme) => out.extend_from_slice(&[2, theme_code(theme)])?,
+    }
+    Ok(())
 }
 
 fn state_code(state: SheetState) -> u8
@@ -126,12 +130,7 @@ impl Part for ColorPart {
     ghost reading = { color_at };
 
     fn put(out: &mut Vec<u8>, value: &Color) -> Result<(), AllocError> {
-        match *value {
-            Color::None => out.push(0)?,
-            Color::Rgb { red, green, blue } => out.extend_from_slice(&[1, red, green, blue])?,
-            Color::Theme(theme) => out.extend_from_slice(&[2, theme_code(theme)])?,
-        }
-        Ok(())
+        put_color(out, *value)
     }
 
     fn take<'a>(

@@ -44,11 +44,11 @@ fn place_at(alloc: Global, bytes: &[u8]) -> Result<(Position, &[u8]), EditError>
 }
 
 #[tactic(auto, unfolding(crate::specs::KeyBytes::axis_line_at))]
-fn axis_line_at(alloc: Global, last: i32, bytes: &[u8]) -> Result<(i32, &[u8]), EditError>
-    ensures { Answers (map_ok (λ x. (x.0, x.1.now)) result) (axis_line_at last bytes.now) }
+fn axis_line_at<A: Axis>(alloc: Global, bytes: &[u8]) -> Result<(i32, &[u8]), EditError>
+    ensures { Answers (map_ok (λ x. (x.0, x.1.now)) result) (axis_line_at A.along.last bytes.now) }
 {
     let (line, rest) = read::<i32>(alloc, &(), bytes)?;
-    if !is_line(last, line) {
+    if !is_line(A::LAST, line) {
         return Err(EditError::ParseDiffs);
     }
     Ok((line, rest))
@@ -127,7 +127,7 @@ impl<A: Axis> Part for AxisLinePart<A> {
         _context: &(),
         bytes: &'a [u8],
     ) -> Result<(i32, &'a [u8]), EditError> {
-        axis_line_at(alloc, A::LAST, bytes)
+        axis_line_at::<A>(alloc, bytes)
     }
 
     ghost format = { axis_line_format A.along.last A.lawful.last_high };

@@ -6,3 +6,4 @@ pub mod Escapes
 pub mod Unsupported
 pub mod Commands
 pub mod CommandFits
+pub mod laws

@@ -1,6 +1,6 @@
 use base_axis::MergedCell;
 use base_styles::Color;
-use base_values::Text;
+use base_values::{Exact, Text};
 
 /// A cell that a line names.
 #[derive(Clone, Copy, Debug, PartialEq, Eq)]
@@ -11,12 +11,30 @@ pub struct NamedCell {
     pub column: i32,
 }
 
+impl Exact for NamedCell {
+    ghost use Rattle.std.proofs.Common.{rules};
+    ghost use Rattle.script_lines.specs.laws.NamedEquals.{named_cell_equals};
+
+    ghost copies = { λ a b h. Prim.search rules };
+
+    ghost equals = { named_cell_equals };
+}
+
 /// A rectangle of cells that a line names.
 #[derive(Clone, Copy, Debug, PartialEq, Eq)]
 pub struct NamedArea {
     /// The index of its sheet.
     pub sheet: u32,
     pub area: MergedCell,
+}
+
+impl Exact for NamedArea {
+    ghost use Rattle.std.proofs.Common.{rules};
+    ghost use Rattle.script_lines.specs.laws.NamedEquals.{named_area_equals};
+
+    ghost copies = { λ a b h. Prim.search rules };
+
+    ghost equals = { named_area_equals };
 }
 
 /// Rows or columns that a line names.
@@ -28,6 +46,15 @@ pub struct NamedLines {
     pub first: i32,
     /// How many they are.
     pub count: i32,
+}
+
+impl Exact for NamedLines {
+    ghost use Rattle.std.proofs.Common.{rules};
+    ghost use Rattle.script_lines.specs.laws.NamedEquals.{named_lines_equals};
+
+    ghost copies = { λ a b h. Prim.search rules };
+
+    ghost equals = { named_lines_equals };
 }
 
 /// Rows or columns that a line names, and by how many they are to move.
@@ -43,6 +70,15 @@ pub struct NamedMove {
     pub delta: i32,
 }
 
+impl Exact for NamedMove {
+    ghost use Rattle.std.proofs.Common.{rules};
+    ghost use Rattle.script_lines.specs.laws.NamedEquals.{named_move_equals};
+
+    ghost copies = { λ a b h. Prim.search rules };
+
+    ghost equals = { named_move_equals };
+}
+
 /// A sheet that a line names, and where it is to go.
 #[derive(Clone, Copy, Debug, PartialEq, Eq)]
 pub struct NamedSheetMove {
@@ -50,6 +86,15 @@ pub struct NamedSheetMove {
     pub from: u32,
     /// The index that it is to have.
     pub to: u32,
+}
+
+impl Exact for NamedSheetMove {
+    ghost use Rattle.std.proofs.Common.{rules};
+    ghost use Rattle.script_lines.specs.laws.NamedEquals.{named_sheet_move_equals};
+
+    ghost copies = { λ a b h. Prim.search rules };
+
+    ghost equals = { named_sheet_move_equals };
 }
 
 /// The colour that a line names for a sheet.
@@ -60,12 +105,30 @@ pub struct NamedColor {
     pub color: Color,
 }
 
+impl Exact for NamedColor {
+    ghost use Rattle.std.proofs.Common.{rules};
+    ghost use Rattle.script_lines.specs.laws.NamedEquals.{named_color_equals};
+
+    ghost copies = { λ a b h. Prim.search rules };
+
+    ghost equals = { named_color_equals };
+}
+
 /// Whether the grid lines of a sheet that a line names are to be drawn.
 #[derive(Clone, Copy, Debug, PartialEq, Eq)]
 pub struct NamedGrid {
     /// The index of the sheet.
     pub sheet: u32,
     pub show: bool,
+}
+
+impl Exact for NamedGrid {
+    ghost use Rattle.std.proofs.Common.{rules};
+    ghost use Rattle.script_lines.specs.laws.NamedEquals.{named_grid_equals};
+
+    ghost copies = { λ a b h. Prim.search rules };
+
+    ghost equals = { named_grid_equals };
 }
 
 /// What a line of a script asks for. Rows, columns and counts are those that the line names, and may lie

@@ -42,10 +42,22 @@ fn copy_names(rt: HostRuntime) -> Result<(), Fail> {
         (["Sheet1", "Data"], "Sheet1 (2)"),
         (["Sheet1", "sheet1 (2)"], "Sheet1 (3)"),
         (["Sheet1 (2)", "Sheet1"], "Sheet1 (2) (2)"),
-        (["abcdefghijklmnopqrstuvwxyz12345", "Data"], "abcdefghijklmnopqrstuvwxyz1 (2)"),
-        (["abcdefghijklmnopqrstuvwxyz1", "Data"], "abcdefghijklmnopqrstuvwxyz1 (2)"),
-        (["abcdefghijklmnopqrstuvwxyz1é", "Data"], "abcdefghijklmnopqrstuvwxyz1 (2)"),
-        (["ééééééééééééééééééééééééééééééé", "Data"], "ééééééééééééééééééééééééééé (2)"),
+        (
+            ["abcdefghijklmnopqrstuvwxyz12345", "Data"],
+            "abcdefghijklmnopqrstuvwxyz1 (2)",
+        ),
+        (
+            ["abcdefghijklmnopqrstuvwxyz1", "Data"],
+            "abcdefghijklmnopqrstuvwxyz1 (2)",
+        ),
+        (
+            ["abcdefghijklmnopqrstuvwxyz1é", "Data"],
+            "abcdefghijklmnopqrstuvwxyz1 (2)",
+        ),
+        (
+            ["ééééééééééééééééééééééééééééééé", "Data"],
+            "ééééééééééééééééééééééééééé (2)",
+        ),
     ] {
         let sheets = named(alloc, &names)?;
         let name = copy_name(alloc, sheets.as_slice(), names[0])?;

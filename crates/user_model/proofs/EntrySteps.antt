@@ -1,6 +1,6 @@
 -- An edit whose plan has its record is a sound step.
 use Rattle.std.proofs.Common.{◌≡◌, ℕ, true, false, List, Result, Ok, Err, refl, sym, subst, ◌∙◌}
-use Rattle.std.specs.Prelude.{IfOk, IsOkAnd, IsTrue}
+use Rattle.std.specs.Prelude.{IfOk, IsOk, IsOkAnd, IsTrue}
 use Rattle.base_values.specs.declared.EditError.{EditError}
 use Rattle.sheet_grid.specs.Book.{Book}
 use Rattle.sheet_rules.specs.WellFormed.{IsWellFormed}
@@ -76,7 +76,7 @@ module _ (edit : Edit) (is : IsTrue (is_of_entries edit)) (doc : Document) (rule
   step_by list (Err error) plan = absurd plan
 
   -- it is one of a sound step
-  pub entries_plan : (plan : Result (List Diff) EditError) (selected : ℕ) → selected_by edit doc.book doc.view.sheet ≡ selected → Plans plan doc.book (changed edit doc.book) → IsPlanOf edit plan selected doc
+  pub entries_plan : (plan : Result (List Diff) EditError) (selected : ℕ) → (IsOk (changed edit doc.book) → selected_by edit doc.book doc.view.sheet ≡ selected) → Plans plan doc.book (changed edit doc.book) → IsPlanOf edit plan selected doc
   entries_plan plan selected selects plans = record {
     loud = (of_entries edit is).loud doc.book;
     selects = selects;

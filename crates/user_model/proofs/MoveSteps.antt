@@ -42,7 +42,7 @@ far_refused a axis first count delta sheet far =
     ap (λ b. cond (not b) (Some TargetOutOfBounds) (cond (splits_array a (Move first count delta) sheet) (Some SplitsArray) (cond (splits_merge a (Move first count delta) sheet) (Some SplitsMerge) None)))
     (far_invalid a.last first count delta axis.last_high far)
 
--- a sheet that is not there is no want of memory
+-- a sheet that is not there does not come from lack of memory
 pub never_short : (w : Book) (index : ℕ) (error : EditError) → sheet_at w index ≡ Err error → error ≡ NoMemory → ⊥
 never_short w index error at short = go (slice_get w.worksheets index) at
   where

@@ -1,11 +1,14 @@
 -- What is said of documents holds of the states that they stand for.
-use Rattle.std.proofs.Common.{◌≡◌, ◌≢◌, ℕ, ℤ, Bool, true, false, cond, List, [], Result, Ok, Err, refl, ap, sym, subst, ◌∙◌}
+use Rattle.std.proofs.Common.{◌≡◌, ◌≢◌, ◌<◌, length, ℕ, ℤ, Bool, true, false, cond, List, [], Result, Ok, Err, refl, ap, sym, subst, ◌∙◌}
 use Rattle.std.specs.Prelude.{OnOk, OnErr, IfErr, IfSome, IsOk, IsOkAnd, IsTrue}
 use Rattle.std.proofs.Common.{Option, Some, None}
+use Rattle.std.specs.Prelude.{slice_get}
+use Rattle.std.proofs.lemmas.Option.{slice_get_within}
 use Rattle.base_values.specs.declared.EditError.{EditError}
-use Rattle.base_values.specs.declared.EditError.TheVariants.{InvalidArea, NoMemory}
-use Rattle.base_values.specs.Answers.{Edits, Changes, map_ok}
-use Rattle.sheet_grid.specs.Book.{Book}
+use Rattle.base_values.specs.declared.EditError.TheVariants.{InvalidArea, InvalidSheet, NoMemory}
+use Rattle.base_values.specs.Answers.{Edits, Changes, and_then, map_ok, ok_or}
+use Rattle.sheet_grid.specs.Sheet.{Sheet}
+use Rattle.sheet_grid.specs.Book.{Book, sheet_at}
 use Rattle.sheet_rules.specs.WellFormed.{IsWellFormed}
 use Rattle.sheet_history.specs.declared.QueueDiffs.{QueueDiffs}
 use Rattle.sheet_history.specs.Diffs.{replayed}
@@ -14,8 +17,11 @@ use Rattle.sheet_views.specs.declared.View.{View}
 use Rattle.sheet_views.specs.Views.{is_range, range_chosen}
 use Rattle.edit_plans.specs.Edits.{Edit, changed, is_of_entries, is_of_sheets, is_silent}
 use Rattle.edit_plans.specs.Plans.{Plans, PlansSheets}
+use Rattle.edit_plans.specs.Edits.Edit.{DeleteSheet, SetField}
+use Rattle.edit_plans.specs.SheetEdits.{field_set, sheet_deleted}
 use Rattle.edit_plans.specs.ViewSteps.{selected_by}
 use Rattle.sheet_history.specs.declared.Diff.{Diff}
+use Rattle.sheet_history.specs.declared.SheetField.{SheetField}
 use Rattle.user_model.specs.declared.open_book.OpenBook.{OpenBook}
 use Rattle.user_model.specs.declared.recalc.Results.{Results}
 use Rattle.user_model.specs.Document.{Document, document, document_edit, document_undo, document_redo, document_received}
@@ -27,7 +33,7 @@ use Rattle.user_model.specs.Values.{Session, seeing}
 use Rattle.user_model.proofs.Documents.{document_edited, document_undone, document_redone, document_taken}
 use Rattle.user_model.proofs.EntrySteps.{entries_plan}
 use Rattle.user_model.proofs.SheetSteps.{SheetLaw, sheets_plan}
-use Rattle.user_model.proofs.Sounds.{sound_edit, sound_undo, sound_redo, sound_seen, sound_sync, sound_received}
+use Rattle.user_model.proofs.Sounds.{leads_on, sound_edit, sound_undo, sound_redo, sound_seen, sound_sync, sound_received}
 
 -- ---- results
 
@@ -166,7 +172,7 @@ synced_document doc new s is same = record {
 }
 
 pub flushed_carries : (doc : Document) (s : State) (bytes : List ℕ) → StandsFor doc s → bytes ≡ spell_queue doc.queue → IfSome s.synced (λ book. Carries s.sent bytes book s.present)
-flushed_carries doc s bytes stands is = go s.synced stands.sound.replays
+flushed_carries doc s bytes stands is = go s.synced (leads_on s stands.sound.carries)
   where
     spelled : bytes ≡ spell_queue s.sent
     spelled = is ∙ ap (λ (d : Document). spell_queue d.queue) stands.document
@@ -180,7 +186,7 @@ flushed_fits doc s stands fits = subst (λ (d : Document). FitsQueue d.queue) st
 
 -- a plan of the workbook inside is one of the document that callers see
 module _ (edit : Edit) (plan : Result (List Diff) EditError) (selected : ℕ) (book : OpenBook) (results : Results) (seen : Session) (same : session_of book results ≡ seen)
-    (reached : IsReached (document_in book)) (selects : selected_by edit book.workbook book.view.sheet ≡ selected) where
+    (reached : IsReached (document_in book)) (selects : IsOk (changed edit book.workbook) → selected_by edit book.workbook book.view.sheet ≡ selected) where
   pub plan_of : IsTrue (is_of_entries edit) → Plans plan book.workbook (changed edit book.workbook) → IsPlanOf edit plan selected seen.document
   plan_of is plans =
       subst (λ (session : Session). IsPlanOf edit plan selected session.document) same (entries_plan edit is (document_in book) (reached_rules (document_in book) reached) plan selected selects plans)
@@ -189,6 +195,22 @@ module _ (edit : Edit) (plan : Result (List Diff) EditError) (selected : ℕ) (b
   sheet_plan_of law is loud plans =
       subst (λ (session : Session). IsPlanOf edit plan selected session.document) same
       (sheets_plan law edit is (document_in book) (reached_rules (document_in book) reached) plan selected loud selects plans)
+
+-- the sheet at the index of an edit that is accepted is there
+edit_there : (index : ℕ) (w : Book) (f : Sheet → Result Book EditError) → IsOk (and_then (sheet_at w index) f) → index < length w.worksheets
+edit_there index w f is = go (slice_get w.worksheets index) refl is
+  where
+    go : (o : Option Sheet) → slice_get w.worksheets index ≡ o → IsOk (and_then (ok_or InvalidSheet o) f) → index < length w.worksheets
+    go (Some sheet) found ok = slice_get_within w.worksheets index sheet found
+    go None found ok = absurd (let never : false ≡ true = ok in cc)
+
+pub deletion_there : (index : ℕ) (w : Book) → IsOk (changed (DeleteSheet index) w) → index < length w.worksheets
+unfolding sheet_deleted
+deletion_there index w is = edit_there index w _ is
+
+pub field_there : (index : ℕ) (value : SheetField) (w : Book) → IsOk (changed (SetField index value) w) → index < length w.worksheets
+unfolding field_set
+field_there index value w is = edit_there index w _ is
 
 -- ---- views
 

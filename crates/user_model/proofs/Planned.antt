@@ -57,8 +57,11 @@ module _ (edit : Edit) (doc : Document) where
       pub plan_works : IsOk (forwarded doc.book list)
       plan_works = works_by list (changed edit doc.book) it.planned
 
+      changes : IsOk (changed edit doc.book)
+      changes = ok_by list (changed edit doc.book) it.planned
+
       recorded_by : (r : Result Book EditError) → IsOkAnd r (IsStepBy edit doc.book list) → list_recorded list selected doc ≡ after_edit r
-      recorded_by (Ok later) by = ap (map_ok (recorded list selected doc)) (leads list later by) ∙ (λ i. Ok (recorded (by.recorded i) (sym it.selects i) doc later))
+      recorded_by (Ok later) by = ap (map_ok (recorded list selected doc)) (leads list later by) ∙ (λ i. Ok (recorded (by.recorded i) (sym (it.selects changes) i) doc later))
       recorded_by (Err error) by = absurd by
 
       -- to make the list and to record it is the edit
@@ -66,7 +69,7 @@ module _ (edit : Edit) (doc : Document) where
       plan_document = recorded_by (changed edit doc.book) it.planned ∙ heard it.loud (changed edit doc.book)
 
       pub plan_accepted : IsOk (document_edit edit doc)
-      plan_accepted = accepted it.loud (ok_by list (changed edit doc.book) it.planned)
+      plan_accepted = accepted it.loud changes
 
       pub plan_sound : IsSoundChange edit doc.book
       plan_sound loud later how = let by : IsStepBy edit doc.book list later = subst (λ r. IsOkAnd r (IsStepBy edit doc.book list)) how it.planned in by.step

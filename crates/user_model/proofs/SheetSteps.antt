@@ -1,6 +1,6 @@
 -- An edit of the list of the sheets is a sound step, and its record is its one diff.
 use Rattle.std.proofs.Common.{◌≡◌, ◌⊎◌, inl, inr, ◌<◌, ◌≤◌, ℕ, true, false, cond, List, length, Option, Some, None, Result, Ok, Err, refl, ap, sym, subst, ◌∙◌}
-use Rattle.std.specs.Prelude.{◌&&◌, nat_lt, get_or, slice_get, IfOk, IsOkAnd, IsTrue}
+use Rattle.std.specs.Prelude.{◌&&◌, nat_lt, get_or, slice_get, IfOk, IsOk, IsOkAnd, IsTrue}
 use Rattle.std.proofs.lemmas.Bool.{le-ltb}
 use Rattle.std.proofs.lemmas.Option.{slice_get_cases}
 use Rattle.base_values.specs.declared.EditError.{EditError}
@@ -137,7 +137,7 @@ module _ (law : SheetLaw) (edit : Edit) (is : IsTrue (is_of_sheets edit)) where
     made_by list (Err error) how plan = absurd plan
 
     -- the plan of such an edit is one of a sound step
-    pub sheets_plan : (plan : Result (List Diff) EditError) (selected : ℕ) → is_silent edit doc.book ≡ false → selected_by edit doc.book doc.view.sheet ≡ selected → PlansSheets edit plan doc.book
+    pub sheets_plan : (plan : Result (List Diff) EditError) (selected : ℕ) → is_silent edit doc.book ≡ false → (IsOk (changed edit doc.book) → selected_by edit doc.book doc.view.sheet ≡ selected) → PlansSheets edit plan doc.book
         → IsPlanOf edit plan selected doc
     sheets_plan plan selected loud selects plans = record { loud = loud; selects = selects; planned = planned_by plan plans.planned; refused = plans.refused; memory = plans.memory }
       where

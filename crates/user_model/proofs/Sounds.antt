@@ -14,16 +14,16 @@ use Rattle.sheet_history.specs.declared.QueueDiffs.{QueueDiffs}
 use Rattle.sheet_history.specs.Diffs.{forwarded, backed, follow, in_entry, replayed}
 use Rattle.sheet_history.specs.laws.ReplayLaws.{replayed_from-push}
 use Rattle.sheet_history.specs.laws.TestedLaws.{tested_rules, entry_rules}
-use Rattle.sheet_wire.specs.QueueBytes.{IsKnownEntry}
+use Rattle.sheet_wire.specs.QueueBytes.{IsKnownEntry, spell_queue}
 use Rattle.sheet_views.specs.declared.View.{View}
 use Rattle.edit_plans.specs.Edits.{Edit, changed, is_silent}
 use Rattle.edit_plans.specs.ViewSteps.{view_after}
-use Rattle.user_model.specs.Machine.{Step, State, step_record, begun, undo_list, redo_list, entry, moved, edited, edit_of, undo_stale, undo_from, undo_of, redo_stale, redo_from, redo_of, seen_along, synced_of, outside, received}
-use Rattle.user_model.specs.Sound.{IsSoundChange, IsSoundStep, Leads, Follows, IsSound}
+use Rattle.user_model.specs.Machine.{Step, State, step_record, begun, undo_list, redo_list, entry, moved, edited, edit_of, undo_stale, undo_from, undo_of, redo_stale, redo_from, redo_of, seen_along, synced_of, outside, received, sync_bytes}
+use Rattle.user_model.specs.Sound.{IsSoundChange, IsSoundStep, Leads, Follows, Carries, CarriesOn, IsSound}
 use Rattle.user_model.specs.Spellable.{AreSpellable}
 
 pub sound_begun : (language : Language) (book : Book) → IsWellFormed book → IsSound (begun language book)
-sound_begun language book rules = record { present = rules; past = tt; undone = tt; replays = refl; spellable = tt; stale_undo = tt; stale_redo = tt }
+sound_begun language book rules = record { present = rules; past = tt; undone = tt; carries = record { spelled = refl; led = refl }; spellable = tt; stale_undo = tt; stale_redo = tt }
 
 -- ---- lists of records
 
@@ -54,6 +54,20 @@ replays_more (Some book) sent present later kind list led is =
     ∙ ap (λ r. and_then r (λ next. in_entry (0 + length sent) (follow kind next list))) led
     ∙ ap (in_entry (0 + length sent)) is
 
+-- what was sent leads on where its bytes carry on
+pub leads_on : (s : State) → CarriesOn (sync_bytes s) s → IfSome s.synced (λ book. replayed book s.sent ≡ Ok s.present)
+leads_on s carries = go s.synced carries
+  where
+    go : (synced : Option Book) → IfSome synced (λ book. Carries s.sent (sync_bytes s) book s.present) → IfSome synced (λ book. replayed book s.sent ≡ Ok s.present)
+    go None is = tt
+    go (Some book) is = is.led
+
+-- and its bytes carry on where it leads on
+carries_on : (synced : Option Book) (sent : List QueueDiffs) (present : Book)
+    → IfSome synced (λ book. replayed book sent ≡ Ok present) → IfSome synced (λ book. Carries sent (spell_queue sent) book present)
+carries_on None sent present led = tt
+carries_on (Some book) sent present led = record { spelled = refl; led = led }
+
 module _ (s : State) (sound : IsSound s) where
   pub undo_spellable : AllByRecursion AreSpellable (undo_list s)
   undo_spellable = all_append AreSpellable (map step_record s.past) s.stale_undo (past_spellable s.past s.present sound.past) sound.stale_undo
@@ -69,7 +83,7 @@ module _ (s : State) (sound : IsSound s) where
     present = rules;
     past = leads;
     undone = follows;
-    replays = replays_more s.synced s.sent s.present later kind list sound.replays is;
+    carries = carries_on s.synced (s.sent ++ entry kind list ∷ []) later (replays_more s.synced s.sent s.present later kind list (leads_on s sound.carries) is);
     spellable = all_push IsKnownEntry s.sent (entry kind list) sound.spellable spellable;
     stale_undo = one;
     stale_redo = two;
@@ -155,14 +169,14 @@ module _ (s : State) (sound : IsSound s) where
     present = sound.present;
     past = sound.past;
     undone = sound.undone;
-    replays = sound.replays;
+    carries = sound.carries;
     spellable = sound.spellable;
     stale_undo = sound.stale_undo;
     stale_redo = sound.stale_redo;
   }
 
   pub sound_sync : IsSound (synced_of s)
-  sound_sync = record { present = sound.present; past = sound.past; undone = sound.undone; replays = refl; spellable = tt; stale_undo = sound.stale_undo; stale_redo = sound.stale_redo }
+  sound_sync = record { present = sound.present; past = sound.past; undone = sound.undone; carries = record { spelled = refl; led = refl }; spellable = tt; stale_undo = sound.stale_undo; stale_redo = sound.stale_redo }
 
   pub sound_received : (at : ℕ) (one : QueueDiffs) (next : State) → received at one s ≡ Ok next → IsSound next
   sound_received at one next is = go (in_entry at (follow one.kind s.present one.list)) refl is
@@ -174,7 +188,7 @@ module _ (s : State) (sound : IsSound s) where
             present = entry_rules at one.kind s.present one.list later how;
             past = tt;
             undone = tt;
-            replays = tt;
+            carries = tt;
             spellable = sound.spellable;
             stale_undo = undo_spellable;
             stale_redo = redo_spellable;

@@ -15,3 +15,4 @@ pub mod Places
 pub mod Reading
 pub mod Typing
 pub mod Structure
+pub mod laws

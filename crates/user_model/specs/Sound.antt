@@ -21,7 +21,7 @@ use Rattle.user_model.specs.Spellable.{AreSpellable}
 use Rattle.edit_plans.specs.Edits.{Edit, changed, grown_move, is_silent}
 use Rattle.edit_plans.specs.Edits.Edit.{Lines, MoveLines, AddSheet, CopySheet, DeleteSheet, MoveSheet}
 use Rattle.edit_plans.specs.SheetEdits.{new_diff, copy_diff, deletion_diff, move_diff}
-use Rattle.user_model.specs.Machine.{Step, State, step_record}
+use Rattle.user_model.specs.Machine.{Step, State, step_record, sync_bytes}
 
 -- every sheet follows an edit of lines of the sheet at an index, and a list has that edit, with what taking it back does not give
 pub record IsLinesRecord (index : ℕ) (axis : LineAxis) (kind : Sheet → EditKind) (earlier later : Book) (list : List Diff) : Type 0 where
@@ -86,13 +86,13 @@ WhereSpelled bytes Said = (entries : List QueueDiffs) → FitsQueue entries → 
 abbrev pub WhereCarried : List ℕ → Book → (Book → Type 0) → Type 0
 WhereCarried bytes earlier Said = (entries : List QueueDiffs) (later : Book) → FitsQueue entries → Carries entries bytes earlier later → Said later
 
--- the present workbook is well-formed, the steps that can be undone lead to it and those that were undone lead on from it, and what was
--- sent since the last sync, where that is known, carries the workbook of that sync to it; each list that is kept can be spelled
+-- the present workbook is well-formed, the steps that can be undone lead to it and those that were undone lead on from it, and the bytes
+-- of a sync carry the workbook of the last one, where that is known, to it; each list that is kept can be spelled
 pub record IsSound (s : State) : Type 0 where
   pub present : IsWellFormed s.present
   pub past : Leads s.past s.present
   pub undone : Follows s.undone s.present
-  pub replays : IfSome s.synced (λ book. replayed book s.sent ≡ Ok s.present)
+  pub carries : CarriesOn (sync_bytes s) s
   pub spellable : IsKnownQueue s.sent
   pub stale_undo : AllByRecursion AreSpellable s.stale_undo
   pub stale_redo : AllByRecursion AreSpellable s.stale_redo

@@ -44,7 +44,7 @@ pub record Turns {T : Type 0} (result : Result T EditError) (new : Document) (ex
   pub refused : IfErr result (λ error. error ≢ NoMemory → expected ≡ Err error)
 
 -- what a call answers of the entries of another copy's queue, and where it leaves the model: the entries before a refused one stand, and
--- after want of memory some first ones do
+-- out of memory, some first ones do
 abbrev pub Leaves : Result (Unit {0}) EditError → Document → List QueueDiffs → State → Type 0
 Leaves (Err NoMemory) new entries s = (count : ℕ) × StandsFor new (applied (take count entries) s).0
 Leaves result new entries s = ((applied entries s).1 ≡ result) × StandsFor new (applied entries s).0
@@ -62,11 +62,11 @@ pub record IsStepBy (edit : Edit) (earlier : Book) (list : List Diff) (later : B
   pub step : IsSoundStep (record { edit = edit; before = earlier; after = later })
   pub kept : IsKeptList list
 
--- a result is that of the plan of an edit that does something and selects the sheet at an index: it has the record of the edit's change,
--- or refuses it
+-- a result is that of the plan of an edit that does something and, where it is accepted, selects the sheet at an index: it has the record
+-- of the edit's change, or refuses it
 pub record IsPlanOf (edit : Edit) (plan : Result (List Diff) EditError) (selected : ℕ) (doc : Document) : Type 0 where
   pub loud : is_silent edit doc.book ≡ false
-  pub selects : selected_by edit doc.book doc.view.sheet ≡ selected
+  pub selects : IsOk (changed edit doc.book) → selected_by edit doc.book doc.view.sheet ≡ selected
   pub planned : IfOk plan (λ list. IsOkAnd (changed edit doc.book) (IsStepBy edit doc.book list))
   pub refused : IfErr plan (λ error. error ≢ NoMemory → changed edit doc.book ≡ Err error)
   pub memory : IfErr plan (λ error. error ≡ NoMemory → IsOk (changed edit doc.book))

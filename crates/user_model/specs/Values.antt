@@ -39,7 +39,7 @@ is_none_left (x ∷ xs) = false
 abbrev pub MakesAfter : ℕ → List QueueDiffs → (Book → Values → Type 0) → Session → Session → Type 0
 MakesAfter count entries Fits old new = Makes (is_none_left (take count entries)) Fits old new
 
--- the values after the entries of another copy's queue. After a refused entry they are as after those before it, and after want of memory as
+-- the values after the entries of another copy's queue. After a refused entry they are as after those before it, and out of memory as
 -- after some first ones
 abbrev pub LeavesMade : Result (Unit {0}) EditError → List QueueDiffs → (Book → Values → Type 0) → Session → Session → Type 0
 LeavesMade (Ok done) entries Fits old new = Makes (is_none_left entries) Fits old new

@@ -112,7 +112,7 @@ fn install_on_copy<R: Recalc>(
     Ok(())
 }
 
-/// Follows a list in the workbook itself, and then makes its values, which must not want memory. An
+/// Follows a list in the workbook itself, and then makes its values, which must not be out of memory. An
 /// error changes nothing.
 fn install_in_place<R: Recalc>(
     alloc: Global,

@@ -46,7 +46,8 @@ fn list_properties(alloc: Global, sheets: &[Worksheet]) -> Result<Items<SheetPro
 {
     let mut list = Items::empty(alloc);
     for sheet in sheets {
-        list.push(properties_of(sheet)?)?;
+        let properties = properties_of(sheet)?;
+        list.push(properties)?;
     }
     Ok(list)
 }

@@ -1,7 +1,8 @@
 -- The laws of the bytes of keys that lie inside the sheet, and of maps from them.
-use Rattle.std.proofs.Common.{◌≡◌, ℕ, ◌≤◌, ℤ, pos, ◌≤ℤ◌, ◌&&◌, Bool, true, List, length, refl, arith, rules}
-use Rattle.std.specs.Prelude.{int_le, FitsSigned}
+use Rattle.std.proofs.Common.{◌≡◌, ℕ, ℤ, pos, negsuc, ◌≤ℤ◌, true, List, refl, arith, rules}
+use Rattle.std.specs.Prelude.{FitsSigned}
 use Rattle.std.proofs.lemmas.Bool.{and_parts, and_from}
+use Rattle.std.proofs.lemmas.Int.{ints}
 use Rattle.std.proofs.lemmas.Map.Lookups.{exact_signed}
 use Rattle.std.specs.Cmp.{int_cmp_total}
 use Rattle.std.specs.Int.{w32}
@@ -38,7 +39,8 @@ pub line_inside : (last line : ℤ) → is_line last line ≡ true → IsLine la
 line_inside last line passes = grind (arith, passes)
 
 line_fits : (last line : ℤ) → last ≤ℤ pos 1048576 → IsLine last line → FitsSigned w32 line
-line_fits last line high inside = record { sfits = omega (arith, high, inside) }
+line_fits last (pos n) high inside = record { sfits = omega (arith, ints) }
+line_fits last (negsuc n) high inside = absurd (omega (arith, ints))
 
 pub axis_line_format : (last : ℤ) → last ≤ℤ pos 1048576 → Format (IsLine last) (spell_signed w32) (axis_line_at last)
 unfolding axis_line_at

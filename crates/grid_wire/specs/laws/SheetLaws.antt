@@ -15,7 +15,7 @@ use Rattle.cell_wire.specs.LinkBytes.{spell_link, FitsLink}
 use Rattle.cell_wire.specs.laws.Formats.{cell_format}
 use Rattle.cell_wire.specs.laws.MergeLaws.{link_format, merges_format}
 use Rattle.grid_wire.specs.LineBytes.{spell_line, FitsLine}
-use Rattle.grid_wire.specs.SheetBytes.{spell_fields, Fields, bare_sheet, fields_of, bared, fields_at, FitsFields, rows_at, columns_at, cells_at, links_at, spell_entries, spell_sheet, sheet_made, sheet_at, FitsSheet}
+use Rattle.grid_wire.specs.SheetBytes.{spell_fields, bare_sheet, fields_of, bared, fields_at, FitsFields, rows_at, columns_at, cells_at, links_at, spell_entries, spell_sheet, sheet_made, sheet_at, FitsSheet}
 use Rattle.grid_wire.specs.laws.ColorLaws.{color_format, state_format}
 use Rattle.grid_wire.specs.laws.KeyLaws.{axis_map_format, place_map_format}
 use Rattle.grid_wire.specs.laws.LineLaws.{line_format}

@@ -5,7 +5,7 @@ ghost use Rattle.base_values.specs.Answers.{Returns};
 ghost use Rattle.sheet_grid.specs.declared.SheetState.TheVariants.{Visible, Hidden};
 ghost use Rattle.sheet_history.specs.declared.SheetField.TheVariants as field;
 ghost use Rattle.edit_plans.specs.Edits.{is_silent};
-ghost use Rattle.edit_plans.specs.Edits.Edit as edit;
+ghost use Rattle.edit_plans.specs.Edits.Edit.{AddSheet, CopySheet, DeleteSheet, MoveSheet, SetField};
 ghost use Rattle.edit_plans.specs.SheetEdits.{stays_there};
 ghost use Rattle.user_model.specs.Machine.{edit_of};
 ghost use Rattle.user_model.specs.Properties.{all_properties, draws_grid_lines};
@@ -15,16 +15,15 @@ ghost use Rattle.user_model.specs.Values.{IsMade, Makes};
 use super::UserModel;
 use crate::properties::{SheetProperties, all_properties, draws_grid_lines};
 use crate::recalc::Recalc;
+use crate::view_steps::{selected_after_deletion, selected_after_field};
 use base_styles::Color;
 use base_values::{EditError, Items};
 use edit_plans::{
     plan_copied_sheet, plan_deleted_sheet, plan_field, plan_moved_sheet, plan_new_sheet,
-    selected_by_copy, selected_by_deletion, selected_by_field, selected_by_new,
-    sheet_edits_go_both_ways,
+    selected_by_copy, selected_by_move, selected_by_new, sheet_edits_go_both_ways,
 };
 use sheet_grid::{SheetState, Workbook};
 use sheet_history::SheetField;
-use sheet_views::selected_sheet_after_move;
 
 /// Whether a sheet that is there is to go to its own index.
 fn stays_there(workbook: &Workbook, from: u32, to: u32) -> bool
@@ -45,7 +44,7 @@ impl<R: Recalc + Drop> UserModel<R> {
     /// model.new_sheet()?;
     /// ```
     pub fn new_sheet(&mut self) -> Result<(), EditError>
-        ensures next { Steps result self.old.document self.new.document (edit_of edit.AddSheet) }
+        ensures next { Steps result self.old.document self.new.document (edit_of AddSheet) }
         ensures made { OnOk result (IsMade R.Fits self.new) }
         ensures err { OnErr result (self.new ≡ self.old) }
         ensures paused { self.new.paused ≡ self.old.paused }
@@ -53,7 +52,7 @@ impl<R: Recalc + Drop> UserModel<R> {
         // For the proof alone.
         sheet_edits_go_both_ways();
         let book = &self.book;
-        let selected = selected_by_new(&book.workbook);
+        let selected = selected_by_new(&book.workbook, book.view.sheet);
         let plan = plan_new_sheet(book.alloc, &book.workbook);
         self.make(plan, selected)
     }
@@ -71,7 +70,7 @@ impl<R: Recalc + Drop> UserModel<R> {
     /// model.duplicate_sheet(0)?; // the copy is at index 1
     /// ```
     pub fn duplicate_sheet(&mut self, sheet: u32) -> Result<(), EditError>
-        ensures next { Steps result self.old.document self.new.document (edit_of (edit.CopySheet sheet)) }
+        ensures next { Steps result self.old.document self.new.document (edit_of (CopySheet sheet)) }
         ensures made { OnOk result (IsMade R.Fits self.new) }
         ensures err { OnErr result (self.new ≡ self.old) }
         ensures paused { self.new.paused ≡ self.old.paused }
@@ -79,7 +78,7 @@ impl<R: Recalc + Drop> UserModel<R> {
         // For the proof alone.
         sheet_edits_go_both_ways();
         let book = &self.book;
-        let selected = selected_by_copy(sheet);
+        let selected = selected_by_copy(&book.workbook, sheet, book.view.sheet);
         let plan = plan_copied_sheet(book.alloc, &book.workbook, sheet);
         self.make(plan, selected)
     }
@@ -95,7 +94,7 @@ impl<R: Recalc + Drop> UserModel<R> {
     /// model.delete_sheet(1)?;
     /// ```
     pub fn delete_sheet(&mut self, sheet: u32) -> Result<(), EditError>
-        ensures next { Steps result self.old.document self.new.document (edit_of (edit.DeleteSheet sheet)) }
+        ensures next { Steps result self.old.document self.new.document (edit_of (DeleteSheet sheet)) }
         ensures made { OnOk result (IsMade R.Fits self.new) }
         ensures err { OnErr result (self.new ≡ self.old) }
         ensures paused { self.new.paused ≡ self.old.paused }
@@ -103,7 +102,7 @@ impl<R: Recalc + Drop> UserModel<R> {
         // For the proof alone.
         sheet_edits_go_both_ways();
         let book = &self.book;
-        let selected = selected_by_deletion(&book.workbook, sheet, book.view.sheet as usize);
+        let selected = selected_after_deletion(&book.workbook, sheet, book.view.sheet);
         let plan = plan_deleted_sheet(book.alloc, &book.workbook, sheet);
         self.make(plan, selected)
     }
@@ -119,8 +118,8 @@ impl<R: Recalc + Drop> UserModel<R> {
     /// model.move_sheet(0, 2)?; // the first sheet is the third one now
     /// ```
     pub fn move_sheet(&mut self, from: u32, to: u32) -> Result<(), EditError>
-        ensures next { Steps result self.old.document self.new.document (edit_of (edit.MoveSheet from to)) }
-        ensures made { OnOk result (Makes (is_silent (edit.MoveSheet from to) self.old.document.book) R.Fits self.old self.new) }
+        ensures next { Steps result self.old.document self.new.document (edit_of (MoveSheet from to)) }
+        ensures made { OnOk result (Makes (is_silent (MoveSheet from to) self.old.document.book) R.Fits self.old self.new) }
         ensures err { OnErr result (self.new ≡ self.old) }
         ensures paused { self.new.paused ≡ self.old.paused }
     {
@@ -132,8 +131,8 @@ impl<R: Recalc + Drop> UserModel<R> {
 
     /// Takes the sheet at an index to another index, and records the change.
     fn take_sheet(&mut self, from: u32, to: u32) -> Result<(), EditError>
-        requires { is_silent (edit.MoveSheet from to) self.now.document.book ≡ false }
-        ensures next { Steps result self.old.document self.new.document (edit_of (edit.MoveSheet from to)) }
+        requires { is_silent (MoveSheet from to) self.now.document.book ≡ false }
+        ensures next { Steps result self.old.document self.new.document (edit_of (MoveSheet from to)) }
         ensures made { OnOk result (IsMade R.Fits self.new) }
         ensures err { OnErr result (self.new ≡ self.old) }
         ensures paused { self.new.paused ≡ self.old.paused }
@@ -141,20 +140,20 @@ impl<R: Recalc + Drop> UserModel<R> {
         // For the proof alone.
         sheet_edits_go_both_ways();
         let book = &self.book;
-        let selected = selected_sheet_after_move(book.view.sheet, from, to) as usize;
+        let selected = selected_by_move(&book.workbook, from, to, book.view.sheet);
         let plan = plan_moved_sheet(book.alloc, &book.workbook, from, to);
         self.make(plan, selected)
     }
 
     /// Puts a value in a field of the sheet at an index, and records the change.
     fn put_field(&mut self, sheet: u32, value: SheetField) -> Result<(), EditError>
-        ensures next { Steps result self.old.document self.new.document (edit_of (edit.SetField sheet value)) }
+        ensures next { Steps result self.old.document self.new.document (edit_of (SetField sheet value)) }
         ensures made { OnOk result (IsMade R.Fits self.new) }
         ensures err { OnErr result (self.new ≡ self.old) }
         ensures paused { self.new.paused ≡ self.old.paused }
     {
         let book = &self.book;
-        let selected = selected_by_field(&book.workbook, sheet, value, book.view.sheet as usize);
+        let selected = selected_after_field(&book.workbook, sheet, value, book.view.sheet);
         let plan = plan_field(book.alloc, &book.workbook, sheet, value);
         self.make(plan, selected)
     }
@@ -170,7 +169,7 @@ impl<R: Recalc + Drop> UserModel<R> {
     /// model.hide_sheet(0)?;
     /// ```
     pub fn hide_sheet(&mut self, sheet: u32) -> Result<(), EditError>
-        ensures next { Steps result self.old.document self.new.document (edit_of (edit.SetField sheet (field.State Hidden))) }
+        ensures next { Steps result self.old.document self.new.document (edit_of (SetField sheet (field.State Hidden))) }
         ensures made { OnOk result (IsMade R.Fits self.new) }
         ensures err { OnErr result (self.new ≡ self.old) }
         ensures paused { self.new.paused ≡ self.old.paused }
@@ -185,7 +184,7 @@ impl<R: Recalc + Drop> UserModel<R> {
     /// model.unhide_sheet(0)?;
     /// ```
     pub fn unhide_sheet(&mut self, sheet: u32) -> Result<(), EditError>
-        ensures next { Steps result self.old.document self.new.document (edit_of (edit.SetField sheet (field.State Visible))) }
+        ensures next { Steps result self.old.document self.new.document (edit_of (SetField sheet (field.State Visible))) }
         ensures made { OnOk result (IsMade R.Fits self.new) }
         ensures err { OnErr result (self.new ≡ self.old) }
         ensures paused { self.new.paused ≡ self.old.paused }
@@ -200,7 +199,7 @@ impl<R: Recalc + Drop> UserModel<R> {
     /// model.set_sheet_color(0, &Color::Theme(ThemeColor::Accent1))?;
     /// ```
     pub fn set_sheet_color(&mut self, sheet: u32, color: &Color) -> Result<(), EditError>
-        ensures next { Steps result self.old.document self.new.document (edit_of (edit.SetField sheet (field.Color color.now))) }
+        ensures next { Steps result self.old.document self.new.document (edit_of (SetField sheet (field.Color color.now))) }
         ensures made { OnOk result (IsMade R.Fits self.new) }
         ensures err { OnErr result (self.new ≡ self.old) }
         ensures paused { self.new.paused ≡ self.old.paused }
@@ -215,7 +214,7 @@ impl<R: Recalc + Drop> UserModel<R> {
     /// model.set_show_grid_lines(0, false)?;
     /// ```
     pub fn set_show_grid_lines(&mut self, sheet: u32, show: bool) -> Result<(), EditError>
-        ensures next { Steps result self.old.document self.new.document (edit_of (edit.SetField sheet (field.GridLines show))) }
+        ensures next { Steps result self.old.document self.new.document (edit_of (SetField sheet (field.GridLines show))) }
         ensures made { OnOk result (IsMade R.Fits self.new) }
         ensures err { OnErr result (self.new ≡ self.old) }
         ensures paused { self.new.paused ≡ self.old.paused }

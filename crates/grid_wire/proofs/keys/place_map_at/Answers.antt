@@ -8,7 +8,7 @@ use Rattle.grid_wire.specs.KeyBytes.{place_map_at}
 use Rattle.grid_wire.proofs.keys.place_map_at.Goals as goal
 
 pub of_entries-requires : goal.of_entries-requires
-of_entries-requires g c = keys_hold IsPlace g.P.Part.Fits c.in_ok-entries.entries c.in_ok-entries.ensures.fits
+of_entries-requires g c = record { inside = keys_hold IsPlace g.P.Part.Fits c.in_ok-entries.entries c.in_ok-entries.ensures.fits }
 
 pub returns : goal.returns
 unfolding place_map_at

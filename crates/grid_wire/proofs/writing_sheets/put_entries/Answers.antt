@@ -1,8 +1,7 @@
-use Rattle.std.proofs.Common.{ℤ, List, subst}
+use Rattle.std.proofs.Common.{ℤ, subst}
 use Rattle.std.specs.Prelude.{IfSome}
 use Rattle.std.specs.FinMap.{FinMap, get}
 use Rattle.std.specs.Ordering.{int_cmp}
-use Rattle.base_axis.specs.declared.MergedCell.{MergedCell}
 use Rattle.base_values.specs.Places.{IsPlace, IsRow, IsColumn, position_cmp}
 use Rattle.base_values.specs.declared.Position.{Position}
 use Rattle.base_wire.specs.Spelling.{Any}

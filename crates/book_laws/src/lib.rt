@@ -25,7 +25,7 @@ pub fn sheet_diffs_lead_both_ways()
         → LeadsBothWays (copy_forward at source.id id index name) (copy_back at id) w (with_sheet_at index (sheet_as id name source) (names_copied source.id id w.names) w) }
     ensures deletion { (at index : ℕ) (sheet : Sheet) (w : Book) → IsWellFormed w → slice_get w.worksheets index ≡ Some sheet
         → LeadsBothWays (deletion_forward at (kept_of sheet w.names)) (deletion_back at index (kept_of sheet w.names)) w (without_sheet_at index (names_left sheet.id w.names) w) }
-    ensures move { (at from to : ℕ) (sheet : Sheet) (w : Book) → IsWellFormed w → slice_get w.worksheets from ≡ Some sheet → to < length w.worksheets
+    ensures moved { (at from to : ℕ) (sheet : Sheet) (w : Book) → IsWellFormed w → slice_get w.worksheets from ≡ Some sheet → to < length w.worksheets
         → LeadsBothWays (sheet_moves at sheet.id from to) (sheet_moves at sheet.id to from) w (record w { worksheets = sheets_moved w.worksheets from to }) }
 {}
 
@@ -41,5 +41,5 @@ pub fn later_workbooks_are_well_formed()
         → list_any (same_folded name) (names_of w.worksheets) ≡ false → IsWellFormed (with_sheet_at index (sheet_as id name source) (names_copied source.id id w.names) w) }
     ensures deletion { (index : ℕ) (sheet : Sheet) (w : Book) → IsWellFormed w → slice_get w.worksheets index ≡ Some sheet → 1 < length w.worksheets
         → IsWellFormed (without_sheet_at index (names_left sheet.id w.names) w) }
-    ensures move { (from to : ℕ) (w : Book) → IsWellFormed w → IsWellFormed (record w { worksheets = sheets_moved w.worksheets from to }) }
+    ensures moved { (from to : ℕ) (w : Book) → IsWellFormed w → IsWellFormed (record w { worksheets = sheets_moved w.worksheets from to }) }
 {}

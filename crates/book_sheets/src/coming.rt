@@ -1,8 +1,7 @@
 //! Sheets that come. What needs memory is made first, so that a refusal leaves the workbook as it was.
 
-ghost use Rattle.std.specs.Prelude.{◌≡◌, IsTrue, OnErr, OnOk, IsOkUnless};
-ghost use Rattle.base_values.specs.Answers.{Edits};
-ghost use Rattle.base_values.specs.declared.EditError.TheVariants.{NoMemory};
+ghost use Rattle.std.specs.Prelude.{◌≡◌, IsTrue, Ok, OnOk};
+ghost use Rattle.base_values.specs.Answers.{Changes, Edits};
 ghost use Rattle.defined_names.specs.Names.{AreKeptPlaced};
 ghost use Rattle.sheet_lines.specs.Sheets.{IsPlacedBook};
 ghost use Rattle.book_sheets.specs.SheetDiffs.{may_come, with_sheet_at, new_forward, copy_forward, deletion_back};
@@ -30,9 +29,7 @@ fn come(
     names: NameList,
 ) -> Result<(), EditError>
     requires { IsTrue (may_come index sheet.id workbook.old) }
-    ensures ok { OnOk result (workbook.new ≡ with_sheet_at index sheet names workbook.old) }
-    ensures err { OnErr result (workbook.new ≡ workbook.old) }
-    ensures only { IsOkUnless result NoMemory }
+    ensures { Changes result workbook.old workbook.new (Ok (with_sheet_at index sheet names workbook.old)) }
 {
     workbook.insert_worksheet(index, sheet)?;
     workbook.set_name_list(names);

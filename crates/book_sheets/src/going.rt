@@ -1,7 +1,7 @@
 //! Sheets that go. What needs memory is made first, so that a refusal leaves the workbook as it was.
 
-ghost use Rattle.std.specs.Prelude.{◌≡◌, ◌<◌, length, IsOk, OnOk};
-ghost use Rattle.base_values.specs.Answers.{Edits};
+ghost use Rattle.std.specs.Prelude.{◌≡◌, ◌<◌, length, Ok, OnOk};
+ghost use Rattle.base_values.specs.Answers.{Changes, Edits};
 ghost use Rattle.defined_names.specs.Names.{names_left};
 ghost use Rattle.sheet_lines.specs.Sheets.{IsPlacedBook};
 ghost use Rattle.book_sheets.specs.SheetDiffs.{without_sheet_at, sheet_goes, new_back, copy_back, deletion_forward};
@@ -16,8 +16,8 @@ use std::alloc::Global;
 
 /// Takes the sheet at an index away, and puts these names in place of the workbook's.
 fn go(workbook: &mut Workbook, index: u32, names: NameList) -> Result<(), EditError>
-    ensures ok { OnOk result (workbook.new ≡ without_sheet_at index names workbook.old) }
-    ensures sure { index < length workbook.old.worksheets → IsOk result }
+    requires { index < length workbook.old.worksheets }
+    ensures { Changes result workbook.old workbook.new (Ok (without_sheet_at index names workbook.old)) }
 {
     workbook.remove_worksheet(index)?;
     workbook.set_name_list(names);

@@ -18,3 +18,6 @@ pub use index::sheet_index;
 pub use inside::{array_lies_inside, merges_lie_inside};
 pub use kept_sheet::KeptSheet;
 pub use moving::sheet_moves;
+
+#[cfg(test)]
+mod tests;

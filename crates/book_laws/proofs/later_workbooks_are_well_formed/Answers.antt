@@ -10,5 +10,5 @@ returns-clause-copy c = copy_well_formed
 pub returns-clause-deletion : goal.returns-clause-deletion
 returns-clause-deletion c = deletion_well_formed
 
-pub returns-clause-move : goal.returns-clause-move
-returns-clause-move c = move_well_formed
+pub returns-clause-moved : goal.returns-clause-moved
+returns-clause-moved c = move_well_formed

@@ -10,5 +10,5 @@ returns-clause-copy c = copy_both_ways
 pub returns-clause-deletion : goal.returns-clause-deletion
 returns-clause-deletion c = deletion_both_ways
 
-pub returns-clause-move : goal.returns-clause-move
-returns-clause-move c = move_both_ways
+pub returns-clause-moved : goal.returns-clause-moved
+returns-clause-moved c = move_both_ways

@@ -1,9 +1,8 @@
 -- The diffs of the list of sheets lead from the earlier workbook to the later one and back.
-use Rattle.std.proofs.Common.{◌≡◌, ℕ, suc, ◌+◌, ◌≤◌, ◌<◌, Bool, true, false, cond, not, ◌&&◌, List, [], ◌∷◌, length, Option, Some, None, Result, Ok, Err, refl, ap, sym, subst, ◌∙◌, arith}
-use Rattle.std.specs.Prelude.{◌==◌, nat_lt, slice_get}
+use Rattle.std.proofs.Common.{◌≡◌, ℕ, suc, ◌+◌, ◌≤◌, ◌<◌, Bool, true, false, cond, not, ◌&&◌, List, [], ◌∷◌, length, Some, None, Result, Err, refl, ap, sym, ◌∙◌, arith}
+use Rattle.std.specs.Prelude.{nat_lt, slice_get}
 use Rattle.std.specs.FinMap.{entries, len, len-entries}
-use Rattle.std.specs.List.{cons_option, enumerate_from, filter, filter_map, list_all}
-use Rattle.std.specs.Ordering.{nat_cmp}
+use Rattle.std.specs.List.{cons_option, enumerate_from, filter_map, list_all}
 use Rattle.std.proofs.lemmas.Bool.{lt-ltb}
 use Rattle.base_values.specs.declared.EditError.{EditError}
 use Rattle.base_values.specs.declared.EditError.TheVariants.{DiffRefused}
@@ -14,12 +13,12 @@ use Rattle.cell_content.specs.Fitting.{tree_fits_at}
 use Rattle.defined_names.specs.declared.DefinedName.{DefinedName}
 use Rattle.defined_names.specs.Names.{is_scoped_to, kept_names, names_left, placed_names, names_restored, names_copied}
 use Rattle.defined_names.specs.laws.NameLaws.{kept_listed, names_come_back, copied_go}
-use Rattle.sheet_grid.specs.Arrays.{array_at, arrays_of}
+use Rattle.sheet_grid.specs.Arrays.{array_at}
 use Rattle.sheet_grid.specs.declared.Cell.{Cell}
 use Rattle.sheet_grid.specs.Sheet.{Sheet, new_sheet}
 use Rattle.sheet_grid.specs.Book.{Book, index_of, ids_of, sheets_moved}
 use Rattle.sheet_rules.specs.Names.{first_place, have_name_trees}
-use Rattle.sheet_rules.specs.Occupied.{have_arrays, have_merges, is_merge, are_apart}
+use Rattle.sheet_rules.specs.Occupied.{have_arrays, is_merge}
 use Rattle.sheet_rules.specs.WellFormed.{have_trees, IsWellFormed}
 use Rattle.sheet_rules.specs.laws.EntryLaws.{both}
 use Rattle.sheet_rules.specs.laws.WellFormedLaws.{well_formed_parts, distinct_ids_from_well_formed}

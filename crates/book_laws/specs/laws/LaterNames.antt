@@ -1,8 +1,8 @@
 -- The defined names of a later workbook keep their rules: with another sheet, with a copy, without a sheet, and with a sheet at another index.
-use Rattle.std.proofs.Common.{◌≡◌, ℕ, ◌+◌, ◌≤◌, ◌<◌, Bool, true, false, cond, not, ◌&&◌, ◌||◌, List, [], ◌∷◌, ◌++◌, length, Option, Some, None, refl, ap, sym, ◌∙◌, arith, true≢false}
-use Rattle.std.specs.Prelude.{◌==◌, nat_eq, nat_lt, slice_get}
+use Rattle.std.proofs.Common.{◌≡◌, ℕ, Bool, true, false, cond, not, ◌&&◌, ◌||◌, List, [], ◌∷◌, Option, Some, None, refl, ap, sym, ◌∙◌, true≢false}
+use Rattle.std.specs.Prelude.{◌==◌, nat_eq, slice_get}
 use Rattle.std.specs.Cmp.{unsigned_Decides}
-use Rattle.std.specs.List.{AllByRecursion, cons_option, enumerate_from, filter, filter_map, insert, list_all, list_any, remove}
+use Rattle.std.specs.List.{AllByRecursion, cons_option, filter_map, insert, list_all, list_any, remove}
 use Rattle.std.specs.Option.{option_eq, option_map_or}
 use Rattle.std.proofs.lemmas.List.Folds.{list_all-append}
 use Rattle.base_tables.specs.Folding.{same_folded}
@@ -175,7 +175,7 @@ module _ (source id : ℕ) where
               (all_apart names names (none_scoped ids id free names h));
           living = list_all-append (has_living_scope later) names (copies names)
               ∙ (λ i. on.living i && followed_all is_legal (copied_name source id) (has_living_scope later) names h.legal
-                  (λ x y legal is. ap (has_living_scope later) (sym (copy_is x y is).1) ∙ any_here (λ o. id == o) ids index id (equal_itself id)) i);
+              (λ x y legal is. ap (has_living_scope later) (sym (copy_is x y is).1) ∙ any_here (λ o. id == o) ids index id (equal_itself id)) i);
         })
 
   pub trees_with_copies : (names : List DefinedName) → have_name_trees names ≡ true → have_name_trees (names_copied source id names) ≡ true

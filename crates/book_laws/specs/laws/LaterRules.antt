@@ -1,5 +1,5 @@
 -- A later workbook is well-formed: with a new sheet, with a copy, without a sheet, and with a sheet at another index.
-use Rattle.std.proofs.Common.{◌≡◌, ℕ, zero, suc, ◌+◌, ◌<◌, Bool, true, false, ◌&&◌, ◌||◌, List, [], ◌∷◌, length, Option, Some, None, refl, ap, sym, subst, ◌∙◌, arith}
+use Rattle.std.proofs.Common.{◌≡◌, ℕ, zero, suc, ◌+◌, ◌<◌, Bool, true, false, ◌&&◌, ◌||◌, List, [], ◌∷◌, length, Option, Some, None, refl, ap, sym, ◌∙◌, arith}
 use Rattle.std.specs.Prelude.{◌==◌, codes, nat_lt, slice_get}
 use Rattle.std.specs.Cmp.{unsigned_Decides}
 use Rattle.std.specs.List.{AllByRecursion, insert, list_all, list_any, position_from, remove}
@@ -133,9 +133,9 @@ module _ (w : Book) (rules : IsWellFormed w) where
       let fewer_names = map_removed (λ (t : Sheet). t.name) w.worksheets from in
       well_formed_by (record w { worksheets = insert (remove w.worksheets from) to s })
       (apart_with (remove w.worksheets from) to s (apart_without w.worksheets from apart)
-          (ap (list_any (λ other. s.id == other)) fewer ∙ differs_out (λ a b. a == b) ids_turned (ids_of w.worksheets) from s.id apart.ids id_at)
-          (passes_at is_sheet_name (names_of w.worksheets) from s.name apart.legal name_at)
-          (ap (list_any (same_folded s.name)) fewer_names ∙ differs_out same_folded names_turned (names_of w.worksheets) from s.name apart.names name_at))
+      (ap (list_any (λ other. s.id == other)) fewer ∙ differs_out (λ a b. a == b) ids_turned (ids_of w.worksheets) from s.id apart.ids id_at)
+      (passes_at is_sheet_name (names_of w.worksheets) from s.name apart.legal name_at)
+      (ap (list_any (same_folded s.name)) fewer_names ∙ differs_out same_folded names_turned (names_of w.worksheets) from s.name apart.names name_at))
       (all_inserted KeepsSheetRules (remove w.worksheets from) to s (all_removed KeepsSheetRules w.worksheets from (all_keep w rules)) (rules_at w rules from s found))
       name_trees
       (ap (λ ids. are_names ids w.names) (map_inserted (λ (t : Sheet). t.id) (remove w.worksheets from) to s ∙ ap (λ ids. insert ids to s.id) fewer) ∙ names_moved (ids_of w.worksheets) from to s.id id_at w.names named)

@@ -6,7 +6,8 @@ ghost use Rattle.base_values.specs.declared.EditError.TheVariants.{NoMemory, Par
 ghost use Rattle.base_wire.specs.Reading.{code_at, rest_after};
 ghost use Rattle.sheet_wire.specs.ChangeBytes.{change_at};
 ghost use Rattle.sheet_wire.specs.LinesBytes.{axes, axis_code};
-ghost use Rattle.sheet_wire.specs.QueueBytes.{cell_diff_at, diff_at, direction_code, directions, entry_at, lines_diff_at, link_diff_at, magic, merges_diff_at, queue_of, spell_queue, FitsQueue, IsNoQueue};
+ghost use Rattle.sheet_wire.specs.QueueBytes.{cell_diff_at, diff_at, lines_diff_at, link_diff_at, merges_diff_at};
+ghost use Rattle.sheet_wire.specs.QueueBytes.{direction_code, directions, entry_at, magic, queue_of, spell_queue, FitsQueue, IsNoQueue};
 ghost use Rattle.sheet_history.specs.declared.QueueDiffs.{QueueDiffs};
 
 use crate::codes::{axis_of, direction_of};

@@ -1,9 +1,10 @@
 //! The bytes of diffs of the fields of a sheet and of the list of sheets.
 
-ghost use Rattle.std.specs.Prelude.{◌≡◌, ◌∷◌, ◌++◌, OnOk};
+ghost use Rattle.std.specs.Prelude.{◌≡◌, ◌++◌, OnOk};
 ghost use Rattle.sheet_wire.specs.ChangeBytes.{spell_sheet_change, FitsSheetChange};
 ghost use Rattle.sheet_wire.specs.QueueBytes.{spell_diff};
-ghost use Rattle.sheet_wire.specs.SheetsBytes.{spell_copy, spell_deletion, spell_move, spell_new, FitsCopy, FitsDeletion, FitsField, FitsMove, FitsNew, IsKnownKeptSheet};
+ghost use Rattle.sheet_wire.specs.SheetsBytes.{spell_copy, spell_deletion, spell_move, spell_new};
+ghost use Rattle.sheet_wire.specs.SheetsBytes.{FitsCopy, FitsDeletion, FitsField, FitsMove, FitsNew, IsKnownKeptSheet};
 ghost use Rattle.sheet_history.specs.declared.Diff.TheVariants.{Field as FieldDiff};
 
 use crate::sheets::KeptSheetPart;

@@ -1,21 +1,22 @@
 // A user model as its users call it. What stands where was worked out by hand from docs/MODEL.md.
 use base_axis::Area;
 use base_shared::Shared;
-use base_styles::Style;
+use base_styles::{Color, Style};
 use base_tables::{Locale, Zone};
 use base_values::EditError;
 use formula_tree::{Node, has_kept_numbers};
 use sheet_actions::Model as PlainModel;
-use sheet_grid::{ColumnAttr, Computed, Content, RowAttr, Workbook};
+use sheet_grid::{ColumnAttr, Computed, Content, RowAttr, SheetState, Workbook, Worksheet};
 use std::alloc::Global;
 use std::cell::Cell;
 use std::process::Abort;
 use std::test::Fail;
-use user_model::{CellArrayStructure, ClearAll, Recalc, UserModel};
+use user_model::{CellArrayStructure, ClearAll, Recalc, UserModel, View};
 
 mod copies;
 mod lines;
 mod places;
+mod sheets;
 mod values;
 
 fn new_model(alloc: Global) -> Result<UserModel<ClearAll>, EditError> {

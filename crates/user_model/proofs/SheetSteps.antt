@@ -127,7 +127,7 @@ module _ (law : SheetLaw) (edit : Edit) (is : IsTrue (is_of_sheets edit)) where
             forth = it.forth;
             back = it.back;
             exact = it.exact;
-            spellable = sheets_spellable edit is doc.book later rules how (subst IsKeptList plan.recorded plan.kept);
+            spellable = sheets_spellable doc.book rules edit is later (subst IsKeptList plan.recorded plan.kept);
           };
           kept = plan.kept;
         }

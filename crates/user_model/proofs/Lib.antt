@@ -7,6 +7,7 @@ mod LineSteps
 mod Lists
 mod MoveSteps
 mod Moving
+mod Named
 mod Planned
 mod Recording
 mod Refusals

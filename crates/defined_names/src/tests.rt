@@ -76,10 +76,11 @@ fn a_sheet_is_copied(rt: HostRuntime) -> Result<(), Fail> {
     let alloc = rt.alloc();
     let names = four(alloc)?;
     let all = names.copied_to(1, 3)?;
-    let last = &all.as_slice()[4..];
-    assert_eq!(rt; last.len(), 2);
-    assert!(rt; last[0].is_scoped_to(3) && last[0].name.as_str() == "First");
-    assert!(rt; !last[1].is_same_name(&names.as_slice()[3]));
+    let (before, after) = (names.as_slice(), all.as_slice());
+    assert_eq!(rt; before.len(), 4);
+    assert_eq!(rt; after.len(), 6);
+    assert!(rt; after[4].is_scoped_to(3) && after[4].name.as_str() == "First");
+    assert!(rt; !after[5].is_same_name(&before[3]));
     assert!(rt; same(&all.without_sheet(alloc, 3)?, &copy_of(&names)?));
     assert_eq!(rt; NameList::empty(alloc).as_slice().len(), 0);
     Ok(())

@@ -39,6 +39,7 @@ fn three(alloc: Global) -> Result<Items<Worksheet>, EditError> {
 fn visible(rt: HostRuntime) -> Result<(), Fail> {
     let sheets = three(rt.alloc())?;
     let sheets = sheets.as_slice();
+    assert_eq!(rt; sheets.len(), 3);
     assert_eq!(rt; next_visible(sheets, 0), Some(2));
     assert_eq!(rt; next_visible(sheets, 1), Some(2));
     assert_eq!(rt; next_visible(sheets, 2), Some(0));

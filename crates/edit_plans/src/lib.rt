@@ -27,3 +27,6 @@ pub use unmerge::plan_unmerge;
 pub use view::{
     selected_by_copy, selected_by_deletion, selected_by_field, selected_by_move, selected_by_new,
 };
+
+#[cfg(test)]
+mod tests;

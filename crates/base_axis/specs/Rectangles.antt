@@ -66,13 +66,6 @@ overlap first last first_other last_other = int_le first last_other && int_le fi
 unfoldable pub meets : MergedCell → MergedCell → Bool
 meets r s = overlap r.row (last_row r) s.row (last_row s) && overlap r.column (last_column r) s.column (last_column s)
 
--- the same, part by part
-pub record Meets (r s : MergedCell) : Type 0 where
-  pub rows_here : r.row ≤ℤ last_row s
-  pub rows_there : s.row ≤ℤ last_row r
-  pub columns_here : r.column ≤ℤ last_column s
-  pub columns_there : s.column ≤ℤ last_column r
-
 -- lines from a first to a last are among others
 abbrev pub is_part : ℤ → ℤ → ℤ → ℤ → Bool
 is_part first last first_other last_other = int_le first_other first && int_le last last_other
@@ -98,13 +91,6 @@ last_line a r = last_of (first_line a r) (line_count a r)
 -- how many cross lines it takes
 abbrev pub across : Along → MergedCell → ℤ
 across a r = a.count_of r.width r.height
-
--- its first cross line, and its last
-abbrev pub first_cross : Along → MergedCell → ℤ
-first_cross a r = a.cross (anchor_place r)
-
-abbrev pub last_cross : Along → MergedCell → ℤ
-last_cross a r = last_of (first_cross a r) (across a r)
 
 -- how many lines stand from a first to a last
 abbrev pub line_span : ℤ → ℤ → ℤ

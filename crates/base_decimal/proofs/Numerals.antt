@@ -10,9 +10,9 @@ use Rattle.base_decimal.specs.declared.numeral.Sign.TheVariants.{Absent, Plus, M
 use Rattle.base_decimal.specs.Digits.{is_digit, span, stops}
 use Rattle.base_decimal.specs.Numeral.{Fraction, NoFraction, Places, Exponent, NoExponent, Power, Numeral, fraction_text, sign_text, exponent_text, numeral_text, is_exponent_letter, is_numeral_fraction, is_exponent_len, is_numeral_exponent, IsNumeral, numerator, numeral_places, minus_text, Reads}
 use Rattle.base_decimal.specs.laws.Reading.{fraction_at, sign_at, exponent_after, exponent_at, numeral_at, whole_value, value_at, decimal_of}
-use Rattle.base_decimal.specs.Value.{kept_of}
+use Rattle.base_decimal.specs.Value.{canonical_of}
 use Rattle.base_decimal.proofs.Spans.{and_both, both_and, span_at, span_parts, span_all}
-use Rattle.base_decimal.proofs.Values.{kept_found, kept_only}
+use Rattle.base_decimal.proofs.Values.{canonical_found, canonical_only}
 
 -- the decimal sign is no digit and no letter of an exponent
 pub record IsMark (mark : ℕ) : Type 0 where
@@ -99,7 +99,7 @@ numeral_read mark m n h =
     read_after : ℕ → List ℕ × List ℕ → Option (Numeral × List ℕ)
     read_after mark w = read_exponent w.0 (fraction_at mark w.1)
 
-pub value_read : (mark : ℕ) → IsMark mark → (s : Bool) (n : Numeral) → IsNumeral n → value_at mark s (numeral_text mark n) ≡ kept_of s (numerator n) (numeral_places n)
+pub value_read : (mark : ℕ) → IsMark mark → (s : Bool) (n : Numeral) → IsNumeral n → value_at mark s (numeral_text mark n) ≡ canonical_of s (numerator n) (numeral_places n)
 value_read mark m s n h = ap (option_and_then (whole_value s)) (numeral_read mark m n h)
 
 unsigned_read : (mark : ℕ) (n : Numeral) → IsNumeral n → decimal_of mark (numeral_text mark n) ≡ value_at mark false (numeral_text mark n)
@@ -112,7 +112,7 @@ unsigned_read mark n h = by n.whole h.some_digit h.whole
         let text : List ℕ = w ++ (fraction_text mark n.fraction ++ exponent_text n.exponent) in
         ap (λ (t : Bool). cond t (value_at mark true text) (value_at mark false (b ∷ text))) (digit_no_sign b 45 (and_both (is_digit b) (list_all is_digit w) e).0 (omega arith))
 
-pub signed_read : (mark : ℕ) → IsMark mark → (s : Bool) (n : Numeral) → IsNumeral n → decimal_of mark (minus_text s ++ numeral_text mark n) ≡ kept_of s (numerator n) (numeral_places n)
+pub signed_read : (mark : ℕ) → IsMark mark → (s : Bool) (n : Numeral) → IsNumeral n → decimal_of mark (minus_text s ++ numeral_text mark n) ≡ canonical_of s (numerator n) (numeral_places n)
 unfolding decimal_of
 signed_read mark m true n h = value_read mark m true n h
 signed_read mark m false n h = unsigned_read mark n h ∙ value_read mark m false n h
@@ -121,7 +121,7 @@ signed_read mark m false n h = unsigned_read mark n h ∙ value_read mark m fals
 pub reads_only : (mark : ℕ) → IsMark mark → (text : List ℕ) (d : Decimal) → Reads mark text d → decimal_of mark text ≡ Some d
 reads_only mark m text d r =
     ap (decimal_of mark) r.written ∙ signed_read mark m r.negative r.numeral r.is_numeral
-    ∙ kept_only r.negative (numerator r.numeral) (numeral_places r.numeral) d r.is_kept r.is_value
+    ∙ canonical_only r.negative (numerator r.numeral) (numeral_places r.numeral) d r.is_canonical r.is_value
 
 -- ---- what is read was written
 
@@ -227,14 +227,14 @@ value_found mark s text d h = by (numeral_at mark text) refl h
     by (Some (n, _ ∷ _)) e g = absurd cc
     by (Some (n, [])) e g =
         let found = numeral_found mark text n [] e in
-        let kept = kept_found s (numerator n) (numeral_places n) d g in
+        let kept = canonical_found s (numerator n) (numeral_places n) d g in
         record {
           negative = s;
           numeral = n;
           written = ap (λ (x : List ℕ). minus_text s ++ x) (found.0 ∙ append-nil (numeral_text mark n));
           is_numeral = found.1;
           is_value = kept.1;
-          is_kept = kept.0;
+          is_canonical = kept.0;
         }
 
 -- the decimal that is found is one that the text reads as

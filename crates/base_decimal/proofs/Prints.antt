@@ -1,4 +1,4 @@
--- The printed text of a kept decimal reads as it.
+-- The printed text of a canonical decimal reads as it.
 use Rattle.std.proofs.Common.{◌≡◌, ℕ, zero, suc, ◌+◌, ◌-◌, ◌*◌, ◌/◌, ◌%◌, ◌^◌, ◌<◌, ◌≤◌, true, List, [], ◌∷◌, ◌++◌, length, refl, sym, ap, subst, ◌∙◌, arith, Some, append-nil}
 use Rattle.std.proofs.Math.Nat.{pow-suc, pow-le-pow_right}
 use Rattle.std.specs.Prelude.{unsigned_abs, decimal, ◌&&◌, nat_lt, nat_le}
@@ -11,7 +11,7 @@ use Rattle.std.proofs.lemmas.Nat.{div-add-mod', mod-mul-add, mod_below, div_belo
 use Rattle.std.proofs.lemmas.Str.Parse.{IsNumeralModel, numerals_by_fold}
 use Rattle.base_decimal.specs.declared.decimal.Decimal.{Decimal}
 use Rattle.base_decimal.specs.Digits.{is_digit, number_after, number_of}
-use Rattle.base_decimal.specs.Kept.{is_kept, IsKept}
+use Rattle.base_decimal.specs.Canonical.{is_canonical, IsCanonical}
 use Rattle.base_decimal.specs.Numeral.{Fraction, NoFraction, Places, NoExponent, Numeral, numeral_text, fraction_text, fraction_digits, minus_text, IsNumeral, is_numeral_fraction, numerator, numeral_places, Reads}
 use Rattle.base_decimal.specs.laws.Reading.{decimal_of}
 use Rattle.base_decimal.specs.Printed.{last_digits, places_text, digits_text, printed}
@@ -120,12 +120,12 @@ places_is n q = ap (λ (x : List ℕ). length x + 0) (fraction_of q n) ∙ ap (�
 
 -- ---- the law
 
-kept_ends : (d : Decimal) → IsKept d → ends (unsigned_abs d.mantissa) d.places ≡ true
-unfolding is_kept
+kept_ends : (d : Decimal) → IsCanonical d → ends (unsigned_abs d.mantissa) d.places ≡ true
+unfolding is_canonical
 kept_ends d kept = (and_both (nat_le d.places 15 && nat_lt (unsigned_abs d.mantissa) (10 ^ (15 + d.places))) _ kept).1
 
-kept_whole : (d : Decimal) → IsKept d → unsigned_abs d.mantissa / 10 ^ d.places < 2 ^ 64
-unfolding is_kept
+kept_whole : (d : Decimal) → IsCanonical d → unsigned_abs d.mantissa / 10 ^ d.places < 2 ^ 64
+unfolding is_canonical
 kept_whole d kept =
     let tests = and_both (nat_le d.places 15 && nat_lt (unsigned_abs d.mantissa) (10 ^ (15 + d.places))) _ kept in
     let size = (and_both (nat_le d.places 15) (nat_lt (unsigned_abs d.mantissa) (10 ^ (15 + d.places))) tests.0).1 in
@@ -135,7 +135,7 @@ kept_whole d kept =
     let whole : unsigned_abs d.mantissa / 10 ^ d.places < 10 ^ 15 = div_below (unsigned_abs d.mantissa) (10 ^ d.places) (10 ^ 15) (ten_pow d.places) below in
     omega arith
 
-pub printed_reads : (mark : ℕ) (d : Decimal) → IsKept d → Reads mark (printed mark d) d
+pub printed_reads : (mark : ℕ) (d : Decimal) → IsCanonical d → Reads mark (printed mark d) d
 unfolding printed
 printed_reads mark d kept =
     let n = unsigned_abs d.mantissa in
@@ -151,11 +151,11 @@ printed_reads mark d kept =
       is_value = subst (λ (x : Decimal). SameValue x (decimal_from s (numerator (printed_numeral n q)) (numeral_places (printed_numeral n q)))) (sym (decimal_self d))
           (same_from s n q (numerator (printed_numeral n q)) (numeral_places (printed_numeral n q))
           (ap (λ (x : ℕ). n * 10 ^ x) (places_is n q) ∙ ap (λ (x : ℕ). x * 10 ^ q) (sym (numerator_is n q h))));
-      is_kept = kept;
+      is_canonical = kept;
     }
 
 -- what is printed is read as the decimal that was printed
-pub printed_back : (mark : ℕ) → IsMark mark → (d : Decimal) → IsKept d → decimal_of mark (printed mark d) ≡ Some d
+pub printed_back : (mark : ℕ) → IsMark mark → (d : Decimal) → IsCanonical d → decimal_of mark (printed mark d) ≡ Some d
 printed_back mark m d kept = reads_only mark m (printed mark d) d (printed_reads mark d kept)
 
 -- ---- digits far behind the point

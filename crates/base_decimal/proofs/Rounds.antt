@@ -9,7 +9,7 @@ use Rattle.std.proofs.lemmas.Int.Digits.{length-digits_of_step, length-digits_of
 use Rattle.std.proofs.lemmas.Nat.{pow-add, div-add-mod', mod_below, mul-le}
 use Rattle.base_decimal.specs.declared.decimal.Decimal.{Decimal}
 use Rattle.base_decimal.specs.Arithmetic.{excess, nearest, rounded, IsRounded}
-use Rattle.base_decimal.specs.Kept.{is_trimmed}
+use Rattle.base_decimal.specs.Canonical.{is_trimmed}
 use Rattle.base_decimal.specs.Value.{decimal_from, trim}
 use Rattle.base_decimal.proofs.Trims.{ends, trim_same, trim_ends}
 use Rattle.base_decimal.proofs.Values.{abs_signed, same_from, ten_pow}
@@ -131,10 +131,10 @@ kept_large n l h =
     let low : nearest n (10 ^ 24) * 10 ^ 24 < 2 ^ 127 = omega arith in
     subst (λ (x : ℕ). nearest n x * x < 2 ^ 127) (sym unit) low
 
-pub kept_fits : (n : ℕ) → n ≤ 2 ^ 127 → nearest n (10 ^ excess n) * 10 ^ excess n < 2 ^ 127
-kept_fits n h = elim (cases_lt n (10 ^ 38)) [
+pub canonical_fits : (n : ℕ) → n ≤ 2 ^ 127 → nearest n (10 ^ excess n) * 10 ^ excess n < 2 ^ 127
+canonical_fits n h = elim (cases_lt n (10 ^ 38)) [
   | inl small ↦ let common = kept_common n small in omega arith
   | inr large ↦ kept_large n large h
 ]
 
-pub ruleset roundings = (excess_small, kept_fits, rounded_is, ten_pow)
+pub ruleset roundings = (excess_small, canonical_fits, rounded_is, ten_pow)

@@ -1,4 +1,4 @@
--- The kept decimal of a fraction: it is equal to the fraction, and no other kept decimal is.
+-- The canonical decimal of a fraction: it is equal to the fraction, and no other canonical decimal is.
 use Rattle.std.proofs.Common.{◌≡◌, ℕ, zero, suc, ◌+◌, ◌-◌, ◌*◌, ◌/◌, ◌%◌, ◌^◌, ◌<◌, ◌≤◌, Bool, true, false, cond, refl, sym, ap, subst, ◌∙◌, arith, Option, Some, None}
 use Rattle.std.proofs.Math.Nat.{one-le-pow, mul-div_cancel}
 use Rattle.std.specs.Prelude.{ℤ, pos, negsuc, neg_ℤ, ◌*ℤ◌, unsigned_abs, not, ◌&&◌, ◌==◌, nat_lt, nat_le}
@@ -7,8 +7,8 @@ use Rattle.std.proofs.lemmas.Bool.Decides.{nat_tests}
 use Rattle.std.proofs.lemmas.Int.{unsigned_abs-mul, ints}
 use Rattle.std.proofs.lemmas.Nat.{div-add-mod', div-mul-add, mod-mul-add, pow-add}
 use Rattle.base_decimal.specs.declared.decimal.Decimal.{Decimal}
-use Rattle.base_decimal.specs.Kept.{is_kept, IsKept}
-use Rattle.base_decimal.specs.Value.{SameValue, signed, decimal_from, trim, fifteen_places, kept_at, kept_of}
+use Rattle.base_decimal.specs.Canonical.{is_canonical, IsCanonical}
+use Rattle.base_decimal.specs.Value.{SameValue, signed, decimal_from, trim, fifteen_places, canonical_at, canonical_of}
 use Rattle.base_decimal.proofs.Spans.{and_both, both_and}
 use Rattle.base_decimal.proofs.Trims.{ends, trim_same, trim_ends, trim_places, trim_raised}
 
@@ -91,7 +91,7 @@ signed_self (negsuc n) = refl
 pub decimal_self : (d : Decimal) → d ≡ decimal_from (is_negative d.mantissa) (unsigned_abs d.mantissa) d.places
 decimal_self d = ap (λ (x : ℤ). let y : Decimal = record { mantissa = x; places = d.places } in y) (signed_self d.mantissa)
 
--- ---- the kept decimal
+-- ---- the canonical decimal
 
 pub cancel : (a b c : ℕ) → 0 < c → a * c ≡ b * c → a ≡ b
 cancel a b c h e = sym (mul-div_cancel a h) ∙ ap (λ (x : ℕ). x / c) e ∙ mul-div_cancel b h
@@ -105,18 +105,18 @@ cross t n k a b e f =
 pub times_below : (a b c : ℕ) → 0 < c → a < b → a * c < b * c
 times_below a b c h l = grind arith
 
-kept_tests : (q t : ℕ) → q ≤ 15 → t < 10 ^ (15 + q) → ends t q ≡ true → (m : ℕ) → m ≡ t → (nat_le q 15 && nat_lt m (10 ^ (15 + q)) && not (nat_lt 0 q && (m % 10 == 0))) ≡ true
-kept_tests q t h l e m is =
+canonical_tests : (q t : ℕ) → q ≤ 15 → t < 10 ^ (15 + q) → ends t q ≡ true → (m : ℕ) → m ≡ t → (nat_le q 15 && nat_lt m (10 ^ (15 + q)) && not (nat_lt 0 q && (m % 10 == 0))) ≡ true
+canonical_tests q t h l e m is =
     let low : nat_le q 15 ≡ true = grind (arith, nat_tests) in
     let small : nat_lt m (10 ^ (15 + q)) ≡ true = grind (arith, nat_tests) in
     both_and _ _ (both_and _ _ low small) (ap (λ (x : ℕ). ends x q) is ∙ e)
 
 -- from the number at fifteen places
 kept_from_fifteen : (s : Bool) (n p k : ℕ) → k * 10 ^ p ≡ n * 10 ^ 15 → k < 10 ^ 30 → (t : ℕ × ℕ) → k * 10 ^ t.1 ≡ t.0 * 10 ^ 15 → ends t.0 t.1 ≡ true → t.1 ≤ 15
-    → IsKept (decimal_from s t.0 t.1) × SameValue (decimal_from s t.0 t.1) (decimal_from s n p)
-unfolding is_kept
+    → IsCanonical (decimal_from s t.0 t.1) × SameValue (decimal_from s t.0 t.1) (decimal_from s n p)
+unfolding is_canonical
 kept_from_fifteen s n p k e small t f last low = (
-  kept_tests t.1 t.0 low
+  canonical_tests t.1 t.0 low
       (let wide : k * 10 ^ t.1 < 10 ^ 30 * 10 ^ t.1 = times_below k (10 ^ 30) (10 ^ t.1) (ten_pow t.1) small in
       let parts : 10 ^ (15 + t.1) ≡ 10 ^ 15 * 10 ^ t.1 = pow-add 10 15 t.1 in
       omega arith)
@@ -124,21 +124,21 @@ kept_from_fifteen s n p k e small t f last low = (
   same_from s t.0 t.1 n p (cross t.0 n k (10 ^ p) (10 ^ t.1) e f),
 )
 
-pub kept_found : (s : Bool) (n p : ℕ) (d : Decimal) → kept_of s n p ≡ Some d → IsKept d × SameValue d (decimal_from s n p)
-unfolding kept_of
-kept_found s n p d e = by (fifteen_places n p) refl e
+pub canonical_found : (s : Bool) (n p : ℕ) (d : Decimal) → canonical_of s n p ≡ Some d → IsCanonical d × SameValue d (decimal_from s n p)
+unfolding canonical_of
+canonical_found s n p d e = by (fifteen_places n p) refl e
   where
-    by : (o : Option ℕ) → fifteen_places n p ≡ o → kept_at s o ≡ Some d → IsKept d × SameValue d (decimal_from s n p)
+    by : (o : Option ℕ) → fifteen_places n p ≡ o → canonical_at s o ≡ Some d → IsCanonical d × SameValue d (decimal_from s n p)
     by None f g = absurd cc
     by (Some k) f g =
         let h = fifteen_found n p k f in
         let is : decimal_from s (trim k 15).0 (trim k 15).1 ≡ d = cc in
-        subst (λ (x : Decimal). IsKept x × SameValue x (decimal_from s n p)) is
+        subst (λ (x : Decimal). IsCanonical x × SameValue x (decimal_from s n p)) is
         (kept_from_fifteen s n p k h.0 h.1 (trim k 15) (trim_same k 15) (trim_ends k 15) (trim_places k 15))
 
-pub kept_only : (s : Bool) (n p : ℕ) (d : Decimal) → IsKept d → SameValue d (decimal_from s n p) → kept_of s n p ≡ Some d
-unfolding kept_of is_kept
-kept_only s n p d kept same =
+pub canonical_only : (s : Bool) (n p : ℕ) (d : Decimal) → IsCanonical d → SameValue d (decimal_from s n p) → canonical_of s n p ≡ Some d
+unfolding canonical_of is_canonical
+canonical_only s n p d kept same =
     let t = unsigned_abs d.mantissa in
     let q = d.places in
     let j = 15 - d.places in
@@ -157,14 +157,14 @@ kept_only s n p d kept same =
     let whole : t * 10 ^ j * 10 ^ p ≡ n * 10 ^ 15 = omega arith in
     let found : fifteen_places n p ≡ Some (t * 10 ^ j) = fifteen_only n p (t * 10 ^ j) whole (omega arith) in
     let last : trim (t * 10 ^ j) 15 ≡ (t, d.places) = ap (trim (t * 10 ^ j)) (sym all) ∙ trim_raised t d.places j tests.1 in
-    ap (kept_at s) found ∙ ap (λ (x : ℕ × ℕ). Some (decimal_from s x.0 x.1)) last ∙ ap (λ (x : Decimal). Some x) (sym (same_sign d s n p same))
+    ap (canonical_at s) found ∙ ap (λ (x : ℕ × ℕ). Some (decimal_from s x.0 x.1)) last ∙ ap (λ (x : Decimal). Some x) (sym (same_sign d s n p same))
 
--- two kept decimals of one value are one
-pub same_kept : (a b : Decimal) → IsKept a → IsKept b → SameValue a b → a ≡ b
-same_kept a b ka kb e =
+-- two canonical decimals of one value are one
+pub same_canonical : (a b : Decimal) → IsCanonical a → IsCanonical b → SameValue a b → a ≡ b
+same_canonical a b ka kb e =
     let s = is_negative b.mantissa in
     let n = unsigned_abs b.mantissa in
     let is = decimal_self b in
-    let first : kept_of s n b.places ≡ Some a = kept_only s n b.places a ka (subst (λ (x : Decimal). SameValue a x) is e) in
-    let second : kept_of s n b.places ≡ Some b = kept_only s n b.places b kb (subst (λ (x : Decimal). SameValue b x) is refl) in
+    let first : canonical_of s n b.places ≡ Some a = canonical_only s n b.places a ka (subst (λ (x : Decimal). SameValue a x) is e) in
+    let second : canonical_of s n b.places ≡ Some b = canonical_only s n b.places b kb (subst (λ (x : Decimal). SameValue b x) is refl) in
     cc

@@ -3,7 +3,7 @@ use Rattle.std.specs.Prelude.{ℕ, ◌+◌, ◌-◌, ◌*◌, ◌/◌, ◌^◌, 
 use Rattle.std.specs.Int.{is_negative, w128}
 use Rattle.std.specs.Int.Digits.{digits_of}
 use Rattle.base_decimal.specs.declared.decimal.Decimal.{Decimal}
-use Rattle.base_decimal.specs.Kept.{is_trimmed}
+use Rattle.base_decimal.specs.Canonical.{is_trimmed}
 use Rattle.base_decimal.specs.Value.{SameValue, decimal_from, trim}
 
 -- the mantissa that the number has with these places, of which it has no more

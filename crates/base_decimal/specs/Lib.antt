@@ -1,6 +1,6 @@
 pub mod Arithmetic
 pub mod Digits
-pub mod Kept
+pub mod Canonical
 pub mod Numeral
 pub mod Printed
 pub mod Seen

@@ -6,7 +6,7 @@ use Rattle.base_decimal.specs.declared.numeral.Scale.{Scale}
 use Rattle.base_decimal.specs.declared.numeral.Sign.{Sign}
 use Rattle.base_decimal.specs.declared.numeral.Sign.TheVariants.{Absent, Plus, Minus}
 use Rattle.base_decimal.specs.Digits.{is_digit, number_of}
-use Rattle.base_decimal.specs.Kept.{IsKept}
+use Rattle.base_decimal.specs.Canonical.{IsCanonical}
 use Rattle.base_decimal.specs.Value.{SameValue, decimal_from}
 
 -- ---- the parts of a number
@@ -98,11 +98,11 @@ abbrev pub minus_text : Bool → List ℕ
 minus_text true = 45 ∷ []
 minus_text false = []
 
--- the text is a number, maybe after a minus, and the kept decimal is its value
+-- the text is a number, maybe after a minus, and the canonical decimal is its value
 pub record Reads (mark : ℕ) (text : List ℕ) (d : Decimal) : Type 0 where
   pub negative : Bool
   pub numeral : Numeral
   pub written : text ≡ minus_text negative ++ numeral_text mark numeral
   pub is_numeral : IsNumeral numeral
   pub is_value : SameValue d (decimal_from negative (numerator numeral) (numeral_places numeral))
-  pub is_kept : IsKept d
+  pub is_canonical : IsCanonical d

@@ -27,10 +27,10 @@ fifteen_places n places =
     if (n * 10 ^ 15) % 10 ^ places == 0 && nat_lt (n * 10 ^ 15 / 10 ^ places) (10 ^ 30)
     then Some (n * 10 ^ 15 / 10 ^ places) else None
 
--- the kept decimal equal to a fraction with a sign, if there is one
-abbrev pub kept_at : Bool → Option ℕ → Option Decimal
-kept_at negative None = None
-kept_at negative (Some n) = let t = trim n 15 in Some (decimal_from negative t.0 t.1)
+-- the canonical decimal equal to a fraction with a sign, if there is one
+abbrev pub canonical_at : Bool → Option ℕ → Option Decimal
+canonical_at negative None = None
+canonical_at negative (Some n) = let t = trim n 15 in Some (decimal_from negative t.0 t.1)
 
-unfoldable pub kept_of : Bool → ℕ → ℕ → Option Decimal
-kept_of negative n places = kept_at negative (fifteen_places n places)
+unfoldable pub canonical_of : Bool → ℕ → ℕ → Option Decimal
+canonical_of negative n places = canonical_at negative (fifteen_places n places)

@@ -40,7 +40,7 @@ fn sign_byte(locale: Locale) -> u8
 
 impl Decimal {
     ghost use Rattle.base_decimal.specs.declared.decimal.Decimal.{Decimal as AnyDecimal};
-    ghost use Rattle.base_decimal.specs.Kept.{IsKept};
+    ghost use Rattle.base_decimal.specs.Canonical.{IsCanonical};
     ghost use Rattle.base_decimal.specs.Numeral.{Reads};
     ghost use Rattle.base_decimal.specs.laws.Reading.{decimal_of};
     ghost use Rattle.base_decimal.specs.Printed.{printed};
@@ -53,9 +53,9 @@ impl Decimal {
     pub fn read(text: &str, locale: Locale) -> Option<Decimal>
         ensures value { result ≡ decimal_of (decimal_sign locale) text.now }
 
-        // The kept decimal that the text reads as, and None only where there is none.
+        // The canonical decimal that the text reads as, and None only where there is none.
         ensures found { IfSome result (Reads (decimal_sign locale) text.now) }
-        ensures kept { IfSome result IsKept }
+        ensures canonical { IfSome result IsCanonical }
         ensures only { (d : AnyDecimal) → Reads (decimal_sign locale) text.now d → result ≡ Some d }
     {
         value::read(text.as_bytes(), sign_byte(locale))
@@ -68,8 +68,8 @@ impl Decimal {
         ensures text { IfOk result (λ text. string_bytes text ≡ printed (decimal_sign locale) self.now) }
         ensures memory { IsOkUnless result NoMemory }
 
-        // A kept decimal reads back.
-        ensures back { IsKept self.now
+        // A canonical decimal reads back.
+        ensures back { IsCanonical self.now
             → IfOk result (λ text. decimal_of (decimal_sign locale) (string_bytes text) ≡ Some self.now) }
     {
         Ok(print::print(alloc, self, sign_byte(locale))?)
@@ -77,9 +77,9 @@ impl Decimal {
 
     /// Whether a workbook keeps the number in this form: at most 15 digits on each side of the
     /// point, and no zero digit at the end of the places.
-    #[tactic(auto, unfolding(crate::specs::Kept::is_kept))]
-    pub fn is_kept(&self) -> bool
-        ensures { IsTrue result ↔ IsKept self.now }
+    #[tactic(auto, unfolding(crate::specs::Canonical::is_canonical))]
+    pub fn is_canonical(&self) -> bool
+        ensures { IsTrue result ↔ IsCanonical self.now }
     {
         let digits = self.mantissa.unsigned_abs();
         self.places <= 15

@@ -1,5 +1,5 @@
 //! Exact decimal numbers: the type, how they are read and printed in a locale, sums, products with
-//! whole numbers, and rounding to 15 digits. A workbook keeps the decimals that `is_kept` accepts;
+//! whole numbers, and rounding to 15 digits. A workbook holds the decimals that `is_canonical` accepts;
 //! `read` answers only those, and what `print` writes of one reads back as it.
 #![tactic(auto)]
 

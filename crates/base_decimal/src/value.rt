@@ -2,7 +2,7 @@ ghost use Rattle.std.specs.Prelude.{◌≡◌, ℕ, ◌+◌, ◌-◌, ◌*◌, �
 ghost use Rattle.std.specs.List.{list_all};
 ghost use Rattle.base_decimal.specs.Digits.{is_digit, number_of};
 ghost use Rattle.base_decimal.specs.laws.Reading.{decimal_of, value_at};
-ghost use Rattle.base_decimal.specs.Value.{decimal_from, fifteen_places, kept_of};
+ghost use Rattle.base_decimal.specs.Value.{decimal_from, fifteen_places, canonical_of};
 
 use crate::decimal::{Decimal, from_parts};
 use crate::digits::{are_zero, capped_number, digits, raised, trim};
@@ -41,13 +41,13 @@ fn at_fifteen(whole: &[u8], fraction: &[u8], scale: Scale) -> Option<u128>
     raised(number, up.saturating_sub(places))
 }
 
-/// The kept decimal that digits and a power of ten write, if there is one.
-#[tactic(auto, unfolding(crate::specs::Value::kept_of))]
+/// The canonical decimal that digits and a power of ten write, if there is one.
+#[tactic(auto, unfolding(crate::specs::Value::canonical_of))]
 fn kept(negative: bool, whole: &[u8], fraction: &[u8], scale: Scale) -> Option<Decimal>
     requires whole { list_all is_digit whole.now ≡ true }
     requires fraction { list_all is_digit fraction.now ≡ true }
     ensures { result
-        ≡ kept_of negative (number_of (whole.now ++ fraction.now) * 10 ^ scale.up)
+        ≡ canonical_of negative (number_of (whole.now ++ fraction.now) * 10 ^ scale.up)
         (length fraction.now + scale.down) }
 {
     let Some(number) = at_fifteen(whole, fraction, scale) else {
@@ -57,7 +57,7 @@ fn kept(negative: bool, whole: &[u8], fraction: &[u8], scale: Scale) -> Option<D
     Some(from_parts(negative, mantissa, places))
 }
 
-/// The kept decimal that a text without a minus writes, if there is one. Its sign is given.
+/// The canonical decimal that a text without a minus writes, if there is one. Its sign is given.
 #[tactic(auto, unfolding(crate::specs::laws::Reading::numeral_at))]
 fn number_value(text: &[u8], mark: u8, negative: bool) -> Option<Decimal>
     ensures { result ≡ value_at mark negative text.now }
@@ -76,7 +76,7 @@ fn number_value(text: &[u8], mark: u8, negative: bool) -> Option<Decimal>
     kept(negative, whole, fraction, scale)
 }
 
-/// The kept decimal that a whole text writes, if there is one.
+/// The canonical decimal that a whole text writes, if there is one.
 #[tactic(auto, unfolding(crate::specs::laws::Reading::decimal_of, crate::specs::laws::Reading::numeral_at))]
 pub fn read(text: &[u8], mark: u8) -> Option<Decimal>
     ensures { result ≡ decimal_of mark text.now }

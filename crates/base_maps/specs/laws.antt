@@ -2,6 +2,7 @@ pub mod SheetPlaceEquals
 pub mod SheetPlaces
 pub mod Inverses
 pub mod Keys
+pub mod Known
 pub mod Gathering
 pub mod CarriedLaws
 pub mod Turns

@@ -1,4 +1,4 @@
-use crate::{NumberMap, PositionMap, SheetPlace, SheetPlaceMap};
+use crate::{IndexMap, NumberMap, PositionMap, SheetPlace, SheetPlaceMap};
 use base_values::{Position, copy_of, same};
 use std::test::Fail;
 
@@ -32,6 +32,25 @@ fn numbers(rt: HostRuntime) -> Result<(), Fail> {
     assert!(rt; same(&copy_of(&map)?, &map));
     assert!(rt; map.insert(7, false)? == Some(true));
     assert!(rt; map.remove(-7) == Some(false));
+    assert_eq!(rt; map.len(), 1);
+    assert!(rt; !map.is_empty());
+    Ok(())
+}
+
+/// The same of indexes, put in descending order.
+#[test]
+fn indexes(rt: HostRuntime) -> Result<(), Fail> {
+    let alloc = rt.alloc();
+    let mut map = IndexMap::new(alloc);
+    map.put(7, Some(true))?;
+    map.put(0, Some(false))?;
+    let keys = map.keys(alloc)?;
+    assert!(rt; keys.get(0) == Some(&0) && keys.get(1) == Some(&7));
+    assert_eq!(rt; map.iter().count(), 2);
+    assert!(rt; same(&copy_of(&map)?, &map));
+    assert!(rt; map.insert(7, false)? == Some(true));
+    assert!(rt; map.get(7) == Some(&false));
+    assert!(rt; map.remove(0) == Some(false));
     assert_eq!(rt; map.len(), 1);
     assert!(rt; !map.is_empty());
     Ok(())

@@ -1,5 +1,5 @@
 -- Tables of named entries.
-use Rattle.std.proofs.Common.{ℕ, suc, ◌&&◌, Bool, true, Option, List, [], ◌∷◌}
+use Rattle.std.proofs.Common.{ℕ, Bool, Option, List}
 use Rattle.std.specs.Prelude.{nat_eq, map}
 use Rattle.std.specs.List.{find}
 use Rattle.std.specs.Char.{to_ascii_lowercase}
@@ -20,8 +20,3 @@ same_word a b = same_text (lowered a) (lowered b)
 -- the first entry of the table with this name
 abbrev pub entry_named : {T : Type 0} → (T → List ℕ) → List T → List ℕ → Option T
 entry_named name_of table text = find (λ entry. same_text (name_of entry) text) table
-
--- whether the codes of the entries count up from a number
-abbrev pub is_numbered : {T : Type 0} → (T → ℕ) → ℕ → List T → Bool
-is_numbered code_of first [] = true
-is_numbered code_of first (entry ∷ table) = nat_eq (code_of entry) first && is_numbered code_of (suc first) table

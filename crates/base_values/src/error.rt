@@ -6,7 +6,7 @@ use crate::exact::Exact;
 use std::alloc::{AllocError, AllocFailed};
 use thiserror::Error;
 
-/// Why an edit, or a question about a workbook, is refused. A refused call changes nothing.
+/// Why an edit, or a question about a workbook, is refused. Each call says what stays after a refusal.
 #[derive(Clone, Copy, Debug, Error)]
 pub enum EditError {
     #[error("there is not enough memory")]
@@ -21,7 +21,7 @@ pub enum EditError {
     InvalidArea,
     #[error("the count of lines is below 1")]
     BadCount,
-    #[error("stored cells would be pushed past the last line")]
+    #[error("the last line that is in use would be pushed past the edge of the sheet")]
     OverEdge,
     #[error("the lines or their target reach outside the sheet")]
     TargetOutOfBounds,

@@ -4,7 +4,7 @@ use Rattle.std.specs.Int.{w128}
 use Rattle.base_tables.specs.declared.Error.{Error}
 use Rattle.base_tables.specs.Error.{error_of_code}
 use Rattle.base_decimal.specs.declared.Decimal.{Decimal}
-use Rattle.base_decimal.specs.Kept.{is_kept}
+use Rattle.base_decimal.specs.Canonical.{is_canonical}
 use Rattle.base_wire.specs.Reading.{Reader, map_at, ◌⊗◌, check_at, byte_at, coded_at, code_at, signed_at}
 use Rattle.base_wire.specs.Spelling.{spell_signed, boolean_code, booleans}
 
@@ -23,4 +23,4 @@ decimal_made x = record { mantissa = x.0; places = x.1 }
 
 -- only numbers that a workbook keeps are spelled
 unfoldable pub decimal_at : Reader Decimal
-decimal_at = check_at is_kept (map_at decimal_made (signed_at w128 ⊗ byte_at))
+decimal_at = check_at is_canonical (map_at decimal_made (signed_at w128 ⊗ byte_at))

@@ -121,7 +121,7 @@ pub(crate) fn decimal_at(bytes: &[u8]) -> Result<(Decimal, &[u8]), EditError>
     let (mantissa, rest) = i128_at(bytes)?;
     let (places, rest) = byte_at(rest)?;
     let number = Decimal { mantissa, places };
-    if !number.is_kept() {
+    if !number.is_canonical() {
         return Err(EditError::ParseDiffs);
     }
     Ok((number, rest))

@@ -231,7 +231,7 @@ impl Part for Error {
 }
 
 impl Part for Decimal {
-    ghost use Rattle.base_decimal.specs.Kept.{IsKept};
+    ghost use Rattle.base_decimal.specs.Canonical.{IsCanonical};
     ghost use Rattle.base_wire.specs.Parts.{spell_decimal, decimal_at};
     ghost use Rattle.base_wire.specs.laws.Parts.{decimal_format, decimal_some};
 
@@ -239,9 +239,9 @@ impl Part for Decimal {
 
     type Context = ();
 
-    ghost Known = { IsKept };
+    ghost Known = { IsCanonical };
 
-    ghost Fits = { IsKept };
+    ghost Fits = { IsCanonical };
 
     ghost spelling = { spell_decimal };
 

@@ -16,7 +16,7 @@ use base_shared::Shared;
 use base_styles::Style;
 use base_tables::{Locale, Zone};
 use base_values::{EditError, LAST_ROW};
-use formula_tree::{Corner, Node, SumKind, has_kept_numbers};
+use formula_tree::{Corner, Node, SumKind, has_canonical_numbers};
 use line_map::{EditKind, LineEdit};
 use sheet_actions::Model;
 use sheet_grid::{Workbook, Worksheet};
@@ -47,7 +47,7 @@ fn put_formula(
     style: &Shared<Style>,
 ) -> Result<(), EditError> {
     let tree = formula(alloc)?;
-    if has_kept_numbers(&tree) {
+    if has_canonical_numbers(&tree) {
         sheet.set_cell_with_formula(row, 3, tree, style)?;
     }
     Ok(())

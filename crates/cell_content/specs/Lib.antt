@@ -1,4 +1,4 @@
 pub mod Fitting
-pub mod KeptContent
+pub mod CanonicalContent
 pub mod Lens
 pub mod laws

@@ -14,16 +14,17 @@ fn is_shallow(tree: &Node) -> bool
     is_at_most_deep(tree, MAX_DEPTH)
 }
 
+/// Whether a tree may stand at a place: each corner lies inside the sheet, the corners of each range
+/// are in order, no number is negative, and it is at most 64 deep.
 #[tactic(auto, unfolding(crate::specs::Fitting::tree_fits_at))]
-fn tree_fits_at(place: Position, tree: &Node) -> bool
+pub fn tree_fits_at(place: Position, tree: &Node) -> bool
     ensures { result ≡ tree_fits_at place tree.now }
 {
     is_placed(tree, place) && is_shallow(tree) && has_no_negative_number(tree)
 }
 
-/// Whether a content may stand at a place: of a formula each corner lies inside the sheet, the
-/// corners of each range are in order, no number is negative, and it is at most 64 deep. Any other
-/// content fits everywhere.
+/// Whether a content may stand at a place: the tree of a formula may. Any other content fits
+/// everywhere.
 pub fn fits_at(place: Position, content: &Content) -> bool
     ensures { result ≡ fits_at place content.now }
 {

@@ -14,7 +14,7 @@ use Rattle.formula_tree.specs.declared.Node.{Node}
 use Rattle.formula_grammar.specs.declared.Profile.{Profile}
 use Rattle.cell_content.specs.declared.Content.{Content}
 use Rattle.cell_content.specs.declared.Content.TheVariants.{Empty, Number, Boolean, Error, Text, Formula, Dynamic, Array}
-use Rattle.cell_content.specs.KeptContent.{IsKeptContent}
+use Rattle.cell_content.specs.CanonicalContent.{IsCanonicalContent}
 use Rattle.formula_read.specs.Formula.{formula_of}
 
 -- ---- reading
@@ -90,4 +90,4 @@ has_no_tree (Array _ _ _) = false
 -- what is printed of a content without a formula is read as that content
 abbrev pub IsReadAgain : Type 0
 IsReadAgain =
-    (p : Profile) (content : Content) → has_no_tree content ≡ true → IsKeptContent content → input_of p (input_text p content) ≡ content
+    (p : Profile) (content : Content) → has_no_tree content ≡ true → IsCanonicalContent content → input_of p (input_text p content) ≡ content

@@ -3,7 +3,7 @@ ghost use Rattle.base_values.specs.declared.error.EditError.TheVariants.{NoMemor
 ghost use Rattle.base_values.specs.declared.Position.{Position as AnyPosition};
 ghost use Rattle.base_values.specs.Places.{IsPlace};
 ghost use Rattle.formula_tree.specs.Context.{context_place};
-ghost use Rattle.cell_content.specs.KeptContent.{IsKeptContent};
+ghost use Rattle.cell_content.specs.CanonicalContent.{IsCanonicalContent};
 ghost use Rattle.cell_content.specs.Fitting.{fits_at};
 ghost use Rattle.cell_content.specs.declared.Content.TheVariants.{Text as TextContent, Formula as FormulaContent};
 ghost use Rattle.formula_read.specs.Formula.{formula_of, profile_of};
@@ -22,7 +22,7 @@ use std::alloc::Global;
 #[tactic(auto, unfolding(crate::specs::Inputs::value_of_text))]
 fn read_value(text: &str, locale: Locale, language: Language) -> Option<Content>
     ensures value { result ≡ value_of_text locale language text.now }
-    ensures kept { IfSome result IsKeptContent }
+    ensures canonical { IfSome result IsCanonicalContent }
     ensures fits { (place : AnyPosition) → IfSome result (λ content. fits_at place content ≡ true) }
 {
     if let Some(value) = read_boolean(text, language) {
@@ -52,7 +52,7 @@ fn cell_content(
 ) -> Result<Content, EditError>
     requires place { IsPlace (context_place context.now) }
     ensures value { IfOk result (λ content. content ≡ FormulaContent (formula_of (profile_of context.now locale language) text.now)) }
-    ensures kept { IfOk result IsKeptContent }
+    ensures canonical { IfOk result IsCanonicalContent }
     ensures fits { IfOk result (λ content. fits_at (context_place context.now) content ≡ true) }
     ensures memory { IsOkUnless result NoMemory }
 {
@@ -75,7 +75,7 @@ pub fn read_input(
 ) -> Result<Content, EditError>
     requires place { IsPlace (context_place context.now) }
     ensures value { IfOk result (λ content. content ≡ input_of (profile_of context.now locale language) text.now) }
-    ensures kept { IfOk result IsKeptContent }
+    ensures canonical { IfOk result IsCanonicalContent }
     ensures fits { IfOk result (λ content. fits_at (context_place context.now) content ≡ true) }
     ensures memory { IsOkUnless result NoMemory }
 {

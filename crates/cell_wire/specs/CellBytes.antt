@@ -3,13 +3,13 @@ use Rattle.std.specs.Prelude.{ℕ, ℤ, List, [], ◌∷◌, ◌++◌, ◌==◌,
 use Rattle.std.specs.Int.{w32}
 use Rattle.base_values.specs.declared.Position.{Position}
 use Rattle.base_tables.specs.Error.{error_code}
-use Rattle.base_decimal.specs.Kept.{IsKept}
+use Rattle.base_decimal.specs.Canonical.{IsCanonical}
 use Rattle.base_styles.specs.declared.Style.{Style}
 use Rattle.formula_tree.specs.declared.Node.{Node}
 use Rattle.cell_content.specs.declared.Content.{Content}
 use Rattle.cell_content.specs.declared.Content.TheVariants.{Empty, Number, Boolean, Error as ErrorValue, Text, Formula, Dynamic, Array}
 use Rattle.sheet_grid.specs.declared.Cell.{Cell}
-use Rattle.sheet_grid.specs.KeptCell.{IsKeptCell}
+use Rattle.sheet_grid.specs.CanonicalCell.{IsCanonicalCell}
 use Rattle.cell_content.specs.Fitting.{is_shallow}
 use Rattle.base_wire.specs.Reading.{Reader, plain, refused, map_at, ◌⊗◌, tagged_at, signed_at, text_at}
 use Rattle.base_wire.specs.Spelling.{spell_signed, spell_code, boolean_code, spell_text, FitsText}
@@ -80,10 +80,10 @@ content_of kind =
 unfoldable pub content_at : Reader Content
 content_at = tagged_at content_of
 
--- a number is as a sheet keeps it, a text is one of Rust, a tree one that bytes can carry, and the sides of an array have 32 bits
+-- a number is canonical, a text is one of Rust, a tree one that bytes can carry, and the sides of an array have 32 bits
 abbrev pub FitsContent : Content → Type 0
 FitsContent Empty = Unit {0}
-FitsContent (Number number) = IsKept number
+FitsContent (Number number) = IsCanonical number
 FitsContent (Boolean value) = Unit {0}
 FitsContent (ErrorValue error) = Unit {0}
 FitsContent (Text text) = FitsText text
@@ -108,7 +108,7 @@ pub record FitsCell (cell : Cell) : Type 0 where
   pub content : FitsContent cell.content
   pub style : FitsStyle cell.style
 
--- what writing asks of a cell: its numbers are kept, and its formula is at most 64 deep
+-- what writing asks of a cell: its numbers are canonical, and its formula is at most 64 deep
 pub record IsKnownCell (cell : Cell) : Type 0 where
-  pub kept : IsKeptCell cell
+  pub canonical : IsCanonicalCell cell
   pub shallow : IsTrue (is_shallow cell.content)

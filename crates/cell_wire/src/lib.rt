@@ -1,4 +1,4 @@
-//! Styles, positions, cells, links and merged cells as bytes, in both directions.
+//! Colours, styles, positions, cells, links and merged cells as bytes, in both directions.
 //!
 //! The layers above see of each a spelling, which is a function of the value: a value that bytes can
 //! carry is read again from its spelling whatever follows, what is read was spelled so, and all else
@@ -18,4 +18,4 @@ mod writing;
 pub use codes::theme_code;
 pub use encode::encode_style;
 pub use merges::{LinkPart, MergeListPart};
-pub use parts::{CellPart, PositionPart, StylePart};
+pub use parts::{CellPart, ColorPart, PositionPart, StylePart};

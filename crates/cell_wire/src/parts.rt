@@ -1,14 +1,54 @@
-//! Border sides, alignments, styles, positions and cells as parts of formats.
+//! Colours, border sides, alignments, styles, positions and cells as parts of formats.
 
 use crate::reading_cells::{cell_at, position_at};
-use crate::reading_styles::{alignment_at, border_item_at, style_at};
-use crate::writing::{put_alignment, put_border_item, put_cell, put_position, put_style};
+use crate::reading_styles::{alignment_at, border_item_at, color_at, style_at};
+use crate::writing::{
+    put_alignment, put_border_item, put_cell, put_color, put_position, put_style,
+};
 use base_shared::Shared;
-use base_styles::{Alignment, BorderItem, Style};
+use base_styles::{Alignment, BorderItem, Color, Style};
 use base_values::{EditError, Position};
 use base_wire::Part;
 use sheet_grid::Cell;
 use std::alloc::{AllocError, Global};
+
+/// A colour: 0 for none, 1 and its red, green and blue parts, or 2 and the code of a theme colour
+/// (docs/FORMATS.md, "Bytes").
+pub struct ColorPart;
+
+impl Part for ColorPart {
+    ghost use Rattle.base_wire.specs.Spelling.{Any};
+    ghost use Rattle.cell_wire.specs.StyleBytes.{color_at, spell_color, FitsColor};
+    ghost use Rattle.cell_wire.specs.laws.Formats.{color_format, color_some};
+
+    type Value = Color;
+
+    type Context = ();
+
+    ghost Known = { Any };
+
+    ghost Fits = { FitsColor };
+
+    ghost spelling = { spell_color };
+
+    ghost reading = { color_at };
+
+    fn put(out: &mut Vec<u8>, value: &Color) -> Result<(), AllocError> {
+        put_color(out, *value)
+    }
+
+    fn take<'a>(
+        alloc: Global,
+        _context: &(),
+        bytes: &'a [u8],
+    ) -> Result<(Color, &'a [u8]), EditError> {
+        color_at(alloc, bytes)
+    }
+
+    ghost format = { color_format };
+
+    ghost some = { color_some };
+}
 
 /// A side of a border.
 pub(crate) struct BorderItemPart;

@@ -50,7 +50,7 @@ fn vertical_at(alloc: Global, bytes: &[u8]) -> Result<(VerticalAlignment, &[u8])
 }
 
 #[tactic(auto, unfolding(crate::specs::StyleBytes::color_at))]
-fn color_at(alloc: Global, bytes: &[u8]) -> Result<(Color, &[u8]), EditError>
+pub(crate) fn color_at(alloc: Global, bytes: &[u8]) -> Result<(Color, &[u8]), EditError>
     ensures { Answers (map_ok (λ x. (x.0, x.1.now)) result) (color_at bytes.now) }
 {
     let (kind, rest) = read::<u8>(alloc, bytes)?;

@@ -3,7 +3,7 @@
 
 ghost use Rattle.std.specs.Prelude.{◌≡◌, ◌++◌, IsTrue, OnOk};
 ghost use Rattle.cell_content.specs.Fitting.{is_shallow};
-ghost use Rattle.cell_content.specs.KeptContent.{IsKeptContent};
+ghost use Rattle.cell_content.specs.CanonicalContent.{IsCanonicalContent};
 ghost use Rattle.formula_wire.specs.Carried.{IsKnownNode};
 ghost use Rattle.cell_wire.specs.StyleBytes.{spell_alignment, spell_border, spell_border_item, spell_color, spell_font, spell_style, FitsBorder, FitsBorderItem, FitsColor, FitsFont, FitsStyle};
 ghost use Rattle.cell_wire.specs.CellBytes.{spell_array, spell_cell, spell_content, spell_position, FitsArray, FitsCell, FitsContent, FitsPosition, IsKnownCell};
@@ -19,7 +19,7 @@ use formula_wire::push_node;
 use sheet_grid::{Cell, Content};
 use std::alloc::AllocError;
 
-fn put_color(out: &mut Vec<u8>, color: Color) -> Result<(), AllocError>
+pub(crate) fn put_color(out: &mut Vec<u8>, color: Color) -> Result<(), AllocError>
     ensures spelled { OnOk result (out.new.items ≡ out.old.items ++ spell_color color) }
     ensures fits { OnOk result (FitsColor color) }
 {
@@ -102,7 +102,7 @@ fn put_array(out: &mut Vec<u8>, tree: &Node, width: i32, height: i32) -> Result<
 
 fn put_content(out: &mut Vec<u8>, content: &Content) -> Result<(), AllocError>
     ensures spelled { OnOk result (out.new.items ≡ out.old.items ++ spell_content content.now) }
-    ensures fits { OnOk result (IsKeptContent content.now → IsTrue (is_shallow content.now) → FitsContent content.now) }
+    ensures fits { OnOk result (IsCanonicalContent content.now → IsTrue (is_shallow content.now) → FitsContent content.now) }
 {
     match content {
         Content::Empty => out.push(0)?,

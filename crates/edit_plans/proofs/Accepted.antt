@@ -22,13 +22,17 @@ use Rattle.sheet_rules.specs.Occupied.{is_merge, meets_any}
 use Rattle.sheet_rules.specs.WellFormed.{IsWellFormed}
 use Rattle.sheet_history.specs.declared.Diff.{Diff}
 use Rattle.sheet_history.specs.declared.Diff.TheVariants.{Merges as MergesDiff}
+use Rattle.sheet_history.specs.declared.SheetField.{SheetField}
+use Rattle.sheet_history.specs.Fields.{field_of, with_field}
 use Rattle.sheet_history.specs.Records.{IsRecord}
 use Rattle.edit_plans.specs.Plans.{HasRecord}
 use Rattle.edit_plans.specs.Edits.{Edit, IsGiven, changed, is_of_entries}
-use Rattle.edit_plans.specs.Edits.Edit.{Input, ArrayInput, SetLink, Merge, Unmerge, Lines, MoveLines}
+use Rattle.edit_plans.specs.Edits.Edit.{Input, ArrayInput, SetLink, Merge, Unmerge, Lines, MoveLines, AddSheet, CopySheet, DeleteSheet, MoveSheet, SetField}
 use Rattle.edit_plans.specs.Inputs.{IsInput, input_place, input_put, with_input}
 use Rattle.edit_plans.specs.Links.{link_set}
-use Rattle.edit_plans.specs.Merging.{merge_diffs, merge_made, merge_undone, merged_in, merges_without, unmerged_at, unmerged_in, with_merge, without_merge}
+use Rattle.edit_plans.specs.Merging.{merge_diffs, merge_made, merge_undone, merged_in, unmerged_at, unmerged_in, with_merge, without_merge}
+use Rattle.edit_plans.specs.SheetEdits.{field_set, field_change}
+use Rattle.edit_plans.specs.laws.FieldPlans.{field_exact, field_well_formed}
 use Rattle.edit_plans.specs.laws.InputLaws.{input_exact, input_well_formed}
 use Rattle.edit_plans.specs.laws.LinkLaws.{link_exact, link_well_formed}
 use Rattle.edit_plans.specs.ArrayInputs.{array_area, array_diffs, array_put, with_array}
@@ -128,6 +132,13 @@ array_has_record index r tree w later rules fits how =
         (array_exact w index r tree sheet at rules fits area goes) (array_well_formed w index r tree sheet at rules fits area goes)
     go sheet next at is (Err error) goes e = absurd (let never : ◌≡◌ {A = Result Sheet EditError} (Err error) (Ok next) = e in cc)
 
+pub field_has_record : (index : ℕ) (value : SheetField) (w later : Book) → IsWellFormed w → field_set index value w ≡ Ok later → HasRecord w later
+unfolding field_set
+field_has_record index value w later rules how =
+    let it = edited w index (λ s. Ok (with_field (field_of value) value s)) later how in
+    has_record w index it.next (with_field (field_of value) value it.sheet) later (field_change it.sheet value) it.done it.later_is
+    (field_exact w index value rules it.sheet it.at) (field_well_formed w index value rules it.sheet it.at)
+
 pub accepted : (edit : Edit) (earlier later : Book) → IsTrue (is_of_entries edit) → IsGiven edit → IsWellFormed earlier → changed edit earlier ≡ Ok later → HasRecord earlier later
 accepted (Input index row column content) earlier later is given rules how = input_has_record index row column content earlier later rules given how
 accepted (ArrayInput index r tree) earlier later is given rules how = array_has_record index r tree earlier later rules given how
@@ -136,3 +147,8 @@ accepted (Merge index r) earlier later is given rules how = merge_has_record ind
 accepted (Unmerge index row column) earlier later is given rules how = unmerge_has_record index row column earlier later rules how
 accepted (Lines index axis kind) earlier later is given rules how = absurd (let never : false ≡ true = is in cc)
 accepted (MoveLines index axis first count delta) earlier later is given rules how = absurd (let never : false ≡ true = is in cc)
+accepted AddSheet earlier later is given rules how = absurd (let never : false ≡ true = is in cc)
+accepted (CopySheet index) earlier later is given rules how = absurd (let never : false ≡ true = is in cc)
+accepted (DeleteSheet index) earlier later is given rules how = absurd (let never : false ≡ true = is in cc)
+accepted (MoveSheet from to) earlier later is given rules how = absurd (let never : false ≡ true = is in cc)
+accepted (SetField index value) earlier later is given rules how = field_has_record index value earlier later rules how

@@ -17,7 +17,7 @@ use Rattle.sheet_grid.specs.Book.{Book, sheet_at, with_sheet}
 use Rattle.sheet_grid.specs.laws.FittingLaws.{place_is}
 use Rattle.sheet_rules.specs.WellFormed.{IsWellFormed}
 use Rattle.sheet_history.specs.declared.Diff.{Diff}
-use Rattle.sheet_history.specs.Diffs.{IsKeptList}
+use Rattle.sheet_history.specs.Diffs.{IsCanonicalList}
 use Rattle.sheet_history.specs.Records.{IsRecord}
 use Rattle.sheet_history.specs.laws.RuleLaws.{KeepsSheetRules}
 use Rattle.edit_plans.specs.ArrayInputs.{free_area, array_area, with_array, array_put, array_diffs}
@@ -82,22 +82,22 @@ module _ (w : Book) (index : ℕ) (r : MergedCell) (tree : Node) where
       abbrev later : Book
       later = with_sheet w index (with_array sheet area tree)
 
-      plan : (list : List Diff) → list ≡ array_diffs area tree sheet → IsKeptList list → IsPlan w list later
+      plan : (list : List Diff) → list ≡ array_diffs area tree sheet → IsCanonicalList list → IsPlan w list later
       plan list is kept =
           subst (λ a. IsPlan w list (with_sheet w index (with_array sheet a tree))) may.1
           (record {
             exact = subst (IsRecord w (with_sheet w index (with_array sheet r tree))) (sym (is ∙ ap (λ a. array_diffs a tree sheet) (sym may.1))) array_exact;
             rules = array_well_formed;
-            kept = kept;
+            canonical = kept;
           })
 
-      of_result : (result : Result (List Diff) EditError) → IfOk result (λ list. list ≡ array_diffs area tree sheet) → IfOk result IsKeptList
+      of_result : (result : Result (List Diff) EditError) → IfOk result (λ list. list ≡ array_diffs area tree sheet) → IfOk result IsCanonicalList
           → IfOk result (λ list. IsPlan w list later)
       of_result (Ok list) is kept = plan list is kept
       of_result (Err error) is kept = tt
 
       -- where it takes it
-      pub array_planned : (result : Result (List Diff) EditError) → IfOk result (λ list. list ≡ array_diffs area tree sheet) → IfOk result IsKeptList
+      pub array_planned : (result : Result (List Diff) EditError) → IfOk result (λ list. list ≡ array_diffs area tree sheet) → IfOk result IsCanonicalList
           → IsOkUnless result NoMemory
           → Plans result w (array_put index r tree w)
       unfolding array_put

@@ -15,7 +15,7 @@ use Rattle.sheet_rules.specs.Occupied.{is_merge, meets_any}
 use Rattle.sheet_rules.specs.WellFormed.{IsWellFormed}
 use Rattle.sheet_history.specs.declared.Diff.{Diff}
 use Rattle.sheet_history.specs.declared.Diff.TheVariants.{Merges as MergesDiff}
-use Rattle.sheet_history.specs.Diffs.{IsKeptList}
+use Rattle.sheet_history.specs.Diffs.{IsCanonicalList}
 use Rattle.sheet_history.specs.Records.{IsRecord}
 use Rattle.edit_plans.specs.Merging.{with_merge, merged_in, merge_made, merge_diffs, merges_without, without_merge, unmerged_at, unmerged_in, merge_undone}
 use Rattle.edit_plans.specs.Plans.{IsPlan, Plans}
@@ -58,10 +58,10 @@ module _ (w : Book) (index : ℕ) where
     unfolding merge_undone
     unmerge_refused row column error other is = plan_refused w _ error (sheet_refuses w index _ sheet error at is) other
 
-    module _ (rules : IsWellFormed w) (result : Result (List Diff) EditError) (kept : IfOk result IsKeptList) (only : IsOkUnless result NoMemory) where
+    module _ (rules : IsWellFormed w) (result : Result (List Diff) EditError) (kept : IfOk result IsCanonicalList) (only : IsOkUnless result NoMemory) where
       made_plan : (later : Book) (diffs : List Diff) → IsWellFormed later → IsRecord w later diffs → (answer : Result (List Diff) EditError)
-          → IfOk answer (λ list. list ≡ diffs) → IfOk answer IsKeptList → IfOk answer (λ list. IsPlan w list later)
-      made_plan later diffs well exact (Ok list) made fit = record { exact = subst (IsRecord w later) (sym made) exact; rules = well; kept = fit }
+          → IfOk answer (λ list. list ≡ diffs) → IfOk answer IsCanonicalList → IfOk answer (λ list. IsPlan w list later)
+      made_plan later diffs well exact (Ok list) made fit = record { exact = subst (IsRecord w later) (sym made) exact; rules = well; canonical = fit }
       made_plan later diffs well exact (Err error) made fit = tt
 
       pub merge_planned : (r : MergedCell) → merged_in r sheet ≡ Ok (with_merge sheet r) → IfOk result (λ list. list ≡ merge_diffs r sheet)

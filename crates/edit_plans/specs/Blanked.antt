@@ -26,10 +26,6 @@ blanked_cell r place cell = if covers r place then blank_cell cell else cell
 unfoldable pub blanked : MergedCell → FinMap position_cmp Cell → FinMap position_cmp Cell
 blanked r cells = fin.from_entries (map (λ (entry : Position × Cell). (entry.0, blanked_cell r entry.0 entry.1)) (fin.entries cells))
 
--- the sheet with these cells
-abbrev pub blanked_sheet : MergedCell → Sheet → Sheet
-blanked_sheet r sheet = record sheet { cells = blanked r sheet.cells }
-
 -- a rectangle takes the content of a cell away
 abbrev pub loses : MergedCell → Position → Cell → Bool
 loses r place cell = covers r place && not (is_empty cell.content)

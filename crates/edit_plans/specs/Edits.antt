@@ -19,6 +19,7 @@ use Rattle.sheet_grid.specs.Book.{Book, sheet_at}
 use Rattle.sheet_actions.specs.Edited.{lines_edited}
 use Rattle.sheet_history.specs.declared.Diff.{Diff}
 use Rattle.sheet_history.specs.declared.LineAxis.{LineAxis}
+use Rattle.sheet_history.specs.declared.SheetField.{SheetField}
 use Rattle.sheet_history.specs.LineDiffs.{along_of}
 use Rattle.sheet_history.specs.Records.{line_record, record_between}
 use Rattle.edit_plans.specs.Inputs.{IsInput, input_put}
@@ -26,8 +27,9 @@ use Rattle.edit_plans.specs.ArrayInputs.{array_put}
 use Rattle.edit_plans.specs.Links.{link_set}
 use Rattle.edit_plans.specs.Merging.{merge_made, merge_undone}
 use Rattle.edit_plans.specs.HiddenLines.{grown}
+use Rattle.edit_plans.specs.SheetEdits.{sheet_added, sheet_copied, sheet_deleted, sheet_taken, stays_there, field_set, added_record, copied_record, deleted_record, taken_record}
 
--- an edit with its arguments. The first is the index of its sheet
+-- an edit with its arguments. The first is the index of its sheet, but for a new sheet
 pub data Edit : Type 0 where
   -- the content that goes to a row and a column
   Input : ℕ → ℤ → ℤ → Content → Edit
@@ -43,11 +45,33 @@ pub data Edit : Type 0 where
   Lines : ℕ → LineAxis → EditKind → Edit
   -- the first row or column of those that are moved, how many, and by how many, hidden ones in the way aside
   MoveLines : ℕ → LineAxis → ℤ → ℤ → ℤ → Edit
+  -- a new sheet
+  AddSheet : Edit
+  -- the sheet that is copied
+  CopySheet : ℕ → Edit
+  -- the sheet that is deleted
+  DeleteSheet : ℕ → Edit
+  -- the sheet that is moved, and the index to which it is taken
+  MoveSheet : ℕ → ℕ → Edit
+  -- what a field of a sheet becomes
+  SetField : ℕ → SheetField → Edit
 
--- whether an edit is one of entries, not of lines
+-- whether an edit is one of the list of the sheets
+abbrev pub is_of_sheets : Edit → Bool
+is_of_sheets AddSheet = true
+is_of_sheets (CopySheet index) = true
+is_of_sheets (DeleteSheet index) = true
+is_of_sheets (MoveSheet from to) = true
+is_of_sheets edit = false
+
+-- whether an edit is one of entries, not of lines and not of the list of the sheets
 abbrev pub is_of_entries : Edit → Bool
 is_of_entries (Lines index axis kind) = false
 is_of_entries (MoveLines index axis first count delta) = false
+is_of_entries AddSheet = false
+is_of_entries (CopySheet index) = false
+is_of_entries (DeleteSheet index) = false
+is_of_entries (MoveSheet from to) = false
 is_of_entries edit = true
 
 -- what a content that is put has to be: it may stand at its place, and it is an array just where it is put in a rectangle
@@ -60,10 +84,11 @@ IsGiven edit = Unit {0}
 abbrev pub grown_move : Along → ℤ → ℤ → ℤ → Sheet → EditKind
 grown_move a first count delta sheet = Move first count (grown a sheet first count delta)
 
--- where no line moves, or by none, a move does nothing, whatever else is asked
-abbrev pub is_silent : Edit → Bool
-is_silent (MoveLines index axis first count delta) = int_eq delta (pos 0) || int_lt count (pos 1)
-is_silent edit = false
+-- where no line moves, or by none, a move does nothing, whatever else is asked. Nor does the move of a sheet that is there to its own index
+abbrev pub is_silent : Edit → Book → Bool
+is_silent (MoveLines index axis first count delta) book = int_eq delta (pos 0) || int_lt count (pos 1)
+is_silent (MoveSheet from to) book = stays_there from to book
+is_silent edit book = false
 
 -- the workbook after an edit, or the edit's first refusal
 abbrev pub changed : Edit → Book → Result Book EditError
@@ -75,15 +100,24 @@ changed (Unmerge index row column) book = merge_undone index row column book
 changed (Lines index axis kind) book = lines_edited (along_of axis) kind index book
 changed (MoveLines index axis first count delta) book =
     and_then (sheet_at book index) (λ sheet. lines_edited (along_of axis) (grown_move (along_of axis) first count delta sheet) index book)
+changed AddSheet book = sheet_added book
+changed (CopySheet index) book = sheet_copied index book
+changed (DeleteSheet index) book = sheet_deleted index book
+changed (MoveSheet from to) book = sheet_taken from to book
+changed (SetField index value) book = field_set index value book
 
 -- the record of an edit of lines of a sheet, if it is there
 abbrev pub lines_record : LineAxis → (Sheet → EditKind) → Book → Result Sheet EditError → List Diff
 lines_record axis kind book (Ok sheet) = line_record axis (kind sheet) sheet.id book
 lines_record axis kind book (Err error) = []
 
--- the record of an edit that led from one workbook to another: the edit of lines with what taking it back does not give, else the entries
--- that differ
+-- the record of an edit that led from one workbook to another: the edit of lines with what taking it back does not give, the one diff of
+-- an edit of the list of the sheets, else the entries that differ
 abbrev pub record_of : Edit → Book → Book → List Diff
 record_of (Lines index axis kind) earlier later = lines_record axis (λ sheet. kind) earlier (sheet_at earlier index)
 record_of (MoveLines index axis first count delta) earlier later = lines_record axis (grown_move (along_of axis) first count delta) earlier (sheet_at earlier index)
+record_of AddSheet earlier later = added_record earlier
+record_of (CopySheet index) earlier later = copied_record index earlier
+record_of (DeleteSheet index) earlier later = deleted_record index earlier
+record_of (MoveSheet from to) earlier later = taken_record from to earlier
 record_of edit earlier later = record_between earlier later

@@ -5,5 +5,7 @@ pub mod Blanked
 pub mod Merging
 pub mod ArrayInputs
 pub mod HiddenLines
+pub mod SheetEdits
 pub mod Edits
+pub mod ViewSteps
 pub mod laws

@@ -12,3 +12,6 @@ pub mod MappedMaps
 pub mod MergeRecords
 pub mod PlanLaws
 pub mod SheetRecords
+pub mod SheetEditLaws
+pub mod SheetPlans
+pub mod FieldPlans

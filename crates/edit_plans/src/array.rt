@@ -6,9 +6,9 @@ ghost use Rattle.base_values.specs.declared.EditError.TheVariants.{NoMemory};
 ghost use Rattle.base_values.specs.Places.{place_of};
 ghost use Rattle.cell_content.specs.Fitting.{fits_at};
 ghost use Rattle.cell_content.specs.declared.Content.TheVariants.{Array};
-ghost use Rattle.formula_tree.specs.Numbers.{has_kept_numbers};
+ghost use Rattle.formula_tree.specs.Numbers.{has_canonical_numbers};
 ghost use Rattle.sheet_rules.specs.WellFormed.{IsWellFormed};
-ghost use Rattle.sheet_history.specs.Diffs.{IsKeptList};
+ghost use Rattle.sheet_history.specs.Diffs.{IsCanonicalList};
 ghost use Rattle.edit_plans.specs.ArrayInputs.{hits_merge, free_area, array_area, array_put, array_diffs};
 ghost use Rattle.edit_plans.specs.Plans.{Plans};
 
@@ -76,9 +76,9 @@ fn array_list(
     tree: Shared<Node>,
 ) -> Result<DiffList, EditError>
     requires place { place_of area.row area.column ≡ Ok (anchor_place area) }
-    requires kept { IsTrue (has_kept_numbers tree) }
+    requires canonical { IsTrue (has_canonical_numbers tree) }
     ensures made { IfOk result (λ list. list ≡ array_diffs area tree sheet.now) }
-    ensures kept { IfOk result IsKeptList }
+    ensures canonical { IfOk result IsCanonicalList }
     ensures only { IsOkUnless result NoMemory }
 {
     let content = Content::Array {
@@ -112,7 +112,7 @@ pub fn plan_array(
     tree: Shared<Node>,
 ) -> Result<DiffList, EditError>
     requires rules { IsWellFormed workbook.now }
-    requires kept { IsTrue (has_kept_numbers tree) }
+    requires canonical { IsTrue (has_canonical_numbers tree) }
     requires fits { IsTrue (fits_at (anchor_place area) (Array tree area.width area.height)) }
     ensures planned { Plans result workbook.now (array_put sheet area tree workbook.now) }
 {

@@ -3,9 +3,9 @@
 ghost use Rattle.std.specs.Prelude.{◌≡◌, ◌++◌, Ok, IfOk, IfSome, OnOk, IsOkUnless};
 ghost use Rattle.base_values.specs.Answers.{Returns};
 ghost use Rattle.base_values.specs.declared.EditError.TheVariants.{NoMemory};
-ghost use Rattle.sheet_grid.specs.KeptCell.{IsKeptCell};
+ghost use Rattle.sheet_grid.specs.CanonicalCell.{IsCanonicalCell};
 ghost use Rattle.sheet_grid.specs.Merges.{is_empty};
-ghost use Rattle.sheet_history.specs.Diffs.{IsKeptDiff, IsKeptList};
+ghost use Rattle.sheet_history.specs.Diffs.{IsCanonicalDiff, IsCanonicalList};
 ghost use Rattle.sheet_rules.specs.Occupied.{covers};
 ghost use Rattle.edit_plans.specs.Blanked.{blank_cell, blank_diff, blank_diffs, loses};
 
@@ -42,7 +42,7 @@ fn loses(area: MergedCell, place: Position, cell: &Cell) -> bool
 /// A cell without its content. It holds the style together with the cell.
 fn blank_cell(alloc: Global, cell: &Cell) -> Result<Shared<Cell>, EditError>
     ensures made { Returns result (Ok (blank_cell cell.now)) }
-    ensures kept { IfOk result IsKeptCell }
+    ensures canonical { IfOk result IsCanonicalCell }
 {
     let style = copy_of(&cell.style)?;
     let content = Content::Empty;
@@ -57,9 +57,9 @@ fn blank_diff(
     position: Position,
     cell: &Shared<Cell>,
 ) -> Result<Option<Diff>, EditError>
-    requires { IsKeptCell cell.now }
+    requires { IsCanonicalCell cell.now }
     ensures made { IfOk result (λ diff. diff ≡ blank_diff sheet area (position, cell.now)) }
-    ensures kept { IfOk result (λ diff. IfSome diff IsKeptDiff) }
+    ensures canonical { IfOk result (λ diff. IfSome diff IsCanonicalDiff) }
     ensures only { IsOkUnless result NoMemory }
 {
     if !loses(area, position, cell.get()) {
@@ -82,9 +82,9 @@ pub(crate) fn push_blank_diffs(
     area: MergedCell,
     list: &mut Items<Diff>,
 ) -> Result<(), EditError>
-    requires { IsKeptList list.old }
+    requires { IsCanonicalList list.old }
     ensures made { OnOk result (list.new ≡ list.old ++ blank_diffs area sheet.now) }
-    ensures kept { OnOk result (IsKeptList list.new) }
+    ensures canonical { OnOk result (IsCanonicalList list.new) }
     ensures only { IsOkUnless result NoMemory }
 {
     let id = sheet.get_sheet_id();

@@ -6,11 +6,11 @@ ghost use Rattle.std.specs.FinMap as fin;
 ghost use Rattle.base_values.specs.Answers.{Returns};
 ghost use Rattle.base_values.specs.declared.EditError.TheVariants.{NoMemory};
 ghost use Rattle.base_values.specs.Places.{place_of};
-ghost use Rattle.cell_content.specs.KeptContent.{IsKeptContent};
-ghost use Rattle.sheet_grid.specs.KeptCell.{IsKeptCell};
+ghost use Rattle.cell_content.specs.CanonicalContent.{IsCanonicalContent};
+ghost use Rattle.sheet_grid.specs.CanonicalCell.{IsCanonicalCell};
 ghost use Rattle.sheet_grid.specs.Merges.{is_covered, is_empty};
 ghost use Rattle.sheet_rules.specs.WellFormed.{IsWellFormed};
-ghost use Rattle.sheet_history.specs.Diffs.{IsKeptDiff, IsKeptList};
+ghost use Rattle.sheet_history.specs.Diffs.{IsCanonicalDiff, IsCanonicalList};
 ghost use Rattle.edit_plans.specs.Plans.{Plans};
 ghost use Rattle.edit_plans.specs.Inputs.{IsInput, entered, free_place, input_place, input_put, cell_record, link_record, input_record};
 
@@ -65,9 +65,9 @@ fn entered(
     content: Content,
     style: &Shared<Style>,
 ) -> Result<Option<Shared<Cell>>, EditError>
-    requires { IsKeptContent content }
+    requires { IsCanonicalContent content }
     ensures made { Returns result (Ok (entered old.now content style.now)) }
-    ensures kept { IfOk result (λ new. IfSome new IsKeptCell) }
+    ensures canonical { IfOk result (λ new. IfSome new IsCanonicalCell) }
 {
     if old.is_none() {
         if let Content::Empty = content {
@@ -87,9 +87,9 @@ pub(crate) fn cell_change(
     content: Content,
 ) -> Result<Option<Diff>, EditError>
     requires place { place_of place.row place.column ≡ Ok place }
-    requires kept { IsKeptContent content }
+    requires canonical { IsCanonicalContent content }
     ensures made { IfOk result (λ diff. cons_option diff [] ≡ cell_record content sheet.now place) }
-    ensures kept { IfOk result (λ diff. IfSome diff IsKeptDiff) }
+    ensures canonical { IfOk result (λ diff. IfSome diff IsCanonicalDiff) }
     ensures only { IsOkUnless result NoMemory }
 {
     let old = sheet.shared_cell(place.row, place.column)?;
@@ -107,7 +107,7 @@ fn link_left(
 ) -> Result<Option<Diff>, EditError>
     requires { place_of place.row place.column ≡ Ok place }
     ensures made { IfOk result (λ diff. cons_option diff [] ≡ link_record content.now sheet.now place) }
-    ensures kept { IfOk result (λ diff. IfSome diff IsKeptDiff) }
+    ensures canonical { IfOk result (λ diff. IfSome diff IsCanonicalDiff) }
     ensures only { IsOkUnless result NoMemory }
 {
     if !is_empty(content) {
@@ -125,9 +125,9 @@ fn input_list(
     content: Content,
 ) -> Result<DiffList, EditError>
     requires place { place_of place.row place.column ≡ Ok place }
-    requires kept { IsKeptContent content }
+    requires canonical { IsCanonicalContent content }
     ensures made { IfOk result (λ list. list ≡ input_record content sheet.now place) }
-    ensures kept { IfOk result IsKeptList }
+    ensures canonical { IfOk result IsCanonicalList }
     ensures only { IsOkUnless result NoMemory }
 {
     let link = link_left(sheet, place, &content)?;
@@ -153,7 +153,7 @@ pub fn plan_input(
     content: Content,
 ) -> Result<DiffList, EditError>
     requires rules { IsWellFormed workbook.now }
-    requires kept { IsKeptContent content }
+    requires canonical { IsCanonicalContent content }
     requires input { IsInput row column content }
     ensures planned { Plans result workbook.now (input_put sheet row column content workbook.now) }
 {

@@ -4,18 +4,26 @@
 
 mod array;
 mod blanked;
+mod field;
 mod hidden;
 mod input;
 mod laws;
 mod link;
 mod list;
 mod merge;
+mod sheets;
 mod unmerge;
+mod view;
 
 pub use array::{free_area, plan_array};
+pub use field::plan_field;
 pub use hidden::grown_delta;
 pub use input::{free_place, plan_input};
-pub use laws::edits_have_records;
+pub use laws::{edits_have_records, sheet_edits_go_both_ways};
 pub use link::plan_link;
 pub use merge::plan_merge;
+pub use sheets::{plan_copied_sheet, plan_deleted_sheet, plan_moved_sheet, plan_new_sheet};
 pub use unmerge::plan_unmerge;
+pub use view::{
+    selected_by_copy, selected_by_deletion, selected_by_field, selected_by_move, selected_by_new,
+};

@@ -5,7 +5,7 @@ ghost use Rattle.std.specs.List.{cons_option};
 ghost use Rattle.base_values.specs.declared.EditError.TheVariants.{NoMemory};
 ghost use Rattle.base_values.specs.Places.{place_of};
 ghost use Rattle.sheet_rules.specs.WellFormed.{IsWellFormed};
-ghost use Rattle.sheet_history.specs.Diffs.{IsKeptDiff, IsKeptList};
+ghost use Rattle.sheet_history.specs.Diffs.{IsCanonicalDiff, IsCanonicalList};
 ghost use Rattle.edit_plans.specs.Plans.{Plans};
 ghost use Rattle.edit_plans.specs.Links.{link_set, link_change};
 
@@ -23,7 +23,7 @@ pub(crate) fn link_change(
 ) -> Result<Option<Diff>, EditError>
     requires { place_of place.row place.column ≡ Ok place }
     ensures made { IfOk result (λ diff. cons_option diff [] ≡ link_change sheet.now place link) }
-    ensures kept { IfOk result (λ diff. IfSome diff IsKeptDiff) }
+    ensures canonical { IfOk result (λ diff. IfSome diff IsCanonicalDiff) }
     ensures only { IsOkUnless result NoMemory }
 {
     let old = sheet.link(place.row, place.column)?;
@@ -39,7 +39,7 @@ fn link_list(
 ) -> Result<DiffList, EditError>
     requires { place_of place.row place.column ≡ Ok place }
     ensures made { IfOk result (λ list. list ≡ link_change sheet.now place link) }
-    ensures kept { IfOk result IsKeptList }
+    ensures canonical { IfOk result IsCanonicalList }
     ensures only { IsOkUnless result NoMemory }
 {
     let diff = link_change(sheet, place, link)?;

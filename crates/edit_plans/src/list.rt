@@ -4,8 +4,8 @@ ghost use Rattle.std.specs.Prelude.{◌≡◌, [], ◌++◌, Ok, IfOk, IfSome, O
 ghost use Rattle.std.specs.List.{cons_option};
 ghost use Rattle.base_values.specs.Answers.{Returns};
 ghost use Rattle.base_values.specs.declared.EditError.TheVariants.{NoMemory};
-ghost use Rattle.sheet_grid.specs.KeptCell.{IsKeptCell};
-ghost use Rattle.sheet_history.specs.Diffs.{IsKeptDiff, IsKeptList};
+ghost use Rattle.sheet_grid.specs.CanonicalCell.{IsCanonicalCell};
+ghost use Rattle.sheet_history.specs.Diffs.{IsCanonicalDiff, IsCanonicalList};
 ghost use Rattle.sheet_history.specs.declared.Diff.TheVariants.{Merges as MergesDiff};
 ghost use Rattle.sheet_history.specs.Entries.EntryKey.{CellKey, LinkKey};
 ghost use Rattle.sheet_history.specs.Entries.EntryValue.{CellValue, LinkValue};
@@ -25,10 +25,10 @@ pub(crate) fn cell_diff(
     old: Option<Shared<Cell>>,
     new: Option<Shared<Cell>>,
 ) -> Option<Diff>
-    requires old { IfSome old IsKeptCell }
-    requires new { IfSome new IsKeptCell }
+    requires old { IfSome old IsCanonicalCell }
+    requires new { IfSome new IsCanonicalCell }
     ensures made { cons_option result [] ≡ entry_record (CellKey sheet position) (CellValue old) (CellValue new) }
-    ensures kept { IfSome result IsKeptDiff }
+    ensures canonical { IfSome result IsCanonicalDiff }
 {
     if old == new {
         return None;
@@ -49,7 +49,7 @@ pub(crate) fn link_diff(
     new: Option<Link>,
 ) -> Option<Diff>
     ensures made { cons_option result [] ≡ entry_record (LinkKey sheet position) (LinkValue old) (LinkValue new) }
-    ensures kept { IfSome result IsKeptDiff }
+    ensures canonical { IfSome result IsCanonicalDiff }
 {
     if old == new {
         return None;
@@ -65,7 +65,7 @@ pub(crate) fn link_diff(
 /// The diff of the merges of a sheet that get others in their place.
 pub(crate) fn merges_diff(sheet: &Worksheet, new: MergeList) -> Result<Diff, EditError>
     ensures made { IfOk result (λ diff. diff ≡ MergesDiff sheet.now.id sheet.now.merges new) }
-    ensures kept { IfOk result IsKeptDiff }
+    ensures canonical { IfOk result IsCanonicalDiff }
     ensures only { IsOkUnless result NoMemory }
 {
     Ok(Diff::Merges {
@@ -77,10 +77,10 @@ pub(crate) fn merges_diff(sheet: &Worksheet, new: MergeList) -> Result<Diff, Edi
 
 /// Puts a diff, if there is one, behind others.
 pub(crate) fn push_diff(list: &mut Items<Diff>, diff: Option<Diff>) -> Result<(), EditError>
-    requires list { IsKeptList list.old }
-    requires diff { IfSome diff IsKeptDiff }
+    requires list { IsCanonicalList list.old }
+    requires diff { IfSome diff IsCanonicalDiff }
     ensures made { OnOk result (list.new ≡ list.old ++ cons_option diff []) }
-    ensures kept { OnOk result (IsKeptList list.new) }
+    ensures canonical { OnOk result (IsCanonicalList list.new) }
     ensures only { IsOkUnless result NoMemory }
 {
     if let Some(diff) = diff {
@@ -112,10 +112,10 @@ pub(crate) fn list_of_two(
     first: Option<Diff>,
     second: Option<Diff>,
 ) -> Result<DiffList, EditError>
-    requires first { IfSome first IsKeptDiff }
-    requires second { IfSome second IsKeptDiff }
+    requires first { IfSome first IsCanonicalDiff }
+    requires second { IfSome second IsCanonicalDiff }
     ensures made { Returns result (Ok (cons_option first (cons_option second []))) }
-    ensures kept { IfOk result IsKeptList }
+    ensures canonical { IfOk result IsCanonicalList }
 {
     let mut diffs = Items::with_room(alloc, count_of(&first, &second))?;
     push_diff(&mut diffs, first)?;

@@ -7,7 +7,7 @@ ghost use Rattle.base_axis.specs.Rectangles.{meets};
 ghost use Rattle.base_values.specs.Answers.{map_ok};
 ghost use Rattle.base_values.specs.declared.EditError.TheVariants.{NoMemory};
 ghost use Rattle.sheet_grid.specs.Arrays.{large_arrays_of};
-ghost use Rattle.sheet_history.specs.Diffs.{IsKeptList};
+ghost use Rattle.sheet_history.specs.Diffs.{IsCanonicalList};
 ghost use Rattle.sheet_rules.specs.Occupied.{is_merge, meets_any};
 ghost use Rattle.sheet_rules.specs.WellFormed.{IsWellFormed};
 ghost use Rattle.edit_plans.specs.Merging.{merge_diffs, merge_made, merged_in, with_merge};
@@ -81,7 +81,7 @@ fn one_more(sheet: &Worksheet, area: MergedCell) -> Result<MergeList, EditError>
 /// The record of a merge that is not refused.
 fn merge_record(alloc: Global, sheet: &Worksheet, area: MergedCell) -> Result<DiffList, EditError>
     ensures made { IfOk result (λ list. list ≡ merge_diffs area sheet.now) }
-    ensures kept { IfOk result IsKeptList }
+    ensures canonical { IfOk result IsCanonicalList }
     ensures only { IsOkUnless result NoMemory }
 {
     let mut diffs = Items::empty(alloc);

@@ -5,7 +5,7 @@ ghost use Rattle.base_values.specs.Answers.{map_ok};
 ghost use Rattle.base_values.specs.Places.{place_of};
 ghost use Rattle.base_values.specs.declared.EditError.TheVariants.{NoMemory};
 ghost use Rattle.sheet_grid.specs.Merges.{merge_holding};
-ghost use Rattle.sheet_history.specs.Diffs.{IsKeptList};
+ghost use Rattle.sheet_history.specs.Diffs.{IsCanonicalList};
 ghost use Rattle.sheet_history.specs.declared.Diff.TheVariants.{Merges as MergesDiff};
 ghost use Rattle.sheet_rules.specs.WellFormed.{IsWellFormed};
 ghost use Rattle.edit_plans.specs.Merging.{merge_undone, merges_without, unmerged_at, unmerged_in, without_merge};
@@ -69,7 +69,7 @@ fn merges_without(
 /// The record of a merge that is dissolved.
 fn unmerge_record(alloc: Global, sheet: &Worksheet, place: Position) -> Result<DiffList, EditError>
     ensures made { IfOk result (λ list. list ≡ MergesDiff sheet.now.id sheet.now.merges (merges_without place sheet.now.merges) ∷ []) }
-    ensures kept { IfOk result IsKeptList }
+    ensures canonical { IfOk result IsCanonicalList }
     ensures only { IsOkUnless result NoMemory }
 {
     let merges = merges_without(alloc, sheet.merged_cells(), place)?;

@@ -7,9 +7,9 @@ use Rattle.script_lines.specs.declared.Command.{Command}
 use Rattle.user_model.specs.Machine.{State}
 use Rattle.edit_script.specs.declared.session.Session.{Session}
 use Rattle.edit_script.specs.Session.{Runs}
-use Rattle.edit_script.specs.Script.{said, next_said, line_reply, line_next}
+use Rattle.edit_script.specs.Script.{command_reply, command_next, line_reply, line_next}
 
 pub line_ran : (result : Result (Unit {0}) EditError) (old new : Session) (line : List ℕ) (found : Option Command) (state : State) → (length line == 0) ≡ false → found ≡ command_of line
-    → Runs result old new (said found state) (next_said found state) → Runs result old new (line_reply line state) (line_next line state)
+    → Runs result old new (command_reply found state) (command_next found state) → Runs result old new (line_reply line state) (line_next line state)
 line_ran result old new [] found state full is ran = let never : true ≡ false = full in cc
-line_ran result old new (byte ∷ bytes) found state full is ran = subst (λ (o : Option Command). Runs result old new (said o state) (next_said o state)) is ran
+line_ran result old new (byte ∷ bytes) found state full is ran = subst (λ (o : Option Command). Runs result old new (command_reply o state) (command_next o state)) is ran

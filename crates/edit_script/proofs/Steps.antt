@@ -7,9 +7,9 @@ use Rattle.base_values.specs.Answers.{map_ok}
 use Rattle.sheet_grid.specs.Book.{Book}
 use Rattle.sheet_history.specs.declared.Diff.{Diff}
 use Rattle.sheet_history.specs.declared.DiffType.TheVariants.{Undo, Redo}
-use Rattle.sheet_history.specs.Diffs.{backed, forwarded}
+use Rattle.sheet_history.specs.Diffs.{book_before, book_after}
 use Rattle.edit_plans.specs.Edits.{Edit, changed, is_silent}
-use Rattle.user_model.specs.Machine.{Step, State, edited, edit_of, moved, redo_from, redo_list, redo_of, redo_stale, undo_from, undo_list, undo_of, undo_stale}
+use Rattle.user_model.specs.Machine.{Step, State, edited, edit_of, moved, redo_from, redo_list, redo_of, redo_stale, seen_along, undo_from, undo_list, undo_of, undo_stale}
 use Rattle.user_model.specs.Document.{Document}
 use Rattle.user_model.specs.Stands.{StandsFor, Moves, Turns}
 use Rattle.user_model.specs.Values.{Session as Opened}
@@ -26,7 +26,7 @@ made_keeps later s keeps (Ok book) = keeps book
 made_keeps later s keeps (Err error) = refl
 
 pub edit_keeps : (edit : Edit) (s : State) → KeepsSync (edit_of edit s) s
-edit_keeps edit s = chosen (is_silent edit)
+edit_keeps edit s = chosen (is_silent edit s.present)
   where
     chosen : (silent : Bool) → KeepsSync (if silent then Ok s else map_ok (edited edit s) (changed edit s.present)) s
     chosen true = refl
@@ -37,7 +37,7 @@ undo_keeps s = steps s.past
   where
     stale : (lists : List (List Diff)) → KeepsSync (undo_stale lists s) s
     stale [] = refl
-    stale (list ∷ lists) = made_keeps (λ earlier. moved Undo list earlier [] [] lists (list ∷ redo_list s) s) s (λ book. refl) (backed s.present list)
+    stale (list ∷ lists) = made_keeps (λ earlier. moved Undo list earlier (seen_along Undo list earlier s) [] [] lists (list ∷ redo_list s) s) s (λ book. refl) (book_before s.present list)
 
     steps : (past : List Step) → KeepsSync (undo_from past s) s
     steps [] = stale s.stale_undo
@@ -48,7 +48,7 @@ redo_keeps s = steps s.undone
   where
     stale : (lists : List (List Diff)) → KeepsSync (redo_stale lists s) s
     stale [] = refl
-    stale (list ∷ lists) = made_keeps (λ later. moved Redo list later [] [] (list ∷ undo_list s) lists s) s (λ book. refl) (forwarded s.present list)
+    stale (list ∷ lists) = made_keeps (λ later. moved Redo list later (seen_along Redo list later s) [] [] (list ∷ undo_list s) lists s) s (λ book. refl) (book_after s.present list)
 
     steps : (undone : List Step) → KeepsSync (redo_from undone s) s
     steps [] = stale s.stale_redo

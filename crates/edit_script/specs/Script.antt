@@ -8,8 +8,10 @@ use Rattle.base_tables.specs.declared.Language.TheVariants.{En as English}
 use Rattle.base_tables.specs.declared.Locale.TheVariants.{En}
 use Rattle.base_tables.specs.declared.Zone.TheVariants.{Utc}
 use Rattle.line_edits.specs.declared.EditKind.TheVariants.{Insert, Delete}
-use Rattle.sheet_grid.specs.Book.{Book, new_book}
+use Rattle.sheet_grid.specs.declared.SheetState.TheVariants.{Visible, Hidden}
+use Rattle.sheet_grid.specs.Book.{new_book}
 use Rattle.sheet_history.specs.declared.LineAxis.TheVariants.{Rows, Columns}
+use Rattle.sheet_history.specs.declared.SheetField.TheVariants.{State as StateField, Color as ColorField, GridLines as GridField}
 use Rattle.script_lines.specs.Parts.{parts_at, without_return}
 use Rattle.script_lines.specs.Escapes.{escaped}
 use Rattle.script_lines.specs.Commands.{command_of}
@@ -18,7 +20,7 @@ use Rattle.script_lines.specs.declared.Command.TheVariants as command
 use Rattle.script_dump.specs.Text.{line, hex}
 use Rattle.script_dump.specs.Dump.{dump}
 use Rattle.edit_plans.specs.Edits.{Edit}
-use Rattle.edit_plans.specs.Edits.Edit.{Input, ArrayInput, SetLink, Merge, Unmerge, Lines, MoveLines}
+use Rattle.edit_plans.specs.Edits.Edit.{Input, ArrayInput, SetLink, Merge, Unmerge, Lines, MoveLines, AddSheet, CopySheet, DeleteSheet, MoveSheet, SetField}
 use Rattle.user_model.specs.Machine.{State, begun, edit_of, undo_of, redo_of, synced_of, sync_bytes}
 use Rattle.user_model.specs.Reading.{content_text, formula_typed, link_to, typed}
 
@@ -37,9 +39,9 @@ outcome (Ok done) = line (codes "ok")
 outcome (Err error) = refusal error
 
 -- the answer to a question for a content
-abbrev pub got : Result (List ℕ) EditError → List ℕ
-got (Ok text) = line (codes "value " ++ escaped text)
-got (Err error) = refusal error
+abbrev pub value_line : Result (List ℕ) EditError → List ℕ
+value_line (Ok text) = line (codes "value " ++ escaped text)
+value_line (Err error) = refusal error
 
 -- ---- edits
 
@@ -57,6 +59,14 @@ edit_for (command.DeleteRows lines) s = Some (Lines lines.sheet Rows (Delete lin
 edit_for (command.DeleteColumns lines) s = Some (Lines lines.sheet Columns (Delete lines.first lines.count))
 edit_for (command.MoveRows move) s = Some (MoveLines move.sheet Rows move.first move.count move.delta)
 edit_for (command.MoveColumns move) s = Some (MoveLines move.sheet Columns move.first move.count move.delta)
+edit_for command.NewSheet s = Some AddSheet
+edit_for (command.DuplicateSheet sheet) s = Some (CopySheet sheet)
+edit_for (command.DeleteSheet sheet) s = Some (DeleteSheet sheet)
+edit_for (command.MoveSheet move) s = Some (MoveSheet move.from move.to)
+edit_for (command.HideSheet sheet) s = Some (SetField sheet (StateField Hidden))
+edit_for (command.UnhideSheet sheet) s = Some (SetField sheet (StateField Visible))
+edit_for (command.SheetColor named) s = Some (SetField named.sheet (ColorField named.color))
+edit_for (command.GridLines named) s = Some (SetField named.sheet (GridField named.show))
 edit_for other s = None
 
 -- a refused edit leaves all as it was
@@ -74,7 +84,7 @@ step_for asked s = option_map (λ edit. edit_of edit s) (edit_for asked s)
 
 -- the answer to a command that is never refused
 abbrev pub other_reply : Command → State → List ℕ
-other_reply (command.Get cell) s = got (content_text cell.sheet cell.row cell.column s.present s.language)
+other_reply (command.Get cell) s = value_line (content_text cell.sheet cell.row cell.column s.present s.language)
 other_reply command.Sync s = line (codes "sync " ++ hex (sync_bytes s))
 other_reply command.Show s = dump s.present
 other_reply other s = []
@@ -94,22 +104,24 @@ next_of asked s = option_map_or (λ next. state_after next s) (step_for asked s)
 
 -- ---- lines
 
-abbrev pub said : Option Command → State → List ℕ
-said None s = line (codes "error BadLine")
-said (Some command) s = reply_to command s
+-- the answer to the command of a line, if it has one
+abbrev pub command_reply : Option Command → State → List ℕ
+command_reply None s = line (codes "error BadLine")
+command_reply (Some command) s = reply_to command s
 
-abbrev pub next_said : Option Command → State → State
-next_said None s = s
-next_said (Some command) s = next_of command s
+-- the state after it
+abbrev pub command_next : Option Command → State → State
+command_next None s = s
+command_next (Some command) s = next_of command s
 
 -- an empty line gives no answer, and a line that is no command is a bad line
 abbrev pub line_reply : List ℕ → State → List ℕ
 line_reply [] s = []
-line_reply (b ∷ bytes) s = said (command_of (b ∷ bytes)) s
+line_reply (b ∷ bytes) s = command_reply (command_of (b ∷ bytes)) s
 
 abbrev pub line_next : List ℕ → State → State
 line_next [] s = s
-line_next (b ∷ bytes) s = next_said (command_of (b ∷ bytes)) s
+line_next (b ∷ bytes) s = command_next (command_of (b ∷ bytes)) s
 
 -- the answers to lines, one after another
 abbrev pub replies : List (List ℕ) → State → List ℕ

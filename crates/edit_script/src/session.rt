@@ -2,7 +2,7 @@ ghost use Rattle.std.specs.Prelude.{◌≡◌, ◌≢◌, ◌++◌, [], codes, s
 ghost use Rattle.base_values.specs.Answers.{map_ok};
 ghost use Rattle.base_values.specs.declared.EditError.TheVariants.{NoMemory};
 ghost use Rattle.script_dump.specs.Text.{line, hex};
-ghost use Rattle.edit_script.specs.Script.{refusal, outcome, got, start};
+ghost use Rattle.edit_script.specs.Script.{refusal, outcome, value_line, start};
 ghost use Rattle.user_model.specs.Reading.{rectangle_of};
 ghost use Rattle.user_model.specs.Stands.{StandsFor};
 
@@ -10,8 +10,8 @@ use base_axis::Area;
 use base_values::EditError;
 use script_dump::{push_dump, push_hex, push_line};
 use script_lines::{
-    Command, NamedArea, NamedCell, NamedLines, NamedMove, push_escaped, read_command, split_first,
-    without_return,
+    Command, NamedArea, NamedCell, NamedColor, NamedGrid, NamedLines, NamedMove, NamedSheetMove,
+    push_escaped, read_command, split_first, without_return,
 };
 use std::alloc::Global;
 use user_model::{ClearAll, UserModel};
@@ -55,7 +55,7 @@ fn push_outcome(out: &mut Vec<u8>, done: Result<(), EditError>) -> Result<(), Ed
 
 /// Writes the text of a content.
 fn push_value(out: &mut Vec<u8>, text: &str) -> Result<(), EditError>
-    ensures text { OnOk result (out.new.items ≡ out.old.items ++ got (Ok text.now)) }
+    ensures text { OnOk result (out.new.items ≡ out.old.items ++ value_line (Ok text.now)) }
     ensures only { IsOkUnless result NoMemory }
 {
     out.extend_from_slice(b"value ")?;
@@ -66,7 +66,7 @@ fn push_value(out: &mut Vec<u8>, text: &str) -> Result<(), EditError>
 
 /// Writes the answer to a question for a content. Being out of memory has none.
 fn push_got(out: &mut Vec<u8>, found: Result<String, EditError>) -> Result<(), EditError>
-    ensures text { OnOk result (out.new.items ≡ out.old.items ++ got (map_ok string_bytes found)) }
+    ensures text { OnOk result (out.new.items ≡ out.old.items ++ value_line (map_ok string_bytes found)) }
     ensures memory { OnOk result (IfErr found (λ error. error ≢ NoMemory)) }
     ensures only { IsOkUnless result NoMemory }
 {
@@ -249,6 +249,62 @@ impl Session {
         push_outcome(&mut self.out, done)
     }
 
+    fn new_sheet(&mut self) -> Result<(), EditError>
+        ensures { RunsCommand command.NewSheet result self.old self.new }
+    {
+        let done = self.model.new_sheet();
+        push_outcome(&mut self.out, done)
+    }
+
+    fn duplicate_sheet(&mut self, sheet: u32) -> Result<(), EditError>
+        ensures { RunsCommand (command.DuplicateSheet sheet) result self.old self.new }
+    {
+        let done = self.model.duplicate_sheet(sheet);
+        push_outcome(&mut self.out, done)
+    }
+
+    fn delete_sheet(&mut self, sheet: u32) -> Result<(), EditError>
+        ensures { RunsCommand (command.DeleteSheet sheet) result self.old self.new }
+    {
+        let done = self.model.delete_sheet(sheet);
+        push_outcome(&mut self.out, done)
+    }
+
+    fn move_sheet(&mut self, moved: NamedSheetMove) -> Result<(), EditError>
+        ensures { RunsCommand (command.MoveSheet moved) result self.old self.new }
+    {
+        let done = self.model.move_sheet(moved.from, moved.to);
+        push_outcome(&mut self.out, done)
+    }
+
+    fn hide_sheet(&mut self, sheet: u32) -> Result<(), EditError>
+        ensures { RunsCommand (command.HideSheet sheet) result self.old self.new }
+    {
+        let done = self.model.hide_sheet(sheet);
+        push_outcome(&mut self.out, done)
+    }
+
+    fn unhide_sheet(&mut self, sheet: u32) -> Result<(), EditError>
+        ensures { RunsCommand (command.UnhideSheet sheet) result self.old self.new }
+    {
+        let done = self.model.unhide_sheet(sheet);
+        push_outcome(&mut self.out, done)
+    }
+
+    fn color(&mut self, named: NamedColor) -> Result<(), EditError>
+        ensures { RunsCommand (command.SheetColor named) result self.old self.new }
+    {
+        let done = self.model.set_sheet_color(named.sheet, &named.color);
+        push_outcome(&mut self.out, done)
+    }
+
+    fn grid(&mut self, named: NamedGrid) -> Result<(), EditError>
+        ensures { RunsCommand (command.GridLines named) result self.old self.new }
+    {
+        let done = self.model.set_show_grid_lines(named.sheet, named.show);
+        push_outcome(&mut self.out, done)
+    }
+
     fn undo(&mut self) -> Result<(), EditError>
         ensures { RunsCommand command.Undo result self.old self.new }
     {
@@ -295,6 +351,14 @@ impl Session {
             Command::DeleteColumns(lines) => self.delete_columns(lines),
             Command::MoveRows(moved) => self.move_rows(moved),
             Command::MoveColumns(moved) => self.move_columns(moved),
+            Command::NewSheet => self.new_sheet(),
+            Command::DuplicateSheet(sheet) => self.duplicate_sheet(sheet),
+            Command::DeleteSheet(sheet) => self.delete_sheet(sheet),
+            Command::MoveSheet(moved) => self.move_sheet(moved),
+            Command::HideSheet(sheet) => self.hide_sheet(sheet),
+            Command::UnhideSheet(sheet) => self.unhide_sheet(sheet),
+            Command::SheetColor(named) => self.color(named),
+            Command::GridLines(named) => self.grid(named),
             Command::Undo => self.undo(),
             Command::Redo => self.redo(),
             Command::Sync => self.sync(),

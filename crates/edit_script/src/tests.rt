@@ -51,6 +51,14 @@ const ONE_MERGE: &str = concat!(
     "0000000000000000000000000000000000000000000000000000000000000000000000000000000000",
 );
 
+/// The bytes of a sync after `new-sheet` alone.
+const ONE_SHEET: &str = concat!(
+    "494351310000000000000001",
+    "010000000000000001",
+    "080000000200000001",
+    "0000000000000006536865657432",
+);
+
 /// The outcome of a script whose listed reads and writes fail, and what was written.
 fn run_failing(
     alloc: Global,
@@ -251,6 +259,62 @@ const AREAS: [(&str, &str); 11] = [
     ),
 ];
 
+/// Scripts that edit the list of the sheets and the fields of sheets, each with its answers.
+const SHEETS: [(&str, &str); 13] = [
+    (
+        "move-sheet 0 1\nmove-sheet 1 0\nmove-sheet 1 1",
+        "error InvalidSheet\nerror InvalidSheet\nerror InvalidSheet\n",
+    ),
+    (
+        "delete-sheet 1\ndelete-sheet 0\nduplicate-sheet 1",
+        "error InvalidSheet\nerror OnlySheet\nerror InvalidSheet\n",
+    ),
+    (
+        "color 1 -\ngrid 1 0\nhide-sheet 1\nunhide-sheet 1\nnew-sheet 1",
+        "error InvalidSheet\nerror InvalidSheet\nerror InvalidSheet\nerror InvalidSheet\nerror BadLine\n",
+    ),
+    (
+        "duplicate-sheet 0\nshow",
+        "ok\nbook en UTC workbook\nsheet 1 visible 1 0 0 - Sheet1\nsheet 2 visible 1 0 0 - Sheet1 (2)\nend\n",
+    ),
+    (
+        "new-sheet\nset 0 A1 =SUM(Sheet2!A1:B2)\ndelete-rows 1 1 1\nget 0 A1",
+        "ok\nok\nok\nvalue =SUM(#REF!:Sheet2!B1)\n",
+    ),
+    (
+        "set 0 A1 1\nundo\nmove-sheet 0 0\nredo\nget 0 A1",
+        "ok\nok\nok\nok\nvalue 1\n",
+    ),
+    (
+        "set 0 A1 1\nundo\ngrid 0 1\nredo\nget 0 A1",
+        "ok\nok\nok\nok\nvalue \n",
+    ),
+    (
+        "hide-sheet 0\nshow",
+        "ok\nbook en UTC workbook\nsheet 1 hidden 1 0 0 - Sheet1\nend\n",
+    ),
+    (
+        "color 0 #0aF\ngrid 0 0\nshow\nundo\nundo\nshow",
+        "ok\nok\nbook en UTC workbook\nsheet 1 visible 0 0 0 #00AAFF Sheet1\nend\nok\nok\nbook en UTC workbook\nsheet 1 visible 1 0 0 - Sheet1\nend\n",
+    ),
+    (
+        "new-sheet\nnew-sheet\nmove-sheet 0 2\nshow\nundo\nset 0 A1 a\nget 0 A1",
+        "ok\nok\nok\nbook en UTC workbook\nsheet 2 visible 1 0 0 - Sheet2\nsheet 3 visible 1 0 0 - Sheet3\nsheet 1 visible 1 0 0 - Sheet1\nend\nok\nok\nvalue a\n",
+    ),
+    (
+        "set 0 A1 a\nnew-sheet\ndelete-sheet 0\nget 0 A1\nundo\nget 0 A1\nredo\nshow",
+        "ok\nok\nok\nvalue \nok\nvalue a\nok\nbook en UTC workbook\nsheet 2 visible 1 0 0 - Sheet2\nend\n",
+    ),
+    (
+        "set 0 A1 a\nduplicate-sheet 0\nset 1 A1 b\nget 0 A1\nget 1 A1\nundo\nget 1 A1",
+        "ok\nok\nok\nvalue a\nvalue b\nok\nvalue a\n",
+    ),
+    (
+        "new-sheet\ndelete-sheet 0\nnew-sheet\nshow",
+        "ok\nok\nok\nbook en UTC workbook\nsheet 2 visible 1 0 0 - Sheet2\nsheet 3 visible 1 0 0 - Sheet1\nend\n",
+    ),
+];
+
 /// Whether a script writes these answers, and then the second copy, which had nothing.
 fn is_answered(alloc: Global, script: &str, answers: &str) -> Result<bool, Fail> {
     let (outcome, output) = run_failing(alloc, script, &[], &[])?;
@@ -292,6 +356,25 @@ fn columns_are_edited_and_lines_moved(rt: HostRuntime) -> Result<(), Fail> {
 #[test]
 fn arrays_merges_and_links(rt: HostRuntime) -> Result<(), Fail> {
     assert_eq!(rt; first_wrong(rt.alloc(), &AREAS)?, None);
+    Ok(())
+}
+
+#[test]
+fn sheets_are_edited(rt: HostRuntime) -> Result<(), Fail> {
+    assert_eq!(rt; first_wrong(rt.alloc(), &SHEETS)?, None);
+    Ok(())
+}
+
+/// A sheet is sent, and the second copy has it.
+#[test]
+fn a_sheet_is_sent(rt: HostRuntime) -> Result<(), Fail> {
+    let alloc = rt.alloc();
+    let (outcome, output) = run_failing(alloc, "new-sheet\nsync", &[], &[])?;
+    assert_eq!(rt; outcome, Ok(()));
+    let expected = format!(in alloc;
+        "ok\nsync {ONE_SHEET}\ncopy\nbook en UTC workbook\nsheet 1 visible 1 0 0 - Sheet1\nsheet 2 visible 1 0 0 - Sheet2\nend\n"
+    )?;
+    assert_eq!(rt; output.bytes(), expected.as_bytes());
     Ok(())
 }
 

@@ -22,7 +22,7 @@ use Rattle.formula_grammar.specs.Words.{separator_token, called, mark_place}
 use Rattle.formula_grammar.specs.Grammar as G
 use Rattle.formula_grammar.specs.Grammar.{Expression, Lambda, Arguments, Argument, parameters_tokens, rows_tokens, rows_lines, expression_tokens, lambda_tokens, arguments_tokens, argument_tokens, passed, expression_tree, lambda_tree, arguments_trees, argument_tree, expression_open, lambda_open, arguments_open, argument_open}
 use Rattle.formula_grammar.specs.laws.Reading.{Outcome, and_then, with_rest, make, operator_of, operator_under, own, operator_at, sign_at, make_signed, signed_step, signed, opening, closing, is_empty_here, chain_from, reference_at, range_at, enclosed, argument, arguments_from, arguments_by, arguments, function, lambda_turn, lambda, call, primary, turn, expression, whole}
-use Rattle.formula_grammar.proofs.Depths.{depth_called, depth_infix, depth_postfix, depth_prefix, made-shallow, expression_turns, lambda_turns, expression_turns-lt, lambda_turns-lt}
+use Rattle.formula_grammar.proofs.Depths.{depth_called, depth_infix, depth_postfix, depth_prefix, shallow_tree-shallow, expression_turns, lambda_turns, expression_turns-lt, lambda_turns-lt}
 use Rattle.formula_grammar.proofs.Steps.{chain_starts, chain_turns, chain_closes, chain_never}
 use Rattle.formula_grammar.proofs.Edges.{EndsAt, ends_sooner, ends_operator, ends_lambda, ends_word, ends_at_separator, operator_reads, operator_ends, separates, unsigned, starts_given, starts_no_close, begins}
 use Rattle.formula_grammar.proofs.Lists.{array_complete, parameters_complete}
@@ -84,7 +84,7 @@ joined_reads {p} op a b reads_a reads_b = λ nesting room k r fits ends is.
     ap (expression p (whole p nesting) room (suc under)) (append_assoc (expression_tokens a) (infix_token op ∷ expression_tokens b) r)
     ∙ reads_a nesting room (suc k) (infix_token op ∷ expression_tokens b ++ r) (omega (arith, deep)) (operator_ends (operator.Infix op) (expression_tokens b ++ r)) (omega arith)
     ∙ chain_turns (operator_at under) (turn operand) k (operator.Infix op) (expression_tree a) _ _ _ r (operator_reads (operator.Infix op) (expression_tokens b ++ r))
-    (rw (completes under b reads_b nesting room r (omega (arith, deep)) ends, made-shallow (infix_node op (expression_tree a) (expression_tree b)) fits.shallow))
+    (rw (completes under b reads_b nesting room r (omega (arith, deep)) ends, shallow_tree-shallow (infix_node op (expression_tree a) (expression_tree b)) fits.shallow))
 
 followed_reads : {p : Profile} (op : Postfix) (a : Expression p (suc (postfix_under op))) → Reads (suc (postfix_under op)) a → Reads (suc (postfix_under op)) (G.followed op a)
 followed_reads {p} op a reads_a = λ nesting room k r fits ends is.
@@ -92,7 +92,7 @@ followed_reads {p} op a reads_a = λ nesting room k r fits ends is.
     ap (expression p (whole p nesting) room (suc under)) (append_assoc (expression_tokens a) (postfix_token op ∷ []) r)
     ∙ reads_a nesting room (suc k) (postfix_token op ∷ r) (omega (arith, depth_postfix op (expression_tree a))) (operator_ends (operator.Postfix op) r) (omega arith)
     ∙ chain_turns (operator_at under) (turn (expression p (whole p nesting) room under)) k (operator.Postfix op) (expression_tree a) _ _ r r
-    (operator_reads (operator.Postfix op) r) (rw (made-shallow (postfix_node op (expression_tree a)) fits.shallow))
+    (operator_reads (operator.Postfix op) r) (rw (shallow_tree-shallow (postfix_node op (expression_tree a)) fits.shallow))
 
 -- no operator has the level of a sign
 levels_apart : (op : Prefix) (x : Operator) → (operator_under x == prefix_under op) ≡ false
@@ -109,7 +109,7 @@ sign_here : (op : Prefix) → sign_at (prefix_under op) (prefix_token op) ≡ So
 sign_here op = grind (arith, nat_tests)
 
 sign_makes : (op : Prefix) (tree : Node) (rest : List Token) → depth_of (prefix_node op tree) ≤ 64 → make_signed op tree rest ≡ Some (prefix_node op tree, rest)
-sign_makes op tree rest h = grind (arith, made-shallow)
+sign_makes op tree rest h = grind (arith, shallow_tree-shallow)
 
 signed_reads : {p : Profile} (op : Prefix) (a : Expression p (suc (prefix_under op))) → Reads (suc (prefix_under op)) a → Reads (suc (prefix_under op)) (G.signed op a)
 unfolding expression signed
@@ -179,7 +179,7 @@ mutual
       (λ j is. lambda_before a nesting room j r fits is)
   expression_reads {p} (G.call name is all) = λ nesting room r fits ends.
       (let tree = called p.language name (passed all (arguments_trees all)) in
-      rw (is, passed_read all (arguments_read all) nesting room r (omega (arith, depth_called p.language name (passed all (arguments_trees all)))), made-shallow tree fits.shallow))
+      rw (is, passed_read all (arguments_read all) nesting room r (omega (arith, depth_called p.language name (passed all (arguments_trees all)))), shallow_tree-shallow tree fits.shallow))
   expression_reads _ = λ nesting room r fits ends. refl
 
   lambda_before : {p : Profile} (d : Lambda p) (nesting room k : ℕ) (r : List Token) → Fits (suc nesting) room (lambda_open d) (depth_of (lambda_tree d)) → k + lambda_turns d ≡ 64
@@ -194,7 +194,7 @@ mutual
         append_assoc (expression_tokens body) (t.CloseParenthesis ∷ []) r,
         parameters_complete p all (expression_tokens body ++ end) ((begins body end).no_parameter refl),
         whole_completes body (expression_reads body) nesting room end fits_body (omega arith),
-        made-shallow (n.Lambda all (expression_tree body)) fits.shallow,
+        shallow_tree-shallow (n.Lambda all (expression_tree body)) fits.shallow,
       ) (ap (λ (j : ℕ). chain_from opening (lambda_turn p (whole p nesting) room) j (n.Lambda all (expression_tree body)) r) same)
   lambda_before {p} (G.applied a all) nesting room k r fits e =
       let given = passed all (arguments_trees all) in
@@ -206,7 +206,7 @@ mutual
       ∙ lambda_before a nesting room (suc k) (t.OpenParenthesis ∷ rest) fits_a (omega (arith, e))
       ∙ chain_turns opening (lambda_turn p (whole p nesting) room) k tt (lambda_tree a) (n.LambdaCall (lambda_tree a) given) (t.OpenParenthesis ∷ rest) rest r refl
       (ap (λ (o : Outcome (List Node)). and_then o (λ xs. make (n.LambdaCall (lambda_tree a) xs))) (passed_read all (arguments_read all) nesting room r fits_all)
-      ∙ ap (with_rest r) (made-shallow (n.LambdaCall (lambda_tree a) given) fits.shallow))
+      ∙ ap (with_rest r) (shallow_tree-shallow (n.LambdaCall (lambda_tree a) given) fits.shallow))
 
   arguments_read : {p : Profile} (d : Arguments p) → ReadsFrom d
   arguments_read {p} (G.last a) nesting room k found r fits enough =

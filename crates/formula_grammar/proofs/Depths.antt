@@ -15,7 +15,7 @@ use Rattle.formula_levels.specs.declared.postfix.Postfix.{Postfix}
 use Rattle.formula_levels.specs.declared.prefix.Prefix.{Prefix}
 use Rattle.formula_levels.specs.Levels.{infix_node, prefix_node, postfix_node}
 use Rattle.formula_grammar.specs.Words.{call_node, called, word_node, worded, range_node}
-use Rattle.formula_grammar.specs.laws.Reading.{made}
+use Rattle.formula_grammar.specs.laws.Reading.{shallow_tree}
 use Rattle.formula_tree.specs.laws.DepthLaws.{depth_positive}
 use Rattle.formula_grammar.specs.declared.profile.Profile.{Profile}
 use Rattle.formula_grammar.specs.Grammar.{Expression, Lambda, expression_tree, lambda_tree, arguments_trees, passed}
@@ -45,15 +45,15 @@ depth_prefix op a = grind (arith, tree_depths)
 pub depth_range_node : (place : Position) (sheet : Option (List ℕ)) (a b : Corner) → depth_of (range_node place sheet a b) ≡ 2
 depth_range_node place sheet a b = search tree_depths
 
-pub made-shallow : (x : Node) → depth_of x ≤ 64 → made x ≡ Some x
-unfolding made
-made-shallow x h = rw (le-leb (depth_of x) 64 h) refl
+pub shallow_tree-shallow : (x : Node) → depth_of x ≤ 64 → shallow_tree x ≡ Some x
+unfolding shallow_tree
+shallow_tree-shallow x h = rw (le-leb (depth_of x) 64 h) refl
 
-pub made-deep : (x : Node) → 64 < depth_of x → made x ≡ None
-unfolding made
-made-deep x h = rw (lt-leb (depth_of x) 64 h) refl
+pub shallow_tree-deep : (x : Node) → 64 < depth_of x → shallow_tree x ≡ None
+unfolding shallow_tree
+shallow_tree-deep x h = rw (lt-leb (depth_of x) 64 h) refl
 
-pub ruleset depths = (tree_depths, depth_called, depth_worded, depth_infix, depth_postfix, depth_range_node, made-shallow, made-deep)
+pub ruleset depths = (tree_depths, depth_called, depth_worded, depth_infix, depth_postfix, depth_range_node, shallow_tree-shallow, shallow_tree-deep)
 
 pub greatest_push : (xs : List Node) (x : Node) → greatest (map depth_of (xs ++ x ∷ [])) ≡ max (greatest (map depth_of xs)) (depth_of x)
 greatest_push [] x = omega arith

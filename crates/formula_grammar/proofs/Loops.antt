@@ -8,7 +8,7 @@ use Rattle.formula_levels.specs.declared.prefix.Prefix.{Prefix}
 use Rattle.formula_levels.specs.Levels.{prefix_node}
 use Rattle.formula_grammar.specs.declared.profile.Profile.{Profile}
 use Rattle.formula_grammar.specs.declared.token.Token.{Token}
-use Rattle.formula_grammar.specs.laws.Reading.{Parser, and_then, pure, made, item, after_item, rows_next, rows_from, parameter, parameters_step, parameters_from, separator, argument, arguments_from, operator_at, turn, chain_step, chain_from, signed, expression, whole, Outcome, with_rest, make, sign_at, signed_step}
+use Rattle.formula_grammar.specs.laws.Reading.{Parser, and_then, pure, shallow_tree, item, after_item, rows_next, rows_from, parameter, parameters_step, parameters_from, separator, argument, arguments_from, operator_at, turn, chain_step, chain_from, signed, expression, whole, Outcome, with_rest, make, sign_at, signed_step}
 use Rattle.formula_grammar.specs.laws.Signs.{wrapped, counted, signs, making}
 use Rattle.std.proofs.lemmas.Bool.Decides.{nat_tests}
 use Rattle.formula_grammar.specs.Operators.{prefix_under, prefix_token}
@@ -41,7 +41,7 @@ pub whole_steps : (p : Profile) (nesting room : ℕ) (ts : List Token) → 0 < n
 unfolding whole
 whole_steps p nesting room ts h = deeper (λ k. whole p k room ts) nesting h
 
-pub wrapped_next : (op : Prefix) (n at : ℕ) (tree : Node) → at < n → wrapped op (n - at) tree ≡ option_and_then (wrapped op (n - (at + 1))) (made (prefix_node op tree))
+pub wrapped_next : (op : Prefix) (n at : ℕ) (tree : Node) → at < n → wrapped op (n - at) tree ≡ option_and_then (wrapped op (n - (at + 1))) (shallow_tree (prefix_node op tree))
 wrapped_next op n at tree h = next (λ k. wrapped op k tree) n at h
 
 pub wrapped_done : (op : Prefix) (n at : ℕ) (tree : Node) → n ≤ at → wrapped op (n - at) tree ≡ Some tree
@@ -82,7 +82,7 @@ module _ (op : Prefix) where
   around o k = and_then o (λ tree rest. with_rest rest (wrapped op k tree))
 
   abbrev once : Option Node → Option Node
-  once = option_and_then (λ m. made (prefix_node op m))
+  once = option_and_then (λ m. shallow_tree (prefix_node op m))
 
   abbrev unit : Node → Option Node
   unit m = Some m
@@ -90,13 +90,13 @@ module _ (op : Prefix) where
   some_same : (o : Option Node) → option_and_then unit o ≡ o
   some_same o = grind arith
 
-  outer_some : (k : ℕ) → ((tree : Node) → once (wrapped op k tree) ≡ option_and_then (wrapped op k) (made (prefix_node op tree)))
+  outer_some : (k : ℕ) → ((tree : Node) → once (wrapped op k tree) ≡ option_and_then (wrapped op k) (shallow_tree (prefix_node op tree)))
       → (o : Option Node) → once (option_and_then (wrapped op k) o) ≡ option_and_then (wrapped op (suc k)) o
   outer_some k again o = grind (arith, again)
 
-  outer : (k : ℕ) (tree : Node) → once (wrapped op k tree) ≡ option_and_then (wrapped op k) (made (prefix_node op tree))
-  outer zero tree = sym (some_same (made (prefix_node op tree)))
-  outer (suc k) tree = outer_some k (outer k) (made (prefix_node op tree))
+  outer : (k : ℕ) (tree : Node) → once (wrapped op k tree) ≡ option_and_then (wrapped op k) (shallow_tree (prefix_node op tree))
+  outer zero tree = sym (some_same (shallow_tree (prefix_node op tree)))
+  outer (suc k) tree = outer_some k (outer k) (shallow_tree (prefix_node op tree))
 
   one_more_sign : (k : ℕ) (o : Outcome Node) → and_then (around o k) (λ tree. make (prefix_node op tree)) ≡ around o (suc k)
   one_more_sign k None = refl

@@ -5,7 +5,7 @@ use Rattle.std.proofs.lemmas.Bool.{cond_both, leb-true}
 use Rattle.formula_tree.specs.declared.node.Node.{Node}
 use Rattle.formula_tree.specs.Depth.{depth_of}
 use Rattle.formula_grammar.specs.declared.token.Token.{Token}
-use Rattle.formula_grammar.specs.laws.Reading.{Outcome, Parser, and_then, with_rest, made, make, chain_step, chain_from}
+use Rattle.formula_grammar.specs.laws.Reading.{Outcome, Parser, and_then, with_rest, shallow_tree, make, chain_step, chain_from}
 use lib.Dec.{leb}
 
 pub record Brings {A : Type 0} (P : List Token → A → Type 0) (o : Outcome A) : Type 0 where
@@ -39,7 +39,7 @@ module _ {A : Type 0} {P : List Token → A → Type 0} where
   brings_by test f g ts = cond_both test f g (λ (h : Parser A). Brings P (h ts))
 
 pub brings_made : {P : List Token → Node → Type 0} (tree : Node) (ts : List Token) → (depth_of tree ≤ 64 → P ts tree) → Brings P (make tree ts)
-unfolding made
+unfolding shallow_tree
 brings_made {P} tree ts k = cond_both (leb (depth_of tree) 64) (Some tree) None (λ (o : Option Node). Brings P (with_rest ts o))
     (λ h. brings (k (leb-true (depth_of tree) 64 h))) (λ h. nothing)
 

@@ -12,7 +12,7 @@ use Rattle.base_tables.specs.declared.Function.{Function}
 use Rattle.base_tables.specs.Function.{function_of_name}
 use Rattle.base_tables.specs.Language.{boolean_of_text}
 use Rattle.base_decimal.specs.declared.Decimal.{Decimal}
-use Rattle.base_decimal.specs.Kept.{is_kept}
+use Rattle.base_decimal.specs.Canonical.{is_canonical}
 use Rattle.formula_tree.specs.declared.array_item.ArrayItem.{ArrayItem}
 use Rattle.formula_tree.specs.declared.corner.Corner.{Corner}
 use Rattle.formula_tree.specs.declared.node.Node.{Node}
@@ -123,8 +123,8 @@ same_size : (z : ℤ) → unsigned_abs (neg_ℤ z) ≡ unsigned_abs z
 same_size z = grind arith
 
 -- and is kept where it is
-kept_negated : (number value : Decimal) → negated number ≡ Some value → is_kept number ≡ true → is_kept value ≡ true
-unfolding negated is_kept
+kept_negated : (number value : Decimal) → negated number ≡ Some value → is_canonical number ≡ true → is_canonical value ≡ true
+unfolding negated is_canonical
 kept_negated number value e kept = grind (arith, same_size)
 
 item_follows : {p : Profile} (r : NumberRule) (x : Item p) → tokens_follow r (item_tokens x) ≡ true → constant_follows r (item_value x) ≡ true

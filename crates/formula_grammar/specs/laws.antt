@@ -3,3 +3,4 @@ pub mod Outcome
 pub mod Signs
 pub mod Nests
 pub mod Equals
+pub mod ProfileEquals

@@ -1,5 +1,5 @@
 use base_tables::{Language, Locale};
-use base_values::Position;
+use base_values::{Exact, Position};
 
 /// What the reading of a formula depends on, beside its text.
 #[derive(Clone, Copy, Debug, PartialEq, Eq)]
@@ -10,4 +10,13 @@ pub struct Profile {
     pub locale: Locale,
     /// The language of functions and booleans.
     pub language: Language,
+}
+
+impl Exact for Profile {
+    ghost use Rattle.std.proofs.Common.{rules};
+    ghost use Rattle.formula_grammar.specs.laws.ProfileEquals.{profile_equals};
+
+    ghost copies = { λ a b h. Prim.search rules };
+
+    ghost equals = { profile_equals };
 }

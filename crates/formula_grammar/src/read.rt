@@ -67,7 +67,7 @@ pub fn read_tokens(
     ensures placed { IfOk result (λ o. IfSome o (λ tree. is_placed profile.place tree ≡ true)) }
     ensures shallow { IfOk result (λ o. IfSome o (λ tree. depth_of tree ≤ 64)) }
 
-    // Its numbers are kept where those of the tokens are, and none is negative where none of them is.
+    // Its numbers are canonical where those of the tokens are, and none is negative where none of them is.
     ensures numbers { (rule : NumberRule) → tokens_follow rule tokens.now ≡ true
         → IfOk result (λ o. IfSome o (λ tree. numbers_follow rule tree ≡ true)) }
     ensures memory { IsOkUnless result NoMemory }

@@ -11,7 +11,7 @@ use Rattle.formula_tree.specs.declared.Node.{Node}
 use Rattle.formula_tree.specs.declared.Node.TheVariants as node
 use Rattle.formula_print.specs.laws.PrintEquations.{printed_empty_argument}
 use Rattle.formula_print.specs.declared.style.Style.{Style}
-use Rattle.formula_print.specs.Print.{Printed, printed, text_of, later_argument, arguments_text, separator_before}
+use Rattle.formula_print.specs.Print.{Printed, printed, text_of, later_argument, arguments_text}
 
 -- the parts of the first items and of one more
 pub parts_more : {A : Type 0} (part : A → List ℕ) (items : List A) (i : ℕ) (d : A) → i < length items
@@ -29,6 +29,10 @@ arguments_push style q ps p =
 
 is_later : (i : ℕ) → 0 < i → nat_lt 0 i ≡ true
 is_later i h = grind (arith, nat_tests)
+
+-- what stands before an argument: nothing before the first one, and else the separator
+abbrev pub separator_before : Locale → ℕ → List ℕ
+separator_before locale at = if nat_lt 0 at then encode_utf8 (argument_separator locale) else []
 
 separator_later : (locale : Locale) (i : ℕ) → 0 < i → separator_before locale i ≡ encode_utf8 (argument_separator locale)
 separator_later locale i h = ap (λ b. if b then encode_utf8 (argument_separator locale) else []) (is_later i h)

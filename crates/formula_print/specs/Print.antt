@@ -1,5 +1,5 @@
 -- The text of a tree, with the parentheses that it needs.
-use Rattle.std.specs.Prelude.{ℕ, Bool, false, if◌then◌else◌, List, [], ◌∷◌, ◌++◌, codes, encode_utf8, nat_lt}
+use Rattle.std.specs.Prelude.{ℕ, Bool, false, if◌then◌else◌, List, [], ◌∷◌, ◌++◌, codes, encode_utf8}
 use Rattle.std.specs.List.{flat_map}
 use Rattle.base_tables.specs.declared.Locale.{Locale}
 use Rattle.base_tables.specs.Locale.{decimal_sign, argument_separator}
@@ -84,10 +84,6 @@ intersection_text Excel a = one_argument_call single_word a
 
 abbrev pub later_argument : Style → Printed → List ℕ
 later_argument style p = encode_utf8 (argument_separator style.locale) ++ p.text
-
--- what stands before an argument: nothing before the first one, and else the separator
-abbrev pub separator_before : Locale → ℕ → List ℕ
-separator_before locale at = if nat_lt 0 at then encode_utf8 (argument_separator locale) else []
 
 -- arguments with the separator between them
 abbrev pub arguments_text : Style → List Printed → List ℕ

@@ -1,4 +1,5 @@
-ghost use Rattle.std.specs.Prelude.{◌≡◌, ◌++◌, map, OnOk, string_bytes};
+ghost use Rattle.std.specs.Prelude.{◌≡◌, [], ◌++◌, if◌then◌else◌, encode_utf8, map, nat_lt, OnOk, string_bytes};
+ghost use Rattle.base_tables.specs.Locale.{argument_separator};
 ghost use Rattle.formula_print.specs.declared.style.Style.{Style as AnyStyle};
 ghost use Rattle.base_tables.specs.Tables.{lowered};
 ghost use Rattle.formula_print.specs.Kinds.{right_need};
@@ -270,7 +271,7 @@ fn print_intersection(style: Style, node: &Node, out: &mut String) -> Result<(),
 
 /// The separator of arguments, but not before the first one.
 fn push_separator(locale: Locale, at: usize, out: &mut String) -> Result<(), AllocError>
-    ensures { OnOk result (string_bytes out.new ≡ string_bytes out.old ++ spec.separator_before locale at) }
+    ensures { OnOk result (string_bytes out.new ≡ string_bytes out.old ++ (if nat_lt 0 at then encode_utf8 (argument_separator locale) else [])) }
 {
     if at > 0 {
         out.push(locale.argument_separator())?;

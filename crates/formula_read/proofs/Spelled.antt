@@ -1,4 +1,4 @@
--- The numbers that a text writes are kept, and none is negative.
+-- The numbers that a text writes are canonical, and none is negative.
 use Rattle.std.proofs.Common.{◌≡◌, ℕ, zero, suc, ◌*◌, ◌^◌, ◌<◌, Bool, true, false, List, [], ◌∷◌, ◌++◌, refl, sym, ap, ◌∙◌, arith}
 use Rattle.std.specs.Prelude.{ℤ, pos, negsuc, neg_ℤ, ◌*ℤ◌, int_le, encode_utf8_all}
 use Rattle.std.proofs.Math.Nat.{one-le-pow}
@@ -53,11 +53,11 @@ number_positive locale number s is = go is.reads.negative is.reads.written is.re
 -- ---- tokens
 
 token_spelled : (r : NumberRule) (locale : Locale) (language : Language) (token : Token) (s : List ℕ) → Spells locale language token s → token_follows r token ≡ true
-token_spelled rule.Kept locale language (t.Number number) s spells = spells.reads.is_kept
+token_spelled rule.Canonical locale language (t.Number number) s spells = spells.reads.is_canonical
 token_spelled rule.NotNegative locale language (t.Number number) s spells = number_positive locale number s spells
 token_spelled r locale language _ s spells = refl
 
--- the tokens of a text have numbers that are kept and not negative
+-- the tokens of a text have numbers that are canonical and not negative
 pub spelled_follow : (r : NumberRule) (locale : Locale) (language : Language) (text : List ℕ) (tokens : List Token) → IsTokens locale language text tokens → tokens_follow r tokens ≡ true
 spelled_follow r locale language text [] spelled = refl
 spelled_follow r locale language text (token ∷ tokens) spelled =

@@ -4,7 +4,7 @@ ghost use Rattle.base_values.specs.declared.EditError.TheVariants.{NoMemory};
 ghost use Rattle.formula_tree.specs.declared.Node.{Node as Tree};
 ghost use Rattle.formula_tree.specs.declared.Node.TheVariants.{ParseError};
 ghost use Rattle.formula_tree.specs.Depth.{depth_of};
-ghost use Rattle.formula_tree.specs.Numbers.{has_kept_numbers, has_no_negative_number};
+ghost use Rattle.formula_tree.specs.Numbers.{has_canonical_numbers, has_no_negative_number};
 ghost use Rattle.formula_tree.specs.ParseError.{is_parse_error};
 ghost use Rattle.formula_tree.specs.Placed.{is_placed};
 ghost use Rattle.formula_grammar.specs.declared.Profile.{Profile as AnyProfile};
@@ -27,10 +27,11 @@ fn tree_of(alloc: Global, text: &str, profile: Profile) -> Result<Option<Node>, 
     ensures formula { IfOk result (λ o. IfSome o (λ tree. is_parse_error tree ≡ false)) }
     ensures placed { IfOk result (λ o. IfSome o (λ tree. is_placed profile.place tree ≡ true)) }
     ensures shallow { IfOk result (λ o. IfSome o (λ tree. depth_of tree ≤ 64)) }
-    ensures kept { IfOk result (λ o. IfSome o (λ tree. has_kept_numbers tree ≡ true)) }
+    ensures canonical { IfOk result (λ o. IfSome o (λ tree. has_canonical_numbers tree ≡ true)) }
     ensures positive { IfOk result (λ o. IfSome o (λ tree. has_no_negative_number tree ≡ true)) }
     ensures memory { IsOkUnless result NoMemory }
 {
+    // For the proof alone: two laws.
     text_spells_one_list();
     tokens_derive_one_tree();
     match lex_text(alloc, text, profile)? {
@@ -57,7 +58,7 @@ fn formula_in(alloc: Global, text: &str, profile: Profile) -> Result<Node, EditE
     ensures outside { IfOk result (λ tree. is_parse_error tree ≡ true → tree ≡ ParseError text.now) }
     ensures placed { IfOk result (λ tree. is_placed profile.place tree ≡ true) }
     ensures shallow { IfOk result (λ tree. depth_of tree ≤ 64) }
-    ensures kept { IfOk result (λ tree. has_kept_numbers tree ≡ true) }
+    ensures canonical { IfOk result (λ tree. has_canonical_numbers tree ≡ true) }
     ensures positive { IfOk result (λ tree. has_no_negative_number tree ≡ true) }
     ensures memory { IsOkUnless result NoMemory }
 {
@@ -97,7 +98,7 @@ pub fn read_formula(
     ensures outside { IfOk result (λ tree. is_parse_error tree ≡ true → tree ≡ ParseError text.now) }
     ensures placed { IfOk result (λ tree. is_placed (context_place context.now) tree ≡ true) }
     ensures shallow { IfOk result (λ tree. depth_of tree ≤ 64) }
-    ensures kept { IfOk result (λ tree. has_kept_numbers tree ≡ true) }
+    ensures canonical { IfOk result (λ tree. has_canonical_numbers tree ≡ true) }
     ensures positive { IfOk result (λ tree. has_no_negative_number tree ≡ true) }
     ensures memory { IsOkUnless result NoMemory }
 {
@@ -111,6 +112,7 @@ pub fn text_has_one_tree()
     ensures formula { (profile : AnyProfile) (text : List ℕ) (tree : Tree) → IsFormula profile text tree → is_parse_error tree ≡ false }
     ensures read { (profile : AnyProfile) (text : List ℕ) → IsRead profile text (formula_of profile text) }
 {
+    // For the proof alone: two laws.
     text_spells_one_list();
     tokens_derive_one_tree();
 }

@@ -20,7 +20,7 @@ use Rattle.base_decimal.specs.declared.Decimal.{Decimal}
 use Rattle.base_decimal.specs.declared.numeral.Sign.{Sign}
 use Rattle.base_decimal.specs.declared.numeral.Sign.TheVariants.{Absent, Plus, Minus}
 use Rattle.base_decimal.specs.Digits.{is_digit, number_after}
-use Rattle.base_decimal.specs.Kept.{is_kept}
+use Rattle.base_decimal.specs.Canonical.{is_canonical}
 use Rattle.base_decimal.specs.Numeral.{Fraction, NoFraction, Places, Exponent, NoExponent, Power, Numeral, IsNumeral, minus_text, numeral_text, fraction_text}
 use Rattle.base_decimal.specs.Numeral.{exponent_text, sign_text, is_numeral_fraction, is_numeral_exponent, is_exponent_letter, is_exponent_len, Reads}
 use Rattle.base_decimal.specs.Printed.{digits_text, places_text, printed}
@@ -96,14 +96,14 @@ starts (c ∷ digits) rest some all = digit c (and_parts (is_digit c) _ all).0
 ten_pow : (p : ℕ) → 0 < 10 ^ p
 ten_pow p = omega (arith, one-le-pow p 10 (omega arith))
 
-kept_ends : (d : Decimal) → is_kept d ≡ true → ends (unsigned_abs d.mantissa) d.places ≡ true
-unfolding is_kept
-kept_ends d kept = (and_parts (nat_le d.places 15 && nat_lt (unsigned_abs d.mantissa) (10 ^ (15 + d.places))) _ kept).1
+kept_ends : (d : Decimal) → is_canonical d ≡ true → ends (unsigned_abs d.mantissa) d.places ≡ true
+unfolding is_canonical
+kept_ends d canonical = (and_parts (nat_le d.places 15 && nat_lt (unsigned_abs d.mantissa) (10 ^ (15 + d.places))) _ canonical).1
 
-kept_whole : (d : Decimal) → is_kept d ≡ true → unsigned_abs d.mantissa / 10 ^ d.places < 2 ^ 64
-unfolding is_kept
-kept_whole d kept =
-    let tests = and_parts (nat_le d.places 15 && nat_lt (unsigned_abs d.mantissa) (10 ^ (15 + d.places))) _ kept in
+kept_whole : (d : Decimal) → is_canonical d ≡ true → unsigned_abs d.mantissa / 10 ^ d.places < 2 ^ 64
+unfolding is_canonical
+kept_whole d canonical =
+    let tests = and_parts (nat_le d.places 15 && nat_lt (unsigned_abs d.mantissa) (10 ^ (15 + d.places))) _ canonical in
     let size = (and_parts (nat_le d.places 15) (nat_lt (unsigned_abs d.mantissa) (10 ^ (15 + d.places))) tests.0).1 in
     let small : unsigned_abs d.mantissa < 10 ^ (15 + d.places) = grind (arith, nat_tests, size) in
     let parts : 10 ^ (15 + d.places) ≡ 10 ^ 15 * 10 ^ d.places = pow-add 10 15 d.places in
@@ -115,25 +115,25 @@ no_minus : (m : ℤ) → int_le (pos 0) m ≡ true → is_negative m ≡ false
 no_minus (pos n) e = grind (arith, nat_tests)
 no_minus (negsuc n) e = absurd cc
 
-printed_starts : (mark : ℕ) (d : Decimal) → is_kept d ≡ true → int_le (pos 0) d.mantissa ≡ true → starts_digit (printed mark d) ≡ true
+printed_starts : (mark : ℕ) (d : Decimal) → is_canonical d ≡ true → int_le (pos 0) d.mantissa ≡ true → starts_digit (printed mark d) ≡ true
 unfolding printed
-printed_starts mark d kept low =
+printed_starts mark d canonical low =
     let n = unsigned_abs d.mantissa in
     let q = d.places in
-    let whole = kept_whole d kept in
+    let whole = kept_whole d canonical in
     ap starts_digit
     (ap (λ (b : Bool). minus_text b ++ digits_text mark (trim n q).0 (trim n q).1) (no_minus d.mantissa low)
-    ∙ ap (λ (t : ℕ × ℕ). digits_text mark t.0 t.1) (trim_ended n q (kept_ends d kept)))
+    ∙ ap (λ (t : ℕ × ℕ). digits_text mark t.0 t.1) (trim_ended n q (kept_ends d canonical)))
     ∙ starts (decimal (n / 10 ^ q)) (places_text mark q n) (decimal_nonempty (n / 10 ^ q) whole) (digits_decimal own (n / 10 ^ q) whole)
 
-printed_plain : (mark : ℕ) → plain mark ≡ true → (d : Decimal) → is_kept d ≡ true → int_le (pos 0) d.mantissa ≡ true → list_all plain (printed mark d) ≡ true
-printed_plain mark plain_mark d kept low = by r.negative r.written
+printed_plain : (mark : ℕ) → plain mark ≡ true → (d : Decimal) → is_canonical d ≡ true → int_le (pos 0) d.mantissa ≡ true → list_all plain (printed mark d) ≡ true
+printed_plain mark plain_mark d canonical low = by r.negative r.written
   where
     r : Reads mark (printed mark d) d
-    r = printed_reads mark d kept
+    r = printed_reads mark d canonical
 
     by : (negative : Bool) → printed mark d ≡ minus_text negative ++ numeral_text mark r.numeral → list_all plain (printed mark d) ≡ true
-    by true e = absurd (let x : false ≡ true = sym (ap starts_digit e) ∙ printed_starts mark d kept low in cc)
+    by true e = absurd (let x : false ≡ true = sym (ap starts_digit e) ∙ printed_starts mark d canonical low in cc)
     by false e = ap (list_all plain) e ∙ plain_numeral mark plain_mark r.numeral r.is_numeral
 
 -- ---- tokens
@@ -147,17 +147,17 @@ unfolding plain
 plain_no_colon c e = (and_parts (is_ascii c) _ e).1
 
 module _ {locale : Locale} {language : Language} where
-  pub number_part : (d : Decimal) → is_kept d ≡ true → int_le (pos 0) d.mantissa ≡ true
+  pub number_part : (d : Decimal) → is_canonical d ≡ true → int_le (pos 0) d.mantissa ≡ true
       → Part locale language (NoColon locale) (printed (decimal_sign locale) d) (t.Number d ∷ [])
-  number_part d kept low =
+  number_part d canonical low =
       let text : Text = printed (decimal_sign locale) d in
-      let all = printed_plain (decimal_sign locale) (plain_decimal_sign locale) d kept low in
+      let all = printed_plain (decimal_sign locale) (plain_decimal_sign locale) d canonical low in
       let ascii : list_all is_ascii text ≡ true = weaker plain is_ascii plain_ascii text all in
       let no_colon = weaker plain (λ c. not (c == 58)) plain_no_colon text all in
       let encoded = encodes-IsAscii text (each_ascii text ascii) in
       let spells : IsNumber locale d text = record {
-        starts = printed_starts (decimal_sign locale) d kept low;
-        reads = subst (λ (x : Text). Reads (decimal_sign locale) x d) (sym encoded) (printed_reads (decimal_sign locale) d kept);
+        starts = printed_starts (decimal_sign locale) d canonical low;
+        reads = subst (λ (x : Text). Reads (decimal_sign locale) x d) (sym encoded) (printed_reads (decimal_sign locale) d canonical);
       } in
       ascii_token locale language (NoColon locale) (t.Number d) text ascii spells
       (λ rest after. (ends_number locale rest after.0, no_colon_no_range text rest no_colon (ends_cell locale rest after.0) after.1))
@@ -173,12 +173,12 @@ digit_first (c ∷ s) rest e = (no_cell_here c (s ++ rest) (no_cell c e), other 
     other : (c : ℕ) → is_digit c ≡ true → not (c == 61 || c == 62) ≡ true
     other c h = grind (arith, nat_tests, h)
 
-pub number_first : (locale : Locale) (d : Decimal) → is_kept d ≡ true → int_le (pos 0) d.mantissa ≡ true → (rest : Text)
+pub number_first : (locale : Locale) (d : Decimal) → is_canonical d ≡ true → int_le (pos 0) d.mantissa ≡ true → (rest : Text)
     → NoCell None (chars (printed (decimal_sign locale) d) ++ rest) × StartsOperand (printed (decimal_sign locale) d)
-number_first locale d kept low rest =
+number_first locale d canonical low rest =
     let text : Text = printed (decimal_sign locale) d in
-    let all = weaker plain is_ascii plain_ascii text (printed_plain (decimal_sign locale) (plain_decimal_sign locale) d kept low) in
-    let first = digit_first text rest (printed_starts (decimal_sign locale) d kept low) in
+    let all = weaker plain is_ascii plain_ascii text (printed_plain (decimal_sign locale) (plain_decimal_sign locale) d canonical low) in
+    let first = digit_first text rest (printed_starts (decimal_sign locale) d canonical low) in
     (subst (λ (s : Text). NoCell None (s ++ rest)) (sym (ascii_chars text all)) first.0, ap starts_operand (ascii_chars text all) ∙ first.1)
 
 -- ---- negative numbers
@@ -205,9 +205,9 @@ negative_printed mark d low = go d.mantissa d.places low
         let t = trim (unsigned_abs (negsuc n)) q in
         ap (λ (b : Bool). 45 ∷ (minus_text b ++ digits_text mark t.0 t.1)) (sym (no_minus (neg_ℤ (negsuc n)) (opposite_low (negsuc n) e)))
 
-pub opposite_kept : (d : Decimal) → int_le (pos 0) d.mantissa ≡ false → is_kept d ≡ true → is_kept (record d { mantissa = neg_ℤ d.mantissa }) ≡ true
-unfolding is_kept
-opposite_kept d low kept = ap (λ (n : ℕ). nat_le d.places 15 && nat_lt n (10 ^ (15 + d.places)) && ends n d.places) (go d.mantissa low) ∙ kept
+pub opposite_kept : (d : Decimal) → int_le (pos 0) d.mantissa ≡ false → is_canonical d ≡ true → is_canonical (record d { mantissa = neg_ℤ d.mantissa }) ≡ true
+unfolding is_canonical
+opposite_kept d low canonical = ap (λ (n : ℕ). nat_le d.places 15 && nat_lt n (10 ^ (15 + d.places)) && ends n d.places) (go d.mantissa low) ∙ canonical
   where
     go : (m : ℤ) → int_le (pos 0) m ≡ false → unsigned_abs (neg_ℤ m) ≡ unsigned_abs m
     go (pos n) e = absurd (not_below n e)

@@ -15,7 +15,7 @@ use Rattle.base_tables.specs.Locale.{decimal_sign, argument_separator}
 use Rattle.base_tables.specs.Tables.{lowered}
 use Rattle.base_tables.specs.Word.{is_word, reads_as_cell}
 use Rattle.base_decimal.specs.declared.Decimal.{Decimal}
-use Rattle.base_decimal.specs.Kept.{is_kept}
+use Rattle.base_decimal.specs.Canonical.{is_canonical}
 use Rattle.base_decimal.specs.Printed.{printed as decimal_text}
 use Rattle.base_decimal.proofs.Spans.{not_true}
 use Rattle.formula_tree.specs.declared.ArrayItem.{ArrayItem}
@@ -25,12 +25,12 @@ use Rattle.formula_tree.specs.declared.Node.TheOpen.{Node-F}
 use Rattle.formula_tree.specs.declared.Node.TheOpen as layer
 use Rattle.formula_tree.specs.declared.Node.TheVariants as n
 use Rattle.formula_tree.specs.declared.Node.TheViews.{roll-Node}
-use Rattle.formula_tree.specs.declared.numbers.NumberRule.TheVariants.{Kept}
+use Rattle.formula_tree.specs.declared.numbers.NumberRule.TheVariants.{Canonical}
 use Rattle.formula_tree.specs.declared.Parameter.{Parameter}
 use Rattle.formula_tree.specs.declared.UnaryKind.{UnaryKind}
 use Rattle.formula_tree.specs.declared.UnaryKind.TheVariants.{Minus, Percent}
 use Rattle.formula_tree.specs.Corners.{is_inside}
-use Rattle.formula_tree.specs.Numbers.{lines_follow, has_kept_numbers, numbers_follow, numbers_layer}
+use Rattle.formula_tree.specs.Numbers.{lines_follow, has_canonical_numbers, numbers_follow, numbers_layer}
 use Rattle.formula_tree.specs.Placed.{is_placed_range}
 use Rattle.formula_tree.specs.laws.Induction.{induct}
 use Rattle.formula_levels.specs.declared.Infix.{Infix}
@@ -129,26 +129,26 @@ module _ (p : Profile) where
   -- ---- trees
 
   abbrev Spelt : Seen → Bool → Printed → Tokened → Type 0
-  Spelt s kept a b = s.is_fine ≡ true → kept ≡ true → Piece p s.sort a b
+  Spelt s canonical a b = s.is_fine ≡ true → canonical ≡ true → Piece p s.sort a b
 
   abbrev text_of : Node → Printed
   text_of = printed (style p)
 
   -- what is shown of each tree
   abbrev Good : Node → Type 0
-  Good tree = Spelt (seen_of p tree) (has_kept_numbers tree) (text_of tree) (tokened p tree)
+  Good tree = Spelt (seen_of p tree) (has_canonical_numbers tree) (text_of tree) (tokened p tree)
 
   module _ (layer : Node-F Node) (tree : Node) (is : roll-Node layer ≡ tree) where
     printed_at : text_of tree ≡ print_layer (style p) (map-Node Node Printed text_of layer)
     unfolding printed
     printed_at = fold_at (print_layer (style p)) layer tree is
 
-    kept_at : has_kept_numbers tree ≡ numbers_layer Kept (map-Node Node Bool has_kept_numbers layer)
+    kept_at : has_canonical_numbers tree ≡ numbers_layer Canonical (map-Node Node Bool has_canonical_numbers layer)
     unfolding numbers_follow
-    kept_at = fold_at (numbers_layer Kept) layer tree is
+    kept_at = fold_at (numbers_layer Canonical) layer tree is
 
     abbrev layer_kept : Bool
-    layer_kept = numbers_layer Kept (map-Node Node Bool has_kept_numbers layer)
+    layer_kept = numbers_layer Canonical (map-Node Node Bool has_canonical_numbers layer)
 
     abbrev layer_printed : Printed
     layer_printed = print_layer (style p) (map-Node Node Printed text_of layer)
@@ -161,20 +161,20 @@ module _ (p : Profile) where
     piece : Piece p (seen_of p a).sort (text_of a) (tokened p a)
     some : is_empty (seen_of p a).sort ≡ false
 
-  operand_of : (a : Node) → Good a → is_operand (seen_of p a) ≡ true → has_kept_numbers a ≡ true → Operand a
-  operand_of a good normal kept =
+  operand_of : (a : Node) → Good a → is_operand (seen_of p a) ≡ true → has_canonical_numbers a ≡ true → Operand a
+  operand_of a good normal canonical =
       let e = and_parts (seen_of p a).is_fine _ normal in
-      record { piece = good e.0 kept; some = not_true (is_empty (seen_of p a).sort) e.1 }
+      record { piece = good e.0 canonical; some = not_true (is_empty (seen_of p a).sort) e.1 }
 
   record Two (a b : Node) : Type 0 where
     left : Operand a
     right : Operand b
 
-  two_of : (a b : Node) → Good a → Good b → is_operand (seen_of p a) && is_operand (seen_of p b) ≡ true → has_kept_numbers a && has_kept_numbers b ≡ true
+  two_of : (a b : Node) → Good a → Good b → is_operand (seen_of p a) && is_operand (seen_of p b) ≡ true → has_canonical_numbers a && has_canonical_numbers b ≡ true
       → Two a b
-  two_of a b x y normal kept =
+  two_of a b x y normal canonical =
       let e = and_parts (is_operand (seen_of p a)) _ normal in
-      let f = and_parts (has_kept_numbers a) _ kept in
+      let f = and_parts (has_canonical_numbers a) _ canonical in
       record { left = operand_of a x e.0 f.0; right = operand_of b y e.1 f.1 }
 
   -- ---- leaves
@@ -186,11 +186,11 @@ module _ (p : Profile) where
       (letters_start (boolean_text p.language value) (boolean_letters p.language value))
       (λ fit rest after. boolean_first p.locale p.language value rest (after.ended refl))
 
-  number_spelt : (value : Decimal) → int_le (pos 0) value.mantissa ≡ true → is_kept value ≡ true
+  number_spelt : (value : Decimal) → int_le (pos 0) value.mantissa ≡ true → is_canonical value ≡ true
       → Piece p other (plainly k.Number (decimal_text (decimal_sign p.locale) value)) (tokens.plainly k.Number (t.Number value ∷ []))
-  number_spelt value low kept =
-      plain_piece refl (before (Shown k.Number) (λ rest after. after_clear k.Number rest refl refl after) (number_part value kept low))
-      (number_first p.locale value kept low []).1 (λ fit rest after. (number_first p.locale value kept low rest).0)
+  number_spelt value low canonical =
+      plain_piece refl (before (Shown k.Number) (λ rest after. after_clear k.Number rest refl refl after) (number_part value canonical low))
+      (number_first p.locale value canonical low []).1 (λ fit rest after. (number_first p.locale value canonical low rest).0)
 
   text_spelt : (text : List ℕ) → is_utf8 text ≡ true → Piece p other (plainly k.Value (text_constant text)) (tokens.plainly k.Value (t.Text text ∷ []))
   text_spelt text utf8 =
@@ -241,11 +241,11 @@ module _ (p : Profile) where
       (word_first (chars name) word.1)
       (λ fit rest after. word_no_cell (chars name) rest (word_goes_on (chars name) word.1) none (ends_cell p.locale rest (after.ended refl)))
 
-  array_spelt : (lines : List (List ArrayItem)) → is_table lines ≡ true → lines_follow Kept lines ≡ true
+  array_spelt : (lines : List (List ArrayItem)) → is_table lines ≡ true → lines_follow Canonical lines ≡ true
       → Piece p other (plainly k.Other (array_text (style p) lines)) (tokens.plainly k.Other (tokens.array_tokens p lines))
-  array_spelt lines normal kept =
+  array_spelt lines normal canonical =
       let inside : List ℕ = lines_text (style p) lines ++ codes "}" in
-      closed_piece (array_part p lines (and_parts _ _ normal).1 kept) (starts_with 123 inside refl refl)
+      closed_piece (array_part p lines (and_parts _ _ normal).1 canonical) (starts_with 123 inside refl refl)
       (λ rest. first_no_cell 123 inside rest (chars_front 123 inside refl) (no_cell_here 123 (chars inside ++ rest) refl))
 
   empty_spelt : Piece p empty (plainly k.Other []) (tokens.plainly k.Other [])
@@ -327,12 +327,12 @@ module _ (p : Profile) where
   clear_part a piece = before (NoColon p.locale) (clear_after (text_of a).kind) piece.part
 
   each_argued : (all : List Node) → AllByRecursion Good all → list_all (λ (x : Seen). x.is_fine) (map (seen_of p) all) ≡ true
-      → list_all (λ test. test) (map has_kept_numbers all) ≡ true
+      → list_all (λ test. test) (map has_canonical_numbers all) ≡ true
       → AllByRecursion Argued all
-  each_argued [] good fine kept = tt
-  each_argued (a ∷ all) good fine kept =
+  each_argued [] good fine canonical = tt
+  each_argued (a ∷ all) good fine canonical =
       let e = and_parts (seen_of p a).is_fine _ fine in
-      let f = and_parts (has_kept_numbers a) _ kept in
+      let f = and_parts (has_canonical_numbers a) _ canonical in
       (clear_part a (good.0 e.0 f.0), each_argued all good.1 e.1 f.1)
 
   each_fine : (all : List Node) → arguments (map (seen_of p) all) ≡ true → list_all (λ (x : Seen). x.is_fine) (map (seen_of p) all) ≡ true
@@ -341,9 +341,9 @@ module _ (p : Profile) where
   each_fine (a ∷ b ∷ all) e = e
 
   arguments_part : (all : List Node) → AllByRecursion Good all → arguments (map (seen_of p) all) ≡ true
-      → list_all (λ test. test) (map has_kept_numbers all) ≡ true
+      → list_all (λ test. test) (map has_canonical_numbers all) ≡ true
       → Spells (NoColon p.locale) (arguments_text (style p) (map text_of all)) (tokens.arguments_tokens p (map (tokened p) all))
-  arguments_part all good normal kept = listed all (each_argued all good (each_fine all normal) kept)
+  arguments_part all good normal canonical = listed all (each_argued all good (each_fine all normal) canonical)
 
   -- ---- calls
 
@@ -419,45 +419,45 @@ module _ (p : Profile) where
 
   good : (tree : Node) → Good tree
   good = induct Good (record {
-    boolean = λ value. good_at (layer.Boolean value) _ (n.rolls-Boolean value) (λ fine kept. boolean_spelt value);
-    number = λ value. good_at (layer.Number value) _ (n.rolls-Number value) (λ fine kept. number_spelt value fine kept);
-    text = λ text. good_at (layer.Text text) _ (n.rolls-Text text) (λ fine kept. text_spelt text fine);
-    reference = λ sheet corner. good_at (layer.Reference sheet corner) _ (n.rolls-Reference sheet corner) (λ fine kept. reference_spelt sheet corner fine);
+    boolean = λ value. good_at (layer.Boolean value) _ (n.rolls-Boolean value) (λ fine canonical. boolean_spelt value);
+    number = λ value. good_at (layer.Number value) _ (n.rolls-Number value) (λ fine canonical. number_spelt value fine canonical);
+    text = λ text. good_at (layer.Text text) _ (n.rolls-Text text) (λ fine canonical. text_spelt text fine);
+    reference = λ sheet corner. good_at (layer.Reference sheet corner) _ (n.rolls-Reference sheet corner) (λ fine canonical. reference_spelt sheet corner fine);
     range = λ sheet first second. good_at (layer.Range sheet first second) _ (n.rolls-Range sheet first second)
-        (λ fine kept. range_spelt sheet first second fine);
-    colon = λ a b x y. good_at (layer.Colon a b) _ (n.rolls-Colon a b) (λ fine kept. colon_spelt a b (two_of a b x y fine kept));
+        (λ fine canonical. range_spelt sheet first second fine);
+    colon = λ a b x y. good_at (layer.Colon a b) _ (n.rolls-Colon a b) (λ fine canonical. colon_spelt a b (two_of a b x y fine canonical));
     concatenate = λ a b x y. good_at (layer.Concatenate a b) _ (n.rolls-Concatenate a b)
-        (λ fine kept. infix_spelt op.Concatenate other a b refl refl (two_of a b x y fine kept));
+        (λ fine canonical. infix_spelt op.Concatenate other a b refl refl (two_of a b x y fine canonical));
     compare = λ kind a b x y. good_at (layer.Compare kind a b) _ (n.rolls-Compare kind a b)
-        (λ fine kept. infix_spelt (op.Compare kind) other a b refl refl (two_of a b x y fine kept));
+        (λ fine canonical. infix_spelt (op.Compare kind) other a b refl refl (two_of a b x y fine canonical));
     sum = λ kind a b x y. good_at (layer.Sum kind a b) _ (n.rolls-Sum kind a b)
-        (λ fine kept. infix_spelt (op.Sum kind) sum a b refl refl
-        (two_of a b x y (and_parts (is_operand (seen_of p a) && is_operand (seen_of p b)) _ fine).0 kept));
+        (λ fine canonical. infix_spelt (op.Sum kind) sum a b refl refl
+        (two_of a b x y (and_parts (is_operand (seen_of p a) && is_operand (seen_of p b)) _ fine).0 canonical));
     product = λ kind a b x y. good_at (layer.Product kind a b) _ (n.rolls-Product kind a b)
-        (λ fine kept. infix_spelt (op.Product kind) other a b refl refl (two_of a b x y fine kept));
+        (λ fine canonical. infix_spelt (op.Product kind) other a b refl refl (two_of a b x y fine canonical));
     power = λ a b x y. good_at (layer.Power a b) _ (n.rolls-Power a b)
-        (λ fine kept. infix_spelt op.Power other a b refl refl (two_of a b x y fine kept));
-    unary = λ kind a x. good_at (layer.Unary kind a) _ (n.rolls-Unary kind a) (λ fine kept. unary_spelt kind a (operand_of a x fine kept));
+        (λ fine canonical. infix_spelt op.Power other a b refl refl (two_of a b x y fine canonical));
+    unary = λ kind a x. good_at (layer.Unary kind a) _ (n.rolls-Unary kind a) (λ fine canonical. unary_spelt kind a (operand_of a x fine canonical));
     call = λ function all x. good_at (layer.Call function all) _ (n.rolls-Call function all)
-        (λ fine kept. function_spelt (arguments_part all x fine kept) function);
+        (λ fine canonical. function_spelt (arguments_part all x fine canonical) function);
     named_call = λ name all x. good_at (layer.NamedCall name all) _ (n.rolls-NamedCall name all)
-        (λ fine kept. let e = and_parts (is_called_name p.language name) _ fine in named_spelt (arguments_part all x e.1 kept) name e.0);
-    array = λ lines. good_at (layer.Array lines) _ (n.rolls-Array lines) (λ fine kept. array_spelt lines fine kept);
-    name = λ name. good_at (layer.Name name) _ (n.rolls-Name name) (λ fine kept. name_spelt name fine);
-    error = λ error. good_at (layer.Error error) _ (n.rolls-Error error) (λ fine kept. error_spelt error);
-    parse_error = λ text. good_at (layer.ParseError text) _ (n.rolls-ParseError text) (λ fine kept. absurd cc);
-    empty_argument = good_at layer.EmptyArgument _ n.rolls-EmptyArgument (λ fine kept. empty_spelt);
-    spill = λ a x. good_at (layer.Spill a) _ (n.rolls-Spill a) (λ fine kept. spill_spelt a (operand_of a x fine kept));
+        (λ fine canonical. let e = and_parts (is_called_name p.language name) _ fine in named_spelt (arguments_part all x e.1 canonical) name e.0);
+    array = λ lines. good_at (layer.Array lines) _ (n.rolls-Array lines) (λ fine canonical. array_spelt lines fine canonical);
+    name = λ name. good_at (layer.Name name) _ (n.rolls-Name name) (λ fine canonical. name_spelt name fine);
+    error = λ error. good_at (layer.Error error) _ (n.rolls-Error error) (λ fine canonical. error_spelt error);
+    parse_error = λ text. good_at (layer.ParseError text) _ (n.rolls-ParseError text) (λ fine canonical. absurd cc);
+    empty_argument = good_at layer.EmptyArgument _ n.rolls-EmptyArgument (λ fine canonical. empty_spelt);
+    spill = λ a x. good_at (layer.Spill a) _ (n.rolls-Spill a) (λ fine canonical. spill_spelt a (operand_of a x fine canonical));
     lambda = λ parameters a x. good_at (layer.Lambda parameters a) _ (n.rolls-Lambda parameters a)
-        (λ fine kept. let e = and_parts (list_all is_parameter parameters) _ fine in lambda_spelt parameters a e.0 (operand_of a x e.1 kept));
+        (λ fine canonical. let e = and_parts (list_all is_parameter parameters) _ fine in lambda_spelt parameters a e.0 (operand_of a x e.1 canonical));
     lambda_call = λ a all x y. good_at (layer.LambdaCall a all) _ (n.rolls-LambdaCall a all)
-        (λ fine kept.
+        (λ fine canonical.
         let e = and_parts (is_operand (seen_of p a) && is_callee (seen_of p a).sort) _ fine in
-        let f = and_parts (has_kept_numbers a) _ kept in
+        let f = and_parts (has_canonical_numbers a) _ canonical in
         let callee = and_parts (is_operand (seen_of p a)) _ e.0 in
         applied_spelt (arguments_part all y e.1 f.1) a (operand_of a x callee.0 f.0) callee.1);
     implicit_intersection = λ a x. good_at (layer.ImplicitIntersection a) _ (n.rolls-ImplicitIntersection a)
-        (λ fine kept. intersection_spelt a (operand_of a x fine kept));
+        (λ fine canonical. intersection_spelt a (operand_of a x fine canonical));
   })
 
   -- nothing may follow a formula
@@ -466,10 +466,10 @@ module _ (p : Profile) where
   at_end kind = record { ended = λ no. refl; colon = λ behind e. absurd cc }
 
   -- the printed text of a normal tree is its tokens
-  pub text_is_tokens : (tree : Node) → is_normal p.place p.language tree ≡ true → has_kept_numbers tree ≡ true
+  pub text_is_tokens : (tree : Node) → is_normal p.place p.language tree ≡ true → has_canonical_numbers tree ≡ true
       → IsTokens p.locale p.language (chars (localized_text p.place p.locale p.language tree)) (tokens_of p tree)
   unfolding is_normal localized_text
-  text_is_tokens tree normal kept =
-      let x = operand_of tree (good tree) (and_parts _ _ normal).1 kept in
+  text_is_tokens tree normal canonical =
+      let x = operand_of tree (good tree) (and_parts _ _ normal).1 canonical in
       let piece = x.piece in
       whole (at_end (text_of tree).kind) piece.part

@@ -12,12 +12,12 @@ use Rattle.base_tables.specs.declared.Locale.TheVariants as in_locale
 use Rattle.base_tables.specs.Locale.{decimal_sign, argument_separator, row_separator, column_separator}
 use Rattle.base_tables.specs.Word.{is_word, reads_as_cell}
 use Rattle.base_decimal.specs.declared.Decimal.{Decimal}
-use Rattle.base_decimal.specs.Kept.{is_kept}
+use Rattle.base_decimal.specs.Canonical.{is_canonical}
 use Rattle.base_decimal.specs.Printed.{printed as decimal_text}
 use Rattle.base_decimal.proofs.Spans.{not_true}
 use Rattle.formula_tree.specs.declared.ArrayItem.{ArrayItem}
 use Rattle.formula_tree.specs.declared.ArrayItem.TheVariants as item
-use Rattle.formula_tree.specs.declared.numbers.NumberRule.TheVariants.{Kept}
+use Rattle.formula_tree.specs.declared.numbers.NumberRule.TheVariants.{Canonical}
 use Rattle.formula_tree.specs.declared.Parameter.{Parameter}
 use Rattle.formula_tree.specs.Numbers.{constant_follows, lines_follow}
 use Rattle.formula_print.specs.declared.Style.{Style}
@@ -124,19 +124,19 @@ module _ (p : Profile) where
   abbrev Clear : List ℕ → List Token → Type 0
   Clear = Part p.locale p.language (NoColon p.locale)
 
-  -- the constant is normal, and its number kept
+  -- the constant is normal, and its number canonical
   abbrev Fine : ArrayItem → Type 0
-  Fine x = (is_constant x ≡ true) × (constant_follows Kept x ≡ true)
+  Fine x = (is_constant x ≡ true) × (constant_follows Canonical x ≡ true)
 
   abbrev opposite : Decimal → Decimal
   opposite d = record d { mantissa = neg_ℤ d.mantissa }
 
-  number_item : (d : Decimal) → is_kept d ≡ true → (low : Bool) → int_le (pos 0) d.mantissa ≡ low
+  number_item : (d : Decimal) → is_canonical d ≡ true → (low : Bool) → int_le (pos 0) d.mantissa ≡ low
       → Clear (decimal_text (decimal_sign p.locale) d) (if low then t.Number d ∷ [] else t.Minus ∷ t.Number (opposite d) ∷ [])
-  number_item d kept true low = number_part d kept low
-  number_item d kept false low =
+  number_item d canonical true low = number_part d canonical low
+  number_item d canonical false low =
       same_text (sym (negative_printed (decimal_sign p.locale) d low))
-      (in_turn minus_part (number_part (opposite d) (opposite_kept d low kept) (opposite_low d.mantissa low)))
+      (in_turn minus_part (number_part (opposite d) (opposite_kept d low canonical) (opposite_low d.mantissa low)))
 
   item_part : (x : ArrayItem) → Fine x → Clear (item_text style x) (tokens.item_tokens p x)
   item_part (item.Boolean value) fine = before (NoColon p.locale) (λ rest after. after.0) (boolean_part value)
@@ -161,20 +161,20 @@ module _ (p : Profile) where
       (record { no_text = refl; no_tokens = refl; more_text = λ x xs. refl; more_tokens = λ x xs. refl })
       (AllByRecursion Fine) line_part first later fine.0 fine.1
 
-  lines_fine : (lines : List (List ArrayItem)) → list_all (list_all is_constant) lines ≡ true → lines_follow Kept lines ≡ true
+  lines_fine : (lines : List (List ArrayItem)) → list_all (list_all is_constant) lines ≡ true → lines_follow Canonical lines ≡ true
       → AllByRecursion (AllByRecursion Fine) lines
   lines_fine [] e f = tt
   lines_fine (line ∷ lines) e f =
       let k = and_parts (list_all is_constant line) _ e in
-      let m = and_parts (list_all (constant_follows Kept) line) _ f in
-      (both_of is_constant (constant_follows Kept) line k.0 m.0, lines_fine lines k.1 m.1)
+      let m = and_parts (list_all (constant_follows Canonical) line) _ f in
+      (both_of is_constant (constant_follows Canonical) line k.0 m.0, lines_fine lines k.1 m.1)
 
-  -- an array of normal constants with kept numbers
-  pub array_part : (lines : List (List ArrayItem)) → list_all (list_all is_constant) lines ≡ true → lines_follow Kept lines ≡ true
+  -- an array of normal constants with canonical numbers
+  pub array_part : (lines : List (List ArrayItem)) → list_all (list_all is_constant) lines ≡ true → lines_follow Canonical lines ≡ true
       → Part p.locale p.language Anything (array_text style lines) (tokens.array_tokens p lines)
   unfolding follows in_word
-  array_part lines normal kept =
-      let closed = joined (lines_part lines (lines_fine lines normal kept)) close_brace_part (λ rest after. plain_clear p.locale 125 [] rest refl refl refl) in
+  array_part lines normal canonical =
+      let closed = joined (lines_part lines (lines_fine lines normal canonical)) close_brace_part (λ rest after. plain_clear p.locale 125 [] rest refl refl refl) in
       in_turn open_brace_part closed
 
   -- ---- parameters

@@ -1,7 +1,7 @@
 -- Which trees and contents read back as they were printed.
 use Rattle.std.specs.Prelude.{◌≡◌, ℕ, Bool, true, false, List}
 use Rattle.formula_tree.specs.declared.Node.{Node}
-use Rattle.formula_tree.specs.Numbers.{has_kept_numbers}
+use Rattle.formula_tree.specs.Numbers.{has_canonical_numbers}
 use Rattle.cell_content.specs.declared.Content.{Content}
 use Rattle.cell_content.specs.declared.Content.TheVariants.{Empty, Number, Boolean, Error, Text, Formula, Dynamic, Array}
 use Rattle.formula_grammar.specs.declared.Profile.{Profile}
@@ -13,9 +13,9 @@ abbrev pub text_at : Profile → Node → List ℕ
 text_at p tree = localized_text p.place p.locale p.language tree
 
 -- a tree that is normal there, and whose numbers a workbook keeps
-pub record IsKeptNormal (p : Profile) (tree : Node) : Type 0 where
+pub record IsCanonicalNormal (p : Profile) (tree : Node) : Type 0 where
   pub normal : is_normal p.place p.language tree ≡ true
-  pub kept : has_kept_numbers tree ≡ true
+  pub canonical : has_canonical_numbers tree ≡ true
 
 -- the content is no formula, or one with a normal tree. What is printed of a formula that may spill, and of an array, is read as one
 -- that does neither

@@ -2,7 +2,7 @@
 use Rattle.std.specs.Prelude.{pos, Bool, true, ◌&&◌, int_le, List}
 use Rattle.std.specs.List.{list_all}
 use Rattle.base_decimal.specs.declared.Decimal.{Decimal}
-use Rattle.base_decimal.specs.Kept.{is_kept}
+use Rattle.base_decimal.specs.Canonical.{is_canonical}
 use Rattle.formula_tree.specs.declared.array_item.ArrayItem.{ArrayItem}
 use Rattle.formula_tree.specs.declared.array_item.ArrayItem.TheVariants as item
 use Rattle.formula_tree.specs.declared.node.Node.{Node, fold-Node}
@@ -13,15 +13,15 @@ use Rattle.formula_tree.specs.declared.numbers.NumberRule.TheVariants as rule
 
 -- the number of a node follows a rule
 abbrev pub number_follows : NumberRule → Decimal → Bool
-number_follows rule.Kept value = is_kept value
+number_follows rule.Canonical value = is_canonical value
 number_follows rule.NotNegative value = int_le (pos 0) value.mantissa
 
 -- the constant of an array follows a rule: it may be negative
 abbrev pub constant_follows : NumberRule → ArrayItem → Bool
-constant_follows rule.Kept (item.Number value) = is_kept value
-constant_follows rule.Kept (item.Boolean value) = true
-constant_follows rule.Kept (item.Text text) = true
-constant_follows rule.Kept (item.Error error) = true
+constant_follows rule.Canonical (item.Number value) = is_canonical value
+constant_follows rule.Canonical (item.Boolean value) = true
+constant_follows rule.Canonical (item.Text text) = true
+constant_follows rule.Canonical (item.Error error) = true
 constant_follows rule.NotNegative constant = true
 
 -- the constants of an array follow a rule
@@ -59,8 +59,8 @@ unfoldable pub numbers_follow : NumberRule → Node → Bool
 numbers_follow r = fold-Node Bool (numbers_layer r)
 
 -- each number of the tree, also in its arrays, is one that a workbook keeps
-abbrev pub has_kept_numbers : Node → Bool
-has_kept_numbers = numbers_follow rule.Kept
+abbrev pub has_canonical_numbers : Node → Bool
+has_canonical_numbers = numbers_follow rule.Canonical
 
 -- no number node is negative: a minus sign is a node of its own. The constants of arrays may be negative
 abbrev pub has_no_negative_number : Node → Bool

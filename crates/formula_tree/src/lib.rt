@@ -27,7 +27,7 @@ pub use corner::{
 pub use depth::{MAX_DEPTH, is_at_most_deep};
 pub use moved::{CornerMap, move_node};
 pub use node::Node;
-pub use numbers::{has_kept_numbers, has_no_negative_number};
+pub use numbers::{has_canonical_numbers, has_no_negative_number};
 pub use on_sheet::is_on_sheet;
 pub use operator::{CompareKind, ProductKind, SumKind, UnaryKind};
 pub use parameter::Parameter;

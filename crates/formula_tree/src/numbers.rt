@@ -1,6 +1,6 @@
 ghost use Rattle.std.specs.Prelude.{◌≡◌};
 ghost use Rattle.std.specs.List.{list_all};
-ghost use Rattle.formula_tree.specs.Numbers.{number_follows, constant_follows, lines_follow, numbers_follow, has_kept_numbers, has_no_negative_number};
+ghost use Rattle.formula_tree.specs.Numbers.{number_follows, constant_follows, lines_follow, numbers_follow, has_canonical_numbers, has_no_negative_number};
 
 use crate::array_item::ArrayItem;
 use crate::node::Node;
@@ -12,17 +12,17 @@ use base_values::Items;
 #[derive(Clone, Copy, Debug, PartialEq, Eq)]
 pub enum NumberRule {
     /// Each is one that a workbook keeps, also in arrays.
-    Kept,
+    Canonical,
     /// None is negative, but for the constants of arrays.
     NotNegative,
 }
 
 /// Whether each number of a tree, also in its arrays, is one that a workbook keeps: at most 15
 /// digits on each side of the point, and no zero digit at the end of the places.
-pub fn has_kept_numbers(node: &Node) -> bool
-    ensures { result ≡ has_kept_numbers node.now }
+pub fn has_canonical_numbers(node: &Node) -> bool
+    ensures { result ≡ has_canonical_numbers node.now }
 {
-    numbers_follow(node, NumberRule::Kept)
+    numbers_follow(node, NumberRule::Canonical)
 }
 
 /// Whether no number node of a tree is negative: a minus sign is a node of its own. The constants
@@ -37,7 +37,7 @@ fn number_follows(value: Decimal, rule: NumberRule) -> bool
     ensures { result ≡ number_follows rule value }
 {
     match rule {
-        NumberRule::Kept => value.is_kept(),
+        NumberRule::Canonical => value.is_canonical(),
         NumberRule::NotNegative => value.mantissa >= 0,
     }
 }
@@ -46,7 +46,7 @@ fn constant_follows(constant: &ArrayItem, rule: NumberRule) -> bool
     ensures { result ≡ constant_follows rule constant.now }
 {
     match (rule, constant) {
-        (NumberRule::Kept, ArrayItem::Number(value)) => value.is_kept(),
+        (NumberRule::Canonical, ArrayItem::Number(value)) => value.is_canonical(),
         _ => true,
     }
 }

@@ -11,8 +11,8 @@ use Rattle.formula_tree.specs.declared.Parameter.{Parameter}
 use Rattle.base_wire.specs.Spelling.{Any, FitsItems, FitsText}
 use Rattle.base_wire.specs.laws.Form.{Passes, each_passes, is_text, is_list, items_out, text_passes}
 use Rattle.formula_wire.specs.Carried.{is_corner, is_item, is_parameter}
-use Rattle.formula_wire.specs.laws.KeptLaws.{lines_kept}
-use Rattle.formula_wire.specs.KeptNumbers.{is_kept_item}
+use Rattle.formula_wire.specs.laws.CanonicalLaws.{lines_kept}
+use Rattle.formula_wire.specs.CanonicalNumbers.{is_canonical_item}
 use Rattle.formula_wire.specs.laws.PartLaws.{signed_passes}
 
 pub text_carried : (text : List ℕ) → FitsText text → is_text text ≡ true
@@ -32,16 +32,16 @@ both_ways true b there back = sym (there refl)
 both_ways false true there back = back refl
 both_ways false false there back = refl
 
-each_line : (lines : List (List ArrayItem)) → list_all (list_all is_kept_item) lines ≡ true → AllByRecursion (AllByRecursion (Passes is_kept_item)) lines
+each_line : (lines : List (List ArrayItem)) → list_all (list_all is_canonical_item) lines ≡ true → AllByRecursion (AllByRecursion (Passes is_canonical_item)) lines
 each_line [] h = tt
-each_line (line ∷ lines) h = let p = and_parts (list_all is_kept_item line) (list_all (list_all is_kept_item) lines) h in (each_passes is_kept_item line p.0, each_line lines p.1)
+each_line (line ∷ lines) h = let p = and_parts (list_all is_canonical_item line) (list_all (list_all is_canonical_item) lines) h in (each_passes is_canonical_item line p.0, each_line lines p.1)
 
 lines_out : (lines : List (List ArrayItem)) → AllByRecursion (FitsItems (Passes is_item)) lines → AllByRecursion (Passes (is_list is_item)) lines
 lines_out [] h = tt
 lines_out (line ∷ lines) h = (items_out is_item line h.0, lines_out lines h.1)
 
 -- of an array of Rust's own types only the numbers may not fit
-pub lines_carried : (lines : List (List ArrayItem)) → (AllByRecursion (AllByRecursion (Passes is_kept_item)) lines → FitsItems (FitsItems (Passes is_item)) lines) → is_list (is_list is_item) lines ≡ list_all (list_all is_kept_item) lines
+pub lines_carried : (lines : List (List ArrayItem)) → (AllByRecursion (AllByRecursion (Passes is_canonical_item)) lines → FitsItems (FitsItems (Passes is_item)) lines) → is_list (is_list is_item) lines ≡ list_all (list_all is_canonical_item) lines
 lines_carried lines fit = both_ways _ _ (lines_kept lines) (λ h. let fits = fit (each_line lines h) in items_out (is_list is_item) lines (record { short = fits.short; each = lines_out lines fits.each }))
 
 every : {A : Type 0} (xs : List A) → AllByRecursion Any xs

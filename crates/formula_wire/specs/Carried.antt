@@ -1,6 +1,6 @@
 -- Trees whose parts bytes can carry.
 use Rattle.std.specs.Prelude.{ℕ, ◌^◌, ℤ, pos, negsuc, Bool, true, ◌&&◌, nat_lt, IsTrue, List}
-use Rattle.base_decimal.specs.Kept.{is_kept}
+use Rattle.base_decimal.specs.Canonical.{is_canonical}
 use Rattle.formula_tree.specs.declared.ArrayItem.{ArrayItem}
 use Rattle.formula_tree.specs.declared.ArrayItem.TheVariants as item
 use Rattle.formula_tree.specs.declared.Corner.{Corner}
@@ -9,7 +9,7 @@ use Rattle.formula_tree.specs.declared.Node.{Node, fold-Node}
 use Rattle.formula_tree.specs.declared.Node.TheOpen.{Node-F}
 use Rattle.formula_tree.specs.declared.Node.TheOpen as layer
 use Rattle.formula_tree.specs.Depth.{is_within}
-use Rattle.formula_tree.specs.Numbers.{has_kept_numbers}
+use Rattle.formula_tree.specs.Numbers.{has_canonical_numbers}
 use Rattle.base_wire.specs.laws.Form.{if_passes, is_text, is_list}
 
 -- a number of 32 bits
@@ -20,10 +20,10 @@ is_signed (negsuc n) = nat_lt n (2 ^ 31)
 abbrev pub is_corner : Corner → Bool
 is_corner corner = is_signed corner.row && is_signed corner.column
 
--- constants whose numbers are kept, and texts of Rust
+-- constants whose numbers are canonical, and texts of Rust
 abbrev pub is_item : ArrayItem → Bool
 is_item (item.Boolean value) = true
-is_item (item.Number value) = is_kept value
+is_item (item.Number value) = is_canonical value
 is_item (item.Text text) = is_text text
 is_item (item.Error error) = true
 
@@ -33,7 +33,7 @@ is_parameter parameter = is_text parameter.name
 -- one node, whose children are tested
 abbrev pub carried_layer : Node-F Bool → Bool
 carried_layer (layer.Boolean value) = true
-carried_layer (layer.Number value) = is_kept value
+carried_layer (layer.Number value) = is_canonical value
 carried_layer (layer.Text text) = is_text text
 carried_layer (layer.Reference sheet corner) = if_passes is_text sheet && is_corner corner
 carried_layer (layer.Range sheet first second) = if_passes is_text sheet && (is_corner first && is_corner second)
@@ -56,7 +56,7 @@ carried_layer (layer.Lambda parameters a) = is_list is_parameter parameters && a
 carried_layer (layer.LambdaCall a all) = a && is_list (λ test. test) all
 carried_layer (layer.ImplicitIntersection a) = a
 
--- each number of the tree is kept, each text and list is one of Rust, and each corner has numbers of 32 bits
+-- each number of the tree is canonical, each text and list is one of Rust, and each corner has numbers of 32 bits
 unfoldable pub is_carried : Node → Bool
 is_carried = fold-Node Bool carried_layer
 
@@ -65,7 +65,7 @@ pub record FitsNode (node : Node) : Type 0 where
   pub carried : IsTrue (is_carried node)
   pub depth : IsTrue (is_within 64 node)
 
--- what writing asks of a tree: its numbers are kept, and it is at most 64 deep
+-- what writing asks of a tree: its numbers are canonical, and it is at most 64 deep
 pub record IsKnownNode (node : Node) : Type 0 where
-  pub kept : IsTrue (has_kept_numbers node)
+  pub canonical : IsTrue (has_canonical_numbers node)
   pub depth : IsTrue (is_within 64 node)

@@ -1,5 +1,5 @@
 pub mod PartBytes
 pub mod NodeBytes
 pub mod Carried
-pub mod KeptNumbers
+pub mod CanonicalNumbers
 pub mod laws

@@ -3,6 +3,6 @@ pub mod PartLaws
 pub mod SpellEquations
 pub mod CarriedEquations
 pub mod NodeFits
-pub mod KeptLaws
+pub mod CanonicalLaws
 pub mod Levels
-pub mod KeptArrays
+pub mod CanonicalArrays

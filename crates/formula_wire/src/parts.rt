@@ -16,7 +16,7 @@ pub(crate) struct ParameterPart;
 impl Part for ConstantPart {
     ghost use Rattle.base_wire.specs.laws.Form.{Passes};
     ghost use Rattle.formula_wire.specs.Carried.{is_item};
-    ghost use Rattle.formula_wire.specs.KeptNumbers.{is_kept_item};
+    ghost use Rattle.formula_wire.specs.CanonicalNumbers.{is_canonical_item};
     ghost use Rattle.formula_wire.specs.PartBytes.{item_at, spell_item};
     ghost use Rattle.formula_wire.specs.laws.PartLaws.{item_form, item_some};
 
@@ -24,7 +24,7 @@ impl Part for ConstantPart {
 
     type Context = ();
 
-    ghost Known = { Passes is_kept_item };
+    ghost Known = { Passes is_canonical_item };
 
     ghost Fits = { Passes is_item };
 

@@ -1,5 +1,5 @@
 //! Corners, arrays, parameters and nodes without children at the end of bytes. Those of Rust's own types
-//! fit, where their numbers are kept.
+//! fit, where their numbers are canonical.
 
 ghost use Rattle.std.specs.Prelude.{◌≡◌, ◌∷◌, ◌++◌, ◌&&◌, true, OnOk};
 ghost use Rattle.std.specs.List.{list_all};
@@ -7,7 +7,7 @@ ghost use Rattle.base_wire.specs.Parts.{spell_decimal};
 ghost use Rattle.base_wire.specs.Spelling.{spell_text};
 ghost use Rattle.base_wire.specs.laws.Form.{if_passes, is_list, is_text};
 ghost use Rattle.formula_wire.specs.Carried.{is_corner, is_item, is_parameter};
-ghost use Rattle.formula_wire.specs.KeptNumbers.{is_kept_item};
+ghost use Rattle.formula_wire.specs.CanonicalNumbers.{is_canonical_item};
 ghost use Rattle.formula_wire.specs.PartBytes.{spell_corner, spell_lines, spell_parameters, spell_sheet};
 
 use crate::parts::{ConstantPart, ParameterPart};
@@ -95,7 +95,7 @@ pub(crate) fn push_array(
     lines: &Items<Items<ArrayItem>>,
 ) -> Result<(), AllocError>
     ensures spelled { OnOk result (out.new.items ≡ out.old.items ++ 14 ∷ spell_lines lines.now) }
-    ensures carried { OnOk result (is_list (is_list is_item) lines.now ≡ list_all (list_all is_kept_item) lines.now) }
+    ensures carried { OnOk result (is_list (is_list is_item) lines.now ≡ list_all (list_all is_canonical_item) lines.now) }
 {
     out.push(14)?;
     put_items::<Items<ConstantPart>>(out, lines.as_slice())?;

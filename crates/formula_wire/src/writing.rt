@@ -2,12 +2,12 @@
 
 ghost use Rattle.std.specs.Prelude.{◌≡◌, ◌∷◌, ◌++◌, ◌&&◌, true, OnOk};
 ghost use Rattle.std.specs.List.{list_all};
-ghost use Rattle.formula_tree.specs.Numbers.{has_kept_numbers};
+ghost use Rattle.formula_tree.specs.Numbers.{has_canonical_numbers};
 ghost use Rattle.base_wire.specs.Spelling.{spell_text};
 ghost use Rattle.base_wire.specs.Parts.{spell_decimal};
 ghost use Rattle.base_wire.specs.laws.Form.{if_passes, is_list, is_text};
 ghost use Rattle.formula_wire.specs.Carried.{is_carried, is_corner, is_item, is_parameter, FitsNode, IsKnownNode};
-ghost use Rattle.formula_wire.specs.KeptNumbers.{is_kept_item};
+ghost use Rattle.formula_wire.specs.CanonicalNumbers.{is_canonical_item};
 ghost use Rattle.formula_wire.specs.PartBytes.{spell_corner, spell_lines, spell_parameters, spell_sheet};
 ghost use Rattle.formula_wire.specs.NodeBytes.{spell_node, spell_nodes};
 
@@ -32,10 +32,10 @@ pub fn push_node(out: &mut Vec<u8>, node: &Node) -> Result<(), AllocError>
 
 /// Of a tree of Rust's own types only the numbers may not fit.
 #[cycle(nodes)]
-#[tactic(auto, using(crate::specs::laws::SpellEquations::spellings, crate::specs::laws::CarriedEquations::carryings, crate::proofs::Numbers::kept, crate::proofs::Joins::pieces))]
+#[tactic(auto, using(crate::specs::laws::SpellEquations::spellings, crate::specs::laws::CarriedEquations::carryings, crate::proofs::Numbers::canonical, crate::proofs::Joins::pieces))]
 fn push_tree(out: &mut Vec<u8>, node: &Node) -> Result<(), AllocError>
     ensures spelled { OnOk result (out.new.items ≡ out.old.items ++ spell_node node.now) }
-    ensures carried { OnOk result (is_carried node.now ≡ has_kept_numbers node.now) }
+    ensures carried { OnOk result (is_carried node.now ≡ has_canonical_numbers node.now) }
 {
     match node {
         Node::Boolean(value) => out.extend_from_slice(&[0, boolean_code(*value)]),
@@ -89,7 +89,7 @@ fn push_tree(out: &mut Vec<u8>, node: &Node) -> Result<(), AllocError>
 #[cycle(nodes)]
 fn push_boxed(out: &mut Vec<u8>, head: &[u8], node: &Shared<Node>) -> Result<(), AllocError>
     ensures spelled { OnOk result (out.new.items ≡ out.old.items ++ (head.now ++ spell_node node.now)) }
-    ensures carried { OnOk result (is_carried node.now ≡ has_kept_numbers node.now) }
+    ensures carried { OnOk result (is_carried node.now ≡ has_canonical_numbers node.now) }
 {
     out.extend_from_slice(head)?;
     push_tree(out, node.get())
@@ -100,7 +100,7 @@ fn push_boxed(out: &mut Vec<u8>, head: &[u8], node: &Shared<Node>) -> Result<(),
 #[tactic(auto, using(crate::proofs::Fits::lists, crate::proofs::Joins::pieces))]
 fn push_nodes(out: &mut Vec<u8>, head: &[u8], nodes: &Items<Node>) -> Result<(), AllocError>
     ensures spelled { OnOk result (out.new.items ≡ out.old.items ++ (head.now ++ spell_nodes nodes.now)) }
-    ensures carried { OnOk result (is_list is_carried nodes.now ≡ list_all has_kept_numbers nodes.now) }
+    ensures carried { OnOk result (is_list is_carried nodes.now ≡ list_all has_canonical_numbers nodes.now) }
 {
     out.extend_from_slice(head)?;
     let nodes = nodes.as_slice();
@@ -119,7 +119,7 @@ fn push_named_call(
     arguments: &Items<Node>,
 ) -> Result<(), AllocError>
     ensures spelled { OnOk result (out.new.items ≡ out.old.items ++ 13 ∷ (spell_text name.now ++ spell_nodes arguments.now)) }
-    ensures carried { OnOk result (is_text name.now && is_list is_carried arguments.now ≡ list_all has_kept_numbers arguments.now) }
+    ensures carried { OnOk result (is_text name.now && is_list is_carried arguments.now ≡ list_all has_canonical_numbers arguments.now) }
 {
     push_tagged_text(out, 13, name)?;
     push_nodes(out, &[], arguments)?;
@@ -134,7 +134,7 @@ fn push_lambda(
     body: &Shared<Node>,
 ) -> Result<(), AllocError>
     ensures spelled { OnOk result (out.new.items ≡ out.old.items ++ 20 ∷ (spell_parameters parameters.now ++ spell_node body.now)) }
-    ensures carried { OnOk result (is_list is_parameter parameters.now && is_carried body.now ≡ has_kept_numbers body.now) }
+    ensures carried { OnOk result (is_list is_parameter parameters.now && is_carried body.now ≡ has_canonical_numbers body.now) }
 {
     push_parameters(out, parameters)?;
     push_tree(out, body.get())?;

@@ -19,6 +19,14 @@ pub struct Block {
     pub count: i32,
 }
 
+impl Exact for Block {
+    ghost use Rattle.line_edits.specs.laws.Equals.{block_equals};
+
+    ghost copies = { λ a b h. h };
+
+    ghost equals = { block_equals };
+}
+
 /// What an edit does to the lines of an axis.
 #[derive(Clone, Copy, Debug, PartialEq, Eq)]
 pub enum EditKind {

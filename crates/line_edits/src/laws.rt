@@ -14,6 +14,7 @@ pub fn image_of_opposite<A: Axis>(edit: &LineEdit<A>)
     requires { IsValid A.along.last edit.now.kind }
     ensures { (n m : ℤ) → image_at A.along.last edit.now.kind n ≡ Some m → image_at A.along.last (opposite_of edit.now.kind) m ≡ Some n }
 {
+    // A law does no work.
     let _ = edit;
 }
 
@@ -24,5 +25,6 @@ pub fn move_by_single_lines<A: Axis>(first: i32, count: i32, delta: i32)
     requires { IsValid A.along.last (Move first count delta) }
     ensures { (n : ℤ) → IsLine A.along.last n → image_at A.along.last (Move first count delta) n ≡ line_by_line A.along.last first count delta n }
 {
+    // A law does no work.
     let _ = (first, count, delta);
 }

@@ -34,5 +34,6 @@ pub fn ranges_hold_images<A: Axis>(route: &Route<'_, A, LineEdit<A>>)
     ensures ranges { RangesHoldImages (way route.now) }
     ensures nodes { GoesByNodes (way route.now) }
 {
+    // For the proof: the route is a way.
     route.is_way();
 }

@@ -97,6 +97,7 @@ pub fn carried_with_kept<A: Axis, M: LineMap<A>, F: Follower<A> + Exact>(
     ensures parts { IfOk result (λ both. both.1.parts ≡ places_parts F.part_of (way route.now) map.now) }
     ensures only { IsOkUnless result NoMemory }
 {
+    // For the proof: the route is a way.
     route.is_way();
     let mut made = Items::empty(alloc);
     let mut lost = PositionMap::new(alloc);

@@ -135,6 +135,7 @@ fn carried_cell_with_part<A: Axis, M: LineMap<A>>(
     ensures part { IfOk result (λ both. both.1 ≡ cell_part (way route.now) cell.now) }
     ensures only { IsOkUnless result NoMemory }
 {
+    // For the proof: the route is a way.
     route.is_way();
     if stays(route, tree.get()) {
         return Ok((copy_of(cell)?, None));

@@ -30,6 +30,7 @@ pub fn entries_of_maps<A: Axis, M: LineMap<A>, F: Follower<A>>(
     ensures lost { (p : Position) → get (lost_map (place_goes (way route.now)) map.now) p ≡ entry_lost (way route.now) map.now p }
     ensures parts { (p : Position) → get (places_parts F.part_of (way route.now) map.now) p ≡ entry_part F.part_of (way route.now) map.now p }
 {
+    // For the proof: the route is a way.
     route.is_way();
     let _ = map;
 }
@@ -39,6 +40,7 @@ pub fn entries_of_maps<A: Axis, M: LineMap<A>, F: Follower<A>>(
 pub fn followed_is_placed<A: Axis, M: LineMap<A>>(route: &Route<'_, A, M>, tree: &Shared<Node>)
     ensures { is_placed (way route.now).to (tree_carried (way route.now) tree.now) ≡ true }
 {
+    // For the proof: the route is a way.
     route.is_way();
     let _ = tree;
 }
@@ -53,6 +55,7 @@ pub fn kept_by_corners<A: Axis, M: LineMap<A>>(route: &Route<'_, A, M>, tree: &S
     ensures exact { Decides (not (must_keep (way route.now) tree.now)) (ComesBack (way route.now) tree.now) }
     ensures part { tree_part (way route.now) tree.now ≡ (if must_keep (way route.now) tree.now then Some tree.now else None) }
 {
+    // For the proof: the route is a way.
     route.is_way();
     let _ = tree;
 }
@@ -64,5 +67,6 @@ pub fn moves_keep_whole_ranges<A: Axis>(route: &Route<'_, A, LineEdit<A>>)
     ensures references { KeepsNoReference (way route.now) }
     ensures ranges { KeepsRangesThatBecomeWhole (way route.now) }
 {
+    // For the proof: the route is a way.
     route.is_way();
 }

@@ -37,6 +37,7 @@ fn carried_merges<A: Axis, M: LineMap<A>>(
     ensures inside { IfOk result MergesLie }
     ensures only { IsOkUnless result NoMemory }
 {
+    // For the proof: the route is a way.
     route.is_way();
     let mut made = Items::empty(alloc);
     for merge in merges {

@@ -69,6 +69,7 @@ pub fn carried_places<A: Axis, M: LineMap<A>, F: Follower<A>>(
     ensures map { IfOk result (λ made. made ≡ places_carried F.carry_of (way route.now) map.now) }
     ensures only { IsOkUnless result NoMemory }
 {
+    // For the proof: the route is a way.
     route.is_way();
     let mut made = Items::empty(alloc);
     for (from, item) in map.iter() {
@@ -162,6 +163,7 @@ fn restored_entry<A: Axis, M: LineMap<A>, F: Follower<A>, L: Parts<Part = F::Par
     ensures entry { IfOk result (λ entry. entry ≡ restored_entry F.carry_of F.restore_of (way route.now) (L.part_at parts.now) (to, item.now)) }
     ensures only { IsOkUnless result NoMemory }
 {
+    // For the proof: the route is a way.
     route.is_way();
     let Some(from) = route.back().goes(to) else {
         return Ok(None);
@@ -186,6 +188,7 @@ pub fn restored_places<A: Axis, M: LineMap<A>, F: Follower<A>, L: Parts<Part = F
     ensures map { IfOk result (λ made. made ≡ places_restored F.carry_of F.restore_of (way route.now) (L.part_at parts.now) map.now) }
     ensures only { IsOkUnless result NoMemory }
 {
+    // For the proof: the route is a way.
     route.is_way();
     let mut made = Items::empty(alloc);
     for (to, item) in map.iter() {

@@ -189,6 +189,7 @@ impl<A: Axis> Follower<A> for Shared<Node> {
         _alloc: Global,
         route: &Route<'_, A, M>,
     ) -> Result<Option<Shared<Node>>, EditError> {
+        // For the proof: the route is a way.
         route.is_way();
         kept_where(must_keep_along(route, self.get()), self)
     }

@@ -136,6 +136,7 @@ impl<A: Axis> Follower<A> for TreeAt {
         _alloc: Global,
         route: &Route<'_, A, M>,
     ) -> Result<Option<TreeAt>, EditError> {
+        // For the proof: the route is a way.
         route.is_way();
         let (own, edited) = (self.sheet.as_str(), self.edited.as_str());
         kept_where(

@@ -52,6 +52,7 @@ impl<'a, A: Axis, M: LineMap<A>> Route<'a, A, M> {
     pub fn is_way(&self)
         ensures { IsWay (way self.now) }
     {
+        // The promise is one of the type.
         let _ = self.from;
     }
 

@@ -1,6 +1,6 @@
 -- The bytes of what line edits keep of a workbook.
 use Rattle.std.specs.Prelude.{◌≡◌, ℤ, false, List, ◌++◌, ℕ, Option, IfSome, FitsSigned}
-use Rattle.std.specs.Int.{w32, w64, to_be_bytes}
+use Rattle.std.specs.Int.{w32}
 use Rattle.std.specs.Ordering.{int_cmp}
 use Rattle.std.specs.FinMap.{FinMap, get}
 use Rattle.base_values.specs.declared.Position.{Position}
@@ -21,8 +21,9 @@ use Rattle.formula_wire.specs.Carried.{FitsNode, IsKnownNode}
 use Rattle.cell_wire.specs.CellBytes.{spell_position, position_at, FitsPosition, spell_cell, cell_at, FitsCell, IsKnownCell}
 use Rattle.cell_wire.specs.LinkBytes.{spell_link, link_at, FitsLink}
 use Rattle.cell_wire.specs.MergeBytes.{spell_merges, merges_at, FitsMerges}
-use Rattle.lines_wire.specs.MapBytes.{spell_map, map_of_at, FitsMap}
-use Rattle.lines_wire.specs.PartBytes.{spell_sheet_place, sheet_place_at, FitsSheetPlace, spell_line, line_at, FitsLine}
+use Rattle.map_wire.specs.MapBytes.{spell_map, map_of_at, FitsMap, no_items}
+use Rattle.grid_wire.specs.LineBytes.{spell_line, line_at, FitsLine}
+use Rattle.lines_wire.specs.PartBytes.{spell_sheet_place, sheet_place_at, FitsSheetPlace}
 
 -- ---- maps
 
@@ -44,22 +45,18 @@ formulas_at = map_of_at sheet_place_cmp (λ m. m) sheet_place_at node_at
 unfoldable pub kept_merges_at : Reader (Option (List MergedCell))
 kept_merges_at = option_at merges_at
 
--- no rules
-abbrev pub no_rules : List ℕ
-no_rules = to_be_bytes w64 0
-
 -- cells, links, lines, the trees of formulas, merges, and no rules
 unfoldable pub spell_kept : KeptLines → List ℕ
 spell_kept kept =
     spell_map spell_position spell_cell kept.cells ++ (spell_map spell_position spell_link kept.links
     ++ (spell_map (spell_signed w32) spell_line kept.lines ++ (spell_map spell_sheet_place spell_node kept.formulas
-    ++ (spell_option spell_merges kept.merges ++ no_rules))))
+    ++ (spell_option spell_merges kept.merges ++ no_items))))
 
 abbrev pub kept_made : FinMap position_cmp Cell × (FinMap position_cmp Link × (FinMap int_cmp LineAttr × (FinMap sheet_place_cmp Node × (Option (List MergedCell) × Unit {0})))) → KeptLines
 kept_made x = record { cells = x.0; links = x.1.0; lines = x.1.1.0; formulas = x.1.1.1.0; merges = x.1.1.1.1.0 }
 
 unfoldable pub kept_at : Reader KeptLines
-kept_at = map_at kept_made (cells_at ⊗ links_at ⊗ lines_at ⊗ formulas_at ⊗ kept_merges_at ⊗ after no_rules (plain tt))
+kept_at = map_at kept_made (cells_at ⊗ links_at ⊗ lines_at ⊗ formulas_at ⊗ kept_merges_at ⊗ after no_items (plain tt))
 
 -- what line edits keep, as bytes can carry it
 pub record FitsKept (kept : KeptLines) : Type 0 where
@@ -69,7 +66,7 @@ pub record FitsKept (kept : KeptLines) : Type 0 where
   pub formulas : FitsMap FitsSheetPlace FitsNode kept.formulas
   pub merges : IfSome kept.merges FitsMerges
 
--- what writing asks: numbers are kept, trees are at most 64 deep, and each line has something of its own
+-- what writing asks: numbers are canonical, trees are at most 64 deep, and each line has something of its own
 pub record IsKnownKept (kept : KeptLines) : Type 0 where
   pub cells : (place : Position) → IfSome (get kept.cells place) IsKnownCell
   pub lines : (line : ℤ) → IfSome (get kept.lines line) (λ attr. is_plain attr ≡ false)

@@ -1,4 +1,3 @@
-pub mod MapBytes
 pub mod PartBytes
 pub mod EditBytes
 pub mod KeptBytes

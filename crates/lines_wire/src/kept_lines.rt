@@ -2,14 +2,11 @@
 
 ghost use Rattle.std.specs.Prelude.{◌≡◌, ◌++◌, IfSome, OnOk};
 ghost use Rattle.base_values.specs.Answers.{Answers, map_ok};
-ghost use Rattle.base_wire.specs.Reading.{rest_after};
 ghost use Rattle.base_wire.specs.Spelling.{spell_option};
 ghost use Rattle.cell_wire.specs.MergeBytes.{spell_merges, FitsMerges};
-ghost use Rattle.lines_wire.specs.KeptBytes.{kept_at, no_rules, spell_kept, FitsKept, IsKnownKept};
+ghost use Rattle.lines_wire.specs.KeptBytes.{kept_at, spell_kept, FitsKept, IsKnownKept};
 
-use crate::maps::MapPart;
-use crate::reading::read;
-use crate::values::{LinePart, SheetPlacePart};
+use crate::values::SheetPlacePart;
 use base_axis::MergeList;
 use base_maps::{NumberMap, PositionMap, SheetPlaceMap};
 use base_shared::Shared;
@@ -19,6 +16,8 @@ use base_wire::Part;
 use cell_wire::{CellPart, LinkPart, MergeListPart, PositionPart};
 use formula_tree::Node;
 use formula_wire::NodePart;
+use grid_wire::LinePart;
+use map_wire::{MapPart, after_no_items, read};
 use sheet_grid::{Cell, LineAttr, Link};
 use sheet_lines::KeptLines;
 use std::alloc::{AllocError, Global};
@@ -31,7 +30,7 @@ type LinesPart = MapPart<NumberMap<LineAttr>, i32, LinePart>;
 
 type FormulasPart = MapPart<SheetPlaceMap<Shared<Node>>, SheetPlacePart, Shared<NodePart>>;
 
-#[tactic(auto, using(crate::proofs::Known::any_option))]
+#[tactic(auto, using(map_wire::specs::laws::MapFits::any_option))]
 fn put_kept_merges(out: &mut Vec<u8>, merges: &Option<MergeList>) -> Result<(), AllocError>
     ensures spelled { OnOk result (out.new.items ≡ out.old.items ++ spell_option spell_merges merges.now) }
     ensures fits { OnOk result (IfSome merges.now FitsMerges) }
@@ -53,16 +52,6 @@ fn put_kept(out: &mut Vec<u8>, kept: &KeptLines) -> Result<(), AllocError>
     Ok(())
 }
 
-/// What stands after the bytes of no rules.
-fn after_no_rules(bytes: &[u8]) -> Result<&[u8], EditError>
-    ensures { Answers (map_ok (λ x. x.now) result) (rest_after no_rules bytes.now) }
-{
-    match bytes.strip_prefix([0; 8].as_slice()) {
-        Some(rest) => Ok(rest),
-        None => Err(EditError::ParseDiffs),
-    }
-}
-
 #[tactic(auto, unfolding(crate::specs::KeptBytes::kept_at, crate::specs::KeptBytes::cells_at, crate::specs::KeptBytes::links_at, crate::specs::KeptBytes::lines_at, crate::specs::KeptBytes::formulas_at, crate::specs::KeptBytes::kept_merges_at))]
 fn kept_at<'a>(
     alloc: Global,
@@ -76,7 +65,7 @@ fn kept_at<'a>(
     let (lines, rest) = read::<LinesPart>(alloc, plain, rest)?;
     let (formulas, rest) = read::<FormulasPart>(alloc, &(), rest)?;
     let (merges, rest) = read::<Option<MergeListPart>>(alloc, &(), rest)?;
-    let rest = after_no_rules(rest)?;
+    let rest = after_no_items(rest)?;
     let kept = KeptLines {
         cells,
         links,

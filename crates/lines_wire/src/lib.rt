@@ -7,11 +7,7 @@
 
 mod edits;
 mod kept_lines;
-mod keyed;
-mod maps;
-mod reading;
 mod values;
-mod writing;
 
 pub use edits::EditPart;
 pub use kept_lines::KeptLinesPart;

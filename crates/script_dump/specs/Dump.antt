@@ -1,5 +1,5 @@
 -- The printed form of a workbook.
-use Rattle.std.specs.Prelude.{ℕ, ℤ, Bool, true, false, List, [], ◌∷◌, ◌++◌, Option, Some, None, codes, decimal, if◌then◌else◌, not}
+use Rattle.std.specs.Prelude.{ℕ, ℤ, pos, Bool, true, false, List, [], ◌∷◌, ◌++◌, Option, Some, None, codes, decimal, if◌then◌else◌, not}
 use Rattle.std.specs.Fmt.{signed_decimal}
 use Rattle.std.specs.FinMap as fin
 use Rattle.std.specs.List.{flat_map}
@@ -13,6 +13,7 @@ use Rattle.base_styles.specs.declared.Color.TheVariants.{None as NoColor, Rgb, T
 use Rattle.base_styles.specs.declared.Style.{Style}
 use Rattle.base_styles.specs.contracts.style.StylePartialEq.TheImpl as style_eq
 use Rattle.base_styles.specs.DefaultStyle.{default_style}
+use Rattle.defined_names.specs.declared.DefinedName.{DefinedName}
 use Rattle.sheet_grid.specs.Book.{Book}
 use Rattle.sheet_grid.specs.Sheet.{Sheet}
 use Rattle.sheet_grid.specs.declared.Cell.{Cell}
@@ -91,6 +92,22 @@ area_text area =
 abbrev pub book_line : Book → List ℕ
 book_line book = line (words (codes "book" ∷ locale_name book.locale ∷ zone_name book.zone ∷ escaped book.name ∷ []))
 
+-- the id of the sheet where alone a name is known, and a dash where that is the whole workbook
+abbrev pub scope_text : Option ℕ → List ℕ
+scope_text None = codes "-"
+scope_text (Some id) = decimal id
+
+-- the place whose cell a name's formula is printed as in
+abbrev pub first_place : Position
+first_place = record { row = pos 1; column = pos 1 }
+
+-- what a name stands for, in English and with an equals sign
+abbrev pub meaning_text : DefinedName → List ℕ
+meaning_text name = escaped (input_text (english first_place) (Formula name.formula))
+
+abbrev pub name_line : DefinedName → List ℕ
+name_line name = line (words (codes "name" ∷ scope_text name.scope ∷ escaped name.name ∷ meaning_text name ∷ []))
+
 abbrev pub sheet_line : Sheet → List ℕ
 sheet_line sheet = line (words (
     codes "sheet" ∷ decimal sheet.id ∷ state_text sheet.state ∷ flag_text sheet.show_grid_lines
@@ -123,6 +140,6 @@ sheet_lines sheet =
     ++ (flat_map cell_line (fin.entries sheet.cells)
     ++ flat_map link_line (fin.entries sheet.links)))))
 
--- a workbook, then its sheets in order
+-- a workbook, then its defined names and its sheets, each in their order
 abbrev pub dump : Book → List ℕ
-dump book = book_line book ++ (flat_map sheet_lines book.worksheets ++ line (codes "end"))
+dump book = book_line book ++ (flat_map name_line book.names ++ (flat_map sheet_lines book.worksheets ++ line (codes "end")))

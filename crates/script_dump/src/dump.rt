@@ -5,7 +5,7 @@ ghost use Rattle.std.specs.List.{flat_map};
 ghost use Rattle.base_values.specs.Places.{IsPlace};
 ghost use Rattle.base_values.specs.declared.error.EditError.TheVariants.{NoMemory};
 ghost use Rattle.base_styles.specs.DefaultStyle.{default_style};
-ghost use Rattle.cell_wire.specs.StyleBytes.{theme_code, spell_style};
+ghost use Rattle.cell_wire.specs.StyleBytes.{spell_style};
 ghost use Rattle.script_lines.specs.Escapes.{escaped};
 ghost use Rattle.script_dump.specs.Text.{hex};
 ghost use Rattle.script_dump.specs.Dump.{flag_text, state_text, color_text, same_style, sides_text, style_text, content_word, content_text, book_line, sheet_line, cell_line, sheet_lines, dump};
@@ -13,11 +13,12 @@ ghost use Rattle.script_dump.specs.Dump.{flag_text, state_text, color_text, same
 use crate::english::push_english;
 use crate::lines::{push_columns, push_links, push_rows};
 use crate::merges::push_merges;
+use crate::names::push_names;
 use crate::text::{push_capital_hex, push_hex, push_line, push_signed, push_unsigned, push_word};
 use base_shared::Shared;
-use base_styles::{Color, Style, ThemeColor};
+use base_styles::{Color, Style};
 use base_values::{EditError, Position};
-use cell_wire::encode_style;
+use cell_wire::{encode_style, theme_code};
 use script_lines::{push_escaped, push_reference};
 use sheet_grid::{Cell, Content, SheetState, Workbook, Worksheet};
 use std::alloc::{AllocError, Global};
@@ -38,26 +39,6 @@ fn state_text(state: SheetState) -> &'static str
     }
 }
 
-/// The number of a theme's colour, from 0.
-fn theme_code(theme: ThemeColor) -> u32
-    ensures { result ≡ theme_code theme }
-{
-    match theme {
-        ThemeColor::Light1 => 0,
-        ThemeColor::Dark1 => 1,
-        ThemeColor::Light2 => 2,
-        ThemeColor::Dark2 => 3,
-        ThemeColor::Accent1 => 4,
-        ThemeColor::Accent2 => 5,
-        ThemeColor::Accent3 => 6,
-        ThemeColor::Accent4 => 7,
-        ThemeColor::Accent5 => 8,
-        ThemeColor::Accent6 => 9,
-        ThemeColor::Hyperlink => 10,
-        ThemeColor::FollowedHyperlink => 11,
-    }
-}
-
 fn push_color(alloc: Global, out: &mut Vec<u8>, color: Color) -> Result<(), AllocError>
     ensures { OnOk result (out.new.items ≡ out.old.items ++ color_text color) }
 {
@@ -69,7 +50,7 @@ fn push_color(alloc: Global, out: &mut Vec<u8>, color: Color) -> Result<(), Allo
         }
         Color::Theme(theme) => {
             out.extend_from_slice(b"theme:")?;
-            push_unsigned(alloc, out, theme_code(theme))
+            push_unsigned(alloc, out, u32::from(theme_code(theme)))
         }
     }
 }
@@ -271,8 +252,9 @@ fn push_book_line(out: &mut Vec<u8>, workbook: &Workbook) -> Result<(), AllocErr
     Ok(())
 }
 
-/// Writes the printed form of a workbook at the end: a line for the workbook, for each sheet a line
-/// and lines for its rows, columns, merges, cells and links, and last a line `end`. Texts are escaped,
+/// Writes the printed form of a workbook at the end: a line for the workbook, a line for each defined
+/// name, for each sheet a line and lines for its rows, columns, merges, cells and links, and last a
+/// line `end`. Texts are escaped,
 /// contents are printed in English, and styles are their bytes in hexadecimal. docs/SCRIPT.md has
 /// the lines.
 ///
@@ -282,6 +264,7 @@ pub fn push_dump(alloc: Global, out: &mut Vec<u8>, workbook: &Workbook) -> Resul
     ensures memory { IsOkUnless result NoMemory }
 {
     push_book_line(out, workbook)?;
+    push_names(alloc, out, workbook)?;
     for sheet in workbook.worksheets() {
         push_sheet(alloc, out, sheet)?;
     }

@@ -4,9 +4,9 @@ ghost use Rattle.std.specs.Prelude.{◌≡◌, ◌++◌, true, IfOk, OnOk, IsOkU
 ghost use Rattle.base_values.specs.Places.{IsPlace};
 ghost use Rattle.base_values.specs.declared.error.EditError.TheVariants.{NoMemory};
 ghost use Rattle.formula_tree.specs.Context.{context_place};
-ghost use Rattle.formula_tree.specs.Numbers.{has_kept_numbers};
+ghost use Rattle.formula_tree.specs.Numbers.{has_canonical_numbers};
 ghost use Rattle.cell_content.specs.Fitting.{fits_at, tree_fits_at};
-ghost use Rattle.cell_content.specs.KeptContent.{IsKeptContent};
+ghost use Rattle.cell_content.specs.CanonicalContent.{IsCanonicalContent};
 ghost use Rattle.cell_input.specs.Inputs.{input_of, input_text};
 ghost use Rattle.script_lines.specs.Escapes.{escaped};
 ghost use Rattle.script_dump.specs.English.{english, english_tree, without_equals};
@@ -57,7 +57,7 @@ pub fn push_english(
 pub fn english_input(alloc: Global, place: Position, text: &str) -> Result<Content, EditError>
     requires place { IsPlace place }
     ensures value { IfOk result (λ content. content ≡ input_of (english place) text.now) }
-    ensures kept { IfOk result IsKeptContent }
+    ensures canonical { IfOk result IsCanonicalContent }
     ensures fits { IfOk result (λ content. fits_at place content ≡ true) }
     ensures memory { IsOkUnless result NoMemory }
 {
@@ -88,7 +88,7 @@ fn without_equals(text: &str) -> &str
 pub fn english_formula(alloc: Global, place: Position, text: &str) -> Result<Node, EditError>
     requires place { IsPlace place }
     ensures value { IfOk result (λ tree. tree ≡ english_tree place text.now) }
-    ensures kept { IfOk result (λ tree. has_kept_numbers tree ≡ true) }
+    ensures canonical { IfOk result (λ tree. has_canonical_numbers tree ≡ true) }
     ensures fits { IfOk result (λ tree. tree_fits_at place tree ≡ true) }
     ensures memory { IsOkUnless result NoMemory }
 {

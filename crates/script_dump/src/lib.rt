@@ -10,6 +10,7 @@ mod dump;
 mod english;
 mod lines;
 mod merges;
+mod names;
 mod text;
 
 pub use dump::push_dump;

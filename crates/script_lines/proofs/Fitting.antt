@@ -1,7 +1,7 @@
 -- Every command that is read fits.
-use Rattle.std.proofs.Common.{◌≡◌, ℕ, zero, suc, ℤ, pos, ◌+ℤ◌, ◌-ℤ◌, ◌+◌, ◌^◌, ◌<◌, ◌≤◌, ◌≤ℤ◌, ◌==◌, Bool, true, false, cond, List, [], ◌∷◌, ◌++◌, length, Option, Some, None, refl, sym, subst, arith, w32}
+use Rattle.std.proofs.Common.{◌≡◌, ℕ, zero, suc, ℤ, pos, ◌+ℤ◌, ◌-ℤ◌, ◌+◌, ◌*◌, ◌^◌, ◌<◌, ◌≤◌, ◌≤ℤ◌, ◌==◌, Bool, true, false, cond, List, [], ◌∷◌, ◌++◌, length, Option, Some, None, refl, sym, subst, arith, w32}
 use Rattle.std.specs.Prelude.{IfSome, FitsSigned, neg_ℤ, nat_lt, int_le}
-use Rattle.std.specs.Option.{option_and_then, option_map}
+use Rattle.std.specs.Option.{option_and_then, option_map, option_or}
 use Rattle.std.specs.Str.{IsUtf8, is_utf8, bytes_eq}
 use Rattle.std.specs.List.{list_all, find, AllByRecursion}
 use Rattle.std.proofs.lemmas.Str.{IsUtf8-nil, IsUtf8-drop, IsCharBoundary-after_ascii, IsUtf8-from_is_utf8}
@@ -16,15 +16,23 @@ use Rattle.script_lines.specs.Number.{are_digits, value_of, value_below, number_
 use Rattle.script_lines.specs.References.{is_between, is_letter, letter_value, letters_value, read_column, read_row, letters_of, digits_of, reference_of, first_between, count_between, area_between, area_of_parts, area_of}
 use Rattle.script_lines.proofs.ReferenceBounds.{read_row-lt}
 use Rattle.script_lines.proofs.Letters.{all_letters}
+use Rattle.script_lines.specs.Colors.{named_colors, named_color, digit_value, pair_value, color_of_pairs, color_of_digits, digit_color, color_of}
 use Rattle.script_lines.specs.Escapes.{unescaped}
 use Rattle.script_lines.proofs.EscapeLaws.{unescaped-IsUtf8}
 use Rattle.script_lines.specs.Unsupported.{is_unsupported}
-use Rattle.script_lines.specs.Commands.{Reader, word, sheet_word, cell_words, area_words, lines_words, move_words, ended, with_text, alone, exactly, and_text, set_to, commands, from_words, command_of}
+use Rattle.script_lines.specs.Commands.{Reader, word, sheet_word, cell_words, area_words, lines_words, move_words, sheet_move_words, color_words, grid_words, bit_of, ended, with_text, alone, exactly, and_text, set_to, commands, from_words, command_of}
 use Rattle.script_lines.specs.declared.reference.Reference.{Reference}
 use Rattle.script_lines.specs.declared.command.NamedCell.{NamedCell}
 use Rattle.script_lines.specs.declared.command.Command.{Command}
-use Rattle.script_lines.specs.declared.command.Command.TheVariants.{Set, Get, Array, Link, Unlink, Merge, Unmerge, InsertRows, InsertColumns, DeleteRows, DeleteColumns, MoveRows, MoveColumns, Undo, Redo, Sync, Show}
-use Rattle.script_lines.specs.CommandFits.{IsNamed, IsNamedArea, CellFits, AreaFits, LinesFit, MoveFits, CommandFits}
+use Rattle.script_lines.specs.declared.command.Command.TheVariants.{Set, Get, Array, Link, Unlink, Merge, Unmerge, InsertRows, InsertColumns, DeleteRows, DeleteColumns, MoveRows, MoveColumns, NewSheet, DuplicateSheet, DeleteSheet, MoveSheet, HideSheet, UnhideSheet, SheetColor, GridLines, Undo, Redo, Sync, Show}
+use Rattle.script_lines.specs.CommandFits.{IsNamed, IsNamedArea, CellFits, AreaFits, LinesFit, MoveFits, SheetFits, SheetMoveFits, IsNamedColor, ColorFits, GridFits, CommandFits}
+
+-- ---- lists
+
+-- what holds of the first, and of the others
+infixr 10 ◌▸◌
+abbrev pub ◌▸◌ : {A B : Type 0} → A → B → A × B
+a ▸ b = (a, b)
 
 -- ---- options
 
@@ -35,6 +43,10 @@ step Q P (Some a) f q h = h a q
 either : {A : Type 0} (P : A → Type 0) (b : Bool) (x y : Option A) → IfSome x P → IfSome y P → IfSome (cond b x y) P
 either P true x y p q = p
 either P false x y p q = q
+
+found_fits : {A : Type 0} (P : A → Type 0) (test : A → Bool) (entries : List A) → AllByRecursion P entries → IfSome (find test entries) P
+found_fits P test [] h = tt
+found_fits P test (entry ∷ entries) h = either P (test entry) (Some entry) (find test entries) h.0 (found_fits P test entries h.1)
 
 -- ---- sheets
 
@@ -150,6 +162,49 @@ area_fits (one ∷ other ∷ []) =
     (λ a p. mapped (λ (place : Reference). IsNamed place.row place.column) IsNamedArea (reference_of other) (area_between a) (reference_fits other) (λ b q. corners_fit a b p q))
 area_fits (one ∷ other ∷ more ∷ parts) = tt
 
+-- ---- colours
+
+any_value : {A : Type 0} (o : Option A) → IfSome o (λ value. Unit {0})
+any_value None = tt
+any_value (Some value) = tt
+
+digit_fits : (b : ℕ) → IfSome (digit_value b) (λ v. v < 16)
+digit_fits b = grind (arith, nat_tests)
+
+pair_fits : (high low : ℕ) → IfSome (pair_value high low) (λ v. v < 2 ^ 8)
+unfolding pair_value
+pair_fits high low =
+    step (λ v. v < 16) (λ v. v < 2 ^ 8) (digit_value high) _ (digit_fits high)
+    (λ h p. mapped (λ v. v < 16) (λ v. v < 2 ^ 8) (digit_value low) (λ l. h * 16 + l) (digit_fits low) (λ l q. omega (arith, p, q)))
+
+pairs_fit : (red green blue : Option ℕ) → IfSome red (λ v. v < 2 ^ 8) → IfSome green (λ v. v < 2 ^ 8) → IfSome blue (λ v. v < 2 ^ 8) → IfSome (color_of_pairs red green blue) IsNamedColor
+unfolding color_of_pairs
+pairs_fit None green blue p q r = tt
+pairs_fit (Some red) None blue p q r = tt
+pairs_fit (Some red) (Some green) None p q r = tt
+pairs_fit (Some red) (Some green) (Some blue) p q r = (p, q, r)
+
+digits_fit : (digits : List ℕ) → IfSome (color_of_digits digits) IsNamedColor
+digits_fit (r ∷ g ∷ b ∷ []) = pairs_fit _ _ _ (pair_fits r r) (pair_fits g g) (pair_fits b b)
+digits_fit (r ∷ s ∷ g ∷ h ∷ b ∷ c ∷ []) = pairs_fit _ _ _ (pair_fits r s) (pair_fits g h) (pair_fits b c)
+digits_fit _ = tt
+
+digit_color_fits : (bytes : List ℕ) → IfSome (digit_color bytes) IsNamedColor
+digit_color_fits [] = tt
+digit_color_fits (sign ∷ digits) = either IsNamedColor (sign == 35) (color_of_digits digits) None (digits_fit digits) tt
+
+named_color_fits : (bytes : List ℕ) → IfSome (named_color bytes) IsNamedColor
+named_color_fits bytes =
+    mapped (λ entry. IsNamedColor entry.1) IsNamedColor (find (λ entry. bytes_eq entry.0 bytes) named_colors) (λ entry. entry.1)
+    (found_fits (λ entry. IsNamedColor entry.1) (λ entry. bytes_eq entry.0 bytes) named_colors (tt ▸ tt ▸ tt ▸ tt ▸ tt ▸ tt ▸ tt ▸ tt ▸ tt ▸ tt ▸ tt ▸ tt ▸ tt ▸ tt)) (λ entry p. p)
+
+either_fits : {A : Type 0} (P : A → Type 0) (x y : Option A) → IfSome x P → IfSome y P → IfSome (option_or x y) P
+either_fits P None y p q = q
+either_fits P (Some a) y p q = p
+
+color_fits : (bytes : List ℕ) → IfSome (color_of bytes) IsNamedColor
+color_fits bytes = either_fits IsNamedColor (named_color bytes) (digit_color bytes) (named_color_fits bytes) (digit_color_fits bytes)
+
 -- ---- texts
 
 behind_space : (word rest : List ℕ) → IsUtf8 (word ++ 32 ∷ rest) → IsUtf8 rest
@@ -208,6 +263,22 @@ move_fits words t =
     (λ lines l. step (Fit (FitsSigned w32)) (Fit MoveFits) (word signed_number lines.1) _ (signed_word_fits lines.1 l.1)
     (λ delta d. ((l.0.0, l.0.1, l.0.2, d.0), d.1)))
 
+sheet_move_fits : Reads SheetMoveFits sheet_move_words
+sheet_move_fits words t =
+    step (Fit SheetFits) (Fit SheetMoveFits) (sheet_word words) _ (sheet_fits words t)
+    (λ from f. step (Fit SheetFits) (Fit SheetMoveFits) (sheet_word from.1) _ (sheet_fits from.1 f.1) (λ to s. ((f.0, s.0), s.1)))
+
+color_words_fit : Reads ColorFits color_words
+color_words_fit words t =
+    step (Fit SheetFits) (Fit ColorFits) (sheet_word words) _ (sheet_fits words t)
+    (λ sheet s. step (Fit IsNamedColor) (Fit ColorFits) (word color_of sheet.1) _ (word_fits IsNamedColor color_of color_fits sheet.1 s.1) (λ color c. ((s.0, c.0), c.1)))
+
+grid_fits : Reads GridFits grid_words
+grid_fits words t =
+    step (Fit SheetFits) (Fit GridFits) (sheet_word words) _ (sheet_fits words t)
+    (λ sheet s. step (Fit (λ show. Unit {0})) (Fit GridFits) (word bit_of sheet.1) _ (word_fits (λ show. Unit {0}) bit_of (λ bytes. any_value (bit_of bytes)) sheet.1 s.1)
+    (λ show b. (s.0, b.1)))
+
 -- ---- commands
 
 -- what the words behind a command are read as fits
@@ -242,62 +313,33 @@ alone_fits command h [] t = h
 alone_fits command h (next ∷ words) t = tt
 
 each_fits : AllByRecursion Readable commands
-each_fits = (
-  and_text_fits CellFits cell_words set_to cell_fits set_fits,
-  (
-    exactly_fits CellFits cell_words Get cell_fits (λ cell c. c),
-    (
-      and_text_fits AreaFits area_words (λ area text. Some (Array area text)) area_words_fit (λ area text a t. (a, t)),
-      (
-        and_text_fits CellFits cell_words (λ cell text. Some (Link cell text)) cell_fits (λ cell text c t. (c, t)),
-        (
-          exactly_fits CellFits cell_words Unlink cell_fits (λ cell c. c),
-          (
-            exactly_fits AreaFits area_words Merge area_words_fit (λ area a. a),
-            (
-              exactly_fits CellFits cell_words Unmerge cell_fits (λ cell c. c),
-              (
-                exactly_fits LinesFit lines_words InsertRows lines_fit (λ lines l. l),
-                (
-                  exactly_fits LinesFit lines_words InsertColumns lines_fit (λ lines l. l),
-                  (
-                    exactly_fits LinesFit lines_words DeleteRows lines_fit (λ lines l. l),
-                    (
-                      exactly_fits LinesFit lines_words DeleteColumns lines_fit (λ lines l. l),
-                      (
-                        exactly_fits MoveFits move_words MoveRows move_fits (λ move m. m),
-                        (
-                          exactly_fits MoveFits move_words MoveColumns move_fits (λ move m. m),
-                          (
-                            alone_fits Undo tt,
-                            (
-                              alone_fits Redo tt,
-                              (
-                                alone_fits Sync tt,
-                                (
-                                  alone_fits Show tt,
-                                  tt,
-                                ),
-                              ),
-                            ),
-                          ),
-                        ),
-                      ),
-                    ),
-                  ),
-                ),
-              ),
-            ),
-          ),
-        ),
-      ),
-    ),
-  ),
-)
-
-found_fits : {A : Type 0} (P : A → Type 0) (test : A → Bool) (entries : List A) → AllByRecursion P entries → IfSome (find test entries) P
-found_fits P test [] h = tt
-found_fits P test (entry ∷ entries) h = either P (test entry) (Some entry) (find test entries) h.0 (found_fits P test entries h.1)
+each_fits =
+    and_text_fits CellFits cell_words set_to cell_fits set_fits
+    ▸ exactly_fits CellFits cell_words Get cell_fits (λ cell c. c)
+    ▸ and_text_fits AreaFits area_words (λ area text. Some (Array area text)) area_words_fit (λ area text a t. (a, t))
+    ▸ and_text_fits CellFits cell_words (λ cell text. Some (Link cell text)) cell_fits (λ cell text c t. (c, t))
+    ▸ exactly_fits CellFits cell_words Unlink cell_fits (λ cell c. c)
+    ▸ exactly_fits AreaFits area_words Merge area_words_fit (λ area a. a)
+    ▸ exactly_fits CellFits cell_words Unmerge cell_fits (λ cell c. c)
+    ▸ exactly_fits LinesFit lines_words InsertRows lines_fit (λ lines l. l)
+    ▸ exactly_fits LinesFit lines_words InsertColumns lines_fit (λ lines l. l)
+    ▸ exactly_fits LinesFit lines_words DeleteRows lines_fit (λ lines l. l)
+    ▸ exactly_fits LinesFit lines_words DeleteColumns lines_fit (λ lines l. l)
+    ▸ exactly_fits MoveFits move_words MoveRows move_fits (λ move m. m)
+    ▸ exactly_fits MoveFits move_words MoveColumns move_fits (λ move m. m)
+    ▸ alone_fits NewSheet tt
+    ▸ exactly_fits SheetFits sheet_word DuplicateSheet sheet_fits (λ sheet s. s)
+    ▸ exactly_fits SheetFits sheet_word DeleteSheet sheet_fits (λ sheet s. s)
+    ▸ exactly_fits SheetMoveFits sheet_move_words MoveSheet sheet_move_fits (λ move m. m)
+    ▸ exactly_fits SheetFits sheet_word HideSheet sheet_fits (λ sheet s. s)
+    ▸ exactly_fits SheetFits sheet_word UnhideSheet sheet_fits (λ sheet s. s)
+    ▸ exactly_fits ColorFits color_words SheetColor color_words_fit (λ named c. c)
+    ▸ exactly_fits GridFits grid_words GridLines grid_fits (λ named g. g)
+    ▸ alone_fits Undo tt
+    ▸ alone_fits Redo tt
+    ▸ alone_fits Sync tt
+    ▸ alone_fits Show tt
+    ▸ tt
 
 from_words_fit : (words : List (List ℕ)) → IsUtf8 (text_of words) → IfSome (from_words words) CommandFits
 from_words_fit [] h = tt

@@ -1,5 +1,5 @@
 -- What every command that is read fits.
-use Rattle.std.proofs.Common.{ℤ, pos, ◌^◌, ◌<◌, ◌≤ℤ◌, w32}
+use Rattle.std.proofs.Common.{ℕ, ℤ, pos, ◌^◌, ◌<◌, ◌≤ℤ◌, w32}
 use Rattle.std.specs.Prelude.{FitsSigned}
 use Rattle.std.specs.Str.{IsUtf8}
 use Rattle.base_axis.specs.declared.MergedCell.{MergedCell}
@@ -7,8 +7,13 @@ use Rattle.script_lines.specs.declared.command.NamedCell.{NamedCell}
 use Rattle.script_lines.specs.declared.command.NamedArea.{NamedArea}
 use Rattle.script_lines.specs.declared.command.NamedLines.{NamedLines}
 use Rattle.script_lines.specs.declared.command.NamedMove.{NamedMove}
+use Rattle.base_styles.specs.declared.Color.{Color}
+use Rattle.base_styles.specs.declared.Color.TheVariants.{Rgb}
+use Rattle.script_lines.specs.declared.command.NamedSheetMove.{NamedSheetMove}
+use Rattle.script_lines.specs.declared.command.NamedColor.{NamedColor}
+use Rattle.script_lines.specs.declared.command.NamedGrid.{NamedGrid}
 use Rattle.script_lines.specs.declared.command.Command.{Command}
-use Rattle.script_lines.specs.declared.command.Command.TheVariants.{Set, Get, Array, Link, Unlink, Merge, Unmerge, InsertRows, InsertColumns, DeleteRows, DeleteColumns, MoveRows, MoveColumns, Undo, Redo, Sync, Show}
+use Rattle.script_lines.specs.declared.command.Command.TheVariants.{Set, Get, Array, Link, Unlink, Merge, Unmerge, InsertRows, InsertColumns, DeleteRows, DeleteColumns, MoveRows, MoveColumns, NewSheet, DuplicateSheet, DeleteSheet, MoveSheet, HideSheet, UnhideSheet, SheetColor, GridLines, Undo, Redo, Sync, Show}
 
 -- a row and a column that letters and digits can name
 pub record IsNamed (row column : ℤ) : Type 0 where
@@ -38,6 +43,23 @@ LinesFit lines = (lines.sheet < 2 ^ 32) × FitsSigned w32 lines.first × FitsSig
 abbrev pub MoveFits : NamedMove → Type 0
 MoveFits move = (move.sheet < 2 ^ 32) × FitsSigned w32 move.first × FitsSigned w32 move.count × FitsSigned w32 move.delta
 
+abbrev pub SheetFits : ℕ → Type 0
+SheetFits sheet = sheet < 2 ^ 32
+
+abbrev pub SheetMoveFits : NamedSheetMove → Type 0
+SheetMoveFits move = SheetFits move.from × SheetFits move.to
+
+-- a colour whose parts are bytes
+abbrev pub IsNamedColor : Color → Type 0
+IsNamedColor (Rgb red green blue) = (red < 2 ^ 8) × (green < 2 ^ 8) × (blue < 2 ^ 8)
+IsNamedColor color = Unit {0}
+
+abbrev pub ColorFits : NamedColor → Type 0
+ColorFits named = SheetFits named.sheet × IsNamedColor named.color
+
+abbrev pub GridFits : NamedGrid → Type 0
+GridFits named = SheetFits named.sheet
+
 -- a command with such numbers, and with a text in UTF-8
 abbrev pub CommandFits : Command → Type 0
 CommandFits (Set cell text) = CellFits cell × IsUtf8 text
@@ -53,6 +75,14 @@ CommandFits (DeleteRows lines) = LinesFit lines
 CommandFits (DeleteColumns lines) = LinesFit lines
 CommandFits (MoveRows move) = MoveFits move
 CommandFits (MoveColumns move) = MoveFits move
+CommandFits NewSheet = Unit {0}
+CommandFits (DuplicateSheet sheet) = SheetFits sheet
+CommandFits (DeleteSheet sheet) = SheetFits sheet
+CommandFits (MoveSheet move) = SheetMoveFits move
+CommandFits (HideSheet sheet) = SheetFits sheet
+CommandFits (UnhideSheet sheet) = SheetFits sheet
+CommandFits (SheetColor named) = ColorFits named
+CommandFits (GridLines named) = GridFits named
 CommandFits Undo = Unit {0}
 CommandFits Redo = Unit {0}
 CommandFits Sync = Unit {0}

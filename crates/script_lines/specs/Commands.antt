@@ -1,5 +1,5 @@
 -- The table of commands.
-use Rattle.std.specs.Prelude.{ℕ, ◌^◌, List, [], ◌∷◌, if◌then◌else◌, codes}
+use Rattle.std.specs.Prelude.{ℕ, ◌^◌, ◌==◌, Bool, true, false, List, [], ◌∷◌, if◌then◌else◌, codes}
 use Rattle.std.specs.List.{find}
 use Rattle.std.specs.Str.{is_utf8, bytes_eq}
 use Rattle.std.specs.Option.{option_and_then, option_map}
@@ -8,14 +8,18 @@ use Rattle.std.specs.declared.option.Option.TheVariants.{Some, None}
 use Rattle.script_lines.specs.Parts.{parts_at, text_of}
 use Rattle.script_lines.specs.Number.{number_below, signed_number}
 use Rattle.script_lines.specs.References.{reference_of, area_of}
+use Rattle.script_lines.specs.Colors.{color_of}
 use Rattle.script_lines.specs.Escapes.{unescaped}
 use Rattle.script_lines.specs.Unsupported.{is_unsupported}
 use Rattle.script_lines.specs.declared.command.NamedCell.{NamedCell}
 use Rattle.script_lines.specs.declared.command.NamedArea.{NamedArea}
 use Rattle.script_lines.specs.declared.command.NamedLines.{NamedLines}
 use Rattle.script_lines.specs.declared.command.NamedMove.{NamedMove}
+use Rattle.script_lines.specs.declared.command.NamedSheetMove.{NamedSheetMove}
+use Rattle.script_lines.specs.declared.command.NamedColor.{NamedColor}
+use Rattle.script_lines.specs.declared.command.NamedGrid.{NamedGrid}
 use Rattle.script_lines.specs.declared.command.Command.{Command}
-use Rattle.script_lines.specs.declared.command.Command.TheVariants.{Set, Get, Array, Link, Unlink, Merge, Unmerge, InsertRows, InsertColumns, DeleteRows, DeleteColumns, MoveRows, MoveColumns, Undo, Redo, Sync, Show}
+use Rattle.script_lines.specs.declared.command.Command.TheVariants.{Set, Get, Array, Link, Unlink, Merge, Unmerge, InsertRows, InsertColumns, DeleteRows, DeleteColumns, MoveRows, MoveColumns, NewSheet, DuplicateSheet, DeleteSheet, MoveSheet, HideSheet, UnhideSheet, SheetColor, GridLines, Undo, Redo, Sync, Show}
 
 -- the next step, if this one has a value
 infixl 10 ◌>>=◌
@@ -66,6 +70,32 @@ move_words words = do
   delta ← word signed_number lines.1
   Some (record { sheet = lines.0.sheet; first = lines.0.first; count = lines.0.count; delta = delta.0 }, delta.1)
 
+-- `S S`: a sheet, and the index that it goes to
+abbrev pub sheet_move_words : Reader NamedSheetMove
+sheet_move_words words = do
+  from ← sheet_word words
+  to ← sheet_word from.1
+  Some (record { from = from.0; to = to.0 }, to.1)
+
+-- `S COLOUR`
+abbrev pub color_words : Reader NamedColor
+color_words words = do
+  sheet ← sheet_word words
+  color ← word color_of sheet.1
+  Some (record { sheet = sheet.0; color = color.0 }, color.1)
+
+-- whether a digit is 1, where it is 0 or 1
+abbrev pub bit_of : List ℕ → Option Bool
+bit_of (b ∷ []) = if b == 48 then Some false else (if b == 49 then Some true else None)
+bit_of bytes = None
+
+-- `S 0|1`
+abbrev pub grid_words : Reader NamedGrid
+grid_words words = do
+  sheet ← sheet_word words
+  show ← word bit_of sheet.1
+  Some (record { sheet = sheet.0; show = show.0 }, show.1)
+
 -- no word is left
 abbrev pub ended : {A : Type 0} → A × List (List ℕ) → Option A
 ended (value, []) = Some value
@@ -109,6 +139,14 @@ commands =
     ∷ (codes "delete-columns", exactly lines_words DeleteColumns)
     ∷ (codes "move-rows", exactly move_words MoveRows)
     ∷ (codes "move-columns", exactly move_words MoveColumns)
+    ∷ (codes "new-sheet", alone NewSheet)
+    ∷ (codes "duplicate-sheet", exactly sheet_word DuplicateSheet)
+    ∷ (codes "delete-sheet", exactly sheet_word DeleteSheet)
+    ∷ (codes "move-sheet", exactly sheet_move_words MoveSheet)
+    ∷ (codes "hide-sheet", exactly sheet_word HideSheet)
+    ∷ (codes "unhide-sheet", exactly sheet_word UnhideSheet)
+    ∷ (codes "color", exactly color_words SheetColor)
+    ∷ (codes "grid", exactly grid_words GridLines)
     ∷ (codes "undo", alone Undo)
     ∷ (codes "redo", alone Redo)
     ∷ (codes "sync", alone Sync)

@@ -1,7 +1,9 @@
 pub mod Parts
 pub mod Number
 pub mod References
+pub mod Colors
 pub mod Escapes
 pub mod Unsupported
 pub mod Commands
 pub mod CommandFits
+pub mod laws

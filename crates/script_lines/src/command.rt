@@ -1,5 +1,6 @@
 use base_axis::MergedCell;
-use base_values::Text;
+use base_styles::Color;
+use base_values::{Exact, Text};
 
 /// A cell that a line names.
 #[derive(Clone, Copy, Debug, PartialEq, Eq)]
@@ -10,12 +11,30 @@ pub struct NamedCell {
     pub column: i32,
 }
 
+impl Exact for NamedCell {
+    ghost use Rattle.std.proofs.Common.{rules};
+    ghost use Rattle.script_lines.specs.laws.NamedEquals.{named_cell_equals};
+
+    ghost copies = { λ a b h. Prim.search rules };
+
+    ghost equals = { named_cell_equals };
+}
+
 /// A rectangle of cells that a line names.
 #[derive(Clone, Copy, Debug, PartialEq, Eq)]
 pub struct NamedArea {
     /// The index of its sheet.
     pub sheet: u32,
     pub area: MergedCell,
+}
+
+impl Exact for NamedArea {
+    ghost use Rattle.std.proofs.Common.{rules};
+    ghost use Rattle.script_lines.specs.laws.NamedEquals.{named_area_equals};
+
+    ghost copies = { λ a b h. Prim.search rules };
+
+    ghost equals = { named_area_equals };
 }
 
 /// Rows or columns that a line names.
@@ -29,6 +48,15 @@ pub struct NamedLines {
     pub count: i32,
 }
 
+impl Exact for NamedLines {
+    ghost use Rattle.std.proofs.Common.{rules};
+    ghost use Rattle.script_lines.specs.laws.NamedEquals.{named_lines_equals};
+
+    ghost copies = { λ a b h. Prim.search rules };
+
+    ghost equals = { named_lines_equals };
+}
+
 /// Rows or columns that a line names, and by how many they are to move.
 #[derive(Clone, Copy, Debug, PartialEq, Eq)]
 pub struct NamedMove {
@@ -40,6 +68,67 @@ pub struct NamedMove {
     pub count: i32,
     /// Down or to the right by so many, and up or to the left where it is below 0.
     pub delta: i32,
+}
+
+impl Exact for NamedMove {
+    ghost use Rattle.std.proofs.Common.{rules};
+    ghost use Rattle.script_lines.specs.laws.NamedEquals.{named_move_equals};
+
+    ghost copies = { λ a b h. Prim.search rules };
+
+    ghost equals = { named_move_equals };
+}
+
+/// A sheet that a line names, and where it is to go.
+#[derive(Clone, Copy, Debug, PartialEq, Eq)]
+pub struct NamedSheetMove {
+    /// The index of the sheet.
+    pub from: u32,
+    /// The index that it is to have.
+    pub to: u32,
+}
+
+impl Exact for NamedSheetMove {
+    ghost use Rattle.std.proofs.Common.{rules};
+    ghost use Rattle.script_lines.specs.laws.NamedEquals.{named_sheet_move_equals};
+
+    ghost copies = { λ a b h. Prim.search rules };
+
+    ghost equals = { named_sheet_move_equals };
+}
+
+/// The colour that a line names for a sheet.
+#[derive(Clone, Copy, Debug, PartialEq, Eq)]
+pub struct NamedColor {
+    /// The index of the sheet.
+    pub sheet: u32,
+    pub color: Color,
+}
+
+impl Exact for NamedColor {
+    ghost use Rattle.std.proofs.Common.{rules};
+    ghost use Rattle.script_lines.specs.laws.NamedEquals.{named_color_equals};
+
+    ghost copies = { λ a b h. Prim.search rules };
+
+    ghost equals = { named_color_equals };
+}
+
+/// Whether the grid lines of a sheet that a line names are to be drawn.
+#[derive(Clone, Copy, Debug, PartialEq, Eq)]
+pub struct NamedGrid {
+    /// The index of the sheet.
+    pub sheet: u32,
+    pub show: bool,
+}
+
+impl Exact for NamedGrid {
+    ghost use Rattle.std.proofs.Common.{rules};
+    ghost use Rattle.script_lines.specs.laws.NamedEquals.{named_grid_equals};
+
+    ghost copies = { λ a b h. Prim.search rules };
+
+    ghost equals = { named_grid_equals };
 }
 
 /// What a line of a script asks for. Rows, columns and counts are those that the line names, and may lie
@@ -72,6 +161,22 @@ pub enum Command {
     MoveRows(NamedMove),
     /// `move-columns S N N N`: move columns, as many as the count from a column on.
     MoveColumns(NamedMove),
+    /// `new-sheet`: put an empty sheet behind the last one.
+    NewSheet,
+    /// `duplicate-sheet S`: put a copy of a sheet behind it.
+    DuplicateSheet(u32),
+    /// `delete-sheet S`: take a sheet away.
+    DeleteSheet(u32),
+    /// `move-sheet S S`: take a sheet to another index.
+    MoveSheet(NamedSheetMove),
+    /// `hide-sheet S`: hide a sheet.
+    HideSheet(u32),
+    /// `unhide-sheet S`: show a sheet again.
+    UnhideSheet(u32),
+    /// `color S COLOUR`: colour the tab of a sheet.
+    SheetColor(NamedColor),
+    /// `grid S 0` or `grid S 1`: draw the grid lines of a sheet or not.
+    GridLines(NamedGrid),
     /// `undo`: take back the last edit.
     Undo,
     /// `redo`: do again what was taken back last.

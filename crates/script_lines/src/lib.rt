@@ -6,6 +6,7 @@
 //! `CommandFits`.
 #![tactic(auto)]
 
+mod color;
 mod command;
 mod escape;
 mod number;
@@ -14,7 +15,9 @@ mod parts;
 mod reference;
 mod unsupported;
 
-pub use command::{Command, NamedArea, NamedCell, NamedLines, NamedMove};
+pub use command::{
+    Command, NamedArea, NamedCell, NamedColor, NamedGrid, NamedLines, NamedMove, NamedSheetMove,
+};
 pub use escape::{escapes_read_back, push_escaped};
 pub use parse::read_command;
 pub use parts::{split_first, without_return};

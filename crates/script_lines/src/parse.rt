@@ -6,7 +6,10 @@ ghost use Rattle.script_lines.specs.Number.{signed_number};
 ghost use Rattle.script_lines.specs.CommandFits.{CommandFits};
 ghost use Rattle.script_lines.specs.Commands as spec;
 
-use crate::command::{Command, NamedArea, NamedCell, NamedLines, NamedMove};
+use crate::color::color_of;
+use crate::command::{
+    Command, NamedArea, NamedCell, NamedColor, NamedGrid, NamedLines, NamedMove, NamedSheetMove,
+};
 use crate::escape::unescape;
 use crate::number::{read_i32, read_u32};
 use crate::parts::{split_word, text_of};
@@ -99,6 +102,46 @@ fn move_words(words: Option<&str>) -> Option<(NamedMove, Option<&str>)>
     Some((moved, words))
 }
 
+/// `S S`, and the words behind it.
+fn sheet_move_words(words: Option<&str>) -> Option<(NamedSheetMove, Option<&str>)>
+    ensures { option_map (λ found. (found.0, parts_after 32 (option_copied found.1))) result ≡ spec.sheet_move_words (parts_after 32 (option_copied words.entry)) }
+{
+    let (from, words) = sheet_word(words)?;
+    let (to, words) = sheet_word(words)?;
+    Some((NamedSheetMove { from, to }, words))
+}
+
+/// `S COLOUR`, and the words behind it.
+fn color_words(words: Option<&str>) -> Option<(NamedColor, Option<&str>)>
+    ensures { option_map (λ found. (found.0, parts_after 32 (option_copied found.1))) result ≡ spec.color_words (parts_after 32 (option_copied words.entry)) }
+{
+    let (sheet, words) = sheet_word(words)?;
+    let (word, words) = split_word(words?);
+    let color = color_of(word)?;
+    Some((NamedColor { sheet, color }, words))
+}
+
+/// Whether a word is 1, where it is 0 or 1.
+fn read_bit(bytes: &[u8]) -> Option<bool>
+    ensures { result ≡ spec.bit_of bytes.now }
+{
+    match bytes {
+        [b'0'] => Some(false),
+        [b'1'] => Some(true),
+        _ => None,
+    }
+}
+
+/// `S 0` or `S 1`, and the words behind it.
+fn grid_words(words: Option<&str>) -> Option<(NamedGrid, Option<&str>)>
+    ensures { option_map (λ found. (found.0, parts_after 32 (option_copied found.1))) result ≡ spec.grid_words (parts_after 32 (option_copied words.entry)) }
+{
+    let (sheet, words) = sheet_word(words)?;
+    let (word, words) = split_word(words?);
+    let show = read_bit(word.as_bytes())?;
+    Some((NamedGrid { sheet, show }, words))
+}
+
 /// What was found, where no word is behind it.
 #[tactic(auto, using(crate::proofs::Words::never_ended))]
 fn ended<T: Copy>(found: Option<(T, Option<&str>)>) -> Option<T>
@@ -175,6 +218,14 @@ fn read_words(alloc: Global, word: &str, words: Option<&str>) -> Result<Option<C
         "delete-columns" => Ok(ended(lines_words(words)).map(Command::DeleteColumns)),
         "move-rows" => Ok(ended(move_words(words)).map(Command::MoveRows)),
         "move-columns" => Ok(ended(move_words(words)).map(Command::MoveColumns)),
+        "new-sheet" => Ok(alone(Command::NewSheet, words)),
+        "duplicate-sheet" => Ok(ended(sheet_word(words)).map(Command::DuplicateSheet)),
+        "delete-sheet" => Ok(ended(sheet_word(words)).map(Command::DeleteSheet)),
+        "move-sheet" => Ok(ended(sheet_move_words(words)).map(Command::MoveSheet)),
+        "hide-sheet" => Ok(ended(sheet_word(words)).map(Command::HideSheet)),
+        "unhide-sheet" => Ok(ended(sheet_word(words)).map(Command::UnhideSheet)),
+        "color" => Ok(ended(color_words(words)).map(Command::SheetColor)),
+        "grid" => Ok(ended(grid_words(words)).map(Command::GridLines)),
         "undo" => Ok(alone(Command::Undo, words)),
         "redo" => Ok(alone(Command::Redo, words)),
         "sync" => Ok(alone(Command::Sync, words)),

@@ -1,7 +1,8 @@
 use crate::{
-    Command, NamedArea, NamedCell, NamedLines, NamedMove, push_escaped, push_reference,
+    Command, NamedArea, NamedCell, NamedColor, NamedLines, NamedMove, push_escaped, push_reference,
     read_command,
 };
+use base_styles::Color;
 use base_values::Position;
 use std::alloc::{AllocError, Global};
 use std::test::Fail;
@@ -22,11 +23,36 @@ fn in_words(alloc: Global, command: Option<Command>) -> Result<String, AllocErro
         Some(Command::DeleteColumns(lines)) => lines_in_words(alloc, "delete columns", lines),
         Some(Command::MoveRows(moved)) => move_in_words(alloc, "move rows", moved),
         Some(Command::MoveColumns(moved)) => move_in_words(alloc, "move columns", moved),
+        Some(Command::NewSheet) => format!(in alloc; "new sheet"),
+        Some(Command::DuplicateSheet(sheet)) => format!(in alloc; "duplicate: sheet {sheet}"),
+        Some(Command::DeleteSheet(sheet)) => format!(in alloc; "delete: sheet {sheet}"),
+        Some(Command::MoveSheet(moved)) => {
+            let (from, to) = (moved.from, moved.to);
+            format!(in alloc; "move sheet: from {from} to {to}")
+        }
+        Some(Command::HideSheet(sheet)) => format!(in alloc; "hide: sheet {sheet}"),
+        Some(Command::UnhideSheet(sheet)) => format!(in alloc; "unhide: sheet {sheet}"),
+        Some(Command::SheetColor(named)) => color_in_words(alloc, named),
+        Some(Command::GridLines(named)) => {
+            let (sheet, show) = (named.sheet, named.show);
+            format!(in alloc; "grid: sheet {sheet} {show}")
+        }
         Some(Command::Undo) => format!(in alloc; "undo"),
         Some(Command::Redo) => format!(in alloc; "redo"),
         Some(Command::Sync) => format!(in alloc; "sync"),
         Some(Command::Show) => format!(in alloc; "show"),
         None => format!(in alloc; "none"),
+    }
+}
+
+fn color_in_words(alloc: Global, named: NamedColor) -> Result<String, AllocError> {
+    let sheet = named.sheet;
+    match named.color {
+        Color::None => format!(in alloc; "color: sheet {sheet} none"),
+        Color::Rgb { red, green, blue } => {
+            format!(in alloc; "color: sheet {sheet} rgb {red} {green} {blue}")
+        }
+        Color::Theme(theme) => format!(in alloc; "color: sheet {sheet} {theme:?}"),
     }
 }
 
@@ -62,7 +88,7 @@ fn move_in_words(alloc: Global, word: &str, moved: NamedMove) -> Result<String, 
 }
 
 /// Lines, and the commands that they are.
-const COMMANDS: [(&[u8], &str); 37] = [
+const COMMANDS: [(&[u8], &str); 51] = [
     (b"set 0 A1 12", "set: sheet 0 row 1 column 1 |12|"),
     (b"set 0 A1", "set: sheet 0 row 1 column 1 ||"),
     (b"set 0 A1 ", "set: sheet 0 row 1 column 1 ||"),
@@ -138,6 +164,20 @@ const COMMANDS: [(&[u8], &str); 37] = [
     (b"link 0 A1", "link: sheet 0 row 1 column 1 ||"),
     (b"link 0 A1 a\\nb", "link: sheet 0 row 1 column 1 |a\nb|"),
     (b"unlink 0 AB1", "unlink: sheet 0 row 1 column 28 ||"),
+    (b"new-sheet", "new sheet"),
+    (b"duplicate-sheet 0", "duplicate: sheet 0"),
+    (b"delete-sheet 4294967295", "delete: sheet 4294967295"),
+    (b"move-sheet 007 0", "move sheet: from 7 to 0"),
+    (b"hide-sheet 1", "hide: sheet 1"),
+    (b"unhide-sheet 1", "unhide: sheet 1"),
+    (b"color 0 -", "color: sheet 0 none"),
+    (b"color 0 #0aF9c4", "color: sheet 0 rgb 10 249 196"),
+    (b"color 2 #0aF", "color: sheet 2 rgb 0 170 255"),
+    (b"color 0 theme:0", "color: sheet 0 Light1"),
+    (b"color 0 theme:10", "color: sheet 0 Hyperlink"),
+    (b"color 0 theme:11", "color: sheet 0 FollowedHyperlink"),
+    (b"grid 3 0", "grid: sheet 3 false"),
+    (b"grid 3 1", "grid: sheet 3 true"),
     (b"undo", "undo"),
     (b"redo", "redo"),
     (b"sync", "sync"),
@@ -145,7 +185,7 @@ const COMMANDS: [(&[u8], &str); 37] = [
 ];
 
 /// Lines that are no commands.
-const BAD_LINES: [&[u8]; 64] = [
+const BAD_LINES: [&[u8]; 81] = [
     b"insert-rows",
     b"insert-rows 0",
     b"insert-rows 0 1",
@@ -179,6 +219,23 @@ const BAD_LINES: [&[u8]; 64] = [
     b"merge 0 A1:A00000001",
     b"unmerge 0 A1:B1",
     b"unlink 0 A1 x",
+    b"new-sheet 0",
+    b"new-sheet ",
+    b"duplicate-sheet",
+    b"duplicate-sheet -1",
+    b"duplicate-sheet 4294967296",
+    b"delete-sheet 0 0",
+    b"move-sheet 0",
+    b"move-sheet 0 1 2",
+    b"move-sheet 0 -1",
+    b"hide-sheet a",
+    b"color 0",
+    b"color 0 ",
+    b"color 0 #12345",
+    b"color 0 #12345g",
+    b"color 0 theme:12",
+    b"color 0 theme:00",
+    b"grid 0 01",
     b"",
     b" ",
     b" undo",

@@ -207,7 +207,7 @@ fn planned<A: Axis>(
 /// `InvalidRow` or `InvalidColumn`, by the axis, where the line is outside the sheet, else
 /// `SplitsArray` where an array stands on both sides of it, else `OverEdge` where so many lines more
 /// than the greatest that holds a cell, or that an array fills, are more than a sheet has, be that
-/// cell before the line or behind. docs/MODEL.md has the rule.
+/// cell before the line or behind. A sheet without a cell counts as one line. docs/MODEL.md has the rule.
 pub fn plan_insert<A: Axis>(
     workbook: &Workbook,
     sheet: u32,

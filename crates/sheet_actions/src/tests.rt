@@ -8,7 +8,7 @@ use base_styles::Style;
 use base_tables::{Error, Locale, Zone};
 use base_values::{EditError, Items, LAST_COLUMN, LAST_ROW, Text, same};
 use cell_content::Content;
-use formula_tree::{Corner, Node, has_kept_numbers};
+use formula_tree::{Corner, Node, has_canonical_numbers};
 use line_edits::EditKind;
 use sheet_grid::{Cell, DefaultStyle, Link, RowAttr, Workbook, Worksheet};
 use std::alloc::{AllocError, Global};
@@ -192,7 +192,7 @@ fn put_formula(
     tree: Node,
     style: &Shared<Style>,
 ) -> Result<(), EditError> {
-    if has_kept_numbers(&tree) {
+    if has_canonical_numbers(&tree) {
         sheet.set_cell_with_formula(row, column, tree, style)?;
     }
     Ok(())

@@ -15,7 +15,7 @@ pub use formula_read::{read_formula, text_has_one_tree};
 pub use formula_round::{normal_contents_read_back, normal_trees_read_back};
 pub use formula_tree::{
     ArrayItem, CellReferenceRC, CompareKind, Corner, CornerMap, MAX_DEPTH, Node, Parameter,
-    ProductKind, SumKind, UnaryKind, corner_at, has_kept_numbers, has_no_negative_number,
+    ProductKind, SumKind, UnaryKind, corner_at, has_canonical_numbers, has_no_negative_number,
     is_at_most_deep, is_parse_error, is_placed, move_node, rebase_node,
 };
 

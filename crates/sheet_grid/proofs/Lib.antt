@@ -1,5 +1,6 @@
 mod BookLemmas
 mod Indexes
-mod Kepts
+mod Canonicals
 mod LineLemmas
+mod Moving
 mod Rectangles

@@ -7,7 +7,7 @@ use Rattle.base_axis.specs.declared.MergedCell.{MergedCell}
 use Rattle.base_maps.specs.Carried.{gathered, if_there}
 use Rattle.sheet_grid.specs.declared.cell.Cell.{Cell}
 use Rattle.sheet_grid.specs.Arrays.{large_array_at}
-use Rattle.sheet_grid.specs.KeptCell.{KeptCells}
+use Rattle.sheet_grid.specs.CanonicalCell.{CanonicalCells}
 
 -- the rectangle of the array of more than one cell that an entry of a place is, if it is one
 abbrev pub large_array_of : Position → Option Cell → Option MergedCell
@@ -17,7 +17,7 @@ large_array_of place entry = if_there entry (λ cell. large_array_at place cell.
 abbrev pub arrays_by_place : FinMap position_cmp Cell → FinMap position_cmp MergedCell
 arrays_by_place cells = gathered Some (λ _ place cell. large_array_at place cell.content) cells
 
--- cells whose numbers are kept, and exactly the rectangles of the arrays of more than one cell among them
+-- cells whose numbers are canonical, and exactly the rectangles of the arrays of more than one cell among them
 pub record IsIndexed (cells : FinMap position_cmp Cell) (arrays : FinMap position_cmp MergedCell) : Type 0 where
-  pub kept : KeptCells cells
+  pub canonical : CanonicalCells cells
   pub index : arrays ≡ arrays_by_place cells

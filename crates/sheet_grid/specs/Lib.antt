@@ -3,8 +3,7 @@ pub mod Arrays
 pub mod Book
 pub mod Computed
 pub mod Dimension
-pub mod FittingCells
-pub mod KeptCell
+pub mod CanonicalCell
 pub mod Lines
 pub mod Merges
 pub mod SameEntry

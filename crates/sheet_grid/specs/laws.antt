@@ -6,3 +6,4 @@ pub mod FittingLaws
 pub mod LineEquals
 pub mod SheetEquals
 pub mod StateEquals
+pub mod FittingCells

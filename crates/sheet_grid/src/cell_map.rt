@@ -12,7 +12,7 @@ ghost use Rattle.base_maps.specs.Carried.{entry_made};
 ghost use Rattle.base_maps.specs.laws.Gathering.{with_made};
 ghost use Rattle.sheet_grid.specs.ArrayIndex.{arrays_by_place, large_array_of};
 ghost use Rattle.sheet_grid.specs.Arrays.{large_array_at};
-ghost use Rattle.sheet_grid.specs.KeptCell.{IsKeptCell, KeptCells};
+ghost use Rattle.sheet_grid.specs.CanonicalCell.{IsCanonicalCell, CanonicalCells};
 ghost use Rattle.sheet_grid.specs.contracts.cell.CellPartialEq.TheImpl as cell;
 ghost use Rattle.sheet_grid.specs.laws.CellEquals.{cell_equiv};
 
@@ -200,7 +200,7 @@ impl CellMap {
         alloc: Global,
         cells: PlaceMap<Shared<Cell>>,
     ) -> Result<CellMap, EditError>
-        requires { KeptCells cells }
+        requires { CanonicalCells cells }
         ensures cells { IfOk result (λ map. map ≡ cells) }
         ensures only { IsOkUnless result NoMemory }
     {
@@ -211,7 +211,7 @@ impl CellMap {
     /// The cells by their places.
     pub(crate) fn as_map(&self) -> &PlaceMap<Shared<Cell>>
         ensures map { result.now ≡ self.now }
-        ensures kept { KeptCells result.now }
+        ensures canonical { CanonicalCells result.now }
     {
         &self.cells
     }
@@ -232,7 +232,7 @@ impl CellMap {
         entry: Option<Shared<Cell>>,
     ) -> Result<(), EditError>
         requires inside { IsPlace place }
-        requires kept { IfSome entry IsKeptCell }
+        requires canonical { IfSome entry IsCanonicalCell }
         ensures ok { OnOk result (self.new ≡ with_entry self.old place entry) }
         ensures away { entry ≡ None → result ≡ Ok tt }
         ensures err { OnErr result (self.new ≡ self.old) }

@@ -2,42 +2,49 @@ ghost use Rattle.std.specs.Prelude.{◌≡◌, ◌≢◌, None, Err, IfOk, IfSom
 ghost use Rattle.std.specs.Borrow.{sem, LendsIfOk};
 ghost use Rattle.base_values.specs.Answers.{Changes, map_ok};
 ghost use Rattle.base_values.specs.declared.EditError.TheVariants.{NoMemory, InvalidSheet};
+ghost use Rattle.defined_names.specs.Names.{AreCanonicalNames};
 ghost use Rattle.sheet_grid.specs.Book.{Book, new_book, index_of, sheet_at, sheet_edit, edit_by_id, with_sheet};
-ghost use Rattle.sheet_grid.specs.KeptCell.{IsKeptCell};
+ghost use Rattle.sheet_grid.specs.CanonicalCell.{IsCanonicalCell};
 ghost use Rattle.sheet_grid.specs.Sheet.{cell_put};
 ghost use Rattle.sheet_grid.specs.contracts.workbook.Workbook.{the_row};
 ghost use Rattle.sheet_grid.specs.contracts.worksheet.Worksheet.{the_row as sheet_row};
+
+mod sheets;
 
 use crate::cell::Cell;
 use crate::worksheet::Worksheet;
 use base_shared::Shared;
 use base_tables::{Locale, Zone};
 use base_values::{EditError, Exact, Items, Text, copy_of};
+use defined_names::{DefinedName, NameList};
 use std::alloc::{AllocError, Global};
 use std::marker::Model;
 
-/// A workbook: its settings, and its sheets in order.
+/// A workbook: its settings, its defined names and its sheets in order.
 #[derive(PartialEq, Eq, Drop)]
 pub struct Workbook {
     name: Text,
     locale: Locale,
     zone: Zone,
+    names: NameList,
     worksheets: Items<Worksheet>,
 }
 
 impl Model for Workbook {
     ghost use Rattle.std.specs.Coded.{codes};
+    ghost use Rattle.formula_tree.specs.contracts.node.Node as node;
     ghost use Rattle.sheet_grid.specs.Book.{Book};
     ghost use Rattle.sheet_grid.specs.contracts.worksheet.Worksheet as worksheet;
 
     ghost Value = { Book };
 
-    ghost coded = { Prim.hlevel (codes, worksheet.the_row.coded) };
+    ghost coded = { Prim.hlevel (codes, node.the_row.coded, worksheet.the_row.coded) };
 
     ghost view = { λ w. record {
       name = w.name;
       locale = w.locale;
       zone = w.zone;
+      names = w.names;
       worksheets = w.worksheets;
     } };
 
@@ -45,6 +52,7 @@ impl Model for Workbook {
       name = w.name;
       locale = w.locale;
       zone = w.zone;
+      names = w.names;
       worksheets = w.worksheets;
     } };
 }
@@ -66,6 +74,7 @@ impl Workbook {
             name: Text::new(String::from_str(alloc, name)?),
             locale,
             zone,
+            names: NameList::empty(alloc),
             worksheets,
         })
     }
@@ -91,6 +100,37 @@ impl Workbook {
         self.zone
     }
 
+    /// The defined names in order.
+    pub fn defined_names(&self) -> &[DefinedName]
+        ensures names { result.now ≡ self.now.names }
+        ensures canonical { AreCanonicalNames result.now }
+    {
+        self.names.as_slice()
+    }
+
+    /// The defined names, as the workbook holds them.
+    pub fn name_list(&self) -> &NameList
+        ensures { result.now ≡ self.now.names }
+    {
+        &self.names
+    }
+
+    /// Puts these defined names in place of the workbook's own. They may be any: it is not asked
+    /// whether they are legal and distinct, and whether their sheets are there. It takes no memory.
+    pub fn set_defined_names(&mut self, names: Items<DefinedName>)
+        requires { AreCanonicalNames names }
+        ensures { self.new ≡ record self.old { names = names } }
+    {
+        self.names = NameList::new(names);
+    }
+
+    /// Puts these defined names in place of the workbook's own, as `set_defined_names` does.
+    pub fn set_name_list(&mut self, names: NameList)
+        ensures { self.new ≡ record self.old { names = names } }
+    {
+        self.names = names;
+    }
+
     /// The sheets in order.
     pub fn worksheets(&self) -> &[Worksheet]
         ensures { result.now ≡ self.now.worksheets }
@@ -108,6 +148,7 @@ impl Workbook {
             name: copy_of(&self.name)?,
             locale: self.locale(),
             zone: self.zone,
+            names: copy_of(&self.names)?,
             worksheets,
         })
     }
@@ -122,8 +163,8 @@ impl Workbook {
         }
     }
 
-    /// The index of the first sheet with an id.
-    fn index_of(&self, id: u32) -> Option<usize>
+    /// The index of the first sheet with an id. It takes no memory.
+    pub fn index_of(&self, id: u32) -> Option<usize>
         ensures { result ≡ index_of self.now id }
     {
         self.worksheets
@@ -163,7 +204,7 @@ impl Workbook {
         column: i32,
         entry: Option<Cell>,
     ) -> Result<(), EditError>
-        requires { IfSome entry IsKeptCell }
+        requires { IfSome entry IsCanonicalCell }
         ensures put { Changes result self.old self.new (sheet_edit self.old sheet (λ old. cell_put old row column entry)) }
         ensures away { entry ≡ None → result ≢ Err NoMemory }
     {
@@ -181,7 +222,7 @@ impl Workbook {
         column: i32,
         entry: Option<Shared<Cell>>,
     ) -> Result<(), EditError>
-        requires { IfSome entry IsKeptCell }
+        requires { IfSome entry IsCanonicalCell }
         ensures put { Changes result self.old self.new (sheet_edit self.old sheet (λ old. cell_put old row column entry)) }
         ensures away { entry ≡ None → result ≢ Err NoMemory }
     {
@@ -199,7 +240,7 @@ impl Workbook {
         column: i32,
         entry: Option<Shared<Cell>>,
     ) -> Result<(), EditError>
-        requires { IfSome entry IsKeptCell }
+        requires { IfSome entry IsCanonicalCell }
         ensures put { Changes result self.old self.new (edit_by_id self.old sheet_id (λ old. cell_put old row column entry)) }
         ensures away { entry ≡ None → result ≢ Err NoMemory }
     {
@@ -216,7 +257,7 @@ impl Workbook {
         column: i32,
         entry: Option<Cell>,
     ) -> Result<(), EditError>
-        requires { IfSome entry IsKeptCell }
+        requires { IfSome entry IsCanonicalCell }
         ensures put { Changes result self.old self.new (sheet_edit self.old at (λ old. cell_put old row column entry)) }
         ensures away { entry ≡ None → result ≢ Err NoMemory }
     {
@@ -231,7 +272,7 @@ impl Workbook {
         column: i32,
         entry: Option<Shared<Cell>>,
     ) -> Result<(), EditError>
-        requires { IfSome entry IsKeptCell }
+        requires { IfSome entry IsCanonicalCell }
         ensures put { Changes result self.old self.new (sheet_edit self.old at (λ old. cell_put old row column entry)) }
         ensures away { entry ≡ None → result ≢ Err NoMemory }
     {
@@ -248,6 +289,7 @@ impl Clone for Workbook {
             name: self.name.clone()?,
             locale: self.locale,
             zone: self.zone,
+            names: self.names.clone()?,
             worksheets: self.worksheets.clone()?,
         })
     }

@@ -3,16 +3,17 @@ ghost use Rattle.std.specs.FinMap as fin;
 ghost use Rattle.base_values.specs.Answers.{Returns, Changes};
 ghost use Rattle.base_values.specs.declared.EditError.TheVariants.{NoMemory};
 ghost use Rattle.base_values.specs.Places.{IsPlace};
-ghost use Rattle.base_decimal.specs.Kept.{IsKept};
-ghost use Rattle.formula_tree.specs.Numbers.{has_kept_numbers};
-ghost use Rattle.cell_content.specs.KeptContent.{IsKeptContent};
+ghost use Rattle.base_decimal.specs.Canonical.{IsCanonical};
+ghost use Rattle.formula_tree.specs.Numbers.{has_canonical_numbers};
+ghost use Rattle.cell_content.specs.CanonicalContent.{IsCanonicalContent};
 ghost use Rattle.sheet_grid.specs.Dimension.{IsLeastRectangle, IsRectangle, first_place, extents_of};
-ghost use Rattle.sheet_grid.specs.KeptCell.{IsKeptCell};
+ghost use Rattle.sheet_grid.specs.CanonicalCell.{IsCanonicalCell};
 ghost use Rattle.sheet_grid.specs.Arrays.{large_arrays_of};
 ghost use Rattle.sheet_grid.specs.Sheet.{Sheet, new_sheet, cell_at, cell_put, content_put, content_cleared};
 ghost use Rattle.cell_content.specs.declared.Content.TheVariants.{Empty, Number, Boolean, Error as ErrorValue, Text as TextValue, Formula, Dynamic, Array};
 
 mod entries;
+mod fields;
 mod lines;
 mod merges;
 mod sizes;
@@ -186,7 +187,7 @@ impl Worksheet {
     /// `InvalidRow` where the row is outside the sheet, else `InvalidColumn` where the column is.
     pub fn cell(&self, row: i32, column: i32) -> Result<Option<Cell>, EditError>
         ensures found { Returns result (cell_at self.now row column) }
-        ensures kept { IfOk result (λ found. IfSome found IsKeptCell) }
+        ensures canonical { IfOk result (λ found. IfSome found IsCanonicalCell) }
     {
         let place = place_of(row, column)?;
         match self.cells.as_map().get(place) {
@@ -195,13 +196,12 @@ impl Worksheet {
         }
     }
 
-    /// The cell at a row and a column, if there is one, held together with the sheet: it takes no
-    /// memory.
+    /// The cell at a row and a column, if there is one, held together with the sheet: it is not copied.
     ///
     /// `InvalidRow` where the row is outside the sheet, else `InvalidColumn` where the column is.
     pub fn shared_cell(&self, row: i32, column: i32) -> Result<Option<Shared<Cell>>, EditError>
         ensures found { Returns result (cell_at self.now row column) }
-        ensures kept { IfOk result (λ found. IfSome found IsKeptCell) }
+        ensures canonical { IfOk result (λ found. IfSome found IsCanonicalCell) }
     {
         let place = place_of(row, column)?;
         match self.cells.as_map().get(place) {
@@ -244,7 +244,7 @@ impl Worksheet {
     /// `InvalidRow` where the row is outside the sheet, else `InvalidColumn` where the column is.
     /// To take a cell away needs no memory.
     pub fn put_cell(&mut self, row: i32, column: i32, entry: Option<Cell>) -> Result<(), EditError>
-        requires { IfSome entry IsKeptCell }
+        requires { IfSome entry IsCanonicalCell }
         ensures put { Changes result self.old self.new (cell_put self.old row column entry) }
         ensures away { entry ≡ None → result ≢ Err NoMemory }
     {
@@ -273,7 +273,7 @@ impl Worksheet {
         column: i32,
         entry: Option<Shared<Cell>>,
     ) -> Result<(), EditError>
-        requires { IfSome entry IsKeptCell }
+        requires { IfSome entry IsCanonicalCell }
         ensures put { Changes result self.old self.new (cell_put self.old row column entry) }
         ensures away { entry ≡ None → result ≢ Err NoMemory }
     {
@@ -288,7 +288,7 @@ impl Worksheet {
         content: Content,
         style: &Shared<Style>,
     ) -> Result<(), EditError>
-        requires { IsKeptContent content }
+        requires { IsCanonicalContent content }
         ensures { Changes result self.old self.new (content_put self.old row column content style.now) }
     {
         let _place = place_of(row, column)?;
@@ -306,7 +306,7 @@ impl Worksheet {
         value: Decimal,
         style: &Shared<Style>,
     ) -> Result<(), EditError>
-        requires { IsKept value }
+        requires { IsCanonical value }
         ensures { Changes result self.old self.new (content_put self.old row column (Number value) style.now) }
     {
         self.put_content(row, column, Content::Number(value), style)
@@ -370,7 +370,7 @@ impl Worksheet {
         value: Node,
         style: &Shared<Style>,
     ) -> Result<(), EditError>
-        requires { IsTrue (has_kept_numbers value) }
+        requires { IsTrue (has_canonical_numbers value) }
         ensures { Changes result self.old self.new (content_put self.old row column (Formula value) style.now) }
     {
         let _place = place_of(row, column)?;
@@ -389,7 +389,7 @@ impl Worksheet {
         value: Node,
         style: &Shared<Style>,
     ) -> Result<(), EditError>
-        requires { IsTrue (has_kept_numbers value) }
+        requires { IsTrue (has_canonical_numbers value) }
         ensures { Changes result self.old self.new (content_put self.old row column (Dynamic value) style.now) }
     {
         let _place = place_of(row, column)?;
@@ -411,7 +411,7 @@ impl Worksheet {
         width: i32,
         height: i32,
     ) -> Result<(), EditError>
-        requires { IsTrue (has_kept_numbers value) }
+        requires { IsTrue (has_canonical_numbers value) }
         ensures { Changes result self.old self.new (content_put self.old row column (Array value width height) style.now) }
     {
         let _place = place_of(row, column)?;

@@ -1,3 +1,4 @@
 mod DiffLemmas
+mod Following
 mod Placed
 mod Standing

@@ -1,63 +1,37 @@
 -- Corners of formulas lie inside the sheet: in a well-formed workbook, and where an entry that fits is put.
 use Rattle.std.proofs.Common.{◌≡◌, ℕ, Bool, true, false, cond, ◌&&◌, List, [], ◌∷◌, Option, Some, None, Result, Ok, Err, refl, ap, sym, subst, ◌∙◌}
-use Rattle.std.specs.Prelude.{IfSome, OnOk, ◌==◌, is_some}
+use Rattle.std.specs.Prelude.{OnOk, ◌==◌, is_some}
 use Rattle.std.specs.List.{AllByRecursion, list_all}
-use Rattle.std.specs.Option.{option_map_or}
 use Rattle.std.specs.Ordering.{eq_by_cmp}
 use Rattle.std.specs.FinMap.{get}
-use Rattle.std.proofs.lemmas.List.Elements.{All-from_recursion}
-use Rattle.base_axis.specs.declared.MergedCell.{MergedCell}
-use Rattle.base_axis.specs.Rectangles.{IsInside, is_inside}
-use Rattle.base_axis.specs.laws.RectangleLaws.{inside_found}
 use Rattle.base_values.specs.declared.EditError.{EditError}
 use Rattle.base_values.specs.declared.Position.{Position}
 use Rattle.base_values.specs.Answers.{Edits}
 use Rattle.base_values.specs.Places.{position_cmp}
 use Rattle.base_values.specs.laws.KeyMap.{get-with_entry}
 use Rattle.base_values.specs.laws.Places.{position_total, exact_positions}
-use Rattle.formula_tree.specs.declared.Node.{Node}
-use Rattle.formula_tree.specs.Placed.{is_placed}
-use Rattle.cell_content.specs.Fitting.{tree_fits_at}
-use Rattle.cell_content.specs.Lens.{tree_of}
 use Rattle.base_maps.specs.laws.Keys.{one_key}
 use Rattle.sheet_grid.specs.declared.Cell.{Cell}
-use Rattle.sheet_grid.specs.FittingCells.{entry_fits_at}
+use Rattle.sheet_grid.specs.laws.FittingCells.{entry_fits_at}
 use Rattle.sheet_grid.specs.Sheet.{Sheet, with_cell}
 use Rattle.sheet_grid.specs.Book.{Book}
 use Rattle.sheet_rules.specs.laws.EntryLaws.{both}
 use Rattle.sheet_rules.specs.laws.WellFormedLaws.{well_formed_parts, cells_fit_from_trees}
-use Rattle.line_map.specs.Merges.{MergesLie}
 use Rattle.sheet_rules.specs.Occupied.{have_merges}
 use Rattle.sheet_rules.specs.WellFormed.{is_place, have_trees, IsWellFormed}
 use Rattle.sheet_lines.specs.Sheets.{IsPlacedCell, IsPlacedSheet, IsPlacedBook, sheet_of}
+use Rattle.book_sheets.specs.laws.Placed.{placed_cell, merges_lie}
 use Rattle.sheet_history.specs.Entries.{EntryKey, EntryValue, cell_stands_at, value_fits, sheet_id_of, with_sheet_entry, with_changed, put_entry, accepts}
-use Rattle.sheet_history.specs.Entries.EntryKey.{CellKey, LinkKey, MergesKey}
-use Rattle.sheet_history.specs.Entries.EntryValue.{CellValue, LinkValue, MergesValue}
+use Rattle.sheet_history.specs.Entries.EntryKey.{CellKey, LinkKey, MergesKey, FieldKey}
+use Rattle.sheet_history.specs.Entries.EntryValue.{CellValue, LinkValue, MergesValue, FieldValue}
+use Rattle.sheet_history.specs.declared.field.SheetField.{SheetField}
+use Rattle.sheet_history.specs.declared.field.SheetField.TheVariants as value
+use Rattle.sheet_history.specs.Fields.{Field, with_field}
+use Rattle.sheet_history.specs.Fields.Field.{ColorField, StateField, GridField}
 use Rattle.sheet_history.specs.Diffs.{put_in}
 use Rattle.sheet_history.specs.laws.EntryLaws.{decide}
 use Rattle.sheet_history.specs.laws.SoundEntries.{sheet_merges_inside}
 use Rattle.sheet_history.specs.laws.TestedLaws.{put_in-done}
-
--- of a tree that fits
-pub placed_tree : (place : Position) (tree : Node) → tree_fits_at place tree ≡ true → is_placed place tree ≡ true
-unfolding tree_fits_at
-placed_tree place tree fits = (both _ _ (both _ _ fits).0).0
-
--- of a cell that fits
-pub placed_cell : (place : Position) (cell : Cell) → entry_fits_at place (Some cell) ≡ true → IsPlacedCell place cell
-placed_cell place cell fits = go (tree_of cell.content) fits
-  where
-    go : (o : Option Node) → option_map_or (tree_fits_at place) o true ≡ true → IfSome o (λ tree. is_placed place tree ≡ true)
-    go None fits = tt
-    go (Some tree) fits = placed_tree place tree fits
-
-each_inside : (merges : List MergedCell) → list_all is_inside merges ≡ true → AllByRecursion IsInside merges
-each_inside [] all = tt
-each_inside (merge ∷ merges) all = let parts = both (is_inside merge) (list_all is_inside merges) all in (inside_found merge parts.0, each_inside merges parts.1)
-
--- of merges that pass the test
-pub merges_lie : (merges : List MergedCell) → list_all is_inside merges ≡ true → MergesLie merges
-merges_lie merges all = All-from_recursion IsInside merges (each_inside merges all)
 
 placed_sheet : (sheet : Sheet) → have_trees sheet ≡ true → have_merges sheet ≡ true → IsPlacedSheet sheet
 placed_sheet sheet trees merges = record {
@@ -90,11 +64,18 @@ fits_there : (place : Position) (entry : Option Cell) → cell_stands_at place e
 fits_there place None fits = refl
 fits_there place (Some cell) fits = (both _ _ fits).0
 
+placed_field : (s : Sheet) (field : Field) (v : SheetField) → IsPlacedSheet s → IsPlacedSheet (with_field field v s)
+placed_field s ColorField (value.Color v) all = record { cells = all.cells; merges = all.merges }
+placed_field s StateField (value.State v) all = record { cells = all.cells; merges = all.merges }
+placed_field s GridField (value.GridLines v) all = record { cells = all.cells; merges = all.merges }
+placed_field s _ _ all = all
+
 -- of a sheet with an entry that fits
 placed_entry : (s : Sheet) (k : EntryKey) (v : EntryValue) → value_fits k v ≡ true → IsPlacedSheet s → IsPlacedSheet (with_sheet_entry k v s)
 placed_entry s (CellKey id place) (CellValue entry) fits all = placed-put s place entry (fits_there place entry (both (is_place place) (cell_stands_at place entry) fits).1) all
 placed_entry s (LinkKey id place) (LinkValue entry) fits all = record { cells = all.cells; merges = all.merges }
 placed_entry s (MergesKey id) (MergesValue merges) fits all = record { cells = all.cells; merges = merges_lie merges fits }
+placed_entry s (FieldKey id field) (FieldValue v) fits all = placed_field s field v all
 placed_entry s _ _ fits all = absurd (let never : false ≡ true = fits in cc)
 
 each_changed : (P : Sheet → Type 0) (f : Sheet → Sheet) → ((s : Sheet) → P s → P (f s)) → (id : ℕ) (ss : List Sheet) → AllByRecursion P ss → AllByRecursion P (with_changed id f ss)

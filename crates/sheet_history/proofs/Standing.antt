@@ -24,9 +24,10 @@ use Rattle.sheet_rules.specs.WellFormed.{is_place}
 use Rattle.sheet_lines.specs.declared.KeptLines.{KeptLines}
 use Rattle.sheet_lines.specs.Back.{LieInside, ArePlacedLines}
 use Rattle.sheet_lines.specs.Sheets.{sheet_of}
-use Rattle.sheet_history.specs.LineDiffs.{stand_on_lost, merges_inside, lie_inside, cells_fit, tree_stands, formulas_stand}
+use Rattle.book_sheets.specs.SheetDiffs.{cells_fit}
+use Rattle.book_sheets.specs.laws.Placed.{placed_cell, placed_tree, merges_lie}
+use Rattle.sheet_history.specs.LineDiffs.{stand_on_lost, merges_inside, lie_inside, tree_stands, formulas_stand}
 use Rattle.sheet_history.specs.laws.Entries.{entry_holds}
-use Rattle.sheet_history.proofs.Placed.{placed_cell, placed_tree, merges_lie}
 
 first_tests : {X : Type 0} (f g : X → Bool) (xs : List X) → list_all (λ x. f x && g x) xs ≡ true → list_all f xs ≡ true
 first_tests f g [] all = refl

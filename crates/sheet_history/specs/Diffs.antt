@@ -6,17 +6,19 @@ use Rattle.base_values.specs.declared.EditError.TheVariants.{DiffRefused}
 use Rattle.base_values.specs.Answers.{and_then}
 use Rattle.sheet_grid.specs.Book.{Book}
 use Rattle.sheet_grid.specs.Sheet.{Sheet}
-use Rattle.sheet_grid.specs.KeptCell.{IsKeptCell}
+use Rattle.sheet_grid.specs.CanonicalCell.{IsCanonicalCell}
 use Rattle.sheet_rules.specs.WellFormed.{broken_rule}
-use Rattle.sheet_lines.specs.KeptNumbers.{AreKeptLines}
+use Rattle.sheet_lines.specs.CanonicalNumbers.{AreCanonicalLines}
+use Rattle.book_sheets.specs.SheetDiffs.{IsCanonicalSheet, new_forward, new_back, copy_forward, copy_back, deletion_forward, deletion_back, sheet_moves}
 use Rattle.sheet_history.specs.declared.diff.Diff.{Diff}
-use Rattle.sheet_history.specs.declared.diff.Diff.TheVariants.{Cell as CellDiff, Link as LinkDiff, Merges as MergesDiff, Lines as LinesDiff}
+use Rattle.sheet_history.specs.declared.diff.Diff.TheVariants.{Cell as CellDiff, Link as LinkDiff, Merges as MergesDiff, Field as FieldDiff, Lines as LinesDiff, NewSheet as NewDiff, DuplicateSheet as CopyDiff, DeleteSheet as DeletionDiff, MoveSheet as MoveDiff}
 use Rattle.sheet_history.specs.declared.diff.DiffType.{DiffType}
 use Rattle.sheet_history.specs.declared.diff.DiffType.TheVariants.{Undo, Redo}
 use Rattle.sheet_history.specs.declared.diff.QueueDiffs.{QueueDiffs}
 use Rattle.sheet_history.specs.Entries.{EntryKey, EntryValue, value_fits, with_sheet_entry, accepts, put_entry}
-use Rattle.sheet_history.specs.Entries.EntryKey.{CellKey, LinkKey, MergesKey}
-use Rattle.sheet_history.specs.Entries.EntryValue.{CellValue, LinkValue, MergesValue}
+use Rattle.sheet_history.specs.Entries.EntryKey.{CellKey, LinkKey, MergesKey, FieldKey}
+use Rattle.sheet_history.specs.Entries.EntryValue.{CellValue, LinkValue, MergesValue, FieldValue}
+use Rattle.sheet_history.specs.Fields.{old_of, new_of, changed_field}
 use Rattle.sheet_history.specs.LineDiffs.{along_of, lines_forward, lines_back}
 
 -- the sheet with a value at a key. Where it may not stand there, the diff of that number is refused
@@ -27,19 +29,29 @@ sheet_put at key value sheet = if value_fits key value then Ok (with_sheet_entry
 unfoldable pub put_in : ℕ → Book → EntryKey → EntryValue → Result Book EditError
 put_in at book key value = if accepts book key value then Ok (put_entry book key value) else Err (DiffRefused 0 at)
 
--- forward puts the new value, or edits the lines
+-- forward puts the new value, edits the lines, or makes the change of the list of sheets
 abbrev pub step_forward : ℕ → Book → Diff → Result Book EditError
 step_forward at book (CellDiff sheet place old new) = put_in at book (CellKey sheet place) (CellValue new)
 step_forward at book (LinkDiff sheet place old new) = put_in at book (LinkKey sheet place) (LinkValue new)
 step_forward at book (MergesDiff sheet old new) = put_in at book (MergesKey sheet) (MergesValue new)
+step_forward at book (FieldDiff sheet change) = put_in at book (FieldKey sheet (changed_field change)) (FieldValue (new_of change))
 step_forward at book (LinesDiff sheet axis edit kept) = lines_forward at (along_of axis) sheet edit kept book
+step_forward at book (NewDiff sheet index name) = new_forward at sheet index name book
+step_forward at book (CopyDiff source sheet index name) = copy_forward at source sheet index name book
+step_forward at book (DeletionDiff index kept) = deletion_forward at kept book
+step_forward at book (MoveDiff sheet from to) = sheet_moves at sheet from to book
 
--- back puts the old value, or takes the lines back
+-- back puts the old value, takes the lines back, or the change of the list of sheets
 abbrev pub step_back : ℕ → Book → Diff → Result Book EditError
 step_back at book (CellDiff sheet place old new) = put_in at book (CellKey sheet place) (CellValue old)
 step_back at book (LinkDiff sheet place old new) = put_in at book (LinkKey sheet place) (LinkValue old)
 step_back at book (MergesDiff sheet old new) = put_in at book (MergesKey sheet) (MergesValue old)
+step_back at book (FieldDiff sheet change) = put_in at book (FieldKey sheet (changed_field change)) (FieldValue (old_of change))
 step_back at book (LinesDiff sheet axis edit kept) = lines_back at (along_of axis) sheet edit kept book
+step_back at book (NewDiff sheet index name) = new_back at sheet book
+step_back at book (CopyDiff source sheet index name) = copy_back at sheet book
+step_back at book (DeletionDiff index kept) = deletion_back at index kept book
+step_back at book (MoveDiff sheet from to) = sheet_moves at sheet to from book
 
 -- the diffs in order, where the first has the number at
 abbrev pub forward_from : ℕ → Book → List Diff → Result Book EditError
@@ -51,34 +63,35 @@ abbrev pub back_from : ℕ → Book → List Diff → Result Book EditError
 back_from at book [] = Ok book
 back_from at book (diff ∷ diffs) = and_then (back_from (at + 1) book diffs) (λ next. step_back at next diff)
 
--- the workbook with the changes of a list made in order, whether or not it is well-formed
-abbrev pub made : Book → List Diff → Result Book EditError
-made book diffs = forward_from 0 book diffs
+-- the workbook after the changes of a list, made in order, whether or not it is well-formed
+abbrev pub untested_after : Book → List Diff → Result Book EditError
+untested_after book diffs = forward_from 0 book diffs
 
--- the workbook with the changes of a list taken back, the last one first, whether or not it is well-formed
-abbrev pub taken_back : Book → List Diff → Result Book EditError
-taken_back book diffs = back_from 0 book diffs
+-- the workbook before the changes of a list: they are taken back, the last one first. It may break rules
+abbrev pub untested_before : Book → List Diff → Result Book EditError
+untested_before book diffs = back_from 0 book diffs
 
--- a workbook that breaks no rule. Of one that breaks some the diff of that number is refused
+-- a workbook that breaks no rule. Where it breaks one, the diff of the given number is refused
 unfoldable pub by_rule : ℕ → Book → Option ℕ → Result Book EditError
 by_rule at book None = Ok book
 by_rule at book (Some rule) = Err (DiffRefused 0 at)
 
--- an answer whose workbook has to break no rule
+-- a resulting workbook that has to break no rule
 abbrev pub tested : ℕ → Result Book EditError → Result Book EditError
 tested at answer = and_then answer (λ book. by_rule at book (broken_rule book))
 
--- the same of a well-formed workbook: else the diff behind the last one is refused
-abbrev pub forwarded : Book → List Diff → Result Book EditError
-forwarded book diffs = tested (length diffs) (made book diffs)
+-- the well-formed workbook after the changes of a list. Where it breaks a rule, the number behind the last diff is refused
+abbrev pub book_after : Book → List Diff → Result Book EditError
+book_after book diffs = tested (length diffs) (untested_after book diffs)
 
-abbrev pub backed : Book → List Diff → Result Book EditError
-backed book diffs = tested (length diffs) (taken_back book diffs)
+-- the well-formed workbook before them
+abbrev pub book_before : Book → List Diff → Result Book EditError
+book_before book diffs = tested (length diffs) (untested_before book diffs)
 
 -- a sent list followed in its direction
 abbrev pub follow : DiffType → Book → List Diff → Result Book EditError
-follow Undo book diffs = backed book diffs
-follow Redo book diffs = forwarded book diffs
+follow Undo book diffs = book_before book diffs
+follow Redo book diffs = book_after book diffs
 
 -- a refusal of a diff names the entry that it comes from
 abbrev pub of_entry : ℕ → EditError → EditError
@@ -98,16 +111,21 @@ replayed_from at book (entry ∷ entries) = and_then (in_entry at (follow entry.
 abbrev pub replayed : Book → List QueueDiffs → Result Book EditError
 replayed book entries = replayed_from 0 book entries
 
--- every number of what a diff holds is as a sheet keeps it
-abbrev pub IsKeptDiff : Diff → Type 0
-IsKeptDiff (CellDiff sheet place old new) = IfSome old IsKeptCell × IfSome new IsKeptCell
-IsKeptDiff (LinkDiff sheet place old new) = Unit {0}
-IsKeptDiff (MergesDiff sheet old new) = Unit {0}
-IsKeptDiff (LinesDiff sheet axis edit kept) = AreKeptLines kept
+-- every number of what a diff holds is canonical
+abbrev pub IsCanonicalDiff : Diff → Type 0
+IsCanonicalDiff (CellDiff sheet place old new) = IfSome old IsCanonicalCell × IfSome new IsCanonicalCell
+IsCanonicalDiff (LinkDiff sheet place old new) = Unit {0}
+IsCanonicalDiff (MergesDiff sheet old new) = Unit {0}
+IsCanonicalDiff (FieldDiff sheet change) = Unit {0}
+IsCanonicalDiff (LinesDiff sheet axis edit kept) = AreCanonicalLines kept
+IsCanonicalDiff (NewDiff sheet index name) = Unit {0}
+IsCanonicalDiff (CopyDiff source sheet index name) = Unit {0}
+IsCanonicalDiff (DeletionDiff index kept) = IsCanonicalSheet kept
+IsCanonicalDiff (MoveDiff sheet from to) = Unit {0}
 
-abbrev pub IsKeptList : List Diff → Type 0
-IsKeptList diffs = All IsKeptDiff diffs
+abbrev pub IsCanonicalList : List Diff → Type 0
+IsCanonicalList diffs = All IsCanonicalDiff diffs
 
 -- so are those of every list of a queue
-abbrev pub IsKeptQueue : List QueueDiffs → Type 0
-IsKeptQueue entries = All (λ entry. IsKeptList entry.list) entries
+abbrev pub IsCanonicalQueue : List QueueDiffs → Type 0
+IsCanonicalQueue entries = All (λ entry. IsCanonicalList entry.list) entries

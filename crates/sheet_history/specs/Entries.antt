@@ -1,4 +1,4 @@
--- A workbook as a map of entries: the cells and the links of its sheets, and the merges of each sheet.
+-- A workbook as a map of entries: the cells and the links of its sheets, and the merges and the fields of each sheet.
 use Rattle.std.proofs.Common.{ℕ, ℤ, pos, Bool, true, false, ◌&&◌, List, [], ◌∷◌, map, Option, Some, None}
 use Rattle.std.specs.Prelude.{◌==◌, is_some, if◌then◌else◌}
 use Rattle.std.specs.Option.{option_map}
@@ -11,13 +11,18 @@ use Rattle.base_values.specs.KeyMap.{with_entry}
 use Rattle.base_axis.specs.declared.MergedCell.{MergedCell}
 use Rattle.base_axis.specs.Rectangles.{is_inside}
 use Rattle.cell_content.specs.Fitting.{fits_at}
+use Rattle.base_styles.specs.declared.Color.TheVariants.{None as NoColor}
 use Rattle.sheet_grid.specs.declared.Cell.{Cell}
 use Rattle.sheet_grid.specs.declared.Link.{Link}
+use Rattle.sheet_grid.specs.declared.SheetState.TheVariants.{Visible}
 use Rattle.sheet_grid.specs.Arrays.{array_at}
 use Rattle.sheet_grid.specs.Sheet.{Sheet}
 use Rattle.sheet_grid.specs.Book.{Book}
 use Rattle.sheet_rules.specs.WellFormed.{is_place}
 use Rattle.sheet_lines.specs.Sheets.{sheet_of}
+pub use Rattle.book_sheets.specs.SheetDiffs.{lies_inside}
+use Rattle.sheet_history.specs.declared.field.SheetField.{SheetField}
+use Rattle.sheet_history.specs.Fields.{Field, tag_of, field_in, with_field, is_of}
 
 -- which entry of a workbook
 pub data EntryKey : Type 0 where
@@ -27,6 +32,8 @@ pub data EntryKey : Type 0 where
   LinkKey : ℕ → Position → EntryKey
   -- the merges of the sheet of an id
   MergesKey : ℕ → EntryKey
+  -- a field of the sheet of an id
+  FieldKey : ℕ → Field → EntryKey
 
 -- what an entry is
 pub data EntryValue : Type 0 where
@@ -36,6 +43,8 @@ pub data EntryValue : Type 0 where
   LinkValue : Option Link → EntryValue
   -- merges, in their order
   MergesValue : List MergedCell → EntryValue
+  -- what stands in a field
+  FieldValue : SheetField → EntryValue
 
 -- ---- the order of keys
 
@@ -50,6 +59,7 @@ abbrev pub rank_of : EntryKey → Rank
 rank_of (CellKey sheet place) = record { tag = 1; sheet = sheet; row = place.row; column = place.column }
 rank_of (LinkKey sheet place) = record { tag = 2; sheet = sheet; row = place.row; column = place.column }
 rank_of (MergesKey sheet) = record { tag = 5; sheet = sheet; row = pos 0; column = pos 0 }
+rank_of (FieldKey sheet field) = record { tag = tag_of field; sheet = sheet; row = pos 0; column = pos 0 }
 
 -- by tag, then by sheet id, then by row, then by column
 abbrev pub rank_cmp : Rank → Rank → Ordering
@@ -65,24 +75,22 @@ abbrev pub sheet_id_of : EntryKey → ℕ
 sheet_id_of (CellKey sheet place) = sheet
 sheet_id_of (LinkKey sheet place) = sheet
 sheet_id_of (MergesKey sheet) = sheet
+sheet_id_of (FieldKey sheet field) = sheet
 
 -- what a sheet has at a key
 abbrev pub sheet_entry : EntryKey → Sheet → EntryValue
 sheet_entry (CellKey id place) sheet = CellValue (fin.get sheet.cells place)
 sheet_entry (LinkKey id place) sheet = LinkValue (fin.get sheet.links place)
 sheet_entry (MergesKey id) sheet = MergesValue sheet.merges
+sheet_entry (FieldKey id field) sheet = FieldValue (field_in field sheet)
 
 -- the sheet with a value at a key. A value of another kind changes nothing
 abbrev pub with_sheet_entry : EntryKey → EntryValue → Sheet → Sheet
 with_sheet_entry (CellKey id place) (CellValue entry) sheet = record sheet { cells = with_entry sheet.cells place entry }
 with_sheet_entry (LinkKey id place) (LinkValue entry) sheet = record sheet { links = with_entry sheet.links place entry }
 with_sheet_entry (MergesKey id) (MergesValue merges) sheet = record sheet { merges = merges }
+with_sheet_entry (FieldKey id field) (FieldValue value) sheet = with_field field value sheet
 with_sheet_entry _ _ sheet = sheet
-
--- a rectangle, if there is one, lies inside the sheet
-abbrev pub lies_inside : Option MergedCell → Bool
-lies_inside None = true
-lies_inside (Some r) = is_inside r
 
 -- what is put at a place, a cell or none, may stand there: a formula fits its place, and an array lies inside the sheet
 abbrev pub cell_stands_at : Position → Option Cell → Bool
@@ -95,13 +103,8 @@ abbrev pub value_fits : EntryKey → EntryValue → Bool
 value_fits (CellKey id place) (CellValue entry) = is_place place && cell_stands_at place entry
 value_fits (LinkKey id place) (LinkValue entry) = is_place place
 value_fits (MergesKey id) (MergesValue merges) = list_all is_inside merges
+value_fits (FieldKey id field) (FieldValue value) = is_of field value
 value_fits _ _ = false
-
--- the value of a key that stands for nothing
-abbrev pub nothing_at : EntryKey → EntryValue
-nothing_at (CellKey id place) = CellValue None
-nothing_at (LinkKey id place) = LinkValue None
-nothing_at (MergesKey id) = MergesValue []
 
 -- ---- the entries of a workbook
 
@@ -124,7 +127,7 @@ accepts book key value = is_some (sheet_of book (sheet_id_of key)) && value_fits
 
 -- a sheet without its entries
 abbrev pub bare_sheet : Sheet → Sheet
-bare_sheet sheet = record sheet { cells = fin.empty; links = fin.empty; merges = [] }
+bare_sheet sheet = record sheet { state = Visible; color = NoColor; show_grid_lines = true; cells = fin.empty; links = fin.empty; merges = [] }
 
 -- a workbook without its entries
 unfoldable pub frame_of : Book → Book

@@ -1,8 +1,9 @@
 pub mod Entries
+pub mod Fields
 pub mod LineDiffs
 pub mod Diffs
-pub mod Depth
 pub mod Untested
 pub mod Stacks
 pub mod Records
+pub mod Selection
 pub mod laws

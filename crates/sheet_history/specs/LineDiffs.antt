@@ -14,7 +14,7 @@ use Rattle.base_axis.specs.Along.{Along, rows, columns}
 use Rattle.base_maps.specs.declared.SheetPlace.{SheetPlace}
 use Rattle.base_maps.specs.SheetPlaces.{sheet_place_cmp}
 use Rattle.formula_tree.specs.declared.Node.{Node}
-use Rattle.cell_content.specs.Fitting.{fits_at, tree_fits_at}
+use Rattle.cell_content.specs.Fitting.{tree_fits_at}
 use Rattle.cell_content.specs.Lens.{tree_of}
 use Rattle.line_edits.specs.declared.EditKind.{EditKind}
 use Rattle.line_edits.specs.declared.EditKind.TheVariants.{Insert, Delete, Move}
@@ -29,7 +29,7 @@ use Rattle.sheet_lines.specs.declared.KeptLines.{KeptLines}
 use Rattle.sheet_lines.specs.Sheets.{sheet_of}
 use Rattle.sheet_lines.specs.Followed.{book_followed}
 use Rattle.sheet_lines.specs.Back.{book_back}
-use Rattle.sheet_history.specs.Entries.{lies_inside}
+use Rattle.book_sheets.specs.SheetDiffs.{lies_inside, cells_fit}
 use Rattle.sheet_history.specs.declared.diff.LineAxis.{LineAxis}
 use Rattle.sheet_history.specs.declared.diff.LineAxis.TheVariants.{Rows, Columns}
 
@@ -77,10 +77,6 @@ merges_inside (Some merges) = list_all is_inside merges
 -- each kept cell that is an array lies inside the sheet, and so does each kept merge
 unfoldable pub lie_inside : KeptLines → Bool
 lie_inside kept = list_all (λ (entry : Position × Cell). lies_inside (array_at entry.0 entry.1.content)) (entries kept.cells) && merges_inside kept.merges
-
--- the formula of each kept cell fits its place
-unfoldable pub cells_fit : FinMap position_cmp Cell → Bool
-cells_fit cells = list_all (λ (entry : Position × Cell). fits_at entry.0 entry.1.content) (entries cells)
 
 -- whether a cell is there, and its content is a formula
 abbrev pub is_formula : Option Cell → Bool

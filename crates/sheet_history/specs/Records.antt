@@ -19,10 +19,15 @@ use Rattle.sheet_lines.specs.Sheets.{sheet_of}
 use Rattle.sheet_lines.specs.Kept.{kept_lines}
 use Rattle.sheet_history.specs.declared.diff.Diff.{Diff}
 use Rattle.sheet_history.specs.declared.diff.LineAxis.{LineAxis}
-use Rattle.sheet_history.specs.declared.diff.Diff.TheVariants.{Cell as CellDiff, Link as LinkDiff, Merges as MergesDiff, Lines as LinesDiff}
+use Rattle.sheet_history.specs.declared.field.SheetField.{SheetField}
+use Rattle.sheet_history.specs.declared.field.SheetField.TheVariants as field_value
+use Rattle.sheet_history.specs.declared.field.FieldChange.TheVariants as field_change
+use Rattle.sheet_history.specs.contracts.field.SheetFieldPartialEq.TheImpl as sheet_field
+use Rattle.sheet_history.specs.declared.diff.Diff.TheVariants.{Cell as CellDiff, Link as LinkDiff, Merges as MergesDiff, Field as FieldDiff, Lines as LinesDiff, NewSheet as NewDiff, DuplicateSheet as CopyDiff, DeleteSheet as DeletionDiff, MoveSheet as MoveDiff}
 use Rattle.sheet_history.specs.Entries.{EntryKey, EntryValue, key_cmp, entry_at, frame_of}
-use Rattle.sheet_history.specs.Entries.EntryKey.{CellKey, LinkKey, MergesKey}
-use Rattle.sheet_history.specs.Entries.EntryValue.{CellValue, LinkValue, MergesValue}
+use Rattle.sheet_history.specs.Entries.EntryKey.{CellKey, LinkKey, MergesKey, FieldKey}
+use Rattle.sheet_history.specs.Entries.EntryValue.{CellValue, LinkValue, MergesValue, FieldValue}
+use Rattle.sheet_history.specs.Fields.{all_fields, old_of, new_of, changed_field}
 use Rattle.sheet_history.specs.LineDiffs.{along_of, is_there_inside}
 
 -- whether two entries are equal
@@ -30,6 +35,7 @@ abbrev pub same_entry_value : EntryValue → EntryValue → Bool
 same_entry_value (CellValue a) (CellValue b) = same_entry a b
 same_entry_value (LinkValue a) (LinkValue b) = option_eq link.ghosts.eq a b
 same_entry_value (MergesValue a) (MergesValue b) = pointwise merged.ghosts.eq a b
+same_entry_value (FieldValue a) (FieldValue b) = sheet_field.ghosts.eq a b
 same_entry_value _ _ = false
 
 -- the entry before and after, where they differ
@@ -46,7 +52,12 @@ abbrev pub change_of : Diff → Option Change
 change_of (CellDiff sheet place old new) = Some (CellKey sheet place, (CellValue old, CellValue new))
 change_of (LinkDiff sheet place old new) = Some (LinkKey sheet place, (LinkValue old, LinkValue new))
 change_of (MergesDiff sheet old new) = Some (MergesKey sheet, (MergesValue old, MergesValue new))
+change_of (FieldDiff sheet change) = Some (FieldKey sheet (changed_field change), (FieldValue (old_of change), FieldValue (new_of change)))
 change_of (LinesDiff sheet axis edit kept) = None
+change_of (NewDiff sheet index name) = None
+change_of (CopyDiff source sheet index name) = None
+change_of (DeletionDiff index kept) = None
+change_of (MoveDiff sheet from to) = None
 
 -- a list has, in the order of their keys, exactly the entries in which the later workbook differs from the earlier one, which
 -- differ in nothing else
@@ -57,11 +68,19 @@ pub record IsRecord (earlier later : Book) (diffs : List Diff) : Type 0 where
   pub ordered : IsTrue (fin.is_sorted key_cmp changes)
   pub exact : (key : EntryKey) → fin.find key_cmp key changes ≡ changed_entry (entry_at earlier key) (entry_at later key)
 
+-- the diff of a field: its values are of one field
+abbrev pub field_diff : ℕ → SheetField → SheetField → List Diff
+field_diff sheet (field_value.State old) (field_value.State new) = FieldDiff sheet (field_change.State old new) ∷ []
+field_diff sheet (field_value.Color old) (field_value.Color new) = FieldDiff sheet (field_change.Color old new) ∷ []
+field_diff sheet (field_value.GridLines old) (field_value.GridLines new) = FieldDiff sheet (field_change.GridLines old new) ∷ []
+field_diff _ _ _ = []
+
 -- the diff of a change: its values are of its key's kind
 abbrev pub diff_of : EntryKey → EntryValue → EntryValue → List Diff
 diff_of (CellKey sheet place) (CellValue old) (CellValue new) = CellDiff sheet place old new ∷ []
 diff_of (LinkKey sheet place) (LinkValue old) (LinkValue new) = LinkDiff sheet place old new ∷ []
 diff_of (MergesKey sheet) (MergesValue old) (MergesValue new) = MergesDiff sheet old new ∷ []
+diff_of (FieldKey sheet field) (FieldValue old) (FieldValue new) = field_diff sheet old new
 diff_of _ _ _ = []
 
 -- the record of one entry: its change, or nothing where it stays
@@ -89,9 +108,13 @@ OfLineEdits Holds = (axis : LineAxis) (e : EditKind) (id : ℕ) (book : Book) �
 
 -- ---- the record as a function of two workbooks
 
+-- the keys of what each sheet has once
+abbrev pub single_keys : ℕ → List EntryKey
+single_keys id = MergesKey id ∷ map (FieldKey id) all_fields
+
 -- the keys of all that a sheet has
 abbrev pub sheet_keys : Sheet → List EntryKey
-sheet_keys sheet = map (CellKey sheet.id) (fin.keys sheet.cells) ++ map (LinkKey sheet.id) (fin.keys sheet.links) ++ MergesKey sheet.id ∷ []
+sheet_keys sheet = map (CellKey sheet.id) (fin.keys sheet.cells) ++ map (LinkKey sheet.id) (fin.keys sheet.links) ++ single_keys sheet.id
 
 -- and of all that a workbook has
 abbrev pub book_keys : Book → List EntryKey

@@ -1,4 +1,4 @@
--- Lists whose results need no test: nothing, one link, or one cell that cannot break a rule.
+-- Lists whose results need no test: nothing, one link, one field of a sheet, or one cell that cannot break a rule.
 use Rattle.std.proofs.Common.{Bool, true, false, ◌&&◌, List, [], ◌∷◌, Option, Some, None}
 use Rattle.std.specs.Prelude.{is_none}
 use Rattle.base_values.specs.declared.Position.{Position}
@@ -9,8 +9,10 @@ use Rattle.sheet_grid.specs.Book.{Book}
 use Rattle.sheet_rules.specs.Occupied.{may_stand}
 use Rattle.sheet_rules.specs.WellFormed.{has_font}
 use Rattle.sheet_lines.specs.Sheets.{sheet_of}
+use Rattle.sheet_history.specs.declared.diff.DiffType.{DiffType}
+use Rattle.sheet_history.specs.declared.diff.DiffType.TheVariants.{Undo, Redo}
 use Rattle.sheet_history.specs.declared.diff.Diff.{Diff}
-use Rattle.sheet_history.specs.declared.diff.Diff.TheVariants.{Cell as CellDiff, Link as LinkDiff, Merges as MergesDiff, Lines as LinesDiff}
+use Rattle.sheet_history.specs.declared.diff.Diff.TheVariants.{Cell as CellDiff, Link as LinkDiff, Merges as MergesDiff, Field as FieldDiff, Lines as LinesDiff, NewSheet as NewDiff, DuplicateSheet as CopyDiff, DeleteSheet as DeletionDiff, MoveSheet as MoveDiff}
 
 -- what is put, a cell or none, has a font of at least size 1
 abbrev pub entry_has_font : Option Cell → Bool
@@ -31,20 +33,25 @@ may_stand_on (Some sheet) place entry = may_stand sheet place entry
 abbrev pub cell_keeps_rules : Option Sheet → Position → Option Cell → Bool
 cell_keeps_rules sheet place entry = entry_has_font entry && may_stand_on sheet place entry
 
--- a list that, made in a well-formed workbook, leaves one for sure
-abbrev pub keeps_rules : Book → List Diff → Bool
-keeps_rules book [] = true
-keeps_rules book (CellDiff id place old new ∷ []) = cell_keeps_rules (sheet_of book id) place new
-keeps_rules book (LinkDiff id place old new ∷ []) = true
-keeps_rules book (MergesDiff id old new ∷ []) = false
-keeps_rules book (LinesDiff id axis edit kept ∷ []) = false
-keeps_rules book (first ∷ second ∷ rest) = false
+-- of what stood at a place and what stands there then, what is put where a list is followed
+abbrev pub put_by : DiffType → Option Cell → Option Cell → Option Cell
+put_by Undo old new = old
+put_by Redo old new = new
 
--- and one that leaves one for sure where it is taken back
-abbrev pub keeps_rules_back : Book → List Diff → Bool
-keeps_rules_back book [] = true
-keeps_rules_back book (CellDiff id place old new ∷ []) = cell_keeps_rules (sheet_of book id) place old
-keeps_rules_back book (LinkDiff id place old new ∷ []) = true
-keeps_rules_back book (MergesDiff id old new ∷ []) = false
-keeps_rules_back book (LinesDiff id axis edit kept ∷ []) = false
-keeps_rules_back book (first ∷ second ∷ rest) = false
+-- a diff that, followed in a well-formed workbook, leaves one for sure
+abbrev pub diff_keeps_rules : DiffType → Book → Diff → Bool
+diff_keeps_rules kind book (CellDiff id place old new) = cell_keeps_rules (sheet_of book id) place (put_by kind old new)
+diff_keeps_rules kind book (LinkDiff id place old new) = true
+diff_keeps_rules kind book (MergesDiff id old new) = false
+diff_keeps_rules kind book (FieldDiff id change) = true
+diff_keeps_rules kind book (LinesDiff id axis edit kept) = false
+diff_keeps_rules kind book (NewDiff id index name) = false
+diff_keeps_rules kind book (CopyDiff source id index name) = false
+diff_keeps_rules kind book (DeletionDiff index kept) = false
+diff_keeps_rules kind book (MoveDiff id from to) = false
+
+-- a list that does: it is empty, or has one such diff
+abbrev pub keeps_rules : DiffType → Book → List Diff → Bool
+keeps_rules kind book [] = true
+keeps_rules kind book (diff ∷ []) = diff_keeps_rules kind book diff
+keeps_rules kind book (first ∷ second ∷ rest) = false

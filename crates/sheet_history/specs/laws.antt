@@ -1,4 +1,7 @@
+pub mod Depth
 pub mod DiffEquals
+pub mod FieldEquals
+pub mod FieldLaws
 pub mod Entries
 pub mod EntryLaws
 pub mod PutLaws

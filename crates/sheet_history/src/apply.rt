@@ -1,18 +1,21 @@
 ghost use Rattle.std.specs.Prelude.{◌≡◌, IfSome, OnOk, Ok};
 ghost use Rattle.base_values.specs.Answers.{Answers, Edits};
-ghost use Rattle.sheet_grid.specs.KeptCell.{IsKeptCell};
+ghost use Rattle.sheet_grid.specs.CanonicalCell.{IsCanonicalCell};
 ghost use Rattle.line_edits.specs.declared.EditKind.{EditKind};
 ghost use Rattle.sheet_rules.specs.WellFormed.{IsWellFormed, broken_rule};
-ghost use Rattle.sheet_lines.specs.KeptNumbers.{AreKeptLines};
+ghost use Rattle.sheet_lines.specs.CanonicalNumbers.{AreCanonicalLines};
 ghost use Rattle.sheet_lines.specs.Sheets.{IsPlacedBook};
 ghost use Rattle.sheet_history.specs.LineDiffs.{along_of, lines_back, lines_forward};
-ghost use Rattle.sheet_history.specs.Diffs.{IsKeptDiff, IsKeptList, backed, by_rule, forwarded, made, step_back, step_forward, taken_back};
+ghost use Rattle.sheet_history.specs.Diffs.{IsCanonicalDiff, IsCanonicalList, book_before, by_rule, book_after, untested_after, step_back, step_forward, untested_before};
 
 use crate::diff::{Diff, DiffList, LineAxis};
 use crate::line_diffs::{lines_back, lines_forward};
-use crate::put::{put_cell, put_link, put_merges};
+use crate::put::{put_cell, put_field, put_link, put_merges};
 use base_axis::{ColumnAxis, RowAxis};
 use base_values::{EditError, copy_of};
+use book_sheets::{
+    copy_back, copy_forward, deletion_back, deletion_forward, new_back, new_forward, sheet_moves,
+};
 use line_map::{EditKind, LineEdit};
 use sheet_grid::Workbook;
 use sheet_lines::KeptLines;
@@ -56,7 +59,7 @@ fn edit_back(
     at: u64,
 ) -> Result<(), EditError>
     requires placed { IsPlacedBook workbook.old }
-    requires kept { AreKeptLines kept.now }
+    requires canonical { AreCanonicalLines kept.now }
     ensures edits { Edits result workbook.old workbook.new (lines_back at (along_of axis) id kind kept.now workbook.old) }
     ensures placed { OnOk result (IsPlacedBook workbook.new) }
 {
@@ -73,13 +76,8 @@ fn edit_back(
 }
 
 /// Makes a diff's change. `at` is its number in its list.
-fn apply_forward(
-    alloc: Global,
-    workbook: &mut Workbook,
-    diff: &Diff,
-    at: u64,
-) -> Result<(), EditError>
-    requires kept { IsKeptDiff diff.now }
+fn make(alloc: Global, workbook: &mut Workbook, diff: &Diff, at: u64) -> Result<(), EditError>
+    requires canonical { IsCanonicalDiff diff.now }
     requires placed { IsPlacedBook workbook.old }
     ensures edits { Edits result workbook.old workbook.new (step_forward at workbook.old diff.now) }
     ensures placed { OnOk result (IsPlacedBook workbook.new) }
@@ -98,18 +96,30 @@ fn apply_forward(
             new,
         } => put_link(workbook, *sheet, *position, new, at),
         Diff::Merges { sheet, old: _, new } => put_merges(workbook, *sheet, new, at),
+        Diff::Field { sheet, change } => put_field(workbook, *sheet, change.new_value(), at),
         Diff::Lines {
             sheet,
             axis,
             edit,
             kept,
         } => edit_forward(alloc, workbook, *sheet, *axis, *edit, kept.get(), at),
+        Diff::NewSheet { sheet, index, name } => {
+            new_forward(alloc, workbook, *sheet, *index, name.as_str(), at)
+        }
+        Diff::DuplicateSheet {
+            source,
+            sheet,
+            index,
+            name,
+        } => copy_forward(workbook, *source, *sheet, *index, name.as_str(), at),
+        Diff::DeleteSheet { index: _, kept } => deletion_forward(alloc, workbook, kept.get(), at),
+        Diff::MoveSheet { sheet, from, to } => sheet_moves(workbook, *sheet, *from, *to, at),
     }
 }
 
 /// Takes a diff's change back. `at` is its number in its list.
-fn apply_back(alloc: Global, workbook: &mut Workbook, diff: &Diff, at: u64) -> Result<(), EditError>
-    requires kept { IsKeptDiff diff.now }
+fn take_back(alloc: Global, workbook: &mut Workbook, diff: &Diff, at: u64) -> Result<(), EditError>
+    requires canonical { IsCanonicalDiff diff.now }
     requires placed { IsPlacedBook workbook.old }
     ensures edits { Edits result workbook.old workbook.new (step_back at workbook.old diff.now) }
     ensures placed { OnOk result (IsPlacedBook workbook.new) }
@@ -128,38 +138,43 @@ fn apply_back(alloc: Global, workbook: &mut Workbook, diff: &Diff, at: u64) -> R
             new: _,
         } => put_link(workbook, *sheet, *position, old, at),
         Diff::Merges { sheet, old, new: _ } => put_merges(workbook, *sheet, old, at),
+        Diff::Field { sheet, change } => put_field(workbook, *sheet, change.old_value(), at),
         Diff::Lines {
             sheet,
             axis,
             edit,
             kept,
         } => edit_back(alloc, workbook, *sheet, *axis, *edit, kept.get(), at),
+        Diff::NewSheet { sheet, .. } => new_back(workbook, *sheet, at),
+        Diff::DuplicateSheet { sheet, .. } => copy_back(alloc, workbook, *sheet, at),
+        Diff::DeleteSheet { index, kept } => deletion_back(workbook, *index, kept.get(), at),
+        Diff::MoveSheet { sheet, from, to } => sheet_moves(workbook, *sheet, *to, *from, at),
     }
 }
 
 /// The workbook with the changes of a list made in order.
 fn made(alloc: Global, workbook: &Workbook, list: &DiffList) -> Result<Workbook, EditError>
-    requires kept { IsKeptList list.now }
+    requires canonical { IsCanonicalList list.now }
     requires placed { IsPlacedBook workbook.now }
-    ensures { Answers result (made workbook.now list.now) }
+    ensures { Answers result (untested_after workbook.now list.now) }
 {
     let mut next = copy_of(workbook)?;
     for (index, diff) in list.get().as_slice().iter().enumerate() {
-        apply_forward(alloc, &mut next, diff, index as u64)?;
+        make(alloc, &mut next, diff, index as u64)?;
     }
     Ok(next)
 }
 
 /// The workbook with the changes of a list taken back, the last one first.
 fn taken_back(alloc: Global, workbook: &Workbook, list: &DiffList) -> Result<Workbook, EditError>
-    requires kept { IsKeptList list.now }
+    requires canonical { IsCanonicalList list.now }
     requires placed { IsPlacedBook workbook.now }
-    ensures { Answers result (taken_back workbook.now list.now) }
+    ensures { Answers result (untested_before workbook.now list.now) }
 {
     let diffs = list.get().as_slice();
     let mut next = copy_of(workbook)?;
     for index in (0..diffs.len()).rev() {
-        apply_back(alloc, &mut next, &diffs[index], index as u64)?;
+        take_back(alloc, &mut next, &diffs[index], index as u64)?;
     }
     Ok(next)
 }
@@ -181,11 +196,11 @@ fn by_rule(workbook: Workbook, at: u64) -> Result<Workbook, EditError>
 /// `DiffRefused` with entry 0 and the number of the first diff that cannot be made; where each can,
 /// but the result breaks a rule, with the number of diffs. A cell cannot be put where its sheet is
 /// not there, its position is outside, or it may not stand there. docs/MODEL.md says when lines can
-/// be inserted, deleted and moved.
+/// be inserted, deleted and moved, and when a sheet can come, go and move.
 pub fn forward(alloc: Global, workbook: &Workbook, list: &DiffList) -> Result<Workbook, EditError>
-    requires kept { IsKeptList list.now }
+    requires canonical { IsCanonicalList list.now }
     requires rules { IsWellFormed workbook.now }
-    ensures { Answers result (forwarded workbook.now list.now) }
+    ensures { Answers result (book_after workbook.now list.now) }
 {
     let next = made(alloc, workbook, list)?;
     by_rule(next, list.get().as_slice().len() as u64)
@@ -196,9 +211,9 @@ pub fn forward(alloc: Global, workbook: &Workbook, list: &DiffList) -> Result<Wo
 /// `DiffRefused` as `forward` answers it, of the old cells and of lines that cannot be taken back,
 /// with the number of the first diff that it comes to.
 pub fn back(alloc: Global, workbook: &Workbook, list: &DiffList) -> Result<Workbook, EditError>
-    requires kept { IsKeptList list.now }
+    requires canonical { IsCanonicalList list.now }
     requires rules { IsWellFormed workbook.now }
-    ensures { Answers result (backed workbook.now list.now) }
+    ensures { Answers result (book_before workbook.now list.now) }
 {
     let before = taken_back(alloc, workbook, list)?;
     by_rule(before, list.get().as_slice().len() as u64)
@@ -211,13 +226,13 @@ pub fn forward_in_place(
     workbook: &mut Workbook,
     list: &DiffList,
 ) -> Result<(), EditError>
-    requires kept { IsKeptList list.now }
+    requires canonical { IsCanonicalList list.now }
     requires rules { IsWellFormed workbook.old }
-    ensures { Edits result workbook.old workbook.new (made workbook.old list.now) }
+    ensures { Edits result workbook.old workbook.new (untested_after workbook.old list.now) }
 {
     match list.get().as_slice() {
         [] => Ok(()),
-        [diff] => apply_forward(alloc, workbook, diff, 0),
+        [diff] => make(alloc, workbook, diff, 0),
         _ => {
             *workbook = made(alloc, workbook, list)?;
             Ok(())
@@ -232,13 +247,13 @@ pub fn back_in_place(
     workbook: &mut Workbook,
     list: &DiffList,
 ) -> Result<(), EditError>
-    requires kept { IsKeptList list.now }
+    requires canonical { IsCanonicalList list.now }
     requires rules { IsWellFormed workbook.old }
-    ensures { Edits result workbook.old workbook.new (taken_back workbook.old list.now) }
+    ensures { Edits result workbook.old workbook.new (untested_before workbook.old list.now) }
 {
     match list.get().as_slice() {
         [] => Ok(()),
-        [diff] => apply_back(alloc, workbook, diff, 0),
+        [diff] => take_back(alloc, workbook, diff, 0),
         _ => {
             *workbook = taken_back(alloc, workbook, list)?;
             Ok(())

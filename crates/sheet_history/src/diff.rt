@@ -1,6 +1,8 @@
+use crate::field::FieldChange;
 use base_axis::MergeList;
 use base_shared::Shared;
-use base_values::{Exact, Items, Position};
+use base_values::{Exact, Items, Position, Text};
+use book_sheets::KeptSheet;
 use line_map::EditKind;
 use sheet_grid::{Cell, Link};
 use sheet_lines::KeptLines;
@@ -35,6 +37,11 @@ pub enum Diff {
         old: MergeList,
         new: MergeList,
     },
+    /// A field of the sheet with that id.
+    Field {
+        sheet: u32,
+        change: FieldChange,
+    },
     /// Lines along an axis that were inserted in the sheet with that id, deleted from it or moved,
     /// and what the opposite edit does not give back.
     Lines {
@@ -42,6 +49,30 @@ pub enum Diff {
         axis: LineAxis,
         edit: EditKind,
         kept: Shared<KeptLines>,
+    },
+    /// An empty sheet of that id and name, which came at an index.
+    NewSheet {
+        sheet: u32,
+        index: u32,
+        name: Text,
+    },
+    /// A copy, of that id and name, of the sheet of another id, which came at an index.
+    DuplicateSheet {
+        source: u32,
+        sheet: u32,
+        index: u32,
+        name: Text,
+    },
+    /// A sheet that went from an index, with the names that were known in it alone.
+    DeleteSheet {
+        index: u32,
+        kept: Shared<KeptSheet>,
+    },
+    /// The sheet of that id, which was taken from an index to another one.
+    MoveSheet {
+        sheet: u32,
+        from: u32,
+        to: u32,
     },
 }
 

@@ -4,8 +4,8 @@ ghost use Rattle.sheet_grid.specs.Merges.{is_empty};
 ghost use Rattle.sheet_rules.specs.Occupied.{may_stand};
 ghost use Rattle.sheet_rules.specs.WellFormed.{IsWellFormed};
 ghost use Rattle.sheet_lines.specs.Sheets.{sheet_of};
-ghost use Rattle.sheet_history.specs.Diffs.{IsKeptList, backed, follow, forwarded};
-ghost use Rattle.sheet_history.specs.Untested.{cell_keeps_rules, entry_has_font, is_no_array, keeps_rules, keeps_rules_back, may_stand_on};
+ghost use Rattle.sheet_history.specs.Diffs.{IsCanonicalList, book_before, follow, book_after};
+ghost use Rattle.sheet_history.specs.Untested.{cell_keeps_rules, entry_has_font, is_no_array, diff_keeps_rules, keeps_rules, may_stand_on};
 
 use crate::apply::{back, back_in_place, forward, forward_in_place};
 use crate::diff::{Diff, DiffList, DiffType};
@@ -80,53 +80,44 @@ fn cell_keeps_rules(
     has_font(entry) && may_stand_on(workbook, id, place, entry)
 }
 
-/// Whether a list, made in a well-formed workbook, leaves one for sure.
-fn keeps_rules(workbook: &Workbook, list: &DiffList) -> bool
-    ensures { result ≡ keeps_rules workbook.now list.now }
+/// Whether a diff, followed in a well-formed workbook, leaves one for sure.
+fn diff_keeps_rules(workbook: &Workbook, kind: DiffType, diff: &Diff) -> bool
+    ensures { result ≡ diff_keeps_rules kind workbook.now diff.now }
 {
-    match list.get().as_slice() {
-        [] => true,
-        [diff] => match diff {
-            Diff::Cell {
-                sheet,
-                position,
-                old: _,
-                new,
-            } => cell_keeps_rules(workbook, *sheet, *position, new),
-            Diff::Link { .. } => true,
-            _ => false,
+    match diff {
+        Diff::Cell {
+            sheet,
+            position,
+            old,
+            new,
+        } => match kind {
+            DiffType::Undo => cell_keeps_rules(workbook, *sheet, *position, old),
+            DiffType::Redo => cell_keeps_rules(workbook, *sheet, *position, new),
         },
+        Diff::Link { .. } => true,
+        Diff::Field { .. } => true,
         _ => false,
     }
 }
 
-/// Whether a list, taken back in a well-formed workbook, leaves one for sure.
-fn keeps_rules_back(workbook: &Workbook, list: &DiffList) -> bool
-    ensures { result ≡ keeps_rules_back workbook.now list.now }
+/// Whether a list does: it is empty, or has one such diff.
+fn keeps_rules(workbook: &Workbook, kind: DiffType, list: &DiffList) -> bool
+    ensures { result ≡ keeps_rules kind workbook.now list.now }
 {
     match list.get().as_slice() {
         [] => true,
-        [diff] => match diff {
-            Diff::Cell {
-                sheet,
-                position,
-                old,
-                new: _,
-            } => cell_keeps_rules(workbook, *sheet, *position, old),
-            Diff::Link { .. } => true,
-            _ => false,
-        },
+        [diff] => diff_keeps_rules(workbook, kind, diff),
         _ => false,
     }
 }
 
 /// Makes the changes of a list in a well-formed workbook, and tests the result where it has to.
 fn follow_forward(alloc: Global, workbook: &mut Workbook, list: &DiffList) -> Result<(), EditError>
-    requires kept { IsKeptList list.now }
+    requires canonical { IsCanonicalList list.now }
     requires rules { IsWellFormed workbook.old }
-    ensures { Edits result workbook.old workbook.new (forwarded workbook.old list.now) }
+    ensures { Edits result workbook.old workbook.new (book_after workbook.old list.now) }
 {
-    if keeps_rules(workbook, list) {
+    if keeps_rules(workbook, DiffType::Redo, list) {
         return forward_in_place(alloc, workbook, list);
     }
     *workbook = forward(alloc, workbook, list)?;
@@ -136,11 +127,11 @@ fn follow_forward(alloc: Global, workbook: &mut Workbook, list: &DiffList) -> Re
 /// Takes the changes of a list back in a well-formed workbook, and tests the result where it has
 /// to.
 fn follow_back(alloc: Global, workbook: &mut Workbook, list: &DiffList) -> Result<(), EditError>
-    requires kept { IsKeptList list.now }
+    requires canonical { IsCanonicalList list.now }
     requires rules { IsWellFormed workbook.old }
-    ensures { Edits result workbook.old workbook.new (backed workbook.old list.now) }
+    ensures { Edits result workbook.old workbook.new (book_before workbook.old list.now) }
 {
-    if keeps_rules_back(workbook, list) {
+    if keeps_rules(workbook, DiffType::Undo, list) {
         return back_in_place(alloc, workbook, list);
     }
     *workbook = back(alloc, workbook, list)?;
@@ -150,17 +141,17 @@ fn follow_back(alloc: Global, workbook: &mut Workbook, list: &DiffList) -> Resul
 /// Follows a list in its direction, in the well-formed workbook itself, and leaves a well-formed one.
 ///
 /// `DiffRefused` as `forward` and `back` answer it; it and `NoMemory` leave the workbook. Where a test
-/// of the result has to be made the list is followed on a copy. A list of one link needs none, and
-/// neither does one of one cell that has a font, is no array, and has no content or stands at no hidden
-/// place. For such a cell the merges and the arrays of more than one cell of its sheet are looked at,
-/// and no other cell.
+/// of the result has to be made the list is followed on a copy. A list of one link or of one field of a
+/// sheet needs none, and neither does one of one cell that has a font, is no array, and has no content
+/// or stands at no hidden place. For such a cell the merges and the arrays of more than one cell of its
+/// sheet are looked at, and no other cell.
 pub fn follow_in_place(
     alloc: Global,
     workbook: &mut Workbook,
     kind: DiffType,
     list: &DiffList,
 ) -> Result<(), EditError>
-    requires kept { IsKeptList list.now }
+    requires canonical { IsCanonicalList list.now }
     requires rules { IsWellFormed workbook.old }
     ensures { Edits result workbook.old workbook.new (follow kind workbook.old list.now) }
 {

@@ -1,7 +1,7 @@
 ghost use Rattle.std.specs.Prelude.{◌≡◌, ◌∷◌, [], length, IsOk, IsTrue, true, OnOk, OnErr, IfSome, IsOkUnless, MatchOption, Ok};
 ghost use Rattle.base_values.specs.Answers.{Changes};
 ghost use Rattle.base_values.specs.declared.EditError.TheVariants.{NoMemory};
-ghost use Rattle.sheet_history.specs.Diffs.{IsKeptList};
+ghost use Rattle.sheet_history.specs.Diffs.{IsCanonicalList};
 ghost use Rattle.sheet_history.specs.Stacks.{empty_stacks, pushed, undone, redone};
 
 use crate::diff::DiffList;
@@ -9,7 +9,7 @@ use base_values::{EditError, Exact};
 use std::alloc::{AllocError, Global};
 use std::marker::Model;
 
-/// The stacks of undo and redo, of lists of diffs whose numbers are as a sheet keeps them.
+/// The stacks of undo and redo, of lists of diffs whose numbers are canonical.
 #[derive(Drop)]
 pub struct History {
     undo: Vec<DiffList>,
@@ -19,7 +19,7 @@ pub struct History {
 
 impl Model for History {
     ghost use Rattle.std.specs.Prelude.{◌≡◌, ◌-◌, ◌≤◌, IsTrue, All, reverse, vec_capacity, vec_len};
-    ghost use Rattle.sheet_history.specs.Diffs.{IsKeptList};
+    ghost use Rattle.sheet_history.specs.Diffs.{IsCanonicalList};
     ghost use Rattle.sheet_history.specs.Stacks.{Stacks};
     ghost use Rattle.sheet_history.specs.contracts.diff.Diff as diff;
     ghost use Rattle.std.specs.Coded.{codes};
@@ -31,7 +31,7 @@ impl Model for History {
     ghost view = { λ h. record { undo = reverse h.undo.items; redo = reverse h.redo.items; has_room = h.has_room } };
 
     ghost invariant = { λ h.
-        All IsKeptList h.undo.items × All IsKeptList h.redo.items
+        All IsCanonicalList h.undo.items × All IsCanonicalList h.redo.items
         × (IsTrue h.has_room → 1 ≤ vec_capacity h.undo - vec_len h.undo)
         × (IsTrue h.has_room → 1 ≤ vec_capacity h.redo - vec_len h.redo) };
 }
@@ -76,7 +76,7 @@ impl History {
     /// Puts a list on the undo stack and empties the redo stack. `NoMemory` leaves the history as
     /// it was.
     pub fn push(&mut self, list: DiffList) -> Result<(), EditError>
-        requires { IsKeptList list }
+        requires { IsCanonicalList list }
         ensures next { Changes result self.old self.new (Ok (pushed list self.old)) }
         ensures sure { IsTrue self.old.has_room → IsOk result }
     {
@@ -88,7 +88,7 @@ impl History {
 
     /// The newest list to undo.
     pub fn last_undo(&self) -> Option<&DiffList>
-        ensures kept { IfSome result (λ list. IsKeptList list.now) }
+        ensures canonical { IfSome result (λ list. IsCanonicalList list.now) }
         ensures newest { MatchOption result (self.now.undo ≡ []) (λ list. (older : _) × (self.now.undo ≡ list.now ∷ older)) }
     {
         self.undo.last()
@@ -96,7 +96,7 @@ impl History {
 
     /// The newest list to redo.
     pub fn last_redo(&self) -> Option<&DiffList>
-        ensures kept { IfSome result (λ list. IsKeptList list.now) }
+        ensures canonical { IfSome result (λ list. IsCanonicalList list.now) }
         ensures newest { MatchOption result (self.now.redo ≡ []) (λ list. (older : _) × (self.now.redo ≡ list.now ∷ older)) }
     {
         self.redo.last()

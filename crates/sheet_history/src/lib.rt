@@ -6,19 +6,23 @@
 
 mod apply;
 mod diff;
+mod field;
 mod follow;
 mod history;
 mod laws;
 mod line_diffs;
 mod put;
+mod selection;
 
 pub use apply::{back, back_in_place, forward, forward_in_place};
 pub use diff::{Diff, DiffList, DiffType, LineAxis, QueueDiffs};
+pub use field::{FieldChange, SheetField};
 pub use follow::follow_in_place;
 pub use history::History;
 pub use laws::{
     line_records_go_both_ways, records_are_computed, records_are_unique, records_go_both_ways,
 };
+pub use selection::selection_followed;
 
 #[cfg(test)]
 mod tests;

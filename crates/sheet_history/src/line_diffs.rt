@@ -7,25 +7,26 @@ ghost use Rattle.std.specs.FinMap.{entries};
 ghost use Rattle.base_values.specs.Answers.{Edits};
 ghost use Rattle.base_values.specs.Places.{is_line};
 ghost use Rattle.base_values.specs.declared.Position.{Position};
-ghost use Rattle.cell_content.specs.Fitting.{tree_fits_at};
 ghost use Rattle.line_edits.specs.Edit.{IsValid, image_at, opposite_of};
 ghost use Rattle.line_edits.specs.Moves.{place_image};
 ghost use Rattle.sheet_grid.specs.Arrays.{array_at};
-ghost use Rattle.sheet_history.specs.Entries.{lies_inside};
 ghost use Rattle.sheet_grid.specs.declared.Cell.{Cell};
 ghost use Rattle.sheet_rules.specs.WellFormed.{is_place};
 ghost use Rattle.sheet_lines.specs.Back.{ArePlacedLines, LieInside};
-ghost use Rattle.sheet_lines.specs.KeptNumbers.{AreKeptLines};
+ghost use Rattle.sheet_lines.specs.CanonicalNumbers.{AreCanonicalLines};
 ghost use Rattle.sheet_lines.specs.Sheets.{IsPlacedBook, sheet_of};
-ghost use Rattle.sheet_history.specs.LineDiffs.{is_pushed_past, stays_inside, is_there_inside, is_lost_place, is_lost_line, all_keys, stand_on_lost, lie_inside, merges_inside, cells_fit, is_formula, is_formula_at, goes_on, tree_stands, formulas_stand, goes_forward, goes_back, lines_forward, lines_back};
+ghost use Rattle.book_sheets.specs.SheetDiffs.{lies_inside, cells_fit};
+ghost use Rattle.sheet_history.specs.LineDiffs.{is_pushed_past, stays_inside, is_there_inside, is_lost_place, is_lost_line, all_keys};
+ghost use Rattle.sheet_history.specs.LineDiffs.{stand_on_lost, lie_inside, merges_inside, is_formula, is_formula_at, goes_on, tree_stands, formulas_stand};
+ghost use Rattle.sheet_history.specs.LineDiffs.{goes_forward, goes_back, lines_forward, lines_back};
 
-use crate::put::{array_lies_inside, merges_lie_inside};
 use base_axis::{Axis, MergeList};
 use base_maps::{NumberMap, PositionMap, SheetPlaceMap};
 use base_shared::Shared;
 use base_values::{EditError, LAST_COLUMN, LAST_ROW, PlaceMap, Position};
-use cell_content::{fits_at, tree_of};
-use formula_tree::{MAX_DEPTH, Node, has_no_negative_number, is_at_most_deep, is_placed};
+use book_sheets::{array_lies_inside, merges_lie_inside};
+use cell_content::{fits_at, tree_fits_at, tree_of};
+use formula_tree::Node;
 use line_map::{EditKind, LineEdit};
 use sheet_grid::{Cell, Workbook, Worksheet};
 use sheet_lines::{KeptLines, followed_book, line_back, sheet_of};
@@ -168,20 +169,13 @@ fn kept_lies_inside<A: Axis>(edit: &LineEdit<A>, kept: &KeptLines) -> bool
 }
 
 /// Whether the formula of each cell fits its place.
-#[tactic(auto, unfolding(crate::specs::LineDiffs::cells_fit))]
+#[tactic(auto, unfolding(book_sheets::specs::SheetDiffs::cells_fit))]
 fn cells_fit(cells: &PositionMap<Shared<Cell>>) -> bool
     ensures { result ≡ cells_fit cells.now }
 {
     cells
         .iter()
         .all(|(place, cell)| fits_at(*place, &cell.get().content))
-}
-
-#[tactic(auto, using(std::proofs::lemmas::Bool::Decides::nat_tests), unfolding(formula_tree::specs::Depth::is_within, cell_content::specs::Fitting::tree_fits_at))]
-fn tree_fits_at(place: Position, tree: &Node) -> bool
-    ensures { result ≡ tree_fits_at place tree.now }
-{
-    is_placed(tree, place) && is_at_most_deep(tree, MAX_DEPTH) && has_no_negative_number(tree)
 }
 
 fn is_formula(cell: Option<&Shared<Cell>>) -> bool
@@ -334,7 +328,7 @@ pub(crate) fn lines_back<A: Axis>(
     at: u64,
 ) -> Result<(), EditError>
     requires placed { IsPlacedBook workbook.old }
-    requires numbers { AreKeptLines kept.now }
+    requires numbers { AreCanonicalLines kept.now }
     ensures edits { Edits result workbook.old workbook.new (lines_back at A.along id edit.now.kind kept.now workbook.old) }
     ensures placed { OnOk result (IsPlacedBook workbook.new) }
 {

@@ -1,47 +1,23 @@
-//! Entries of a workbook: a cell, a link and the merges of a sheet, put by the id of their sheet.
+//! Entries of a workbook: a cell, a link, the merges and a field of a sheet, put by the id of their
+//! sheet.
 
-ghost use Rattle.std.specs.Prelude.{◌≡◌, IfOk, IfSome, IsOkUnless, OnOk};
-ghost use Rattle.std.specs.List.{list_all};
-ghost use Rattle.base_axis.specs.Rectangles.{is_inside};
+ghost use Rattle.std.specs.Prelude.{◌≡◌, IfSome, OnOk};
 ghost use Rattle.base_values.specs.Answers.{Edits};
-ghost use Rattle.base_values.specs.declared.EditError.TheVariants.{NoMemory};
-ghost use Rattle.sheet_grid.specs.Arrays.{array_at};
-ghost use Rattle.sheet_grid.specs.Book.{index_of};
-ghost use Rattle.sheet_grid.specs.KeptCell.{IsKeptCell};
+ghost use Rattle.sheet_grid.specs.CanonicalCell.{IsCanonicalCell};
 ghost use Rattle.sheet_lines.specs.Sheets.{IsPlacedBook};
-ghost use Rattle.sheet_history.specs.Entries.{cell_stands_at, lies_inside};
-ghost use Rattle.sheet_history.specs.Entries.EntryKey.{CellKey, LinkKey, MergesKey};
-ghost use Rattle.sheet_history.specs.Entries.EntryValue.{CellValue, LinkValue, MergesValue};
+ghost use Rattle.sheet_history.specs.Entries.{cell_stands_at};
+ghost use Rattle.sheet_history.specs.Entries.EntryKey.{CellKey, LinkKey, MergesKey, FieldKey};
+ghost use Rattle.sheet_history.specs.Entries.EntryValue.{CellValue, LinkValue, MergesValue, FieldValue};
+ghost use Rattle.sheet_history.specs.Fields.{field_of, with_field};
 ghost use Rattle.sheet_history.specs.Diffs.{put_in, sheet_put};
 
-use base_axis::{MergeList, MergedCell};
+use crate::field::SheetField;
+use base_axis::MergeList;
 use base_shared::Shared;
 use base_values::{EditError, Position, copy_of};
+use book_sheets::{array_lies_inside, merges_lie_inside, sheet_index};
 use cell_content::fits_at;
-use sheet_grid::{Cell, Link, Workbook, Worksheet, array_at};
-
-fn lies_inside(rectangle: Option<MergedCell>) -> bool
-    ensures { result ≡ lies_inside rectangle }
-{
-    match rectangle {
-        Some(rectangle) => rectangle.is_inside(),
-        None => true,
-    }
-}
-
-/// Whether an array, if the cell is one, lies inside the sheet.
-pub(crate) fn array_lies_inside(place: Position, cell: &Cell) -> bool
-    ensures { result ≡ lies_inside (array_at place cell.now.content) }
-{
-    lies_inside(array_at(place, &cell.content))
-}
-
-/// Whether each merge lies inside the sheet.
-pub(crate) fn merges_lie_inside(merges: &MergeList) -> bool
-    ensures { result ≡ list_all is_inside merges.now }
-{
-    merges.as_slice().iter().all(|merge| merge.is_inside())
-}
+use sheet_grid::{Cell, Link, Workbook, Worksheet};
 
 /// Whether what is put at a place, a cell or none, may stand there.
 fn cell_stands_at(place: Position, entry: &Option<Shared<Cell>>) -> bool
@@ -55,30 +31,6 @@ fn cell_stands_at(place: Position, entry: &Option<Shared<Cell>>) -> bool
     }
 }
 
-fn index_of(workbook: &Workbook, id: u32) -> Option<usize>
-    ensures { result ≡ index_of workbook.now id }
-{
-    workbook
-        .worksheets()
-        .iter()
-        .position(|sheet| sheet.get_sheet_id() == id)
-}
-
-/// The index of the first sheet of an id. One that 32 bits do not count is not found for want of
-/// memory, since no machine holds so many sheets.
-fn sheet_index(workbook: &Workbook, id: u32) -> Result<Option<u32>, EditError>
-    ensures index { IfOk result (λ index. index ≡ index_of workbook.now id) }
-    ensures only { IsOkUnless result NoMemory }
-{
-    match index_of(workbook, id) {
-        Some(index) => match u32::try_from(index) {
-            Ok(index) => Ok(Some(index)),
-            Err(_) => Err(EditError::NoMemory),
-        },
-        None => Ok(None),
-    }
-}
-
 /// Puts a cell, or none, at a place of a sheet, where it may stand there.
 #[tactic(auto, unfolding(base_values::specs::Places::place_of))]
 fn put_cell_in(
@@ -87,7 +39,7 @@ fn put_cell_in(
     entry: &Option<Shared<Cell>>,
     at: u64,
 ) -> Result<(), EditError>
-    requires { IfSome entry.now IsKeptCell }
+    requires { IfSome entry.now IsCanonicalCell }
     ensures { Edits result sheet.old sheet.new (sheet_put at (CellKey sheet.old.id place) (CellValue entry.now) sheet.old) }
 {
     let refused = EditError::DiffRefused { entry: 0, diff: at };
@@ -129,6 +81,17 @@ fn put_merges_in(sheet: &mut Worksheet, merges: &MergeList, at: u64) -> Result<(
     Ok(())
 }
 
+/// Puts a value in its field of a sheet.
+fn put_field_in(sheet: &mut Worksheet, value: SheetField)
+    ensures { sheet.new ≡ with_field (field_of value) value sheet.old }
+{
+    match value {
+        SheetField::State(state) => sheet.set_state(state),
+        SheetField::Color(color) => sheet.set_color(&color),
+        SheetField::GridLines(drawn) => sheet.set_show_grid_lines(drawn),
+    }
+}
+
 /// Puts a cell, or none, at a place of the sheet of an id, where it may stand there. `at` is the
 /// number of its diff.
 pub(crate) fn put_cell(
@@ -138,7 +101,7 @@ pub(crate) fn put_cell(
     entry: &Option<Shared<Cell>>,
     at: u64,
 ) -> Result<(), EditError>
-    requires kept { IfSome entry.now IsKeptCell }
+    requires canonical { IfSome entry.now IsCanonicalCell }
     requires placed { IsPlacedBook workbook.old }
     ensures edits { Edits result workbook.old workbook.new (put_in at workbook.old (CellKey id place) (CellValue entry.now)) }
     ensures placed { OnOk result (IsPlacedBook workbook.new) }
@@ -186,4 +149,23 @@ pub(crate) fn put_merges(
     };
     let sheet = workbook.worksheet_mut(index)?;
     put_merges_in(sheet, merges, at)
+}
+
+/// Puts a value in its field of the sheet of an id. `at` is the number of its diff.
+pub(crate) fn put_field(
+    workbook: &mut Workbook,
+    id: u32,
+    value: SheetField,
+    at: u64,
+) -> Result<(), EditError>
+    requires { IsPlacedBook workbook.old }
+    ensures edits { Edits result workbook.old workbook.new (put_in at workbook.old (FieldKey id (field_of value)) (FieldValue value)) }
+    ensures placed { OnOk result (IsPlacedBook workbook.new) }
+{
+    let Some(index) = sheet_index(workbook, id)? else {
+        return Err(EditError::DiffRefused { entry: 0, diff: at });
+    };
+    let sheet = workbook.worksheet_mut(index)?;
+    put_field_in(sheet, value);
+    Ok(())
 }

@@ -1,7 +1,7 @@
 pub mod Sheets
 pub mod Followed
 pub mod Kept
-pub mod KeptNumbers
+pub mod CanonicalNumbers
 pub mod Entries
 pub mod Back
 pub mod laws

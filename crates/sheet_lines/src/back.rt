@@ -8,7 +8,7 @@ ghost use Rattle.line_map.specs.Merges.{MergesLie};
 ghost use Rattle.line_map.specs.Way.{back, way};
 ghost use Rattle.sheet_lines.specs.Back.{LieInside, ArePlacedLines, with_lost, merges_back, sheet_back, book_back};
 ghost use Rattle.sheet_lines.specs.Followed.{way_on};
-ghost use Rattle.sheet_lines.specs.KeptNumbers.{AreKeptLines};
+ghost use Rattle.sheet_lines.specs.CanonicalNumbers.{AreCanonicalLines};
 ghost use Rattle.sheet_lines.specs.Sheets.{sheet_of, IsPlacedSheet, IsPlacedBook};
 
 use crate::edited_sheet::EditedSheet;
@@ -100,6 +100,7 @@ fn lines_back<A: Axis, B: Axis, M: LineMap<A>>(
     if !route.is_edited || !A::of(B::of(true, false), B::of(false, true)) {
         return copy_of(lines);
     }
+    // For the proof: what lies inside.
     lines_inside(lines);
     lines.restore(alloc, route, &kept.lines)
 }
@@ -133,7 +134,7 @@ fn sheet_back<A: Axis, M: LineMap<A>>(
     sheet: &Worksheet,
 ) -> Result<Worksheet, EditError>
     requires placed { IsPlacedSheet sheet.now }
-    requires numbers { AreKeptLines kept.now }
+    requires numbers { AreCanonicalLines kept.now }
     requires inside { LieInside A.along kept.now }
     ensures sheet { IfOk result (λ made. made ≡ sheet_back (way_on edited.now sheet.now) kept.now sheet.now) }
     ensures only { IsOkUnless result NoMemory }
@@ -141,6 +142,7 @@ fn sheet_back<A: Axis, M: LineMap<A>>(
     let route = route_on(edited, sheet);
     let (formulas, id) = (&kept.formulas, sheet.get_sheet_id());
     let (cells, links) = (sheet.cell_map(), sheet.link_map());
+    // For the proof: what lies inside.
     places_inside(cells);
     places_inside(links);
     let cells = map_back(
@@ -164,7 +166,7 @@ fn sheets_back<A: Axis, M: LineMap<A>>(
     sheets: &[Worksheet],
 ) -> Result<Items<Worksheet>, EditError>
     requires placed { AllByRecursion IsPlacedSheet sheets.now }
-    requires numbers { AreKeptLines kept.now }
+    requires numbers { AreCanonicalLines kept.now }
     requires inside { LieInside A.along kept.now }
     ensures sheets { IfOk result (λ made. made ≡ map (λ sheet. sheet_back (way_on edited.now sheet) kept.now sheet) sheets.now) }
     ensures only { IsOkUnless result NoMemory }
@@ -190,7 +192,7 @@ pub fn line_back<A: Axis>(
     requires valid { IsValid A.along.last edit.now.kind }
     requires there { IsTrue (is_some (sheet_of workbook.now sheet_id)) }
     requires placed { IsPlacedBook workbook.now }
-    requires numbers { AreKeptLines kept.now }
+    requires numbers { AreCanonicalLines kept.now }
     requires inside { LieInside A.along kept.now }
     ensures workbook { IfOk result (λ made. made ≡ book_back A.along edit.now.kind sheet_id kept.now workbook.now) }
     ensures placed { ArePlacedLines kept.now → IfOk result IsPlacedBook }

@@ -4,18 +4,18 @@ ghost use Rattle.line_edits.specs.Edit.{IsValid};
 ghost use Rattle.sheet_lines.specs.Back.{LieInside};
 ghost use Rattle.sheet_lines.specs.Followed.{book_followed};
 ghost use Rattle.sheet_lines.specs.Kept.{first_lost, formulas_kept, kept_lines, lines_kept};
-ghost use Rattle.sheet_lines.specs.KeptNumbers.{AreKeptFormulas, AreKeptLines};
+ghost use Rattle.sheet_lines.specs.CanonicalNumbers.{AreCanonicalFormulas, AreCanonicalLines};
 ghost use Rattle.sheet_lines.specs.Sheets.{sheet_of, name_of, IsPlacedBook};
 
 use crate::edited_sheet::EditedSheet;
 use crate::followed::{KeptOfCells, edited_by, followed_with_kept};
 use crate::inside::{lines_inside, places_inside};
-use crate::keeping::lost_attributes;
+use crate::keeping::{lost_attributes, lost_links};
 use crate::kept::KeptLines;
 use crate::sheets::{route_on, sheet_of};
 use base_axis::Axis;
 use base_values::EditError;
-use line_map::{Follower, LineEdit, LineMap, lost_places};
+use line_map::{Follower, LineEdit, LineMap};
 use sheet_grid::Workbook;
 use std::alloc::Global;
 
@@ -31,24 +31,23 @@ fn kept_lines<A: Axis, M: LineMap<A>>(
     requires placed { IsPlacedBook workbook.now }
     requires lost { cells.lost ≡ first_lost A.along (M.moves edited.now.map.now) edited.now.id workbook.now.worksheets }
     requires formulas { cells.formulas ≡ formulas_kept A.along (M.moves edited.now.map.now) edited.now.id edited.now.name.now workbook.now.worksheets }
-    requires kept_numbers { AreKeptFormulas cells.formulas }
+    requires canonical { AreCanonicalFormulas cells.formulas }
     ensures kept { IfOk result (λ kept. kept ≡ lines_kept A.along (M.moves edited.now.map.now) edited.now.id workbook.now) }
-    ensures numbers { IfOk result AreKeptLines }
+    ensures numbers { IfOk result AreCanonicalLines }
     ensures inside { IfOk result (LieInside A.along) }
     ensures only { IsOkUnless result NoMemory }
 {
     let Some(sheet) = sheet_of(workbook, edited.id) else {
         unreachable!()
     };
-    let route = route_on(edited, sheet);
-    let links = sheet.link_map();
+    // For the proof: what lies inside.
     places_inside(sheet.cell_map());
-    places_inside(links);
+    places_inside(sheet.link_map());
     lines_inside(sheet.row_map());
     lines_inside(sheet.column_map());
-    let links = lost_places(alloc, &route, links)?;
+    let links = lost_links(alloc, edited, sheet)?;
     let lines = lost_attributes(alloc, edited, sheet)?;
-    let merges = sheet.merge_list().part(alloc, &route)?;
+    let merges = sheet.merge_list().part(alloc, &route_on(edited, sheet))?;
     Ok(KeptLines {
         cells: cells.lost.unwrap(),
         links,
@@ -74,7 +73,7 @@ pub fn line_edit<A: Axis>(
     ensures workbook { IfOk result (λ made. made.0 ≡ book_followed A.along edit.now.kind sheet_id workbook.now) }
     ensures placed { IfOk result (λ made. IsPlacedBook made.0) }
     ensures kept { IfOk result (λ made. made.1 ≡ kept_lines A.along edit.now.kind sheet_id workbook.now) }
-    ensures numbers { IfOk result (λ made. AreKeptLines made.1) }
+    ensures numbers { IfOk result (λ made. AreCanonicalLines made.1) }
     ensures inside { IfOk result (λ made. LieInside A.along made.1) }
     ensures only { IsOkUnless result NoMemory }
 {

@@ -7,10 +7,10 @@ ghost use Rattle.base_maps.specs.Carried.{lost_map};
 ghost use Rattle.base_maps.specs.Tagged.{put_under};
 ghost use Rattle.line_edits.specs.Edit.{IsValid, opposite_of};
 ghost use Rattle.line_map.specs.Way.{place_goes, way};
-ghost use Rattle.sheet_grid.specs.KeptCell.{KeptCells};
+ghost use Rattle.sheet_grid.specs.CanonicalCell.{CanonicalCells};
 ghost use Rattle.sheet_lines.specs.Followed.{way_on, sheet_followed, book_followed};
 ghost use Rattle.sheet_lines.specs.Kept.{trees_kept, first_lost, formulas_kept};
-ghost use Rattle.sheet_lines.specs.KeptNumbers.{AreKeptFormulas};
+ghost use Rattle.sheet_lines.specs.CanonicalNumbers.{AreCanonicalFormulas};
 ghost use Rattle.sheet_lines.specs.Sheets.{sheet_of, name_of, IsPlacedSheet, IsPlacedBook};
 
 use crate::edited_sheet::EditedSheet;
@@ -44,7 +44,7 @@ fn followed_with<A: Axis, M: LineMap<A>>(
     cells: PlaceMap<Shared<Cell>>,
 ) -> Result<Worksheet, EditError>
     requires placed { IsPlacedSheet sheet.now }
-    requires kept { KeptCells cells }
+    requires canonical { CanonicalCells cells }
     ensures sheet { IfOk result (λ followed. followed ≡ record (sheet_followed (way route.now) sheet.now) { cells = cells }) }
     ensures only { IsOkUnless result NoMemory }
 {
@@ -69,6 +69,7 @@ fn followed_sheet<A: Axis, M: LineMap<A>>(
     ensures only { IsOkUnless result NoMemory }
 {
     let (route, map) = (route_on(edited, sheet), sheet.cell_map());
+    // For the proof: what lies inside.
     places_inside(map);
     let cells = map.carry(alloc, &route)?;
     followed_with(alloc, &route, sheet, cells)
@@ -84,10 +85,11 @@ fn followed_and_kept<A: Axis, M: LineMap<A>>(
     ensures sheet { IfOk result (λ both. both.0 ≡ sheet_followed (way_on edited.now sheet.now) sheet.now) }
     ensures lost { IfOk result (λ both. both.1.lost ≡ lost_map (place_goes (way_on edited.now sheet.now)) sheet.now.cells) }
     ensures trees { IfOk result (λ both. both.1.parts ≡ trees_kept A.along (M.moves edited.now.map.now) edited.now.id edited.now.name.now sheet.now) }
-    ensures numbers { IfOk result (λ both. AreKeptFormulas both.1.parts) }
+    ensures numbers { IfOk result (λ both. AreCanonicalFormulas both.1.parts) }
     ensures only { IsOkUnless result NoMemory }
 {
     let (route, map) = (route_on(edited, sheet), sheet.cell_map());
+    // For the proof: what lies inside.
     places_inside(map);
     let (cells, kept) = carried_with_kept(alloc, &route, map)?;
     let followed = followed_with(alloc, &route, sheet, cells)?;
@@ -123,7 +125,7 @@ pub(crate) fn followed_with_kept<A: Axis, M: LineMap<A>>(
     ensures sheets { IfOk result (λ both. both.0 ≡ map (λ sheet. sheet_followed (way_on edited.now sheet) sheet) sheets.now) }
     ensures lost { IfOk result (λ both. both.1.lost ≡ first_lost A.along (M.moves edited.now.map.now) edited.now.id sheets.now) }
     ensures formulas { IfOk result (λ both. both.1.formulas ≡ formulas_kept A.along (M.moves edited.now.map.now) edited.now.id edited.now.name.now sheets.now) }
-    ensures numbers { IfOk result (λ both. AreKeptFormulas both.1.formulas) }
+    ensures numbers { IfOk result (λ both. AreCanonicalFormulas both.1.formulas) }
     ensures only { IsOkUnless result NoMemory }
 {
     let (mut made, lost) = (Items::empty(alloc), None);

@@ -10,6 +10,7 @@ use base_values::PlaceMap;
 pub(crate) fn places_inside<V>(map: &PlaceMap<V>)
     ensures { KeysInside map.now }
 {
+    // The promise is one of the type.
     let _ = map.iter();
 }
 
@@ -17,5 +18,6 @@ pub(crate) fn places_inside<V>(map: &PlaceMap<V>)
 pub(crate) fn lines_inside<B: Axis, V>(map: &AxisMap<B, V>)
     ensures { LinesLie B.along map.now }
 {
+    // The promise is one of the type.
     let _ = map.iter();
 }

@@ -1,15 +1,30 @@
 ghost use Rattle.std.specs.Prelude.{◌≡◌, IfOk, IsOkUnless};
 ghost use Rattle.base_values.specs.declared.EditError.TheVariants.{NoMemory};
 ghost use Rattle.base_maps.specs.Carried.{lost_map};
+ghost use Rattle.line_map.specs.Way.{place_goes};
+ghost use Rattle.sheet_lines.specs.Followed.{way_on};
 ghost use Rattle.sheet_lines.specs.Kept.{lines_of};
 
 use crate::edited_sheet::EditedSheet;
+use crate::sheets::route_on;
 use base_axis::Axis;
-use base_maps::NumberMap;
+use base_maps::{NumberMap, PositionMap};
 use base_values::EditError;
-use line_map::{LineMap, lost_lines};
-use sheet_grid::{LineAttr, Worksheet};
+use line_map::{LineMap, lost_lines, lost_places};
+use sheet_grid::{LineAttr, Link, Worksheet};
 use std::alloc::Global;
+
+/// The links of a sheet whose places go nowhere.
+pub(crate) fn lost_links<A: Axis, M: LineMap<A>>(
+    alloc: Global,
+    edited: &EditedSheet<'_, A, M>,
+    sheet: &Worksheet,
+) -> Result<PositionMap<Link>, EditError>
+    ensures links { IfOk result (λ lost. lost ≡ lost_map (place_goes (way_on edited.now sheet.now)) sheet.now.links) }
+    ensures only { IsOkUnless result NoMemory }
+{
+    lost_places(alloc, &route_on(edited, sheet), sheet.link_map())
+}
 
 /// What the lines of the edited axis that go nowhere have of their own.
 pub(crate) fn lost_attributes<A: Axis, M: LineMap<A>>(

@@ -22,6 +22,7 @@ pub fn edit_and_back<A: Axis>(workbook: &Workbook, sheet_id: u32, edit: &LineEdi
     requires distinct { HasDistinctIds workbook.now }
     ensures { there_and_back A.along edit.now.kind sheet_id workbook.now ≡ workbook.now }
 {
+    // A law does no work.
     let _ = workbook;
     let _ = sheet_id;
     let _ = edit;
@@ -41,6 +42,7 @@ pub fn entries_of_sheets<A: Axis>(workbook: &Workbook, sheet_id: u32, edit: &Lin
     ensures merges { OfEdited A.along edit.now.kind sheet_id workbook.now (λ w sheet kept. kept.merges ≡ merges_part w sheet.merges) }
     ensures trees { (id : ℕ) (p : Position) → KeepsTree A.along edit.now.kind sheet_id workbook.now id p }
 {
+    // A law does no work.
     let _ = workbook;
     let _ = sheet_id;
     let _ = edit;

@@ -10,7 +10,7 @@ use Rattle.std.proofs.lemmas.Nat.{pow-add, mul-le}
 use Rattle.base_tables.specs.laws.Tables.{both_parts}
 use Rattle.base_decimal.specs.declared.Decimal.{Decimal}
 use Rattle.base_decimal.specs.Arithmetic.{IsRounded, mantissa_at, rounded}
-use Rattle.base_decimal.specs.Kept.{IsKept, is_kept, is_trimmed}
+use Rattle.base_decimal.specs.Canonical.{IsCanonical, is_canonical, is_trimmed}
 use Rattle.base_decimal.specs.Value.{signed, trim}
 
 trim_by : ℕ → ℕ → ℕ × ℕ → Bool → ℕ × ℕ
@@ -27,21 +27,21 @@ trim_places n (suc p) = places_by n p (trim (n / 10) p) (trim_places (n / 10) p)
     places_by n p t h false = omega arith
 
 -- the digits and places of a kept number
-kept_places : (d : Decimal) → IsKept d → d.places ≤ 15
-unfolding is_kept
+kept_places : (d : Decimal) → IsCanonical d → d.places ≤ 15
+unfolding is_canonical
 kept_places d k =
     let e : nat_le d.places 15 && nat_lt (unsigned_abs d.mantissa) (10 ^ (15 + d.places)) ≡ true = (both_parts (nat_le d.places 15 && nat_lt (unsigned_abs d.mantissa) (10 ^ (15 + d.places))) (is_trimmed d) k).0 in
     let f : nat_le d.places 15 ≡ true = (both_parts (nat_le d.places 15) (nat_lt (unsigned_abs d.mantissa) (10 ^ (15 + d.places))) e).0 in
     grind (arith, nat_tests)
 
-kept_digits : (d : Decimal) → IsKept d → unsigned_abs d.mantissa < 10 ^ (15 + d.places)
-unfolding is_kept
+kept_digits : (d : Decimal) → IsCanonical d → unsigned_abs d.mantissa < 10 ^ (15 + d.places)
+unfolding is_canonical
 kept_digits d k =
     let e : nat_le d.places 15 && nat_lt (unsigned_abs d.mantissa) (10 ^ (15 + d.places)) ≡ true = (both_parts (nat_le d.places 15 && nat_lt (unsigned_abs d.mantissa) (10 ^ (15 + d.places))) (is_trimmed d) k).0 in
     let f : nat_lt (unsigned_abs d.mantissa) (10 ^ (15 + d.places)) ≡ true = (both_parts (nat_le d.places 15) (nat_lt (unsigned_abs d.mantissa) (10 ^ (15 + d.places))) e).1 in
     grind (arith, nat_tests)
 
-pub rounded_places : (d r : Decimal) → IsKept d → r ≡ rounded d → r.places ≤ 15
+pub rounded_places : (d r : Decimal) → IsCanonical d → r ≡ rounded d → r.places ≤ 15
 unfolding rounded
 rounded_places d r k e =
     let same : r.places ≡ (rounded d).places = ap (λ (x : Decimal). x.places) e in
@@ -75,7 +75,7 @@ abs_signed true zero = omega arith
 abs_signed true (suc n) = omega arith
 abs_signed false n = omega arith
 
-rounded_digits : (d r : Decimal) → IsKept d → IsRounded d r → unsigned_abs r.mantissa ≤ 10 ^ 15 * 10 ^ r.places
+rounded_digits : (d r : Decimal) → IsCanonical d → IsRounded d r → unsigned_abs r.mantissa ≤ 10 ^ 15 * 10 ^ r.places
 rounded_digits d r k is =
     let total = is.count * 10 ^ is.dropped in
     let most : total ≤ 10 ^ 15 * 10 ^ d.places = counted (unsigned_abs d.mantissa) d.places is.count is.dropped (kept_digits d k) is.at_least is.fifteen in
@@ -88,7 +88,7 @@ rounded_digits d r k is =
     cancel (unsigned_abs r.mantissa) (10 ^ 15 * 10 ^ r.places) (10 ^ d.places) (ten_pow d.places) (omega arith)
 
 -- at most 10 ^ 30 units of the fifteenth place
-pub rounded_within : (d r : Decimal) → IsKept d → r ≡ rounded d → IsRounded d r → unsigned_abs (mantissa_at r 15) ≤ 10 ^ 30
+pub rounded_within : (d r : Decimal) → IsCanonical d → r ≡ rounded d → IsRounded d r → unsigned_abs (mantissa_at r 15) ≤ 10 ^ 30
 rounded_within d r k e is =
     let places = rounded_places d r k e in
     let digits = rounded_digits d r k is in

@@ -5,7 +5,7 @@ ghost use Rattle.base_values.specs.declared.EditError.TheVariants.{NoMemory};
 ghost use Rattle.base_tables.specs.Locale.{decimal_sign, group_sign};
 ghost use Rattle.base_tables.specs.Word.{is_digit};
 ghost use Rattle.base_decimal.specs.Arithmetic.{rounded};
-ghost use Rattle.base_decimal.specs.Kept.{IsKept};
+ghost use Rattle.base_decimal.specs.Canonical.{IsCanonical};
 ghost use Rattle.sheet_progress.specs.Numbers.{are_groups, is_whole_part, is_fraction, is_other, is_unsigned, is_number, ungrouped, decimal_in, number_in, units, number_text};
 ghost use Rattle.sheet_progress.specs.Steps.{IsWithin};
 
@@ -135,7 +135,7 @@ fn ungrouped(alloc: Global, text: &str, locale: Locale) -> Result<String, AllocE
 /// The decimal that a text writes.
 fn decimal_in(alloc: Global, text: &str, locale: Locale) -> Result<Option<Decimal>, AllocError>
     ensures value { IfOk result (λ number. number ≡ decimal_in locale text.now) }
-    ensures kept { IfOk result (λ number. IfSome number IsKept) }
+    ensures canonical { IfOk result (λ number. IfSome number IsCanonical) }
 {
     if !is_number_in(alloc, text, locale)? {
         return Ok(None);
@@ -154,7 +154,7 @@ fn ten_to(power: u8) -> i128
 
 /// A number rounded to 15 digits, in units of the fifteenth place.
 fn rounded_units(number: &Decimal) -> i128
-    requires { IsKept number.now }
+    requires { IsCanonical number.now }
     ensures value { result ≡ units (rounded number.now) }
     ensures within { IsWithin (10 ^ 30) result }
 {

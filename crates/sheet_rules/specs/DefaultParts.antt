@@ -1,7 +1,6 @@
 -- The default style, part by part.
-use Rattle.std.specs.Prelude.{ℕ, Bool, ◌&&◌, List, codes, is_none, nat_eq}
+use Rattle.std.specs.Prelude.{ℕ, Bool, List, codes, nat_eq}
 use Rattle.std.specs.Cmp.Lexicographic.{pointwise}
-use Rattle.base_styles.specs.declared.style.Style.{Style}
 use Rattle.base_styles.specs.declared.style.Font.{Font}
 use Rattle.base_styles.specs.declared.border.Border.{Border}
 use Rattle.base_styles.specs.declared.color.Color.{Color}
@@ -25,8 +24,3 @@ is_default_fill given = color.ghosts.eq given default_style.fill
 -- the number format `general`
 abbrev pub is_default_format : List ℕ → Bool
 is_default_format given = pointwise nat_eq given (codes "general")
-
--- each part is the default style's
-abbrev pub has_default_parts : Style → Bool
-has_default_parts given =
-    is_default_font given.font && (is_default_fill given.fill && (is_default_border given.border && (is_default_format given.num_fmt && is_none given.alignment)))

@@ -1,5 +1,6 @@
 pub mod DefaultParts
 pub mod Distinct
+pub mod Names
 pub mod Occupied
 pub mod SheetNames
 pub mod WellFormed

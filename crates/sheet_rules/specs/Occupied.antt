@@ -1,14 +1,13 @@
 -- Where the arrays and the merges of a sheet may stand, and what may stand at the places that they take.
 use Rattle.std.specs.Prelude.{Bool, true, ◌&&◌, ◌||◌, not, List, Option, Some, None, is_none}
 use Rattle.std.specs.List.{list_all, list_any, find}
-use Rattle.std.specs.Option.{option_and_then}
-use Rattle.std.specs.FinMap.{entries, get}
+use Rattle.std.specs.FinMap.{entries}
 use Rattle.base_values.specs.declared.Position.{Position}
 use Rattle.base_values.specs.Places.{same_position}
 use Rattle.base_axis.specs.declared.MergedCell.{MergedCell}
 use Rattle.base_axis.specs.Rectangles.{anchor_place, holds, has_many, is_inside, meets}
 use Rattle.sheet_grid.specs.declared.Cell.{Cell}
-use Rattle.sheet_grid.specs.Arrays.{array_at, large_array_at, arrays_of, large_arrays_of}
+use Rattle.sheet_grid.specs.Arrays.{array_at, arrays_of, large_arrays_of}
 use Rattle.sheet_grid.specs.Merges.{is_empty}
 use Rattle.sheet_grid.specs.Sheet.{Sheet}
 use Rattle.sheet_rules.specs.Distinct.{are_distinct}
@@ -52,14 +51,6 @@ is_hidden_place sheet place = list_any (λ merge. covers merge place) sheet.merg
 -- the first array of more than one cell, by row and then by column of its place, that holds a place
 abbrev pub array_over : Sheet → Position → Option MergedCell
 array_over sheet place = find (λ array. holds array place) (large_arrays_of sheet)
-
--- the array that stands at a place
-abbrev pub array_in : Sheet → Position → Option MergedCell
-array_in sheet place = option_and_then (λ cell. array_at place cell.content) (get sheet.cells place)
-
--- the array of more than one cell that does
-abbrev pub large_array_in : Sheet → Position → Option MergedCell
-large_array_in sheet place = option_and_then (λ cell. large_array_at place cell.content) (get sheet.cells place)
 
 -- a cell that is put at a place, or none, is no array, and has no content where the place is hidden
 abbrev pub may_stand : Sheet → Position → Option Cell → Bool

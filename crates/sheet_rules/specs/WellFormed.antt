@@ -1,6 +1,6 @@
--- When a workbook is well-formed. `Occupied` has the rules of arrays (3), of merges (4) and of the places that they cover (5). There are
--- no defined names (8) and no conditional rules yet.
-use Rattle.std.specs.Prelude.{◌≡◌, ℕ, ℤ, pos, Bool, true, ◌&&◌, ◌==◌, not, nat_lt, List, length, map, Option, Some, None, int_le, if◌then◌else◌}
+-- When a workbook is well-formed. `Occupied` has the rules of arrays (3), of merges (4) and of the places that they cover (5),
+-- `Names` that of defined names (8). There are no conditional rules yet.
+use Rattle.std.specs.Prelude.{◌≡◌, ℕ, ℤ, pos, Bool, true, ◌&&◌, ◌==◌, not, nat_lt, List, length, Option, Some, None, int_le, if◌then◌else◌}
 use Rattle.std.specs.List.{list_all}
 use Rattle.std.specs.Ordering.{int_eq}
 use Rattle.std.specs.FinMap.{entries}
@@ -18,16 +18,11 @@ use Rattle.sheet_grid.specs.declared.Link.{Link}
 use Rattle.sheet_grid.specs.Lines.{is_plain, usual_width}
 use Rattle.sheet_grid.specs.Sheet.{Sheet}
 use Rattle.sheet_grid.specs.Book.{Book}
+pub use Rattle.sheet_grid.specs.Book.{ids_of, names_of}
 pub use Rattle.sheet_rules.specs.Distinct.{are_distinct}
+use Rattle.sheet_rules.specs.Names.{are_names, have_name_trees}
 use Rattle.sheet_rules.specs.Occupied.{have_arrays, have_merges, are_hidden_blank}
 use Rattle.sheet_rules.specs.SheetNames.{is_sheet_name}
-
--- the ids of the sheets, and their names
-abbrev pub ids_of : List Sheet → List ℕ
-ids_of sheets = map (λ (sheet : Sheet). sheet.id) sheets
-
-abbrev pub names_of : List Sheet → List (List ℕ)
-names_of sheets = map (λ (sheet : Sheet). sheet.name) sheets
 
 -- rule 1: there is a sheet, ids are distinct, names are legal and distinct by folding
 unfoldable pub are_sheets : List Sheet → Bool
@@ -44,7 +39,7 @@ stands_inside sheet =
     list_all (λ (entry : Position × Cell). is_place entry.0) (entries sheet.cells) && list_all (λ (entry : Position × Link). is_place entry.0) (entries sheet.links)
     && list_all (λ (entry : ℤ × LineAttr). is_line (pos 1048576) entry.0) (entries sheet.rows) && list_all (λ (entry : ℤ × LineAttr). is_line (pos 16384) entry.0) (entries sheet.columns)
 
--- rule 6: each formula of a sheet may stand at its place
+-- rule 6 of a sheet: each formula may stand at its place
 unfoldable pub have_trees : Sheet → Bool
 have_trees sheet = list_all (λ (entry : Position × Cell). fits_at entry.0 entry.1.content) (entries sheet.cells)
 
@@ -105,8 +100,9 @@ broken_rule book =
     else if not (list_all have_arrays book.worksheets) then Some 3
     else if not (list_all have_merges book.worksheets) then Some 4
     else if not (list_all are_hidden_blank book.worksheets) then Some 5
-    else if not (list_all have_trees book.worksheets) then Some 6
+    else if not (list_all have_trees book.worksheets && have_name_trees book.names) then Some 6
     else if not (list_all have_attributes book.worksheets) then Some 7
+    else if not (are_names (ids_of book.worksheets) book.names) then Some 8
     else if not (list_all are_frozen book.worksheets) then Some 9
     else None
 

@@ -1,13 +1,14 @@
 //! The ids of the sheets of a workbook.
 
 ghost use Rattle.std.specs.Prelude.{◌≡◌, ◌==◌};
-ghost use Rattle.std.specs.List.{list_any};
+ghost use Rattle.sheet_rules.specs.Names.{is_id_of};
 ghost use Rattle.sheet_rules.specs.WellFormed.{are_distinct, ids_of};
 
 use sheet_grid::Worksheet;
 
-fn is_taken(id: u32, sheets: &[Worksheet]) -> bool
-    ensures { result ≡ list_any (λ other. id == other) (ids_of sheets.now) }
+/// Whether a sheet has an id.
+pub(crate) fn is_taken(id: u32, sheets: &[Worksheet]) -> bool
+    ensures { result ≡ is_id_of (ids_of sheets.now) id }
 {
     sheets.iter().any(|sheet| id == sheet.get_sheet_id())
 }

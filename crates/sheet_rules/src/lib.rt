@@ -6,6 +6,7 @@
 
 mod attributes;
 mod default_style;
+mod defined;
 mod ids;
 mod names;
 mod occupied;

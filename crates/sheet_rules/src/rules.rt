@@ -1,11 +1,13 @@
-ghost use Rattle.std.specs.Prelude.{◌≡◌, is_none};
+ghost use Rattle.std.specs.Prelude.{◌≡◌, ◌&&◌, is_none};
 ghost use Rattle.std.specs.List.{list_all};
 ghost use Rattle.std.specs.FinMap.{entries};
 ghost use Rattle.base_values.specs.Places.{is_line};
+ghost use Rattle.sheet_rules.specs.Names.{have_name_trees};
 ghost use Rattle.sheet_rules.specs.Occupied.{have_arrays, have_merges, are_hidden_blank};
 ghost use Rattle.sheet_rules.specs.WellFormed.{are_sheets, is_place, stands_inside, have_trees, have_attributes, is_count, are_frozen, broken_rule};
 
 use crate::attributes::have_attributes;
+use crate::defined::{are_names, have_name_trees};
 use crate::ids::have_distinct_ids;
 use crate::names::{have_distinct_names, have_names};
 use crate::occupied::{are_hidden_blank, have_arrays, have_merges};
@@ -76,7 +78,7 @@ fn all_are_hidden_blank(sheets: &[Worksheet]) -> bool
     sheets.iter().all(are_hidden_blank)
 }
 
-/// Rule 6: each formula may stand at its place.
+/// Rule 6 of a sheet: each formula may stand at its place.
 #[tactic(auto, unfolding(crate::specs::WellFormed::have_trees))]
 fn have_trees(sheet: &Worksheet) -> bool
     ensures { result ≡ have_trees sheet.now }
@@ -90,6 +92,13 @@ fn all_have_trees(sheets: &[Worksheet]) -> bool
     ensures { result ≡ list_all have_trees sheets.now }
 {
     sheets.iter().all(have_trees)
+}
+
+/// Rule 6: so it is in each sheet, and each tree of a defined name may stand at A1.
+fn have_all_trees(workbook: &Workbook) -> bool
+    ensures { result ≡ (list_all have_trees workbook.now.worksheets && have_name_trees workbook.now.names) }
+{
+    all_have_trees(workbook.worksheets()) && have_name_trees(workbook.defined_names())
 }
 
 fn all_have_attributes(sheets: &[Worksheet]) -> bool
@@ -133,10 +142,12 @@ pub fn broken_rule(workbook: &Workbook) -> Option<u8>
         Some(4)
     } else if !all_are_hidden_blank(sheets) {
         Some(5)
-    } else if !all_have_trees(sheets) {
+    } else if !have_all_trees(workbook) {
         Some(6)
     } else if !all_have_attributes(sheets) {
         Some(7)
+    } else if !are_names(sheets, workbook.defined_names()) {
+        Some(8)
     } else if !all_are_frozen(sheets) {
         Some(9)
     } else {

@@ -4,9 +4,10 @@ use base_axis::MergedCell;
 use base_shared::Shared;
 use base_styles::Style;
 use base_tables::{Locale, Zone};
-use base_values::{EditError, Items, copy_of};
+use base_values::{EditError, Items, Text, copy_of};
 use cell_content::Content;
-use formula_tree::{Corner, Node, has_kept_numbers};
+use defined_names::{DefinedName, NameList};
+use formula_tree::{Corner, Node, has_canonical_numbers};
 use sheet_grid::{Cell, ColumnAttr, DefaultStyle, RowAttr, Workbook, Worksheet};
 use std::alloc::Global;
 use std::test::Fail;
@@ -118,7 +119,7 @@ fn put_formula(alloc: Global, sheet: &mut Worksheet, row: i32) -> Result<(), Edi
         column: 0,
     };
     let tree = Node::Reference(None, corner);
-    if has_kept_numbers(&tree) {
+    if has_canonical_numbers(&tree) {
         sheet.set_cell_with_formula(1, 1, tree, style.shared())?;
     }
     Ok(())
@@ -189,7 +190,7 @@ fn add_merge(alloc: Global, sheet: &mut Worksheet, merge: MergedCell) -> Result<
 fn put_array(alloc: Global, sheet: &mut Worksheet, array: MergedCell) -> Result<(), EditError> {
     let style = DefaultStyle::new(alloc)?;
     let tree = Node::Boolean(true);
-    if has_kept_numbers(&tree) {
+    if has_canonical_numbers(&tree) {
         sheet.set_cell_with_array_formula(
             array.row,
             array.column,
@@ -279,5 +280,82 @@ fn occupied(rt: HostRuntime) -> Result<(), Fail> {
     ] {
         assert_eq!(rt; broken_by_two(rt.alloc(), first, second)?, rule);
     }
+    Ok(())
+}
+
+/// Puts a name behind others, whose tree has no number that is not canonical.
+fn push_name(
+    alloc: Global,
+    names: &mut NameList,
+    name: &str,
+    scope: Option<u32>,
+    formula: Node,
+) -> Result<(), EditError> {
+    if has_canonical_numbers(&formula) {
+        names.push(DefinedName {
+            name: Text::new(String::from_str(alloc, name)?),
+            scope,
+            formula: Shared::new(alloc, formula)?,
+        })?;
+    }
+    Ok(())
+}
+
+/// The rule that a new workbook with two names for TRUE breaks.
+fn broken_by_names(
+    alloc: Global,
+    first: (&str, Option<u32>),
+    second: (&str, Option<u32>),
+) -> Result<Option<u8>, EditError> {
+    let mut names = NameList::empty(alloc);
+    push_name(alloc, &mut names, first.0, first.1, Node::Boolean(true))?;
+    push_name(alloc, &mut names, second.0, second.1, Node::Boolean(true))?;
+    let mut book = Workbook::new_empty(alloc, "book", Locale::En, Zone::Utc)?;
+    book.set_name_list(names);
+    Ok(broken_rule(&book))
+}
+
+/// Which defined names may stand beside each other.
+#[test]
+fn names_beside_each_other(rt: HostRuntime) -> Result<(), Fail> {
+    for (first, second, rule) in [
+        (("Rate", None), ("Tax", None), None),
+        (("Rate", None), ("rate", None), Some(8)),
+        (("Rate", None), ("rate", Some(1)), None),
+        (("Rate", Some(1)), ("rate", Some(1)), Some(8)),
+        (("Rate", Some(2)), ("Tax", None), Some(8)),
+        (("B2", None), ("Tax", None), Some(8)),
+        (("R1C1", None), ("Tax", None), Some(8)),
+        (("wahr", None), ("Tax", None), Some(8)),
+        (("two words", None), ("Tax", None), Some(8)),
+        (("", None), ("Tax", None), Some(8)),
+    ] {
+        assert_eq!(rt; broken_by_names(rt.alloc(), first, second)?, rule);
+    }
+    Ok(())
+}
+
+/// The rule that a new workbook with a name for the cell so many rows below A1 breaks.
+fn broken_by_tree(alloc: Global, row: i32) -> Result<Option<u8>, EditError> {
+    let corner = Corner {
+        absolute_row: false,
+        row,
+        absolute_column: false,
+        column: 0,
+    };
+    let mut names = NameList::empty(alloc);
+    let formula = Node::Reference(None, corner);
+    push_name(alloc, &mut names, "Rate", None, formula)?;
+    let mut book = Workbook::new_empty(alloc, "book", Locale::En, Zone::Utc)?;
+    book.set_name_list(names);
+    Ok(broken_rule(&book))
+}
+
+/// The tree of a name stands at A1.
+#[test]
+fn trees_of_names(rt: HostRuntime) -> Result<(), Fail> {
+    assert_eq!(rt; broken_by_tree(rt.alloc(), 1048575)?, None);
+    assert_eq!(rt; broken_by_tree(rt.alloc(), 1048576)?, Some(6));
+    assert_eq!(rt; broken_by_tree(rt.alloc(), -1)?, Some(6));
     Ok(())
 }

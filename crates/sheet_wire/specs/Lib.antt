@@ -1,4 +1,5 @@
 pub mod LinesBytes
+pub mod SheetsBytes
 pub mod ChangeBytes
 pub mod QueueBytes
 pub mod laws

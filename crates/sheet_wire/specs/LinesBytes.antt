@@ -1,9 +1,7 @@
 -- The bytes of edits of lines with what they keep.
-use Rattle.std.specs.Prelude.{◌≡◌, ℕ, ℤ, false, List, [], ◌∷◌, ◌++◌, IfSome, ◌<◌, ◌^◌}
+use Rattle.std.specs.Prelude.{ℕ, List, [], ◌∷◌, ◌++◌, ◌<◌, ◌^◌}
 use Rattle.std.specs.Int.{w32, to_be_bytes}
-use Rattle.std.specs.FinMap.{get}
 use Rattle.line_edits.specs.declared.EditKind.{EditKind}
-use Rattle.sheet_grid.specs.Lines.{is_plain}
 use Rattle.sheet_lines.specs.declared.KeptLines.{KeptLines}
 use Rattle.sheet_history.specs.declared.LineAxis.{LineAxis}
 use Rattle.sheet_history.specs.declared.LineAxis.TheVariants.{Rows, Columns}
@@ -32,7 +30,3 @@ pub record FitsLines (id : ℕ) (kind : EditKind) (part : KeptLines) : Type 0 wh
   pub sheet : id < 2 ^ 32
   pub edit : FitsEdit kind
   pub kept : FitsKept part
-
--- of each line an edit keeps something of its own
-abbrev pub IsKeptOfLines : KeptLines → Type 0
-IsKeptOfLines kept = (line : ℤ) → IfSome (get kept.lines line) (λ attr. is_plain attr ≡ false)

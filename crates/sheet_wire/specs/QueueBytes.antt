@@ -1,5 +1,5 @@
 -- The bytes of a queue of diffs.
-use Rattle.std.specs.Prelude.{◌≢◌, ℕ, List, [], ◌∷◌, ◌++◌, Option, Result, ◌==◌, if◌then◌else◌, IfSome, codes}
+use Rattle.std.specs.Prelude.{◌≢◌, ℕ, Bool, List, [], ◌∷◌, ◌++◌, Option, Result, ◌==◌, if◌then◌else◌, IfSome, codes}
 use Rattle.std.specs.List.{AllByRecursion}
 use Rattle.base_axis.specs.declared.MergedCell.{MergedCell}
 use Rattle.base_values.specs.declared.EditError.{EditError}
@@ -8,20 +8,28 @@ use Rattle.line_edits.specs.declared.EditKind.{EditKind}
 use Rattle.sheet_grid.specs.declared.Cell.{Cell}
 use Rattle.sheet_grid.specs.declared.Link.{Link}
 use Rattle.sheet_lines.specs.declared.KeptLines.{KeptLines}
+use Rattle.base_styles.specs.declared.Color.{Color}
+use Rattle.sheet_grid.specs.declared.SheetState.{SheetState}
+use Rattle.book_sheets.specs.declared.KeptSheet.{KeptSheet}
+use Rattle.sheet_history.specs.declared.FieldChange.TheVariants as change
 use Rattle.sheet_history.specs.declared.Diff.{Diff}
-use Rattle.sheet_history.specs.declared.Diff.TheVariants.{Cell as CellDiff, Link as LinkDiff, Merges as MergesDiff, Lines as LinesDiff}
+use Rattle.sheet_history.specs.declared.Diff.TheVariants.{Cell as CellDiff, Link as LinkDiff, Merges as MergesDiff, Field as FieldDiff, Lines as LinesDiff, NewSheet as NewDiff, DuplicateSheet as CopyDiff, DeleteSheet as DeletionDiff, MoveSheet as MoveDiff}
 use Rattle.sheet_history.specs.declared.LineAxis.{LineAxis}
 use Rattle.sheet_history.specs.declared.DiffType.{DiffType}
 use Rattle.sheet_history.specs.declared.DiffType.TheVariants.{Undo, Redo}
 use Rattle.sheet_history.specs.declared.QueueDiffs.{QueueDiffs}
+use Rattle.base_wire.specs.Parts.{boolean_at}
 use Rattle.base_wire.specs.Reading.{Reader, refused, map_at, ◌⊗◌, tagged_at, code_at, list_at, after, whole}
 use Rattle.base_wire.specs.Spelling.{spell_code, spell_list, FitsItems}
 use Rattle.cell_wire.specs.CellBytes.{spell_cell, cell_at, FitsCell, IsKnownCell}
+use Rattle.cell_wire.specs.StyleBytes.{color_at}
 use Rattle.cell_wire.specs.LinkBytes.{spell_link, link_at, FitsLink}
 use Rattle.cell_wire.specs.MergeBytes.{spell_merges, merges_at, FitsMerges}
 use Rattle.lines_wire.specs.KeptBytes.{IsKnownKept}
 use Rattle.sheet_wire.specs.ChangeBytes.{spell_change, change_at, FitsChange, spell_sheet_change, sheet_change_at, FitsSheetChange}
-use Rattle.sheet_wire.specs.LinesBytes.{spell_lines, lines_parts_at, FitsLines, IsKeptOfLines}
+use Rattle.sheet_wire.specs.LinesBytes.{spell_lines, lines_parts_at, FitsLines}
+use Rattle.sheet_wire.specs.SheetsBytes.{spell_color_change, spell_state_change, spell_grid_change, state_at, FitsField, spell_new, new_parts_at, FitsNew, spell_copy, copy_parts_at, FitsCopy}
+use Rattle.sheet_wire.specs.SheetsBytes.{spell_deletion, deletion_parts_at, FitsDeletion, IsKnownKeptSheet, spell_move, move_parts_at, FitsMove}
 
 -- ---- diffs
 
@@ -31,6 +39,13 @@ spell_diff (CellDiff sheet place old new) = 1 ∷ spell_change spell_cell sheet 
 spell_diff (LinkDiff sheet place old new) = 2 ∷ spell_change spell_link sheet place old new
 spell_diff (MergesDiff sheet old new) = 5 ∷ spell_sheet_change spell_merges sheet old new
 spell_diff (LinesDiff sheet axis edit kept) = 7 ∷ spell_lines sheet axis edit kept
+spell_diff (NewDiff sheet index name) = 8 ∷ spell_new sheet index name
+spell_diff (CopyDiff source sheet index name) = 9 ∷ spell_copy source sheet index name
+spell_diff (DeletionDiff index kept) = 10 ∷ spell_deletion index kept
+spell_diff (MoveDiff sheet from to) = 12 ∷ spell_move sheet from to
+spell_diff (FieldDiff sheet (change.Color old new)) = 13 ∷ spell_color_change sheet old new
+spell_diff (FieldDiff sheet (change.State old new)) = 14 ∷ spell_state_change sheet old new
+spell_diff (FieldDiff sheet (change.GridLines old new)) = 15 ∷ spell_grid_change sheet old new
 
 abbrev pub cell_diff_made : ℕ × (Position × (Option Cell × Option Cell)) → Diff
 cell_diff_made x = CellDiff x.0 x.1.0 x.1.1.0 x.1.1.1
@@ -56,6 +71,48 @@ lines_diff_made x = LinesDiff x.0 x.1.0 x.1.1.0 x.1.1.1
 unfoldable pub lines_diff_at : Reader Diff
 lines_diff_at = map_at lines_diff_made lines_parts_at
 
+abbrev pub new_diff_made : ℕ × (ℕ × List ℕ) → Diff
+new_diff_made x = NewDiff x.0 x.1.0 x.1.1
+
+unfoldable pub new_diff_at : Reader Diff
+new_diff_at = map_at new_diff_made new_parts_at
+
+abbrev pub copy_diff_made : ℕ × (ℕ × (ℕ × List ℕ)) → Diff
+copy_diff_made x = CopyDiff x.0 x.1.0 x.1.1.0 x.1.1.1
+
+unfoldable pub copy_diff_at : Reader Diff
+copy_diff_at = map_at copy_diff_made copy_parts_at
+
+abbrev pub deletion_diff_made : ℕ × KeptSheet → Diff
+deletion_diff_made x = DeletionDiff x.0 x.1
+
+unfoldable pub deletion_diff_at : Reader Diff
+deletion_diff_at = map_at deletion_diff_made deletion_parts_at
+
+abbrev pub move_diff_made : ℕ × (ℕ × ℕ) → Diff
+move_diff_made x = MoveDiff x.0 x.1.0 x.1.1
+
+unfoldable pub move_diff_at : Reader Diff
+move_diff_at = map_at move_diff_made move_parts_at
+
+abbrev pub color_diff_made : ℕ × (Color × Color) → Diff
+color_diff_made x = FieldDiff x.0 (change.Color x.1.0 x.1.1)
+
+unfoldable pub color_diff_at : Reader Diff
+color_diff_at = map_at color_diff_made (sheet_change_at color_at)
+
+abbrev pub state_diff_made : ℕ × (SheetState × SheetState) → Diff
+state_diff_made x = FieldDiff x.0 (change.State x.1.0 x.1.1)
+
+unfoldable pub state_diff_at : Reader Diff
+state_diff_at = map_at state_diff_made (sheet_change_at state_at)
+
+abbrev pub grid_diff_made : ℕ × (Bool × Bool) → Diff
+grid_diff_made x = FieldDiff x.0 (change.GridLines x.1.0 x.1.1)
+
+unfoldable pub grid_diff_at : Reader Diff
+grid_diff_at = map_at grid_diff_made (sheet_change_at boolean_at)
+
 -- what follows each tag
 abbrev pub diff_of : ℕ → Reader Diff
 diff_of tag =
@@ -63,6 +120,13 @@ diff_of tag =
     else if tag == 2 then link_diff_at
     else if tag == 5 then merges_diff_at
     else if tag == 7 then lines_diff_at
+    else if tag == 8 then new_diff_at
+    else if tag == 9 then copy_diff_at
+    else if tag == 10 then deletion_diff_at
+    else if tag == 12 then move_diff_at
+    else if tag == 13 then color_diff_at
+    else if tag == 14 then state_diff_at
+    else if tag == 15 then grid_diff_at
     else refused
 
 unfoldable pub diff_at : Reader Diff
@@ -73,21 +137,24 @@ abbrev pub FitsDiff : Diff → Type 0
 FitsDiff (CellDiff sheet place old new) = FitsChange FitsCell sheet place old new
 FitsDiff (LinkDiff sheet place old new) = FitsChange FitsLink sheet place old new
 FitsDiff (MergesDiff sheet old new) = FitsSheetChange FitsMerges sheet old new
+FitsDiff (FieldDiff sheet change) = FitsField sheet change
 FitsDiff (LinesDiff sheet axis edit kept) = FitsLines sheet edit kept
+FitsDiff (NewDiff sheet index name) = FitsNew sheet index name
+FitsDiff (CopyDiff source sheet index name) = FitsCopy source sheet index name
+FitsDiff (DeletionDiff index kept) = FitsDeletion index kept
+FitsDiff (MoveDiff sheet from to) = FitsMove sheet from to
 
--- what encoding asks of a diff: its numbers are kept, and its formulas are at most 64 deep
+-- what encoding asks of a diff: its numbers are canonical, and its formulas are at most 64 deep
 abbrev pub IsKnownDiff : Diff → Type 0
 IsKnownDiff (CellDiff sheet place old new) = IfSome old IsKnownCell × IfSome new IsKnownCell
 IsKnownDiff (LinkDiff sheet place old new) = Unit {0}
 IsKnownDiff (MergesDiff sheet old new) = Unit {0}
+IsKnownDiff (FieldDiff sheet change) = Unit {0}
 IsKnownDiff (LinesDiff sheet axis edit kept) = IsKnownKept kept
-
--- what a diff keeps, if it is one of lines, is what such an edit keeps
-abbrev pub IsKeptOfDiff : Diff → Type 0
-IsKeptOfDiff (CellDiff sheet place old new) = Unit {0}
-IsKeptOfDiff (LinkDiff sheet place old new) = Unit {0}
-IsKeptOfDiff (MergesDiff sheet old new) = Unit {0}
-IsKeptOfDiff (LinesDiff sheet axis edit kept) = IsKeptOfLines kept
+IsKnownDiff (NewDiff sheet index name) = Unit {0}
+IsKnownDiff (CopyDiff source sheet index name) = Unit {0}
+IsKnownDiff (DeletionDiff index kept) = IsKnownKeptSheet kept
+IsKnownDiff (MoveDiff sheet from to) = Unit {0}
 
 -- a list of diffs that bytes can carry
 abbrev pub FitsList : List Diff → Type 0

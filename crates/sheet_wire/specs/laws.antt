@@ -1,3 +1,4 @@
 pub mod QueueLaws
 pub mod QueueFormats
+pub mod SheetsFormats
 pub mod Fitting

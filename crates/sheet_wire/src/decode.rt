@@ -6,10 +6,15 @@ ghost use Rattle.base_values.specs.declared.EditError.TheVariants.{NoMemory, Par
 ghost use Rattle.base_wire.specs.Reading.{code_at, rest_after};
 ghost use Rattle.sheet_wire.specs.ChangeBytes.{change_at};
 ghost use Rattle.sheet_wire.specs.LinesBytes.{axes, axis_code};
-ghost use Rattle.sheet_wire.specs.QueueBytes.{cell_diff_at, diff_at, direction_code, directions, entry_at, lines_diff_at, link_diff_at, magic, merges_diff_at, queue_of, spell_queue, FitsQueue, IsNoQueue};
+ghost use Rattle.sheet_wire.specs.QueueBytes.{cell_diff_at, diff_at, lines_diff_at, link_diff_at, merges_diff_at};
+ghost use Rattle.sheet_wire.specs.QueueBytes.{direction_code, directions, entry_at, magic, queue_of, spell_queue, FitsQueue, IsNoQueue};
 ghost use Rattle.sheet_history.specs.declared.QueueDiffs.{QueueDiffs};
 
 use crate::codes::{axis_of, direction_of};
+use crate::decode_sheets::{
+    color_diff_at, copy_diff_at, deletion_diff_at, grid_diff_at, move_diff_at, new_diff_at,
+    sheet_change_at, state_diff_at,
+};
 use crate::parts::{DiffPart, EntryPart};
 use base_shared::Shared;
 use base_styles::Style;
@@ -17,22 +22,12 @@ use base_values::{EditError, Items, Position};
 use base_wire::Part;
 use cell_wire::{CellPart, LinkPart, MergeListPart, PositionPart};
 use lines_wire::{EditPart, KeptLinesPart};
+use map_wire::read;
 use sheet_history::{Diff, DiffType, LineAxis, QueueDiffs};
 use std::alloc::Global;
 
 /// The id of a sheet, a position, and what stands there before and after.
 type Change<T> = (u32, Position, Option<T>, Option<T>);
-
-/// A part at the front of bytes, by the steps of its reader, which proofs of this crate follow.
-fn read<'a, P: Part>(
-    alloc: Global,
-    context: &P::Context,
-    bytes: &'a [u8],
-) -> Result<(P::Value, &'a [u8]), EditError>
-    ensures { Answers (map_ok (λ x. (x.0, x.1.now)) result) (P.reading bytes.now) }
-{
-    P::take(alloc, context, bytes)
-}
 
 /// The id of a sheet, a position, and what stands there before and after.
 #[tactic(auto, unfolding(crate::specs::ChangeBytes::standing_at))]
@@ -86,9 +81,7 @@ fn link_diff_at(alloc: Global, bytes: &[u8]) -> Result<(Diff, &[u8]), EditError>
 fn merges_diff_at(alloc: Global, bytes: &[u8]) -> Result<(Diff, &[u8]), EditError>
     ensures { Answers (map_ok (λ x. (x.0, x.1.now)) result) (merges_diff_at bytes.now) }
 {
-    let (sheet, rest) = read::<u32>(alloc, &(), bytes)?;
-    let (old, rest) = read::<MergeListPart>(alloc, &(), rest)?;
-    let (new, rest) = read::<MergeListPart>(alloc, &(), rest)?;
+    let ((sheet, old, new), rest) = sheet_change_at::<MergeListPart>(alloc, &(), bytes)?;
     Ok((Diff::Merges { sheet, old, new }, rest))
 }
 
@@ -135,6 +128,13 @@ pub(crate) fn diff_at<'a>(
         2 => link_diff_at(alloc, rest),
         5 => merges_diff_at(alloc, rest),
         7 => lines_diff_at(alloc, plain, rest),
+        8 => new_diff_at(alloc, rest),
+        9 => copy_diff_at(alloc, rest),
+        10 => deletion_diff_at(alloc, plain, rest),
+        12 => move_diff_at(alloc, rest),
+        13 => color_diff_at(alloc, rest),
+        14 => state_diff_at(alloc, rest),
+        15 => grid_diff_at(alloc, rest),
         _ => Err(EditError::ParseDiffs),
     }
 }

@@ -3,11 +3,14 @@
 ghost use Rattle.std.specs.Prelude.{◌≡◌, ◌++◌, OnOk, IfOk, IfSome, IsOkUnless};
 ghost use Rattle.base_values.specs.declared.EditError.TheVariants.{NoMemory};
 ghost use Rattle.lines_wire.specs.KeptBytes.{IsKnownKept};
-ghost use Rattle.sheet_wire.specs.ChangeBytes.{spell_change, FitsChange, spell_sheet_change, FitsSheetChange};
+ghost use Rattle.sheet_wire.specs.ChangeBytes.{spell_change, FitsChange};
 ghost use Rattle.sheet_wire.specs.LinesBytes.{spell_lines, FitsLines};
 ghost use Rattle.sheet_wire.specs.QueueBytes.{spell_diff, spell_entry, spell_queue, FitsDiff, FitsEntry, FitsQueue, IsKnownDiff, IsKnownEntry, IsKnownQueue};
 
 use crate::codes::{axis_code, direction_code};
+use crate::encode_sheets::{
+    put_copy, put_deletion, put_field, put_move, put_new, put_sheet_change,
+};
 use crate::parts::{DiffPart, EntryPart};
 use base_shared::Shared;
 use base_values::{EditError, Items, Position};
@@ -34,22 +37,6 @@ fn put_change<P: Part>(
     PositionPart::put(out, &position)?;
     Option::<P>::put(out, old)?;
     Option::<P>::put(out, new)
-}
-
-/// Adds the id of a sheet, and what it had before and has after.
-#[tactic(auto, unfolding(crate::specs::ChangeBytes::spell_sheet_change))]
-fn put_sheet_change<P: Part>(
-    out: &mut Vec<u8>,
-    sheet: u32,
-    old: &P::Value,
-    new: &P::Value,
-) -> Result<(), AllocError>
-    ensures spelled { OnOk result (out.new.items ≡ out.old.items ++ spell_sheet_change P.spelling sheet old.now new.now) }
-    ensures fits { OnOk result (P.Known old.now → P.Known new.now → FitsSheetChange P.Fits sheet old.now new.now) }
-{
-    out.extend_from_slice(&sheet.to_be_bytes())?;
-    P::put(out, old)?;
-    P::put(out, new)
 }
 
 /// Adds the id of a sheet, the byte of an axis, the edit, and what it keeps.
@@ -97,6 +84,7 @@ pub(crate) fn put_diff(out: &mut Vec<u8>, diff: &Diff) -> Result<(), AllocError>
             out.push(5)?;
             put_sheet_change::<MergeListPart>(out, *sheet, old, new)?;
         }
+        Diff::Field { sheet, change } => put_field(out, *sheet, *change)?,
         Diff::Lines {
             sheet,
             axis,
@@ -105,6 +93,27 @@ pub(crate) fn put_diff(out: &mut Vec<u8>, diff: &Diff) -> Result<(), AllocError>
         } => {
             out.push(7)?;
             put_lines(out, *sheet, *axis, *edit, kept)?;
+        }
+        Diff::NewSheet { sheet, index, name } => {
+            out.push(8)?;
+            put_new(out, *sheet, *index, name)?;
+        }
+        Diff::DuplicateSheet {
+            source,
+            sheet,
+            index,
+            name,
+        } => {
+            out.push(9)?;
+            put_copy(out, *source, *sheet, *index, name)?;
+        }
+        Diff::DeleteSheet { index, kept } => {
+            out.push(10)?;
+            put_deletion(out, *index, kept)?;
+        }
+        Diff::MoveSheet { sheet, from, to } => {
+            out.push(12)?;
+            put_move(out, *sheet, *from, *to)?;
         }
     }
     Ok(())

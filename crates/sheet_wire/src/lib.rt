@@ -8,8 +8,11 @@
 
 mod codes;
 mod decode;
+mod decode_sheets;
 mod encode;
+mod encode_sheets;
 mod parts;
+mod sheets;
 
 pub use decode::decode_queue;
 pub use encode::encode_queue;

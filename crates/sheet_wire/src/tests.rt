@@ -41,6 +41,43 @@ const MERGES: [u8; 37] = [
     4, 255, 255, 255, 255,
 ];
 
+/// The sheet of id 2 was deleted from index 1, with a name of its own, `x`, which stood at place 0 and for
+/// `TRUE`. It is hidden, of a colour, without grid lines, with two frozen rows and a frozen column, and
+/// has a row, a column, a cell, a link and a merge.
+const DELETION: [u8; 203] = [
+    10, 0, 0, 0, 1, 0, 0, 0, 2, 0, 0, 0, 0, 0, 0, 0, 1, 65, 1, 1, 9, 171, 255, 0, 0, 0, 0, 2, 0, 0,
+    0, 1, 0, 0, 0, 0, 0, 0, 0, 1, 0, 0, 0, 3, 1, 0, 0, 0, 40, 0, 0, 0, 0, 0, 0, 0, 0, 0, 1, 0, 0,
+    64, 0, 0, 0, 1, 0, 0, 0, 0, 0, 0, 0, 1, 0, 0, 0, 1, 0, 0, 0, 1, 2, 1, 0, 0, 0, 0, 0, 0, 0, 13,
+    0, 0, 0, 0, 0, 0, 0, 0, 0, 0, 0, 0, 0, 7, 103, 101, 110, 101, 114, 97, 108, 0, 0, 0, 0, 0, 0,
+    0, 0, 1, 0, 16, 0, 0, 0, 0, 0, 3, 0, 0, 0, 0, 0, 0, 0, 1, 97, 0, 0, 0, 0, 0, 0, 0, 1, 0, 0, 0,
+    5, 0, 0, 0, 6, 0, 0, 0, 2, 0, 0, 0, 2, 0, 0, 0, 0, 0, 0, 0, 0, 0, 0, 0, 0, 0, 0, 0, 1, 0, 0, 0,
+    0, 0, 0, 0, 0, 0, 0, 0, 0, 0, 0, 0, 1, 120, 1, 0, 0, 0, 2, 0, 1,
+];
+
+/// A sheet `A` of id 2 came at index 1, and a copy `B` of the sheet of id 1. The sheet of id 1 moved from
+/// index 0 to 1, became of a colour of the theme, very hidden, and lost its grid lines.
+const SHEETS: [&[u8]; 6] = [
+    &[8, 0, 0, 0, 2, 0, 0, 0, 1, 0, 0, 0, 0, 0, 0, 0, 1, 65],
+    &[
+        9, 0, 0, 0, 1, 0, 0, 0, 2, 0, 0, 0, 1, 0, 0, 0, 0, 0, 0, 0, 1, 66,
+    ],
+    &[12, 0, 0, 0, 1, 0, 0, 0, 0, 0, 0, 0, 1],
+    &[13, 0, 0, 0, 1, 0, 2, 11],
+    &[14, 0, 0, 0, 1, 0, 2],
+    &[15, 0, 0, 0, 1, 1, 0],
+];
+
+/// Diffs that are none: colours, states and booleans that don't exist, a name that is no UTF-8, and a
+/// tag that no diff has.
+const NO_SHEETS: [&[u8]; 6] = [
+    &[13, 0, 0, 0, 1, 0, 2, 12],
+    &[13, 0, 0, 0, 1, 3, 0],
+    &[14, 0, 0, 0, 1, 0, 3],
+    &[15, 0, 0, 0, 1, 1, 2],
+    &[8, 0, 0, 0, 2, 0, 0, 0, 1, 0, 0, 0, 0, 0, 0, 0, 1, 255],
+    &[11, 0, 0, 0, 1, 0, 0, 0, 0, 0, 0, 0, 1],
+];
+
 /// A place in `LINES`, and the byte that is put there.
 const DAMAGED_LINES: [(usize, u8); 7] = [
     // Lines that are neither rows nor columns, and an edit that is none.
@@ -167,15 +204,44 @@ fn queues_and_styles_are_written(rt: HostRuntime) -> Result<(), Fail> {
 
 #[test]
 fn diffs_are_read_and_written(rt: HostRuntime) -> Result<(), Fail> {
-    let plain = plain_style(rt)?;
     for bytes in [ARRAY.as_slice(), LINK.as_slice(), MERGES.as_slice()] {
-        let (diff, rest) = DiffPart::take(rt.alloc(), &plain, bytes)
-            .ok()
-            .ok_or("the bytes are a diff")?;
-        assert!(rt; rest.is_empty());
-        let mut out = Vec::new(rt.alloc());
-        DiffPart::put(&mut out, &diff)?;
-        assert_eq!(rt; out.as_slice(), bytes);
+        assert!(rt; is_read_and_written(rt, bytes)?);
+    }
+    Ok(())
+}
+
+fn is_read_and_written(rt: HostRuntime, bytes: &[u8]) -> Result<bool, Fail> {
+    let (diff, rest) = DiffPart::take(rt.alloc(), &plain_style(rt)?, bytes)
+        .ok()
+        .ok_or("the bytes are a diff")?;
+    let mut out = Vec::new(rt.alloc());
+    DiffPart::put(&mut out, &diff)?;
+    Ok(rest.is_empty() && out.as_slice() == bytes)
+}
+
+#[test]
+fn diffs_of_sheets_are_read_and_written(rt: HostRuntime) -> Result<(), Fail> {
+    assert!(rt; is_read_and_written(rt, &DELETION)?);
+    for bytes in SHEETS {
+        assert!(rt; is_read_and_written(rt, bytes)?);
+    }
+    Ok(())
+}
+
+#[test]
+fn damaged_diffs_of_sheets_are_refused(rt: HostRuntime) -> Result<(), Fail> {
+    let plain = plain_style(rt)?;
+    for bytes in NO_SHEETS {
+        assert!(rt;
+            matches!(
+                DiffPart::take(rt.alloc(), &plain, bytes),
+                Err(EditError::ParseDiffs)
+            )
+        );
+    }
+    for length in 0..DELETION.len() {
+        let cut = DiffPart::take(rt.alloc(), &plain, &DELETION[..length]);
+        assert!(rt; matches!(cut, Err(EditError::ParseDiffs)));
     }
     Ok(())
 }

@@ -12,7 +12,7 @@ use Rattle.formula_tree.specs.declared.Node.{Node}
 use Rattle.cell_content.specs.declared.Content.{Content}
 use Rattle.sheet_grid.specs.declared.Link.{Link}
 use Rattle.sheet_grid.specs.Sheet.{Sheet}
-use Rattle.sheet_grid.specs.Book.{Book, sheet_at, sheet_edit, with_sheet}
+use Rattle.sheet_grid.specs.Book.{Book, sheet_at, with_sheet}
 use Rattle.edit_plans.specs.Edits.{Edit, changed, is_silent}
 use Rattle.edit_plans.specs.Inputs.{input_place, input_put, with_input}
 use Rattle.edit_plans.specs.ArrayInputs.{array_area, array_put, free_area, with_array}
@@ -97,27 +97,31 @@ array_goes_there index r free book sheet place one two three same =
 
 -- ---- an edit that is refused before its plan is made
 
-edit_refused : (edit : Edit) (s : State) (error : EditError) → is_silent edit ≡ false → changed edit s.present ≡ Err error → edit_of edit s ≡ Err error
+edit_refused : (edit : Edit) (s : State) (error : EditError) → is_silent edit s.present ≡ false → changed edit s.present ≡ Err error → edit_of edit s ≡ Err error
 edit_refused edit s error loud is = ap (λ b. cond b (Ok s) (map_ok (edited edit s) (changed edit s.present))) loud ∙ ap (map_ok (edited edit s)) is
 
-edit_accepted : (edit : Edit) (s : State) → is_silent edit ≡ false → IsOk (changed edit s.present) → IsOk (edit_of edit s)
+edit_accepted : (edit : Edit) (s : State) → is_silent edit s.present ≡ false → IsOk (changed edit s.present) → IsOk (edit_of edit s)
 edit_accepted edit s loud is = subst IsOk (ap (λ b. cond b (Ok s) (map_ok (edited edit s) (changed edit s.present))) (sym loud)) (go (changed edit s.present) is)
   where
     go : (r : Result Book EditError) → IsOk r → IsOk (map_ok (edited edit s) r)
     go (Ok later) h = refl
     go (Err error) h = h
 
-pub refused_moves : (edit : Edit) (doc : Document) (s : State) (error : EditError) → StandsFor doc s → is_silent edit ≡ false → error ≢ NoMemory → changed edit doc.book ≡ Err error
+-- an edit that is not silent in a document is not in the state
+heard_there : (edit : Edit) (doc : Document) (s : State) → StandsFor doc s → is_silent edit doc.book ≡ false → is_silent edit s.present ≡ false
+heard_there edit doc s stands loud = subst (λ (d : Document). is_silent edit d.book ≡ false) stands.document loud
+
+pub refused_moves : (edit : Edit) (doc : Document) (s : State) (error : EditError) → StandsFor doc s → is_silent edit doc.book ≡ false → error ≢ NoMemory → changed edit doc.book ≡ Err error
     → Moves {T = Unit {0}} (Err error) doc (edit_of edit s)
 refused_moves edit doc s error stands loud sure is = record {
   done = tt;
-  refused = λ other. edit_refused edit s error loud (subst (λ (d : Document). changed edit d.book ≡ Err error) stands.document is);
+  refused = λ other. edit_refused edit s error (heard_there edit doc s stands loud) (subst (λ (d : Document). changed edit d.book ≡ Err error) stands.document is);
   memory = λ short. absurd (sure short);
 }
 
-pub short_moves : (edit : Edit) (doc : Document) (s : State) → StandsFor doc s → is_silent edit ≡ false → IsOk (changed edit doc.book) → Moves {T = Unit {0}} (Err NoMemory) doc (edit_of edit s)
+pub short_moves : (edit : Edit) (doc : Document) (s : State) → StandsFor doc s → is_silent edit doc.book ≡ false → IsOk (changed edit doc.book) → Moves {T = Unit {0}} (Err NoMemory) doc (edit_of edit s)
 short_moves edit doc s stands loud is = record {
   done = tt;
   refused = λ other. absurd (other refl);
-  memory = λ short. edit_accepted edit s loud (subst (λ (d : Document). IsOk (changed edit d.book)) stands.document is);
+  memory = λ short. edit_accepted edit s (heard_there edit doc s stands loud) (subst (λ (d : Document). IsOk (changed edit d.book)) stands.document is);
 }

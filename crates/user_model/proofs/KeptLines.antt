@@ -23,7 +23,7 @@ use Rattle.sheet_lines.specs.Kept.{lines_of, of_sheet, kept_lines}
 use Rattle.sheet_lines.specs.Sheets.{sheet_of}
 use Rattle.sheet_history.specs.laws.Entries.{entry_holds}
 use Rattle.sheet_history.specs.laws.RuleLaws.{sheet_rules}
-use Rattle.sheet_wire.specs.LinesBytes.{IsKeptOfLines}
+use Rattle.sheet_wire.specs.laws.Fitting.{IsKeptOfLines}
 
 -- what rows and columns have of their own
 record Attributes (sheet : Sheet) : Type 0 where
@@ -40,7 +40,7 @@ attributes_of sheet all =
     let two = both row_test column_test one.0 in
     record { rows = two.0; columns = two.1 }
 
-abbrev IsOwn : LineAttr → Type 0
+abbrev pub IsOwn : LineAttr → Type 0
 IsOwn attr = is_plain attr ≡ false
 
 is_not : (b : Bool) → not b ≡ true → b ≡ false
@@ -61,7 +61,7 @@ own_at test own m all line = go (get m line) refl
     go (Some attr) is = own attr (entry_holds int_cmp int_cmp_total exact_signed (λ (entry : ℤ × LineAttr). test entry.1) m all line attr is)
 
 -- of each row and of each column a sheet has something of its own
-own_lines : (sheet : Sheet) → have_attributes sheet ≡ true → (b : Bool) (line : ℤ) → IfSome (get (cond b sheet.rows sheet.columns) line) IsOwn
+pub own_lines : (sheet : Sheet) → have_attributes sheet ≡ true → (b : Bool) (line : ℤ) → IfSome (get (cond b sheet.rows sheet.columns) line) IsOwn
 own_lines sheet all true line = own_at is_row row_own sheet.rows (attributes_of sheet all).rows line
 own_lines sheet all false line = own_at is_column column_own sheet.columns (attributes_of sheet all).columns line
 

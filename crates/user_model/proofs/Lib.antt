@@ -7,10 +7,14 @@ mod LineSteps
 mod Lists
 mod MoveSteps
 mod Moving
+mod Named
+mod Planned
 mod Recording
 mod Refusals
 mod Unread
 mod Received
+mod SheetSteps
+mod SheetsSpelled
 mod Sounds
 mod Spelled
 mod Tested

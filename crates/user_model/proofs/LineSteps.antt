@@ -14,7 +14,7 @@ use Rattle.sheet_history.specs.declared.Diff.{Diff}
 use Rattle.sheet_history.specs.declared.Diff.TheVariants.{Lines as LinesDiff}
 use Rattle.sheet_history.specs.declared.LineAxis.{LineAxis}
 use Rattle.sheet_history.specs.LineDiffs.{along_of}
-use Rattle.sheet_history.specs.Diffs.{made, taken_back}
+use Rattle.sheet_history.specs.Diffs.{untested_after, untested_before}
 use Rattle.sheet_history.specs.Records.{IsLineEdit, line_record}
 use Rattle.sheet_actions.specs.Planned.{lines_planned}
 use Rattle.sheet_actions.specs.Whole.{IsAllowed}
@@ -22,7 +22,7 @@ use Rattle.sheet_actions.specs.laws.FollowedWellFormed.{followed_well_formed}
 use Rattle.sheet_history.specs.laws.LineRecords.{along_lawful, record_made, record_taken_back}
 use Rattle.edit_plans.specs.Edits.{Edit, changed, lines_record, record_of}
 use Rattle.edit_plans.specs.Edits.Edit.{Lines}
-use Rattle.user_model.specs.Document.{Document, document_edit, recorded, lines_recorded}
+use Rattle.user_model.specs.Document.{Document, document_edit, edited_to, recorded, lines_recorded}
 use Rattle.user_model.specs.Spellable.{AreSpellable}
 use Rattle.user_model.specs.Sound.{IsSoundChange}
 use Rattle.user_model.specs.BothWays.{GoesBothWays}
@@ -61,9 +61,9 @@ module _ (index : ℕ) (axis : LineAxis) (kind : EditKind) where
       let later_rules : IsWellFormed later = subst IsWellFormed found.followed (followed_well_formed (along_of axis) (along_lawful axis) kind found.edit.valid id w found.edit.rules found.allowed) in
       record {
         rules = later_rules;
-        forth = passes (length list) (made w list) later (ap (made w) recorded_is ∙ record_made axis kind id w found.edit ∙ ap Ok found.followed) later_rules;
-        back = passes (length list) (taken_back later list) w
-            (ap (taken_back later) recorded_is ∙ ap (λ b. taken_back b (line_record axis kind id w)) (sym found.followed) ∙ record_taken_back axis kind id w found.edit) found.edit.rules;
+        forth = passes (length list) (untested_after w list) later (ap (untested_after w) recorded_is ∙ record_made axis kind id w found.edit ∙ ap Ok found.followed) later_rules;
+        back = passes (length list) (untested_before later list) w
+            (ap (untested_before later) recorded_is ∙ ap (λ b. untested_before b (line_record axis kind id w)) (sym found.followed) ∙ record_taken_back axis kind id w found.edit) found.edit.rules;
         exact = record { sheet = found.sheet; there = found.at; followed = found.followed; recorded = recorded_is };
       }
 
@@ -101,13 +101,13 @@ module _ (index : ℕ) (axis : LineAxis) (kind : EditKind) (plan : ℕ × EditKi
   pub planned_document : (doc : Document) → IsWellFormed doc.book → lines_planned (along_of axis) kind index doc.book ≡ Ok plan
       → Ok (lines_recorded axis plan.1 plan.0 doc) ≡ document_edit (Lines index axis kind) doc
   planned_document doc rules planned =
-      ap (λ list. Ok (recorded list doc (followed doc.book))) (sym (plan_record doc.book rules planned (followed doc.book)))
-      ∙ sym (ap (map_ok (λ b. recorded (record_of (Lines index axis kind) doc.book b) doc b)) (plan_made doc.book rules planned))
+      ap (λ list. Ok (recorded list doc.view.sheet doc (followed doc.book))) (sym (plan_record doc.book rules planned (followed doc.book)))
+      ∙ sym (ap (map_ok (edited_to (Lines index axis kind) doc)) (plan_made doc.book rules planned))
 
 -- and an edit whose plan is refused is refused
 pub refused_document : (doc : Document) (index : ℕ) (axis : LineAxis) (kind : EditKind) (error : EditError) → lines_planned (along_of axis) kind index doc.book ≡ Err error → document_edit (Lines index axis kind) doc ≡ Err error
 refused_document doc index axis kind error plan =
-    ap (λ r. map_ok (λ later. recorded (record_of (Lines index axis kind) doc.book later) doc later) (map_ok (λ (p : ℕ × EditKind). book_followed (along_of axis) p.1 p.0 doc.book) r)) plan
+    ap (λ r. map_ok (edited_to (Lines index axis kind) doc) (map_ok (λ (p : ℕ × EditKind). book_followed (along_of axis) p.1 p.0 doc.book) r)) plan
 
 -- what is said along an axis holds along the one that names it
 module _ (a : Along) (axis : LineAxis) (named : a ≡ along_of axis) (kind : EditKind) where
@@ -124,5 +124,5 @@ module _ (a : Along) (axis : LineAxis) (named : a ≡ along_of axis) (kind : Edi
 
   -- to install the followed workbook with it is to record the edit
   pub installed_document : (id : ℕ) (doc : Document) (later : Book) (list : List Diff) → later ≡ book_followed a kind id doc.book → list ≡ line_record axis kind id doc.book
-      → ◌≡◌ {A = Result Document EditError} (Ok (recorded list doc later)) (Ok (lines_recorded axis kind id doc))
-  installed_document id doc later list later_is list_is = λ i. Ok (recorded (list_is i) doc ((later_is ∙ ap (λ b. book_followed b kind id doc.book) named) i))
+      → ◌≡◌ {A = Result Document EditError} (Ok (recorded list doc.view.sheet doc later)) (Ok (lines_recorded axis kind id doc))
+  installed_document id doc later list later_is list_is = λ i. Ok (recorded (list_is i) doc.view.sheet doc ((later_is ∙ ap (λ b. book_followed b kind id doc.book) named) i))

@@ -16,14 +16,14 @@ use Rattle.sheet_lines.specs.Followed.{book_followed}
 use Rattle.sheet_actions.specs.Edited.{lines_edited}
 use Rattle.sheet_actions.specs.Planned.{refusal_of, splits_array, splits_merge, unless_refused}
 use Rattle.sheet_history.specs.declared.LineAxis.{LineAxis}
-use Rattle.sheet_history.specs.Diffs.{backed, forwarded}
+use Rattle.sheet_history.specs.Diffs.{book_before, book_after}
 use Rattle.sheet_history.specs.LineDiffs.{along_of}
 use Rattle.sheet_history.specs.laws.LineRecords.{along_lawful}
 use Rattle.edit_plans.specs.HiddenLines.{grown}
 use Rattle.edit_plans.specs.Edits.{Edit, changed, grown_move, is_silent, lines_record, record_of}
 use Rattle.edit_plans.specs.Edits.Edit.{Lines, MoveLines}
 use Rattle.user_model.specs.BothWays.{GoesBothWays}
-use Rattle.user_model.specs.Document.{Document, document_edit, recorded}
+use Rattle.user_model.specs.Document.{Document, document_edit, edited_to, recorded}
 use Rattle.user_model.specs.Far.{is_far}
 use Rattle.user_model.specs.Sound.{IsLinesRecord, IsSoundChange}
 use Rattle.user_model.specs.Spellable.{AreSpellable}
@@ -42,7 +42,7 @@ far_refused a axis first count delta sheet far =
     ap (λ b. cond (not b) (Some TargetOutOfBounds) (cond (splits_array a (Move first count delta) sheet) (Some SplitsArray) (cond (splits_merge a (Move first count delta) sheet) (Some SplitsMerge) None)))
     (far_invalid a.last first count delta axis.last_high far)
 
--- a sheet that is not there is no want of memory
+-- a sheet that is not there does not come from lack of memory
 pub never_short : (w : Book) (index : ℕ) (error : EditError) → sheet_at w index ≡ Err error → error ≡ NoMemory → ⊥
 never_short w index error at short = go (slice_get w.worksheets index) at
   where
@@ -83,8 +83,8 @@ module _ (index : ℕ) (axis : LineAxis) (first count delta : ℤ) where
     both_ways : (later : Book) → GoesBothWays edit w later → GoesBothWays move w later
     both_ways later it = record {
       rules = it.rules;
-      forth = subst (λ list. forwarded w list ≡ Ok later) (records later) it.forth;
-      back = subst (λ list. backed later list ≡ Ok w) (records later) it.back;
+      forth = subst (λ list. book_after w list ≡ Ok later) (records later) it.forth;
+      back = subst (λ list. book_before later list ≡ Ok w) (records later) it.back;
       exact = exact later it.exact;
     }
 
@@ -108,12 +108,12 @@ module _ (index : ℕ) (axis : LineAxis) (first count delta : ℤ) where
   -- ---- a document
 
   -- a silent move does nothing
-  pub silent_document : (doc : Document) → is_silent move ≡ true → document_edit move doc ≡ Ok doc
-  silent_document doc silent = ap (λ b. cond b (Ok doc) (map_ok (λ later. recorded (record_of move doc.book later) doc later) (changed move doc.book))) silent
+  pub silent_document : (doc : Document) → is_silent move doc.book ≡ true → document_edit move doc ≡ Ok doc
+  silent_document doc silent = ap (λ b. cond b (Ok doc) (map_ok (edited_to move doc) (changed move doc.book))) silent
 
-  module _ (doc : Document) (loud : is_silent move ≡ false) where
+  module _ (doc : Document) (loud : is_silent move doc.book ≡ false) where
     abbrev after_edit : Result Book EditError → Result Document EditError
-    after_edit r = map_ok (λ later. recorded (record_of move doc.book later) doc later) r
+    after_edit r = map_ok (edited_to move doc) r
 
     heard : document_edit move doc ≡ after_edit (changed move doc.book)
     heard = ap (λ b. cond b (Ok doc) (after_edit (changed move doc.book))) loud
@@ -125,7 +125,7 @@ module _ (index : ℕ) (axis : LineAxis) (first count delta : ℤ) where
     module _ (sheet : Sheet) (at : sheet_at doc.book index ≡ Ok sheet) where
       -- it is the edit of its lines
       pub move_document : document_edit (Lines index axis (kind sheet)) doc ≡ document_edit move doc
-      move_document = (λ i. map_ok (λ later. recorded (records doc.book sheet at later i) doc later) (changes doc.book sheet at i)) ∙ sym heard
+      move_document = (λ i. map_ok (λ later. recorded (records doc.book sheet at later i) doc.view.sheet doc later) (changes doc.book sheet at i)) ∙ sym heard
 
       -- and is refused where it goes too far
       pub far_document : is_far (grown (along_of axis) sheet first count delta) ≡ true → document_edit move doc ≡ Err TargetOutOfBounds

@@ -1,28 +1,39 @@
 -- What is said of documents holds of the states that they stand for.
-use Rattle.std.proofs.Common.{◌≡◌, ◌≢◌, ℕ, List, [], Result, Ok, Err, refl, ap, sym, subst, ◌∙◌}
+use Rattle.std.proofs.Common.{◌≡◌, ◌≢◌, ◌<◌, length, ℕ, ℤ, Bool, true, false, cond, List, [], Result, Ok, Err, refl, ap, sym, subst, ◌∙◌}
 use Rattle.std.specs.Prelude.{OnOk, OnErr, IfErr, IfSome, IsOk, IsOkAnd, IsTrue}
 use Rattle.std.proofs.Common.{Option, Some, None}
+use Rattle.std.specs.Prelude.{slice_get}
+use Rattle.std.proofs.lemmas.Option.{slice_get_within}
 use Rattle.base_values.specs.declared.EditError.{EditError}
-use Rattle.base_values.specs.declared.EditError.TheVariants.{NoMemory}
-use Rattle.base_values.specs.Answers.{Edits, Changes, map_ok}
-use Rattle.sheet_grid.specs.Book.{Book}
+use Rattle.base_values.specs.declared.EditError.TheVariants.{InvalidArea, InvalidSheet, NoMemory}
+use Rattle.base_values.specs.Answers.{Edits, Changes, and_then, map_ok, ok_or}
+use Rattle.sheet_grid.specs.Sheet.{Sheet}
+use Rattle.sheet_grid.specs.Book.{Book, sheet_at}
 use Rattle.sheet_rules.specs.WellFormed.{IsWellFormed}
 use Rattle.sheet_history.specs.declared.QueueDiffs.{QueueDiffs}
 use Rattle.sheet_history.specs.Diffs.{replayed}
 use Rattle.sheet_wire.specs.QueueBytes.{IsKnownQueue, FitsQueue, spell_queue}
-use Rattle.edit_plans.specs.Edits.{Edit, changed, is_of_entries}
-use Rattle.edit_plans.specs.Plans.{Plans}
+use Rattle.sheet_views.specs.declared.View.{View}
+use Rattle.sheet_views.specs.Views.{is_range, range_chosen}
+use Rattle.edit_plans.specs.Edits.{Edit, changed, is_of_entries, is_of_sheets, is_silent}
+use Rattle.edit_plans.specs.Plans.{Plans, PlansSheets}
+use Rattle.edit_plans.specs.Edits.Edit.{DeleteSheet, SetField}
+use Rattle.edit_plans.specs.SheetEdits.{field_set, sheet_deleted}
+use Rattle.edit_plans.specs.ViewSteps.{selected_by}
 use Rattle.sheet_history.specs.declared.Diff.{Diff}
+use Rattle.sheet_history.specs.declared.SheetField.{SheetField}
 use Rattle.user_model.specs.declared.open_book.OpenBook.{OpenBook}
 use Rattle.user_model.specs.declared.recalc.Results.{Results}
 use Rattle.user_model.specs.Document.{Document, document, document_edit, document_undo, document_redo, document_received}
-use Rattle.user_model.specs.Machine.{State, edit_of, undo_of, redo_of, synced_of, received}
+use Rattle.user_model.specs.Machine.{State, edit_of, edited, looking, undo_of, redo_of, synced_of, received}
 use Rattle.user_model.specs.Opened.{document_in, session_of}
 use Rattle.user_model.specs.Sound.{Carries, IsSound, IsSoundChange}
 use Rattle.user_model.specs.Stands.{StandsFor, IsReached, IsPlanOf, Moves, Turns}
-use Rattle.user_model.specs.Values.{Session}
+use Rattle.user_model.specs.Values.{Session, seeing}
 use Rattle.user_model.proofs.Documents.{document_edited, document_undone, document_redone, document_taken}
-use Rattle.user_model.proofs.Sounds.{sound_edit, sound_undo, sound_redo, sound_sync, sound_received}
+use Rattle.user_model.proofs.EntrySteps.{entries_plan}
+use Rattle.user_model.proofs.SheetSteps.{SheetLaw, sheets_plan}
+use Rattle.user_model.proofs.Sounds.{leads_on, sound_edit, sound_undo, sound_redo, sound_seen, sound_sync, sound_received}
 
 -- ---- results
 
@@ -142,6 +153,15 @@ pub same_session : {T : Type 0} (result : Result T EditError) (book later : Open
 same_session (Ok value) book later results made seen is one two = tt
 same_session (Err error) book later results made seen is one two = (λ i. record { document = one i; values = (two i).values; paused = (two i).paused }) ∙ is
 
+-- ---- silent edits
+
+-- an edit that does nothing leaves the state
+pub silent_moves : (edit : Edit) (doc : Document) (s : State) → StandsFor doc s → is_silent edit doc.book ≡ true → Moves {T = Unit {0}} (Ok tt) doc (edit_of edit s)
+silent_moves edit doc s stands silent =
+    let here : is_silent edit s.present ≡ true = subst (λ (d : Document). is_silent edit d.book ≡ true) stands.document silent in
+    let stays : edit_of edit s ≡ Ok s = ap (λ b. cond b (Ok s) (map_ok (edited edit s) (changed edit s.present))) here in
+    record { done = subst (λ r. IsOkAnd r (StandsFor doc)) (sym stays) stands; refused = tt; memory = tt }
+
 -- ---- a sync
 
 -- the document with an empty queue stands for the state after a sync
@@ -152,7 +172,7 @@ synced_document doc new s is same = record {
 }
 
 pub flushed_carries : (doc : Document) (s : State) (bytes : List ℕ) → StandsFor doc s → bytes ≡ spell_queue doc.queue → IfSome s.synced (λ book. Carries s.sent bytes book s.present)
-flushed_carries doc s bytes stands is = go s.synced stands.sound.replays
+flushed_carries doc s bytes stands is = go s.synced (leads_on s stands.sound.carries)
   where
     spelled : bytes ≡ spell_queue s.sent
     spelled = is ∙ ap (λ (d : Document). spell_queue d.queue) stands.document
@@ -165,6 +185,55 @@ pub flushed_fits : (doc : Document) (s : State) → StandsFor doc s → FitsQueu
 flushed_fits doc s stands fits = subst (λ (d : Document). FitsQueue d.queue) stands.document fits
 
 -- a plan of the workbook inside is one of the document that callers see
-pub plan_of : (edit : Edit) (plan : Result (List Diff) EditError) (book : OpenBook) (results : Results) (seen : Session) → session_of book results ≡ seen → IsTrue (is_of_entries edit)
-    → Plans plan (document_in book).book (changed edit (document_in book).book) → IsPlanOf edit plan seen.document
-plan_of edit plan book results seen same is plans = subst (λ (session : Session). IsPlanOf edit plan session.document) same (record { of_entries = is; plans = plans })
+module _ (edit : Edit) (plan : Result (List Diff) EditError) (selected : ℕ) (book : OpenBook) (results : Results) (seen : Session) (same : session_of book results ≡ seen)
+    (reached : IsReached (document_in book)) (selects : IsOk (changed edit book.workbook) → selected_by edit book.workbook book.view.sheet ≡ selected) where
+  pub plan_of : IsTrue (is_of_entries edit) → Plans plan book.workbook (changed edit book.workbook) → IsPlanOf edit plan selected seen.document
+  plan_of is plans =
+      subst (λ (session : Session). IsPlanOf edit plan selected session.document) same (entries_plan edit is (document_in book) (reached_rules (document_in book) reached) plan selected selects plans)
+
+  pub sheet_plan_of : SheetLaw → IsTrue (is_of_sheets edit) → is_silent edit book.workbook ≡ false → PlansSheets edit plan book.workbook → IsPlanOf edit plan selected seen.document
+  sheet_plan_of law is loud plans =
+      subst (λ (session : Session). IsPlanOf edit plan selected session.document) same
+      (sheets_plan law edit is (document_in book) (reached_rules (document_in book) reached) plan selected loud selects plans)
+
+-- the sheet at the index of an edit that is accepted is there
+edit_there : (index : ℕ) (w : Book) (f : Sheet → Result Book EditError) → IsOk (and_then (sheet_at w index) f) → index < length w.worksheets
+edit_there index w f is = go (slice_get w.worksheets index) refl is
+  where
+    go : (o : Option Sheet) → slice_get w.worksheets index ≡ o → IsOk (and_then (ok_or InvalidSheet o) f) → index < length w.worksheets
+    go (Some sheet) found ok = slice_get_within w.worksheets index sheet found
+    go None found ok = absurd (let never : false ≡ true = ok in cc)
+
+pub deletion_there : (index : ℕ) (w : Book) → IsOk (changed (DeleteSheet index) w) → index < length w.worksheets
+unfolding sheet_deleted
+deletion_there index w is = edit_there index w _ is
+
+pub field_there : (index : ℕ) (value : SheetField) (w : Book) → IsOk (changed (SetField index value) w) → index < length w.worksheets
+unfolding field_set
+field_there index value w is = edit_there index w _ is
+
+-- ---- views
+
+-- the document with another view stands for the state with it
+pub seen_stands : (doc : Document) (s : State) (view : View) → StandsFor doc s → StandsFor (record doc { view = view }) (record s { view = view })
+seen_stands doc s view is = record { document = ap (λ (d : Document). record d { view = view }) is.document; sound = sound_seen s is.sound view }
+
+pub seen_reached : (doc : Document) (view : View) → IsReached doc → IsReached (record doc { view = view })
+seen_reached doc view is = (record is.0 { view = view }, seen_stands doc is.0 view is.1)
+
+-- a view that was chosen is the one of the state
+pub looked : (old new : Session) (s : State) (view : View) → new ≡ seeing old view → StandsFor old.document s → Moves {T = Unit {0}} (Ok tt) new.document (looking (Ok view) s)
+looked old new s view is stands =
+    record { done = subst (λ (session : Session). StandsFor session.document (record s { view = view })) (sym is) (seen_stands old.document s view stands); refused = tt; memory = tt }
+
+-- and one that was refused is not
+pub not_looked : (old : Session) (s : State) (error : EditError) → error ≢ NoMemory → StandsFor old.document s → Moves {T = Unit {0}} (Err error) old.document (looking (Err error) s)
+not_looked old s error sure stands = record { done = tt; refused = λ other. refl; memory = λ short. absurd (sure short) }
+
+-- to choose a rectangle takes no memory
+pub range_sure : (result : Result View EditError) (view : View) (first_row first_column last_row last_column : ℤ) → result ≡ range_chosen view first_row first_column last_row last_column → result ≢ Err NoMemory
+range_sure result view first_row first_column last_row last_column is short = go (is_range first_row first_column last_row last_column) _ (sym is ∙ short)
+  where
+    go : (b : Bool) (seen : View) → ◌≡◌ {A = Result View EditError} (cond b (Ok seen) (Err InvalidArea)) (Err NoMemory) → ⊥
+    go true seen never = cc
+    go false seen never = cc

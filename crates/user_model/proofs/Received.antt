@@ -1,9 +1,8 @@
 -- How a document takes the entries of another copy's queue.
 use Rattle.std.proofs.Common.{◌≡◌, ◌≢◌, ◌⊎◌, inl, inr, Bool, true, false, ℕ, zero, suc, ◌+◌, ◌<◌, ◌≤◌, List, [], ◌∷◌, ◌++◌, length, take, drop, Result, Ok, Err, refl, sym, ap, subst, ◌∙◌, arith, length-take}
-use Rattle.std.specs.Prelude.{IsOkAnd, IsOkUnless, OnErr, OnOk}
-use Rattle.std.specs.List.{AllByRecursion}
+use Rattle.std.specs.Prelude.{IsOkAnd, IsOkUnless, OnOk}
 use Rattle.base_values.specs.declared.EditError.{EditError}
-use Rattle.base_values.specs.declared.EditError.TheVariants.{DiffRefused, NoMemory, ParseDiffs}
+use Rattle.base_values.specs.declared.EditError.TheVariants.{DiffRefused, NoMemory}
 use Rattle.base_values.specs.Answers.{and_then, map_ok}
 use Rattle.sheet_grid.specs.Book.{Book}
 use Rattle.sheet_grid.specs.Computed.{Values}
@@ -13,7 +12,7 @@ use Rattle.sheet_wire.specs.QueueBytes.{FitsQueue, spell_queue}
 use Rattle.user_model.specs.Document.{Document}
 use Rattle.user_model.specs.Machine.{State, received, go_on, outside, applied_from, applied}
 use Rattle.user_model.specs.Sound.{WhereCarried}
-use Rattle.user_model.specs.Stands.{StandsFor, IsReached, Leaves, Turns}
+use Rattle.user_model.specs.Stands.{StandsFor, Leaves}
 use Rattle.user_model.specs.Values.{Session, IsMade, LeavesMade, Makes, MakesAfter, is_none_left}
 
 -- the first entries of a queue were taken
@@ -157,8 +156,8 @@ applied_led at [] s later is = (refl, cc)
 applied_led at (entry ∷ entries) s later is = go (λ t led. applied_led (at + 1) entries t later led) (in_entry at (follow entry.kind s.present entry.list)) is
   where
     go : ((t : State) → replayed_from (at + 1) t.present entries ≡ Ok later → IsLed (applied_from (at + 1) entries t) later)
-        → (r : Result Book EditError) → and_then r (λ next. replayed_from (at + 1) next entries) ≡ Ok later → IsLed (go_on s (map_ok (outside s) r) (applied_from (at + 1) entries)) later
-    go rest (Ok next) e = rest (outside s next) e
+        → (r : Result Book EditError) → and_then r (λ next. replayed_from (at + 1) next entries) ≡ Ok later → IsLed (go_on s (map_ok (outside entry s) r) (applied_from (at + 1) entries)) later
+    go rest (Ok next) e = rest (outside entry s next) e
     go rest (Err error) e = absurd (let never : ◌≡◌ {A = Result Book EditError} (Err error) (Ok later) = e in cc)
 
 module _ (entries : List QueueDiffs) (s : State) (later : Book) (new : Document) (led : replayed s.present entries ≡ Ok later) where

@@ -7,18 +7,20 @@ use Rattle.base_values.specs.declared.EditError.{EditError}
 use Rattle.base_values.specs.declared.EditError.TheVariants.{NoMemory}
 use Rattle.base_values.specs.Answers.{Edits, map_ok}
 use Rattle.sheet_grid.specs.Book.{Book}
+use Rattle.sheet_views.specs.declared.View.{View}
 use Rattle.sheet_history.specs.declared.Diff.{Diff}
 use Rattle.sheet_history.specs.declared.DiffType.{DiffType}
 use Rattle.sheet_history.specs.declared.DiffType.TheVariants.{Undo, Redo}
 use Rattle.sheet_history.specs.declared.QueueDiffs.{QueueDiffs}
-use Rattle.sheet_history.specs.Diffs.{backed, forwarded, made, taken_back, follow, in_entry, of_entry}
+use Rattle.sheet_history.specs.Diffs.{book_before, book_after, untested_after, untested_before, follow, in_entry, of_entry}
 use Rattle.sheet_history.specs.Stacks.{Stacks, undone_from, redone_from}
 use Rattle.sheet_history.specs.Stacks as stacks
-use Rattle.user_model.specs.Document.{Document, document, document_undo, undo_at, document_redo, redo_at, document_received, beside, recorded, sending, can_undo_step, can_redo_step, stale_after}
+use Rattle.user_model.specs.Document.{Document, document, document_undo, undo_at, document_redo, redo_at, beside, sending, can_undo_step, can_redo_step, stale_after}
 use Rattle.user_model.specs.Machine.{State, Step, step_record}
 use Rattle.user_model.specs.Sound.{Leads, Follows}
 use Rattle.user_model.specs.Stands.{IsReached}
 use Rattle.user_model.specs.Untested.{follow_untested}
+use Rattle.user_model.specs.Views.{view_followed}
 use Rattle.user_model.proofs.Tested.{passed}
 
 -- an entry that was sent is taken out of the queue again
@@ -29,29 +31,29 @@ sent_back kind list queue longer shorter count sent counted cut =
 
 -- a list that is refused leaves the document
 pub refused_with : (old new : Document) (error : EditError) (expected : Result Book EditError) (f : Book → Document)
-    → new.book ≡ old.book → new.undo ≡ old.undo → new.redo ≡ old.redo → new.queue ≡ old.queue → new.stale_undo ≡ old.stale_undo → new.stale_redo ≡ old.stale_redo → new.language ≡ old.language
+    → new.book ≡ old.book → new.undo ≡ old.undo → new.redo ≡ old.redo → new.queue ≡ old.queue → new.stale_undo ≡ old.stale_undo → new.stale_redo ≡ old.stale_redo → new.language ≡ old.language → new.view ≡ old.view
     → (error ≢ NoMemory → expected ≡ Err error) → Edits {S = Document} (Err error) old new (map_ok f expected)
-refused_with old new error expected f book undo redo queue stale_undo stale_redo language refused = record {
+refused_with old new error expected f book undo redo queue stale_undo stale_redo language view refused = record {
   done = tt;
   refused = (
-    λ i. record { book = book i; undo = undo i; redo = redo i; stale_undo = stale_undo i; stale_redo = stale_redo i; queue = queue i; language = language i },
+    λ i. record { book = book i; undo = undo i; redo = redo i; stale_undo = stale_undo i; stale_redo = stale_redo i; queue = queue i; language = language i; view = view i },
     λ other. ap (map_ok f) (refused other),
   );
 }
 
 -- ---- lists that are not refused need no test
 
-untested_backed : (book : Book) (list : List Diff) (r : Result Book EditError) → backed book list ≡ r → IsOk r → taken_back book list ≡ r
-untested_backed book list (Ok later) is ok = passed _ (taken_back book list) later is
+untested_backed : (book : Book) (list : List Diff) (r : Result Book EditError) → book_before book list ≡ r → IsOk r → untested_before book list ≡ r
+untested_backed book list (Ok later) is ok = passed _ (untested_before book list) later is
 untested_backed book list (Err error) is ok = absurd (let never : false ≡ true = ok in cc)
 
-untested_forwarded : (book : Book) (list : List Diff) (r : Result Book EditError) → forwarded book list ≡ r → IsOk r → made book list ≡ r
-untested_forwarded book list (Ok later) is ok = passed _ (made book list) later is
+untested_forwarded : (book : Book) (list : List Diff) (r : Result Book EditError) → book_after book list ≡ r → IsOk r → untested_after book list ≡ r
+untested_forwarded book list (Ok later) is ok = passed _ (untested_after book list) later is
 untested_forwarded book list (Err error) is ok = absurd (let never : false ≡ true = ok in cc)
 
 pub untested : (kind : DiffType) (book : Book) (list : List Diff) → IsOk (follow kind book list) → follow_untested kind book list ≡ follow kind book list
-untested Undo book list ok = untested_backed book list (backed book list) refl ok
-untested Redo book list ok = untested_forwarded book list (forwarded book list) refl ok
+untested Undo book list ok = untested_backed book list (book_before book list) refl ok
+untested Redo book list ok = untested_forwarded book list (book_after book list) refl ok
 
 -- ---- the newest list
 
@@ -61,12 +63,12 @@ again f g error (Err other) is = let same : other ≡ error = cc in ap Err same
 
 module _ (doc : Document) (list : List Diff) (older : List (List Diff)) (history : Stacks) where
   -- the newest list to undo was taken back, and moved to the other stack
-  pub took_back : (earlier : Book) (queue : List QueueDiffs) (stale_undo stale_redo : ℕ) (moved : Stacks) (kept : Bool)
-      → history.undo ≡ doc.undo → history.redo ≡ doc.redo → doc.undo ≡ list ∷ older → backed doc.book list ≡ Ok earlier → queue ≡ sending Undo list doc.queue
+  pub took_back : (earlier : Book) (view : View) (queue : List QueueDiffs) (stale_undo stale_redo : ℕ) (moved : Stacks) (kept : Bool)
+      → history.undo ≡ doc.undo → history.redo ≡ doc.redo → doc.undo ≡ list ∷ older → book_before doc.book list ≡ Ok earlier → view ≡ view_followed Undo list doc.book earlier doc.view → queue ≡ sending Undo list doc.queue
       → kept ≡ can_undo_step doc → moved.undo ≡ (stacks.undone history).undo → moved.redo ≡ (stacks.undone history).redo
       → stale_undo ≡ stale_after kept doc.stale_undo (length (stacks.undone history).undo) → stale_redo ≡ stale_after kept doc.stale_redo (length (stacks.undone history).redo)
-      → document_undo doc ≡ Ok (record doc { book = earlier; undo = moved.undo; redo = moved.redo; stale_undo = stale_undo; stale_redo = stale_redo; queue = queue })
-  took_back earlier queue stale_undo stale_redo moved kept undo redo newest went sent kept_is undo_is redo_is one two =
+      → document_undo doc ≡ Ok (record doc { book = earlier; view = view; undo = moved.undo; redo = moved.redo; stale_undo = stale_undo; stale_redo = stale_redo; queue = queue })
+  took_back earlier view queue stale_undo stale_redo moved kept undo redo newest went seen sent kept_is undo_is redo_is one two =
       let top : history.undo ≡ list ∷ older = undo ∙ newest in
       let less : (stacks.undone history).undo ≡ older = ap (λ u. (undone_from u history).undo) top in
       let more : (stacks.undone history).redo ≡ list ∷ doc.redo = ap (λ u. (undone_from u history).redo) top ∙ ap (λ r. list ∷ r) redo in
@@ -74,6 +76,7 @@ module _ (doc : Document) (list : List Diff) (older : List (List Diff)) (history
       ∙ sym (λ i.
       Ok (record doc {
         book = earlier;
+        view = seen i;
         undo = (undo_is ∙ less) i;
         redo = (redo_is ∙ more) i;
         stale_undo = (one ∙ (λ j. stale_after (kept_is j) doc.stale_undo (length (less j)))) i;
@@ -82,12 +85,12 @@ module _ (doc : Document) (list : List Diff) (older : List (List Diff)) (history
       }))
 
   -- the newest list to redo was made again, and moved to the other stack
-  pub made_again : (later : Book) (queue : List QueueDiffs) (stale_undo stale_redo : ℕ) (moved : Stacks) (kept : Bool)
-      → history.undo ≡ doc.undo → history.redo ≡ doc.redo → doc.redo ≡ list ∷ older → forwarded doc.book list ≡ Ok later → queue ≡ sending Redo list doc.queue
+  pub made_again : (later : Book) (view : View) (queue : List QueueDiffs) (stale_undo stale_redo : ℕ) (moved : Stacks) (kept : Bool)
+      → history.undo ≡ doc.undo → history.redo ≡ doc.redo → doc.redo ≡ list ∷ older → book_after doc.book list ≡ Ok later → view ≡ view_followed Redo list doc.book later doc.view → queue ≡ sending Redo list doc.queue
       → kept ≡ can_redo_step doc → moved.undo ≡ (stacks.redone history).undo → moved.redo ≡ (stacks.redone history).redo
       → stale_undo ≡ stale_after kept doc.stale_undo (length (stacks.redone history).undo) → stale_redo ≡ stale_after kept doc.stale_redo (length (stacks.redone history).redo)
-      → document_redo doc ≡ Ok (record doc { book = later; undo = moved.undo; redo = moved.redo; stale_undo = stale_undo; stale_redo = stale_redo; queue = queue })
-  made_again later queue stale_undo stale_redo moved kept undo redo newest went sent kept_is undo_is redo_is one two =
+      → document_redo doc ≡ Ok (record doc { book = later; view = view; undo = moved.undo; redo = moved.redo; stale_undo = stale_undo; stale_redo = stale_redo; queue = queue })
+  made_again later view queue stale_undo stale_redo moved kept undo redo newest went seen sent kept_is undo_is redo_is one two =
       let top : history.redo ≡ list ∷ older = redo ∙ newest in
       let less : (stacks.redone history).redo ≡ older = ap (λ r. (redone_from r history).redo) top in
       let more : (stacks.redone history).undo ≡ list ∷ doc.undo = ap (λ r. (redone_from r history).undo) top ∙ ap (λ u. list ∷ u) undo in
@@ -95,6 +98,7 @@ module _ (doc : Document) (list : List Diff) (older : List (List Diff)) (history
       ∙ sym (λ i.
       Ok (record doc {
         book = later;
+        view = seen i;
         undo = (undo_is ∙ more) i;
         redo = (redo_is ∙ less) i;
         stale_undo = (one ∙ (λ j. stale_after (kept_is j) doc.stale_undo (length (more j)))) i;
@@ -103,39 +107,39 @@ module _ (doc : Document) (list : List Diff) (older : List (List Diff)) (history
       }))
 
   -- where the newest list was refused, the document is as it was
-  pub back_refused : (new : Document) (error : EditError) (f : Book → Document) → doc.undo ≡ list ∷ older → Edits {S = Document} (Err error) doc new (map_ok f (backed doc.book list))
+  pub back_refused : (new : Document) (error : EditError) (f : Book → Document) → doc.undo ≡ list ∷ older → Edits {S = Document} (Err error) doc new (map_ok f (book_before doc.book list))
       → Edits {S = Document} (Err error) doc new (document_undo doc)
   back_refused new error f newest edits =
-      record { done = tt; refused = (edits.refused.0, λ other. ap (λ u. undo_at u doc) newest ∙ again f _ error (backed doc.book list) (edits.refused.1 other)) }
+      record { done = tt; refused = (edits.refused.0, λ other. ap (λ u. undo_at u doc) newest ∙ again f _ error (book_before doc.book list) (edits.refused.1 other)) }
 
-  pub forth_refused : (new : Document) (error : EditError) (f : Book → Document) → doc.redo ≡ list ∷ older → Edits {S = Document} (Err error) doc new (map_ok f (forwarded doc.book list))
+  pub forth_refused : (new : Document) (error : EditError) (f : Book → Document) → doc.redo ≡ list ∷ older → Edits {S = Document} (Err error) doc new (map_ok f (book_after doc.book list))
       → Edits {S = Document} (Err error) doc new (document_redo doc)
   forth_refused new error f newest edits =
-      record { done = tt; refused = (edits.refused.0, λ other. ap (λ r. redo_at r doc) newest ∙ again f _ error (forwarded doc.book list) (edits.refused.1 other)) }
+      record { done = tt; refused = (edits.refused.0, λ other. ap (λ r. redo_at r doc) newest ∙ again f _ error (book_after doc.book list) (edits.refused.1 other)) }
 
 -- ---- the record of a step is not refused
 
 back_works : (s : State) (list : List Diff) (older : List (List Diff)) (past : List Step) → Leads past s.present → map step_record past ++ s.stale_undo ≡ list ∷ older
-    → nat_lt (length s.stale_undo) (length (map step_record past ++ s.stale_undo)) ≡ true → IsOk (backed s.present list)
+    → nat_lt (length s.stale_undo) (length (map step_record past ++ s.stale_undo)) ≡ true → IsOk (book_before s.present list)
 back_works s list older [] leads newest kept = absurd (let never : false ≡ true = sym (le-ltb (length s.stale_undo) (length s.stale_undo) (omega arith)) ∙ kept in cc)
 back_works s list older (step ∷ past) leads newest kept =
     let top : step_record step ≡ list = cc in
-    subst IsOk (sym (ap (backed s.present) (sym top) ∙ ap (λ book. backed book (step_record step)) (sym leads.0) ∙ leads.1.back)) refl
+    subst IsOk (sym (ap (book_before s.present) (sym top) ∙ ap (λ book. book_before book (step_record step)) (sym leads.0) ∙ leads.1.back)) refl
 
 forth_works : (s : State) (list : List Diff) (older : List (List Diff)) (undone : List Step) → Follows undone s.present → map step_record undone ++ s.stale_redo ≡ list ∷ older
-    → nat_lt (length s.stale_redo) (length (map step_record undone ++ s.stale_redo)) ≡ true → IsOk (forwarded s.present list)
+    → nat_lt (length s.stale_redo) (length (map step_record undone ++ s.stale_redo)) ≡ true → IsOk (book_after s.present list)
 forth_works s list older [] follows newest kept = absurd (let never : false ≡ true = sym (le-ltb (length s.stale_redo) (length s.stale_redo) (omega arith)) ∙ kept in cc)
 forth_works s list older (step ∷ undone) follows newest kept =
     let top : step_record step ≡ list = cc in
-    subst IsOk (sym (ap (forwarded s.present) (sym top) ∙ ap (λ book. forwarded book (step_record step)) (sym follows.0) ∙ follows.1.forth)) refl
+    subst IsOk (sym (ap (book_after s.present) (sym top) ∙ ap (λ book. book_after book (step_record step)) (sym follows.0) ∙ follows.1.forth)) refl
 
-pub undo_works : (doc : Document) → IsReached doc → (list : List Diff) (older : List (List Diff)) → doc.undo ≡ list ∷ older → can_undo_step doc ≡ true → IsOk (backed doc.book list)
+pub undo_works : (doc : Document) → IsReached doc → (list : List Diff) (older : List (List Diff)) → doc.undo ≡ list ∷ older → can_undo_step doc ≡ true → IsOk (book_before doc.book list)
 undo_works doc is list older =
-    subst (λ (d : Document). d.undo ≡ list ∷ older → can_undo_step d ≡ true → IsOk (backed d.book list)) (sym is.1.document) (back_works is.0 list older is.0.past is.1.sound.past)
+    subst (λ (d : Document). d.undo ≡ list ∷ older → can_undo_step d ≡ true → IsOk (book_before d.book list)) (sym is.1.document) (back_works is.0 list older is.0.past is.1.sound.past)
 
-pub redo_works : (doc : Document) → IsReached doc → (list : List Diff) (older : List (List Diff)) → doc.redo ≡ list ∷ older → can_redo_step doc ≡ true → IsOk (forwarded doc.book list)
+pub redo_works : (doc : Document) → IsReached doc → (list : List Diff) (older : List (List Diff)) → doc.redo ≡ list ∷ older → can_redo_step doc ≡ true → IsOk (book_after doc.book list)
 redo_works doc is list older =
-    subst (λ (d : Document). d.redo ≡ list ∷ older → can_redo_step d ≡ true → IsOk (forwarded d.book list)) (sym is.1.document) (forth_works is.0 list older is.0.undone is.1.sound.undone)
+    subst (λ (d : Document). d.redo ≡ list ∷ older → can_redo_step d ≡ true → IsOk (book_after d.book list)) (sym is.1.document) (forth_works is.0 list older is.0.undone is.1.sound.undone)
 
 -- ---- entries of other copies
 
@@ -143,13 +147,13 @@ never_short : (at : ℕ) (error : EditError) → of_entry at error ≢ NoMemory 
 never_short at error other short = other (ap (of_entry at) short)
 
 -- a refused entry leaves the document, and its refusal names it
-pub receive_refused : (old new : Document) (at : ℕ) (error : EditError) (expected : Result Book EditError) → new ≡ old → (error ≢ NoMemory → expected ≡ Err error)
-    → Edits {S = Document} (Err (of_entry at error)) old new (map_ok (beside old) (in_entry at expected))
-receive_refused old new at error expected same refused =
-    record { done = tt; refused = (same, λ other. ap (λ r. map_ok (beside old) (in_entry at r)) (refused (never_short at error other))) }
+pub receive_refused : (old new : Document) (at : ℕ) (one : QueueDiffs) (error : EditError) (expected : Result Book EditError) → new ≡ old → (error ≢ NoMemory → expected ≡ Err error)
+    → Edits {S = Document} (Err (of_entry at error)) old new (map_ok (beside one old) (in_entry at expected))
+receive_refused old new at one error expected same refused =
+    record { done = tt; refused = (same, λ other. ap (λ r. map_ok (beside one old) (in_entry at r)) (refused (never_short at error other))) }
 
-pub receive_done : (old : Document) (at : ℕ) (later : Book) (stale_undo stale_redo : ℕ) (expected : Result Book EditError) → expected ≡ Ok later
-    → stale_undo ≡ length old.undo → stale_redo ≡ length old.redo
-    → map_ok (beside old) (in_entry at expected) ≡ Ok (record old { book = later; stale_undo = stale_undo; stale_redo = stale_redo })
-receive_done old at later stale_undo stale_redo expected is one two =
-    ap (λ r. map_ok (beside old) (in_entry at r)) is ∙ (λ i. Ok (record old { book = later; stale_undo = sym one i; stale_redo = sym two i }))
+pub receive_done : (old : Document) (at : ℕ) (one : QueueDiffs) (later : Book) (view : View) (stale_undo stale_redo : ℕ) (expected : Result Book EditError) → expected ≡ Ok later
+    → view ≡ view_followed one.kind one.list old.book later old.view → stale_undo ≡ length old.undo → stale_redo ≡ length old.redo
+    → map_ok (beside one old) (in_entry at expected) ≡ Ok (record old { book = later; view = view; stale_undo = stale_undo; stale_redo = stale_redo })
+receive_done old at one later view stale_undo stale_redo expected is seen undo redo =
+    ap (λ r. map_ok (beside one old) (in_entry at r)) is ∙ (λ i. Ok (record old { book = later; view = sym seen i; stale_undo = sym undo i; stale_redo = sym redo i }))

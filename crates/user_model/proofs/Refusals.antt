@@ -1,23 +1,31 @@
 -- The entries of another copy's queue are refused by a diff alone.
-use Rattle.std.proofs.Common.{◌≡◌, ℕ, ◌+◌, Bool, true, false, cond, List, [], ◌∷◌, length, Option, Some, None, Result, Ok, Err, subst}
+use Rattle.std.proofs.Common.{◌≡◌, ℕ, ◌+◌, ◌&&◌, Bool, true, false, cond, List, [], ◌∷◌, length, Option, Some, None, Result, Ok, Err, subst}
+use Rattle.std.specs.Prelude.{nat_lt}
 use Rattle.base_values.specs.declared.EditError.{EditError}
 use Rattle.base_values.specs.declared.EditError.TheVariants.{DiffRefused, ParseDiffs}
 use Rattle.base_values.specs.Answers.{and_then, map_ok}
 use Rattle.base_axis.specs.Along.{Along}
 use Rattle.line_edits.specs.declared.EditKind.{EditKind}
-use Rattle.sheet_grid.specs.Book.{Book}
+use Rattle.defined_names.specs.declared.DefinedName.{DefinedName}
+use Rattle.defined_names.specs.Names.{names_copied, names_left, names_restored}
+use Rattle.sheet_grid.specs.Sheet.{Sheet, new_sheet}
+use Rattle.sheet_grid.specs.Book.{Book, index_of}
 use Rattle.sheet_rules.specs.WellFormed.{broken_rule}
+use Rattle.sheet_lines.specs.Sheets.{sheet_of}
 use Rattle.sheet_lines.specs.declared.KeptLines.{KeptLines}
 use Rattle.sheet_lines.specs.Followed.{book_followed}
 use Rattle.sheet_lines.specs.Back.{book_back}
+use Rattle.book_sheets.specs.declared.KeptSheet.{KeptSheet}
+use Rattle.book_sheets.specs.SheetDiffs.{copied_from, copy_back, copy_forward, deletion_back, deletion_forward, goes_from, may_come, may_come_back, moved_from, new_back, new_forward, sheet_as, sheet_comes, sheet_goes, sheet_lies_inside, sheet_moves, with_sheet_at}
 use Rattle.sheet_history.specs.declared.Diff.{Diff}
-use Rattle.sheet_history.specs.declared.Diff.TheVariants.{Cell as CellDiff, Link as LinkDiff, Merges as MergesDiff, Lines as LinesDiff}
+use Rattle.sheet_history.specs.declared.Diff.TheVariants.{Cell as CellDiff, Link as LinkDiff, Merges as MergesDiff, Field as FieldDiff, Lines as LinesDiff, NewSheet as NewDiff, DuplicateSheet as CopyDiff, DeleteSheet as DeletionDiff, MoveSheet as MoveDiff}
 use Rattle.sheet_history.specs.declared.DiffType.{DiffType}
 use Rattle.sheet_history.specs.declared.DiffType.TheVariants.{Undo, Redo}
 use Rattle.sheet_history.specs.declared.QueueDiffs.{QueueDiffs}
 use Rattle.sheet_history.specs.Entries.{EntryKey, EntryValue, accepts, put_entry}
-use Rattle.sheet_history.specs.Entries.EntryKey.{CellKey, LinkKey, MergesKey}
-use Rattle.sheet_history.specs.Entries.EntryValue.{CellValue, LinkValue, MergesValue}
+use Rattle.sheet_history.specs.Entries.EntryKey.{CellKey, LinkKey, MergesKey, FieldKey}
+use Rattle.sheet_history.specs.Entries.EntryValue.{CellValue, LinkValue, MergesValue, FieldValue}
+use Rattle.sheet_history.specs.Fields.{changed_field, new_of, old_of}
 use Rattle.sheet_history.specs.LineDiffs.{along_of, goes_forward, goes_back, lines_forward, lines_back}
 use Rattle.sheet_history.specs.Diffs.{put_in, step_forward, step_back, forward_from, back_from, by_rule, tested, follow, in_entry}
 use Rattle.user_model.specs.Document.{Document}
@@ -52,17 +60,79 @@ back_only : (at : ℕ) (a : Along) (id : ℕ) (e : EditKind) (kept : KeptLines) 
 unfolding lines_back
 back_only at a id e kept book = either_only (goes_back a id e kept book) (Ok (book_back a e id kept book)) (Err (DiffRefused 0 at)) tt tt
 
+-- ---- the list of the sheets
+
+comes_only : (at index : ℕ) (sheet : Sheet) (names : List DefinedName) (book : Book) → Only (sheet_comes at index sheet names book)
+comes_only at index sheet names book = either_only (may_come index sheet.id book) (Ok (with_sheet_at index sheet names book)) (Err (DiffRefused 0 at)) tt tt
+
+goes_only : (at : ℕ) (names : List DefinedName) (book : Book) (index : Option ℕ) → Only (goes_from at index names book)
+goes_only at names book None = tt
+goes_only at names book (Some index) = tt
+
+new_only : (at id index : ℕ) (name : List ℕ) (book : Book) → Only (new_forward at id index name book)
+unfolding new_forward
+new_only at id index name book = comes_only at index (new_sheet id name) book.names book
+
+new_back_only : (at id : ℕ) (book : Book) → Only (new_back at id book)
+unfolding new_back
+new_back_only at id book = goes_only at book.names book (index_of book id)
+
+copy_only : (at source id index : ℕ) (name : List ℕ) (book : Book) → Only (copy_forward at source id index name book)
+unfolding copy_forward
+copy_only at source id index name book = of (sheet_of book source)
+  where
+    of : (o : Option Sheet) → Only (copied_from at o source id index name book)
+    of None = tt
+    of (Some sheet) = comes_only at index (sheet_as id name sheet) (names_copied source id book.names) book
+
+copy_back_only : (at id : ℕ) (book : Book) → Only (copy_back at id book)
+unfolding copy_back
+copy_back_only at id book = goes_only at (names_left id book.names) book (index_of book id)
+
+deletion_only : (at : ℕ) (kept : KeptSheet) (book : Book) → Only (deletion_forward at kept book)
+unfolding deletion_forward
+deletion_only at kept book =
+    either_only (sheet_lies_inside kept.sheet) (sheet_goes at kept.sheet.id (names_left kept.sheet.id book.names) book) (Err (DiffRefused 0 at))
+    (goes_only at (names_left kept.sheet.id book.names) book (index_of book kept.sheet.id)) tt
+
+deletion_back_only : (at index : ℕ) (kept : KeptSheet) (book : Book) → Only (deletion_back at index kept book)
+unfolding deletion_back
+deletion_back_only at index kept book =
+    either_only (may_come_back (length book.names) kept) (sheet_comes at index kept.sheet (names_restored kept.names book.names) book) (Err (DiffRefused 0 at))
+    (comes_only at index kept.sheet (names_restored kept.names book.names) book) tt
+
+moves_only : (at id other to : ℕ) (book : Book) → Only (sheet_moves at id other to book)
+unfolding sheet_moves
+moves_only at id other to book =
+    either_only (nat_lt other (length book.worksheets) && nat_lt to (length book.worksheets)) (moved_from at (index_of book id) to book) (Err (DiffRefused 0 at)) (from (index_of book id)) tt
+  where
+    from : (o : Option ℕ) → Only (moved_from at o to book)
+    from None = tt
+    from (Some index) = tt
+
+-- ---- lists
+
 step_only : (at : ℕ) (book : Book) (diff : Diff) → Only (step_forward at book diff)
 step_only at book (CellDiff sheet place old new) = put_only at book (CellKey sheet place) (CellValue new)
 step_only at book (LinkDiff sheet place old new) = put_only at book (LinkKey sheet place) (LinkValue new)
 step_only at book (MergesDiff sheet old new) = put_only at book (MergesKey sheet) (MergesValue new)
+step_only at book (FieldDiff sheet change) = put_only at book (FieldKey sheet (changed_field change)) (FieldValue (new_of change))
 step_only at book (LinesDiff sheet axis edit kept) = forward_only at (along_of axis) sheet edit kept book
+step_only at book (NewDiff sheet index name) = new_only at sheet index name book
+step_only at book (CopyDiff source sheet index name) = copy_only at source sheet index name book
+step_only at book (DeletionDiff index kept) = deletion_only at kept book
+step_only at book (MoveDiff sheet from to) = moves_only at sheet from to book
 
 step_back_only : (at : ℕ) (book : Book) (diff : Diff) → Only (step_back at book diff)
 step_back_only at book (CellDiff sheet place old new) = put_only at book (CellKey sheet place) (CellValue old)
 step_back_only at book (LinkDiff sheet place old new) = put_only at book (LinkKey sheet place) (LinkValue old)
 step_back_only at book (MergesDiff sheet old new) = put_only at book (MergesKey sheet) (MergesValue old)
+step_back_only at book (FieldDiff sheet change) = put_only at book (FieldKey sheet (changed_field change)) (FieldValue (old_of change))
 step_back_only at book (LinesDiff sheet axis edit kept) = back_only at (along_of axis) sheet edit kept book
+step_back_only at book (NewDiff sheet index name) = new_back_only at sheet book
+step_back_only at book (CopyDiff source sheet index name) = copy_back_only at sheet book
+step_back_only at book (DeletionDiff index kept) = deletion_back_only at index kept book
+step_back_only at book (MoveDiff sheet from to) = moves_only at sheet to from book
 
 made_only : (at : ℕ) (book : Book) (diffs : List Diff) → Only (forward_from at book diffs)
 made_only at book [] = tt
@@ -99,8 +169,8 @@ applied_only at [] s = tt
 applied_only at (entry ∷ entries) s =
     go (λ t. applied_only (at + 1) entries t) (in_entry at (follow entry.kind s.present entry.list)) (entry_only at (follow entry.kind s.present entry.list) (follow_only entry.kind s.present entry.list))
   where
-    go : ((t : State) → OnlyDone (applied_from (at + 1) entries t).1) → (r : Result Book EditError) → Only r → OnlyDone (go_on s (map_ok (outside s) r) (applied_from (at + 1) entries)).1
-    go rest (Ok later) h = rest (outside s later)
+    go : ((t : State) → OnlyDone (applied_from (at + 1) entries t).1) → (r : Result Book EditError) → Only r → OnlyDone (go_on s (map_ok (outside entry s) r) (applied_from (at + 1) entries)).1
+    go rest (Ok later) h = rest (outside entry s later)
     go rest (Err error) h = h
 
 -- what was read is not refused as unread

@@ -8,15 +8,16 @@ use Rattle.cell_content.specs.Fitting.{fits_at}
 use Rattle.sheet_grid.specs.declared.Cell.{Cell}
 use Rattle.sheet_grid.specs.Arrays.{array_at}
 use Rattle.sheet_grid.specs.Book.{Book}
-use Rattle.sheet_grid.specs.FittingCells.{is_shallow_entry}
+use Rattle.sheet_grid.specs.laws.FittingCells.{is_shallow_entry}
 use Rattle.sheet_grid.specs.laws.FittingLaws.{shallow_entry}
 use Rattle.sheet_rules.specs.WellFormed.{is_place, IsWellFormed}
 use Rattle.sheet_rules.specs.laws.EntryLaws.{both}
 use Rattle.sheet_lines.specs.Sheets.{sheet_of}
 use Rattle.sheet_history.specs.declared.Diff.{Diff}
-use Rattle.sheet_history.specs.declared.Diff.TheVariants.{Cell as CellDiff, Link as LinkDiff, Merges as MergesDiff, Lines as LinesDiff}
-use Rattle.sheet_history.specs.Diffs.{IsKeptDiff, IsKeptList}
-use Rattle.sheet_history.specs.Entries.{lies_inside, cell_stands_at, value_fits, accepts}
+use Rattle.sheet_history.specs.declared.Diff.TheVariants.{Cell as CellDiff, Link as LinkDiff, Merges as MergesDiff, Field as FieldDiff, Lines as LinesDiff, NewSheet as NewDiff, DuplicateSheet as CopyDiff, DeleteSheet as DeletionDiff, MoveSheet as MoveDiff}
+use Rattle.sheet_history.specs.Diffs.{IsCanonicalDiff, IsCanonicalList}
+use Rattle.book_sheets.specs.SheetDiffs.{lies_inside}
+use Rattle.sheet_history.specs.Entries.{cell_stands_at, value_fits, accepts}
 use Rattle.sheet_history.specs.Entries.EntryKey.{CellKey}
 use Rattle.sheet_history.specs.Entries.EntryValue.{CellValue}
 use Rattle.sheet_history.specs.Records.{Change, change_of, IsRecord}
@@ -39,16 +40,21 @@ module _ (w : Book) where
       shallow_standing place entry (both (is_place place) (cell_stands_at place entry) fits).1
 
   -- a diff whose values the workbook can take can be spelled
-  known : (diff : Diff) (c : Change) → change_of diff ≡ Some c → accepts w c.0 c.1.1 ≡ true → accepts w c.0 c.1.0 ≡ true → IsKeptDiff diff → IsKnownDiff diff
+  known : (diff : Diff) (c : Change) → change_of diff ≡ Some c → accepts w c.0 c.1.1 ≡ true → accepts w c.0 c.1.0 ≡ true → IsCanonicalDiff diff → IsKnownDiff diff
   known (CellDiff id place old new) c is news olds kept =
       let same : ◌≡◌ {A = Change} (CellKey id place, (CellValue old, CellValue new)) c = cc in
       known_diff (CellDiff id place old new) kept
       (shallow id place old (ap (λ (x : Change). accepts w x.0 x.1.0) same ∙ olds), shallow id place new (ap (λ (x : Change). accepts w x.0 x.1.1) same ∙ news)) tt
   known (LinkDiff id place old new) c is news olds kept = tt
   known (MergesDiff id old new) c is news olds kept = tt
+  known (FieldDiff id change) c is news olds kept = tt
   known (LinesDiff id axis edit lines) c is news olds kept = absurd (cc)
+  known (NewDiff id index name) c is news olds kept = absurd (cc)
+  known (CopyDiff source id index name) c is news olds kept = absurd (cc)
+  known (DeletionDiff index sheet) c is news olds kept = absurd (cc)
+  known (MoveDiff id from to) c is news olds kept = absurd (cc)
 
-  all_known : (list : List Diff) (changes : List Change) → map change_of list ≡ map Some changes → AllFit w changes → AllByRecursion IsKeptDiff list → AreSpellable list
+  all_known : (list : List Diff) (changes : List Change) → map change_of list ≡ map Some changes → AllFit w changes → AllByRecursion IsCanonicalDiff list → AreSpellable list
   all_known [] [] is fit kept = tt
   all_known [] (c ∷ changes) is fit kept = absurd (cc)
   all_known (diff ∷ list) [] is fit kept = absurd (cc)
@@ -57,6 +63,6 @@ module _ (w : Book) where
       let rest : map change_of list ≡ map Some changes = cc in
       (known diff c one fit.0 fit.1 kept.0, all_known list changes rest fit.2 kept.1)
 
-pub record_spellable : (earlier later : Book) (list : List Diff) → IsWellFormed earlier → IsWellFormed later → IsRecord earlier later list → IsKeptList list → AreSpellable list
+pub record_spellable : (earlier later : Book) (list : List Diff) → IsWellFormed earlier → IsWellFormed later → IsRecord earlier later list → IsCanonicalList list → AreSpellable list
 record_spellable earlier later list before after is kept =
-    all_known earlier list is.changes is.made_of (entries_fit earlier later list before after is) (recursion_from_All IsKeptDiff list kept)
+    all_known earlier list is.changes is.made_of (entries_fit earlier later list before after is) (recursion_from_All IsCanonicalDiff list kept)

@@ -1,5 +1,7 @@
 pub mod Far
 pub mod Spellable
+pub mod Views
+pub mod Properties
 pub mod Machine
 pub mod Document
 pub mod Values
@@ -13,3 +15,4 @@ pub mod Places
 pub mod Reading
 pub mod Typing
 pub mod Structure
+pub mod laws

@@ -15,6 +15,7 @@ document_in book =
       stale_redo = book.stale_redo;
       queue = book.queue;
       language = book.language;
+      view = book.view;
     }
 
 -- with its computed values

@@ -16,7 +16,7 @@ use Rattle.cell_content.specs.declared.Content.TheVariants.{Empty}
 use Rattle.cell_input.specs.Inputs.{input_of, input_text}
 use Rattle.sheet_grid.specs.declared.Cell.{Cell}
 use Rattle.sheet_grid.specs.declared.Link.{Link}
-use Rattle.sheet_grid.specs.Sheet.{Sheet, cell_at}
+use Rattle.sheet_grid.specs.Sheet.{cell_at}
 use Rattle.sheet_grid.specs.Book.{Book, sheet_at}
 
 -- how formulas are read and printed at a place

@@ -1,15 +1,17 @@
 -- For which states of the machine a user model stands, and what its calls do with them.
-use Rattle.std.proofs.Common.{◌≡◌, ◌≢◌, ℕ, List, take, Result, Ok, Err}
-use Rattle.std.specs.Prelude.{OnOk, IfOk, IfErr, IsOk, IsOkAnd, IsTrue}
+use Rattle.std.proofs.Common.{◌≡◌, ◌≢◌, ℕ, false, List, take, Result, Err}
+use Rattle.std.specs.Prelude.{OnOk, IfOk, IfErr, IsOk, IsOkAnd}
 use Rattle.base_values.specs.declared.EditError.{EditError}
 use Rattle.base_values.specs.declared.EditError.TheVariants.{NoMemory}
+use Rattle.sheet_grid.specs.Book.{Book}
 use Rattle.sheet_history.specs.declared.Diff.{Diff}
 use Rattle.sheet_history.specs.declared.QueueDiffs.{QueueDiffs}
-use Rattle.edit_plans.specs.Edits.{Edit, changed, is_of_entries}
-use Rattle.edit_plans.specs.Plans.{Plans}
+use Rattle.sheet_history.specs.Diffs.{IsCanonicalList}
+use Rattle.edit_plans.specs.Edits.{Edit, changed, is_silent, record_of}
+use Rattle.edit_plans.specs.ViewSteps.{selected_by}
 use Rattle.user_model.specs.Document.{Document, document}
 use Rattle.user_model.specs.Machine.{State, applied}
-use Rattle.user_model.specs.Sound.{IsSound}
+use Rattle.user_model.specs.Sound.{IsSound, IsSoundStep}
 use Rattle.user_model.specs.Values.{Session}
 
 -- a document stands for each sound state that it is the document of
@@ -42,7 +44,7 @@ pub record Turns {T : Type 0} (result : Result T EditError) (new : Document) (ex
   pub refused : IfErr result (λ error. error ≢ NoMemory → expected ≡ Err error)
 
 -- what a call answers of the entries of another copy's queue, and where it leaves the model: the entries before a refused one stand, and
--- after want of memory some first ones do
+-- out of memory, some first ones do
 abbrev pub Leaves : Result (Unit {0}) EditError → Document → List QueueDiffs → State → Type 0
 Leaves (Err NoMemory) new entries s = (count : ℕ) × StandsFor new (applied (take count entries) s).0
 Leaves result new entries s = ((applied entries s).1 ≡ result) × StandsFor new (applied entries s).0
@@ -54,11 +56,21 @@ pub record Opens (result : Result Session EditError) (expected : Result State Ed
   pub refused : IfErr result (λ error. error ≢ NoMemory → expected ≡ Err error)
   pub memory : IfErr result (λ error. error ≡ NoMemory → IsOk expected)
 
--- a result is that of the plan of an edit by entries, which has the record of its change or refuses it
-pub record IsPlanOf (edit : Edit) (plan : Result (List Diff) EditError) (doc : Document) : Type 0 where
-  pub of_entries : IsTrue (is_of_entries edit)
-  pub plans : Plans plan doc.book (changed edit doc.book)
+-- a list is the record of an edit that led from one workbook to another, with canonical numbers, and the step is sound
+pub record IsStepBy (edit : Edit) (earlier : Book) (list : List Diff) (later : Book) : Type 0 where
+  pub recorded : list ≡ record_of edit earlier later
+  pub step : IsSoundStep (record { edit = edit; before = earlier; after = later })
+  pub canonical : IsCanonicalList list
+
+-- a result is that of the plan of an edit that does something and, where it is accepted, selects the sheet at an index: it has the record
+-- of the edit's change, or refuses it
+pub record IsPlanOf (edit : Edit) (plan : Result (List Diff) EditError) (selected : ℕ) (doc : Document) : Type 0 where
+  pub loud : is_silent edit doc.book ≡ false
+  pub selects : IsOk (changed edit doc.book) → selected_by edit doc.book doc.view.sheet ≡ selected
+  pub planned : IfOk plan (λ list. IsOkAnd (changed edit doc.book) (IsStepBy edit doc.book list))
+  pub refused : IfErr plan (λ error. error ≢ NoMemory → changed edit doc.book ≡ Err error)
+  pub memory : IfErr plan (λ error. error ≡ NoMemory → IsOk (changed edit doc.book))
 
 -- of some edit
-abbrev pub IsAnyPlan : Result (List Diff) EditError → Document → Type 0
-IsAnyPlan plan doc = (edit : Edit) × IsPlanOf edit plan doc
+abbrev pub IsAnyPlan : Result (List Diff) EditError → ℕ → Document → Type 0
+IsAnyPlan plan selected doc = (edit : Edit) × IsPlanOf edit plan selected doc

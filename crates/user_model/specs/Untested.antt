@@ -5,9 +5,9 @@ use Rattle.sheet_grid.specs.Book.{Book}
 use Rattle.sheet_history.specs.declared.Diff.{Diff}
 use Rattle.sheet_history.specs.declared.DiffType.{DiffType}
 use Rattle.sheet_history.specs.declared.DiffType.TheVariants.{Undo, Redo}
-use Rattle.sheet_history.specs.Diffs.{made, taken_back}
+use Rattle.sheet_history.specs.Diffs.{untested_after, untested_before}
 
 -- a list followed in its direction, whether or not the result is well-formed
 abbrev pub follow_untested : DiffType → Book → List Diff → Result Book EditError
-follow_untested Undo book list = taken_back book list
-follow_untested Redo book list = made book list
+follow_untested Undo book list = untested_before book list
+follow_untested Redo book list = untested_after book list

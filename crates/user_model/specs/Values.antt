@@ -4,6 +4,7 @@ use Rattle.base_values.specs.declared.EditError.{EditError}
 use Rattle.base_values.specs.declared.EditError.TheVariants.{DiffRefused}
 use Rattle.sheet_grid.specs.Book.{Book}
 use Rattle.sheet_grid.specs.Computed.{Values, no_values}
+use Rattle.sheet_views.specs.declared.View.{View}
 use Rattle.sheet_history.specs.declared.QueueDiffs.{QueueDiffs}
 use Rattle.user_model.specs.Document.{Document}
 
@@ -12,6 +13,10 @@ pub record Session : Type 0 where
   pub document : Document
   pub values : Values
   pub paused : Bool
+
+-- the same where something else is seen of the workbook
+abbrev pub seeing : Session → View → Session
+seeing session view = record session { document = record session.document { view = view } }
 
 -- values that were just made fit the workbook. While they wait there are none
 abbrev pub AreMade : (Book → Values → Type 0) → Bool → Book → Values → Type 0
@@ -34,7 +39,7 @@ is_none_left (x ∷ xs) = false
 abbrev pub MakesAfter : ℕ → List QueueDiffs → (Book → Values → Type 0) → Session → Session → Type 0
 MakesAfter count entries Fits old new = Makes (is_none_left (take count entries)) Fits old new
 
--- the values after the entries of another copy's queue. After a refused entry they are as after those before it, and after want of memory as
+-- the values after the entries of another copy's queue. After a refused entry they are as after those before it, and out of memory as
 -- after some first ones
 abbrev pub LeavesMade : Result (Unit {0}) EditError → List QueueDiffs → (Book → Values → Type 0) → Session → Session → Type 0
 LeavesMade (Ok done) entries Fits old new = Makes (is_none_left entries) Fits old new

@@ -2,16 +2,19 @@ ghost use Rattle.std.specs.Prelude.{◌≡◌, true, false, IfOk, IsOk, OnOk, On
 ghost use Rattle.base_values.specs.Answers.{Answers, Edits};
 ghost use Rattle.base_values.specs.declared.EditError.TheVariants.{NoMemory};
 ghost use Rattle.sheet_rules.specs.WellFormed.{IsWellFormed};
-ghost use Rattle.sheet_history.specs.Diffs.{IsKeptList, follow};
+ghost use Rattle.sheet_history.specs.Diffs.{IsCanonicalList, follow};
 ghost use Rattle.user_model.specs.Untested.{follow_untested};
 ghost use Rattle.user_model.specs.Values.{AreMade};
+ghost use Rattle.user_model.specs.Views.{view_followed};
 
 use crate::recalc::{Recalc, Results};
 use base_values::EditError;
 use sheet_grid::{Computed, Workbook};
 use sheet_history::{
     DiffList, DiffType, back, back_in_place, follow_in_place, forward, forward_in_place,
+    selection_followed,
 };
+use sheet_views::{View, viewed, viewed_id};
 use std::alloc::Global;
 
 /// The well-formed workbook after a list, in its direction, or the refusal of the list.
@@ -21,7 +24,7 @@ fn followed(
     kind: DiffType,
     list: &DiffList,
 ) -> Result<Workbook, EditError>
-    requires kept { IsKeptList list.now }
+    requires canonical { IsCanonicalList list.now }
     requires rules { IsWellFormed workbook.now }
     ensures { Answers result (follow kind workbook.now list.now) }
 {
@@ -38,7 +41,7 @@ fn follow_untested(
     kind: DiffType,
     list: &DiffList,
 ) -> Result<(), EditError>
-    requires kept { IsKeptList list.now }
+    requires canonical { IsCanonicalList list.now }
     requires rules { IsWellFormed workbook.old }
     ensures { Edits result workbook.old workbook.new (follow_untested kind workbook.old list.now) }
 {
@@ -57,7 +60,7 @@ fn follow(
     list: &DiffList,
     kept: bool,
 ) -> Result<(), EditError>
-    requires kept { IsKeptList list.now }
+    requires canonical { IsCanonicalList list.now }
     requires rules { IsWellFormed workbook.old }
     requires works { kept ≡ true → IsOk (follow kind workbook.old list.now) }
     ensures { Edits result workbook.old workbook.new (follow kind workbook.old list.now) }
@@ -95,7 +98,7 @@ fn install_on_copy<R: Recalc>(
     kind: DiffType,
     list: &DiffList,
 ) -> Result<(), EditError>
-    requires kept { IsKeptList list.now }
+    requires canonical { IsCanonicalList list.now }
     requires rules { IsWellFormed workbook.old }
     ensures installed { Edits result workbook.old workbook.new (follow kind workbook.old list.now) }
     ensures made { OnOk result (AreMade R.Fits results.new.paused workbook.new results.new.values) }
@@ -109,7 +112,7 @@ fn install_on_copy<R: Recalc>(
     Ok(())
 }
 
-/// Follows a list in the workbook itself, and then makes its values, which must not want memory. An
+/// Follows a list in the workbook itself, and then makes its values, which must not be out of memory. An
 /// error changes nothing.
 fn install_in_place<R: Recalc>(
     alloc: Global,
@@ -120,7 +123,7 @@ fn install_in_place<R: Recalc>(
     list: &DiffList,
     kept: bool,
 ) -> Result<(), EditError>
-    requires kept { IsKeptList list.now }
+    requires canonical { IsCanonicalList list.now }
     requires rules { IsWellFormed workbook.old }
     requires works { kept ≡ true → IsOk (follow kind workbook.old list.now) }
     requires sure { results.old.paused ≡ false → R.Sure }
@@ -157,7 +160,7 @@ pub(crate) fn install<R: Recalc>(
     list: &DiffList,
     kept: bool,
 ) -> Result<(), EditError>
-    requires kept { IsKeptList list.now }
+    requires canonical { IsCanonicalList list.now }
     requires rules { IsWellFormed workbook.old }
     requires works { kept ≡ true → IsOk (follow kind workbook.old list.now) }
     ensures installed { Edits result workbook.old workbook.new (follow kind workbook.old list.now) }
@@ -169,4 +172,33 @@ pub(crate) fn install<R: Recalc>(
         return install_in_place(alloc, workbook, results, recalc, kind, list, kept);
     }
     install_on_copy(alloc, workbook, results, recalc, kind, list)
+}
+
+/// Follows a list as `install` does, and takes the view along with the sheets that it moves.
+pub(crate) fn install_viewed<R: Recalc>(
+    alloc: Global,
+    workbook: &mut Workbook,
+    view: &mut View,
+    results: &mut Results,
+    recalc: &mut R,
+    kind: DiffType,
+    list: &DiffList,
+    kept: bool,
+) -> Result<(), EditError>
+    requires canonical { IsCanonicalList list.now }
+    requires rules { IsWellFormed workbook.old }
+    requires works { kept ≡ true → IsOk (follow kind workbook.old list.now) }
+    ensures installed { Edits result workbook.old workbook.new (follow kind workbook.old list.now) }
+    ensures seen { OnOk result (view.new ≡ view_followed kind list.now workbook.old workbook.new view.old) }
+    ensures same { OnErr result (view.new ≡ view.old) }
+    ensures made { OnOk result (AreMade R.Fits results.new.paused workbook.new results.new.values) }
+    ensures err { OnErr result (results.new ≡ results.old) }
+    ensures paused { results.new.paused ≡ results.old.paused }
+{
+    let diffs = list.get().as_slice();
+    let selected = selection_followed(kind, workbook, diffs, view.sheet)?;
+    let was = viewed_id(workbook.worksheets(), *view);
+    install(alloc, workbook, results, recalc, kind, list, kept)?;
+    *view = viewed(was, workbook.worksheets(), selected as usize, *view);
+    Ok(())
 }

@@ -4,7 +4,7 @@ ghost use Rattle.sheet_rules.specs.WellFormed.{IsWellFormed};
 ghost use Rattle.edit_plans.specs.Edits.{Edit, IsGiven, changed};
 ghost use Rattle.user_model.specs.BothWays.{GoesBothWays};
 
-use edit_plans::edits_have_records;
+use edit_plans::{edits_have_records, sheet_edits_go_both_ways};
 
 /// A law about accepted edits of a well-formed workbook, with no work at run time: each leads to a
 /// well-formed workbook, and its record takes the earlier workbook to the later one and the later
@@ -15,7 +15,9 @@ use edit_plans::edits_have_records;
 /// edits_go_both_ways(); // from here on a proof may use the law
 /// ```
 pub fn edits_go_both_ways()
-    ensures { (edit : Edit) (earlier later : Book) → IsWellFormed earlier → IsGiven edit → changed edit earlier ≡ Ok later → GoesBothWays edit earlier later }
+    ensures { (edit : Edit) (earlier later : Book) → IsWellFormed earlier → IsGiven edit →
+        changed edit earlier ≡ Ok later → GoesBothWays edit earlier later }
 {
     edits_have_records();
+    sheet_edits_go_both_ways();
 }

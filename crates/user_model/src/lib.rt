@@ -8,15 +8,16 @@
 mod install;
 mod laws;
 mod open_book;
+mod properties;
 mod reading;
 mod recalc;
 mod structure;
 mod user_model;
+mod view_steps;
 
 pub use laws::edits_go_both_ways;
+pub use properties::SheetProperties;
 pub use recalc::{ClearAll, Recalc};
+pub use sheet_views::{View, selected_sheet_after_move};
 pub use structure::CellArrayStructure;
 pub use user_model::UserModel;
-
-#[cfg(test)]
-mod tests;

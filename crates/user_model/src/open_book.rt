@@ -4,7 +4,7 @@ ghost use Rattle.base_values.specs.Answers.{Returns, Changes, Edits, map_ok};
 ghost use Rattle.base_values.specs.declared.EditError.TheVariants.{NoMemory};
 ghost use Rattle.sheet_rules.specs.WellFormed.{IsWellFormed};
 ghost use Rattle.sheet_actions.specs.Planned.{lines_planned};
-ghost use Rattle.sheet_history.specs.Diffs.{IsKeptDiff, IsKeptList, IsKeptQueue, forwarded, of_entry};
+ghost use Rattle.sheet_history.specs.Diffs.{IsCanonicalDiff, IsCanonicalList, IsCanonicalQueue, book_after, of_entry};
 ghost use Rattle.sheet_history.specs.Stacks.{undone, redone};
 ghost use Rattle.sheet_history.specs.LineDiffs.{along_of};
 ghost use Rattle.sheet_history.specs.declared.Diff.TheVariants.{Lines as LinesDiff};
@@ -17,7 +17,7 @@ ghost use Rattle.user_model.specs.Document.{recorded, sending, stale_after};
 ghost use Rattle.user_model.specs.Far.{is_far};
 ghost use Rattle.user_model.specs.Spellable.{AreSpellable};
 
-use crate::install::{install, values_of};
+use crate::install::{install, install_viewed, values_of};
 use crate::recalc::{Recalc, Results};
 use base_axis::Axis;
 use base_shared::Shared;
@@ -29,6 +29,7 @@ use sheet_actions::{plan_delete, plan_insert, plan_move};
 use sheet_grid::{DefaultStyle, Workbook, Worksheet};
 use sheet_history::{Diff, DiffList, DiffType, History, LineAxis, QueueDiffs};
 use sheet_lines::{KeptLines, line_edit};
+use sheet_views::{View, viewed, viewed_id};
 use std::alloc::Global;
 
 /// A workbook with the records of its steps, and with what other copies have not had yet.
@@ -44,14 +45,15 @@ pub(crate) struct OpenBook {
     pub(crate) stale_redo: usize,
     pub(crate) queue: Items<QueueDiffs>,
     pub(crate) language: Language,
+    pub(crate) view: View,
 }
 
 /// A record of one diff.
 fn list_of(alloc: Global, diff: Diff) -> Result<DiffList, EditError>
-    requires kept { IsKeptDiff diff }
+    requires canonical { IsCanonicalDiff diff }
     requires known { IsKnownDiff diff }
     ensures made { Returns result (Ok (diff ∷ [])) }
-    ensures kept { IfOk result IsKeptList }
+    ensures canonical { IfOk result IsCanonicalList }
     ensures spellable { IfOk result AreSpellable }
 {
     let mut list = Items::with_room(alloc, 1)?;
@@ -67,10 +69,10 @@ fn lines_change(
     edit: EditKind,
     kept: KeptLines,
 ) -> Result<DiffList, EditError>
-    requires kept { IsKeptDiff (LinesDiff sheet axis edit kept) }
+    requires canonical { IsCanonicalDiff (LinesDiff sheet axis edit kept) }
     requires known { IsKnownDiff (LinesDiff sheet axis edit kept) }
     ensures made { Returns result (Ok (LinesDiff sheet axis edit kept ∷ [])) }
-    ensures kept { IfOk result IsKeptList }
+    ensures canonical { IfOk result IsCanonicalList }
     ensures spellable { IfOk result AreSpellable }
 {
     let kept = Shared::new(alloc, kept)?;
@@ -282,26 +284,30 @@ impl OpenBook {
             stale_redo: 0,
             queue: Items::empty(alloc),
             language,
+            view: View::first(),
         })
     }
 
-    /// Makes the changes of a list in the workbook, and puts the list on the undo stack and in the
-    /// queue. The list is known not to be refused. An error changes nothing.
+    /// Makes the changes of a list in the workbook, selects the sheet at an index, and puts the list
+    /// on the undo stack and in the queue. The list is known not to be refused. An error changes
+    /// nothing.
     fn apply<R: Recalc>(
         &mut self,
         results: &mut Results,
         recalc: &mut R,
         list: DiffList,
+        selected: usize,
     ) -> Result<(), EditError>
-        requires kept { IsKeptList list }
+        requires canonical { IsCanonicalList list }
         requires rules { IsWellFormed self.now.workbook }
-        requires works { IsOk (forwarded self.now.workbook list) }
-        ensures document { Edits result (document_in self.old) (document_in self.new) (list_recorded list (document_in self.old)) }
+        requires works { IsOk (book_after self.now.workbook list) }
+        ensures document { Edits result (document_in self.old) (document_in self.new) (list_recorded list selected (document_in self.old)) }
         ensures made { OnOk result (AreMade R.Fits results.new.paused self.new.workbook results.new.values) }
         ensures err { OnErr result (results.new ≡ results.old) }
         ensures paused { results.new.paused ≡ results.old.paused }
     {
         let length = self.queue.len();
+        let was = viewed_id(self.workbook.worksheets(), self.view);
         send(&mut self.history, &mut self.queue, &list)?;
         if let Err(error) = install(
             self.alloc,
@@ -315,6 +321,7 @@ impl OpenBook {
             self.queue.truncate(length);
             return Err(error);
         }
+        self.view = viewed(was, self.workbook.worksheets(), selected, self.view);
         self.stale_redo = 0;
         match self.history.push(list) {
             Ok(()) => Ok(()),
@@ -322,27 +329,30 @@ impl OpenBook {
         }
     }
 
-    /// Makes what the plan of an edit by entries says, and records it, or refuses as the plan does.
+    /// Makes what the plan of an edit says, and records it, or refuses as the plan does. The edit
+    /// selects the sheet at an index.
     pub(crate) fn make<R: Recalc>(
         &mut self,
         results: &mut Results,
         recalc: &mut R,
         plan: Result<DiffList, EditError>,
+        selected: usize,
     ) -> Result<(), EditError>
-        requires plan { IsAnyPlan plan (document_in self.now) }
+        requires plan { IsAnyPlan plan selected (document_in self.now) }
         requires rules { IsWellFormed self.now.workbook }
-        ensures document { (edit : AnyEdit) → IsPlanOf edit plan (document_in self.old) → Changes result (document_in self.old) (document_in self.new) (document_edit edit (document_in self.old)) }
-        ensures sound { (edit : AnyEdit) → IsPlanOf edit plan (document_in self.old) → OnOk result (IsSoundChange edit self.old.workbook) }
+        ensures document { (edit : AnyEdit) → IsPlanOf edit plan selected (document_in self.old) → Changes result (document_in self.old) (document_in self.new) (document_edit edit (document_in self.old)) }
+        ensures sound { (edit : AnyEdit) → IsPlanOf edit plan selected (document_in self.old) → OnOk result (IsSoundChange edit self.old.workbook) }
         ensures made { OnOk result (IsMade R.Fits (session_of self.new results.new)) }
         ensures err { OnErr result (results.new ≡ results.old) }
         ensures paused { results.new.paused ≡ results.old.paused }
     {
         let list = plan?;
-        self.apply(results, recalc, list)
+        self.apply(results, recalc, list, selected)
     }
 
-    /// Puts a workbook in place of this one, with its values, and the record of what leads there on
-    /// the undo stack and in the queue. `NoMemory` is the only error, and changes nothing.
+    /// Puts a workbook in place of this one, with its values, where the same index is selected, and
+    /// the record of what leads there on the undo stack and in the queue. `NoMemory` is the only
+    /// error, and changes nothing.
     fn put_later<R: Recalc>(
         &mut self,
         results: &mut Results,
@@ -350,8 +360,8 @@ impl OpenBook {
         later: Workbook,
         list: DiffList,
     ) -> Result<(), EditError>
-        requires { IsKeptList list }
-        ensures document { Edits result (document_in self.old) (document_in self.new) (Ok (recorded list (document_in self.old) later)) }
+        requires { IsCanonicalList list }
+        ensures document { Edits result (document_in self.old) (document_in self.new) (Ok (recorded list self.old.view.sheet (document_in self.old) later)) }
         ensures made { OnOk result (IsMade R.Fits (session_of self.new results.new)) }
         ensures err { OnErr result (results.new ≡ results.old) }
         ensures paused { results.new.paused ≡ results.old.paused }
@@ -359,6 +369,9 @@ impl OpenBook {
         let values = values_of(self.alloc, &later, results.paused, recalc)?;
         send(&mut self.history, &mut self.queue, &list)?;
         results.values = values;
+        let was = viewed_id(self.workbook.worksheets(), self.view);
+        let selected = self.view.sheet as usize;
+        self.view = viewed(was, later.worksheets(), selected, self.view);
         self.workbook = later;
         self.stale_redo = 0;
         match self.history.push(list) {
@@ -429,7 +442,7 @@ impl OpenBook {
         requires rules { IsWellFormed self.now.workbook }
         ensures document { Changes result (document_in self.old) (document_in self.new) (document_edit (MoveLines sheet axis first count delta) (document_in self.old)) }
         ensures sound { OnOk result (IsSoundChange (MoveLines sheet axis first count delta) self.old.workbook) }
-        ensures made { OnOk result (Makes (is_silent_edit (MoveLines sheet axis first count delta)) R.Fits (session_of self.old results.old) (session_of self.new results.new)) }
+        ensures made { OnOk result (Makes (is_silent_edit (MoveLines sheet axis first count delta) self.old.workbook) R.Fits (session_of self.old results.old) (session_of self.new results.new)) }
         ensures err { OnErr result (results.new ≡ results.old) }
         ensures paused { results.new.paused ≡ results.old.paused }
     {
@@ -463,9 +476,10 @@ impl OpenBook {
         };
         let length = self.queue.len();
         enqueue(&mut self.queue, DiffType::Undo, list)?;
-        if let Err(error) = install(
+        if let Err(error) = install_viewed(
             self.alloc,
             &mut self.workbook,
+            &mut self.view,
             results,
             recalc,
             DiffType::Undo,
@@ -501,9 +515,10 @@ impl OpenBook {
         };
         let length = self.queue.len();
         enqueue(&mut self.queue, DiffType::Redo, list)?;
-        if let Err(error) = install(
+        if let Err(error) = install_viewed(
             self.alloc,
             &mut self.workbook,
+            &mut self.view,
             results,
             recalc,
             DiffType::Redo,
@@ -528,16 +543,17 @@ impl OpenBook {
         entry: &QueueDiffs,
         at: u64,
     ) -> Result<(), EditError>
-        requires kept { IsKeptList entry.now.list }
+        requires canonical { IsCanonicalList entry.now.list }
         requires rules { IsWellFormed self.now.workbook }
         ensures document { Edits result (document_in self.old) (document_in self.new) (document_received at entry.now (document_in self.old)) }
         ensures made { OnOk result (IsMade R.Fits (session_of self.new results.new)) }
         ensures err { OnErr result (results.new ≡ results.old) }
         ensures paused { results.new.paused ≡ results.old.paused }
     {
-        if let Err(error) = install(
+        if let Err(error) = install_viewed(
             self.alloc,
             &mut self.workbook,
+            &mut self.view,
             results,
             recalc,
             entry.kind,
@@ -559,7 +575,7 @@ impl OpenBook {
         recalc: &mut R,
         queue: &[QueueDiffs],
     ) -> Result<(), EditError>
-        requires kept { IsKeptQueue queue.now }
+        requires canonical { IsCanonicalQueue queue.now }
         requires reached { IsReached (document_in self.now) }
         ensures next { (state : State) → StandsFor (document_in self.old) state → Leaves result (document_in self.new) queue.now state }
         ensures made { LeavesMade result queue.now R.Fits (session_of self.old results.old) (session_of self.new results.new) }

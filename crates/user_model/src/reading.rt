@@ -5,9 +5,9 @@ ghost use Rattle.base_values.specs.declared.EditError.TheVariants.{NoMemory};
 ghost use Rattle.base_axis.specs.Rectangles.{anchor_place};
 ghost use Rattle.formula_read.specs.Formula.{formula_of};
 ghost use Rattle.formula_tree.specs.Context.{context_place};
-ghost use Rattle.formula_tree.specs.Numbers.{has_kept_numbers};
+ghost use Rattle.formula_tree.specs.Numbers.{has_canonical_numbers};
 ghost use Rattle.cell_content.specs.Fitting.{fits_at, tree_fits_at};
-ghost use Rattle.cell_content.specs.KeptContent.{IsKeptContent};
+ghost use Rattle.cell_content.specs.CanonicalContent.{IsCanonicalContent};
 ghost use Rattle.cell_input.specs.Inputs.{input_of};
 ghost use Rattle.user_model.specs.Places.{array_goes, input_goes, link_goes};
 ghost use Rattle.user_model.specs.Reading.{content_text, link_to, profile_at, rectangle, rectangle_of, without_sign};
@@ -103,7 +103,7 @@ pub(crate) fn read_at(
 ) -> Result<Content, EditError>
     requires place { IsPlace place }
     ensures value { IfOk result (λ content. content ≡ input_of (profile_at place locale language) text.now) }
-    ensures kept { IfOk result IsKeptContent }
+    ensures canonical { IfOk result IsCanonicalContent }
     ensures fits { IfOk result (λ content. fits_at place content ≡ true) }
     ensures memory { IsOkUnless result NoMemory }
 {
@@ -183,7 +183,7 @@ pub(crate) fn read_tree_at(
 ) -> Result<Shared<Node>, EditError>
     requires place { IsPlace place }
     ensures value { IfOk result (λ tree. tree ≡ formula_of (profile_at place locale language) (without_sign text.now)) }
-    ensures kept { IfOk result (λ tree. has_kept_numbers tree ≡ true) }
+    ensures canonical { IfOk result (λ tree. has_canonical_numbers tree ≡ true) }
     ensures fits { IfOk result (λ tree. tree_fits_at place tree ≡ true) }
     ensures memory { IsOkUnless result NoMemory }
 {

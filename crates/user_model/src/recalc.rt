@@ -10,7 +10,7 @@ use std::alloc::Global;
 /// Whoever computes the values of a workbook. A user model asks it with each change.
 ///
 /// Nothing is said of the values but that they fit the workbook, in the sense that the implementor
-/// gives by `Fits`. An implementor writes `compute` alone; one that never wants memory also says so
+/// gives by `Fits`. An implementor writes `compute` alone; one that is never out of memory also says so
 /// by `Sure` and `is_sure`.
 ///
 /// ```
@@ -28,7 +28,7 @@ pub trait Recalc {
     /// Which values fit a workbook.
     ghost Fits: { Book → Values → Type 0 };
 
-    /// That it never wants memory.
+    /// That it is never out of memory.
     ghost Sure: { Type 0 } = { ⊥ };
 
     /// The values of a workbook. The only error is `NoMemory`.
@@ -37,7 +37,7 @@ pub trait Recalc {
         ensures only { IsOkUnless result NoMemory }
         ensures sure { Sure → IsOk result };
 
-    /// Whether it never wants memory. Changes are then made in the workbook itself, and else on a
+    /// Whether it is never out of memory. Changes are then made in the workbook itself, and else on a
     /// copy of it.
     fn is_sure(&self) -> bool
         ensures { result ≡ true → Sure }

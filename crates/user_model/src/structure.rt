@@ -9,7 +9,7 @@ ghost use Rattle.user_model.specs.Structure.{extent_of, dynamic_at, dynamics_of,
 
 use base_axis::MergedCell;
 use base_shared::Shared;
-use base_values::{EditError, Position, place_of};
+use base_values::{EditError, Exact, Position, place_of};
 use sheet_grid::{Cell, Computed, Content, Workbook, Worksheet, array_at};
 
 /// How a cell stands to the arrays of its sheet. Widths are in columns, heights in rows.
@@ -32,6 +32,15 @@ pub enum CellArrayStructure {
     DynamicAnchor(i32, i32),
     /// It has an entered array, which is that wide and high.
     ArrayAnchor(i32, i32),
+}
+
+impl Exact for CellArrayStructure {
+    ghost use Rattle.std.proofs.Common.{rules};
+    ghost use Rattle.user_model.specs.laws.StructureEquals.{structure_equals};
+
+    ghost copies = { λ a b h. Prim.search rules };
+
+    ghost equals = { structure_equals };
 }
 
 /// How far a dynamic formula at a place of the sheet of an id fills the cells.

@@ -2,10 +2,10 @@ ghost use Rattle.std.specs.Prelude.{◌≡◌, ◌⊎◌, true, false, None, Som
 ghost use Rattle.std.specs.Prelude.{string_bytes};
 ghost use Rattle.base_values.specs.Answers.{Edits, Returns, map_ok};
 ghost use Rattle.base_axis.specs.Rectangles.{anchor_place};
-ghost use Rattle.formula_tree.specs.Numbers.{has_kept_numbers};
+ghost use Rattle.formula_tree.specs.Numbers.{has_canonical_numbers};
 ghost use Rattle.cell_content.specs.declared.Content.TheVariants.{Array};
 ghost use Rattle.cell_content.specs.Fitting.{fits_at};
-ghost use Rattle.cell_content.specs.KeptContent.{IsKeptContent};
+ghost use Rattle.cell_content.specs.CanonicalContent.{IsCanonicalContent};
 ghost use Rattle.base_values.specs.declared.EditError.TheVariants.{NoMemory, ParseDiffs};
 ghost use Rattle.base_tables.specs.declared.Language.TheVariants.{En};
 ghost use Rattle.sheet_rules.specs.WellFormed.{IsWellFormed};
@@ -24,6 +24,8 @@ ghost use Rattle.user_model.specs.Stands.{StandsFor, IsReached, IsAnyPlan, IsPla
 ghost use Rattle.user_model.specs.Values.{IsMade, LeavesMade, Makes, is_none_left};
 
 mod lines;
+mod sheets;
+mod views;
 
 use crate::open_book::OpenBook;
 use crate::reading::{
@@ -189,8 +191,9 @@ impl<R: Recalc + Drop> UserModel<R> {
         self.book.workbook.name()
     }
 
-    /// The text that the cell at a row and a column of the sheet at an index shows for editing: read
-    /// as an input there, it gives the content again. It is empty where there is no cell.
+    /// The text that the cell at a row and a column of the sheet at an index shows for editing. It is
+    /// empty where there is no cell. A formula is printed without parentheses that it does not need.
+    /// docs/SCRIPT.md says which contents the text reads back as.
     ///
     /// `InvalidSheet` where there is no such sheet, else `InvalidRow` where the row is outside the
     /// sheet, else `InvalidColumn` where the column is, else `NoMemory` where there is not enough.
@@ -309,15 +312,17 @@ impl<R: Recalc + Drop> UserModel<R> {
         Ok(())
     }
 
-    /// Makes what a plan says, and records it, or refuses as the plan does.
-    fn make(&mut self, plan: Result<DiffList, EditError>) -> Result<(), EditError>
-        requires { IsAnyPlan plan self.now.document }
-        ensures next { (edit : AnyEdit) (state : State) → IsPlanOf edit plan self.old.document → StandsFor self.old.document state → Moves result self.new.document (edit_of edit state) }
+    /// Makes what a plan says, selects the sheet at an index, and records the edit, or refuses as the
+    /// plan does.
+    fn make(&mut self, plan: Result<DiffList, EditError>, selected: usize) -> Result<(), EditError>
+        requires { IsAnyPlan plan selected self.now.document }
+        ensures next { (edit : AnyEdit) (state : State) → IsPlanOf edit plan selected self.old.document → StandsFor self.old.document state → Moves result self.new.document (edit_of edit state) }
         ensures made { OnOk result (IsMade R.Fits self.new) }
         ensures err { OnErr result (self.new ≡ self.old) }
         ensures paused { self.new.paused ≡ self.old.paused }
     {
-        self.book.make(&mut self.results, &mut self.recalc, plan)
+        self.book
+            .make(&mut self.results, &mut self.recalc, plan, selected)
     }
 
     /// Puts a content at a row and a column of the sheet at an index, and records the change.
@@ -328,7 +333,7 @@ impl<R: Recalc + Drop> UserModel<R> {
         column: i32,
         content: Content,
     ) -> Result<(), EditError>
-        requires kept { IsKeptContent content }
+        requires canonical { IsCanonicalContent content }
         requires input { IsInput row column content }
         ensures next { Steps result self.old.document self.new.document (edit_of (Input sheet row column content)) }
         ensures made { OnOk result (IsMade R.Fits self.new) }
@@ -345,7 +350,8 @@ impl<R: Recalc + Drop> UserModel<R> {
             column,
             content,
         );
-        self.make(plan)
+        let selected = book.view.sheet as usize;
+        self.make(plan, selected)
     }
 
     /// Reads a text as a user types it into the cell at a row and a column of the sheet at an index,
@@ -395,7 +401,7 @@ impl<R: Recalc + Drop> UserModel<R> {
         area: MergedCell,
         tree: Shared<Node>,
     ) -> Result<(), EditError>
-        requires kept { IsTrue (has_kept_numbers tree) }
+        requires canonical { IsTrue (has_canonical_numbers tree) }
         requires fits { IsTrue (fits_at (anchor_place area) (Array tree area.width area.height)) }
         ensures next { Steps result self.old.document self.new.document (edit_of (ArrayInput sheet area tree)) }
         ensures made { OnOk result (IsMade R.Fits self.new) }
@@ -404,7 +410,8 @@ impl<R: Recalc + Drop> UserModel<R> {
     {
         let book = &self.book;
         let plan = plan_array(book.alloc, &book.plain, &book.workbook, sheet, area, tree);
-        self.make(plan)
+        let selected = book.view.sheet as usize;
+        self.make(plan, selected)
     }
 
     /// Reads a text as an array formula, with or without its `=`, whose values fill a rectangle, and
@@ -464,7 +471,8 @@ impl<R: Recalc + Drop> UserModel<R> {
     {
         let book = &self.book;
         let plan = plan_link(book.alloc, &book.workbook, sheet, row, column, link);
-        self.make(plan)
+        let selected = book.view.sheet as usize;
+        self.make(plan, selected)
     }
 
     /// Puts a link to a target at a row and a column of the sheet at an index, counted from 0, and
@@ -539,7 +547,8 @@ impl<R: Recalc + Drop> UserModel<R> {
     {
         let book = &self.book;
         let plan = plan_merge(book.alloc, &book.workbook, sheet, area);
-        self.make(plan)
+        let selected = book.view.sheet as usize;
+        self.make(plan, selected)
     }
 
     /// Dissolves the merge that holds a row and a column of the sheet at an index, and records the
@@ -560,7 +569,8 @@ impl<R: Recalc + Drop> UserModel<R> {
     {
         let book = &self.book;
         let plan = plan_unmerge(book.alloc, &book.workbook, sheet, row, column);
-        self.make(plan)
+        let selected = book.view.sheet as usize;
+        self.make(plan, selected)
     }
 
     /// Takes the newest step back. Without one nothing is done.

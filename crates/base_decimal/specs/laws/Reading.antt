@@ -5,7 +5,7 @@ use Rattle.base_decimal.specs.declared.decimal.Decimal.{Decimal}
 use Rattle.base_decimal.specs.declared.numeral.Sign.{Sign}
 use Rattle.base_decimal.specs.declared.numeral.Sign.TheVariants.{Absent, Plus, Minus}
 use Rattle.base_decimal.specs.Digits.{is_digit, span}
-use Rattle.base_decimal.specs.Value.{kept_of}
+use Rattle.base_decimal.specs.Value.{canonical_of}
 use Rattle.base_decimal.specs.Numeral.{Fraction, Exponent, Numeral, is_exponent_letter, is_exponent_len, numerator, numeral_places, NoFraction, Places, NoExponent, Power}
 
 abbrev pub fraction_at : ℕ → List ℕ → Fraction × List ℕ
@@ -37,15 +37,15 @@ numeral_at mark text =
     then option_map (λ e. (record { whole = w.0; fraction = f.0; exponent = e.0 }, e.1)) (exponent_at f.1)
     else None
 
--- the kept decimal that a number with a sign writes, if nothing follows it and there is one
+-- the canonical decimal that a number with a sign writes, if nothing follows it and there is one
 abbrev pub whole_value : Bool → Numeral × List ℕ → Option Decimal
-whole_value negative (n, []) = kept_of negative (numerator n) (numeral_places n)
+whole_value negative (n, []) = canonical_of negative (numerator n) (numeral_places n)
 whole_value negative (n, _ ∷ _) = None
 
 abbrev pub value_at : ℕ → Bool → List ℕ → Option Decimal
 value_at mark negative text = option_and_then (whole_value negative) (numeral_at mark text)
 
--- the kept decimal that a whole text writes, if there is one
+-- the canonical decimal that a whole text writes, if there is one
 unfoldable pub decimal_of : ℕ → List ℕ → Option Decimal
 decimal_of mark [] = None
 decimal_of mark (b ∷ text) = if b == 45 then value_at mark true text else value_at mark false (b ∷ text)

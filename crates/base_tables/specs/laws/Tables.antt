@@ -4,7 +4,7 @@ use Rattle.std.specs.Prelude.{IfSome, nat_eq, slice_get}
 use Rattle.std.specs.List.{find}
 use Rattle.std.proofs.lemmas.Bool.Decides.{nat_tests}
 use Rattle.std.specs.Cmp.Lexicographic.{bytes_decides}
-use Rattle.base_tables.specs.Tables.{same_text, entry_named, is_numbered}
+use Rattle.base_tables.specs.Tables.{same_text, entry_named}
 
 module _ {T : Type 0} (p : T → Bool) where
   found_first : (first entry : T) (b : Bool) (rest : Option T) → p first ≡ b → (rest ≡ Some entry → p entry ≡ true) → cond b (Some first) rest ≡ Some entry → p entry ≡ true
@@ -30,6 +30,11 @@ both_parts true b e = (refl, e)
 both_parts false b e = cc
 
 -- ---- tables by number
+
+-- whether the codes of the entries count up from a number
+abbrev pub is_numbered : {T : Type 0} → (T → ℕ) → ℕ → List T → Bool
+is_numbered code_of first [] = true
+is_numbered code_of first (entry ∷ table) = nat_eq (code_of entry) first && is_numbered code_of (suc first) table
 
 same_number : (a b : ℕ) → nat_eq a b ≡ true → a ≡ b
 same_number a b e = grind (arith, nat_tests)

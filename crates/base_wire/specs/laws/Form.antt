@@ -5,7 +5,7 @@ use Rattle.std.specs.List.{list_all, AllByRecursion}
 use Rattle.std.specs.Str.{is_utf8}
 use Rattle.std.proofs.lemmas.Bool.{and_parts, and_from, ltb-true, lt-ltb}
 use Rattle.std.proofs.lemmas.Str.{is_utf8-from_IsUtf8, IsUtf8-from_is_utf8}
-use Rattle.base_decimal.specs.Kept.{is_kept}
+use Rattle.base_decimal.specs.Canonical.{is_canonical}
 use Rattle.base_wire.specs.Reading.{Reader, ◌⊗◌, map_at, text_at, option_at, list_at, code_at, decoded, coded_at}
 use Rattle.base_wire.specs.Spelling.{spell_code, spell_text, spell_option, spell_list, FitsText, FitsItems}
 use Rattle.base_wire.specs.Parts.{spell_decimal, decimal_at}
@@ -69,7 +69,7 @@ coded_form code_of value_of known found = form_of (coded_again code_of value_of 
 pub code_form : {A : Type 0} (code_of : A → ℕ) (values : List A) → ((x : A) → decoded code_of values (code_of x) ≡ Some x) → Form always (spell_code code_of) (code_at code_of values)
 code_form code_of values known = coded_form code_of (decoded code_of values) known (found_code code_of values)
 
-pub decimal_form : Form is_kept spell_decimal decimal_at
+pub decimal_form : Form is_canonical spell_decimal decimal_at
 decimal_form = form_of decimal_again decimal_spelled decimal_plain (λ x h. h) (λ x h. h)
 
 text_into : (text : List ℕ) → Passes is_text text → FitsText text

@@ -10,7 +10,7 @@ use Rattle.base_tables.specs.declared.Error.TheVariants.{Ref, Name, Value, Divis
 use Rattle.base_tables.specs.Error.{all_errors, error_code, error_of_code}
 use Rattle.base_tables.specs.laws.Tables.{found_number}
 use Rattle.base_decimal.specs.declared.Decimal.{Decimal}
-use Rattle.base_decimal.specs.Kept.{is_kept, IsKept}
+use Rattle.base_decimal.specs.Canonical.{is_canonical, IsCanonical}
 use Rattle.base_wire.specs.Reading.{decoded, byte_at, number_at, signed_at, text_at}
 use Rattle.base_wire.specs.Spelling.{spell_code, boolean_code, booleans, spell_signed, spell_text, spell_option, FitsText}
 use Rattle.base_wire.specs.laws.Format.{Format}
@@ -67,12 +67,12 @@ both_hold true true c h = (refl, refl)
 both_hold true false c h = absurd cc
 both_hold false b c h = absurd cc
 
-kept_places : (d : Decimal) → IsKept d → d.places ≤ 15
-unfolding is_kept
+kept_places : (d : Decimal) → IsCanonical d → d.places ≤ 15
+unfolding is_canonical
 kept_places d kept = leb-true d.places 15 (both_hold _ _ _ kept).0
 
-kept_mantissa : (d : Decimal) → IsKept d → FitsSigned w128 d.mantissa
-unfolding is_kept
+kept_mantissa : (d : Decimal) → IsCanonical d → FitsSigned w128 d.mantissa
+unfolding is_canonical
 kept_mantissa d kept =
     let few : 15 + d.places ≤ 30 = omega (arith, kept_places d kept) in
     let below : unsigned_abs d.mantissa < 10 ^ (15 + d.places) = ltb-true (unsigned_abs d.mantissa) (10 ^ (15 + d.places)) (both_hold _ _ _ kept).1 in
@@ -80,23 +80,23 @@ kept_mantissa d kept =
     let within : unsigned_abs d.mantissa < 2 ^ 127 = omega arith in
     fits_signed_from_abs w128 d.mantissa within
 
-pub decimal_again : ReadsAgain IsKept spell_decimal decimal_at
+pub decimal_again : ReadsAgain IsCanonical spell_decimal decimal_at
 unfolding decimal_at spell_decimal
 decimal_again = record {
   again = λ x rest fits.
-      (check_again (map_again (both_again (signed_again wide128) byte_again) decimal_made (λ d. (d.mantissa, d.places)) (λ y. refl)) is_kept).again x rest
+      (check_again (map_again (both_again (signed_again wide128) byte_again) decimal_made (λ d. (d.mantissa, d.places)) (λ y. refl)) is_canonical).again x rest
       ((kept_mantissa x fits, omega (arith, kept_places x fits)), fits);
 }
 
-pub decimal_spelled : ReadsSpelled IsKept spell_decimal decimal_at
+pub decimal_spelled : ReadsSpelled IsCanonical spell_decimal decimal_at
 unfolding decimal_at spell_decimal
 decimal_spelled =
     fits_otherwise (λ x fits. fits.1)
-    (check_spelled (map_spelled (both_spelled (signed_spelled back128) byte_spelled) decimal_made (λ d. (d.mantissa, d.places)) (λ x. refl)) is_kept)
+    (check_spelled (map_spelled (both_spelled (signed_spelled back128) byte_spelled) decimal_made (λ d. (d.mantissa, d.places)) (λ x. refl)) is_canonical)
 
 pub decimal_plain : IsPlain decimal_at
 unfolding decimal_at
-decimal_plain = check_plain is_kept (map_plain decimal_made (both_plain (signed_plain w128) byte_plain))
+decimal_plain = check_plain is_canonical (map_plain decimal_made (both_plain (signed_plain w128) byte_plain))
 
 -- ---- all three laws of each
 
@@ -118,7 +118,7 @@ boolean_format = record { again = boolean_again; spelled = boolean_spelled; plai
 pub error_format : Format Any (spell_code error_code) error_at
 error_format = record { again = error_again; spelled = error_spelled; plain = error_plain }
 
-pub decimal_format : Format IsKept spell_decimal decimal_at
+pub decimal_format : Format IsCanonical spell_decimal decimal_at
 decimal_format = record { again = decimal_again; spelled = decimal_spelled; plain = decimal_plain }
 
 pub text_format : Format FitsText spell_text text_at

@@ -3,10 +3,10 @@ use Rattle.std.proofs.Common.{◌≡◌, refl, ap, sym}
 use Rattle.std.specs.Prelude.{Some, None, IsTrue, IfSome}
 use Rattle.std.specs.Option.{option_map}
 use Rattle.formula_tree.specs.declared.Node.{Node}
-use Rattle.formula_tree.specs.Numbers.{has_kept_numbers}
+use Rattle.formula_tree.specs.Numbers.{has_canonical_numbers}
 use Rattle.cell_content.specs.declared.content.Content.{Content}
 use Rattle.cell_content.specs.declared.content.Content.TheVariants.{Empty, Number, Boolean, Error, Text, Formula, Dynamic, Array}
-use Rattle.cell_content.specs.KeptContent.{IsKeptContent}
+use Rattle.cell_content.specs.CanonicalContent.{IsCanonicalContent}
 use Rattle.cell_content.specs.Lens.{tree_of, with_tree}
 
 -- the tree put is the tree got, where there was one
@@ -53,8 +53,8 @@ with_tree-with_tree (Formula _) first second = refl
 with_tree-with_tree (Dynamic _) first second = refl
 with_tree-with_tree (Array _ _ _) first second = refl
 
--- the tree of a kept content has kept numbers
-pub tree_of-kept : (content : Content) → IsKeptContent content → IfSome (tree_of content) (λ tree. IsTrue (has_kept_numbers tree))
+-- the tree of a content with canonical numbers has canonical numbers
+pub tree_of-kept : (content : Content) → IsCanonicalContent content → IfSome (tree_of content) (λ tree. IsTrue (has_canonical_numbers tree))
 tree_of-kept Empty kept = tt
 tree_of-kept (Number _) kept = tt
 tree_of-kept (Boolean _) kept = tt
@@ -65,7 +65,7 @@ tree_of-kept (Dynamic tree) kept = kept
 tree_of-kept (Array tree _ _) kept = kept
 
 -- a kept content stays so with such a tree
-pub with_tree-kept : (content : Content) (tree : Node) → IsKeptContent content → IsTrue (has_kept_numbers tree) → IsKeptContent (with_tree content tree)
+pub with_tree-kept : (content : Content) (tree : Node) → IsCanonicalContent content → IsTrue (has_canonical_numbers tree) → IsCanonicalContent (with_tree content tree)
 with_tree-kept Empty tree kept numbers = kept
 with_tree-kept (Number _) tree kept numbers = kept
 with_tree-kept (Boolean _) tree kept numbers = kept

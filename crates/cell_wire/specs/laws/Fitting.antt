@@ -8,10 +8,10 @@ use Rattle.base_styles.specs.DefaultStyle.{default_style}
 use Rattle.cell_content.specs.declared.Content.{Content}
 use Rattle.cell_content.specs.declared.Content.TheVariants.{Empty, Number, Boolean, Error as ErrorValue, Text, Formula, Dynamic, Array}
 use Rattle.sheet_grid.specs.declared.Cell.{Cell}
-use Rattle.cell_content.specs.KeptContent.{IsKeptContent}
+use Rattle.cell_content.specs.CanonicalContent.{IsCanonicalContent}
 use Rattle.cell_content.specs.Fitting.{is_shallow}
-use Rattle.formula_wire.specs.laws.KeptLaws.{kept_from_carried}
-use Rattle.sheet_grid.specs.KeptCell.{IsKeptCell}
+use Rattle.formula_wire.specs.laws.CanonicalLaws.{canonical_from_carried}
+use Rattle.sheet_grid.specs.CanonicalCell.{IsCanonicalCell}
 use Rattle.cell_wire.specs.StyleBytes.{FitsStyle}
 use Rattle.cell_wire.specs.CellBytes.{FitsContent, FitsCell}
 
@@ -33,17 +33,17 @@ default_style_fits = record {
   num_fmt = record { short = omega arith; utf8 = IsUtf8-from_ascii (codes "general") (ascii_by_items (codes "general") general_ascii) };
 }
 
--- ---- what fits is kept
+-- ---- what fits is canonical
 
-pub kept_content_from_fits : (content : Content) → FitsContent content → IsKeptContent content
-kept_content_from_fits Empty fits = tt
-kept_content_from_fits (Number number) fits = fits
-kept_content_from_fits (Boolean value) fits = tt
-kept_content_from_fits (ErrorValue error) fits = tt
-kept_content_from_fits (Text text) fits = tt
-kept_content_from_fits (Formula tree) fits = kept_from_carried tree fits.carried
-kept_content_from_fits (Dynamic tree) fits = kept_from_carried tree fits.carried
-kept_content_from_fits (Array tree width height) fits = kept_from_carried tree fits.tree.carried
+pub canonical_content_from_fits : (content : Content) → FitsContent content → IsCanonicalContent content
+canonical_content_from_fits Empty fits = tt
+canonical_content_from_fits (Number number) fits = fits
+canonical_content_from_fits (Boolean value) fits = tt
+canonical_content_from_fits (ErrorValue error) fits = tt
+canonical_content_from_fits (Text text) fits = tt
+canonical_content_from_fits (Formula tree) fits = canonical_from_carried tree fits.carried
+canonical_content_from_fits (Dynamic tree) fits = canonical_from_carried tree fits.carried
+canonical_content_from_fits (Array tree width height) fits = canonical_from_carried tree fits.tree.carried
 
 pub shallow_content_from_fits : (content : Content) → FitsContent content → IsTrue (is_shallow content)
 shallow_content_from_fits Empty fits = refl
@@ -55,5 +55,5 @@ shallow_content_from_fits (Formula tree) fits = fits.depth
 shallow_content_from_fits (Dynamic tree) fits = fits.depth
 shallow_content_from_fits (Array tree width height) fits = fits.tree.depth
 
-pub kept_cell_from_fits : (cell : Cell) → FitsCell cell → IsKeptCell cell
-kept_cell_from_fits cell fits = kept_content_from_fits cell.content fits.content
+pub canonical_cell_from_fits : (cell : Cell) → FitsCell cell → IsCanonicalCell cell
+canonical_cell_from_fits cell fits = canonical_content_from_fits cell.content fits.content

@@ -2,15 +2,20 @@
 use Rattle.std.proofs.Common.{◌≤◌, length, arith}
 use Rattle.std.proofs.lemmas.List.{length-append}
 use Rattle.base_styles.specs.declared.Alignment.{Alignment}
+use Rattle.base_styles.specs.declared.Color.{Color}
+use Rattle.base_styles.specs.declared.Color.TheVariants.{None as NoColor, Rgb, Theme}
 use Rattle.base_values.specs.declared.Position.{Position}
 use Rattle.sheet_grid.specs.declared.Cell.{Cell}
 use Rattle.base_wire.specs.Spelling.{Any}
 use Rattle.base_wire.specs.laws.Format.{Format}
-use Rattle.cell_wire.specs.StyleBytes.{spell_border_item, border_item_at, FitsBorderItem, spell_alignment, alignment_at, spell_style, style_at, FitsStyle}
+use Rattle.cell_wire.specs.StyleBytes.{spell_color, color_at, FitsColor, spell_border_item, border_item_at, FitsBorderItem, spell_alignment, alignment_at, spell_style, style_at, FitsStyle}
 use Rattle.cell_wire.specs.CellBytes.{spell_position, position_at, FitsPosition, spell_content, spell_cell, cell_at, FitsCell}
-use Rattle.cell_wire.specs.laws.PartsAgain.{border_item_again, alignment_again, style_again, position_again, cell_again}
-use Rattle.cell_wire.specs.laws.PartsSpelled.{border_item_spelled, alignment_spelled, style_spelled, position_spelled, cell_spelled}
-use Rattle.cell_wire.specs.laws.Refusals.{border_item_plain, alignment_plain, style_plain, position_plain, cell_plain}
+use Rattle.cell_wire.specs.laws.PartsAgain.{color_again, border_item_again, alignment_again, style_again, position_again, cell_again}
+use Rattle.cell_wire.specs.laws.PartsSpelled.{color_spelled, border_item_spelled, alignment_spelled, style_spelled, position_spelled, cell_spelled}
+use Rattle.cell_wire.specs.laws.Refusals.{color_plain, border_item_plain, alignment_plain, style_plain, position_plain, cell_plain}
+
+pub color_format : Format FitsColor spell_color color_at
+color_format = record { again = color_again; spelled = color_spelled; plain = color_plain }
 
 pub border_item_format : Format FitsBorderItem spell_border_item border_item_at
 border_item_format = record { again = border_item_again; spelled = border_item_spelled; plain = border_item_plain }
@@ -26,6 +31,11 @@ position_format = record { again = position_again; spelled = position_spelled; p
 
 pub cell_format : Format FitsCell spell_cell cell_at
 cell_format = record { again = cell_again; spelled = cell_spelled; plain = cell_plain }
+
+pub color_some : (x : Color) → 1 ≤ length (spell_color x)
+color_some NoColor = omega arith
+color_some (Rgb red green blue) = omega arith
+color_some (Theme theme) = omega arith
 
 pub position_some : (x : Position) → 1 ≤ length (spell_position x)
 unfolding spell_position

@@ -41,7 +41,7 @@ theme_known Accent6 = refl
 theme_known Hyperlink = refl
 theme_known FollowedHyperlink = refl
 
-color_again : ReadsAgain FitsColor spell_color color_at
+pub color_again : ReadsAgain FitsColor spell_color color_at
 unfolding color_at
 color_again = record { again = one }
   where

@@ -19,7 +19,7 @@ use Rattle.formula_wire.specs.laws.NodeLaws.{node_spelled}
 
 -- ---- colours
 
-color_spelled : ReadsSpelled FitsColor spell_color color_at
+pub color_spelled : ReadsSpelled FitsColor spell_color color_at
 unfolding color_at
 color_spelled =
     tagged_spelled color_of (λ kind.

@@ -9,7 +9,7 @@ use Rattle.formula_wire.specs.laws.NodeLaws.{node_plain}
 use Rattle.cell_wire.specs.StyleBytes.{theme_code, theme_colors, rgb, color_of, color_at, font_made, font_at, border_code, border_styles, border_item_made, border_item_at, border_made, side_at, border_at, horizontal_code, horizontals, vertical_code, verticals, alignment_made, alignment_at, alignment_option_at, style_made, style_at}
 use Rattle.cell_wire.specs.CellBytes.{position_made, position_at, array_made, content_of, content_at, cell_made, cell_at}
 
-color_plain : IsPlain color_at
+pub color_plain : IsPlain color_at
 unfolding color_at
 color_plain =
     tagged_plain color_of (λ kind.

@@ -17,9 +17,11 @@ use Rattle.sheet_rules.specs.laws.EntryLaws.{both}
 use Rattle.sheet_lines.specs.Sheets.{sheet_of}
 use Rattle.sheet_history.specs.declared.Diff.{Diff}
 use Rattle.sheet_history.specs.Entries.{EntryKey, EntryValue, key_cmp, sheet_id_of, sheet_entry, value_fits, entry_at, put_entry}
-use Rattle.sheet_history.specs.Entries.EntryKey.{CellKey, LinkKey, MergesKey}
-use Rattle.sheet_history.specs.Entries.EntryValue.{CellValue, LinkValue, MergesValue}
+use Rattle.sheet_history.specs.Entries.EntryKey.{CellKey, LinkKey, MergesKey, FieldKey}
+use Rattle.sheet_history.specs.Entries.EntryValue.{CellValue, LinkValue, MergesValue, FieldValue}
 use Rattle.sheet_history.specs.Records.{same_entry_value, changed_entry, Change, change_of, diff_of, entry_record, IsRecord}
+use Rattle.sheet_history.specs.declared.SheetField.TheVariants as value
+use Rattle.sheet_history.specs.Fields.Field.{ColorField, StateField, GridField}
 use Rattle.sheet_history.specs.laws.EntryLaws.{is_some-entry_at}
 use Rattle.sheet_history.specs.laws.OneEntry.{put_record}
 use Rattle.sheet_history.specs.laws.RecordLaws.{key_total, exact_keys}
@@ -171,6 +173,9 @@ before_diff : (k : EntryKey) (s : Sheet) (v : EntryValue) → value_fits k v ≡
 before_diff (CellKey id place) s (CellValue v) h o before = λ i. before i && true
 before_diff (LinkKey id place) s (LinkValue v) h o before = λ i. before i && true
 before_diff (MergesKey id) s (MergesValue v) h o before = λ i. before i && true
+before_diff (FieldKey id ColorField) s (FieldValue (value.Color v)) h o before = λ i. before i && true
+before_diff (FieldKey id StateField) s (FieldValue (value.State v)) h o before = λ i. before i && true
+before_diff (FieldKey id GridField) s (FieldValue (value.GridLines v)) h o before = λ i. before i && true
 before_diff _ s _ h o before = absurd (let never : false ≡ true = h in cc)
 
 before_record : (k : EntryKey) (s : Sheet) (v : EntryValue) → value_fits k v ≡ true → (o : Option Change) → is_before k o ≡ true

@@ -17,7 +17,8 @@ use Rattle.sheet_grid.specs.declared.Cell.{Cell}
 use Rattle.sheet_grid.specs.Arrays.{array_at, where_large, large_array_at}
 use Rattle.sheet_grid.specs.Merges.{is_empty}
 use Rattle.sheet_grid.specs.Sheet.{Sheet, with_cell}
-use Rattle.sheet_rules.specs.Occupied.{meets_any, have_arrays, have_merges, are_hidden_blank, covers, array_in, large_array_in}
+use Rattle.sheet_rules.specs.Occupied.{meets_any, have_arrays, have_merges, are_hidden_blank, covers}
+use Rattle.sheet_rules.specs.laws.ArraysIn.{array_in, large_array_in}
 use Rattle.sheet_rules.specs.laws.OccupiedLaws.{keeps_arrays, have_arrays_from, keeps_merges, have_merges_from, keeps_hidden, are_hidden_blank_from}
 use Rattle.sheet_rules.specs.laws.ShownLaws.{no_value}
 

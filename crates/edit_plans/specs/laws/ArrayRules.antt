@@ -30,10 +30,9 @@ use Rattle.sheet_rules.specs.laws.WellFormedLaws.{cells_fit_from_trees, have_tre
 use Rattle.sheet_history.specs.laws.EntryLaws.{decide}
 use Rattle.sheet_history.specs.laws.RuleLaws.{KeepsSheetRules, inside-put, attributes-put}
 use Rattle.edit_plans.specs.ArrayInputs.{hits_merge, free_area, with_array}
-use Rattle.edit_plans.specs.Blanked.{blanked_sheet}
 use Rattle.edit_plans.specs.Inputs.{entered}
 use Rattle.edit_plans.specs.laws.ArrayPut.{IsFree, array-arrays, array-merges, array-hidden}
-use Rattle.edit_plans.specs.laws.BlankedLaws.{large_left, content_left, rules_stay}
+use Rattle.edit_plans.specs.laws.BlankedLaws.{blanked_sheet, large_left, content_left, rules_stay}
 use Rattle.edit_plans.specs.laws.Fonts.{shown_font}
 
 -- a rectangle that an array may fill

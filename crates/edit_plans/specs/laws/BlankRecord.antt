@@ -21,15 +21,16 @@ use Rattle.sheet_rules.specs.Occupied.{covers}
 use Rattle.sheet_history.specs.declared.Diff.{Diff}
 use Rattle.sheet_history.specs.declared.Diff.TheVariants.{Cell as CellDiff}
 use Rattle.sheet_history.specs.Entries.{EntryKey, EntryValue, key_cmp, sheet_id_of, sheet_entry}
-use Rattle.sheet_history.specs.Entries.EntryKey.{CellKey, LinkKey, MergesKey}
-use Rattle.sheet_history.specs.Entries.EntryValue.{CellValue}
+use Rattle.sheet_history.specs.Entries.EntryKey.{CellKey, LinkKey, MergesKey, FieldKey}
+use Rattle.sheet_history.specs.Entries.EntryValue.{CellValue, FieldValue}
 use Rattle.sheet_history.specs.Records.{Change, change_of, changed_entry, same_entry_value}
 use Rattle.sheet_history.specs.laws.EntryLaws.{decide}
+use Rattle.sheet_history.specs.laws.FieldLaws.{fields_stay}
 use Rattle.sheet_history.specs.laws.OneEntry.{changed_entry-same}
 use Rattle.sheet_history.specs.laws.RecordLaws.{exact_keys}
 use Rattle.sheet_history.specs.laws.ValueEquals.{same_value_decides}
-use Rattle.edit_plans.specs.Blanked.{blank_cell, blanked_cell, blanked, loses, blank_diff, blanked_sheet}
-use Rattle.edit_plans.specs.laws.BlankedLaws.{get-blanked}
+use Rattle.edit_plans.specs.Blanked.{blank_cell, blanked_cell, blanked, loses, blank_diff}
+use Rattle.edit_plans.specs.laws.BlankedLaws.{blanked_sheet, get-blanked}
 use Rattle.edit_plans.specs.laws.MappedMaps.{tagged, find-tagged, sorted-tagged, no_tag, tagged_below, rising}
 use Rattle.edit_plans.specs.laws.SheetRecords.{IsSheetRecord}
 
@@ -127,6 +128,10 @@ module _ (r : MergedCell) where
         ∙ sym (changed_entry-same (Some (sheet_entry (LinkKey id place) sheet)))
     blank_here (MergesKey id) own = other_kind sheet.id (MergesKey id) (λ other same. let never : MergesKey id ≡ CellKey sheet.id other = same in cc)
         (entries sheet.cells) ∙ sym (changed_entry-same (Some (sheet_entry (MergesKey id) sheet)))
+    blank_here (FieldKey id field) own = other_kind sheet.id (FieldKey id field)
+        (λ other same. let never : FieldKey id field ≡ CellKey sheet.id other = same in cc) (entries sheet.cells)
+        ∙ sym (changed_entry-same (Some (sheet_entry (FieldKey id field) sheet)))
+        ∙ ap (λ v. changed_entry (Some (sheet_entry (FieldKey id field) sheet)) (Some (FieldValue v))) (fields_stay field sheet (blanked_sheet r sheet) refl refl refl)
 
     -- and all are below that of the merges
     pub blank_below : AllByRecursion (λ c. is_lt (key_cmp c.0 (MergesKey sheet.id)) ≡ true) blank_changes

@@ -14,11 +14,12 @@ use Rattle.cell_content.specs.declared.Content.{Content}
 use Rattle.cell_content.specs.declared.Content.TheVariants.{Array}
 use Rattle.sheet_grid.specs.declared.Cell.{Cell}
 use Rattle.sheet_grid.specs.Arrays.{array_at, where_large, large_array_at, arrays_of, large_arrays_of}
-use Rattle.sheet_grid.specs.FittingCells.{entry_fits_at}
-use Rattle.sheet_grid.specs.KeptCell.{IsKeptCell, KeptCells}
+use Rattle.sheet_grid.specs.laws.FittingCells.{entry_fits_at}
+use Rattle.sheet_grid.specs.CanonicalCell.{IsCanonicalCell, CanonicalCells}
 use Rattle.sheet_grid.specs.Merges.{is_empty}
 use Rattle.sheet_grid.specs.Sheet.{Sheet}
-use Rattle.sheet_rules.specs.Occupied.{meets_any, have_arrays, have_merges, covers, are_hidden_blank, array_in, large_array_in}
+use Rattle.sheet_rules.specs.Occupied.{meets_any, have_arrays, have_merges, covers, are_hidden_blank}
+use Rattle.sheet_rules.specs.laws.ArraysIn.{array_in, large_array_in}
 use Rattle.sheet_rules.specs.WellFormed.{is_place, stands_inside, have_trees, has_font, have_attributes}
 use Rattle.sheet_rules.specs.laws.EntryLaws.{both}
 use Rattle.sheet_rules.specs.laws.OccupiedLaws.{keeps_arrays, have_arrays_from, keeps_merges, have_merges_from, keeps_hidden, are_hidden_blank_from}
@@ -26,8 +27,12 @@ use Rattle.sheet_rules.specs.laws.ShownLaws.{no_value, all_pass, none_in}
 use Rattle.sheet_rules.specs.laws.WellFormedLaws.{cells_fit_from_trees, have_trees_from_cells_fit}
 use Rattle.sheet_history.specs.laws.Entries.{all_entries, entry_holds}
 use Rattle.sheet_history.specs.laws.RuleLaws.{KeepsSheetRules}
-use Rattle.edit_plans.specs.Blanked.{blank_cell, blanked_cell, blanked, blanked_sheet}
+use Rattle.edit_plans.specs.Blanked.{blank_cell, blanked_cell, blanked}
 use Rattle.edit_plans.specs.laws.MappedMaps.{mapped, get-mapped, entries-mapped}
+
+-- a sheet without the contents that a rectangle covers
+abbrev pub blanked_sheet : MergedCell → Sheet → Sheet
+blanked_sheet r sheet = record sheet { cells = blanked r sheet.cells }
 
 -- ---- what stands at a place
 
@@ -192,13 +197,13 @@ module _ (r : MergedCell) (sheet : Sheet) where
 
 -- ---- numbers and rules
 
--- kept numbers stay
-pub kept_blanked : (r : MergedCell) (cells : FinMap position_cmp Cell) → KeptCells cells → KeptCells (blanked r cells)
-kept_blanked r cells kept place = subst (λ o. IfSome o IsKeptCell) (sym (get-blanked r cells place)) (go (get cells place) (kept place))
+-- canonical numbers stay
+pub kept_blanked : (r : MergedCell) (cells : FinMap position_cmp Cell) → CanonicalCells cells → CanonicalCells (blanked r cells)
+kept_blanked r cells kept place = subst (λ o. IfSome o IsCanonicalCell) (sym (get-blanked r cells place)) (go (get cells place) (kept place))
   where
-    go : (o : Option Cell) → IfSome o IsKeptCell → IfSome (option_map (blanked_cell r place) o) IsKeptCell
+    go : (o : Option Cell) → IfSome o IsCanonicalCell → IfSome (option_map (blanked_cell r place) o) IsCanonicalCell
     go None all = tt
-    go (Some old) all = by_cover IsKeptCell r place old tt all
+    go (Some old) all = by_cover IsCanonicalCell r place old tt all
 
 module _ (r : MergedCell) (sheet : Sheet) where
   abbrev next : Sheet

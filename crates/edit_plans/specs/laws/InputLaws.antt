@@ -27,7 +27,7 @@ use Rattle.sheet_rules.specs.laws.HiddenLaws.{shown_where_free}
 use Rattle.sheet_lines.specs.Sheets.{sheet_of}
 use Rattle.sheet_history.specs.declared.Diff.{Diff}
 use Rattle.sheet_history.specs.declared.Diff.TheVariants.{Cell as CellDiff}
-use Rattle.sheet_history.specs.Diffs.{IsKeptList}
+use Rattle.sheet_history.specs.Diffs.{IsCanonicalList}
 use Rattle.sheet_history.specs.Entries.{EntryKey, lies_inside, cell_stands_at, value_fits, with_sheet_entry, put_entry}
 use Rattle.sheet_history.specs.Entries.EntryKey.{CellKey, LinkKey}
 use Rattle.sheet_history.specs.Entries.EntryValue.{CellValue, LinkValue}
@@ -243,11 +243,11 @@ module _ (w : Book) (index : ℕ) (row column : ℤ) (content : Content) (rules 
   pub input_exact : IsRecord w after (input_record content sheet place)
   input_exact = exact_by (is_empty content)
 
-  pub input_plan : (list : List Diff) → list ≡ input_record content sheet place → IsKeptList list → IsPlan w list after
+  pub input_plan : (list : List Diff) → list ≡ input_record content sheet place → IsCanonicalList list → IsPlan w list after
   input_plan list is kept = record {
     exact = subst (IsRecord w after) (sym is) input_exact;
     rules = input_well_formed;
-    kept = kept;
+    canonical = kept;
   }
 
   pub input_expected : input_put index row column content w ≡ Ok after
@@ -258,7 +258,7 @@ module _ (w : Book) (index : ℕ) (row column : ℤ) (content : Content) (rules 
 
 -- ---- what the plan returns
 
--- no place is refused for want of memory
+-- no place is refused since memory is short
 input_sure : (sheet : Sheet) (row column : ℤ) (error : EditError) → input_place sheet row column ≡ Err error → error ≢ NoMemory
 input_sure sheet row column error is short = go (place_of row column) refl is
   where
@@ -293,13 +293,13 @@ input_refused w index row column content sheet error at refused =
 pub input_planned : (w : Book) (index : ℕ) (row column : ℤ) (content : Content) → IsWellFormed w → IsInput row column content
     → (sheet : Sheet) (place : Position) → sheet_at w index ≡ Ok sheet
     → input_place sheet row column ≡ Ok place → (result : Result (List Diff) EditError)
-    → IfOk result (λ list. list ≡ input_record content sheet place) → IfOk result IsKeptList
+    → IfOk result (λ list. list ≡ input_record content sheet place) → IfOk result IsCanonicalList
     → IsOkUnless result NoMemory → Plans result w (input_put index row column content w)
 input_planned w index row column content rules may sheet place at goes result made kept only =
     plan_made w (after w index row column content rules may sheet place at goes) (input_put index row column content w) result
     (input_expected w index row column content rules may sheet place at goes) only (plan result made kept)
   where
-    plan : (r : Result (List Diff) EditError) → IfOk r (λ list. list ≡ input_record content sheet place) → IfOk r IsKeptList
+    plan : (r : Result (List Diff) EditError) → IfOk r (λ list. list ≡ input_record content sheet place) → IfOk r IsCanonicalList
         → IfOk r (λ list. IsPlan w list (after w index row column content rules may sheet place at goes))
     plan (Ok list) is all = input_plan w index row column content rules may sheet place at goes list is all
     plan (Err error) is all = tt

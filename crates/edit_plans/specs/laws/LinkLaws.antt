@@ -12,7 +12,7 @@ use Rattle.sheet_grid.specs.Sheet.{Sheet, link_put}
 use Rattle.sheet_grid.specs.Book.{Book, sheet_at, with_sheet}
 use Rattle.sheet_rules.specs.WellFormed.{is_place, IsWellFormed}
 use Rattle.sheet_history.specs.declared.Diff.{Diff}
-use Rattle.sheet_history.specs.Diffs.{IsKeptList}
+use Rattle.sheet_history.specs.Diffs.{IsCanonicalList}
 use Rattle.sheet_history.specs.Entries.{EntryKey, with_sheet_entry, put_entry}
 use Rattle.sheet_history.specs.Entries.EntryKey.{LinkKey}
 use Rattle.sheet_history.specs.Entries.EntryValue.{LinkValue}
@@ -48,11 +48,11 @@ module _ (w : Book) (index : ℕ) (row column : ℤ) (entry : Option Link) (rule
   pub link_exact : IsRecord w after (link_change sheet place entry)
   link_exact = subst (λ later. IsRecord w later (link_change sheet place entry)) put_is (put_record w key (LinkValue entry) sheet (there w rules index sheet at) inside)
 
-  pub link_plan : (list : List Diff) → list ≡ link_change sheet place entry → IsKeptList list → IsPlan w list after
+  pub link_plan : (list : List Diff) → list ≡ link_change sheet place entry → IsCanonicalList list → IsPlan w list after
   link_plan list is kept = record {
     exact = subst (IsRecord w after) (sym is) link_exact;
     rules = link_well_formed;
-    kept = kept;
+    canonical = kept;
   }
 
   pub link_expected : link_set index row column entry w ≡ Ok after
@@ -85,14 +85,14 @@ link_refused w index row column entry sheet error at outside =
 -- and else
 pub link_planned : (w : Book) (index : ℕ) (row column : ℤ) (entry : Option Link) → IsWellFormed w → (sheet : Sheet) (place : Position)
     → sheet_at w index ≡ Ok sheet → place_of row column ≡ Ok place
-    → (result : Result (List Diff) EditError) → IfOk result (λ list. list ≡ link_change sheet place entry) → IfOk result IsKeptList
+    → (result : Result (List Diff) EditError) → IfOk result (λ list. list ≡ link_change sheet place entry) → IfOk result IsCanonicalList
     → IsOkUnless result NoMemory
     → Plans result w (link_set index row column entry w)
 link_planned w index row column entry rules sheet place at named result made kept only =
     plan_made w (after w index row column entry rules sheet place at named) (link_set index row column entry w) result
     (link_expected w index row column entry rules sheet place at named) only (plan result made kept)
   where
-    plan : (r : Result (List Diff) EditError) → IfOk r (λ list. list ≡ link_change sheet place entry) → IfOk r IsKeptList
+    plan : (r : Result (List Diff) EditError) → IfOk r (λ list. list ≡ link_change sheet place entry) → IfOk r IsCanonicalList
         → IfOk r (λ list. IsPlan w list (after w index row column entry rules sheet place at named))
     plan (Ok list) is all = link_plan w index row column entry rules sheet place at named list is all
     plan (Err error) is all = tt

@@ -11,10 +11,11 @@ use Rattle.base_axis.specs.declared.MergedCell.{MergedCell}
 use Rattle.sheet_grid.specs.Sheet.{Sheet}
 use Rattle.sheet_history.specs.declared.Diff.{Diff}
 use Rattle.sheet_history.specs.Entries.{EntryKey, EntryValue, key_cmp, sheet_id_of, sheet_entry}
-use Rattle.sheet_history.specs.Entries.EntryKey.{CellKey, LinkKey, MergesKey}
-use Rattle.sheet_history.specs.Entries.EntryValue.{MergesValue}
+use Rattle.sheet_history.specs.Entries.EntryKey.{CellKey, LinkKey, MergesKey, FieldKey}
+use Rattle.sheet_history.specs.Entries.EntryValue.{MergesValue, FieldValue}
 use Rattle.sheet_history.specs.Records.{Change, change_of, changed_entry, same_entry_value}
 use Rattle.sheet_history.specs.laws.EntryLaws.{decide}
+use Rattle.sheet_history.specs.laws.FieldLaws.{fields_stay}
 use Rattle.sheet_history.specs.laws.OneEntry.{changed_entry-same}
 use Rattle.sheet_history.specs.laws.RecordLaws.{key_total, exact_keys}
 use Rattle.sheet_history.specs.laws.ValueEquals.{same_value_decides}
@@ -80,6 +81,9 @@ module _ (change : Sheet → Sheet) (merges : Sheet → List MergedCell) (sheet 
   here (LinkKey id place) own = others (LinkKey id place) (λ same. let never : LinkKey id place ≡ MergesKey sheet.id = same in cc)
       ∙ is.here (LinkKey id place) own
   here (MergesKey id) own = ap (λ n. fin.find key_cmp (MergesKey n) (cs ++ last ∷ [])) own ∙ at_merges
+  here (FieldKey id field) own = others (FieldKey id field) (λ same. let never : FieldKey id field ≡ MergesKey sheet.id = same in cc)
+      ∙ is.here (FieldKey id field) own
+      ∙ ap (λ v. changed_entry (Some (sheet_entry (FieldKey id field) sheet)) (Some (FieldValue v))) (fields_stay field (change sheet) (and_merges sheet) refl refl refl)
 
   -- the changes and that of the merges are the record
   pub merges_record : IsSheetRecord (λ s. record (change s) { merges = merges s }) sheet (cs ++ merges_change sheet (merges sheet) ∷ [])

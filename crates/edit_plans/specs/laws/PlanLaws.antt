@@ -17,7 +17,7 @@ pub plan_refused : (book : Book) (expected : Result Book EditError) (error : Edi
     → Plans (Err error) book expected
 plan_refused book expected error is sure = record { planned = tt; refused = λ other. is; memory = λ short. absurd (sure short) }
 
--- a record of the change that is expected, or want of memory
+-- a record of the change that is expected, or out of memory
 pub plan_made : (book later : Book) (expected : Result Book EditError) (result : Result (List Diff) EditError) → expected ≡ Ok later
     → IsOkUnless result NoMemory
     → IfOk result (λ list. IsPlan book list later) → Plans result book expected
@@ -48,7 +48,7 @@ pub sheet_takes : (book : Book) (index : ℕ) (edit : Sheet → Result Sheet Edi
     → sheet_edit book index edit ≡ Ok (with_sheet book index next)
 sheet_takes book index edit sheet next at taken = edit_at book index edit sheet at ∙ ap (map_ok (with_sheet book index)) taken
 
--- no sheet is missing for want of memory
+-- no sheet is missing since memory is short
 pub sheet_sure : (book : Book) (index : ℕ) (error : EditError) → sheet_at book index ≡ Err error → error ≢ NoMemory
 sheet_sure book index error missing short = go (slice_get book.worksheets index) missing
   where

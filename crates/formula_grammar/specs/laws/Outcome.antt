@@ -4,7 +4,7 @@ use Rattle.formula_tree.specs.declared.node.Node.{Node}
 use Rattle.formula_grammar.specs.declared.fault.Fault.{Fault}
 use Rattle.formula_grammar.specs.declared.fault.Fault.TheVariants.{Memory}
 use Rattle.formula_grammar.specs.declared.token.Token.{Token}
-use Rattle.formula_grammar.specs.laws.Reading.{Outcome, made}
+use Rattle.formula_grammar.specs.laws.Reading.{Outcome, shallow_tree}
 
 -- what is read, and the tokens after it
 abbrev pub Reads : {A X : Type 0} → Option (A × X) → Result A Fault → X → Type 0
@@ -27,5 +27,5 @@ Gives o (Err e) = e ≢ Memory → o ≡ None
 
 -- the tree, if it is not too deep
 abbrev pub Makes : Node → Result Node Fault → Type 0
-Makes tree (Ok m) = made tree ≡ Some m
-Makes tree (Err e) = e ≢ Memory → made tree ≡ None
+Makes tree (Ok m) = shallow_tree tree ≡ Some m
+Makes tree (Err e) = e ≢ Memory → shallow_tree tree ≡ None

@@ -57,11 +57,11 @@ abbrev pub with_rest : {A : Type 0} → List Token → Option A → Outcome A
 with_rest ts o = option_map (λ a. (a, ts)) o
 
 -- the tree, if it is not too deep
-unfoldable pub made : Node → Option Node
-made tree = if nat_le (depth_of tree) 64 then Some tree else None
+unfoldable pub shallow_tree : Node → Option Node
+shallow_tree tree = if nat_le (depth_of tree) 64 then Some tree else None
 
 abbrev pub make : Node → Parser Node
-make tree = λ ts. with_rest ts (made tree)
+make tree = λ ts. with_rest ts (shallow_tree tree)
 
 -- ---- tokens
 

@@ -6,7 +6,7 @@ use Rattle.formula_levels.specs.Levels.{prefix_node}
 use Rattle.formula_tree.specs.declared.node.Node.{Node}
 use Rattle.formula_grammar.specs.declared.token.Token.{Token}
 use Rattle.formula_grammar.specs.Operators.{prefix_under}
-use Rattle.formula_grammar.specs.laws.Reading.{made, sign_at}
+use Rattle.formula_grammar.specs.laws.Reading.{shallow_tree, sign_at}
 
 -- what a token adds to the count, where it is a sign
 abbrev pub counted : List Token → ℕ × List Token → Option Prefix → ℕ × List Token
@@ -26,4 +26,4 @@ making under = if under == prefix_under At then At else Minus
 -- so many signs before the tree
 abbrev pub wrapped : Prefix → ℕ → Node → Option Node
 wrapped op zero tree = Some tree
-wrapped op (suc k) tree = option_and_then (wrapped op k) (made (prefix_node op tree))
+wrapped op (suc k) tree = option_and_then (wrapped op k) (shallow_tree (prefix_node op tree))

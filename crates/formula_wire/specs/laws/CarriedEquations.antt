@@ -3,7 +3,7 @@ use Rattle.std.specs.Prelude.{◌≡◌, ℕ, ◌^◌, Bool, true, ◌&&◌, nat
 use Rattle.std.proofs.Common.{ap, sym, refl, suc, ◌∙◌}
 use Rattle.std.specs.List.{list_all}
 use Rattle.std.proofs.lemmas.List.Folds.{list_all-map}
-use Rattle.base_decimal.specs.Kept.{is_kept}
+use Rattle.base_decimal.specs.Canonical.{is_canonical}
 use Rattle.base_decimal.specs.declared.Decimal.{Decimal}
 use Rattle.base_tables.specs.declared.Error.{Error}
 use Rattle.base_tables.specs.declared.Function.{Function}
@@ -32,7 +32,7 @@ pub carried_boolean : (value : Bool) → is_carried (node.Boolean value) ≡ tru
 unfolding is_carried
 carried_boolean value = ap (fold-Node Bool carried_layer) (sym (node.rolls-Boolean value)) ∙ fold-roll-Node Bool carried_layer (Node-F.Boolean value)
 
-pub carried_number : (value : Decimal) → is_carried (node.Number value) ≡ is_kept value
+pub carried_number : (value : Decimal) → is_carried (node.Number value) ≡ is_canonical value
 unfolding is_carried
 carried_number value = ap (fold-Node Bool carried_layer) (sym (node.rolls-Number value)) ∙ fold-roll-Node Bool carried_layer (Node-F.Number value)
 

@@ -3,7 +3,7 @@ use Rattle.std.proofs.Common.{◌≡◌, ℕ, ◌+◌, ◌^◌, ◌&&◌, Bool, 
 use Rattle.std.specs.Prelude.{nat_lt}
 use Rattle.std.specs.List.{list_all}
 use Rattle.base_decimal.specs.declared.Decimal.{Decimal}
-use Rattle.base_decimal.specs.Kept.{is_kept}
+use Rattle.base_decimal.specs.Canonical.{is_canonical}
 use Rattle.base_tables.specs.declared.Error.{Error}
 use Rattle.base_tables.specs.declared.Function.{Function}
 use Rattle.formula_tree.specs.declared.ArrayItem.{ArrayItem}
@@ -85,7 +85,7 @@ fits_nothing n = rw (within_nothing 0 n refl) (never (is_carried n))
 pub fits_boolean : (rest : ℕ) (value : Bool) → fits_within (rest + 1) (node.Boolean value) ≡ true
 fits_boolean rest value = leaf (carried_boolean value) (within_boolean rest value)
 
-pub fits_number : (rest : ℕ) (value : Decimal) → fits_within (rest + 1) (node.Number value) ≡ is_kept value
+pub fits_number : (rest : ℕ) (value : Decimal) → fits_within (rest + 1) (node.Number value) ≡ is_canonical value
 fits_number rest value = leaf (carried_number value) (within_number rest value)
 
 pub fits_text : (rest : ℕ) (text : List ℕ) → fits_within (rest + 1) (node.Text text) ≡ is_text text

@@ -1,8 +1,10 @@
--- `==` of edits is equality of their values.
-use Rattle.std.proofs.Common.{◌≡◌, true, refl}
+-- `==` of edits and of blocks is equality of their values.
+use Rattle.std.proofs.Common.{◌≡◌, true, refl, ap}
 use Rattle.std.specs.Bool.{Decides}
 use Rattle.std.specs.Cmp.{signed_Decides}
 use Rattle.std.proofs.lemmas.Bool.Decides.{Decides-like, Decides-and}
+use Rattle.line_edits.specs.declared.edit.Block.{Block}
+use Rattle.line_edits.specs.contracts.edit.BlockPartialEq.TheImpl as block
 use Rattle.line_edits.specs.declared.edit.EditKind.{EditKind}
 use Rattle.line_edits.specs.declared.edit.EditKind.TheVariants.{Insert, Delete, Move}
 use Rattle.line_edits.specs.contracts.edit.EditKindPartialEq.TheImpl as edit_kind
@@ -42,6 +44,11 @@ kind_equals (Delete _ _) (Move _ _ _) = (λ e. cc, λ e. cc)
 kind_equals (Move _ _ _) (Insert _ _) = (λ e. cc, λ e. cc)
 kind_equals (Move _ _ _) (Delete _ _) = (λ e. cc, λ e. cc)
 kind_equals (Delete _ _) (Insert _ _) = (λ e. cc, λ e. cc)
+
+pub block_equals : (a b : Block) → Decides (block.ghosts.eq a b) (a ≡ b)
+block_equals a b =
+    Decides-like _ (λ p i. record { first = p.0 i; count = p.1 i }) (λ e. (ap (λ x. x.first) e, ap (λ x. x.count) e))
+    (Decides-and _ _ (signed_Decides a.first b.first) (signed_Decides a.count b.count))
 
 -- a value is itself
 pub own_value : {X : Type 0} (x : X) → Decides true (x ≡ x)

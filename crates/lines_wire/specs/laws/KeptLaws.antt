@@ -1,5 +1,5 @@
 -- The laws of the bytes of what line edits keep.
-use Rattle.std.proofs.Common.{◌≤◌, [], length, refl, subst, arith, ℕ, List}
+use Rattle.std.proofs.Common.{◌≤◌, length, refl, arith}
 use Rattle.std.specs.Prelude.{FitsSigned, IfSome}
 use Rattle.std.specs.Cmp.{int_cmp_total}
 use Rattle.std.specs.Int.{w32}
@@ -10,13 +10,10 @@ use Rattle.base_values.specs.laws.Places.{position_total, exact_positions}
 use Rattle.base_maps.specs.SheetPlaces.{sheet_place_cmp}
 use Rattle.base_maps.specs.laws.SheetPlaces.{sheet_place_total, exact_sheet_places}
 use Rattle.sheet_lines.specs.declared.KeptLines.{KeptLines}
-use Rattle.base_wire.specs.Reading.{plain}
-use Rattle.base_wire.specs.Spelling.{Any, spell_option, spell_signed}
+use Rattle.base_wire.specs.Spelling.{spell_option, spell_signed}
 use Rattle.base_wire.specs.laws.Format.{Format, option_format}
-use Rattle.base_wire.specs.laws.Formats.{both_format, after_format, made_format}
+use Rattle.base_wire.specs.laws.Formats.{both_format, made_format}
 use Rattle.base_wire.specs.laws.Parts.{signed_format}
-use Rattle.base_wire.specs.laws.Refusals.{plain_plain}
-use Rattle.base_wire.specs.laws.Spelled.{IsSpelled, ok_is}
 use Rattle.formula_wire.specs.NodeBytes.{spell_node}
 use Rattle.formula_wire.specs.Carried.{FitsNode}
 use Rattle.formula_wire.specs.laws.NodeLaws.{node_format}
@@ -25,11 +22,13 @@ use Rattle.cell_wire.specs.laws.Formats.{position_format, position_some, cell_fo
 use Rattle.cell_wire.specs.LinkBytes.{spell_link, FitsLink}
 use Rattle.cell_wire.specs.MergeBytes.{spell_merges, FitsMerges}
 use Rattle.cell_wire.specs.laws.MergeLaws.{link_format, merges_format}
-use Rattle.lines_wire.specs.MapBytes.{spell_map, FitsMap}
-use Rattle.lines_wire.specs.PartBytes.{spell_sheet_place, FitsSheetPlace, spell_line, FitsLine}
-use Rattle.lines_wire.specs.laws.MapLaws.{map_format}
-use Rattle.lines_wire.specs.laws.PartLaws.{sheet_place_format, sheet_place_some, line_format}
-use Rattle.lines_wire.specs.KeptBytes.{cells_at, links_at, lines_at, formulas_at, kept_merges_at, no_rules, spell_kept, kept_made, kept_at, FitsKept}
+use Rattle.map_wire.specs.MapBytes.{spell_map, FitsMap}
+use Rattle.grid_wire.specs.LineBytes.{spell_line, FitsLine}
+use Rattle.lines_wire.specs.PartBytes.{spell_sheet_place, FitsSheetPlace}
+use Rattle.map_wire.specs.laws.MapLaws.{map_format, no_items_format}
+use Rattle.grid_wire.specs.laws.LineLaws.{line_format}
+use Rattle.lines_wire.specs.laws.PartLaws.{sheet_place_format, sheet_place_some}
+use Rattle.lines_wire.specs.KeptBytes.{cells_at, links_at, lines_at, formulas_at, kept_merges_at, spell_kept, kept_made, kept_at, FitsKept}
 
 -- ---- maps
 
@@ -55,23 +54,11 @@ kept_merges_format = option_format merges_format
 
 -- ---- what line edits keep
 
--- what takes no bytes
-nothing_format : Format {A = Unit {0}} Any (λ _. []) (plain tt)
-nothing_format = record {
-  again = record { again = λ x rest fits. refl };
-  spelled = record {
-    spelled = λ bytes x small e.
-        let made : Unit {0} × List ℕ = (tt, bytes) in
-        subst (λ (z : Unit {0} × List ℕ). IsSpelled {A = Unit {0}} Any (λ _. []) bytes z.0 z.1) (ok_is made x e) (record { parts = refl; fits = tt; left = small });
-  };
-  plain = plain_plain tt;
-}
-
 -- what bytes can carry is read again from its spelling, what is read was spelled so, and all else is refused
 pub kept_format : Format FitsKept spell_kept kept_at
 unfolding kept_at spell_kept
 kept_format =
-    made_format (both_format cells_format (both_format links_format (both_format lines_format (both_format formulas_format (both_format kept_merges_format (after_format nothing_format no_rules refl))))))
+    made_format (both_format cells_format (both_format links_format (both_format lines_format (both_format formulas_format (both_format kept_merges_format no_items_format)))))
     kept_made (λ kept. (kept.cells, (kept.links, (kept.lines, (kept.formulas, (kept.merges, tt))))))
     (λ kept fits. (refl, (fits.cells, (fits.links, (fits.lines, (fits.formulas, (fits.merges, tt)))))))
     (λ x fits. (refl, record { cells = fits.0; links = fits.1.0; lines = fits.1.1.0; formulas = fits.1.1.1.0; merges = fits.1.1.1.1.0 }))

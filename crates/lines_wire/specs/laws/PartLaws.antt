@@ -1,18 +1,11 @@
--- The laws of the bytes of places of a workbook and of lines.
-use Rattle.std.proofs.Common.{◌≡◌, ◌≤◌, ◌++◌, length, Bool, true, false, refl, arith}
-use Rattle.std.proofs.lemmas.List.{length-append}
-use Rattle.std.specs.Prelude.{not}
-use Rattle.std.specs.Int.{w32}
+-- The laws of the bytes of places of a workbook.
+use Rattle.std.proofs.Common.{◌≤◌, length, refl, arith}
 use Rattle.base_maps.specs.declared.SheetPlace.{SheetPlace}
-use Rattle.sheet_grid.specs.Lines.{is_plain}
-use Rattle.sheet_grid.specs.declared.LineAttr.{LineAttr}
-use Rattle.base_wire.specs.Spelling.{spell_signed, spell_code, boolean_code, spell_option}
-use Rattle.base_wire.specs.laws.Format.{Format, option_format}
-use Rattle.base_wire.specs.laws.Formats.{both_format, check_format, made_format}
-use Rattle.base_wire.specs.laws.Parts.{short_format, signed_format, boolean_format, option_some}
-use Rattle.cell_wire.specs.StyleBytes.{spell_style}
-use Rattle.cell_wire.specs.laws.Formats.{position_format, style_format}
-use Rattle.lines_wire.specs.PartBytes.{spell_sheet_place, sheet_place_made, sheet_place_at, FitsSheetPlace, spell_line, line_made, size_at, own_style_at, line_at, FitsLine}
+use Rattle.base_wire.specs.laws.Format.{Format}
+use Rattle.base_wire.specs.laws.Formats.{both_format, made_format}
+use Rattle.base_wire.specs.laws.Parts.{short_format}
+use Rattle.cell_wire.specs.laws.Formats.{position_format}
+use Rattle.lines_wire.specs.PartBytes.{spell_sheet_place, sheet_place_made, sheet_place_at, FitsSheetPlace}
 
 pub sheet_place_format : Format FitsSheetPlace spell_sheet_place sheet_place_at
 unfolding sheet_place_at
@@ -22,21 +15,3 @@ sheet_place_format =
 
 pub sheet_place_some : (at : SheetPlace) → 1 ≤ length (spell_sheet_place at)
 sheet_place_some at = omega arith
-
-not_plain : (b : Bool) → b ≡ false → not b ≡ true
-not_plain true h = cc
-not_plain false h = refl
-
-plain_not : (b : Bool) → not b ≡ true → b ≡ false
-plain_not true h = cc
-plain_not false h = refl
-
-pub line_format : Format FitsLine spell_line line_at
-unfolding line_at size_at own_style_at
-line_format =
-    made_format (check_format (both_format (option_format signed_format) (both_format (option_format style_format) boolean_format)) (λ x. not (is_plain (line_made x)))) line_made (λ attr. (attr.size, (attr.style, attr.hidden)))
-    (λ attr fits. (refl, ((fits.size, (fits.style, tt)), not_plain (is_plain attr) fits.own)))
-    (λ x fits. (refl, record { size = fits.0.0; style = fits.0.1.0; own = plain_not (is_plain (line_made x)) fits.1 }))
-
-pub line_some : (attr : LineAttr) → 1 ≤ length (spell_line attr)
-line_some attr = omega (arith, option_some (spell_signed w32) attr.size, length-append (spell_option (spell_signed w32) attr.size) (spell_option spell_style attr.style ++ spell_code boolean_code attr.hidden))

@@ -1,12 +1,13 @@
 use super::{push_color, push_dump};
-use crate::english_input;
+use crate::{english_formula, english_input};
 use base_axis::MergedCell;
 use base_shared::Shared;
 use base_styles::{Color, Style, ThemeColor};
 use base_tables::{Locale, Zone};
 use base_values::{EditError, Items, Position, Text};
-use formula_tree::{Node, has_kept_numbers};
-use sheet_grid::{Cell, ColumnAttr, Link, RowAttr, Workbook, Worksheet};
+use defined_names::{DefinedName, NameList};
+use formula_tree::{Node, has_canonical_numbers};
+use sheet_grid::{Cell, ColumnAttr, Link, RowAttr, SheetState, Workbook, Worksheet};
 use std::alloc::Global;
 use std::test::Fail;
 
@@ -103,11 +104,11 @@ end
     Ok(())
 }
 
-/// Its tree has kept numbers, which setting it asks.
+/// Its tree has canonical numbers, which setting it asks.
 fn put_array(sheet: &mut Worksheet, alloc: Global) -> Result<(), EditError> {
     let style = Shared::new(alloc, Style::new(alloc)?)?;
     let tree = Node::Boolean(true);
-    if has_kept_numbers(&tree) {
+    if has_canonical_numbers(&tree) {
         sheet.set_cell_with_array_formula(4, 2, tree, &style, 3, 2)?;
     }
     Ok(())
@@ -191,6 +192,62 @@ fn formulas_are_printed(rt: HostRuntime) -> Result<(), Fail> {
         b"book de UTC w
 sheet 1 visible 1 0 0 - Sheet1
 cell C2 - formula =B1+SUM(1.5,$A$2)
+end
+"
+            .as_slice()
+    );
+    Ok(())
+}
+
+/// A name for an English formula's text as at A1.
+fn name_of(
+    alloc: Global,
+    name: &str,
+    scope: Option<u32>,
+    text: &str,
+) -> Result<DefinedName, EditError> {
+    let tree = english_formula(alloc, Position { row: 1, column: 1 }, text)?;
+    Ok(DefinedName {
+        name: Text::new(String::from_str(alloc, name)?),
+        scope,
+        formula: Shared::new(alloc, tree)?,
+    })
+}
+
+/// Its trees have canonical numbers, which putting them in asks.
+fn put_names(workbook: &mut Workbook, alloc: Global) -> Result<(), EditError> {
+    let mut names = NameList::empty(alloc);
+    for (name, scope, text) in [("Rate", None, "0.50"), ("Ende", Some(7), "=Sheet1!B2+1")] {
+        let name = name_of(alloc, name, scope, text)?;
+        if has_canonical_numbers(name.formula.get()) {
+            names.push(name)?;
+        }
+    }
+    workbook.set_name_list(names);
+    Ok(())
+}
+
+/// Names in their order behind the workbook, and then each sheet with its state, its grid lines, its frozen
+/// counts and its colour.
+#[test]
+fn names_and_sheets_are_printed(rt: HostRuntime) -> Result<(), Fail> {
+    let mut workbook = Workbook::new_empty(rt.alloc(), "w", Locale::De, Zone::Utc)?;
+    put_names(&mut workbook, rt.alloc())?;
+    let mut sheet = Worksheet::new(rt.alloc(), 7, "a b")?;
+    sheet.set_state(SheetState::VeryHidden);
+    sheet.set_color(&Color::Theme(ThemeColor::Light1));
+    sheet.set_show_grid_lines(false);
+    sheet.set_frozen_rows(2);
+    workbook.insert_worksheet(1, sheet)?;
+    let mut out = Vec::new(rt.alloc());
+    push_dump(rt.alloc(), &mut out, &workbook)?;
+    assert_eq!(rt;
+        out.as_slice(),
+        b"book de UTC w
+name - Rate =0.5
+name 7 Ende =Sheet1!B2+1
+sheet 1 visible 1 0 0 - Sheet1
+sheet 7 very-hidden 0 2 0 theme:0 a b
 end
 "
             .as_slice()

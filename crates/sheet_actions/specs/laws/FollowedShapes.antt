@@ -31,7 +31,8 @@ use Rattle.sheet_grid.specs.declared.Cell.{Cell}
 use Rattle.sheet_grid.specs.Arrays.{array_at, large_array_at, where_large}
 use Rattle.sheet_grid.specs.Merges.{is_empty}
 use Rattle.sheet_grid.specs.Sheet.{Sheet}
-use Rattle.sheet_rules.specs.Occupied.{have_arrays, have_merges, are_hidden_blank, is_merge, array_in}
+use Rattle.sheet_rules.specs.Occupied.{have_arrays, have_merges, are_hidden_blank, is_merge}
+use Rattle.sheet_rules.specs.laws.ArraysIn.{array_in}
 use Rattle.sheet_rules.specs.laws.EntryLaws.{both}
 use Rattle.sheet_rules.specs.laws.ShownLaws.{neither, not_true, none_in}
 use Rattle.sheet_rules.specs.laws.OccupiedLaws.{KeepsArrays, keeps_arrays, have_arrays_from, KeepsMerges, keeps_merges, have_merges_from, keeps_hidden, are_hidden_blank_from}

@@ -11,6 +11,7 @@ use Rattle.line_edits.specs.Edit.{IsValid}
 use Rattle.line_edits.specs.Moves.{LineMoves, edit_moves}
 use Rattle.line_map.specs.Way.{IsWay}
 use Rattle.line_edits.specs.laws.OneToOne.{edit_one_to_one}
+use Rattle.sheet_rules.specs.Names.{are_names}
 use Rattle.sheet_rules.specs.SheetNames.{is_sheet_name}
 use Rattle.sheet_rules.specs.laws.EntryLaws.{both}
 use Rattle.sheet_rules.specs.WellFormed.{are_distinct, ids_of, names_of, are_sheets, stands_inside, have_trees, have_attributes, are_frozen, IsWellFormed}
@@ -87,6 +88,8 @@ followed_well_formed a lawful e valid id book h allowed =
       merges = kept.merges;
       hidden = kept.hidden;
       trees = all_follow have_trees f (λ sheet. trees_stay (way_of a m id edited sheet) (is sheet) sheet) book.worksheets rules.trees;
+      name_trees = rules.name_trees;
       attributes = all_follow have_attributes f (λ sheet. attributes_stay (way_of a m id edited sheet) (is sheet) sheet) book.worksheets rules.attributes;
+      names = ap (λ ids. are_names ids book.names) (same_ids a m id edited book.worksheets) ∙ rules.names;
       frozen = all_follow are_frozen f (λ _ frozen. frozen) book.worksheets rules.frozen;
     })

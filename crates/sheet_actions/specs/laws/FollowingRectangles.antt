@@ -5,8 +5,8 @@ use Rattle.std.proofs.lemmas.Int.{ints}
 use Rattle.base_values.specs.declared.Position.{Position}
 use Rattle.base_axis.specs.Along.{Along, IsAxis, rows, columns}
 use Rattle.base_axis.specs.declared.MergedCell.{MergedCell}
-use Rattle.base_axis.specs.Rectangles.{IsInside, is_between, holds, meets, anchor_place, first_line, last_line, across, first_cross, last_cross, line_span, last_of, with_lines}
-use Rattle.base_axis.specs.laws.RectangleLaws.{shared_meets, meets_shared, first_put, last_put, first_cross_stays, last_cross_stays, put_lines_inside, holds_along}
+use Rattle.base_axis.specs.Rectangles.{IsInside, is_between, holds, meets, anchor_place, first_line, last_line, across, line_span, last_of, with_lines}
+use Rattle.base_axis.specs.laws.RectangleLaws.{first_cross, last_cross, shared_meets, meets_shared, first_put, last_put, first_cross_stays, last_cross_stays, put_lines_inside, holds_along}
 use Rattle.line_edits.specs.declared.EditKind.{EditKind}
 use Rattle.line_edits.specs.Edit.{image_at, IsValid}
 use Rattle.line_edits.specs.Moves.{place_image, at_line}

@@ -12,7 +12,7 @@ use Rattle.formula_tree.specs.declared.Node.{Node}
 use Rattle.formula_tree.specs.Placed.{is_placed}
 use Rattle.cell_content.specs.Fitting.{tree_fits_at}
 use Rattle.cell_content.specs.Lens.{tree_of}
-use Rattle.sheet_grid.specs.FittingCells.{entry_fits_at}
+use Rattle.sheet_grid.specs.laws.FittingCells.{entry_fits_at}
 use Rattle.sheet_grid.specs.Sheet.{Sheet}
 use Rattle.sheet_grid.specs.Book.{Book}
 use Rattle.sheet_rules.specs.WellFormed.{have_trees, IsWellFormed}

@@ -4,7 +4,7 @@ use super::{below, edit, empty_book};
 use crate::Model;
 use base_axis::MergedCell;
 use base_values::{EditError, Items};
-use formula_tree::has_kept_numbers;
+use formula_tree::has_canonical_numbers;
 use sheet_grid::{DefaultStyle, Worksheet};
 use std::alloc::Global;
 use std::test::Fail;
@@ -13,7 +13,7 @@ use std::test::Fail;
 fn put_array(alloc: Global, sheet: &mut Worksheet) -> Result<(), EditError> {
     let style = DefaultStyle::new(alloc)?;
     let tree = below(None, 7, 0);
-    if has_kept_numbers(&tree) {
+    if has_canonical_numbers(&tree) {
         sheet.set_cell_with_array_formula(2, 2, tree, style.shared(), 1, 3)?;
     }
     Ok(())

@@ -20,7 +20,7 @@ use Rattle.cell_content.specs.laws.FittingLaws.{shallow_where_fits}
 use Rattle.sheet_grid.specs.declared.cell.Cell.{Cell}
 use Rattle.sheet_grid.specs.Sheet.{Sheet, cell_at, with_cell, cell_put}
 use Rattle.sheet_grid.specs.Book.{Book, new_book, index_of, sheet_at, sheet_edit, edit_by_id, with_sheet}
-use Rattle.sheet_grid.specs.FittingCells.{entry_fits_at, is_shallow_entry, CellsFit, SheetsFit}
+use Rattle.sheet_grid.specs.laws.FittingCells.{entry_fits_at, is_shallow_entry, CellsFit, SheetsFit}
 
 -- what fits a place is not deep
 pub shallow_entry : (place : Position) (entry : Option Cell) → IsTrue (entry_fits_at place entry) → IsTrue (is_shallow_entry entry)

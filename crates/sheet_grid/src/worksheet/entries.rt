@@ -4,7 +4,7 @@ ghost use Rattle.std.specs.Prelude.{◌≡◌, Ok, IfOk, IsOkUnless};
 ghost use Rattle.std.specs.FinMap as fin;
 ghost use Rattle.base_values.specs.Answers.{Returns};
 ghost use Rattle.base_values.specs.declared.EditError.TheVariants.{NoMemory};
-ghost use Rattle.sheet_grid.specs.KeptCell.{KeptCells};
+ghost use Rattle.sheet_grid.specs.CanonicalCell.{CanonicalCells};
 
 use super::Worksheet;
 use crate::cell::Cell;
@@ -19,7 +19,7 @@ impl Worksheet {
     /// The cells by their places.
     pub fn cell_map(&self) -> &PlaceMap<Shared<Cell>>
         ensures map { result.now ≡ self.now.cells }
-        ensures kept { KeptCells result.now }
+        ensures canonical { CanonicalCells result.now }
     {
         self.cells.as_map()
     }
@@ -84,7 +84,7 @@ impl Worksheet {
         columns: AxisMap<ColumnAxis, LineAttr>,
         merges: MergeList,
     ) -> Result<Worksheet, EditError>
-        requires { KeptCells cells }
+        requires { CanonicalCells cells }
         ensures sheet { IfOk result (λ sheet. sheet ≡ record self.now { cells = cells; links = links; rows = rows; columns = columns; merges = merges }) }
         ensures only { IsOkUnless result NoMemory }
     {

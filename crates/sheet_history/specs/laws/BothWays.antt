@@ -1,6 +1,5 @@
 -- The record of two workbooks takes the earlier one to the later one, and the later one back.
-use Rattle.std.proofs.Common.{◌≡◌, ◌≢◌, ◌⊎◌, ⊎_elim, ℕ, ◌+◌, Bool, true, false, cond, ◌&&◌, List, [], ◌∷◌, map, Option, Some, None, is_some, Result, Ok, Err, refl, ap, sym, subst, ◌∙◌, true≢false}
-use Rattle.std.specs.Prelude.{IsTrue}
+use Rattle.std.proofs.Common.{◌≡◌, ◌≢◌, ◌⊎◌, ⊎_elim, ℕ, ◌+◌, true, false, cond, ◌&&◌, List, [], ◌∷◌, map, Option, Some, None, is_some, Ok, Err, refl, ap, sym, subst, ◌∙◌, true≢false}
 use Rattle.std.specs.Ordering.{eq_by_cmp, is_lt, is_eq}
 use Rattle.std.specs.declared.cmp.Ordering.{Ordering}
 use Rattle.std.specs.declared.cmp.Ordering.TheVariants.{Less, Equal, Greater}
@@ -8,20 +7,20 @@ use Rattle.std.specs.Cmp.{eq_by_cmp_equiv}
 use Rattle.std.specs.FinMap.{find, is_sorted}
 use Rattle.std.specs.FinMap.Entries.{below_all}
 use Rattle.std.proofs.lemmas.Map.Views.{tells_apart}
-use Rattle.base_values.specs.declared.EditError.{EditError}
 use Rattle.base_values.specs.declared.EditError.TheVariants.{DiffRefused}
 use Rattle.base_values.specs.Answers.{and_then}
 use Rattle.sheet_grid.specs.Book.{Book}
 use Rattle.sheet_rules.specs.laws.EntryLaws.{both}
 use Rattle.sheet_lines.specs.Sheets.{HasDistinctIds}
 use Rattle.sheet_history.specs.declared.diff.Diff.{Diff}
-use Rattle.sheet_history.specs.declared.diff.Diff.TheVariants.{Cell as CellDiff, Link as LinkDiff, Merges as MergesDiff, Lines as LinesDiff}
-use Rattle.sheet_history.specs.Entries.{EntryKey, EntryValue, key_cmp, entry_at, put_entry, accepts, nothing_at, frame_of}
-use Rattle.sheet_history.specs.Entries.EntryKey.{CellKey, LinkKey, MergesKey}
-use Rattle.sheet_history.specs.Entries.EntryValue.{CellValue, LinkValue, MergesValue}
-use Rattle.sheet_history.specs.Diffs.{put_in, step_forward, step_back, forward_from, back_from, made, taken_back}
+use Rattle.sheet_history.specs.declared.diff.Diff.TheVariants.{Cell as CellDiff, Link as LinkDiff, Merges as MergesDiff, Field as FieldDiff, Lines as LinesDiff, NewSheet as NewDiff, DuplicateSheet as CopyDiff, DeleteSheet as DeletionDiff, MoveSheet as MoveDiff}
+use Rattle.sheet_history.specs.Entries.{EntryKey, EntryValue, key_cmp, entry_at, put_entry, accepts, frame_of}
+use Rattle.sheet_history.specs.Entries.EntryKey.{CellKey, LinkKey, MergesKey, FieldKey}
+use Rattle.sheet_history.specs.Entries.EntryValue.{CellValue, LinkValue, MergesValue, FieldValue}
+use Rattle.sheet_history.specs.Fields.{old_of, new_of, changed_field}
+use Rattle.sheet_history.specs.Diffs.{put_in, step_forward, step_back, forward_from, back_from, untested_after, untested_before}
 use Rattle.sheet_history.specs.Records.{same_entry_value, changed_entry, Change, change_of, IsRecord}
-use Rattle.sheet_history.specs.laws.EntryLaws.{decide, entry_at-put_entry, entry_at-put_entry_other, frame_of-put_entry, accepts-frame_of, is_some-entry_at, accepts-nothing_at, same_book}
+use Rattle.sheet_history.specs.laws.EntryLaws.{decide, nothing_at, entry_at-put_entry, entry_at-put_entry_other, frame_of-put_entry, accepts-frame_of, is_some-entry_at, accepts-nothing_at, same_book}
 use Rattle.sheet_history.specs.laws.RecordLaws.{key_total, exact_keys}
 use Rattle.sheet_history.specs.laws.ValueEquals.{same_value_decides}
 
@@ -85,7 +84,13 @@ step_by_new at w (LinkDiff sheet place old new) c h =
     let same : ◌≡◌ {A = Change} (LinkKey sheet place, (LinkValue old, LinkValue new)) c = cc in ap (λ (x : Change). put_in at w x.0 x.1.1) same
 step_by_new at w (MergesDiff sheet old new) c h =
     let same : ◌≡◌ {A = Change} (MergesKey sheet, (MergesValue old, MergesValue new)) c = cc in ap (λ (x : Change). put_in at w x.0 x.1.1) same
+step_by_new at w (FieldDiff sheet change) c h =
+    let same : ◌≡◌ {A = Change} (FieldKey sheet (changed_field change), (FieldValue (old_of change), FieldValue (new_of change))) c = cc in ap (λ (x : Change). put_in at w x.0 x.1.1) same
 step_by_new at w (LinesDiff _ _ _ _) c h = absurd (cc)
+step_by_new at w (NewDiff _ _ _) c h = absurd (cc)
+step_by_new at w (CopyDiff _ _ _ _) c h = absurd (cc)
+step_by_new at w (DeletionDiff _ _) c h = absurd (cc)
+step_by_new at w (MoveDiff _ _ _) c h = absurd (cc)
 
 step_by_old : (at : ℕ) (w : Book) (d : Diff) (c : Change) → change_of d ≡ Some c → step_back at w d ≡ put_in at w c.0 c.1.0
 step_by_old at w (CellDiff sheet place old new) c h =
@@ -94,7 +99,13 @@ step_by_old at w (LinkDiff sheet place old new) c h =
     let same : ◌≡◌ {A = Change} (LinkKey sheet place, (LinkValue old, LinkValue new)) c = cc in ap (λ (x : Change). put_in at w x.0 x.1.0) same
 step_by_old at w (MergesDiff sheet old new) c h =
     let same : ◌≡◌ {A = Change} (MergesKey sheet, (MergesValue old, MergesValue new)) c = cc in ap (λ (x : Change). put_in at w x.0 x.1.0) same
+step_by_old at w (FieldDiff sheet change) c h =
+    let same : ◌≡◌ {A = Change} (FieldKey sheet (changed_field change), (FieldValue (old_of change), FieldValue (new_of change))) c = cc in ap (λ (x : Change). put_in at w x.0 x.1.0) same
 step_by_old at w (LinesDiff _ _ _ _) c h = absurd (cc)
+step_by_old at w (NewDiff _ _ _) c h = absurd (cc)
+step_by_old at w (CopyDiff _ _ _ _) c h = absurd (cc)
+step_by_old at w (DeletionDiff _ _) c h = absurd (cc)
+step_by_old at w (MoveDiff _ _ _) c h = absurd (cc)
 
 forward_done : (at : ℕ) (w0 w : Book) (ds : List Diff) (cs : List Change) → map change_of ds ≡ map Some cs → frame_of w0 ≡ frame_of w → AllFit w0 cs → forward_from at w ds ≡ Ok (put_news w cs)
 forward_done at w0 w [] [] is e h = refl
@@ -248,14 +259,14 @@ module _ (w w2 : Book) (frames : frame_of w ≡ frame_of w2) (sound : IsSound w)
     fit = all_fit is.changes is.ordered (λ k c e. differs (entry_at w k) (entry_at w2 k) c (sym (is.exact k) ∙ e))
 
     -- a record takes the earlier workbook to the later one
-    pub record_forward : made w ds ≡ Ok w2
+    pub record_forward : untested_after w ds ≡ Ok w2
     record_forward =
         forward_done 0 w w ds is.changes is.made_of refl fit
         ∙ ap Ok (sym (same_book w2 (put_news w is.changes) own2 (sym frames ∙ sym (frame_of-put_news w is.changes)) (λ q.
         sym (entry_at-put_news w w is.changes refl is.ordered fit q ∙ ap (λ c. after c (entry_at w q)) (is.exact q) ∙ after-changed (entry_at w q) (entry_at w2 q) (is_some-entry_at w w2 q frames)))))
 
     -- and the later one back to it
-    pub record_back : taken_back w2 ds ≡ Ok w
+    pub record_back : untested_before w2 ds ≡ Ok w
     record_back =
         back_done 0 w w2 ds is.changes is.made_of frames fit
         ∙ ap Ok (sym (same_book w (put_olds w2 is.changes) own (frames ∙ sym (frame_of-put_olds w2 is.changes)) (λ q.

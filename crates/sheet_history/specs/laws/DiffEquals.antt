@@ -2,7 +2,7 @@
 use Rattle.std.proofs.Common.{◌≡◌, refl, ap}
 use Rattle.std.specs.Bool.{Decides}
 use Rattle.std.specs.Cmp.{unsigned_Decides}
-use Rattle.std.specs.Cmp.Lexicographic.{pointwise_decides}
+use Rattle.std.specs.Cmp.Lexicographic.{bytes_decides, pointwise_decides}
 use Rattle.std.proofs.lemmas.Bool.Decides.{Decides-like, Decides-and}
 use Rattle.base_values.specs.laws.Decided.{option_equals}
 use Rattle.base_values.specs.laws.PositionEquals.{position_equals}
@@ -11,8 +11,10 @@ use Rattle.sheet_grid.specs.laws.CellEquals.{cell_equals}
 use Rattle.sheet_grid.specs.laws.LineEquals.{link_equals}
 use Rattle.line_edits.specs.laws.Equals.{kind_equals}
 use Rattle.sheet_lines.specs.laws.KeptEquals.{kept_equals}
+use Rattle.book_sheets.specs.laws.KeptSheetEquals.{kept_sheet_equals}
+use Rattle.sheet_history.specs.laws.FieldEquals.{field_change_equals}
 use Rattle.sheet_history.specs.declared.diff.Diff.{Diff}
-use Rattle.sheet_history.specs.declared.diff.Diff.TheVariants.{Cell as CellDiff, Link as LinkDiff, Merges as MergesDiff, Lines as LinesDiff}
+use Rattle.sheet_history.specs.declared.diff.Diff.TheVariants.{Cell as CellDiff, Link as LinkDiff, Merges as MergesDiff, Field as FieldDiff, Lines as LinesDiff, NewSheet as NewDiff, DuplicateSheet as CopyDiff, DeleteSheet as DeletionDiff, MoveSheet as MoveDiff}
 use Rattle.sheet_history.specs.declared.diff.DiffType.{DiffType}
 use Rattle.sheet_history.specs.declared.diff.DiffType.TheVariants.{Undo, Redo}
 use Rattle.sheet_history.specs.declared.diff.QueueDiffs.{QueueDiffs}
@@ -86,6 +88,61 @@ diff_equals (MergesDiff s o n) (MergesDiff t u v) =
 
     new_of : MergesDiff s o n ≡ MergesDiff t u v → n ≡ v
     new_of e = cc
+diff_equals (FieldDiff s c) (FieldDiff t d) =
+    Decides-like _ (λ h i. FieldDiff (h.0 i) (h.1 i)) (λ e. (sheet_of e, change_of e)) (Decides-and _ _ (unsigned_Decides _ _) (field_change_equals _ _))
+  where
+    sheet_of : FieldDiff s c ≡ FieldDiff t d → s ≡ t
+    sheet_of e = cc
+
+    change_of : FieldDiff s c ≡ FieldDiff t d → c ≡ d
+    change_of e = cc
+diff_equals (NewDiff s i n) (NewDiff t j m) =
+    Decides-like _ (λ h k. NewDiff (h.0 k) (h.1.0 k) (h.1.1 k)) (λ e. (sheet_of e, (index_of e, name_of e)))
+    (Decides-and _ _ (unsigned_Decides _ _) (Decides-and _ _ (unsigned_Decides _ _) (bytes_decides _ _)))
+  where
+    sheet_of : NewDiff s i n ≡ NewDiff t j m → s ≡ t
+    sheet_of e = cc
+
+    index_of : NewDiff s i n ≡ NewDiff t j m → i ≡ j
+    index_of e = cc
+
+    name_of : NewDiff s i n ≡ NewDiff t j m → n ≡ m
+    name_of e = cc
+diff_equals (CopyDiff o s i n) (CopyDiff p t j m) =
+    Decides-like _ (λ h k. CopyDiff (h.0 k) (h.1.0 k) (h.1.1.0 k) (h.1.1.1 k)) (λ e. (source_of e, (sheet_of e, (index_of e, name_of e))))
+    (Decides-and _ _ (unsigned_Decides _ _) (Decides-and _ _ (unsigned_Decides _ _) (Decides-and _ _ (unsigned_Decides _ _) (bytes_decides _ _))))
+  where
+    source_of : CopyDiff o s i n ≡ CopyDiff p t j m → o ≡ p
+    source_of e = cc
+
+    sheet_of : CopyDiff o s i n ≡ CopyDiff p t j m → s ≡ t
+    sheet_of e = cc
+
+    index_of : CopyDiff o s i n ≡ CopyDiff p t j m → i ≡ j
+    index_of e = cc
+
+    name_of : CopyDiff o s i n ≡ CopyDiff p t j m → n ≡ m
+    name_of e = cc
+diff_equals (DeletionDiff i k) (DeletionDiff j l) =
+    Decides-like _ (λ h n. DeletionDiff (h.0 n) (h.1 n)) (λ e. (index_of e, kept_of e)) (Decides-and _ _ (unsigned_Decides _ _) (kept_sheet_equals _ _))
+  where
+    index_of : DeletionDiff i k ≡ DeletionDiff j l → i ≡ j
+    index_of e = cc
+
+    kept_of : DeletionDiff i k ≡ DeletionDiff j l → k ≡ l
+    kept_of e = cc
+diff_equals (MoveDiff s f o) (MoveDiff t g p) =
+    Decides-like _ (λ h k. MoveDiff (h.0 k) (h.1.0 k) (h.1.1 k)) (λ e. (sheet_of e, (from_of e, to_of e)))
+    (Decides-and _ _ (unsigned_Decides _ _) (Decides-and _ _ (unsigned_Decides _ _) (unsigned_Decides _ _)))
+  where
+    sheet_of : MoveDiff s f o ≡ MoveDiff t g p → s ≡ t
+    sheet_of e = cc
+
+    from_of : MoveDiff s f o ≡ MoveDiff t g p → f ≡ g
+    from_of e = cc
+
+    to_of : MoveDiff s f o ≡ MoveDiff t g p → o ≡ p
+    to_of e = cc
 diff_equals _ _ = (λ e. cc, λ e. cc)
 
 pub diff_type_equals : (a b : DiffType) → Decides (diff_type.ghosts.eq a b) (a ≡ b)

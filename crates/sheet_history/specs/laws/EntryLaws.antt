@@ -1,7 +1,7 @@
 -- The laws of entries of a workbook. What is said of lists of diffs rests on these alone, so that a further kind of entry joins by a case.
-use Rattle.std.proofs.Common.{◌≡◌, ◌≢◌, ℕ, ℤ, pos, Bool, true, false, cond, ◌&&◌, List, [], ◌∷◌, map, Option, Some, None, is_some, option_map, refl, ap, sym, subst, ◌∙◌, true≢false}
-use Rattle.std.specs.Prelude.{◌==◌, IsTrue}
-use Rattle.std.specs.List.{find, list_all, IsDistinct, AllByRecursion}
+use Rattle.std.proofs.Common.{◌≡◌, ◌≢◌, ℕ, ℤ, Bool, true, false, cond, ◌&&◌, List, [], ◌∷◌, map, Option, Some, None, is_some, option_map, refl, ap, sym, subst, ◌∙◌, true≢false}
+use Rattle.std.specs.Prelude.{◌==◌}
+use Rattle.std.specs.List.{find, IsDistinct, AllByRecursion}
 use Rattle.std.specs.Cmp.{IsTotalOrder, unsigned_Decides, eq_by_cmp_equiv}
 use Rattle.std.specs.declared.cmp.Ordering.{Ordering}
 use Rattle.std.specs.FinMap as fin
@@ -13,17 +13,32 @@ use Rattle.base_values.specs.KeyMap.{with_entry}
 use Rattle.base_values.specs.laws.KeyMap.{get-with_entry}
 use Rattle.base_values.specs.laws.Places.{position_total, exact_positions}
 use Rattle.base_axis.specs.declared.MergedCell.{MergedCell}
-use Rattle.base_axis.specs.Rectangles.{is_inside}
+use Rattle.base_styles.specs.declared.Color.{Color}
+use Rattle.base_styles.specs.declared.Color.TheVariants.{None as NoColor}
 use Rattle.sheet_grid.specs.declared.Cell.{Cell}
 use Rattle.sheet_grid.specs.declared.Link.{Link}
+use Rattle.sheet_grid.specs.declared.SheetState.{SheetState}
+use Rattle.sheet_grid.specs.declared.SheetState.TheVariants.{Visible}
 use Rattle.sheet_grid.specs.Sheet.{Sheet}
 use Rattle.sheet_grid.specs.Book.{Book}
 use Rattle.sheet_rules.specs.WellFormed.{is_place}
 use Rattle.sheet_rules.specs.laws.EntryLaws.{both}
-use Rattle.sheet_lines.specs.Sheets.{sheet_of, HasDistinctIds}
-use Rattle.sheet_history.specs.Entries.{EntryKey, EntryValue, sheet_id_of, sheet_entry, with_sheet_entry, cell_stands_at, value_fits, nothing_at, with_changed, entry_at, put_entry, accepts, bare_sheet, frame_of}
-use Rattle.sheet_history.specs.Entries.EntryKey.{CellKey, LinkKey, MergesKey}
-use Rattle.sheet_history.specs.Entries.EntryValue.{CellValue, LinkValue, MergesValue}
+use Rattle.sheet_lines.specs.Sheets.{HasDistinctIds}
+use Rattle.sheet_history.specs.declared.field.SheetField.{SheetField}
+use Rattle.sheet_history.specs.declared.field.SheetField.TheVariants as value
+use Rattle.sheet_history.specs.Fields.{Field, with_field}
+use Rattle.sheet_history.specs.Fields.Field.{ColorField, StateField, GridField}
+use Rattle.sheet_history.specs.laws.FieldLaws.{field_in-with_field, fields_stay, plain_field, plain_is_of}
+use Rattle.sheet_history.specs.Entries.{EntryKey, EntryValue, sheet_id_of, sheet_entry, with_sheet_entry, cell_stands_at, value_fits, with_changed, entry_at, put_entry, accepts, bare_sheet, frame_of}
+use Rattle.sheet_history.specs.Entries.EntryKey.{CellKey, LinkKey, MergesKey, FieldKey}
+use Rattle.sheet_history.specs.Entries.EntryValue.{CellValue, LinkValue, MergesValue, FieldValue}
+
+-- the value of a key that stands for nothing
+abbrev pub nothing_at : EntryKey → EntryValue
+nothing_at (CellKey id place) = CellValue None
+nothing_at (LinkKey id place) = LinkValue None
+nothing_at (MergesKey id) = MergesValue []
+nothing_at (FieldKey id field) = FieldValue (plain_field field)
 
 pub decide : {G : Type 0} (b : Bool) → (b ≡ true → G) → (b ≡ false → G) → G
 decide true hit miss = hit refl
@@ -49,34 +64,56 @@ entry-with_sheet_entry : (s : Sheet) (k : EntryKey) (v : EntryValue) → value_f
 entry-with_sheet_entry s (CellKey id place) (CellValue v) h = ap CellValue (get-put position_total exact_positions s.cells place v)
 entry-with_sheet_entry s (LinkKey id place) (LinkValue v) h = ap LinkValue (get-put position_total exact_positions s.links place v)
 entry-with_sheet_entry s (MergesKey id) (MergesValue v) h = refl
+entry-with_sheet_entry s (FieldKey id field) (FieldValue v) h = ap FieldValue (field_in-with_field field v s h)
 entry-with_sheet_entry s _ _ h = absurd (let never : false ≡ true = h in cc)
 
 cell_apart : (s : Sheet) (id : ℕ) (place : Position) (v : Option Cell) (q : EntryKey) → sheet_id_of q ≡ id → (q ≢ CellKey id place)
     → sheet_entry q (with_sheet_entry (CellKey id place) (CellValue v) s) ≡ sheet_entry q s
 cell_apart s id place v (CellKey j other) ids apart = ap CellValue (get-put_other position_total exact_positions s.cells place v other (λ e. apart (λ i. CellKey (ids i) (e i))))
+cell_apart s id place v (FieldKey j field) ids apart = ap FieldValue (fields_stay field (with_sheet_entry (CellKey id place) (CellValue v) s) s refl refl refl)
 cell_apart s id place v _ ids apart = refl
 
 link_apart : (s : Sheet) (id : ℕ) (place : Position) (v : Option Link) (q : EntryKey) → sheet_id_of q ≡ id → (q ≢ LinkKey id place)
     → sheet_entry q (with_sheet_entry (LinkKey id place) (LinkValue v) s) ≡ sheet_entry q s
 link_apart s id place v (LinkKey j other) ids apart = ap LinkValue (get-put_other position_total exact_positions s.links place v other (λ e. apart (λ i. LinkKey (ids i) (e i))))
+link_apart s id place v (FieldKey j field) ids apart = ap FieldValue (fields_stay field (with_sheet_entry (LinkKey id place) (LinkValue v) s) s refl refl refl)
 link_apart s id place v _ ids apart = refl
 
 merges_apart : (s : Sheet) (id : ℕ) (v : List MergedCell) (q : EntryKey) → sheet_id_of q ≡ id → (q ≢ MergesKey id)
     → sheet_entry q (with_sheet_entry (MergesKey id) (MergesValue v) s) ≡ sheet_entry q s
 merges_apart s id v (MergesKey j) ids apart = absurd (apart (ap MergesKey ids))
+merges_apart s id v (FieldKey j field) ids apart = ap FieldValue (fields_stay field (with_sheet_entry (MergesKey id) (MergesValue v) s) s refl refl refl)
 merges_apart s id v _ ids apart = refl
+
+field_apart : (s : Sheet) (id : ℕ) (field : Field) (v : SheetField) (q : EntryKey) → sheet_id_of q ≡ id → (q ≢ FieldKey id field)
+    → sheet_entry q (with_sheet_entry (FieldKey id field) (FieldValue v) s) ≡ sheet_entry q s
+field_apart s id ColorField (value.Color v) (FieldKey j ColorField) ids apart = absurd (apart (ap (λ n. FieldKey n ColorField) ids))
+field_apart s id ColorField (value.Color v) _ ids apart = refl
+field_apart s id StateField (value.State v) (FieldKey j StateField) ids apart = absurd (apart (ap (λ n. FieldKey n StateField) ids))
+field_apart s id StateField (value.State v) _ ids apart = refl
+field_apart s id GridField (value.GridLines v) (FieldKey j GridField) ids apart = absurd (apart (ap (λ n. FieldKey n GridField) ids))
+field_apart s id GridField (value.GridLines v) _ ids apart = refl
+field_apart s id _ _ _ ids apart = refl
 
 entry-with_sheet_entry_other : (s : Sheet) (k : EntryKey) (v : EntryValue) (q : EntryKey) → sheet_id_of q ≡ sheet_id_of k → (q ≢ k) → sheet_entry q (with_sheet_entry k v s) ≡ sheet_entry q s
 entry-with_sheet_entry_other s (CellKey id place) (CellValue v) q ids apart = cell_apart s id place v q ids apart
 entry-with_sheet_entry_other s (LinkKey id place) (LinkValue v) q ids apart = link_apart s id place v q ids apart
 entry-with_sheet_entry_other s (MergesKey id) (MergesValue v) q ids apart = merges_apart s id v q ids apart
+entry-with_sheet_entry_other s (FieldKey id field) (FieldValue v) q ids apart = field_apart s id field v q ids apart
 entry-with_sheet_entry_other s _ _ q ids apart = refl
+
+bare-with_field : (field : Field) (v : SheetField) (s : Sheet) → bare_sheet (with_field field v s) ≡ bare_sheet s
+bare-with_field ColorField (value.Color v) s = refl
+bare-with_field StateField (value.State v) s = refl
+bare-with_field GridField (value.GridLines v) s = refl
+bare-with_field _ _ s = refl
 
 -- what is no entry stays
 pub bare-with_sheet_entry : (k : EntryKey) (v : EntryValue) (s : Sheet) → bare_sheet (with_sheet_entry k v s) ≡ bare_sheet s
 bare-with_sheet_entry (CellKey id place) (CellValue v) s = refl
 bare-with_sheet_entry (LinkKey id place) (LinkValue v) s = refl
 bare-with_sheet_entry (MergesKey id) (MergesValue v) s = refl
+bare-with_sheet_entry (FieldKey id field) (FieldValue v) s = bare-with_field field v s
 bare-with_sheet_entry _ _ s = refl
 
 pub id-with_sheet_entry : (k : EntryKey) (v : EntryValue) (s : Sheet) → (with_sheet_entry k v s).id ≡ s.id
@@ -86,6 +123,7 @@ nothing_fits : (k : EntryKey) (v : EntryValue) → value_fits k v ≡ true → v
 nothing_fits (CellKey id place) (CellValue v) h = λ i. (both (is_place place) (cell_stands_at place v) h).0 i && true
 nothing_fits (LinkKey id place) (LinkValue v) h = h
 nothing_fits (MergesKey id) (MergesValue v) h = refl
+nothing_fits (FieldKey id field) (FieldValue v) h = plain_is_of field
 nothing_fits _ _ h = absurd (let never : false ≡ true = h in cc)
 
 abbrev cell_of : EntryValue → Option Cell
@@ -100,13 +138,28 @@ abbrev merges_of : EntryValue → List MergedCell
 merges_of (MergesValue v) = v
 merges_of _ = []
 
+abbrev color_of : EntryValue → Color
+color_of (FieldValue (value.Color v)) = v
+color_of _ = NoColor
+
+abbrev state_of : EntryValue → SheetState
+state_of (FieldValue (value.State v)) = v
+state_of _ = Visible
+
+abbrev grid_of : EntryValue → Bool
+grid_of (FieldValue (value.GridLines v)) = v
+grid_of _ = true
+
 -- a sheet is its entries and the rest
 same_sheet : (s t : Sheet) → bare_sheet s ≡ bare_sheet t → ((k : EntryKey) → sheet_id_of k ≡ s.id → sheet_entry k s ≡ sheet_entry k t) → s ≡ t
 same_sheet s t e entries =
     let cells : s.cells ≡ t.cells = fin.same_map position_total exact_positions s.cells t.cells (λ place. ap cell_of (entries (CellKey s.id place) refl)) in
     let links : s.links ≡ t.links = fin.same_map position_total exact_positions s.links t.links (λ place. ap link_of (entries (LinkKey s.id place) refl)) in
     let merges : s.merges ≡ t.merges = ap merges_of (entries (MergesKey s.id) refl) in
-    λ i. record (e i) { cells = cells i; links = links i; merges = merges i }
+    let color : s.color ≡ t.color = ap color_of (entries (FieldKey s.id ColorField) refl) in
+    let state : s.state ≡ t.state = ap state_of (entries (FieldKey s.id StateField) refl) in
+    let grid : s.show_grid_lines ≡ t.show_grid_lines = ap grid_of (entries (FieldKey s.id GridField) refl) in
+    λ i. record (e i) { state = state i; color = color i; show_grid_lines = grid i; cells = cells i; links = links i; merges = merges i }
 
 -- ---- sheets by their ids
 

@@ -1,7 +1,7 @@
 -- The conditions of a diff of lines hold of what is kept of a workbook: the edit is made, and taken back.
-use Rattle.std.proofs.Common.{◌≡◌, ℕ, ℤ, pos, ◌+ℤ◌, ◌⊎◌, inl, inr, Bool, true, false, cond, List, [], ◌∷◌, map, Option, Some, None, Ok, Err, refl, ap, sym, subst, ◌∙◌, arith}
+use Rattle.std.proofs.Common.{◌≡◌, ℕ, ℤ, pos, ◌+ℤ◌, ◌⊎◌, inl, inr, Bool, true, false, cond, List, [], ◌∷◌, map, Option, Some, None, Ok, Err, refl, ap, sym, ◌∙◌, arith}
 use Rattle.std.specs.Prelude.{IsTrue, IfSome, not, ◌&&◌, ◌==◌, is_none, int_le, int_lt, if◌then◌else◌}
-use Rattle.std.specs.List.{list_all, find, AllByRecursion}
+use Rattle.std.specs.List.{list_all, find}
 use Rattle.std.specs.declared.cmp.Ordering.{Ordering}
 use Rattle.std.specs.Ordering.{int_cmp}
 use Rattle.std.specs.Cmp.{IsTotalOrder, int_cmp_total}
@@ -18,7 +18,6 @@ use Rattle.base_axis.specs.Rectangles.{is_inside}
 use Rattle.base_axis.specs.Along.{Along, IsAxis, rows, columns}
 use Rattle.base_maps.specs.declared.SheetPlace.{SheetPlace}
 use Rattle.base_maps.specs.SheetPlaces.{sheet_place_cmp}
-use Rattle.base_maps.specs.Tagged.{place_on}
 use Rattle.base_maps.specs.laws.Found.{found_passes}
 use Rattle.base_maps.specs.laws.SheetPlaces.{sheet_place_total, exact_sheet_places}
 use Rattle.formula_tree.specs.declared.Node.{Node}
@@ -45,11 +44,11 @@ use Rattle.sheet_grid.specs.declared.LineAttr.{LineAttr}
 use Rattle.sheet_grid.specs.declared.Link.{Link}
 use Rattle.sheet_grid.specs.Sheet.{Sheet}
 use Rattle.sheet_grid.specs.Book.{Book}
-use Rattle.sheet_grid.specs.FittingCells.{entry_fits_at, is_shallow_entry, CellsFit}
+use Rattle.sheet_grid.specs.laws.FittingCells.{entry_fits_at, is_shallow_entry, CellsFit}
 use Rattle.sheet_grid.specs.laws.FittingLaws.{shallow_entry}
 use Rattle.sheet_rules.specs.laws.EntryLaws.{both}
-use Rattle.sheet_rules.specs.WellFormed.{is_place, stands_inside, have_trees, IsWellFormed}
-use Rattle.sheet_rules.specs.laws.WellFormedLaws.{well_formed_parts, cells_fit_from_trees, distinct_ids_from_well_formed}
+use Rattle.sheet_rules.specs.WellFormed.{is_place, stands_inside, IsWellFormed}
+use Rattle.sheet_rules.specs.laws.WellFormedLaws.{cells_fit_from_trees, distinct_ids_from_well_formed}
 use Rattle.sheet_lines.specs.declared.KeptLines.{KeptLines}
 use Rattle.sheet_lines.specs.Sheets.{sheet_of, name_of}
 use Rattle.sheet_lines.specs.Followed.{way_of, sheet_followed, book_followed}
@@ -57,9 +56,9 @@ use Rattle.sheet_lines.specs.Kept.{lines_of, of_sheet, merges_kept, kept_lines}
 use Rattle.sheet_lines.specs.Back.{book_back}
 use Rattle.sheet_lines.specs.laws.Regained.{book_regained, formulas_at}
 use Rattle.sheet_lines.specs.laws.Stays.{way_is}
-use Rattle.sheet_history.specs.Depth.{AreShallowLines}
-use Rattle.sheet_history.specs.LineDiffs.{is_pushed_past, stays_inside, is_there_inside, is_lost_place, is_lost_line, all_keys, stand_on_lost, merges_inside, lie_inside, cells_fit, tree_stands, formulas_stand, goes_on, goes_forward, goes_back, lines_forward, lines_back}
-use Rattle.sheet_history.specs.Entries.{lies_inside}
+use Rattle.sheet_history.specs.laws.Depth.{AreShallowLines}
+use Rattle.sheet_history.specs.LineDiffs.{is_pushed_past, stays_inside, is_there_inside, is_lost_place, is_lost_line, all_keys, stand_on_lost, merges_inside, lie_inside, tree_stands, formulas_stand, goes_on, goes_forward, goes_back, lines_forward, lines_back}
+use Rattle.book_sheets.specs.SheetDiffs.{lies_inside, cells_fit}
 use Rattle.sheet_history.specs.laws.Entries.{all_entries, entry_holds}
 use Rattle.sheet_history.specs.laws.RuleLaws.{KeepsSheetRules, sheet_rules}
 use Rattle.sheet_history.specs.laws.SoundEntries.{array_inside, sheet_merges_inside}

@@ -9,8 +9,10 @@ use Rattle.sheet_grid.specs.Sheet.{Sheet}
 use Rattle.sheet_grid.specs.Book.{Book}
 use Rattle.sheet_lines.specs.Sheets.{sheet_of}
 use Rattle.sheet_history.specs.Entries.{EntryKey, EntryValue, key_cmp, sheet_id_of, sheet_entry, value_fits, entry_at, put_entry, accepts, frame_of}
-use Rattle.sheet_history.specs.Entries.EntryKey.{CellKey, LinkKey, MergesKey}
-use Rattle.sheet_history.specs.Entries.EntryValue.{CellValue, LinkValue, MergesValue}
+use Rattle.sheet_history.specs.Entries.EntryKey.{CellKey, LinkKey, MergesKey, FieldKey}
+use Rattle.sheet_history.specs.Entries.EntryValue.{CellValue, LinkValue, MergesValue, FieldValue}
+use Rattle.sheet_history.specs.declared.field.SheetField.TheVariants as value
+use Rattle.sheet_history.specs.Fields.Field.{ColorField, StateField, GridField}
 use Rattle.sheet_history.specs.Records.{same_entry_value, changed_entry, Change, change_of, diff_of, entry_record, IsRecord}
 use Rattle.sheet_history.specs.laws.EntryLaws.{decide, entry_at-put_entry, entry_at-put_entry_other, frame_of-put_entry}
 use Rattle.sheet_history.specs.laws.PutLaws.{entry_at-found}
@@ -22,6 +24,9 @@ diff_is : (k : EntryKey) (s : Sheet) (v : EntryValue) → value_fits k v ≡ tru
 diff_is (CellKey id place) s (CellValue v) h = refl
 diff_is (LinkKey id place) s (LinkValue v) h = refl
 diff_is (MergesKey id) s (MergesValue v) h = refl
+diff_is (FieldKey id ColorField) s (FieldValue (value.Color v)) h = refl
+diff_is (FieldKey id StateField) s (FieldValue (value.State v)) h = refl
+diff_is (FieldKey id GridField) s (FieldValue (value.GridLines v)) h = refl
 diff_is _ s _ h = absurd (let never : false ≡ true = h in cc)
 
 -- an entry does not differ from itself

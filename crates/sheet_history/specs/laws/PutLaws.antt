@@ -11,6 +11,11 @@ use Rattle.sheet_grid.specs.Sheet.{Sheet}
 use Rattle.sheet_grid.specs.Book.{Book, index_of, sheet_at, with_sheet}
 use Rattle.sheet_lines.specs.Sheets.{sheet_of}
 use Rattle.sheet_history.specs.Entries.{EntryKey, EntryValue, sheet_id_of, sheet_entry, with_sheet_entry, value_fits, with_changed, entry_at, put_entry, accepts}
+use Rattle.sheet_history.specs.Entries.EntryKey.{FieldKey}
+use Rattle.sheet_history.specs.Entries.EntryValue.{FieldValue}
+use Rattle.sheet_history.specs.declared.field.SheetField.{SheetField}
+use Rattle.sheet_history.specs.declared.field.SheetField.TheVariants as value
+use Rattle.sheet_history.specs.Fields.{field_of, with_field}
 use Rattle.sheet_history.specs.Diffs.{put_in, sheet_put}
 use Rattle.sheet_history.specs.laws.EntryLaws.{decide, by_id}
 
@@ -120,6 +125,12 @@ unfolding put_in accepts
 put_in-found at w k v i sheet e is =
     (λ j. cond (is_some (at_index w (sheet_id_of k) i sheet e is j) && value_fits k v) (Ok (put_entry-found w k v i sheet e is j)) (Err (DiffRefused 0 at)))
     ∙ either_put w i at (value_fits k v) (with_sheet_entry k v sheet)
+
+-- a value goes into its field
+pub sheet_put-field : (at id : ℕ) (v : SheetField) (s : Sheet) → sheet_put at (FieldKey id (field_of v)) (FieldValue v) s ≡ Ok (with_field (field_of v) v s)
+sheet_put-field at id (value.Color color) s = refl
+sheet_put-field at id (value.State state) s = refl
+sheet_put-field at id (value.GridLines drawn) s = refl
 
 -- an edit of that sheet is one of the workbook
 pub Edits-put_in : (at : ℕ) (w : Book) (k : EntryKey) (v : EntryValue) (i : ℕ) (old new : Sheet) (result : Result (Unit {0}) EditError)

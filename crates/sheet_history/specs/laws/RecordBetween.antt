@@ -1,5 +1,5 @@
 -- The record of two workbooks is what they differ in, computed.
-use Rattle.std.proofs.Common.{◌≡◌, Bool, true, false, cond, ◌||◌, List, [], ◌∷◌, ◌++◌, map, Option, Some, None, refl, ap, sym, ◌∙◌, true≢false}
+use Rattle.std.proofs.Common.{◌≡◌, ℕ, Bool, true, false, cond, ◌||◌, List, [], ◌∷◌, ◌++◌, map, Option, Some, None, refl, ap, sym, ◌∙◌, true≢false}
 use Rattle.std.specs.Prelude.{◌==◌}
 use Rattle.std.specs.List.{list_any, filter_map, cons_option, flat_map}
 use Rattle.std.specs.Option.{option_map}
@@ -19,11 +19,13 @@ use Rattle.sheet_grid.specs.Sheet.{Sheet}
 use Rattle.sheet_grid.specs.Book.{Book}
 use Rattle.sheet_lines.specs.Sheets.{sheet_of}
 use Rattle.sheet_history.specs.declared.diff.Diff.{Diff}
-use Rattle.sheet_history.specs.Entries.{EntryKey, EntryValue, key_cmp, sheet_id_of, sheet_entry, nothing_at, entry_at}
-use Rattle.sheet_history.specs.Entries.EntryKey.{CellKey, LinkKey, MergesKey}
+use Rattle.sheet_history.specs.Entries.{EntryKey, EntryValue, key_cmp, sheet_id_of, sheet_entry, entry_at}
+use Rattle.sheet_history.specs.Entries.EntryKey.{CellKey, LinkKey, MergesKey, FieldKey}
 use Rattle.sheet_history.specs.Entries.EntryValue.{CellValue, LinkValue}
-use Rattle.sheet_history.specs.Records.{changed_entry, Change, change_of, IsRecord, diff_of, sheet_keys, book_keys, change_at, changes_between, record_between}
-use Rattle.sheet_history.specs.laws.EntryLaws.{decide, by_id}
+use Rattle.sheet_history.specs.Fields.{Field}
+use Rattle.sheet_history.specs.Fields.Field.{ColorField, StateField, GridField}
+use Rattle.sheet_history.specs.Records.{changed_entry, Change, change_of, IsRecord, diff_of, single_keys, sheet_keys, book_keys, change_at, changes_between, record_between}
+use Rattle.sheet_history.specs.laws.EntryLaws.{decide, by_id, nothing_at}
 use Rattle.sheet_history.specs.laws.RecordLaws.{holds, key_total, exact_keys, diff_of-change_of}
 use Rattle.sheet_history.specs.laws.ValueEquals.{same_value_decides}
 
@@ -88,17 +90,31 @@ apart_from key one two three none =
     let first = neither (has_key key one) (has_key key two) (sym (list_any-append (eq_by_cmp key_cmp key) one two) ∙ front.0) in
     (first.0, first.1, front.1)
 
+-- a key that is none of some keys is not one that stands among them
+apart_in : (key one : EntryKey) (front back : List EntryKey) → has_key key (front ++ one ∷ back) ≡ false → eq_by_cmp key_cmp key one ≡ false
+apart_in key one [] back none = (neither (eq_by_cmp key_cmp key one) (has_key key back) none).0
+apart_in key one (first ∷ front) back none = apart_in key one front back (neither (eq_by_cmp key_cmp key first) (has_key key (front ++ one ∷ back)) none).1
+
+-- a key that is none of those that each sheet has once is none of a field
+not_single : (key : EntryKey) (id : ℕ) (field : Field) → has_key key (single_keys id) ≡ false → eq_by_cmp key_cmp key (FieldKey id field) ≡ false
+not_single key id ColorField none = apart_in key (FieldKey id ColorField) (MergesKey id ∷ []) (FieldKey id StateField ∷ FieldKey id GridField ∷ []) none
+not_single key id StateField none = apart_in key (FieldKey id StateField) (MergesKey id ∷ FieldKey id ColorField ∷ []) (FieldKey id GridField ∷ []) none
+not_single key id GridField none = apart_in key (FieldKey id GridField) (MergesKey id ∷ FieldKey id ColorField ∷ FieldKey id StateField ∷ []) [] none
+
 -- a sheet has nothing at a key that is none of its own
 nothing_in : (sheet : Sheet) (key : EntryKey) → sheet.id ≡ sheet_id_of key → has_key key (sheet_keys sheet) ≡ false → sheet_entry key sheet ≡ nothing_at key
 nothing_in sheet (CellKey id place) own none =
-    let parts = apart_from (CellKey id place) (map (CellKey sheet.id) (fin.keys sheet.cells)) (map (LinkKey sheet.id) (fin.keys sheet.links)) (MergesKey sheet.id ∷ []) none in
+    let parts = apart_from (CellKey id place) (map (CellKey sheet.id) (fin.keys sheet.cells)) (map (LinkKey sheet.id) (fin.keys sheet.links)) (single_keys sheet.id) none in
     ap CellValue (get-entries sheet.cells place ∙ free_place (CellKey sheet.id) place (entries sheet.cells) (ap (λ n. has_key (CellKey n place) (map (CellKey sheet.id) (fin.keys sheet.cells))) own ∙ parts.0))
 nothing_in sheet (LinkKey id place) own none =
-    let parts = apart_from (LinkKey id place) (map (CellKey sheet.id) (fin.keys sheet.cells)) (map (LinkKey sheet.id) (fin.keys sheet.links)) (MergesKey sheet.id ∷ []) none in
+    let parts = apart_from (LinkKey id place) (map (CellKey sheet.id) (fin.keys sheet.cells)) (map (LinkKey sheet.id) (fin.keys sheet.links)) (single_keys sheet.id) none in
     ap LinkValue (get-entries sheet.links place ∙ free_place (LinkKey sheet.id) place (entries sheet.links) (ap (λ n. has_key (LinkKey n place) (map (LinkKey sheet.id) (fin.keys sheet.links))) own ∙ parts.1))
 nothing_in sheet (MergesKey id) own none =
-    let parts = apart_from (MergesKey id) (map (CellKey sheet.id) (fin.keys sheet.cells)) (map (LinkKey sheet.id) (fin.keys sheet.links)) (MergesKey sheet.id ∷ []) none in
+    let parts = apart_from (MergesKey id) (map (CellKey sheet.id) (fin.keys sheet.cells)) (map (LinkKey sheet.id) (fin.keys sheet.links)) (single_keys sheet.id) none in
     absurd (true≢false (sym (own_key key_cmp key_total exact_keys (MergesKey id)) ∙ ap (λ n. eq_by_cmp key_cmp (MergesKey id) (MergesKey n)) (sym own) ∙ (neither _ _ parts.2).0))
+nothing_in sheet (FieldKey id field) own none =
+    let parts = apart_from (FieldKey id field) (map (CellKey sheet.id) (fin.keys sheet.cells)) (map (LinkKey sheet.id) (fin.keys sheet.links)) (single_keys sheet.id) none in
+    absurd (true≢false (sym (own_key key_cmp key_total exact_keys (FieldKey id field)) ∙ ap (λ n. eq_by_cmp key_cmp (FieldKey id field) (FieldKey n field)) (sym own) ∙ not_single (FieldKey id field) sheet.id field parts.2))
 
 -- so has a workbook, if the sheet is there
 nothing_there : (key : EntryKey) (sheets : List Sheet) → has_key key (flat_map sheet_keys sheets) ≡ false

@@ -1,30 +1,36 @@
 -- What is put in a well-formed workbook leaves a well-formed one: a link, and a cell that has a font and may stand at its place.
-use Rattle.std.proofs.Common.{◌≡◌, ℕ, ℤ, pos, suc, Bool, true, false, cond, ◌&&◌, List, [], ◌∷◌, length, map, Option, Some, None, Result, refl, ap, sym, ◌∙◌}
-use Rattle.std.specs.Prelude.{IsTrue, ◌==◌, nat_lt, is_some}
+use Rattle.std.proofs.Common.{◌≡◌, ℕ, ℤ, suc, Bool, true, cond, ◌&&◌, List, [], ◌∷◌, length, map, Option, Some, None, refl, ap, sym, ◌∙◌}
+use Rattle.std.specs.Prelude.{IsTrue, ◌==◌, nat_lt}
 use Rattle.std.specs.List.{list_all}
 use Rattle.std.specs.FinMap.{entries}
 use Rattle.base_values.specs.declared.Position.{Position}
 use Rattle.base_values.specs.KeyMap.{with_entry}
-use Rattle.base_values.specs.Places.{is_line, position_cmp}
+use Rattle.base_values.specs.Places.{position_cmp}
 use Rattle.base_values.specs.laws.Places.{position_total, exact_positions}
 use Rattle.base_tables.specs.Folding.{same_folded}
 use Rattle.sheet_grid.specs.declared.Cell.{Cell}
 use Rattle.sheet_grid.specs.declared.LineAttr.{LineAttr}
 use Rattle.sheet_grid.specs.declared.Link.{Link}
-use Rattle.sheet_grid.specs.FittingCells.{entry_fits_at}
+use Rattle.sheet_grid.specs.laws.FittingCells.{entry_fits_at}
 use Rattle.sheet_grid.specs.laws.FittingLaws.{cells_fit-put}
 use Rattle.sheet_grid.specs.Sheet.{Sheet, with_cell}
 use Rattle.sheet_grid.specs.Book.{Book}
 use Rattle.sheet_rules.specs.laws.EntryLaws.{both}
 use Rattle.sheet_rules.specs.laws.PutLaws.{arrays-put, merges-put, hidden-put}
+use Rattle.sheet_rules.specs.Names.{are_names}
 use Rattle.sheet_rules.specs.Occupied.{have_arrays, have_merges, are_hidden_blank, may_stand}
 use Rattle.sheet_rules.specs.SheetNames.{is_sheet_name}
 use Rattle.sheet_rules.specs.WellFormed.{are_distinct, ids_of, names_of, are_sheets, is_place, stands_inside, have_trees, have_attributes, are_frozen, is_row, is_column, IsWellFormed, has_font}
 use Rattle.sheet_rules.specs.laws.WellFormedLaws.{well_formed_parts, well_formed_from_parts, cells_fit_from_trees, have_trees_from_cells_fit}
 use Rattle.sheet_lines.specs.Sheets.{sheet_of}
-use Rattle.sheet_history.specs.Entries.{EntryKey, EntryValue, cell_stands_at, value_fits, sheet_id_of, with_sheet_entry, with_changed, bare_sheet, put_entry, accepts}
-use Rattle.sheet_history.specs.Entries.EntryKey.{CellKey, LinkKey}
-use Rattle.sheet_history.specs.Entries.EntryValue.{CellValue, LinkValue}
+pub use Rattle.book_sheets.specs.laws.SheetRules.{KeepsSheetRules}
+use Rattle.sheet_history.specs.Entries.{EntryKey, EntryValue, cell_stands_at, value_fits, sheet_id_of, with_sheet_entry, with_changed, bare_sheet, put_entry}
+use Rattle.sheet_history.specs.Entries.EntryKey.{CellKey, LinkKey, FieldKey}
+use Rattle.sheet_history.specs.Entries.EntryValue.{CellValue, LinkValue, FieldValue}
+use Rattle.sheet_history.specs.declared.field.SheetField.{SheetField}
+use Rattle.sheet_history.specs.declared.field.SheetField.TheVariants as value
+use Rattle.sheet_history.specs.Fields.{Field, with_field}
+use Rattle.sheet_history.specs.Fields.Field.{ColorField, StateField, GridField}
 use Rattle.sheet_history.specs.Untested.{entry_has_font, may_stand_on}
 use Rattle.sheet_history.specs.laws.Entries.{all_with_entry}
 use Rattle.sheet_history.specs.laws.EntryLaws.{decide, by_id, map-changed, bare-with_sheet_entry}
@@ -61,17 +67,7 @@ length-changed f id (s ∷ ss) =
     (λ hit. λ i. length (cond (hit i) (f s ∷ ss) (s ∷ with_changed id f ss)))
     (λ miss. (λ i. length (cond (miss i) (f s ∷ ss) (s ∷ with_changed id f ss))) ∙ ap suc (length-changed f id ss))
 
--- the rules that are of one sheet
-pub record KeepsSheetRules (s : Sheet) : Type 0 where
-  pub inside : stands_inside s ≡ true
-  pub arrays : have_arrays s ≡ true
-  pub merges : have_merges s ≡ true
-  pub hidden : are_hidden_blank s ≡ true
-  pub trees : have_trees s ≡ true
-  pub attributes : have_attributes s ≡ true
-  pub frozen : are_frozen s ≡ true
-
--- the sheet of an id of a well-formed workbook keeps them
+-- the sheet of an id of a well-formed workbook keeps the rules that are of one sheet
 pub sheet_rules : (w : Book) → IsWellFormed w → (id : ℕ) (s : Sheet) → sheet_of w id ≡ Some s → KeepsSheetRules s
 sheet_rules w rules id s found =
     let parts = well_formed_parts w rules in
@@ -149,6 +145,17 @@ link-put s place entry inside h =
       frozen = h.frozen;
     }
 
+-- so does a field
+field-put : (s : Sheet) (field : Field) (v : SheetField) → KeepsSheetRules s → KeepsSheetRules (with_field field v s)
+unfolding stands_inside have_arrays have_merges are_hidden_blank have_trees have_attributes
+field-put s ColorField (value.Color v) h =
+    record { inside = h.inside; arrays = h.arrays; merges = h.merges; hidden = h.hidden; trees = h.trees; attributes = h.attributes; frozen = h.frozen }
+field-put s StateField (value.State v) h =
+    record { inside = h.inside; arrays = h.arrays; merges = h.merges; hidden = h.hidden; trees = h.trees; attributes = h.attributes; frozen = h.frozen }
+field-put s GridField (value.GridLines v) h =
+    record { inside = h.inside; arrays = h.arrays; merges = h.merges; hidden = h.hidden; trees = h.trees; attributes = h.attributes; frozen = h.frozen }
+field-put s _ _ h = h
+
 -- ---- workbooks
 
 module _ (w : Book) (rules : IsWellFormed w) (id : ℕ) (change : Sheet → Sheet) (bare : (s : Sheet) → bare_sheet (change s) ≡ bare_sheet s)
@@ -178,6 +185,8 @@ module _ (w : Book) (rules : IsWellFormed w) (id : ℕ) (change : Sheet → Shee
         merges = all-changed have_merges id change sheets (λ s found. (kept s found).merges) parts.merges;
         hidden = all-changed are_hidden_blank id change sheets (λ s found. (kept s found).hidden) parts.hidden;
         trees = all-changed have_trees id change sheets (λ s found. (kept s found).trees) parts.trees;
+        name_trees = parts.name_trees;
+        names = ap (λ ids. are_names ids w.names) (map-changed change keeps_id (λ (s : Sheet). s.id) keeps_id id sheets) ∙ parts.names;
         attributes = all-changed have_attributes id change sheets (λ s found. (kept s found).attributes) parts.attributes;
         frozen = all-changed are_frozen id change sheets (λ s found. (kept s found).frozen) parts.frozen;
       })
@@ -203,3 +212,7 @@ well_formed-cell w id place entry rules fits font stands =
 pub well_formed-link : (w : Book) (id : ℕ) (place : Position) (entry : Option Link) → IsWellFormed w → value_fits (LinkKey id place) (LinkValue entry) ≡ true
     → IsWellFormed (put_entry w (LinkKey id place) (LinkValue entry))
 well_formed-link w id place entry rules inside = well_formed-put w rules (LinkKey id place) (LinkValue entry) (λ s found. link-put s place entry inside)
+
+-- a field
+pub well_formed-field : (w : Book) (id : ℕ) (field : Field) (v : SheetField) → IsWellFormed w → IsWellFormed (put_entry w (FieldKey id field) (FieldValue v))
+well_formed-field w id field v rules = well_formed-put w rules (FieldKey id field) (FieldValue v) (λ s found. field-put s field v)

@@ -1,16 +1,15 @@
 -- Each entry of a well-formed workbook can be put where it is, so that its records go both ways.
-use Rattle.std.proofs.Common.{◌≡◌, ◌⊎◌, inl, inr, ℕ, Bool, true, false, ◌&&◌, List, [], ◌∷◌, length, Option, Some, None, is_some, option_map, Ok, refl, ap, sym, subst, ◌∙◌}
+use Rattle.std.proofs.Common.{◌≡◌, ◌⊎◌, inl, inr, ℕ, true, ◌&&◌, List, [], ◌∷◌, length, Option, Some, None, is_some, option_map, Ok, refl, ap, sym, ◌∙◌}
 use Rattle.std.specs.List.{list_all}
 use Rattle.std.specs.Option.{option_and_then}
 use Rattle.std.specs.FinMap as fin
-use Rattle.std.specs.FinMap.{entries}
 use Rattle.base_values.specs.declared.Position.{Position}
 use Rattle.base_values.specs.Places.{position_cmp}
 use Rattle.base_values.specs.laws.Places.{position_total, exact_positions}
 use Rattle.base_axis.specs.declared.MergedCell.{MergedCell}
 use Rattle.base_axis.specs.Rectangles.{has_many, is_inside}
 use Rattle.sheet_grid.specs.Arrays.{array_at}
-use Rattle.sheet_grid.specs.FittingCells.{entry_fits_at}
+use Rattle.sheet_grid.specs.laws.FittingCells.{entry_fits_at}
 use Rattle.sheet_grid.specs.declared.Cell.{Cell}
 use Rattle.sheet_grid.specs.declared.Link.{Link}
 use Rattle.sheet_grid.specs.Sheet.{Sheet}
@@ -22,13 +21,15 @@ use Rattle.sheet_rules.specs.Occupied.{is_merge, have_arrays, have_merges}
 use Rattle.sheet_rules.specs.WellFormed.{is_place, stands_inside, IsWellFormed}
 use Rattle.sheet_lines.specs.Sheets.{sheet_of}
 use Rattle.sheet_history.specs.declared.diff.Diff.{Diff}
-use Rattle.sheet_history.specs.Entries.{EntryKey, EntryValue, sheet_id_of, sheet_entry, lies_inside, cell_stands_at, value_fits, nothing_at, entry_at, accepts}
-use Rattle.sheet_history.specs.Entries.EntryKey.{CellKey, LinkKey, MergesKey}
-use Rattle.sheet_history.specs.Entries.EntryValue.{CellValue, LinkValue, MergesValue}
-use Rattle.sheet_history.specs.Diffs.{made, taken_back, forwarded, backed, tested}
+use Rattle.sheet_history.specs.Entries.{EntryKey, sheet_id_of, sheet_entry, lies_inside, cell_stands_at, value_fits, entry_at, accepts}
+use Rattle.sheet_history.specs.Entries.EntryKey.{CellKey, LinkKey, MergesKey, FieldKey}
+use Rattle.sheet_history.specs.Entries.EntryValue.{CellValue, LinkValue}
+use Rattle.sheet_history.specs.Diffs.{untested_after, untested_before, book_after, book_before, tested}
 use Rattle.sheet_history.specs.Records.{IsRecord}
+use Rattle.sheet_history.specs.laws.EntryLaws.{nothing_at}
 use Rattle.sheet_history.specs.laws.BothWays.{AllFit, IsSound, fit, record_forward, record_back}
 use Rattle.sheet_history.specs.laws.Entries.{entry_holds}
+use Rattle.sheet_history.specs.laws.FieldLaws.{field_is_of}
 use Rattle.sheet_history.specs.laws.RuleLaws.{KeepsSheetRules, sheet_rules}
 use Rattle.sheet_history.specs.laws.TestedLaws.{by_rule-kept}
 
@@ -80,6 +81,7 @@ entry_fits s h (LinkKey id place) = go (fin.get s.links place) refl
     go None found = inr (ap LinkValue found)
     go (Some link) found = inl (link_place s h.inside place link found)
 entry_fits s h (MergesKey id) = inl (sheet_merges_inside s h.merges)
+entry_fits s h (FieldKey id field) = inl (field_is_of field s)
 
 -- so it is with each entry of a well-formed workbook
 pub sound_by_rules : (w : Book) → IsWellFormed w → IsSound w
@@ -104,18 +106,18 @@ module _ (earlier later : Book) (list : List Diff) (before : IsWellFormed earlie
       fit earlier later (sym is.frame) (sound_by_rules earlier before) (sound_by_rules later after) (distinct_ids_from_well_formed earlier before) (distinct_ids_from_well_formed later after) list is
 
   -- takes the earlier one to the later one
-  pub entries_made : made earlier list ≡ Ok later
+  pub entries_made : untested_after earlier list ≡ Ok later
   entries_made =
       record_forward earlier later (sym is.frame) (sound_by_rules earlier before) (sound_by_rules later after) (distinct_ids_from_well_formed earlier before) (distinct_ids_from_well_formed later after) list is
 
   -- also where the result is tested
-  pub entries_forwarded : forwarded earlier list ≡ Ok later
+  pub entries_forwarded : book_after earlier list ≡ Ok later
   entries_forwarded = ap (tested (length list)) entries_made ∙ by_rule-kept (length list) later after
 
   -- and the later one back
-  pub entries_taken_back : taken_back later list ≡ Ok earlier
+  pub entries_taken_back : untested_before later list ≡ Ok earlier
   entries_taken_back =
       record_back earlier later (sym is.frame) (sound_by_rules earlier before) (sound_by_rules later after) (distinct_ids_from_well_formed earlier before) (distinct_ids_from_well_formed later after) list is
 
-  pub entries_backed : backed later list ≡ Ok earlier
+  pub entries_backed : book_before later list ≡ Ok earlier
   entries_backed = ap (tested (length list)) entries_taken_back ∙ by_rule-kept (length list) earlier before

@@ -1,6 +1,6 @@
 -- Lists whose results are tested.
 use Rattle.std.proofs.Common.{◌≡◌, ℕ, Bool, true, false, cond, ◌&&◌, List, [], ◌∷◌, length, Option, Some, None, Result, Ok, Err, refl, ap, sym, subst, ◌∙◌}
-use Rattle.std.specs.Prelude.{IsTrue, is_some}
+use Rattle.std.specs.Prelude.{is_some}
 use Rattle.base_values.specs.declared.EditError.{EditError}
 use Rattle.base_values.specs.declared.EditError.TheVariants.{DiffRefused}
 use Rattle.base_values.specs.declared.Position.{Position}
@@ -11,15 +11,17 @@ use Rattle.sheet_rules.specs.laws.EntryLaws.{both}
 use Rattle.sheet_rules.specs.WellFormed.{broken_rule, IsWellFormed}
 use Rattle.sheet_lines.specs.Sheets.{sheet_of}
 use Rattle.sheet_history.specs.Entries.{EntryKey, EntryValue, sheet_id_of, value_fits, put_entry, accepts}
-use Rattle.sheet_history.specs.Entries.EntryKey.{CellKey, LinkKey}
-use Rattle.sheet_history.specs.Entries.EntryValue.{CellValue, LinkValue}
-use Rattle.sheet_history.specs.Untested.{cell_keeps_rules, entry_has_font, may_stand_on, keeps_rules, keeps_rules_back}
-use Rattle.sheet_history.specs.laws.RuleLaws.{well_formed-cell, well_formed-link}
+use Rattle.sheet_history.specs.Entries.EntryKey.{CellKey, LinkKey, FieldKey}
+use Rattle.sheet_history.specs.Entries.EntryValue.{CellValue, LinkValue, FieldValue}
+use Rattle.sheet_history.specs.Untested.{cell_keeps_rules, entry_has_font, may_stand_on, keeps_rules}
+use Rattle.sheet_history.specs.laws.RuleLaws.{well_formed-cell, well_formed-link, well_formed-field}
 use Rattle.sheet_history.specs.declared.diff.Diff.{Diff}
-use Rattle.sheet_history.specs.declared.diff.Diff.TheVariants.{Cell as CellDiff, Link as LinkDiff, Merges as MergesDiff, Lines as LinesDiff}
+use Rattle.sheet_history.specs.declared.diff.Diff.TheVariants.{Cell as CellDiff, Link as LinkDiff, Merges as MergesDiff, Field as FieldDiff, Lines as LinesDiff, NewSheet as NewDiff, DuplicateSheet as CopyDiff, DeleteSheet as DeletionDiff, MoveSheet as MoveDiff}
 use Rattle.sheet_history.specs.declared.diff.DiffType.{DiffType}
 use Rattle.sheet_history.specs.declared.diff.DiffType.TheVariants.{Undo, Redo}
-use Rattle.sheet_history.specs.Diffs.{put_in, by_rule, tested, made, taken_back, forwarded, backed, follow, of_entry, in_entry}
+use Rattle.sheet_history.specs.declared.field.SheetField.{SheetField}
+use Rattle.sheet_history.specs.Fields.{Field, old_of, new_of, changed_field}
+use Rattle.sheet_history.specs.Diffs.{put_in, by_rule, tested, untested_after, untested_before, book_after, book_before, follow, of_entry, in_entry}
 use Rattle.sheet_history.specs.laws.ReplayLaws.{and_then-Ok}
 
 -- what is put was accepted, and is there
@@ -50,6 +52,12 @@ link_rules at book id place entry next rules is =
     let done = put_in-done at book (LinkKey id place) (LinkValue entry) next is in
     subst IsWellFormed done.1 (well_formed-link book id place entry rules (fits_of book (LinkKey id place) (LinkValue entry) done.0))
 
+-- and a field of a sheet
+field_rules : (at : ℕ) (book : Book) (id : ℕ) (field : Field) (v : SheetField) (next : Book) → IsWellFormed book → put_in at book (FieldKey id field) (FieldValue v) ≡ Ok next → IsWellFormed next
+field_rules at book id field v next rules is =
+    let done = put_in-done at book (FieldKey id field) (FieldValue v) next is in
+    subst IsWellFormed done.1 (well_formed-field book id field v rules)
+
 -- a workbook that breaks no rule passes
 pub by_rule-kept : (at : ℕ) (book : Book) → IsWellFormed book → by_rule at book (broken_rule book) ≡ Ok book
 unfolding by_rule
@@ -73,33 +81,43 @@ tested_same at (Err error) rules = refl
 same_of : (book next : Book) → ◌≡◌ {A = Result Book EditError} (Ok book) (Ok next) → book ≡ next
 same_of book next is = cc
 
-made_rules : (book : Book) (diffs : List Diff) → keeps_rules book diffs ≡ true → IsWellFormed book → (next : Book) → made book diffs ≡ Ok next → IsWellFormed next
+made_rules : (book : Book) (diffs : List Diff) → keeps_rules Redo book diffs ≡ true → IsWellFormed book → (next : Book) → untested_after book diffs ≡ Ok next → IsWellFormed next
 made_rules book [] keeps rules next is = subst IsWellFormed (same_of book next is) rules
 made_rules book (CellDiff id place old new ∷ []) keeps rules next is = cell_rules 0 book id place new next keeps rules (sym (and_then-Ok _) ∙ is)
 made_rules book (LinkDiff id place old new ∷ []) keeps rules next is = link_rules 0 book id place new next rules (sym (and_then-Ok _) ∙ is)
 made_rules book (MergesDiff id old new ∷ []) keeps rules next is = absurd (cc)
+made_rules book (FieldDiff id change ∷ []) keeps rules next is = field_rules 0 book id (changed_field change) (new_of change) next rules (sym (and_then-Ok _) ∙ is)
 made_rules book (LinesDiff id axis edit kept ∷ []) keeps rules next is = absurd (cc)
+made_rules book (NewDiff id index name ∷ []) keeps rules next is = absurd (cc)
+made_rules book (CopyDiff source id index name ∷ []) keeps rules next is = absurd (cc)
+made_rules book (DeletionDiff index kept ∷ []) keeps rules next is = absurd (cc)
+made_rules book (MoveDiff id from to ∷ []) keeps rules next is = absurd (cc)
 made_rules book (first ∷ second ∷ rest) keeps rules next is = absurd (cc)
 
-taken_back_rules : (book : Book) (diffs : List Diff) → keeps_rules_back book diffs ≡ true → IsWellFormed book → (next : Book) → taken_back book diffs ≡ Ok next → IsWellFormed next
+taken_back_rules : (book : Book) (diffs : List Diff) → keeps_rules Undo book diffs ≡ true → IsWellFormed book → (next : Book) → untested_before book diffs ≡ Ok next → IsWellFormed next
 taken_back_rules book [] keeps rules next is = subst IsWellFormed (same_of book next is) rules
 taken_back_rules book (CellDiff id place old new ∷ []) keeps rules next is = cell_rules 0 book id place old next keeps rules is
 taken_back_rules book (LinkDiff id place old new ∷ []) keeps rules next is = link_rules 0 book id place old next rules is
 taken_back_rules book (MergesDiff id old new ∷ []) keeps rules next is = absurd (cc)
+taken_back_rules book (FieldDiff id change ∷ []) keeps rules next is = field_rules 0 book id (changed_field change) (old_of change) next rules is
 taken_back_rules book (LinesDiff id axis edit kept ∷ []) keeps rules next is = absurd (cc)
+taken_back_rules book (NewDiff id index name ∷ []) keeps rules next is = absurd (cc)
+taken_back_rules book (CopyDiff source id index name ∷ []) keeps rules next is = absurd (cc)
+taken_back_rules book (DeletionDiff index kept ∷ []) keeps rules next is = absurd (cc)
+taken_back_rules book (MoveDiff id from to ∷ []) keeps rules next is = absurd (cc)
 taken_back_rules book (first ∷ second ∷ rest) keeps rules next is = absurd (cc)
 
 -- the result of such a list needs no test
-pub forwarded-made : (book : Book) (diffs : List Diff) → keeps_rules book diffs ≡ true → IsWellFormed book → forwarded book diffs ≡ made book diffs
-forwarded-made book diffs keeps rules = tested_same (length diffs) (made book diffs) (made_rules book diffs keeps rules)
+pub book_after-untested_after : (book : Book) (diffs : List Diff) → keeps_rules Redo book diffs ≡ true → IsWellFormed book → book_after book diffs ≡ untested_after book diffs
+book_after-untested_after book diffs keeps rules = tested_same (length diffs) (untested_after book diffs) (made_rules book diffs keeps rules)
 
-pub backed-taken_back : (book : Book) (diffs : List Diff) → keeps_rules_back book diffs ≡ true → IsWellFormed book → backed book diffs ≡ taken_back book diffs
-backed-taken_back book diffs keeps rules = tested_same (length diffs) (taken_back book diffs) (taken_back_rules book diffs keeps rules)
+pub book_before-untested_before : (book : Book) (diffs : List Diff) → keeps_rules Undo book diffs ≡ true → IsWellFormed book → book_before book diffs ≡ untested_before book diffs
+book_before-untested_before book diffs keeps rules = tested_same (length diffs) (untested_before book diffs) (taken_back_rules book diffs keeps rules)
 
 -- what follows a list is well-formed
 follow_rules : (kind : DiffType) (book : Book) (diffs : List Diff) (next : Book) → follow kind book diffs ≡ Ok next → IsWellFormed next
-follow_rules Undo book diffs next is = tested_rules (length diffs) (taken_back book diffs) next is
-follow_rules Redo book diffs next is = tested_rules (length diffs) (made book diffs) next is
+follow_rules Undo book diffs next is = tested_rules (length diffs) (untested_before book diffs) next is
+follow_rules Redo book diffs next is = tested_rules (length diffs) (untested_after book diffs) next is
 
 in_entry_is : (at : ℕ) (answer : Result Book EditError) (next : Book) → in_entry at answer ≡ Ok next → answer ≡ Ok next
 in_entry_is at (Ok book) next is = is

@@ -8,11 +8,13 @@ use Rattle.base_values.specs.laws.Decided.{option_equals}
 use Rattle.sheet_grid.specs.laws.CellEquals.{same_entry_decides}
 use Rattle.sheet_grid.specs.laws.LineEquals.{link_equals}
 use Rattle.sheet_history.specs.Entries.{EntryValue}
-use Rattle.sheet_history.specs.Entries.EntryValue.{CellValue, LinkValue, MergesValue}
+use Rattle.sheet_history.specs.Entries.EntryValue.{CellValue, LinkValue, MergesValue, FieldValue}
 use Rattle.sheet_history.specs.Records.{same_entry_value}
+use Rattle.sheet_history.specs.laws.FieldEquals.{sheet_field_equals}
 
 pub same_value_decides : (a b : EntryValue) → Decides (same_entry_value a b) (a ≡ b)
 same_value_decides (CellValue a) (CellValue b) = Decides-like _ (ap CellValue) (λ e. cc) (same_entry_decides a b)
 same_value_decides (LinkValue a) (LinkValue b) = Decides-like _ (ap LinkValue) (λ e. cc) (option_equals link_equals a b)
 same_value_decides (MergesValue a) (MergesValue b) = Decides-like _ (ap MergesValue) (λ e. cc) (pointwise_decides merged_equals a b)
+same_value_decides (FieldValue a) (FieldValue b) = Decides-like _ (ap FieldValue) (λ e. cc) (sheet_field_equals a b)
 same_value_decides _ _ = (λ e. cc, λ e. cc)

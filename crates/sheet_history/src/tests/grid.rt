@@ -3,7 +3,7 @@ use base_shared::Shared;
 use base_styles::Style;
 use base_tables::{Error, Locale};
 use base_values::{EditError, Text};
-use formula_tree::{Node, has_kept_numbers};
+use formula_tree::{Node, has_canonical_numbers};
 use sheet_grid::{ColumnAttr, Link, RowAttr, Worksheet};
 use std::alloc::Global;
 use std::test::Fail;
@@ -25,7 +25,7 @@ fn set_values(sheet: &mut Worksheet, style: &Shared<Style>) -> Result<(), EditEr
 /// A tree that is no formula: the setters do not ask.
 fn set_formulas(sheet: &mut Worksheet, style: &Shared<Style>) -> Result<(), EditError> {
     let (tree, other) = (Node::EmptyArgument, Node::EmptyArgument);
-    if has_kept_numbers(&tree) && has_kept_numbers(&other) {
+    if has_canonical_numbers(&tree) && has_canonical_numbers(&other) {
         sheet.set_cell_with_formula(1, 5, tree, style)?;
         sheet.set_cell_with_dynamic_formula(1, 6, other, style)?;
     }
@@ -36,7 +36,7 @@ fn set_formulas(sheet: &mut Worksheet, style: &Shared<Style>) -> Result<(), Edit
 fn set_arrays(sheet: &mut Worksheet, style: &Shared<Style>) -> Result<(), EditError> {
     for (row, width, height) in [(3, 2, 1), (3, 1, 2), (4, 2, 2)] {
         let tree = Node::EmptyArgument;
-        if has_kept_numbers(&tree) {
+        if has_canonical_numbers(&tree) {
             sheet.set_cell_with_array_formula(row, 1, tree, style, width, height)?;
         }
     }

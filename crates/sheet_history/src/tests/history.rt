@@ -1,7 +1,7 @@
 ghost use Rattle.std.specs.Prelude.{IfOk};
 ghost use Rattle.sheet_rules.specs.WellFormed.{IsWellFormed};
-ghost use Rattle.sheet_lines.specs.KeptNumbers.{AreKeptLines};
-ghost use Rattle.sheet_history.specs.Diffs.{IsKeptDiff, IsKeptList};
+ghost use Rattle.sheet_lines.specs.CanonicalNumbers.{AreCanonicalLines};
+ghost use Rattle.sheet_history.specs.Diffs.{IsCanonicalDiff, IsCanonicalList};
 
 use crate::{Diff, DiffList, LineAxis, back, forward};
 use base_axis::{Axis, ColumnAxis, MergeList, MergedCell, RowAxis};
@@ -19,7 +19,7 @@ use std::test::Fail;
 
 /// The cell B2 of the sheet of id 1, which was absent, and then TRUE.
 fn new_cell(alloc: Global, size: i32) -> Result<Diff, EditError>
-    ensures { IfOk result IsKeptDiff }
+    ensures { IfOk result IsCanonicalDiff }
 {
     let mut style = Style::new(alloc)?;
     style.font.sz = size;
@@ -35,7 +35,7 @@ fn new_cell(alloc: Global, size: i32) -> Result<Diff, EditError>
 
 /// What is kept of lines, and nothing else.
 fn kept_with(alloc: Global, lines: NumberMap<LineAttr>) -> KeptLines
-    ensures { AreKeptLines result }
+    ensures { AreCanonicalLines result }
 {
     KeptLines {
         cells: PositionMap::new(alloc),
@@ -48,8 +48,8 @@ fn kept_with(alloc: Global, lines: NumberMap<LineAttr>) -> KeptLines
 
 /// A list of one diff.
 fn only(alloc: Global, diff: Diff) -> Result<DiffList, EditError>
-    requires { IsKeptDiff diff }
-    ensures { IfOk result IsKeptList }
+    requires { IsCanonicalDiff diff }
+    ensures { IfOk result IsCanonicalList }
 {
     let mut list = Items::empty(alloc);
     list.push(diff)?;
@@ -82,7 +82,7 @@ fn record_of<A: Axis>(
     kind: EditKind,
 ) -> Result<DiffList, EditError>
     requires { IsWellFormed start.now }
-    ensures { IfOk result IsKeptList }
+    ensures { IfOk result IsCanonicalList }
 {
     let edit: LineEdit<A> = LineEdit::new(kind);
     if !edit.is_valid() || !has_sheet(start, 1) {
@@ -153,7 +153,7 @@ fn each_kind_returns<A: Axis>(
 /// A row that comes before the first one of the sheet of id 1. What it keeps lies outside the
 /// sheet.
 fn row_with_line_outside(alloc: Global) -> Result<Diff, EditError>
-    ensures { IfOk result IsKeptDiff }
+    ensures { IfOk result IsCanonicalDiff }
 {
     let mut lines = NumberMap::new(alloc);
     let high = LineAttr {
@@ -172,7 +172,7 @@ fn row_with_line_outside(alloc: Global) -> Result<Diff, EditError>
 
 /// The cell, and then that row.
 fn cell_and_row(alloc: Global) -> Result<DiffList, EditError>
-    ensures { IfOk result IsKeptList }
+    ensures { IfOk result IsCanonicalList }
 {
     let mut list = Items::empty(alloc);
     list.push(new_cell(alloc, 13)?)?;
@@ -217,7 +217,7 @@ fn diffs_are_refused_by_number(rt: HostRuntime) -> Result<(), Fail> {
 /// The merges of the sheet of id 1, which had none, and then one that is so many columns wide from
 /// A1 on.
 fn new_merge(alloc: Global, width: i32) -> Result<Diff, EditError>
-    ensures { IfOk result IsKeptDiff }
+    ensures { IfOk result IsCanonicalDiff }
 {
     let mut merges = Items::empty(alloc);
     merges.push(MergedCell {

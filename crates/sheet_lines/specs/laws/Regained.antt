@@ -24,7 +24,7 @@ use Rattle.sheet_grid.specs.Sheet.{Sheet}
 use Rattle.sheet_grid.specs.Book.{Book}
 use Rattle.line_edits.specs.declared.EditKind.{EditKind}
 use Rattle.line_edits.specs.Edit.{IsValid}
-use Rattle.line_edits.specs.Moves.{LineMoves, IsOneToOne, edit_moves, place_image}
+use Rattle.line_edits.specs.Moves.{LineMoves, edit_moves, place_image}
 use Rattle.line_edits.specs.laws.OneToOne.{edit_one_to_one}
 use Rattle.line_map.specs.Attributes.{line_goes_along, heirs, lines_carried, lines_restored}
 use Rattle.line_map.specs.Contents.{cell_carried, cell_part, cell_restored}

@@ -1,5 +1,5 @@
 -- What holds of a workbook that follows, and of one that is taken back.
-use Rattle.std.proofs.Common.{◌≡◌, ◌⊎◌, inl, inr, ℕ, ℤ, true, false, List, [], ◌∷◌, map, Option, Some, None, refl, ap, sym, subst}
+use Rattle.std.proofs.Common.{◌≡◌, ◌⊎◌, inl, inr, ℕ, ℤ, true, false, List, [], ◌∷◌, map, Option, Some, None, ap, sym, subst}
 use Rattle.std.specs.Prelude.{IfSome, IsTrue, if◌then◌else◌}
 use Rattle.std.specs.Option.{option_map}
 use Rattle.std.specs.List.{AllByRecursion}
@@ -17,16 +17,16 @@ use Rattle.base_maps.specs.Tagged.{place_on}
 use Rattle.base_maps.specs.laws.Each.{Each, each_found, each_from, each_gathered, each_overlaid, holds_of, keys_lost}
 use Rattle.base_maps.specs.laws.Inverses.{own_inverse, turned_inverse}
 use Rattle.formula_tree.specs.declared.Node.{Node}
-use Rattle.formula_tree.specs.declared.numbers.NumberRule.TheVariants.{Kept}
-use Rattle.formula_tree.specs.Numbers.{has_kept_numbers}
+use Rattle.formula_tree.specs.declared.numbers.NumberRule.TheVariants.{Canonical}
+use Rattle.formula_tree.specs.Numbers.{has_canonical_numbers}
 use Rattle.formula_tree.specs.Placed.{is_placed}
 use Rattle.formula_back.specs.laws.MovedNumbers.{numbers-moved}
 use Rattle.cell_content.specs.declared.Content.{Content}
-use Rattle.cell_content.specs.KeptContent.{IsKeptContent}
+use Rattle.cell_content.specs.CanonicalContent.{IsCanonicalContent}
 use Rattle.cell_content.specs.Lens.{tree_of}
 use Rattle.cell_content.specs.laws.LensLaws.{tree_of-with_tree, tree_of-kept, with_tree-kept}
 use Rattle.sheet_grid.specs.declared.Cell.{Cell}
-use Rattle.sheet_grid.specs.KeptCell.{IsKeptCell, KeptCells}
+use Rattle.sheet_grid.specs.CanonicalCell.{IsCanonicalCell, CanonicalCells}
 use Rattle.sheet_grid.specs.Sheet.{Sheet}
 use Rattle.sheet_grid.specs.Book.{Book}
 use Rattle.line_edits.specs.declared.EditKind.{EditKind}
@@ -47,7 +47,7 @@ use Rattle.sheet_lines.specs.declared.kept.KeptLines.{KeptLines}
 use Rattle.sheet_lines.specs.Back.{with_lost, merges_back, sheet_back, book_back, LieInside, ArePlacedLines}
 use Rattle.sheet_lines.specs.Followed.{way_of, way_of_edit, sheet_followed, book_followed}
 use Rattle.sheet_lines.specs.Kept.{lines_of}
-use Rattle.sheet_lines.specs.KeptNumbers.{AreKeptFormulas}
+use Rattle.sheet_lines.specs.CanonicalNumbers.{AreCanonicalFormulas}
 use Rattle.sheet_lines.specs.Sheets.{IsPlacedCell, IsPlacedSheet, IsPlacedBook, sheet_of, name_of}
 
 -- ---- cells
@@ -57,17 +57,17 @@ pub record Stays (P : Position → Cell → Type 0) (Q : Position → Node → T
   pub carried : (w : Way) → IsWay w → (p q : Position) (x : Cell) → P p x → P q (cell_carried (at w p q) x)
   pub restored : (p q : Position) (x : Cell) (k : Node) → P q x → Q p k → P p (cell_restored x k)
 
-abbrev pub HasKeptNumbers : Node → Type 0
-HasKeptNumbers tree = IsTrue (has_kept_numbers tree)
+abbrev pub HasCanonicalNumbers : Node → Type 0
+HasCanonicalNumbers tree = IsTrue (has_canonical_numbers tree)
 
-kept_with : (w : Way) (content : Content) (o : Option Node) → IsKeptContent content → IfSome o HasKeptNumbers →
-    IsKeptContent (with_new_tree content (if_there o (λ tree. Some (tree_carried w tree))))
+kept_with : (w : Way) (content : Content) (o : Option Node) → IsCanonicalContent content → IfSome o HasCanonicalNumbers →
+    IsCanonicalContent (with_new_tree content (if_there o (λ tree. Some (tree_carried w tree))))
 unfolding tree_carried
 kept_with w content None h k = h
-kept_with w content (Some tree) h k = with_tree-kept content (tree_carried w tree) h (subst IsTrue (sym (numbers-moved Kept w.to (following w) tree)) k)
+kept_with w content (Some tree) h k = with_tree-kept content (tree_carried w tree) h (subst IsTrue (sym (numbers-moved Canonical w.to (following w) tree)) k)
 
--- numbers are kept
-pub numbers_stay : Stays (λ _. IsKeptCell) (λ _. HasKeptNumbers)
+-- numbers stay canonical
+pub numbers_stay : Stays (λ _. IsCanonicalCell) (λ _. HasCanonicalNumbers)
 numbers_stay = record {
   carried = λ w is p q x h. kept_with (at w p q) x.content (tree_of x.content) h (tree_of-kept x.content h);
   restored = λ p q x k h kept. with_tree-kept x.content k h kept;
@@ -112,20 +112,20 @@ module _ (w : Way) (is : IsWay w) where
         elim w.is_edited as (λ t. Each P (if t then overlaid lost restored else restored))
         [ true ↦ each_overlaid position_cmp position_total exact_positions P lost restored laid all_restored | false ↦ all_restored ]
 
-  part_at : (v : Way) (o : Option Node) → IfSome o HasKeptNumbers → IfSome (if_there o (tree_part v)) HasKeptNumbers
+  part_at : (v : Way) (o : Option Node) → IfSome o HasCanonicalNumbers → IfSome (if_there o (tree_part v)) HasCanonicalNumbers
   part_at v None h = tt
-  part_at v (Some tree) h = holds_of HasKeptNumbers (tree_part v tree) (λ part g. subst HasKeptNumbers (sym (tree_restores v tree part g)) h)
+  part_at v (Some tree) h = holds_of HasCanonicalNumbers (tree_part v tree) (λ part g. subst HasCanonicalNumbers (sym (tree_restores v tree part g)) h)
 
-  part_kept : (p : Position) (o : Option Position) (x : Cell) → IsKeptCell x → IfSome (if_there o (λ q. cell_part (at w p q) x)) HasKeptNumbers
+  part_kept : (p : Position) (o : Option Position) (x : Cell) → IsCanonicalCell x → IfSome (if_there o (λ q. cell_part (at w p q) x)) HasCanonicalNumbers
   part_kept p None x h = tt
   part_kept p (Some q) x h = part_at (at w p q) (tree_of x.content) (tree_of-kept x.content h)
 
-  -- numbers of the trees that are kept of cells are kept
-  pub parts_kept : (m : FinMap position_cmp Cell) → KeptCells m → AreKeptFormulas (places_parts cell_part w m)
+  -- numbers of the trees that are kept of cells are canonical
+  pub parts_kept : (m : FinMap position_cmp Cell) → CanonicalCells m → AreCanonicalFormulas (places_parts cell_part w m)
   parts_kept m h =
-      each_gathered position_cmp position_total exact_positions (λ _. HasKeptNumbers) Some Some own_inverse
+      each_gathered position_cmp position_total exact_positions (λ _. HasCanonicalNumbers) Some Some own_inverse
       (λ p _ x. if_there (place_goes w p) (λ q. cell_part (at w p q) x)) m
-      (λ p q x there held. part_kept p (place_goes w p) x (each_found position_cmp (λ _. IsKeptCell) m h p x held))
+      (λ p q x there held. part_kept p (place_goes w p) x (each_found position_cmp (λ _. IsCanonicalCell) m h p x held))
 
 -- what the lines of the edited axis have lies on it
 pub lost_lines_lie : (a : Along) → IsAxis a → (sheet : Sheet) → LinesLie rows sheet.rows → LinesLie columns sheet.columns → (to : ℤ → Option ℤ) →

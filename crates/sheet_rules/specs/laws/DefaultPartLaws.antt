@@ -1,6 +1,6 @@
 -- A style is the default one exactly where each of its parts is.
 use Rattle.std.proofs.Common.{◌≡◌, Option, Some, None, refl, ap, sym}
-use Rattle.std.specs.Prelude.{is_none}
+use Rattle.std.specs.Prelude.{Bool, ◌&&◌, is_none}
 use Rattle.std.specs.Bool.{Decides}
 use Rattle.std.specs.Cmp.Lexicographic.{bytes_decides}
 use Rattle.std.proofs.lemmas.Bool.Decides.{Decides-like, Decides-and}
@@ -12,8 +12,13 @@ use Rattle.base_styles.specs.declared.alignment.Alignment.{Alignment}
 use Rattle.base_styles.specs.declared.style.Style.{Style}
 use Rattle.base_styles.specs.contracts.style.Style as style
 use Rattle.base_styles.specs.DefaultStyle.{default_style}
-use Rattle.sheet_rules.specs.DefaultParts.{has_default_parts}
+use Rattle.sheet_rules.specs.DefaultParts.{is_default_font, is_default_border, is_default_fill, is_default_format}
 use Rattle.sheet_rules.specs.WellFormed.{is_default}
+
+-- each part is the default style's
+abbrev pub has_default_parts : Style → Bool
+has_default_parts given =
+    is_default_font given.font && (is_default_fill given.fill && (is_default_border given.border && (is_default_format given.num_fmt && is_none given.alignment)))
 
 no_alignment : (given : Option Alignment) → Decides (is_none given) (given ≡ None)
 no_alignment None = (λ _. refl, λ _. refl)

@@ -15,7 +15,8 @@ use Rattle.sheet_grid.specs.Merges.{is_empty}
 use Rattle.sheet_grid.specs.Sheet.{Sheet}
 use Rattle.sheet_rules.specs.laws.EntryLaws.{both, passes_at_from_all, all_from_passes_at}
 use Rattle.sheet_rules.specs.laws.ShownLaws.{neither, not_true, shown_pass, all_pass, apart_in, apart_of, none_in, none_of}
-use Rattle.sheet_rules.specs.Occupied.{are_apart, meets_any, have_arrays, is_merge, have_merges, covers, covers_blanks, are_hidden_blank, is_hidden_place, array_in, large_array_in}
+use Rattle.sheet_rules.specs.Occupied.{are_apart, meets_any, have_arrays, is_merge, have_merges, covers, covers_blanks, are_hidden_blank, is_hidden_place}
+use Rattle.sheet_rules.specs.laws.ArraysIn.{array_in, large_array_in}
 
 abbrev array_shape : Position → Cell → Option MergedCell
 array_shape place cell = array_at place cell.content

@@ -15,7 +15,8 @@ use Rattle.sheet_grid.specs.Arrays.{array_at, large_array_at, where_large}
 use Rattle.sheet_grid.specs.Merges.{is_empty}
 use Rattle.sheet_grid.specs.Sheet.{Sheet, with_cell}
 use Rattle.sheet_rules.specs.laws.EntryLaws.{both, equal}
-use Rattle.sheet_rules.specs.Occupied.{have_arrays, have_merges, are_hidden_blank, covers, is_hidden_place, may_stand, array_in, large_array_in}
+use Rattle.sheet_rules.specs.Occupied.{have_arrays, have_merges, are_hidden_blank, covers, is_hidden_place, may_stand}
+use Rattle.sheet_rules.specs.laws.ArraysIn.{array_in, large_array_in}
 use Rattle.sheet_rules.specs.laws.OccupiedLaws.{keeps_arrays, have_arrays_from, keeps_merges, have_merges_from, keeps_hidden, are_hidden_blank_from, merges_apart_from, arrays_apart_from, or_not}
 use Rattle.sheet_rules.specs.laws.ShownLaws.{no_value}
 

@@ -20,14 +20,15 @@ use Rattle.base_axis.specs.Rectangles.{is_inside}
 use Rattle.sheet_grid.specs.Arrays.{array_at, large_array_at}
 use Rattle.sheet_grid.specs.Sheet.{Sheet, new_sheet}
 use Rattle.sheet_grid.specs.Book.{Book, new_book}
-use Rattle.sheet_grid.specs.FittingCells.{entry_fits_at, CellsFit, SheetsFit}
+use Rattle.sheet_grid.specs.laws.FittingCells.{entry_fits_at, CellsFit, SheetsFit}
+use Rattle.sheet_rules.specs.Names.{have_name_trees, are_names}
 use Rattle.sheet_rules.specs.Occupied.{are_apart, have_arrays, meets_any, have_merges, covers_blanks, are_hidden_blank}
 use Rattle.sheet_rules.specs.SheetNames.{is_sheet_name}
 use Rattle.sheet_rules.specs.laws.EntryLaws.{both, passes_at_from_all, all_from_passes_at}
 use Rattle.sheet_rules.specs.laws.ShownLaws.{not_true}
 use Rattle.sheet_rules.specs.WellFormed.{are_distinct, are_sheets, is_place, stands_inside, have_trees, is_row, is_column, has_font, have_attributes, are_frozen, IsWellFormed, ids_of}
 
--- the rules of a workbook, each for all of its sheets
+-- the rules of a workbook, each for all of its sheets, and those of its defined names
 pub record KeepsRules (book : Book) : Type 0 where
   pub sheets : are_sheets book.worksheets ≡ true
   pub inside : list_all stands_inside book.worksheets ≡ true
@@ -35,11 +36,13 @@ pub record KeepsRules (book : Book) : Type 0 where
   pub merges : list_all have_merges book.worksheets ≡ true
   pub hidden : list_all are_hidden_blank book.worksheets ≡ true
   pub trees : list_all have_trees book.worksheets ≡ true
+  pub name_trees : have_name_trees book.names ≡ true
   pub attributes : list_all have_attributes book.worksheets ≡ true
+  pub names : are_names (ids_of book.worksheets) book.names ≡ true
   pub frozen : list_all are_frozen book.worksheets ≡ true
 
-abbrev first_of : Bool → Bool → Bool → Bool → Bool → Bool → Bool → Bool → Option ℕ
-first_of s i a m h t b f =
+abbrev first_of : Bool → Bool → Bool → Bool → Bool → Bool → Bool → Bool → Bool → Option ℕ
+first_of s i a m h t b n f =
     if not s then Some 1
     else if not i then Some 2
     else if not a then Some 3
@@ -47,33 +50,48 @@ first_of s i a m h t b f =
     else if not h then Some 5
     else if not t then Some 6
     else if not b then Some 7
+    else if not n then Some 8
     else if not f then Some 9
     else None
 
 broken : {n : ℕ} {A : Type 0} → Some n ≡ None → A
 broken h = absurd (cc)
 
-rules_kept : (s i a m h t b f : Bool) → first_of s i a m h t b f ≡ None → (s ≡ true) × (i ≡ true) × (a ≡ true) × (m ≡ true) × (h ≡ true) × (t ≡ true) × (b ≡ true) × (f ≡ true)
-rules_kept true true true true true true true true none = (refl, refl, refl, refl, refl, refl, refl, refl)
-rules_kept true true true true true true true false none = broken none
-rules_kept true true true true true true false f none = broken none
-rules_kept true true true true true false b f none = broken none
-rules_kept true true true true false t b f none = broken none
-rules_kept true true true false h t b f none = broken none
-rules_kept true true false m h t b f none = broken none
-rules_kept true false a m h t b f none = broken none
-rules_kept false i a m h t b f none = broken none
+rules_kept : (s i a m h t b n f : Bool) → first_of s i a m h t b n f ≡ None → (s ≡ true) × (i ≡ true) × (a ≡ true) × (m ≡ true) × (h ≡ true) × (t ≡ true) × (b ≡ true) × (n ≡ true) × (f ≡ true)
+rules_kept true true true true true true true true true none = (refl, refl, refl, refl, refl, refl, refl, refl, refl)
+rules_kept true true true true true true true true false none = broken none
+rules_kept true true true true true true true false f none = broken none
+rules_kept true true true true true true false n f none = broken none
+rules_kept true true true true true false b n f none = broken none
+rules_kept true true true true false t b n f none = broken none
+rules_kept true true true false h t b n f none = broken none
+rules_kept true true false m h t b n f none = broken none
+rules_kept true false a m h t b n f none = broken none
+rules_kept false i a m h t b n f none = broken none
 
 -- a well-formed workbook keeps each rule
 pub well_formed_parts : (book : Book) → IsWellFormed book → KeepsRules book
 well_formed_parts book h =
     let kept = rules_kept (are_sheets book.worksheets) (list_all stands_inside book.worksheets) (list_all have_arrays book.worksheets) (list_all have_merges book.worksheets)
-    (list_all are_hidden_blank book.worksheets) (list_all have_trees book.worksheets) (list_all have_attributes book.worksheets) (list_all are_frozen book.worksheets) h in
-    record { sheets = kept.0; inside = kept.1; arrays = kept.2; merges = kept.3; hidden = kept.4; trees = kept.5; attributes = kept.6; frozen = kept.7 }
+    (list_all are_hidden_blank book.worksheets) (list_all have_trees book.worksheets && have_name_trees book.names) (list_all have_attributes book.worksheets)
+    (are_names (ids_of book.worksheets) book.names) (list_all are_frozen book.worksheets) h in
+    record {
+      sheets = kept.0;
+      inside = kept.1;
+      arrays = kept.2;
+      merges = kept.3;
+      hidden = kept.4;
+      trees = (both _ _ kept.5).0;
+      name_trees = (both _ _ kept.5).1;
+      attributes = kept.6;
+      names = kept.7;
+      frozen = kept.8;
+    }
 
 -- and one that keeps each rule is well-formed
 pub well_formed_from_parts : (book : Book) → KeepsRules book → IsWellFormed book
-well_formed_from_parts book h = λ i. first_of (h.sheets i) (h.inside i) (h.arrays i) (h.merges i) (h.hidden i) (h.trees i) (h.attributes i) (h.frozen i)
+well_formed_from_parts book h =
+    λ i. first_of (h.sheets i) (h.inside i) (h.arrays i) (h.merges i) (h.hidden i) (h.trees i && h.name_trees i) (h.attributes i) (h.names i) (h.frozen i)
 
 -- the cells of a sheet fit where their trees may stand at their places
 pub cells_fit_from_trees : (sheet : Sheet) → have_trees sheet ≡ true → CellsFit sheet
@@ -132,6 +150,15 @@ new_sheets : are_sheets (new_sheet 1 (codes "Sheet1") ∷ []) ≡ true
 unfolding are_sheets is_sheet_name chars
 new_sheets = refl
 
+-- no name breaks no rule
+pub no_trees : have_name_trees [] ≡ true
+unfolding have_name_trees
+no_trees = refl
+
+pub no_names : (ids : List ℕ) → are_names ids [] ≡ true
+unfolding are_names
+no_names ids = refl
+
 new_trees : (name : List ℕ) → have_trees (new_sheet 1 name) ≡ true
 unfolding have_trees
 new_trees name = ap (list_all (λ (entry : Position × Cell). fits_at entry.0 entry.1.content)) (entries-empty position_cmp)
@@ -173,6 +200,8 @@ well_formed-new name locale zone =
       merges = ap (λ b. b && true) (new_merges (codes "Sheet1"));
       hidden = ap (λ b. b && true) (new_hidden (codes "Sheet1"));
       trees = ap (λ b. b && true) (new_trees (codes "Sheet1"));
+      name_trees = no_trees;
       attributes = ap (λ b. b && true) (new_attributes (codes "Sheet1"));
+      names = no_names (ids_of (new_sheet 1 (codes "Sheet1") ∷ []));
       frozen = refl;
     })

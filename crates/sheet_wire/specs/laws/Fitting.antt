@@ -1,70 +1,133 @@
--- What fits is kept, and what encoding asks of diffs.
-use Rattle.std.proofs.Common.{List, [], ◌∷◌, Option, Some, None}
+-- The numbers of what fits are canonical, and what encoding asks of diffs.
+use Rattle.std.proofs.Common.{◌≡◌, ℕ, ℤ, false, ◌<◌, ◌^◌, List, [], ◌∷◌, Option, Some, None}
 use Rattle.std.specs.Prelude.{IfSome, IsTrue}
 use Rattle.std.specs.FinMap.{get}
 use Rattle.std.specs.List.{AllByRecursion}
 use Rattle.std.proofs.lemmas.List.Elements.{All-from_recursion}
 use Rattle.formula_tree.specs.Depth.{is_within}
-use Rattle.formula_tree.specs.Numbers.{has_kept_numbers}
+use Rattle.formula_tree.specs.Numbers.{has_canonical_numbers}
 use Rattle.formula_tree.specs.declared.Node.{Node}
+use Rattle.defined_names.specs.Names.{IsCanonicalName}
+use Rattle.defined_names.specs.declared.DefinedName.{DefinedName}
 use Rattle.sheet_grid.specs.declared.Cell.{Cell}
-use Rattle.sheet_grid.specs.FittingCells.{is_shallow_entry}
-use Rattle.sheet_grid.specs.KeptCell.{IsKeptCell}
+use Rattle.sheet_grid.specs.laws.FittingCells.{is_shallow_entry}
+use Rattle.sheet_grid.specs.CanonicalCell.{IsCanonicalCell}
+use Rattle.sheet_grid.specs.Lines.{is_plain}
+use Rattle.sheet_lines.specs.declared.KeptLines.{KeptLines}
 use Rattle.sheet_history.specs.declared.Diff.{Diff}
-use Rattle.sheet_history.specs.declared.Diff.TheVariants.{Cell as CellDiff, Link as LinkDiff, Merges as MergesDiff, Lines as LinesDiff}
+use Rattle.sheet_history.specs.declared.Diff.TheVariants.{Cell as CellDiff, Link as LinkDiff, Merges as MergesDiff, Field as FieldDiff, Lines as LinesDiff, NewSheet as NewDiff, DuplicateSheet as CopyDiff, DeleteSheet as DeletionDiff, MoveSheet as MoveDiff}
 use Rattle.sheet_history.specs.declared.QueueDiffs.{QueueDiffs}
-use Rattle.sheet_history.specs.Depth.{IsShallowDiff}
-use Rattle.sheet_history.specs.Diffs.{IsKeptDiff, IsKeptList, IsKeptQueue}
+use Rattle.book_sheets.specs.declared.KeptSheet.{KeptSheet}
+use Rattle.book_sheets.specs.SheetDiffs.{IsCanonicalSheet}
+use Rattle.sheet_history.specs.laws.Depth.{IsShallowDiff, IsShallowSheet}
+use Rattle.sheet_history.specs.Diffs.{IsCanonicalDiff, IsCanonicalList, IsCanonicalQueue}
 use Rattle.formula_wire.specs.Carried.{IsKnownNode}
 use Rattle.cell_wire.specs.CellBytes.{FitsCell, IsKnownCell}
-use Rattle.cell_wire.specs.laws.Fitting.{kept_cell_from_fits}
+use Rattle.cell_wire.specs.laws.Fitting.{canonical_cell_from_fits}
 use Rattle.lines_wire.specs.laws.KeptFits.{kept_lines_from_fits}
-use Rattle.sheet_wire.specs.QueueBytes.{FitsDiff, FitsList, FitsEntry, FitsQueue, IsKeptOfDiff, IsKnownDiff}
+use Rattle.map_wire.specs.laws.MapFits.{values_hold}
+use Rattle.grid_wire.specs.NameBytes.{FitsName, IsKnownName}
+use Rattle.grid_wire.specs.laws.GridFits.{canonical_cells_from_fits, canonical_name_from_fits}
+use Rattle.sheet_wire.specs.SheetsBytes.{FitsKeptSheet, IsKnownKeptSheet}
+use Rattle.sheet_wire.specs.QueueBytes.{FitsDiff, FitsList, FitsEntry, FitsQueue, IsKnownDiff}
 
--- ---- what fits is kept
+-- ---- what encoding asks of lines
 
-kept_option : (entry : Option Cell) → IfSome entry FitsCell → IfSome entry IsKeptCell
+-- of each line an edit keeps something of its own
+abbrev pub IsKeptOfLines : KeptLines → Type 0
+IsKeptOfLines kept = (line : ℤ) → IfSome (get kept.lines line) (λ attr. is_plain attr ≡ false)
+
+-- each line of a kept sheet has something of its own
+pub record HasOwnLines (kept : KeptSheet) : Type 0 where
+  pub rows : (row : ℤ) → IfSome (get kept.sheet.rows row) (λ attr. is_plain attr ≡ false)
+  pub columns : (column : ℤ) → IfSome (get kept.sheet.columns column) (λ attr. is_plain attr ≡ false)
+
+-- each line that a diff keeps has something of its own, be it that of an edit of lines or of a deleted sheet
+abbrev pub IsKeptOfDiff : Diff → Type 0
+IsKeptOfDiff (CellDiff sheet place old new) = Unit {0}
+IsKeptOfDiff (LinkDiff sheet place old new) = Unit {0}
+IsKeptOfDiff (MergesDiff sheet old new) = Unit {0}
+IsKeptOfDiff (FieldDiff sheet change) = Unit {0}
+IsKeptOfDiff (LinesDiff sheet axis edit kept) = IsKeptOfLines kept
+IsKeptOfDiff (NewDiff sheet index name) = Unit {0}
+IsKeptOfDiff (CopyDiff source sheet index name) = Unit {0}
+IsKeptOfDiff (DeletionDiff index kept) = HasOwnLines kept
+IsKeptOfDiff (MoveDiff sheet from to) = Unit {0}
+
+-- ---- the numbers of what fits are canonical
+
+kept_option : (entry : Option Cell) → IfSome entry FitsCell → IfSome entry IsCanonicalCell
 kept_option None fits = tt
-kept_option (Some cell) fits = kept_cell_from_fits cell fits
+kept_option (Some cell) fits = canonical_cell_from_fits cell fits
 
-pub kept_diff_from_fits : (diff : Diff) → FitsDiff diff → IsKeptDiff diff
-kept_diff_from_fits (CellDiff sheet place old new) fits =
+kept_sheet_from_fits : (kept : KeptSheet) → FitsKeptSheet kept → IsCanonicalSheet kept
+kept_sheet_from_fits kept fits = record {
+  cells = canonical_cells_from_fits kept.sheet.cells fits.sheet.entries.cells;
+  names = values_hold (λ place. place < 2 ^ 64) FitsName _ canonical_name_from_fits kept.names fits.names;
+}
+
+pub canonical_diff_from_fits : (diff : Diff) → FitsDiff diff → IsCanonicalDiff diff
+canonical_diff_from_fits (CellDiff sheet place old new) fits =
     (kept_option old fits.old, kept_option new fits.new)
-kept_diff_from_fits (LinkDiff sheet place old new) fits = tt
-kept_diff_from_fits (MergesDiff sheet old new) fits = tt
-kept_diff_from_fits (LinesDiff sheet axis edit kept) fits = kept_lines_from_fits kept fits.kept
+canonical_diff_from_fits (LinkDiff sheet place old new) fits = tt
+canonical_diff_from_fits (MergesDiff sheet old new) fits = tt
+canonical_diff_from_fits (FieldDiff sheet change) fits = tt
+canonical_diff_from_fits (LinesDiff sheet axis edit kept) fits = kept_lines_from_fits kept fits.kept
+canonical_diff_from_fits (NewDiff sheet index name) fits = tt
+canonical_diff_from_fits (CopyDiff source sheet index name) fits = tt
+canonical_diff_from_fits (DeletionDiff index kept) fits = kept_sheet_from_fits kept fits.kept
+canonical_diff_from_fits (MoveDiff sheet from to) fits = tt
 
-kept_diffs : (diffs : List Diff) → AllByRecursion FitsDiff diffs → AllByRecursion IsKeptDiff diffs
+kept_diffs : (diffs : List Diff) → AllByRecursion FitsDiff diffs → AllByRecursion IsCanonicalDiff diffs
 kept_diffs [] fits = tt
-kept_diffs (diff ∷ diffs) fits = (kept_diff_from_fits diff fits.0, kept_diffs diffs fits.1)
+kept_diffs (diff ∷ diffs) fits = (canonical_diff_from_fits diff fits.0, kept_diffs diffs fits.1)
 
 -- so a list that was read can be followed
-pub kept_list_from_fits : (diffs : List Diff) → FitsList diffs → IsKeptList diffs
-kept_list_from_fits diffs fits = All-from_recursion IsKeptDiff diffs (kept_diffs diffs fits.each)
+pub canonical_list_from_fits : (diffs : List Diff) → FitsList diffs → IsCanonicalList diffs
+canonical_list_from_fits diffs fits = All-from_recursion IsCanonicalDiff diffs (kept_diffs diffs fits.each)
 
-kept_entries : (queue : List QueueDiffs) → AllByRecursion FitsEntry queue → AllByRecursion (λ entry. IsKeptList entry.list) queue
+kept_entries : (queue : List QueueDiffs) → AllByRecursion FitsEntry queue → AllByRecursion (λ entry. IsCanonicalList entry.list) queue
 kept_entries [] fits = tt
-kept_entries (entry ∷ queue) fits = (kept_list_from_fits entry.list fits.0, kept_entries queue fits.1)
+kept_entries (entry ∷ queue) fits = (canonical_list_from_fits entry.list fits.0, kept_entries queue fits.1)
 
 -- so a queue that was read can be followed
-pub kept_queue_from_fits : (queue : List QueueDiffs) → FitsQueue queue → IsKeptQueue queue
-kept_queue_from_fits queue fits = All-from_recursion (λ entry. IsKeptList entry.list) queue (kept_entries queue fits.each)
+pub canonical_queue_from_fits : (queue : List QueueDiffs) → FitsQueue queue → IsCanonicalQueue queue
+canonical_queue_from_fits queue fits = All-from_recursion (λ entry. IsCanonicalList entry.list) queue (kept_entries queue fits.each)
 
 -- ---- what encoding asks
 
-known_entry : (entry : Option Cell) → IfSome entry IsKeptCell → IsTrue (is_shallow_entry entry) → IfSome entry IsKnownCell
+known_entry : (entry : Option Cell) → IfSome entry IsCanonicalCell → IsTrue (is_shallow_entry entry) → IfSome entry IsKnownCell
 known_entry None kept shallow = tt
-known_entry (Some cell) kept shallow = record { kept = kept; shallow = shallow }
+known_entry (Some cell) kept shallow = record { canonical = kept; shallow = shallow }
 
-known_tree : (tree : Option Node) → IfSome tree (λ t. IsTrue (has_kept_numbers t)) → IfSome tree (λ t. IsTrue (is_within 64 t)) → IfSome tree IsKnownNode
+known_tree : (tree : Option Node) → IfSome tree (λ t. IsTrue (has_canonical_numbers t)) → IfSome tree (λ t. IsTrue (is_within 64 t)) → IfSome tree IsKnownNode
 known_tree None kept shallow = tt
-known_tree (Some tree) kept shallow = record { kept = kept; depth = shallow }
+known_tree (Some tree) kept shallow = record { canonical = kept; depth = shallow }
 
--- a diff whose numbers are kept, and whose formulas are at most 64 deep, can be encoded
-pub known_diff : (diff : Diff) → IsKeptDiff diff → IsShallowDiff diff → IsKeptOfDiff diff → IsKnownDiff diff
+known_name : (name : Option DefinedName) → IfSome name IsCanonicalName → IfSome name (λ n. IsTrue (is_within 64 n.formula)) → IfSome name IsKnownName
+known_name None kept shallow = tt
+known_name (Some name) kept shallow = record { canonical = kept; depth = shallow }
+
+known_sheet : (kept : KeptSheet) → IsCanonicalSheet kept → IsShallowSheet kept → HasOwnLines kept → IsKnownKeptSheet kept
+known_sheet kept numbers shallow own = record {
+  sheet = record {
+    rows = own.rows;
+    columns = own.columns;
+    cells = λ place. known_entry (get kept.sheet.cells place) (numbers.cells place) (shallow.cells place);
+  };
+  names = λ place. known_name (get kept.names place) (numbers.names place) (shallow.names place);
+}
+
+-- a diff whose numbers are canonical, and whose formulas are at most 64 deep, can be encoded
+pub known_diff : (diff : Diff) → IsCanonicalDiff diff → IsShallowDiff diff → IsKeptOfDiff diff → IsKnownDiff diff
 known_diff (CellDiff sheet place old new) kept shallow of_lines = (known_entry old kept.0 shallow.0, known_entry new kept.1 shallow.1)
 known_diff (LinkDiff sheet place old new) kept shallow of_lines = tt
 known_diff (MergesDiff sheet old new) kept shallow of_lines = tt
+known_diff (FieldDiff sheet change) kept shallow of_lines = tt
+known_diff (NewDiff sheet index name) kept shallow of_lines = tt
+known_diff (CopyDiff source sheet index name) kept shallow of_lines = tt
+known_diff (DeletionDiff index part) kept shallow of_lines = known_sheet part kept shallow of_lines
+known_diff (MoveDiff sheet from to) kept shallow of_lines = tt
 known_diff (LinesDiff sheet axis edit lines) kept shallow of_lines = record {
   cells = λ place. known_entry (get lines.cells place) (kept.cells place) (shallow.cells place);
   lines = of_lines;

@@ -4,7 +4,8 @@ use Rattle.std.specs.Prelude.{IfSome}
 use Rattle.std.specs.Int.{w32, to_be_bytes}
 use Rattle.base_values.specs.declared.Position.{Position}
 use Rattle.sheet_history.specs.declared.Diff.{Diff}
-use Rattle.sheet_history.specs.declared.Diff.TheVariants.{Cell as CellDiff, Link as LinkDiff, Merges as MergesDiff, Lines as LinesDiff}
+use Rattle.sheet_history.specs.declared.Diff.TheVariants.{Cell as CellDiff, Link as LinkDiff, Merges as MergesDiff, Field as FieldDiff, Lines as LinesDiff, NewSheet as NewDiff, DuplicateSheet as CopyDiff, DeleteSheet as DeletionDiff, MoveSheet as MoveDiff}
+use Rattle.sheet_history.specs.declared.FieldChange.TheVariants as change
 use Rattle.sheet_history.specs.declared.DiffType.{DiffType}
 use Rattle.sheet_history.specs.declared.DiffType.TheVariants.{Undo, Redo}
 use Rattle.sheet_history.specs.declared.LineAxis.{LineAxis}
@@ -14,13 +15,15 @@ use Rattle.base_wire.specs.Spelling.{Any, Both, spell_both, spell_code, spell_li
 use Rattle.base_wire.specs.laws.Again.{ReadsAgain, code_again}
 use Rattle.base_wire.specs.laws.Format.{Format, list_format, option_format}
 use Rattle.base_wire.specs.laws.Formats.{both_format, after_format, made_format}
-use Rattle.base_wire.specs.laws.Parts.{short_format}
+use Rattle.base_wire.specs.Parts.{boolean_at}
+use Rattle.base_wire.specs.laws.Parts.{boolean_format, short_format}
+use Rattle.cell_wire.specs.StyleBytes.{color_at}
 use Rattle.base_wire.specs.laws.Refusals.{IsPlain, code_plain, if_plain, map_plain, refused_plain, tagged_plain}
 use Rattle.base_wire.specs.laws.Spelled.{ReadsSpelled, code_spelled, tag_if, tag_map, tag_refused, tagged_spelled}
 use Rattle.cell_wire.specs.CellBytes.{spell_position, FitsPosition, spell_cell, cell_at}
 use Rattle.cell_wire.specs.LinkBytes.{spell_link, link_at}
-use Rattle.cell_wire.specs.MergeBytes.{spell_merges, merges_at, FitsMerges}
-use Rattle.cell_wire.specs.laws.Formats.{position_format, cell_format}
+use Rattle.cell_wire.specs.MergeBytes.{spell_merges, merges_at}
+use Rattle.cell_wire.specs.laws.Formats.{color_format, position_format, cell_format}
 use Rattle.cell_wire.specs.laws.MergeLaws.{link_format, merges_format}
 use Rattle.lines_wire.specs.EditBytes.{spell_edit, FitsEdit}
 use Rattle.lines_wire.specs.KeptBytes.{spell_kept, FitsKept}
@@ -28,7 +31,10 @@ use Rattle.lines_wire.specs.laws.EditLaws.{edit_format}
 use Rattle.lines_wire.specs.laws.KeptLaws.{kept_format}
 use Rattle.sheet_wire.specs.ChangeBytes.{spell_change, standing_at, change_at, spell_sheet_change, sheet_change_at}
 use Rattle.sheet_wire.specs.LinesBytes.{axis_code, axes, spell_lines, lines_parts_at}
-use Rattle.sheet_wire.specs.QueueBytes.{spell_diff, cell_diff_made, cell_diff_at, link_diff_made, link_diff_at, merges_diff_made, merges_diff_at, lines_diff_made, lines_diff_at, diff_of, diff_at, FitsDiff, FitsList, direction_code, directions, spell_entry, entry_made, list_of_diffs_at, entry_at, FitsEntry, magic, FitsQueue}
+use Rattle.sheet_wire.specs.SheetsBytes.{spell_color_change, spell_state_change, spell_grid_change, state_at, spell_new, new_parts_at, spell_copy, copy_parts_at, spell_deletion, deletion_parts_at, spell_move, move_parts_at}
+use Rattle.sheet_wire.specs.laws.SheetsFormats.{sheet_change_format, sheet_state_format, new_parts_format, copy_parts_format, deletion_parts_format, move_parts_format}
+use Rattle.sheet_wire.specs.QueueBytes.{move_diff_made, move_diff_at, color_diff_made, color_diff_at, state_diff_made, state_diff_at, grid_diff_made, grid_diff_at}
+use Rattle.sheet_wire.specs.QueueBytes.{spell_diff, cell_diff_made, cell_diff_at, link_diff_made, link_diff_at, merges_diff_made, merges_diff_at, lines_diff_made, lines_diff_at, new_diff_made, new_diff_at, copy_diff_made, copy_diff_at, deletion_diff_made, deletion_diff_at, diff_of, diff_at, FitsDiff, FitsList, direction_code, directions, spell_entry, entry_made, list_of_diffs_at, entry_at, FitsEntry, magic, FitsQueue}
 
 -- ---- diffs
 
@@ -42,9 +48,6 @@ change_spelling s = spell_both (to_be_bytes w32) (spell_both spell_position (spe
 change_format : {A : Type 0} {F : A → Type 0} {s : A → List ℕ} {r : Reader A} → Format F s r → Format (ChangeFits F) (change_spelling s) (change_at r)
 unfolding standing_at
 change_format law = both_format short_format (both_format position_format (both_format (option_format law) (option_format law)))
-
-merges_change_format : Format (Both (λ id. id < 2 ^ 32) (Both FitsMerges FitsMerges)) (spell_both (to_be_bytes w32) (spell_both spell_merges spell_merges)) (sheet_change_at merges_at)
-merges_change_format = both_format short_format (both_format merges_format merges_format)
 
 axis_known : (x : LineAxis) → decoded axis_code axes (axis_code x) ≡ Some x
 axis_known Rows = refl
@@ -60,7 +63,7 @@ map_reads : {A B : Type 0} (f : A → B) (r : Reader A) (bytes : List ℕ) (x : 
 map_reads f r bytes x rest h = rw h refl
 
 diff_again : ReadsAgain FitsDiff spell_diff diff_at
-unfolding spell_sheet_change diff_at cell_diff_at link_diff_at merges_diff_at lines_diff_at
+unfolding spell_sheet_change spell_new spell_copy spell_deletion spell_move diff_at cell_diff_at link_diff_at merges_diff_at lines_diff_at new_diff_at copy_diff_at deletion_diff_at move_diff_at color_diff_at state_diff_at grid_diff_at
 diff_again = record { again = one }
   where
     one : (x : Diff) (rest : List ℕ) → FitsDiff x → diff_at (spell_diff x ++ rest) ≡ Ok (x, rest)
@@ -72,29 +75,64 @@ diff_again = record { again = one }
         ((change_format link_format).again.again (sheet, (place, (old, new))) rest (fits.sheet, (fits.place, (fits.old, fits.new))))
     one (MergesDiff sheet old new) rest fits =
         map_reads merges_diff_made (sheet_change_at merges_at) (spell_sheet_change spell_merges sheet old new ++ rest) (sheet, (old, new)) rest
-        (merges_change_format.again.again (sheet, (old, new)) rest (fits.sheet, (fits.old, fits.new)))
+        ((sheet_change_format merges_format).again.again (sheet, (old, new)) rest (fits.sheet, (fits.old, fits.new)))
     one (LinesDiff sheet axis edit kept) rest fits =
         map_reads lines_diff_made lines_parts_at (spell_lines sheet axis edit kept ++ rest) (sheet, (axis, (edit, kept))) rest
         (lines_parts_format.again.again (sheet, (axis, (edit, kept))) rest (fits.sheet, (tt, (fits.edit, fits.kept))))
+    one (NewDiff sheet index name) rest fits =
+        map_reads new_diff_made new_parts_at (spell_new sheet index name ++ rest) (sheet, (index, name)) rest
+        (new_parts_format.again.again (sheet, (index, name)) rest (fits.sheet, (fits.index, fits.name)))
+    one (CopyDiff source sheet index name) rest fits =
+        map_reads copy_diff_made copy_parts_at (spell_copy source sheet index name ++ rest) (source, (sheet, (index, name))) rest
+        (copy_parts_format.again.again (source, (sheet, (index, name))) rest (fits.source, (fits.copy.sheet, (fits.copy.index, fits.copy.name))))
+    one (DeletionDiff index kept) rest fits =
+        map_reads deletion_diff_made deletion_parts_at (spell_deletion index kept ++ rest) (index, kept) rest
+        (deletion_parts_format.again.again (index, kept) rest (fits.index, fits.kept))
+    one (MoveDiff sheet from to) rest fits =
+        map_reads move_diff_made move_parts_at (spell_move sheet from to ++ rest) (sheet, (from, to)) rest
+        (move_parts_format.again.again (sheet, (from, to)) rest (fits.sheet, (fits.from, fits.to)))
+    one (FieldDiff sheet (change.Color old new)) rest fits =
+        map_reads color_diff_made (sheet_change_at color_at) (spell_color_change sheet old new ++ rest) (sheet, (old, new)) rest
+        ((sheet_change_format color_format).again.again (sheet, (old, new)) rest (fits.sheet, (fits.old, fits.new)))
+    one (FieldDiff sheet (change.State old new)) rest fits =
+        map_reads state_diff_made (sheet_change_at state_at) (spell_state_change sheet old new ++ rest) (sheet, (old, new)) rest
+        ((sheet_change_format sheet_state_format).again.again (sheet, (old, new)) rest (fits.sheet, (tt, tt)))
+    one (FieldDiff sheet (change.GridLines old new)) rest fits =
+        map_reads grid_diff_made (sheet_change_at boolean_at) (spell_grid_change sheet old new ++ rest) (sheet, (old, new)) rest
+        ((sheet_change_format boolean_format).again.again (sheet, (old, new)) rest (fits.sheet, (tt, tt)))
 
 diff_spelled : ReadsSpelled FitsDiff spell_diff diff_at
-unfolding spell_sheet_change diff_at cell_diff_at link_diff_at merges_diff_at lines_diff_at
+unfolding spell_sheet_change spell_new spell_copy spell_deletion spell_move diff_at cell_diff_at link_diff_at merges_diff_at lines_diff_at new_diff_at copy_diff_at deletion_diff_at move_diff_at color_diff_at state_diff_at grid_diff_at
 diff_spelled =
     tagged_spelled diff_of (λ tag.
     tag_if tag 1 (tag_map (change_format cell_format).spelled cell_diff_made FitsDiff spell_diff 1 (λ x. refl) (λ x fits. record { sheet = fits.0; place = fits.1.0; old = fits.1.1.0; new = fits.1.1.1 }))
     (tag_if tag 2 (tag_map (change_format link_format).spelled link_diff_made FitsDiff spell_diff 2 (λ x. refl) (λ x fits. record { sheet = fits.0; place = fits.1.0; old = fits.1.1.0; new = fits.1.1.1 }))
-    (tag_if tag 5 (tag_map merges_change_format.spelled merges_diff_made FitsDiff spell_diff 5 (λ x. refl) (λ x fits. record { sheet = fits.0; old = fits.1.0; new = fits.1.1 }))
+    (tag_if tag 5 (tag_map (sheet_change_format merges_format).spelled merges_diff_made FitsDiff spell_diff 5 (λ x. refl) (λ x fits. record { sheet = fits.0; old = fits.1.0; new = fits.1.1 }))
     (tag_if tag 7 (tag_map lines_parts_format.spelled lines_diff_made FitsDiff spell_diff 7 (λ x. refl) (λ x fits. record { sheet = fits.0; edit = fits.1.1.0; kept = fits.1.1.1 }))
-    (tag_refused FitsDiff spell_diff tag)))))
+    (tag_if tag 8 (tag_map new_parts_format.spelled new_diff_made FitsDiff spell_diff 8 (λ x. refl) (λ x fits. record { sheet = fits.0; index = fits.1.0; name = fits.1.1 }))
+    (tag_if tag 9 (tag_map copy_parts_format.spelled copy_diff_made FitsDiff spell_diff 9 (λ x. refl) (λ x fits. record { source = fits.0; copy = record { sheet = fits.1.0; index = fits.1.1.0; name = fits.1.1.1 } }))
+    (tag_if tag 10 (tag_map deletion_parts_format.spelled deletion_diff_made FitsDiff spell_diff 10 (λ x. refl) (λ x fits. record { index = fits.0; kept = fits.1 }))
+    (tag_if tag 12 (tag_map move_parts_format.spelled move_diff_made FitsDiff spell_diff 12 (λ x. refl) (λ x fits. record { sheet = fits.0; from = fits.1.0; to = fits.1.1 }))
+    (tag_if tag 13 (tag_map (sheet_change_format color_format).spelled color_diff_made FitsDiff spell_diff 13 (λ x. refl) (λ x fits. record { sheet = fits.0; old = fits.1.0; new = fits.1.1 }))
+    (tag_if tag 14 (tag_map (sheet_change_format sheet_state_format).spelled state_diff_made FitsDiff spell_diff 14 (λ x. refl) (λ x fits. record { sheet = fits.0; old = tt; new = tt }))
+    (tag_if tag 15 (tag_map (sheet_change_format boolean_format).spelled grid_diff_made FitsDiff spell_diff 15 (λ x. refl) (λ x fits. record { sheet = fits.0; old = tt; new = tt }))
+    (tag_refused FitsDiff spell_diff tag))))))))))))
 
 diff_plain : IsPlain diff_at
-unfolding diff_at cell_diff_at link_diff_at merges_diff_at lines_diff_at
+unfolding diff_at cell_diff_at link_diff_at merges_diff_at lines_diff_at new_diff_at copy_diff_at deletion_diff_at move_diff_at color_diff_at state_diff_at grid_diff_at
 diff_plain =
     tagged_plain diff_of (λ tag.
     if_plain (eqb tag 1) (map_plain cell_diff_made (change_format cell_format).plain)
     (if_plain (eqb tag 2) (map_plain link_diff_made (change_format link_format).plain)
-    (if_plain (eqb tag 5) (map_plain merges_diff_made merges_change_format.plain)
-    (if_plain (eqb tag 7) (map_plain lines_diff_made lines_parts_format.plain) refused_plain))))
+    (if_plain (eqb tag 5) (map_plain merges_diff_made (sheet_change_format merges_format).plain)
+    (if_plain (eqb tag 7) (map_plain lines_diff_made lines_parts_format.plain)
+    (if_plain (eqb tag 8) (map_plain new_diff_made new_parts_format.plain)
+    (if_plain (eqb tag 9) (map_plain copy_diff_made copy_parts_format.plain)
+    (if_plain (eqb tag 10) (map_plain deletion_diff_made deletion_parts_format.plain)
+    (if_plain (eqb tag 12) (map_plain move_diff_made move_parts_format.plain)
+    (if_plain (eqb tag 13) (map_plain color_diff_made (sheet_change_format color_format).plain)
+    (if_plain (eqb tag 14) (map_plain state_diff_made (sheet_change_format sheet_state_format).plain)
+    (if_plain (eqb tag 15) (map_plain grid_diff_made (sheet_change_format boolean_format).plain) refused_plain)))))))))))
 
 pub diff_format : Format FitsDiff spell_diff diff_at
 diff_format = record { again = diff_again; spelled = diff_spelled; plain = diff_plain }
@@ -104,6 +142,13 @@ diff_some (CellDiff sheet place old new) = omega arith
 diff_some (LinkDiff sheet place old new) = omega arith
 diff_some (MergesDiff sheet old new) = omega arith
 diff_some (LinesDiff sheet axis edit kept) = omega arith
+diff_some (NewDiff sheet index name) = omega arith
+diff_some (CopyDiff source sheet index name) = omega arith
+diff_some (DeletionDiff index kept) = omega arith
+diff_some (MoveDiff sheet from to) = omega arith
+diff_some (FieldDiff sheet (change.Color old new)) = omega arith
+diff_some (FieldDiff sheet (change.State old new)) = omega arith
+diff_some (FieldDiff sheet (change.GridLines old new)) = omega arith
 
 -- ---- entries and queues
 

@@ -46,7 +46,7 @@ impl<R: Recalc + Drop> UserModel<R> {
     ) -> Result<(), EditError>
         requires { A.along ≡ along_of axis }
         ensures next { Steps result self.old.document self.new.document (edit_of (MoveLines sheet axis first count delta)) }
-        ensures made { OnOk result (Makes (is_silent (MoveLines sheet axis first count delta)) R.Fits self.old self.new) }
+        ensures made { OnOk result (Makes (is_silent (MoveLines sheet axis first count delta) self.old.document.book) R.Fits self.old self.new) }
         ensures err { OnErr result (self.new ≡ self.old) }
         ensures paused { self.new.paused ≡ self.old.paused }
     {
@@ -69,7 +69,8 @@ impl<R: Recalc + Drop> UserModel<R> {
     /// `InvalidRow` where the row is outside the sheet, else `SplitsArray` where an array stands on
     /// both sides of it, else `OverEdge` where the last row with a cell, or that an array fills, and
     /// the count together exceed the last row of the sheet, else `NoMemory` where there is not
-    /// enough. An error changes nothing. docs/MODEL.md has the rules.
+    /// enough. That last row may be before the inserted ones too, and in an empty sheet it is the
+    /// first. An error changes nothing. docs/MODEL.md has the rules.
     ///
     /// ```
     /// model.insert_rows(0, 3, 2)?; // what stood in row 3 stands in row 5
@@ -95,7 +96,8 @@ impl<R: Recalc + Drop> UserModel<R> {
     /// `InvalidColumn` where the column is outside the sheet, else `SplitsArray` where an array stands on
     /// both sides of it, else `OverEdge` where the last column with a cell, or that an array fills, and
     /// the count together exceed the last column of the sheet, else `NoMemory` where there is not
-    /// enough. An error changes nothing. docs/MODEL.md has the rules.
+    /// enough. That last column may be before the inserted ones too, and in an empty sheet it is the
+    /// first. An error changes nothing. docs/MODEL.md has the rules.
     ///
     /// ```
     /// model.insert_columns(0, 1, 1)?; // what stood in column A stands in column B
@@ -188,7 +190,7 @@ impl<R: Recalc + Drop> UserModel<R> {
         delta: i32,
     ) -> Result<(), EditError>
         ensures next { Steps result self.old.document self.new.document (edit_of (MoveLines sheet Rows first count delta)) }
-        ensures made { OnOk result (Makes (is_silent (MoveLines sheet Rows first count delta)) R.Fits self.old self.new) }
+        ensures made { OnOk result (Makes (is_silent (MoveLines sheet Rows first count delta) self.old.document.book) R.Fits self.old self.new) }
         ensures err { OnErr result (self.new ≡ self.old) }
         ensures paused { self.new.paused ≡ self.old.paused }
     {
@@ -216,7 +218,7 @@ impl<R: Recalc + Drop> UserModel<R> {
         delta: i32,
     ) -> Result<(), EditError>
         ensures next { Steps result self.old.document self.new.document (edit_of (MoveLines sheet Columns first count delta)) }
-        ensures made { OnOk result (Makes (is_silent (MoveLines sheet Columns first count delta)) R.Fits self.old self.new) }
+        ensures made { OnOk result (Makes (is_silent (MoveLines sheet Columns first count delta) self.old.document.book) R.Fits self.old self.new) }
         ensures err { OnErr result (self.new ≡ self.old) }
         ensures paused { self.new.paused ≡ self.old.paused }
     {

@@ -4,6 +4,6 @@ use Rattle.cell_wire.proofs.writing.put_cell.Goals as goal
 
 pub returns-clause-fits : goal.returns-clause-fits
 returns-clause-fits c = λ known. record {
-  content = c.in_ok-put_content.ensures.fits known.kept known.shallow;
+  content = c.in_ok-put_content.ensures.fits known.canonical known.shallow;
   style = subst FitsStyle c.get.ensures c.in_ok-put_style.ensures.fits;
 }

@@ -34,6 +34,6 @@ returns c =
     let named = simp to_z-of_z at (c.in_ok-place.ensures {u = _}).named in
     record {
       planned = unmerge_planned c.args.workbook.now c.args.sheet c.in_ok-found.found.now (sym (c.in_ok-found.ensures {u = _})) c.requires.rules
-          c.unmerge_record.result c.unmerge_record.ensures.kept c.unmerge_record.ensures.only c.args.row c.args.column c.in_ok-place.place named
+          c.unmerge_record.result c.unmerge_record.ensures.canonical c.unmerge_record.ensures.only c.args.row c.args.column c.in_ok-place.place named
           (sym goes) c.unmerge_record.ensures.made;
     }

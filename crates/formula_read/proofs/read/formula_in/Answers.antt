@@ -1,12 +1,12 @@
 use Rattle.std.proofs.Common.{◌≡◌, ◌≤◌, true, false}
 use Rattle.formula_tree.specs.declared.Node.{Node}
 use Rattle.formula_tree.specs.Depth.{depth_of}
-use Rattle.formula_tree.specs.Numbers.{has_kept_numbers, has_no_negative_number}
+use Rattle.formula_tree.specs.Numbers.{has_canonical_numbers, has_no_negative_number}
 use Rattle.formula_tree.specs.laws.NumbersEquations.{numbers_parse_error}
 use Rattle.formula_tree.specs.ParseError.{is_parse_error}
 use Rattle.formula_tree.specs.Placed.{is_placed}
 use Rattle.formula_tree.specs.laws.PlacedEquations.{placed_parse_error}
-use Rattle.formula_tree.specs.declared.numbers.NumberRule.TheVariants.{Kept, NotNegative}
+use Rattle.formula_tree.specs.declared.numbers.NumberRule.TheVariants.{Canonical, NotNegative}
 use Rattle.formula_read.specs.Formula.{IsFormula}
 use Rattle.formula_read.proofs.Reading.{error_has, error_shallow, error_told, no_tree, same_tree}
 use Rattle.formula_read.proofs.read.formula_in.Goals as goal
@@ -23,8 +23,8 @@ returns-in-None-clause-placed c =
 pub returns-in-None-clause-shallow : goal.returns-in-None-clause-shallow
 returns-in-None-clause-shallow c = error_has c.args.text.now c.parse_error.result (λ tree. depth_of tree ≤ 64) (error_shallow c.args.text.now) c.parse_error.ensures.node
 
-pub returns-in-None-clause-kept : goal.returns-in-None-clause-kept
-returns-in-None-clause-kept c = error_has c.args.text.now c.parse_error.result (λ tree. has_kept_numbers tree ≡ true) (numbers_parse_error Kept c.args.text.now) c.parse_error.ensures.node
+pub returns-in-None-clause-canonical : goal.returns-in-None-clause-canonical
+returns-in-None-clause-canonical c = error_has c.args.text.now c.parse_error.result (λ tree. has_canonical_numbers tree ≡ true) (numbers_parse_error Canonical c.args.text.now) c.parse_error.ensures.node
 
 pub returns-in-None-clause-positive : goal.returns-in-None-clause-positive
 returns-in-None-clause-positive c =

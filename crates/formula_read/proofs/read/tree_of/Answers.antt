@@ -1,6 +1,6 @@
 use Rattle.std.proofs.Common.{rules, Some, option_map, ap, sym, ◌∙◌}
 use Rattle.std.specs.Str.{chars}
-use Rattle.formula_tree.specs.declared.numbers.NumberRule.TheVariants.{Kept, NotNegative}
+use Rattle.formula_tree.specs.declared.numbers.NumberRule.TheVariants.{Canonical, NotNegative}
 use Rattle.formula_lex.specs.Lexicon.{IsTokens}
 use Rattle.formula_read.proofs.Reading.{nothing_found, only_formula, same_answer, same_found}
 use Rattle.formula_read.proofs.Spelled.{spelled_follow}
@@ -12,10 +12,10 @@ returns-in-Some-clause-only c =
     (λ others spelled. ap Some c.as_slice.ensures.value ∙ ap (option_map (λ found. found.items)) (sym c.in-Some.is) ∙ c.in_ok-tokens.ensures.only others spelled)
     c.read_tokens.ensures.only
 
-pub returns-in-Some-clause-kept : goal.returns-in-Some-clause-kept
-returns-in-Some-clause-kept c =
+pub returns-in-Some-clause-canonical : goal.returns-in-Some-clause-canonical
+returns-in-Some-clause-canonical c =
     let spelled : IsTokens c.args.profile.locale c.args.profile.language (chars c.args.text.now) c.as_slice.result.now = search rules in
-    c.read_tokens.ensures.numbers Kept (spelled_follow Kept c.args.profile.locale c.args.profile.language (chars c.args.text.now) c.as_slice.result.now spelled)
+    c.read_tokens.ensures.numbers Canonical (spelled_follow Canonical c.args.profile.locale c.args.profile.language (chars c.args.text.now) c.as_slice.result.now spelled)
 
 pub returns-in-Some-clause-positive : goal.returns-in-Some-clause-positive
 returns-in-Some-clause-positive c =

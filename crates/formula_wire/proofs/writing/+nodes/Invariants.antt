@@ -1,6 +1,6 @@
 use Rattle.std.proofs.Common.{◌≡◌, ◌++◌, take}
 use Rattle.std.specs.List.{flat_map, list_all}
-use Rattle.formula_tree.specs.Numbers.{has_kept_numbers}
+use Rattle.formula_tree.specs.Numbers.{has_canonical_numbers}
 use Rattle.formula_wire.specs.Carried.{is_carried}
 use Rattle.formula_wire.specs.NodeBytes.{spell_node}
 use Rattle.formula_wire.proofs.writing.+nodes.Given as goal
@@ -9,4 +9,4 @@ use Rattle.formula_wire.proofs.writing.+nodes.Given as goal
 abbrev pub invariant-push_nodes-loop-node : goal.invariant-push_nodes-loop-node
 invariant-push_nodes-loop-node l =
     (l.out.items ≡ l.initial.out.items ++ flat_map spell_node (take l.node-index l.nodes)) ×
-    (list_all is_carried (take l.node-index l.nodes) ≡ list_all has_kept_numbers (take l.node-index l.nodes))
+    (list_all is_carried (take l.node-index l.nodes) ≡ list_all has_canonical_numbers (take l.node-index l.nodes))

@@ -1,8 +1,8 @@
 use Rattle.sheet_history.proofs.Placed.{placed_by_rules}
 use Rattle.sheet_history.proofs.apply.forward_in_place.Goals as goal
 
-pub apply_forward-requires-clause-placed : goal.apply_forward-requires-clause-placed
-apply_forward-requires-clause-placed c = placed_by_rules c.args.workbook.now c.requires.rules
+pub make-requires-clause-placed : goal.make-requires-clause-placed
+make-requires-clause-placed c = placed_by_rules c.args.workbook.now c.requires.rules
 
 pub made-requires-clause-placed : goal.made-requires-clause-placed
 made-requires-clause-placed c = placed_by_rules c.args.workbook.now c.requires.rules

@@ -7,16 +7,16 @@ use Rattle.line_map.specs.Attributes.{lines_restored}
 use Rattle.line_map.specs.Contents.{cell_carried, cell_restored}
 use Rattle.line_map.specs.Maps.{places_carried, places_restored}
 use Rattle.line_map.specs.Way.{back, way}
-use Rattle.sheet_grid.specs.KeptCell.{IsKeptCell, KeptCells}
+use Rattle.sheet_grid.specs.CanonicalCell.{IsCanonicalCell, CanonicalCells}
 use Rattle.sheet_lines.specs.Back.{with_lost, merges_back}
-use Rattle.sheet_lines.specs.laws.Stays.{HasKeptNumbers, back_are, numbers_stay}
+use Rattle.sheet_lines.specs.laws.Stays.{HasCanonicalNumbers, back_are, numbers_stay}
 use Rattle.sheet_lines.proofs.back.sheet_back.Goals as goal
 
 pub with_entries-requires : goal.with_entries-requires
 with_entries-requires g c =
-    subst KeptCells (sym c.in_ok-cells.ensures.map)
-    (back_are (way c.route_on-route.result) c.route_on-route.ensures.is (λ _. IsKeptCell)
-    (λ _. HasKeptNumbers) numbers_stay c.cell_map-cells.result.now c.cell_map-cells.ensures.kept
+    subst CanonicalCells (sym c.in_ok-cells.ensures.map)
+    (back_are (way c.route_on-route.result) c.route_on-route.ensures.is (λ _. IsCanonicalCell)
+    (λ _. HasCanonicalNumbers) numbers_stay c.cell_map-cells.result.now c.cell_map-cells.ensures.canonical
     c.args.kept.now.cells _ c.requires.numbers.cells (λ p. c.requires.numbers.formulas (place_on c.get_sheet_id-id.result p)))
 
 pub returns-clause-sheet : goal.returns-clause-sheet

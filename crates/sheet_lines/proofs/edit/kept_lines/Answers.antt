@@ -17,7 +17,7 @@ use Rattle.line_map.specs.laws.MergeLaws.{merges_part_fits}
 use Rattle.sheet_grid.specs.Book.{Book}
 use Rattle.sheet_grid.specs.declared.Cell.{Cell}
 use Rattle.sheet_grid.specs.Sheet.{Sheet}
-use Rattle.sheet_grid.specs.KeptCell.{IsKeptCell, KeptCells}
+use Rattle.sheet_grid.specs.CanonicalCell.{IsCanonicalCell, CanonicalCells}
 use Rattle.sheet_lines.specs.Followed.{way_of, way_on}
 use Rattle.sheet_lines.specs.Kept.{lines_of, of_sheet, cells_lost, first_lost, formulas_kept, merges_kept}
 use Rattle.sheet_lines.specs.Sheets.{sheet_of, name_of, IsPlacedSheet, IsPlacedBook}
@@ -47,14 +47,14 @@ returns-clause-kept g c =
     let found : sheet_of book edited.id ≡ Some sheet = sym c.sheet_of.ensures ∙ ap option_copied c.in-Some.is in
     let it : (sheet.id == edited.id) ≡ true = found_passes (λ s. s.id == edited.id) book.worksheets sheet found in
     λ i. record {
-      cells = (lost_are a moves edited.id book sheet c.unwrap.result found (sym c.requires.lost ∙ c.unwrap.ensures) ∙ sym (ap (of_sheet (cells_lost a moves)) found)) i;
-      links = (c.in_ok-links.ensures.map
-          ∙ (λ j. lost_map (place_goes (c.route_on-route.ensures.way j)) (c.link_map-links.ensures j))
+      cells = (lost_are a moves edited.id book sheet c.unwrap.result found (sym c.requires.lost ∙ c.unwrap.ensures)
+          ∙ sym (ap (of_sheet (cells_lost a moves)) found)) i;
+      links = (c.in_ok-links.ensures.links
           ∙ lost_places (way_on edited sheet) it sheet.links
           ∙ sym (ap (of_sheet (λ s. lost_map (place_image a moves.to) s.links)) found)) i;
       lines = (c.in_ok-lines.ensures.lines ∙ sym (ap (of_sheet (λ s. lost_map moves.to (lines_of a s))) found)) i;
       merges = (c.in_ok-merges.ensures.part
-          ∙ (λ j. merges_part (c.route_on-route.ensures.way j) (c.merge_list.ensures j))
+          ∙ (λ j. merges_part (c.route_on.ensures.way j) (c.merge_list.ensures j))
           ∙ (λ j. merges_part (way_of a moves edited.id (c.requires.name j) sheet) sheet.merges)
           ∙ sym (ap (merges_kept a moves edited.id (name_of (sheet_of book edited.id))) found)) i;
       formulas = (c.requires.formulas ∙ (λ j. formulas_kept a moves edited.id (c.requires.name j) book.worksheets)) i;
@@ -66,11 +66,11 @@ returns-clause-numbers g c =
     let edited = c.args.edited.now in
     let moves = g.M.LineMap.moves edited.map.now in
     let sheet = c.in-Some.sheet.now in record {
-      cells = subst KeptCells (sym (lost_are a moves edited.id c.args.workbook.now sheet c.unwrap.result
+      cells = subst CanonicalCells (sym (lost_are a moves edited.id c.args.workbook.now sheet c.unwrap.result
           (sym c.sheet_of.ensures ∙ ap option_copied c.in-Some.is) (sym c.requires.lost ∙ c.unwrap.ensures)))
-          (each_lost position_cmp position_total exact_positions (λ _. IsKeptCell) (place_image a moves.to) sheet.cells
-          (subst KeptCells c.cell_map.ensures.map c.cell_map.ensures.kept));
-      formulas = c.requires.kept_numbers;
+          (each_lost position_cmp position_total exact_positions (λ _. IsCanonicalCell) (place_image a moves.to) sheet.cells
+          (subst CanonicalCells c.cell_map.ensures.map c.cell_map.ensures.canonical));
+      formulas = c.requires.canonical;
     }
 
 pub returns-clause-inside : goal.returns-clause-inside
@@ -84,14 +84,14 @@ returns-clause-inside g c =
       cells = subst KeysInside (sym (lost_are a moves edited.id book sheet c.unwrap.result found (sym c.requires.lost ∙ c.unwrap.ensures)))
           (keys_lost position_cmp position_total exact_positions IsPlace (place_image a moves.to) sheet.cells
           (subst KeysInside c.cell_map.ensures.map c.places_inside.ensures));
-      links = subst KeysInside (sym c.in_ok-links.ensures.map)
-          (keys_lost position_cmp position_total exact_positions IsPlace (place_goes (way c.route_on-route.result))
-          c.link_map-links.result.now c.places_inside-2.ensures);
+      links = subst KeysInside (sym c.in_ok-links.ensures.links)
+          (keys_lost position_cmp position_total exact_positions IsPlace (place_goes (way_on edited sheet)) sheet.links
+          (subst KeysInside c.link_map.ensures c.places_inside-2.ensures));
       lines = subst (LinesLie a) (sym c.in_ok-lines.ensures.lines)
           (lost_lines_lie a g.met.A.Axis.lawful sheet (subst (LinesLie rows) c.row_map.ensures c.lines_inside.ensures)
           (subst (LinesLie columns) c.column_map.ensures c.lines_inside-2.ensures) moves.to);
       merges = subst (λ o. IfSome o MergesLie) (sym c.in_ok-merges.ensures.part)
-          (holds_of MergesLie (merges_part (way c.route_on-route.result) c.merge_list.result.now)
-          (merges_part_fits (way c.route_on-route.result) c.route_on-route.ensures.is c.merge_list.result.now
+          (holds_of MergesLie (merges_part (way c.route_on.result) c.merge_list.result.now)
+          (merges_part_fits (way c.route_on.result) c.route_on.ensures.is c.merge_list.result.now
           (subst MergesLie (sym c.merge_list.ensures) (merges_lie book edited.id sheet c.requires.placed found))));
     }

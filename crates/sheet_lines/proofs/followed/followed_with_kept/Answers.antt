@@ -1,7 +1,8 @@
-use Rattle.std.proofs.Common.{rules, ℕ, Bool, true, false, List, [], ◌∷◌, ◌++◌, ◌+◌, ◌<◌, length, map, take, get_or, Option, Some, None, refl, ap, sym, subst, ◌∙◌, arith}
+use Rattle.std.proofs.Common.{rules, ℕ, Bool, true, false, List, [], ◌∷◌, ◌++◌, ◌+◌, ◌<◌, length, map, take, get_or, Option, Some, None, refl}
+use Rattle.std.proofs.Common.{ap, sym, subst, ◌∙◌, arith}
 use Rattle.std.specs.Prelude.{◌≡◌, ◌==◌, cond, IsTrue}
 use Rattle.std.specs.Bool.{then_some}
-use Rattle.std.specs.FinMap.{FinMap, empty}
+use Rattle.std.specs.FinMap.{empty}
 use Rattle.std.specs.List.{find}
 use Rattle.std.specs.Option.{option_map, option_or}
 use Rattle.std.proofs.lemmas.List.{map_more, take_more}
@@ -13,13 +14,13 @@ use Rattle.base_maps.specs.SheetPlaces.{sheet_place_cmp}
 use Rattle.base_maps.specs.Tagged.{put_under}
 use Rattle.base_maps.specs.laws.Each.{no_entry}
 use Rattle.base_maps.specs.laws.Tagged.{put_under_are}
-use Rattle.formula_tree.specs.Numbers.{has_kept_numbers}
+use Rattle.formula_tree.specs.Numbers.{has_canonical_numbers}
 use Rattle.line_edits.specs.Moves.{LineMoves}
 use Rattle.line_map.specs.Way.{place_goes}
 use Rattle.sheet_grid.specs.Sheet.{Sheet}
 use Rattle.sheet_lines.specs.Followed.{way_of, way_on, sheet_followed}
 use Rattle.sheet_lines.specs.Kept.{cells_lost, first_lost, trees_kept, formulas_kept}
-use Rattle.sheet_lines.specs.KeptNumbers.{AreKeptFormulas}
+use Rattle.sheet_lines.specs.CanonicalNumbers.{AreCanonicalFormulas}
 use Rattle.sheet_lines.specs.laws.Stays.{lost_places}
 use Rattle.sheet_lines.proofs.followed.followed_with_kept.Goals as goal
 
@@ -50,7 +51,7 @@ loop-sheet-init g c = (
     refl,
     (
       c.new-formulas.ensures,
-      subst AreKeptFormulas (sym c.new-formulas.ensures) (no_entry sheet_place_cmp (λ _ tree. IsTrue (has_kept_numbers tree))),
+      subst AreCanonicalFormulas (sym c.new-formulas.ensures) (no_entry sheet_place_cmp (λ _ tree. IsTrue (has_canonical_numbers tree))),
     ),
   ),
 )
@@ -80,8 +81,9 @@ loop-sheet-preserved g c =
               ∙ sym (fold_more (λ made sheet. put_under sheet.id (trees_of sheet) made) empty sheets i c.sheet-item.result within
               ∙ ap (λ sheet. put_under sheet.id (trees_of sheet) (formulas_kept a moves edited.id edited.name.now
               (take i sheets))) (sym c.sheet-item.is)),
-          subst AreKeptFormulas (sym c.in_ok-kept.ensures.formulas)
-              (put_under_are (λ tree. IsTrue (has_kept_numbers tree)) c.sheet-item.result.id _ c.loop-sheet.kept.formulas kept.numbers c.loop-sheet.invariant.1.1.1),
+          subst AreCanonicalFormulas (sym c.in_ok-kept.ensures.formulas)
+              (put_under_are (λ tree. IsTrue (has_canonical_numbers tree)) c.sheet-item.result.id _ c.loop-sheet.kept.formulas
+              kept.numbers c.loop-sheet.invariant.1.1.1),
         ),
       ),
     )

@@ -1,4 +1,4 @@
-use Rattle.std.proofs.Common.{◌≡◌, ℕ, Option, Some, ap, sym, ◌∙◌}
+use Rattle.std.proofs.Common.{◌≡◌, ℕ, Some, ap, sym, ◌∙◌}
 use Rattle.std.specs.Prelude.{◌==◌}
 use Rattle.std.specs.Cmp.{int_cmp_total}
 use Rattle.std.specs.FinMap.{FinMap, get}
@@ -36,7 +36,8 @@ returns-clause-cells g c edited sheet q =
     (goes_inverse w (way_is a g.met.A.Axis.lawful e c.requires.valid c.args.sheet_id edited sheet)) (λ p q x. cell_carried (at w p q) x) sheet.cells q
 
 -- what is lost of the edited sheet by place
-lost_entries : {X : Type 0} (a : Along) (e : EditKind) (id : ℕ) (book : Book) (sheet : Sheet) (m : FinMap position_cmp X) → sheet_of book id ≡ Some sheet → (p : Position) →
+lost_entries : {X : Type 0} (a : Along) (e : EditKind) (id : ℕ) (book : Book) (sheet : Sheet) (m : FinMap position_cmp X) →
+    sheet_of book id ≡ Some sheet → (p : Position) →
     get (lost_map (place_image a (edit_moves a.last e).to) m) p ≡ entry_lost (way_of_edit a e id book sheet) m p
 lost_entries a e id book sheet m found p =
     let w = way_of_edit a e id book sheet in

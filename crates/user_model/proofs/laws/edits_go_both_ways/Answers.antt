@@ -3,11 +3,12 @@ use Rattle.sheet_grid.specs.Book.{Book}
 use Rattle.sheet_rules.specs.WellFormed.{IsWellFormed}
 use Rattle.edit_plans.specs.Plans.{HasRecord}
 use Rattle.edit_plans.specs.Edits.{Edit, IsGiven, changed, is_of_entries}
-use Rattle.edit_plans.specs.Edits.Edit.{Input, ArrayInput, SetLink, Merge, Unmerge, Lines, MoveLines}
+use Rattle.edit_plans.specs.Edits.Edit.{Input, ArrayInput, SetLink, Merge, Unmerge, Lines, MoveLines, AddSheet, CopySheet, DeleteSheet, MoveSheet, SetField}
 use Rattle.user_model.specs.BothWays.{GoesBothWays}
 use Rattle.user_model.proofs.EntrySteps.{of_entries, entries_both}
 use Rattle.user_model.proofs.LineSteps.{lines_go_both_ways}
 use Rattle.user_model.proofs.MoveSteps.{moves_go_both_ways}
+use Rattle.user_model.proofs.SheetSteps.{sheets_both}
 use Rattle.user_model.proofs.laws.edits_go_both_ways.Goals as goal
 
 pub returns : goal.returns
@@ -29,3 +30,8 @@ returns c = go
         lines_go_both_ways index axis kind earlier later rules how
     go (MoveLines index axis first count delta) earlier later rules given how =
         moves_go_both_ways index axis first count delta earlier later rules how
+    go AddSheet earlier later rules given how = sheets_both c.sheet_edits_go_both_ways.ensures AddSheet refl earlier later rules how
+    go (CopySheet index) earlier later rules given how = sheets_both c.sheet_edits_go_both_ways.ensures (CopySheet index) refl earlier later rules how
+    go (DeleteSheet index) earlier later rules given how = sheets_both c.sheet_edits_go_both_ways.ensures (DeleteSheet index) refl earlier later rules how
+    go (MoveSheet from to) earlier later rules given how = sheets_both c.sheet_edits_go_both_ways.ensures (MoveSheet from to) refl earlier later rules how
+    go (SetField index value) earlier later rules given how = by_law (SetField index value) earlier later refl rules given how

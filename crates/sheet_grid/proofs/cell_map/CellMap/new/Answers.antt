@@ -1,7 +1,7 @@
 use Rattle.std.proofs.Common.{sym, subst}
 use Rattle.std.specs.FinMap.{empty}
 use Rattle.sheet_grid.specs.ArrayIndex.{IsIndexed}
-use Rattle.sheet_grid.proofs.Kepts.{indexed_empty}
+use Rattle.sheet_grid.proofs.Canonicals.{indexed_empty}
 use Rattle.sheet_grid.proofs.cell_map.CellMap.new.Goals as goal
 
 pub invariant_of-result : goal.invariant_of-result

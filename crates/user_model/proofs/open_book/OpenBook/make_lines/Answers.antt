@@ -2,9 +2,9 @@ use Rattle.std.proofs.Common.{sym, subst}
 use Rattle.base_values.specs.Answers.{Edits}
 use Rattle.line_edits.specs.Edit.{IsValid}
 use Rattle.sheet_history.specs.declared.Diff.TheVariants.{Lines as LinesDiff}
-use Rattle.sheet_history.specs.Depth.{AreShallowLines}
+use Rattle.sheet_history.specs.laws.Depth.{AreShallowLines}
 use Rattle.sheet_history.specs.LineDiffs.{along_of}
-use Rattle.sheet_wire.specs.LinesBytes.{IsKeptOfLines}
+use Rattle.sheet_wire.specs.laws.Fitting.{IsKeptOfLines}
 use Rattle.sheet_wire.specs.laws.Fitting.{known_diff}
 use Rattle.sheet_history.specs.laws.LineRecords.{along_lawful}
 use Rattle.sheet_history.specs.laws.LineLaws.{kept_shallow}
@@ -26,8 +26,8 @@ line_edit-requires-clause-there g c = sheet_there (along_of c.args.axis) c.args.
 pub line_edit-requires-clause-placed : goal.line_edit-requires-clause-placed
 line_edit-requires-clause-placed g c = placed_from_well_formed c.args.self.now.workbook c.requires.edit.rules
 
-pub lines_change-requires-clause-kept : goal.lines_change-requires-clause-kept
-lines_change-requires-clause-kept g c = (c.in_ok-later.ensures {u = _}).numbers
+pub lines_change-requires-clause-canonical : goal.lines_change-requires-clause-canonical
+lines_change-requires-clause-canonical g c = (c.in_ok-later.ensures {u = _}).numbers
 
 pub lines_change-requires-clause-known : goal.lines_change-requires-clause-known
 lines_change-requires-clause-known g c =

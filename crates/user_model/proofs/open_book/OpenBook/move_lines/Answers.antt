@@ -3,7 +3,6 @@ use Rattle.std.proofs.lemmas.Int.{to_z-of_z}
 use Rattle.std.proofs.lemmas.Result.{err_from_is_err_and}
 use Rattle.std.specs.Prelude.{OnOk}
 use Rattle.base_values.specs.Answers.{Changes}
-use Rattle.sheet_history.specs.LineDiffs.{along_of}
 use Rattle.edit_plans.specs.HiddenLines.{grown}
 use Rattle.edit_plans.specs.Edits.{grown_move, is_silent}
 use Rattle.edit_plans.specs.Edits.Edit.{Lines, MoveLines}
@@ -20,28 +19,28 @@ pub returns-then-is_silent-clause-document : goal.returns-then-is_silent-clause-
 returns-then-is_silent-clause-document g c =
     let count_fits : SFits w32 c.args.count = c.ranges.count in
     let delta_fits : SFits w32 c.args.delta = c.ranges.delta in
-    let silent : is_silent (MoveLines c.args.sheet c.args.axis c.args.first c.args.count c.args.delta) ≡ true = sym (simp to_z-of_z at c.is_silent.ensures) ∙ c.if-is_silent.true in
+    let silent : is_silent (MoveLines c.args.sheet c.args.axis c.args.first c.args.count c.args.delta) c.args.self.now.workbook ≡ true = sym (simp to_z-of_z at c.is_silent.ensures) ∙ c.if-is_silent.true in
     record { done = silent_document c.args.sheet c.args.axis c.args.first c.args.count c.args.delta (document_in c.args.self.now) silent; refused = tt; memory = tt }
 
 pub returns-then-is_silent-clause-sound : goal.returns-then-is_silent-clause-sound
 returns-then-is_silent-clause-sound g c =
     let count_fits : SFits w32 c.args.count = c.ranges.count in
     let delta_fits : SFits w32 c.args.delta = c.ranges.delta in
-    let silent : is_silent (MoveLines c.args.sheet c.args.axis c.args.first c.args.count c.args.delta) ≡ true = sym (simp to_z-of_z at c.is_silent.ensures) ∙ c.if-is_silent.true in
+    let silent : is_silent (MoveLines c.args.sheet c.args.axis c.args.first c.args.count c.args.delta) c.args.self.now.workbook ≡ true = sym (simp to_z-of_z at c.is_silent.ensures) ∙ c.if-is_silent.true in
     λ loud. absurd (true≢false (sym silent ∙ loud))
 
 pub returns-then-is_silent-clause-made : goal.returns-then-is_silent-clause-made
 returns-then-is_silent-clause-made g c =
     let count_fits : SFits w32 c.args.count = c.ranges.count in
     let delta_fits : SFits w32 c.args.delta = c.ranges.delta in
-    let silent : is_silent (MoveLines c.args.sheet c.args.axis c.args.first c.args.count c.args.delta) ≡ true = sym (simp to_z-of_z at c.is_silent.ensures) ∙ c.if-is_silent.true in
+    let silent : is_silent (MoveLines c.args.sheet c.args.axis c.args.first c.args.count c.args.delta) c.args.self.now.workbook ≡ true = sym (simp to_z-of_z at c.is_silent.ensures) ∙ c.if-is_silent.true in
     subst (λ b. Makes b g.R.Recalc.Fits (session_of c.args.self.now c.args.results.now) (session_of c.args.self.now c.args.results.now)) (sym silent) refl
 
 pub returns-in-Some-clause-made : goal.returns-in-Some-clause-made
 returns-in-Some-clause-made g c =
     let count_fits : SFits w32 c.args.count = c.ranges.count in
     let delta_fits : SFits w32 c.args.delta = c.ranges.delta in
-    let loud : is_silent (MoveLines c.args.sheet c.args.axis c.args.first c.args.count c.args.delta) ≡ false = sym (simp to_z-of_z at c.is_silent.ensures) ∙ c.if-is_silent.false in
+    let loud : is_silent (MoveLines c.args.sheet c.args.axis c.args.first c.args.count c.args.delta) c.args.self.now.workbook ≡ false = sym (simp to_z-of_z at c.is_silent.ensures) ∙ c.if-is_silent.false in
     subst (λ b. OnOk c.edit_lines.result (Makes b g.R.Recalc.Fits (session_of c.args.self.now c.args.results.now) (session_of c.edit_lines.new.self c.edit_lines.new.results))) (sym loud)
     c.edit_lines.ensures.made
 
@@ -49,7 +48,7 @@ pub returns-in_err-found-clause-document : goal.returns-in_err-found-clause-docu
 returns-in_err-found-clause-document g c =
     let count_fits : SFits w32 c.args.count = c.ranges.count in
     let delta_fits : SFits w32 c.args.delta = c.ranges.delta in
-    let loud : is_silent (MoveLines c.args.sheet c.args.axis c.args.first c.args.count c.args.delta) ≡ false = sym (simp to_z-of_z at c.is_silent.ensures) ∙ c.if-is_silent.false in
+    let loud : is_silent (MoveLines c.args.sheet c.args.axis c.args.first c.args.count c.args.delta) c.args.self.now.workbook ≡ false = sym (simp to_z-of_z at c.is_silent.ensures) ∙ c.if-is_silent.false in
     let error = c.in_err-found.field-0.0 in
     let p = err_from_is_err_and c.from_residual.result c.from_residual.ensures.1 in
     rw (p.1, p.2) (record {
@@ -66,7 +65,7 @@ returns-in-Some-clause-document g c =
     let first_fits : SFits w32 c.args.first = c.ranges.first in
     let count_fits : SFits w32 c.args.count = c.ranges.count in
     let delta_fits : SFits w32 c.args.delta = c.ranges.delta in
-    let loud : is_silent (MoveLines c.args.sheet c.args.axis c.args.first c.args.count c.args.delta) ≡ false = sym (simp to_z-of_z at c.is_silent.ensures) ∙ c.if-is_silent.false in
+    let loud : is_silent (MoveLines c.args.sheet c.args.axis c.args.first c.args.count c.args.delta) c.args.self.now.workbook ≡ false = sym (simp to_z-of_z at c.is_silent.ensures) ∙ c.if-is_silent.false in
     let doc = document_in c.args.self.now in
     let sheet = c.in_ok-found.found.now in
     let near : c.in-Some.kind ≡ grown_move g.A.Axis.along c.args.first c.args.count c.args.delta sheet = simp to_z-of_z at (c.in-Some.ensures {u = _}).near in
@@ -94,7 +93,7 @@ returns-in-None-clause-document g c =
     let first_fits : SFits w32 c.args.first = c.ranges.first in
     let count_fits : SFits w32 c.args.count = c.ranges.count in
     let delta_fits : SFits w32 c.args.delta = c.ranges.delta in
-    let loud : is_silent (MoveLines c.args.sheet c.args.axis c.args.first c.args.count c.args.delta) ≡ false = sym (simp to_z-of_z at c.is_silent.ensures) ∙ c.if-is_silent.false in
+    let loud : is_silent (MoveLines c.args.sheet c.args.axis c.args.first c.args.count c.args.delta) c.args.self.now.workbook ≡ false = sym (simp to_z-of_z at c.is_silent.ensures) ∙ c.if-is_silent.false in
     let sheet = c.in_ok-found.found.now in
     let far : is_far (grown g.A.Axis.along sheet c.args.first c.args.count c.args.delta) ≡ true = simp to_z-of_z at c.in-None.ensures.far in
     record {

@@ -1,11 +1,11 @@
-use Rattle.std.proofs.Common.{◌≡◌, ◌+◌, ◌<◌, ◌≤◌, Ok, ◌∷◌, ◌++◌, [], List, length, drop, take, refl, sym, ap, subst, ◌∙◌, rules}
+use Rattle.std.proofs.Common.{◌≡◌, ◌+◌, ◌<◌, ◌≤◌, Ok, ◌∷◌, ◌++◌, [], length, drop, take, refl, sym, ap, ◌∙◌, rules}
 use Rattle.std.proofs.lemmas.Result.{err_from_is_err_and}
 use Rattle.std.proofs.lemmas.List.{drop_more, take_more}
 use Rattle.sheet_history.specs.declared.QueueDiffs.{QueueDiffs}
 use Rattle.sheet_history.specs.Diffs.{follow}
 use Rattle.user_model.specs.Machine.{outside}
 use Rattle.user_model.specs.Opened.{document_in, session_of}
-use Rattle.user_model.proofs.Moving.{edits_same, received_turns, reached_rules}
+use Rattle.user_model.proofs.Moving.{received_turns, reached_rules}
 use Rattle.user_model.proofs.Received.{drop_all, made_all, made_next, made_refused, reached_start, reached_next, reached_refused, reached_end}
 use Rattle.user_model.proofs.open_book.OpenBook.receive_all.Goals as goal
 
@@ -55,7 +55,7 @@ returns-in_err-receive-clause-made g c =
     let p = err_from_is_err_and c.from_residual.result c.from_residual.ensures.1 in
     rw (p.1, p.2) (made_refused g.R.Recalc.Fits (session_of c.args.self.now c.args.results.now) (session_of c.loop-index.self c.loop-index.results) _
     (λ j. record { document = c.in_err-receive.ensures.document.refused.0 j; values = (c.in_err-receive.ensures.err j).values; paused = (c.in_err-receive.ensures.err j).paused })
-    c.args.queue.now i (follow e.kind reached.now.present e.list) (outside reached.now) c.loop-index.invariant.1 c.in_err-receive.field-0.0 to.refused)
+    c.args.queue.now i (follow e.kind reached.now.present e.list) (outside e reached.now) c.loop-index.invariant.1 c.in_err-receive.field-0.0 to.refused)
 
 pub returns-in_err-receive-clause-paused : goal.returns-in_err-receive-clause-paused
 returns-in_err-receive-clause-paused g c = c.receive.ensures.paused ∙ c.loop-index.invariant.2

@@ -1,9 +1,7 @@
-use Rattle.std.proofs.Common.{◌≡◌, ◌⊎◌, ap, inl, inr, refl, sym, subst, ◌∙◌}
+use Rattle.std.proofs.Common.{◌≡◌, ◌⊎◌, inr, refl, sym, subst, ◌∙◌}
 use Rattle.std.proofs.lemmas.Result.{err_from_is_err_and}
-use Rattle.sheet_history.specs.declared.QueueDiffs.{QueueDiffs}
-use Rattle.sheet_history.specs.Diffs.{IsKeptQueue}
-use Rattle.sheet_wire.specs.laws.Fitting.{kept_queue_from_fits}
-use Rattle.user_model.specs.Machine.{State}
+use Rattle.sheet_history.specs.Diffs.{IsCanonicalQueue}
+use Rattle.sheet_wire.specs.laws.Fitting.{canonical_queue_from_fits}
 use Rattle.user_model.specs.Opened.{document_in, session_of}
 use Rattle.user_model.specs.Stands.{StandsFor, Leaves}
 use Rattle.user_model.specs.Values.{Session, IsMade, LeavesMade}
@@ -12,8 +10,8 @@ use Rattle.user_model.proofs.Received.{carried_only, carried_there, left_made}
 use Rattle.user_model.proofs.Refusals.{never_unread}
 use Rattle.user_model.proofs.user_model.UserModel.apply_external_diffs.Goals as goal
 
-pub receive_all-requires-clause-kept : goal.receive_all-requires-clause-kept
-receive_all-requires-clause-kept g c = subst IsKeptQueue (sym c.as_slice.ensures.items) (kept_queue_from_fits c.in_ok-queue.queue (c.in_ok-queue.ensures {u = _}).fits)
+pub receive_all-requires-clause-canonical : goal.receive_all-requires-clause-canonical
+receive_all-requires-clause-canonical g c = subst IsCanonicalQueue (sym c.as_slice.ensures.items) (canonical_queue_from_fits c.in_ok-queue.queue (c.in_ok-queue.ensures {u = _}).fits)
 
 pub receive_all-requires-clause-reached : goal.receive_all-requires-clause-reached
 receive_all-requires-clause-reached g c = c.self.invariant

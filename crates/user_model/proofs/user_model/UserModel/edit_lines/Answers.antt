@@ -1,11 +1,10 @@
 use Rattle.std.proofs.Common.{subst}
-use Rattle.std.specs.Prelude.{OnOk}
-use Rattle.edit_plans.specs.Edits.{Edit, is_silent}
+use Rattle.edit_plans.specs.Edits.{Edit}
 use Rattle.edit_plans.specs.Edits.Edit.{Lines}
 use Rattle.user_model.specs.Machine.{State, edit_of}
-use Rattle.user_model.specs.Opened.{document_in, session_of}
+use Rattle.user_model.specs.Opened.{document_in}
 use Rattle.user_model.specs.Stands.{StandsFor, Moves}
-use Rattle.user_model.specs.Values.{Session, Makes}
+use Rattle.user_model.specs.Values.{Session}
 use Rattle.user_model.proofs.Moving.{changes_same, edit_moves, reached_by, reached_rules, same_session}
 use Rattle.user_model.proofs.user_model.UserModel.edit_lines.Goals as goal
 

@@ -1,4 +1,4 @@
-use Rattle.std.proofs.Common.{rules, refl, ap, sym, subst, ◌∙◌}
+use Rattle.std.proofs.Common.{rules, ap, sym, subst, ◌∙◌}
 use Rattle.sheet_wire.specs.QueueBytes.{spell_queue, FitsQueue, IsKnownQueue}
 use Rattle.user_model.specs.Machine.{synced_of}
 use Rattle.user_model.specs.Opened.{document_in}

@@ -9,8 +9,8 @@ plan_merge-plan-requires g c = record { rules = reached_rules (document_in c.sel
 
 pub make-requires : goal.make-requires
 make-requires g c =
-    (Merge c.args.sheet c.args.area, plan_of _ c.plan_merge-plan.result c.self.inside.book c.self.inside.results _ c.self.view_is refl c.plan_merge-plan.ensures.planned)
+    (Merge c.args.sheet c.args.area, plan_of _ c.plan_merge-plan.result _ c.self.inside.book c.self.inside.results _ c.self.view_is c.self.invariant (λ accepted. refl) refl c.plan_merge-plan.ensures.planned)
 
 pub returns-clause-next : goal.returns-clause-next
 returns-clause-next g c = λ state.
-    c.make.ensures.next _ state (plan_of (Merge c.args.sheet c.args.area) c.plan_merge-plan.result c.self.inside.book c.self.inside.results _ c.self.view_is refl c.plan_merge-plan.ensures.planned)
+    c.make.ensures.next _ state (plan_of (Merge c.args.sheet c.args.area) c.plan_merge-plan.result _ c.self.inside.book c.self.inside.results _ c.self.view_is c.self.invariant (λ accepted. refl) refl c.plan_merge-plan.ensures.planned)

@@ -27,7 +27,7 @@ returns-clause-made g c =
     let first_fits : SFits w32 c.args.first = c.ranges.first in
     let count_fits : SFits w32 c.args.count = c.ranges.count in
     let delta_fits : SFits w32 c.args.delta = c.ranges.delta in
-    subst (λ (seen : Session). OnOk c.move_lines.result (Makes (is_silent (MoveLines c.args.sheet c.args.axis c.args.first c.args.count c.args.delta)) g.R.Recalc.Fits seen
+    subst (λ (seen : Session). OnOk c.move_lines.result (Makes (is_silent (MoveLines c.args.sheet c.args.axis c.args.first c.args.count c.args.delta) seen.document.book) g.R.Recalc.Fits seen
     (session_of c.move_lines.new.self c.move_lines.new.results))) c.self.view_is (simp to_z-of_z at c.move_lines.ensures.made)
 
 pub returns-clause-err : goal.returns-clause-err

@@ -9,8 +9,8 @@ plan_array-plan-requires-clause-rules g c = reached_rules (document_in c.self.in
 
 pub make-requires : goal.make-requires
 make-requires g c =
-    (ArrayInput c.args.sheet c.args.area c.args.tree, plan_of _ c.plan_array-plan.result c.self.inside.book c.self.inside.results _ c.self.view_is refl c.plan_array-plan.ensures.planned)
+    (ArrayInput c.args.sheet c.args.area c.args.tree, plan_of _ c.plan_array-plan.result _ c.self.inside.book c.self.inside.results _ c.self.view_is c.self.invariant (λ accepted. refl) refl c.plan_array-plan.ensures.planned)
 
 pub returns-clause-next : goal.returns-clause-next
 returns-clause-next g c = λ state.
-    c.make.ensures.next _ state (plan_of (ArrayInput c.args.sheet c.args.area c.args.tree) c.plan_array-plan.result c.self.inside.book c.self.inside.results _ c.self.view_is refl c.plan_array-plan.ensures.planned)
+    c.make.ensures.next _ state (plan_of (ArrayInput c.args.sheet c.args.area c.args.tree) c.plan_array-plan.result _ c.self.inside.book c.self.inside.results _ c.self.view_is c.self.invariant (λ accepted. refl) refl c.plan_array-plan.ensures.planned)

@@ -5,7 +5,7 @@ use Rattle.base_values.specs.declared.EditError.{EditError}
 use Rattle.base_values.specs.declared.EditError.TheVariants.{NoMemory}
 use Rattle.edit_plans.specs.Edits.{Edit}
 use Rattle.edit_plans.specs.Edits.Edit.{SetLink}
-use Rattle.user_model.specs.Machine.{State, edit_of}
+use Rattle.user_model.specs.Machine.{edit_of}
 use Rattle.user_model.specs.Places.{link_goes}
 use Rattle.user_model.specs.Reading.{link_to}
 use Rattle.user_model.specs.Stands.{Moves}

@@ -11,7 +11,7 @@ use Rattle.formula_read.specs.Formula.{formula_of}
 use Rattle.cell_content.specs.Fitting.{tree_fits_at}
 use Rattle.edit_plans.specs.Edits.{Edit}
 use Rattle.edit_plans.specs.Edits.Edit.{ArrayInput}
-use Rattle.user_model.specs.Machine.{State, edit_of}
+use Rattle.user_model.specs.Machine.{edit_of}
 use Rattle.user_model.specs.Places.{array_goes}
 use Rattle.user_model.specs.Reading.{formula_typed, profile_at, rectangle, without_sign}
 use Rattle.user_model.specs.Stands.{Moves}

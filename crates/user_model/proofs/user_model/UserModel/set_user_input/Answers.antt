@@ -8,7 +8,7 @@ use Rattle.cell_input.specs.Inputs.{input_of}
 use Rattle.edit_plans.specs.Edits.{Edit}
 use Rattle.edit_plans.specs.Edits.Edit.{Input}
 use Rattle.edit_plans.specs.Inputs.{IsInput}
-use Rattle.user_model.specs.Machine.{State, edit_of}
+use Rattle.user_model.specs.Machine.{edit_of}
 use Rattle.user_model.specs.Places.{input_goes}
 use Rattle.user_model.specs.Reading.{profile_at, typed}
 use Rattle.user_model.specs.Stands.{Moves}

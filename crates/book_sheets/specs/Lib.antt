@@ -1,0 +1,2 @@
+pub mod SheetDiffs
+pub mod laws

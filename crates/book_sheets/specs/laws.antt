@@ -1,0 +1,3 @@
+pub mod KeptSheetEquals
+pub mod Placed
+pub mod SheetRules

@@ -1,0 +1,65 @@
+//! Whether arrays and merges lie inside the sheet, and formulas fit their places.
+
+ghost use Rattle.std.specs.Prelude.{◌≡◌};
+ghost use Rattle.std.specs.List.{list_all};
+ghost use Rattle.std.specs.FinMap.{entries};
+ghost use Rattle.base_axis.specs.Rectangles.{is_inside};
+ghost use Rattle.base_values.specs.declared.Position.{Position};
+ghost use Rattle.sheet_grid.specs.Arrays.{array_at};
+ghost use Rattle.sheet_grid.specs.declared.Cell.{Cell};
+ghost use Rattle.book_sheets.specs.SheetDiffs.{lies_inside, sheet_lies_inside, cells_fit};
+
+use base_axis::{MergeList, MergedCell};
+use base_shared::Shared;
+use base_values::{PlaceMap, Position};
+use cell_content::fits_at;
+use sheet_grid::{Cell, Worksheet, array_at};
+
+fn lies_inside(rectangle: Option<MergedCell>) -> bool
+    ensures { result ≡ lies_inside rectangle }
+{
+    match rectangle {
+        Some(rectangle) => rectangle.is_inside(),
+        None => true,
+    }
+}
+
+/// Whether an array at a place lies inside the sheet. A cell that is no array does.
+pub fn array_lies_inside(place: Position, cell: &Cell) -> bool
+    ensures { result ≡ lies_inside (array_at place cell.now.content) }
+{
+    lies_inside(array_at(place, &cell.content))
+}
+
+/// Whether each merge lies inside the sheet.
+pub fn merges_lie_inside(merges: &MergeList) -> bool
+    ensures { result ≡ list_all is_inside merges.now }
+{
+    merges.as_slice().iter().all(|merge| merge.is_inside())
+}
+
+fn arrays_lie_inside(sheet: &Worksheet) -> bool
+    ensures { result ≡ list_all (λ (entry : Position × Cell). lies_inside (array_at entry.0 entry.1.content)) (entries sheet.now.cells) }
+{
+    sheet
+        .cells()
+        .all(|(place, cell)| array_lies_inside(*place, cell.get()))
+}
+
+/// Whether each array and each merge of a sheet lies inside.
+#[tactic(auto, unfolding(crate::specs::SheetDiffs::sheet_lies_inside))]
+pub(crate) fn sheet_lies_inside(sheet: &Worksheet) -> bool
+    ensures { result ≡ sheet_lies_inside sheet.now }
+{
+    arrays_lie_inside(sheet) && merges_lie_inside(sheet.merge_list())
+}
+
+/// Whether the formula of each cell fits its place.
+#[tactic(auto, unfolding(crate::specs::SheetDiffs::cells_fit))]
+pub(crate) fn cells_fit(cells: &PlaceMap<Shared<Cell>>) -> bool
+    ensures { result ≡ cells_fit cells.now }
+{
+    cells
+        .iter()
+        .all(|(place, cell)| fits_at(*place, &cell.get().content))
+}

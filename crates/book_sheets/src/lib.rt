@@ -1,0 +1,20 @@
+//! Changes of the list of a workbook's sheets: a sheet comes, as a new one, as a copy of another or
+//! back from a deletion; it goes; or it is taken to another index.
+//!
+//! The layer above sees each as a diff that can be made and taken back. A refusal leaves the workbook
+//! as it was, and so does a call that is out of memory.
+#![tactic(auto)]
+
+mod coming;
+mod going;
+mod index;
+mod inside;
+mod kept_sheet;
+mod moving;
+
+pub use coming::{copy_forward, deletion_back, new_forward};
+pub use going::{copy_back, deletion_forward, new_back};
+pub use index::sheet_index;
+pub use inside::{array_lies_inside, merges_lie_inside};
+pub use kept_sheet::KeptSheet;
+pub use moving::sheet_moves;

@@ -1,0 +1,2 @@
+pub mod NameEquals
+pub mod NameLaws

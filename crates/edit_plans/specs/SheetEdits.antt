@@ -1,0 +1,91 @@
+-- Edits of the list of a workbook's sheets, and of the fields of a sheet: what each changes, when it is refused, and its diff.
+use Rattle.std.specs.Prelude.{ℕ, ◌+◌, ◌==◌, ◌&&◌, nat_lt, Bool, List, [], ◌∷◌, length, Result, Ok, Err, if◌then◌else◌}
+use Rattle.base_values.specs.declared.EditError.{EditError}
+use Rattle.base_values.specs.declared.EditError.TheVariants.{OnlySheet}
+use Rattle.base_values.specs.Answers.{and_then, map_ok}
+use Rattle.defined_names.specs.Names.{names_left, names_copied}
+use Rattle.sheet_grid.specs.Sheet.{Sheet, new_sheet}
+use Rattle.sheet_grid.specs.Book.{Book, ids_of, names_of, sheet_at, sheet_edit, sheet_moved}
+use Rattle.sheet_naming.specs.FreeNames.{new_name, copy_name}
+use Rattle.sheet_naming.specs.NextIds.{next_id}
+use Rattle.book_sheets.specs.SheetDiffs.{with_sheet_at, without_sheet_at, sheet_as, kept_of}
+use Rattle.sheet_history.specs.declared.SheetField.{SheetField}
+use Rattle.sheet_history.specs.declared.Diff.{Diff}
+use Rattle.sheet_history.specs.declared.Diff.TheVariants.{NewSheet as NewDiff, DuplicateSheet as CopyDiff, DeleteSheet as DeletionDiff, MoveSheet as MoveDiff}
+use Rattle.sheet_history.specs.Entries.EntryKey.{FieldKey}
+use Rattle.sheet_history.specs.Entries.EntryValue.{FieldValue}
+use Rattle.sheet_history.specs.Fields.{field_of, field_in, with_field}
+use Rattle.sheet_history.specs.Records.{entry_record}
+
+-- ---- the list of the sheets
+
+-- a new sheet, with an id, stands at the end
+abbrev pub with_new_sheet : Book → ℕ → Book
+with_new_sheet book id = with_sheet_at (length book.worksheets) (new_sheet id (new_name (names_of book.worksheets))) book.names book
+
+-- a sheet is added: there is no further id
+unfoldable pub sheet_added : Book → Result Book EditError
+sheet_added book = map_ok (with_new_sheet book) (next_id (ids_of book.worksheets))
+
+-- the copy of the sheet at an index, with an id, stands behind it, and the names that are known in that sheet alone are copied
+abbrev pub with_copy : ℕ → Book → Sheet → ℕ → Book
+with_copy index book sheet id =
+    with_sheet_at (index + 1) (sheet_as id (copy_name (names_of book.worksheets) sheet.name) sheet) (names_copied sheet.id id book.names) book
+
+-- a sheet is copied: there is no such sheet, or no further id
+unfoldable pub sheet_copied : ℕ → Book → Result Book EditError
+sheet_copied index book = and_then (sheet_at book index) (λ sheet. map_ok (with_copy index book sheet) (next_id (ids_of book.worksheets)))
+
+-- a sheet goes, with the names that are known in it alone: there is no such sheet, or it is the only one
+unfoldable pub sheet_deleted : ℕ → Book → Result Book EditError
+sheet_deleted index book =
+    and_then (sheet_at book index) (λ sheet. if length book.worksheets == 1 then Err OnlySheet else Ok (without_sheet_at index (names_left sheet.id book.names) book))
+
+-- a sheet is taken to exactly that other index: one of the two is not there
+unfoldable pub sheet_taken : ℕ → ℕ → Book → Result Book EditError
+sheet_taken from to book = sheet_moved book from to
+
+-- a sheet that is taken to its own index: nothing is done. One that is not there is refused
+abbrev pub stays_there : ℕ → ℕ → Book → Bool
+stays_there from to book = (from == to) && nat_lt from (length book.worksheets)
+
+-- ---- the diff of each, of the workbook before it
+
+abbrev pub new_diff : Book → ℕ → Diff
+new_diff book id = NewDiff id (length book.worksheets) (new_name (names_of book.worksheets))
+
+abbrev pub copy_diff : ℕ → Book → Sheet → ℕ → Diff
+copy_diff index book sheet id = CopyDiff sheet.id id (index + 1) (copy_name (names_of book.worksheets) sheet.name)
+
+abbrev pub deletion_diff : ℕ → Book → Sheet → Diff
+deletion_diff index book sheet = DeletionDiff index (kept_of sheet book.names)
+
+abbrev pub move_diff : ℕ → ℕ → Sheet → Diff
+move_diff from to sheet = MoveDiff sheet.id from to
+
+-- the record of one diff, if there is that diff
+abbrev pub one_diff : Result Diff EditError → List Diff
+one_diff (Ok diff) = diff ∷ []
+one_diff (Err error) = []
+
+abbrev pub added_record : Book → List Diff
+added_record book = one_diff (map_ok (new_diff book) (next_id (ids_of book.worksheets)))
+
+abbrev pub copied_record : ℕ → Book → List Diff
+copied_record index book = one_diff (and_then (sheet_at book index) (λ sheet. map_ok (copy_diff index book sheet) (next_id (ids_of book.worksheets))))
+
+abbrev pub deleted_record : ℕ → Book → List Diff
+deleted_record index book = one_diff (map_ok (deletion_diff index book) (sheet_at book index))
+
+abbrev pub taken_record : ℕ → ℕ → Book → List Diff
+taken_record from to book = one_diff (map_ok (move_diff from to) (sheet_at book from))
+
+-- ---- the fields of a sheet
+
+-- a field of a sheet gets a value: there is no such sheet
+unfoldable pub field_set : ℕ → SheetField → Book → Result Book EditError
+field_set index value book = sheet_edit book index (λ sheet. Ok (with_field (field_of value) value sheet))
+
+-- the change where a field gets a value: nothing where it stays
+abbrev pub field_change : Sheet → SheetField → List Diff
+field_change sheet value = entry_record (FieldKey sheet.id (field_of value)) (FieldValue (field_in (field_of value) sheet)) (FieldValue value)

@@ -1,0 +1,70 @@
+-- A field that gets a value leaves a well-formed workbook, and its change is the record.
+use Rattle.std.proofs.Common.{◌≡◌, ℕ, List, Result, Ok, Err, refl, sym, subst, ◌∙◌}
+use Rattle.std.specs.Prelude.{IfOk, IsOkUnless}
+use Rattle.base_values.specs.declared.EditError.{EditError}
+use Rattle.base_values.specs.declared.EditError.TheVariants.{NoMemory}
+use Rattle.sheet_grid.specs.Sheet.{Sheet}
+use Rattle.sheet_grid.specs.Book.{Book, sheet_at, with_sheet}
+use Rattle.sheet_rules.specs.WellFormed.{IsWellFormed}
+use Rattle.sheet_history.specs.declared.Diff.{Diff}
+use Rattle.sheet_history.specs.declared.SheetField.{SheetField}
+use Rattle.sheet_history.specs.Diffs.{IsCanonicalList}
+use Rattle.sheet_history.specs.Entries.{EntryKey, with_sheet_entry, put_entry}
+use Rattle.sheet_history.specs.Entries.EntryKey.{FieldKey}
+use Rattle.sheet_history.specs.Entries.EntryValue.{FieldValue}
+use Rattle.sheet_history.specs.Fields.{field_of, with_field}
+use Rattle.sheet_history.specs.Records.{IsRecord}
+use Rattle.sheet_history.specs.laws.FieldLaws.{own_field}
+use Rattle.sheet_history.specs.laws.OneEntry.{put_record}
+use Rattle.sheet_history.specs.laws.RuleLaws.{well_formed-field}
+use Rattle.edit_plans.specs.Plans.{IsPlan, Plans}
+use Rattle.edit_plans.specs.SheetEdits.{field_set, field_change}
+use Rattle.edit_plans.specs.laws.AtIndex.{there, changed_at, put_changed}
+use Rattle.edit_plans.specs.laws.PlanLaws.{plan_refused, plan_made, no_sheet, sheet_takes, sheet_sure}
+
+module _ (w : Book) (index : ℕ) (value : SheetField) (rules : IsWellFormed w) (sheet : Sheet) (at : sheet_at w index ≡ Ok sheet) where
+  abbrev key : EntryKey
+  key = FieldKey sheet.id (field_of value)
+
+  abbrev after : Book
+  after = with_sheet w index (with_field (field_of value) value sheet)
+
+  put_is : put_entry w key (FieldValue value) ≡ after
+  put_is = put_changed w key (FieldValue value) ∙ changed_at w rules index sheet at (with_sheet_entry key (FieldValue value))
+
+  pub field_well_formed : IsWellFormed after
+  field_well_formed = subst IsWellFormed put_is (well_formed-field w sheet.id (field_of value) value rules)
+
+  pub field_exact : IsRecord w after (field_change sheet value)
+  field_exact =
+      subst (λ later. IsRecord w later (field_change sheet value)) put_is
+      (put_record w key (FieldValue value) sheet (there w rules index sheet at) (own_field value))
+
+  field_plan : (list : List Diff) → list ≡ field_change sheet value → IsCanonicalList list → IsPlan w list after
+  field_plan list is kept = record {
+    exact = subst (IsRecord w after) (sym is) field_exact;
+    rules = field_well_formed;
+    canonical = kept;
+  }
+
+  pub field_expected : field_set index value w ≡ Ok after
+  unfolding field_set
+  field_expected = sheet_takes w index (λ s. Ok (with_field (field_of value) value s)) sheet (with_field (field_of value) value sheet) at refl
+
+  -- what the plan returns
+  pub field_planned : (result : Result (List Diff) EditError) → IfOk result (λ list. list ≡ field_change sheet value) → IfOk result IsCanonicalList
+      → IsOkUnless result NoMemory
+      → Plans result w (field_set index value w)
+  field_planned result made kept only = plan_made w after (field_set index value w) result field_expected only (plan result made kept)
+    where
+      plan : (r : Result (List Diff) EditError) → IfOk r (λ list. list ≡ field_change sheet value) → IfOk r IsCanonicalList → IfOk r (λ list. IsPlan w list after)
+      plan (Ok list) is all = field_plan list is all
+      plan (Err error) is all = tt
+
+-- where no such sheet is there
+pub field_no_sheet : (w : Book) (index : ℕ) (value : SheetField) (error : EditError) → sheet_at w index ≡ Err error
+    → Plans (Err error) w (field_set index value w)
+unfolding field_set
+field_no_sheet w index value error missing =
+    plan_refused w (field_set index value w) error (no_sheet w index (λ s. Ok (with_field (field_of value) value s)) error missing)
+    (sheet_sure w index error missing)

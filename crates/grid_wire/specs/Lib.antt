@@ -1,0 +1,6 @@
+pub mod StateBytes
+pub mod KeyBytes
+pub mod LineBytes
+pub mod NameBytes
+pub mod SheetBytes
+pub mod laws

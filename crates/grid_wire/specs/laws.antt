@@ -1,0 +1,6 @@
+pub mod StateLaws
+pub mod GridFits
+pub mod KeyLaws
+pub mod LineLaws
+pub mod NameLaws
+pub mod SheetLaws

@@ -1,0 +1,82 @@
+-- The laws of the bytes of whole sheets.
+use Rattle.std.proofs.Common.{◌≡◌, ◌≤◌, length, ap, refl, arith, rules}
+use Rattle.std.specs.Int.{w32}
+use Rattle.std.specs.Ordering.{int_cmp}
+use Rattle.base_values.specs.Places.{IsPlace, IsRow, IsColumn, position_cmp}
+use Rattle.sheet_grid.specs.Sheet.{Sheet}
+use Rattle.base_wire.specs.Spelling.{spell_signed}
+use Rattle.base_wire.specs.laws.Format.{Format}
+use Rattle.base_wire.specs.laws.Formats.{both_format, made_format}
+use Rattle.base_wire.specs.laws.Parts.{boolean_format, short_format, signed_format, text_format}
+use Rattle.map_wire.specs.MapBytes.{spell_map, FitsMap}
+use Rattle.map_wire.specs.laws.MapLaws.{no_items_format}
+use Rattle.cell_wire.specs.CellBytes.{spell_position, spell_cell, FitsCell}
+use Rattle.cell_wire.specs.LinkBytes.{spell_link, FitsLink}
+use Rattle.cell_wire.specs.laws.Formats.{color_format, cell_format}
+use Rattle.cell_wire.specs.laws.MergeLaws.{link_format, merges_format}
+use Rattle.grid_wire.specs.LineBytes.{spell_line, FitsLine}
+use Rattle.grid_wire.specs.SheetBytes.{Fields, spell_fields, bare_sheet, fields_at, FitsFields, rows_at, columns_at, cells_at, links_at, spell_entries, spell_sheet, sheet_made, sheet_at, FitsSheet}
+use Rattle.grid_wire.specs.laws.StateLaws.{state_format}
+use Rattle.grid_wire.specs.laws.KeyLaws.{axis_map_format, place_map_format}
+use Rattle.grid_wire.specs.laws.LineLaws.{line_format}
+
+-- ---- its fields
+
+-- the fields of a sheet
+abbrev pub fields_of : Sheet → Fields
+fields_of sheet = (sheet.id, (sheet.name, (sheet.state, (sheet.color, (sheet.show_grid_lines, (sheet.frozen_rows, sheet.frozen_columns))))))
+
+-- the sheet without all but its fields
+abbrev pub bared : Sheet → Sheet
+bared sheet = bare_sheet (fields_of sheet)
+
+-- a sheet that has fields which bytes can carry, and nothing else
+abbrev FitsBare : Sheet → Type 0
+FitsBare sheet = FitsFields sheet × (bared sheet ≡ sheet)
+
+fields_format : Format FitsBare spell_fields fields_at
+unfolding spell_fields fields_at
+fields_format =
+    made_format (both_format short_format (both_format text_format (both_format state_format (both_format color_format (both_format boolean_format (both_format signed_format signed_format))))))
+    bare_sheet fields_of
+    (λ sheet fits. (fits.1, (fits.0.id, (fits.0.name, (tt, (fits.0.color, (tt, (fits.0.frozen_rows, fits.0.frozen_columns))))))))
+    (λ x fits. (refl, (record { id = fits.0; name = fits.1.0; color = fits.1.1.1.0; frozen_rows = fits.1.1.1.1.1.0; frozen_columns = fits.1.1.1.1.1.1 }, refl)))
+
+-- ---- what stands in it
+
+rows_format : Format (FitsMap {order = int_cmp} IsRow FitsLine) (spell_map (spell_signed w32) spell_line) rows_at
+unfolding rows_at
+rows_format = axis_map_format _ (search rules) line_format
+
+columns_format : Format (FitsMap {order = int_cmp} IsColumn FitsLine) (spell_map (spell_signed w32) spell_line) columns_at
+unfolding columns_at
+columns_format = axis_map_format _ (search rules) line_format
+
+pub cells_format : Format (FitsMap {order = position_cmp} IsPlace FitsCell) (spell_map spell_position spell_cell) cells_at
+unfolding cells_at
+cells_format = place_map_format cell_format
+
+links_format : Format (FitsMap {order = position_cmp} IsPlace FitsLink) (spell_map spell_position spell_link) links_at
+unfolding links_at
+links_format = place_map_format link_format
+
+-- ---- whole sheets
+
+-- what bytes can carry is read again from its spelling, what is read was spelled so, and all else is refused
+pub sheet_format : Format FitsSheet spell_sheet sheet_at
+unfolding spell_fields spell_entries spell_sheet sheet_at
+sheet_format =
+    made_format (both_format fields_format (both_format rows_format (both_format columns_format (both_format cells_format (both_format links_format (both_format merges_format no_items_format))))))
+    sheet_made (λ sheet. (bared sheet, (sheet.rows, (sheet.columns, (sheet.cells, (sheet.links, (sheet.merges, tt)))))))
+    (λ sheet fits. (refl, ((record { id = fits.fields.id; name = fits.fields.name; color = fits.fields.color; frozen_rows = fits.fields.frozen_rows; frozen_columns = fits.fields.frozen_columns }, refl), (fits.entries.rows, (fits.entries.columns, (fits.entries.cells, (fits.entries.links, (fits.entries.merges, tt))))))))
+    (λ x fits. (
+      ap (λ (s : Sheet). (s, x.1)) fits.0.1,
+      record {
+        fields = record { id = fits.0.0.id; name = fits.0.0.name; color = fits.0.0.color; frozen_rows = fits.0.0.frozen_rows; frozen_columns = fits.0.0.frozen_columns };
+        entries = record { rows = fits.1.0; columns = fits.1.1.0; cells = fits.1.1.1.0; links = fits.1.1.1.1.0; merges = fits.1.1.1.1.1.0 };
+      },
+    ))
+
+pub sheet_some : (sheet : Sheet) → 1 ≤ length (spell_sheet sheet)
+unfolding spell_fields spell_sheet
+sheet_some sheet = omega arith

@@ -1,0 +1,19 @@
+-- The laws of the bytes of the states of sheets.
+use Rattle.std.proofs.Common.{◌≡◌, Some, refl}
+use Rattle.sheet_grid.specs.declared.SheetState.{SheetState}
+use Rattle.sheet_grid.specs.declared.SheetState.TheVariants.{Visible, Hidden, VeryHidden}
+use Rattle.base_wire.specs.Reading.{decoded, code_at}
+use Rattle.base_wire.specs.Spelling.{Any, spell_code}
+use Rattle.base_wire.specs.laws.Again.{code_again}
+use Rattle.base_wire.specs.laws.Format.{Format}
+use Rattle.base_wire.specs.laws.Refusals.{code_plain}
+use Rattle.base_wire.specs.laws.Spelled.{code_spelled}
+use Rattle.grid_wire.specs.StateBytes.{state_code, states}
+
+state_known : (x : SheetState) → decoded state_code states (state_code x) ≡ Some x
+state_known Visible = refl
+state_known Hidden = refl
+state_known VeryHidden = refl
+
+pub state_format : Format Any (spell_code state_code) (code_at state_code states)
+state_format = record { again = code_again state_code states state_known; spelled = code_spelled state_code states; plain = code_plain state_code states }

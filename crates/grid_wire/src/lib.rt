@@ -1,0 +1,22 @@
+//! Defined names, what lines have of their own and whole sheets as bytes, in both directions.
+//!
+//! The layers above see of each a spelling, which is a function of the value: what bytes can carry is
+//! read again from its spelling whatever follows, what is read was spelled so, and all else is refused
+//! with `ParseDiffs`. The keys of a sheet's maps lie inside the sheet, and its list of rules is empty.
+#![tactic(auto)]
+
+mod keys;
+mod lines;
+mod names;
+mod reading_sheets;
+mod sheets;
+mod states;
+mod writing_sheets;
+
+pub use lines::LinePart;
+pub use names::NamePart;
+pub use sheets::SheetPart;
+pub use states::StatePart;
+
+#[cfg(test)]
+mod tests;

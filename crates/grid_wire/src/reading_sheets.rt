@@ -1,0 +1,82 @@
+//! Whole sheets from the front of bytes.
+
+ghost use Rattle.std.specs.Prelude.{IfOk};
+ghost use Rattle.base_values.specs.Answers.{Answers, map_ok};
+ghost use Rattle.sheet_grid.specs.CanonicalCell.{CanonicalCells};
+ghost use Rattle.grid_wire.specs.SheetBytes.{cells_at, fields_at, sheet_at};
+
+use crate::keys::{axis_map_at, place_map_at};
+use crate::lines::LinePart;
+use crate::states::StatePart;
+use base_axis::{ColumnAxis, RowAxis};
+use base_shared::Shared;
+use base_styles::Style;
+use base_values::{EditError, PlaceMap, Text};
+use cell_wire::{CellPart, ColorPart, LinkPart, MergeListPart};
+use map_wire::{after_no_items, read};
+use sheet_grid::{Cell, Worksheet};
+use std::alloc::Global;
+
+/// A sheet that has the fields at the front of bytes, and nothing else.
+#[tactic(auto, unfolding(crate::specs::SheetBytes::fields_at))]
+fn fields_at(alloc: Global, bytes: &[u8]) -> Result<(Worksheet, &[u8]), EditError>
+    ensures { Answers (map_ok (λ x. (x.0, x.1.now)) result) (fields_at bytes.now) }
+{
+    let (id, rest) = read::<u32>(alloc, &(), bytes)?;
+    let (name, rest) = read::<Text>(alloc, &(), rest)?;
+    let (state, rest) = read::<StatePart>(alloc, &(), rest)?;
+    let (color, rest) = read::<ColorPart>(alloc, &(), rest)?;
+    let (show_grid_lines, rest) = read::<bool>(alloc, &(), rest)?;
+    let (frozen_rows, rest) = read::<i32>(alloc, &(), rest)?;
+    let (frozen_columns, rest) = read::<i32>(alloc, &(), rest)?;
+    let mut sheet = Worksheet::new(alloc, id, name.as_str())?;
+    sheet.set_state(state);
+    sheet.set_color(&color);
+    sheet.set_show_grid_lines(show_grid_lines);
+    sheet.set_frozen_rows(frozen_rows);
+    sheet.set_frozen_columns(frozen_columns);
+    Ok((sheet, rest))
+}
+
+/// The cells of a sheet, whose numbers are canonical.
+#[tactic(auto, unfolding(crate::specs::SheetBytes::cells_at))]
+fn cells_at<'a>(
+    alloc: Global,
+    plain: &Shared<Style>,
+    bytes: &'a [u8],
+) -> Result<(PlaceMap<Shared<Cell>>, &'a [u8]), EditError>
+    ensures { Answers (map_ok (λ x. (x.0, x.1.now)) result) (cells_at bytes.now) }
+{
+    place_map_at::<CellPart>(alloc, plain, bytes)
+}
+
+/// The same, and the numbers of the cells are canonical.
+fn kept_cells_at<'a>(
+    alloc: Global,
+    plain: &Shared<Style>,
+    bytes: &'a [u8],
+) -> Result<(PlaceMap<Shared<Cell>>, &'a [u8]), EditError>
+    ensures read { Answers (map_ok (λ x. (x.0, x.1.now)) result) (cells_at bytes.now) }
+    ensures canonical { IfOk result (λ x. CanonicalCells x.0) }
+{
+    cells_at(alloc, plain, bytes)
+}
+
+#[tactic(auto, unfolding(crate::specs::SheetBytes::sheet_at, crate::specs::SheetBytes::rows_at, crate::specs::SheetBytes::columns_at, crate::specs::SheetBytes::links_at))]
+pub(crate) fn sheet_at<'a>(
+    alloc: Global,
+    plain: &Shared<Style>,
+    bytes: &'a [u8],
+) -> Result<(Worksheet, &'a [u8]), EditError>
+    ensures { Answers (map_ok (λ x. (x.0, x.1.now)) result) (sheet_at bytes.now) }
+{
+    let (bare, rest) = fields_at(alloc, bytes)?;
+    let (rows, rest) = axis_map_at::<RowAxis, LinePart>(alloc, plain, rest)?;
+    let (columns, rest) = axis_map_at::<ColumnAxis, LinePart>(alloc, plain, rest)?;
+    let (cells, rest) = kept_cells_at(alloc, plain, rest)?;
+    let (links, rest) = place_map_at::<LinkPart>(alloc, &(), rest)?;
+    let (merges, rest) = read::<MergeListPart>(alloc, &(), rest)?;
+    let rest = after_no_items(rest)?;
+    let sheet = bare.with_entries(cells, links, rows, columns, merges)?;
+    Ok((sheet, rest))
+}

@@ -1,7 +1,0 @@
-use Rattle.std.proofs.Common.{arith}
-use Rattle.base_wire.specs.laws.Format.{reads}
-use Rattle.lines_wire.specs.laws.PartLaws.{line_format}
-use Rattle.lines_wire.proofs.values.LinePartPart.take.Goals as goal
-
-pub returns : goal.returns
-returns c = reads line_format c.args.bytes.now _ (λ i. omega (arith, c.type_inv.bytes i)) c.line_at.ensures

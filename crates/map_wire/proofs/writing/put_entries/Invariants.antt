@@ -1,0 +1,13 @@
+use Rattle.std.proofs.Common.{◌≡◌, ◌++◌}
+use Rattle.std.specs.List.{flat_map, AllByRecursion}
+use Rattle.base_wire.specs.Spelling.{spell_both}
+use Rattle.map_wire.specs.MapBytes.{Carried}
+use Rattle.map_wire.proofs.writing.put_entries.Given as goal
+
+-- what is written, and the entries that are left; and if bytes can carry those where they are known, they can carry all
+abbrev pub invariant-loop-key : goal.invariant-loop-key
+invariant-loop-key g l =
+    (goal.iterator-loop-key g).can_next l.key-iterator ×
+    (goal.iterator-loop-key g).is_finite l.key-iterator ×
+    (l.out.items ++ flat_map (spell_both g.K.Part.spelling g.P.Part.spelling) l.key-iterator ≡ l.initial.out.items ++ flat_map (spell_both g.K.Part.spelling g.P.Part.spelling) l.initial.key-iterator) ×
+    (AllByRecursion (Carried g.K.Part.Known g.P.Part.Known g.K.Part.Fits g.P.Part.Fits) l.key-iterator → AllByRecursion (Carried g.K.Part.Known g.P.Part.Known g.K.Part.Fits g.P.Part.Fits) l.fn.entries)

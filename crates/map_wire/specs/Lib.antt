@@ -1,0 +1,2 @@
+pub mod MapBytes
+pub mod laws

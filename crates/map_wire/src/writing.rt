@@ -1,0 +1,39 @@
+//! Maps at the end of bytes. Out of memory may leave some of theirs there.
+
+ghost use Rattle.std.specs.Prelude.{◌≡◌, ◌++◌, ◌<◌, ◌^◌, OnOk, length};
+ghost use Rattle.std.specs.List.{AllByRecursion};
+ghost use Rattle.base_wire.specs.Spelling.{spell_both};
+ghost use Rattle.map_wire.specs.MapBytes.{spell_entries, Carried};
+
+use base_wire::Part;
+use std::alloc::AllocError;
+use std::collections::btree_map::Iter;
+
+fn put_entry<K: Part, P: Part>(
+    out: &mut Vec<u8>,
+    key: &K::Value,
+    value: &P::Value,
+) -> Result<(), AllocError>
+    ensures spelled { OnOk result (out.new.items ≡ out.old.items ++ spell_both K.spelling P.spelling (key.now, value.now)) }
+    ensures fits { OnOk result (Carried K.Known P.Known K.Fits P.Fits (key.now, value.now)) }
+{
+    K::put(out, key)?;
+    P::put(out, value)
+}
+
+/// Adds how many entries there are, in eight bytes, and each of them. Out of memory may leave some of
+/// their bytes there.
+pub fn put_entries<K: Part, P: Part>(
+    out: &mut Vec<u8>,
+    entries: Iter<'_, K::Value, P::Value>,
+) -> Result<(), AllocError>
+    ensures spelled { OnOk result (out.new.items ≡ out.old.items ++ spell_entries K.spelling P.spelling entries.entry) }
+    ensures short { OnOk result (length entries.entry < 2 ^ 64) }
+    ensures each { OnOk result (AllByRecursion (Carried K.Known P.Known K.Fits P.Fits) entries.entry) }
+{
+    out.extend_from_slice(&(entries.len() as u64).to_be_bytes())?;
+    for (key, value) in entries {
+        put_entry::<K, P>(out, key, value)?;
+    }
+    Ok(())
+}

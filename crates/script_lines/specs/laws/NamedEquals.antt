@@ -1,0 +1,56 @@
+-- `==` of what a line names is equality of its values.
+use Rattle.std.proofs.Common.{◌≡◌, ap}
+use Rattle.std.specs.Bool.{Decides}
+use Rattle.std.specs.Cmp.{signed_Decides, unsigned_Decides, booleans_Decides}
+use Rattle.std.proofs.lemmas.Bool.Decides.{Decides-like, Decides-and}
+use Rattle.base_axis.specs.laws.MergedEquals.{merged_equals}
+use Rattle.base_styles.specs.laws.ColorEquals.{color_equals}
+use Rattle.script_lines.specs.declared.command.NamedCell.{NamedCell}
+use Rattle.script_lines.specs.contracts.command.NamedCellPartialEq.TheImpl as named_cell
+use Rattle.script_lines.specs.declared.command.NamedArea.{NamedArea}
+use Rattle.script_lines.specs.contracts.command.NamedAreaPartialEq.TheImpl as named_area
+use Rattle.script_lines.specs.declared.command.NamedLines.{NamedLines}
+use Rattle.script_lines.specs.contracts.command.NamedLinesPartialEq.TheImpl as named_lines
+use Rattle.script_lines.specs.declared.command.NamedMove.{NamedMove}
+use Rattle.script_lines.specs.contracts.command.NamedMovePartialEq.TheImpl as named_move
+use Rattle.script_lines.specs.declared.command.NamedSheetMove.{NamedSheetMove}
+use Rattle.script_lines.specs.contracts.command.NamedSheetMovePartialEq.TheImpl as named_sheet_move
+use Rattle.script_lines.specs.declared.command.NamedColor.{NamedColor}
+use Rattle.script_lines.specs.contracts.command.NamedColorPartialEq.TheImpl as named_color
+use Rattle.script_lines.specs.declared.command.NamedGrid.{NamedGrid}
+use Rattle.script_lines.specs.contracts.command.NamedGridPartialEq.TheImpl as named_grid
+
+pub named_cell_equals : (a b : NamedCell) → Decides (named_cell.ghosts.eq a b) (a ≡ b)
+named_cell_equals a b =
+    Decides-like _ (λ p i. record { sheet = p.0 i; row = p.1.0 i; column = p.1.1 i }) (λ e. (ap (λ x. x.sheet) e, (ap (λ x. x.row) e, ap (λ x. x.column) e)))
+    (Decides-and _ _ (unsigned_Decides _ _) (Decides-and _ _ (signed_Decides _ _) (signed_Decides _ _)))
+
+pub named_area_equals : (a b : NamedArea) → Decides (named_area.ghosts.eq a b) (a ≡ b)
+named_area_equals a b =
+    Decides-like _ (λ p i. record { sheet = p.0 i; area = p.1 i }) (λ e. (ap (λ x. x.sheet) e, ap (λ x. x.area) e))
+    (Decides-and _ _ (unsigned_Decides _ _) (merged_equals _ _))
+
+pub named_lines_equals : (a b : NamedLines) → Decides (named_lines.ghosts.eq a b) (a ≡ b)
+named_lines_equals a b =
+    Decides-like _ (λ p i. record { sheet = p.0 i; first = p.1.0 i; count = p.1.1 i }) (λ e. (ap (λ x. x.sheet) e, (ap (λ x. x.first) e, ap (λ x. x.count) e)))
+    (Decides-and _ _ (unsigned_Decides _ _) (Decides-and _ _ (signed_Decides _ _) (signed_Decides _ _)))
+
+pub named_move_equals : (a b : NamedMove) → Decides (named_move.ghosts.eq a b) (a ≡ b)
+named_move_equals a b =
+    Decides-like _ (λ p i. record { sheet = p.0 i; first = p.1.0 i; count = p.1.1.0 i; delta = p.1.1.1 i }) (λ e. (ap (λ x. x.sheet) e, (ap (λ x. x.first) e, (ap (λ x. x.count) e, ap (λ x. x.delta) e))))
+    (Decides-and _ _ (unsigned_Decides _ _) (Decides-and _ _ (signed_Decides _ _) (Decides-and _ _ (signed_Decides _ _) (signed_Decides _ _))))
+
+pub named_sheet_move_equals : (a b : NamedSheetMove) → Decides (named_sheet_move.ghosts.eq a b) (a ≡ b)
+named_sheet_move_equals a b =
+    Decides-like _ (λ p i. record { from = p.0 i; to = p.1 i }) (λ e. (ap (λ x. x.from) e, ap (λ x. x.to) e))
+    (Decides-and _ _ (unsigned_Decides _ _) (unsigned_Decides _ _))
+
+pub named_color_equals : (a b : NamedColor) → Decides (named_color.ghosts.eq a b) (a ≡ b)
+named_color_equals a b =
+    Decides-like _ (λ p i. record { sheet = p.0 i; color = p.1 i }) (λ e. (ap (λ x. x.sheet) e, ap (λ x. x.color) e))
+    (Decides-and _ _ (unsigned_Decides _ _) (color_equals _ _))
+
+pub named_grid_equals : (a b : NamedGrid) → Decides (named_grid.ghosts.eq a b) (a ≡ b)
+named_grid_equals a b =
+    Decides-like _ (λ p i. record { sheet = p.0 i; show = p.1 i }) (λ e. (ap (λ x. x.sheet) e, ap (λ x. x.show) e))
+    (Decides-and _ _ (unsigned_Decides _ _) (booleans_Decides _ _))

@@ -1,0 +1,33 @@
+-- Formulas that are at most 64 deep, as bytes have them.
+use Rattle.std.specs.Prelude.{ℕ, IsTrue, IfSome}
+use Rattle.std.specs.FinMap.{get}
+use Rattle.base_values.specs.declared.Position.{Position}
+use Rattle.base_maps.specs.declared.SheetPlace.{SheetPlace}
+use Rattle.formula_tree.specs.Depth.{is_within}
+use Rattle.sheet_grid.specs.laws.FittingCells.{is_shallow_entry}
+use Rattle.sheet_lines.specs.declared.KeptLines.{KeptLines}
+use Rattle.book_sheets.specs.declared.KeptSheet.{KeptSheet}
+use Rattle.sheet_history.specs.declared.diff.Diff.{Diff}
+use Rattle.sheet_history.specs.declared.diff.Diff.TheVariants.{Cell as CellDiff, Link as LinkDiff, Merges as MergesDiff, Field as FieldDiff, Lines as LinesDiff, NewSheet as NewDiff, DuplicateSheet as CopyDiff, DeleteSheet as DeletionDiff, MoveSheet as MoveDiff}
+
+-- so is each kept formula
+pub record AreShallowLines (kept : KeptLines) : Type 0 where
+  pub cells : (place : Position) → IsTrue (is_shallow_entry (get kept.cells place))
+  pub formulas : (place : SheetPlace) → IfSome (get kept.formulas place) (λ tree. IsTrue (is_within 64 tree))
+
+-- so is each formula of a kept sheet, and each tree of its names
+pub record IsShallowSheet (kept : KeptSheet) : Type 0 where
+  pub cells : (place : Position) → IsTrue (is_shallow_entry (get kept.sheet.cells place))
+  pub names : (place : ℕ) → IfSome (get kept.names place) (λ name. IsTrue (is_within 64 name.formula))
+
+-- and each formula of a diff
+abbrev pub IsShallowDiff : Diff → Type 0
+IsShallowDiff (CellDiff sheet place old new) = IsTrue (is_shallow_entry old) × IsTrue (is_shallow_entry new)
+IsShallowDiff (LinkDiff sheet place old new) = Unit {0}
+IsShallowDiff (MergesDiff sheet old new) = Unit {0}
+IsShallowDiff (FieldDiff sheet change) = Unit {0}
+IsShallowDiff (LinesDiff sheet axis edit kept) = AreShallowLines kept
+IsShallowDiff (NewDiff sheet index name) = Unit {0}
+IsShallowDiff (CopyDiff source sheet index name) = Unit {0}
+IsShallowDiff (DeletionDiff index kept) = IsShallowSheet kept
+IsShallowDiff (MoveDiff sheet from to) = Unit {0}

@@ -1,0 +1,4 @@
+pub mod FreeNames
+pub mod NextIds
+pub mod Texts
+pub mod laws

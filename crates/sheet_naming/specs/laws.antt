@@ -1,0 +1,5 @@
+pub mod LeastFree
+pub mod IdLaws
+pub mod Characters
+pub mod Numbered
+pub mod LegalNames

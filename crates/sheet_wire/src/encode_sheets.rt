@@ -1,0 +1,117 @@
+//! The bytes of diffs of the fields of a sheet and of the list of sheets.
+
+ghost use Rattle.std.specs.Prelude.{◌≡◌, ◌++◌, OnOk};
+ghost use Rattle.sheet_wire.specs.ChangeBytes.{spell_sheet_change, FitsSheetChange};
+ghost use Rattle.sheet_wire.specs.QueueBytes.{spell_diff};
+ghost use Rattle.sheet_wire.specs.SheetsBytes.{spell_copy, spell_deletion, spell_move, spell_new};
+ghost use Rattle.sheet_wire.specs.SheetsBytes.{FitsCopy, FitsDeletion, FitsField, FitsMove, FitsNew, IsKnownKeptSheet};
+ghost use Rattle.sheet_history.specs.declared.Diff.TheVariants.{Field as FieldDiff};
+
+use crate::sheets::KeptSheetPart;
+use base_shared::Shared;
+use base_values::Text;
+use base_wire::Part;
+use book_sheets::KeptSheet;
+use cell_wire::ColorPart;
+use grid_wire::StatePart;
+use sheet_history::FieldChange;
+use std::alloc::AllocError;
+
+/// Adds the id of a sheet, and what it had before and has after.
+#[tactic(auto, unfolding(crate::specs::ChangeBytes::spell_sheet_change))]
+pub(crate) fn put_sheet_change<P: Part>(
+    out: &mut Vec<u8>,
+    sheet: u32,
+    old: &P::Value,
+    new: &P::Value,
+) -> Result<(), AllocError>
+    ensures spelled { OnOk result (out.new.items ≡ out.old.items ++ spell_sheet_change P.spelling sheet old.now new.now) }
+    ensures fits { OnOk result (P.Known old.now → P.Known new.now → FitsSheetChange P.Fits sheet old.now new.now) }
+{
+    out.extend_from_slice(&sheet.to_be_bytes())?;
+    P::put(out, old)?;
+    P::put(out, new)
+}
+
+/// Adds a change of a field of a sheet, behind the tag of the field.
+pub(crate) fn put_field(
+    out: &mut Vec<u8>,
+    sheet: u32,
+    change: FieldChange,
+) -> Result<(), AllocError>
+    ensures spelled { OnOk result (out.new.items ≡ out.old.items ++ spell_diff (FieldDiff sheet change)) }
+    ensures fits { OnOk result (FitsField sheet change) }
+{
+    match change {
+        FieldChange::Color { old, new } => {
+            out.push(13)?;
+            put_sheet_change::<ColorPart>(out, sheet, &old, &new)
+        }
+        FieldChange::State { old, new } => {
+            out.push(14)?;
+            put_sheet_change::<StatePart>(out, sheet, &old, &new)
+        }
+        FieldChange::GridLines { old, new } => {
+            out.push(15)?;
+            put_sheet_change::<bool>(out, sheet, &old, &new)
+        }
+    }
+}
+
+/// Adds the id, the index and the name of a new sheet.
+#[tactic(auto, unfolding(crate::specs::SheetsBytes::spell_new))]
+pub(crate) fn put_new(
+    out: &mut Vec<u8>,
+    sheet: u32,
+    index: u32,
+    name: &Text,
+) -> Result<(), AllocError>
+    ensures spelled { OnOk result (out.new.items ≡ out.old.items ++ spell_new sheet index name.now) }
+    ensures fits { OnOk result (FitsNew sheet index name.now) }
+{
+    u32::put(out, &sheet)?;
+    u32::put(out, &index)?;
+    Text::put(out, name)?;
+    Ok(())
+}
+
+/// Adds the id of a sheet, and the id, the index and the name of its copy.
+#[tactic(auto, unfolding(crate::specs::SheetsBytes::spell_copy))]
+pub(crate) fn put_copy(
+    out: &mut Vec<u8>,
+    source: u32,
+    sheet: u32,
+    index: u32,
+    name: &Text,
+) -> Result<(), AllocError>
+    ensures spelled { OnOk result (out.new.items ≡ out.old.items ++ spell_copy source sheet index name.now) }
+    ensures fits { OnOk result (FitsCopy source sheet index name.now) }
+{
+    u32::put(out, &source)?;
+    put_new(out, sheet, index, name)
+}
+
+/// Adds the index of a deleted sheet, and what is kept of it.
+#[tactic(auto, unfolding(crate::specs::SheetsBytes::spell_deletion))]
+pub(crate) fn put_deletion(
+    out: &mut Vec<u8>,
+    index: u32,
+    kept: &Shared<KeptSheet>,
+) -> Result<(), AllocError>
+    ensures spelled { OnOk result (out.new.items ≡ out.old.items ++ spell_deletion index kept.now) }
+    ensures fits { OnOk result (IsKnownKeptSheet kept.now → FitsDeletion index kept.now) }
+{
+    out.extend_from_slice(&index.to_be_bytes())?;
+    Shared::<KeptSheetPart>::put(out, kept)
+}
+
+/// Adds the id of a moved sheet, and the indexes between which it moves.
+#[tactic(auto, unfolding(crate::specs::SheetsBytes::spell_move))]
+pub(crate) fn put_move(out: &mut Vec<u8>, sheet: u32, from: u32, to: u32) -> Result<(), AllocError>
+    ensures spelled { OnOk result (out.new.items ≡ out.old.items ++ spell_move sheet from to) }
+    ensures fits { OnOk result (FitsMove sheet from to) }
+{
+    out.extend_from_slice(&sheet.to_be_bytes())?;
+    out.extend_from_slice(&from.to_be_bytes())?;
+    out.extend_from_slice(&to.to_be_bytes())
+}

@@ -1,0 +1,120 @@
+-- The record of an edit of the list of the sheets can be spelled.
+use Rattle.std.proofs.Common.{◌≡◌, ℕ, true, false, Bool, cond, length, Option, Some, None, Result, Ok, Err, refl}
+use Rattle.std.specs.Prelude.{slice_get, IfSome, IsTrue}
+use Rattle.std.specs.Cmp.{nat_cmp_total}
+use Rattle.std.specs.FinMap.{get}
+use Rattle.std.specs.Ordering.{nat_cmp}
+use Rattle.std.proofs.lemmas.List.Elements.{recursion_from_All}
+use Rattle.std.proofs.lemmas.Map.Lookups.{exact_unsigned}
+use Rattle.base_values.specs.declared.EditError.{EditError}
+use Rattle.base_values.specs.declared.EditError.TheVariants.{DiffRefused, InvalidSheet}
+use Rattle.base_values.specs.Answers.{and_then, map_ok, ok_or}
+use Rattle.formula_tree.specs.declared.Node.{Node}
+use Rattle.formula_tree.specs.Depth.{is_within}
+use Rattle.cell_content.specs.Fitting.{tree_fits_at}
+use Rattle.defined_names.specs.declared.DefinedName.{DefinedName}
+use Rattle.defined_names.specs.Names.{names_left}
+use Rattle.sheet_grid.specs.Sheet.{Sheet}
+use Rattle.sheet_grid.specs.Book.{Book, ids_of, sheet_at}
+use Rattle.sheet_grid.specs.laws.FittingLaws.{shallow_entry}
+use Rattle.sheet_rules.specs.Names.{first_place}
+use Rattle.sheet_rules.specs.WellFormed.{IsWellFormed}
+use Rattle.sheet_rules.specs.laws.EntryLaws.{both}
+use Rattle.sheet_rules.specs.laws.WellFormedLaws.{cells_fit_from_trees}
+use Rattle.sheet_naming.specs.NextIds.{next_id}
+use Rattle.book_sheets.specs.declared.KeptSheet.{KeptSheet}
+use Rattle.book_sheets.specs.SheetDiffs.{deletion_back, kept_of, may_come_back, names_fit}
+use Rattle.book_sheets.specs.laws.SheetRules.{rules_at}
+use Rattle.book_laws.specs.laws.BothWays.{deletion_both_ways}
+use Rattle.sheet_history.specs.declared.Diff.TheVariants.{DeleteSheet as DeletionDiff}
+use Rattle.sheet_history.specs.laws.Depth.{IsShallowSheet}
+use Rattle.sheet_history.specs.Diffs.{IsCanonicalDiff, IsCanonicalList}
+use Rattle.sheet_history.specs.laws.Entries.{entry_holds}
+use Rattle.sheet_wire.specs.QueueBytes.{IsKnownDiff}
+use Rattle.sheet_wire.specs.laws.Fitting.{known_diff}
+use Rattle.edit_plans.specs.Edits.{Edit, is_of_sheets, record_of}
+use Rattle.edit_plans.specs.Edits.Edit.{Input, ArrayInput, SetLink, Merge, Unmerge, Lines, MoveLines, AddSheet, CopySheet, DeleteSheet, MoveSheet, SetField}
+use Rattle.edit_plans.specs.SheetEdits.{copy_diff, deletion_diff, move_diff, new_diff, one_diff}
+use Rattle.user_model.specs.Spellable.{AreSpellable}
+use Rattle.user_model.proofs.KeptLines.{own_lines}
+
+-- ---- a deleted sheet
+
+comes_back : (b : Bool) (r : Result Book EditError) (w : Book) → cond b r (Err (DiffRefused 0 0)) ≡ Ok w → b ≡ true
+comes_back true r w is = refl
+comes_back false r w is = absurd (let never : ◌≡◌ {A = Result Book EditError} (Err (DiffRefused 0 0)) (Ok w) = is in cc)
+
+-- a tree that fits is not deep
+shallow_tree : (tree : Node) → tree_fits_at first_place tree ≡ true → IsTrue (is_within 64 tree)
+unfolding tree_fits_at
+shallow_tree tree fits = (both _ _ (both _ _ fits).0).1
+
+module _ (index : ℕ) (sheet : Sheet) (w : Book) (rules : IsWellFormed w) (found : slice_get w.worksheets index ≡ Some sheet) where
+  abbrev kept : KeptSheet
+  kept = kept_of sheet w.names
+
+  may_return : may_come_back (length (names_left sheet.id w.names)) kept ≡ true
+  unfolding deletion_back
+  may_return = comes_back (may_come_back (length (names_left sheet.id w.names)) kept) _ w (deletion_both_ways 0 index sheet w rules found).back
+
+  kept_names_fit : names_fit kept.names ≡ true
+  unfolding may_come_back
+  kept_names_fit = (both _ _ (both _ _ may_return).1).1
+
+  shallow_names : (place : ℕ) → IfSome (get kept.names place) (λ name. IsTrue (is_within 64 name.formula))
+  shallow_names place = go (get kept.names place) refl
+    where
+      go : (o : Option DefinedName) → get kept.names place ≡ o → IfSome o (λ name. IsTrue (is_within 64 name.formula))
+      go None is = tt
+      go (Some name) is =
+          shallow_tree name.formula (entry_holds nat_cmp nat_cmp_total exact_unsigned (λ (entry : ℕ × DefinedName). tree_fits_at first_place entry.1.formula) kept.names kept_names_fit place name is)
+
+  shallow : IsShallowSheet kept
+  shallow = record {
+    cells = λ place. shallow_entry place (get sheet.cells place) (cells_fit_from_trees sheet (rules_at w rules index sheet found).trees place);
+    names = shallow_names;
+  }
+
+  -- what is kept of it can be spelled
+  deletion_known : IsCanonicalDiff (DeletionDiff index kept) → IsKnownDiff (DeletionDiff index kept)
+  deletion_known numbers =
+      known_diff (DeletionDiff index kept) numbers shallow
+      (record { rows = own_lines sheet (rules_at w rules index sheet found).attributes true; columns = own_lines sheet (rules_at w rules index sheet found).attributes false })
+
+-- ---- records
+
+module _ (w : Book) (rules : IsWellFormed w) where
+  new_spellable : (id : Result ℕ EditError) → AreSpellable (one_diff (map_ok (new_diff w) id))
+  new_spellable (Ok id) = (tt, tt)
+  new_spellable (Err error) = tt
+
+  copy_spellable : (index : ℕ) (s : Result Sheet EditError) → AreSpellable (one_diff (and_then s (λ sheet. map_ok (copy_diff index w sheet) (next_id (ids_of w.worksheets)))))
+  copy_spellable index (Ok sheet) = of (next_id (ids_of w.worksheets))
+    where
+      of : (id : Result ℕ EditError) → AreSpellable (one_diff (map_ok (copy_diff index w sheet) id))
+      of (Ok id) = (tt, tt)
+      of (Err error) = tt
+  copy_spellable index (Err error) = tt
+
+  deletion_spellable : (index : ℕ) (o : Option Sheet) → slice_get w.worksheets index ≡ o → IsCanonicalList (one_diff (map_ok (deletion_diff index w) (ok_or InvalidSheet o)))
+      → AreSpellable (one_diff (map_ok (deletion_diff index w) (ok_or InvalidSheet o)))
+  deletion_spellable index None found numbers = tt
+  deletion_spellable index (Some sheet) found numbers = (deletion_known index sheet w rules found (recursion_from_All IsCanonicalDiff (one_diff (Ok (deletion_diff index w sheet))) numbers).0, tt)
+
+  move_spellable : (from to : ℕ) (s : Result Sheet EditError) → AreSpellable (one_diff (map_ok (move_diff from to) s))
+  move_spellable from to (Ok sheet) = (tt, tt)
+  move_spellable from to (Err error) = tt
+
+  pub sheets_spellable : (edit : Edit) → IsTrue (is_of_sheets edit) → (later : Book) → IsCanonicalList (record_of edit w later) → AreSpellable (record_of edit w later)
+  sheets_spellable AddSheet is later numbers = new_spellable (next_id (ids_of w.worksheets))
+  sheets_spellable (CopySheet index) is later numbers = copy_spellable index (sheet_at w index)
+  sheets_spellable (DeleteSheet index) is later numbers = deletion_spellable index (slice_get w.worksheets index) refl numbers
+  sheets_spellable (MoveSheet from to) is later numbers = move_spellable from to (sheet_at w from)
+  sheets_spellable (Input index row column content) is later numbers = absurd (let never : false ≡ true = is in cc)
+  sheets_spellable (ArrayInput index r tree) is later numbers = absurd (let never : false ≡ true = is in cc)
+  sheets_spellable (SetLink index row column link) is later numbers = absurd (let never : false ≡ true = is in cc)
+  sheets_spellable (Merge index r) is later numbers = absurd (let never : false ≡ true = is in cc)
+  sheets_spellable (Unmerge index row column) is later numbers = absurd (let never : false ≡ true = is in cc)
+  sheets_spellable (Lines index axis kind) is later numbers = absurd (let never : false ≡ true = is in cc)
+  sheets_spellable (MoveLines index axis first count delta) is later numbers = absurd (let never : false ≡ true = is in cc)
+  sheets_spellable (SetField index value) is later numbers = absurd (let never : false ≡ true = is in cc)

@@ -1,0 +1,17 @@
+use Rattle.std.proofs.Common.{ap, subst, sym, Result, Ok, Err, ◌∙◌}
+use Rattle.base_values.specs.declared.EditError.{EditError}
+use Rattle.sheet_views.specs.declared.View.{View}
+use Rattle.user_model.specs.Machine.{looking}
+use Rattle.user_model.specs.Stands.{Moves}
+use Rattle.user_model.proofs.Moving.{looked, not_looked}
+use Rattle.user_model.proofs.user_model.UserModel.look.Goals as goal
+
+pub returns-in-Ok-clause-next : goal.returns-in-Ok-clause-next
+returns-in-Ok-clause-next g c = λ state stands.
+    subst (λ (chosen : Result View EditError). Moves {T = Unit {0}} (Ok tt) c.put_view.new.self.document (looking chosen state)) (sym c.in-Ok.is)
+    (looked c.args.self.now c.put_view.new.self state c.in-Ok.view c.put_view.ensures stands)
+
+pub returns-in-Err-clause-next : goal.returns-in-Err-clause-next
+returns-in-Err-clause-next g c = λ state stands.
+    subst (λ (chosen : Result View EditError). Moves {T = Unit {0}} (Err c.in-Err.error) c.args.self.now.document (looking chosen state)) (sym c.in-Err.is)
+    (not_looked c.args.self.now state c.in-Err.error (λ short. c.requires (c.in-Err.is ∙ ap Err short)) stands)

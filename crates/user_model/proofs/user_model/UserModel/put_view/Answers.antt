@@ -1,0 +1,11 @@
+use Rattle.std.proofs.Common.{ap}
+use Rattle.user_model.specs.Opened.{document_in}
+use Rattle.user_model.specs.Values.{Session, seeing}
+use Rattle.user_model.proofs.Moving.{seen_reached}
+use Rattle.user_model.proofs.user_model.UserModel.put_view.Goals as goal
+
+pub returns : goal.returns
+returns g c = ap (λ (seen : Session). seeing seen c.args.view) c.self.view_is
+
+pub invariant_of-self : goal.invariant_of-self
+invariant_of-self g c = seen_reached (document_in c.self.inside.book) c.args.view c.self.invariant

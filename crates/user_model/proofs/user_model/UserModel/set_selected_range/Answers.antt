@@ -1,0 +1,39 @@
+use Rattle.std.proofs.Common.{ap, subst, ◌∙◌, w32, SFits}
+use Rattle.std.proofs.lemmas.Int.{to_z-of_z}
+use Rattle.base_values.specs.Answers.{Edits, map_ok}
+use Rattle.sheet_views.specs.Views.{range_chosen}
+use Rattle.user_model.specs.Document.{Document}
+use Rattle.user_model.specs.Machine.{looking}
+use Rattle.user_model.specs.Stands.{Moves}
+use Rattle.user_model.specs.Values.{Session, seeing}
+use Rattle.user_model.proofs.Moving.{range_sure}
+use Rattle.user_model.proofs.user_model.UserModel.set_selected_range.Goals as goal
+
+pub look-requires : goal.look-requires
+look-requires g c =
+    let first_row_fits : SFits w32 c.args.first_row = c.ranges.first_row in
+    let first_column_fits : SFits w32 c.args.first_column = c.ranges.first_column in
+    let last_row_fits : SFits w32 c.args.last_row = c.ranges.last_row in
+    let last_column_fits : SFits w32 c.args.last_column = c.ranges.last_column in
+    range_sure c.with_range-chosen.result c.self.inside.book.view c.args.first_row c.args.first_column c.args.last_row c.args.last_column (simp to_z-of_z at c.with_range-chosen.ensures)
+
+pub returns-clause-seen : goal.returns-clause-seen
+returns-clause-seen g c =
+    let first_row_fits : SFits w32 c.args.first_row = c.ranges.first_row in
+    let first_column_fits : SFits w32 c.args.first_column = c.ranges.first_column in
+    let last_row_fits : SFits w32 c.args.last_row = c.ranges.last_row in
+    let last_column_fits : SFits w32 c.args.last_column = c.ranges.last_column in
+    let same = simp to_z-of_z at c.with_range-chosen.ensures
+    ∙ ap (λ (seen : Session). range_chosen seen.document.view c.args.first_row c.args.first_column c.args.last_row c.args.last_column) c.self.view_is in
+    subst (λ r. Edits c.look.result c.args.self.now c.look.new.self (map_ok (seeing c.args.self.now) r)) same c.look.ensures.seen
+
+pub returns-clause-next : goal.returns-clause-next
+returns-clause-next g c = λ state stands.
+    let first_row_fits : SFits w32 c.args.first_row = c.ranges.first_row in
+    let first_column_fits : SFits w32 c.args.first_column = c.ranges.first_column in
+    let last_row_fits : SFits w32 c.args.last_row = c.ranges.last_row in
+    let last_column_fits : SFits w32 c.args.last_column = c.ranges.last_column in
+    let same = simp to_z-of_z at c.with_range-chosen.ensures
+    ∙ ap (λ (seen : Session). range_chosen seen.document.view c.args.first_row c.args.first_column c.args.last_row c.args.last_column) c.self.view_is
+    ∙ ap (λ (doc : Document). range_chosen doc.view c.args.first_row c.args.first_column c.args.last_row c.args.last_column) stands.document in
+    subst (λ r. Moves c.look.result c.look.new.self.document (looking r state)) same (c.look.ensures.next state stands)

@@ -1,0 +1,19 @@
+use Rattle.std.proofs.Common.{ap, subst, ◌∙◌}
+use Rattle.base_values.specs.Answers.{Edits, map_ok}
+use Rattle.user_model.specs.Document.{Document}
+use Rattle.user_model.specs.Machine.{looking}
+use Rattle.user_model.specs.Stands.{Moves}
+use Rattle.user_model.specs.Values.{Session, seeing}
+use Rattle.user_model.specs.Views.{sheet_chosen}
+use Rattle.user_model.proofs.user_model.UserModel.set_selected_sheet.Goals as goal
+
+pub returns-clause-seen : goal.returns-clause-seen
+returns-clause-seen g c =
+    let same = c.choose_sheet-chosen.ensures.chosen ∙ ap (λ (seen : Session). sheet_chosen c.args.sheet seen.document.book seen.document.view) c.self.view_is in
+    subst (λ r. Edits c.look.result c.args.self.now c.look.new.self (map_ok (seeing c.args.self.now) r)) same c.look.ensures.seen
+
+pub returns-clause-next : goal.returns-clause-next
+returns-clause-next g c = λ state stands.
+    let same = c.choose_sheet-chosen.ensures.chosen ∙ ap (λ (seen : Session). sheet_chosen c.args.sheet seen.document.book seen.document.view) c.self.view_is
+    ∙ ap (λ (doc : Document). sheet_chosen c.args.sheet doc.book doc.view) stands.document in
+    subst (λ r. Moves c.look.result c.look.new.self.document (looking r state)) same (c.look.ensures.next state stands)

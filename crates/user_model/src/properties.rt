@@ -1,0 +1,70 @@
+ghost use Rattle.std.specs.Prelude.{◌≡◌, map, Ok, IfOk, IsOkUnless};
+ghost use Rattle.base_values.specs.Answers.{Returns};
+ghost use Rattle.base_values.specs.declared.EditError.TheVariants.{NoMemory};
+ghost use Rattle.user_model.specs.Properties.{all_properties, draws_grid_lines, properties_of};
+
+use base_styles::Color;
+use base_values::{EditError, Items, Text};
+use sheet_grid::{SheetState, Workbook, Worksheet};
+use std::alloc::Global;
+
+/// What is listed of a sheet.
+///
+/// ```
+/// let sheets = model.get_worksheets_properties()?;
+/// let first_id = sheets.as_slice()[0].sheet_id;
+/// ```
+#[derive(Clone, PartialEq, Eq, Drop)]
+pub struct SheetProperties {
+    /// The name on its tab.
+    pub name: Text,
+    /// Whether it is shown.
+    pub state: SheetState,
+    /// Its id, which it keeps wherever it is moved.
+    pub sheet_id: u32,
+    /// The colour of its tab.
+    pub color: Color,
+}
+
+/// What is listed of a sheet. `NoMemory` alone is an error.
+fn properties_of(sheet: &Worksheet) -> Result<SheetProperties, EditError>
+    ensures made { IfOk result (λ properties. properties ≡ properties_of sheet.now) }
+    ensures only { IsOkUnless result NoMemory }
+{
+    Ok(SheetProperties {
+        name: sheet.copied_name()?,
+        state: sheet.state(),
+        sheet_id: sheet.get_sheet_id(),
+        color: sheet.color(),
+    })
+}
+
+/// What is listed of sheets, in order.
+fn list_properties(alloc: Global, sheets: &[Worksheet]) -> Result<Items<SheetProperties>, EditError>
+    ensures made { IfOk result (λ list. list ≡ map properties_of sheets.now) }
+    ensures only { IsOkUnless result NoMemory }
+{
+    let mut list = Items::empty(alloc);
+    for sheet in sheets {
+        let properties = properties_of(sheet)?;
+        list.push(properties)?;
+    }
+    Ok(list)
+}
+
+/// What is listed of each sheet of a workbook, in order.
+pub(crate) fn all_properties(
+    alloc: Global,
+    workbook: &Workbook,
+) -> Result<Items<SheetProperties>, EditError>
+    ensures { Returns result (Ok (all_properties workbook.now)) }
+{
+    list_properties(alloc, workbook.worksheets())
+}
+
+/// Whether grid lines are drawn in the sheet at an index. It takes no memory.
+pub(crate) fn draws_grid_lines(workbook: &Workbook, sheet: u32) -> Result<bool, EditError>
+    ensures { result ≡ draws_grid_lines sheet workbook.now }
+{
+    Ok(workbook.worksheet(sheet)?.show_grid_lines())
+}

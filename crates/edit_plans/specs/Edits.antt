@@ -27,7 +27,7 @@ use Rattle.edit_plans.specs.ArrayInputs.{array_put}
 use Rattle.edit_plans.specs.Links.{link_set}
 use Rattle.edit_plans.specs.Merging.{merge_made, merge_undone}
 use Rattle.edit_plans.specs.HiddenLines.{grown}
-use Rattle.edit_plans.specs.SheetEdits.{sheet_added, sheet_copied, sheet_deleted, sheet_taken, stays_there, field_set, added_record, copied_record, deleted_record, taken_record}
+use Rattle.edit_plans.specs.SheetEdits.{sheet_added, sheet_copied, sheet_deleted, sheet_taken, sheet_named, stays_there, is_named, field_set, added_record, copied_record, deleted_record, taken_record, named_record}
 
 -- an edit with its arguments. The first is the index of its sheet, but for a new sheet
 pub data Edit : Type 0 where
@@ -53,6 +53,8 @@ pub data Edit : Type 0 where
   DeleteSheet : ℕ → Edit
   -- the sheet that is moved, and the index to which it is taken
   MoveSheet : ℕ → ℕ → Edit
+  -- the sheet that is renamed, and its new name
+  RenameSheet : ℕ → List ℕ → Edit
   -- what a field of a sheet becomes
   SetField : ℕ → SheetField → Edit
 
@@ -62,6 +64,7 @@ is_of_sheets AddSheet = true
 is_of_sheets (CopySheet index) = true
 is_of_sheets (DeleteSheet index) = true
 is_of_sheets (MoveSheet from to) = true
+is_of_sheets (RenameSheet index name) = true
 is_of_sheets edit = false
 
 -- whether an edit is one of entries, not of lines and not of the list of the sheets
@@ -72,6 +75,7 @@ is_of_entries AddSheet = false
 is_of_entries (CopySheet index) = false
 is_of_entries (DeleteSheet index) = false
 is_of_entries (MoveSheet from to) = false
+is_of_entries (RenameSheet index name) = false
 is_of_entries edit = true
 
 -- what a content that is put has to be: it may stand at its place, and it is an array just where it is put in a rectangle
@@ -84,10 +88,12 @@ IsGiven edit = Unit {0}
 abbrev pub grown_move : Along → ℤ → ℤ → ℤ → Sheet → EditKind
 grown_move a first count delta sheet = Move first count (grown a sheet first count delta)
 
--- where no line moves, or by none, a move does nothing, whatever else is asked. Nor does the move of a sheet that is there to its own index
+-- where no line moves, or by none, a move does nothing, whatever else is asked. Nor does the move of a sheet that is there to its own
+-- index, or a sheet's renaming to exactly its own name
 abbrev pub is_silent : Edit → Book → Bool
 is_silent (MoveLines index axis first count delta) book = int_eq delta (pos 0) || int_lt count (pos 1)
 is_silent (MoveSheet from to) book = stays_there from to book
+is_silent (RenameSheet index name) book = is_named index name book
 is_silent edit book = false
 
 -- the workbook after an edit, or the edit's first refusal
@@ -104,6 +110,7 @@ changed AddSheet book = sheet_added book
 changed (CopySheet index) book = sheet_copied index book
 changed (DeleteSheet index) book = sheet_deleted index book
 changed (MoveSheet from to) book = sheet_taken from to book
+changed (RenameSheet index name) book = sheet_named index name book
 changed (SetField index value) book = field_set index value book
 
 -- the record of an edit of lines of a sheet, if it is there
@@ -120,4 +127,5 @@ record_of AddSheet earlier later = added_record earlier
 record_of (CopySheet index) earlier later = copied_record index earlier
 record_of (DeleteSheet index) earlier later = deleted_record index earlier
 record_of (MoveSheet from to) earlier later = taken_record from to earlier
+record_of (RenameSheet index name) earlier later = named_record index name earlier
 record_of edit earlier later = record_between earlier later

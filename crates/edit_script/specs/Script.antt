@@ -20,7 +20,7 @@ use Rattle.script_lines.specs.declared.Command.TheVariants as command
 use Rattle.script_dump.specs.Text.{line, hex}
 use Rattle.script_dump.specs.Dump.{dump}
 use Rattle.edit_plans.specs.Edits.{Edit}
-use Rattle.edit_plans.specs.Edits.Edit.{Input, ArrayInput, SetLink, Merge, Unmerge, Lines, MoveLines, AddSheet, CopySheet, DeleteSheet, MoveSheet, SetField}
+use Rattle.edit_plans.specs.Edits.Edit.{Input, ArrayInput, SetLink, Merge, Unmerge, Lines, MoveLines, AddSheet, CopySheet, DeleteSheet, MoveSheet, RenameSheet, SetField}
 use Rattle.user_model.specs.Machine.{State, begun, edit_of, undo_of, redo_of, synced_of, sync_bytes}
 use Rattle.user_model.specs.Reading.{content_text, formula_typed, link_to, typed}
 
@@ -63,6 +63,7 @@ edit_for command.NewSheet s = Some AddSheet
 edit_for (command.DuplicateSheet sheet) s = Some (CopySheet sheet)
 edit_for (command.DeleteSheet sheet) s = Some (DeleteSheet sheet)
 edit_for (command.MoveSheet move) s = Some (MoveSheet move.from move.to)
+edit_for (command.RenameSheet sheet text) s = Some (RenameSheet sheet text)
 edit_for (command.HideSheet sheet) s = Some (SetField sheet (StateField Hidden))
 edit_for (command.UnhideSheet sheet) s = Some (SetField sheet (StateField Visible))
 edit_for (command.SheetColor named) s = Some (SetField named.sheet (ColorField named.color))

@@ -277,6 +277,13 @@ impl Session {
         push_outcome(&mut self.out, done)
     }
 
+    fn rename_sheet(&mut self, sheet: u32, name: &str) -> Result<(), EditError>
+        ensures { RunsCommand (command.RenameSheet sheet name.now) result self.old self.new }
+    {
+        let done = self.model.rename_sheet(sheet, name);
+        push_outcome(&mut self.out, done)
+    }
+
     fn hide_sheet(&mut self, sheet: u32) -> Result<(), EditError>
         ensures { RunsCommand (command.HideSheet sheet) result self.old self.new }
     {
@@ -355,6 +362,7 @@ impl Session {
             Command::DuplicateSheet(sheet) => self.duplicate_sheet(sheet),
             Command::DeleteSheet(sheet) => self.delete_sheet(sheet),
             Command::MoveSheet(moved) => self.move_sheet(moved),
+            Command::RenameSheet(sheet, text) => self.rename_sheet(sheet, text.as_str()),
             Command::HideSheet(sheet) => self.hide_sheet(sheet),
             Command::UnhideSheet(sheet) => self.unhide_sheet(sheet),
             Command::SheetColor(named) => self.color(named),

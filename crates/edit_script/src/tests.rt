@@ -315,6 +315,42 @@ const SHEETS: [(&str, &str); 13] = [
     ),
 ];
 
+/// Scripts that rename sheets, each with its answers.
+const RENAMINGS: [(&str, &str); 8] = [
+    (
+        "set 0 A1 =Data!B1\nset 0 A2 =Sheet1!B1\nrename-sheet 0 Data\nget 0 A2\nundo\nget 0 A1\nget 0 A2",
+        "ok\nok\nok\nvalue =Data!B1\nok\nvalue =Data!B1\nvalue =Sheet1!B1\n",
+    ),
+    (
+        "new-sheet\nrename-sheet 1 sheet1\nrename-sheet 2 a\nrename-sheet 0 SHEET1\nshow",
+        "ok\nerror SheetName\nerror InvalidSheet\nok\nbook en UTC workbook\nsheet 1 visible 1 0 0 - SHEET1\nsheet 2 visible 1 0 0 - Sheet2\nend\n",
+    ),
+    (
+        "set 0 A1 1\nundo\nrename-sheet 0 Sheet1\nredo\nget 0 A1",
+        "ok\nok\nok\nok\nvalue 1\n",
+    ),
+    (
+        "rename-sheet 0 Sheet1\nundo\nshow",
+        "ok\nok\nbook en UTC workbook\nsheet 1 visible 1 0 0 - Sheet1\nend\n",
+    ),
+    (
+        "rename-sheet 0\nrename-sheet 0 'a\nrename-sheet 0 a'\nrename-sheet 0 a:b\nrename-sheet 0 a/b\nrename-sheet 0 0123456789012345678901234567890x",
+        "error SheetName\nerror SheetName\nerror SheetName\nerror SheetName\nerror SheetName\nerror SheetName\n",
+    ),
+    (
+        "new-sheet\nset 1 A1 =SHEET1!A1+Sheet2!A1\nrename-sheet 0 a b\nget 1 A1\nundo\nget 1 A1\nredo\nget 1 A1",
+        "ok\nok\nok\nvalue ='a b'!A1+Sheet2!A1\nok\nvalue =SHEET1!A1+Sheet2!A1\nok\nvalue ='a b'!A1+Sheet2!A1\n",
+    ),
+    (
+        "set 0 A1 =DATA!B1\nrename-sheet 0 Data\nrename-sheet 0 Other\nget 0 A1\nundo\nget 0 A1\nundo\nget 0 A1",
+        "ok\nok\nok\nvalue =Other!B1\nok\nvalue =DATA!B1\nok\nvalue =DATA!B1\n",
+    ),
+    (
+        "rename-sheet 0 a\nset 0 A1 =a!B1\nundo\nundo\nnew-sheet\nshow",
+        "ok\nok\nok\nok\nok\nbook en UTC workbook\nsheet 1 visible 1 0 0 - Sheet1\nsheet 2 visible 1 0 0 - Sheet2\nend\n",
+    ),
+];
+
 /// Whether a script writes these answers, and then the second copy, which had nothing.
 fn is_answered(alloc: Global, script: &str, answers: &str) -> Result<bool, Fail> {
     let (outcome, output) = run_failing(alloc, script, &[], &[])?;
@@ -362,6 +398,7 @@ fn arrays_merges_and_links(rt: HostRuntime) -> Result<(), Fail> {
 #[test]
 fn sheets_are_edited(rt: HostRuntime) -> Result<(), Fail> {
     assert_eq!(rt; first_wrong(rt.alloc(), &SHEETS)?, None);
+    assert_eq!(rt; first_wrong(rt.alloc(), &RENAMINGS)?, None);
     Ok(())
 }
 

@@ -10,7 +10,8 @@ mod kept_lines;
 mod values;
 
 pub use edits::EditPart;
-pub use kept_lines::KeptLinesPart;
+pub use kept_lines::{FormulasPart, KeptLinesPart};
+pub use values::SheetPlacePart;
 
 #[cfg(test)]
 mod tests;

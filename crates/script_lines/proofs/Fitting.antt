@@ -24,7 +24,7 @@ use Rattle.script_lines.specs.Commands.{Reader, word, sheet_word, cell_words, ar
 use Rattle.script_lines.specs.declared.reference.Reference.{Reference}
 use Rattle.script_lines.specs.declared.command.NamedCell.{NamedCell}
 use Rattle.script_lines.specs.declared.command.Command.{Command}
-use Rattle.script_lines.specs.declared.command.Command.TheVariants.{Set, Get, Array, Link, Unlink, Merge, Unmerge, InsertRows, InsertColumns, DeleteRows, DeleteColumns, MoveRows, MoveColumns, NewSheet, DuplicateSheet, DeleteSheet, MoveSheet, HideSheet, UnhideSheet, SheetColor, GridLines, Undo, Redo, Sync, Show}
+use Rattle.script_lines.specs.declared.command.Command.TheVariants.{Set, Get, Array, Link, Unlink, Merge, Unmerge, InsertRows, InsertColumns, DeleteRows, DeleteColumns, MoveRows, MoveColumns, NewSheet, DuplicateSheet, DeleteSheet, MoveSheet, RenameSheet, HideSheet, UnhideSheet, SheetColor, GridLines, Undo, Redo, Sync, Show}
 use Rattle.script_lines.specs.CommandFits.{IsNamed, IsNamedArea, CellFits, AreaFits, LinesFit, MoveFits, SheetFits, SheetMoveFits, IsNamedColor, ColorFits, GridFits, CommandFits}
 
 -- ---- lists
@@ -331,6 +331,7 @@ each_fits =
     ▸ exactly_fits SheetFits sheet_word DuplicateSheet sheet_fits (λ sheet s. s)
     ▸ exactly_fits SheetFits sheet_word DeleteSheet sheet_fits (λ sheet s. s)
     ▸ exactly_fits SheetMoveFits sheet_move_words MoveSheet sheet_move_fits (λ move m. m)
+    ▸ and_text_fits SheetFits sheet_word (λ sheet text. Some (RenameSheet sheet text)) sheet_fits (λ sheet text s t. (s, t))
     ▸ exactly_fits SheetFits sheet_word HideSheet sheet_fits (λ sheet s. s)
     ▸ exactly_fits SheetFits sheet_word UnhideSheet sheet_fits (λ sheet s. s)
     ▸ exactly_fits ColorFits color_words SheetColor color_words_fit (λ named c. c)

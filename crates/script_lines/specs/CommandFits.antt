@@ -13,7 +13,7 @@ use Rattle.script_lines.specs.declared.command.NamedSheetMove.{NamedSheetMove}
 use Rattle.script_lines.specs.declared.command.NamedColor.{NamedColor}
 use Rattle.script_lines.specs.declared.command.NamedGrid.{NamedGrid}
 use Rattle.script_lines.specs.declared.command.Command.{Command}
-use Rattle.script_lines.specs.declared.command.Command.TheVariants.{Set, Get, Array, Link, Unlink, Merge, Unmerge, InsertRows, InsertColumns, DeleteRows, DeleteColumns, MoveRows, MoveColumns, NewSheet, DuplicateSheet, DeleteSheet, MoveSheet, HideSheet, UnhideSheet, SheetColor, GridLines, Undo, Redo, Sync, Show}
+use Rattle.script_lines.specs.declared.command.Command.TheVariants.{Set, Get, Array, Link, Unlink, Merge, Unmerge, InsertRows, InsertColumns, DeleteRows, DeleteColumns, MoveRows, MoveColumns, NewSheet, DuplicateSheet, DeleteSheet, MoveSheet, RenameSheet, HideSheet, UnhideSheet, SheetColor, GridLines, Undo, Redo, Sync, Show}
 
 -- a row and a column that letters and digits can name
 pub record IsNamed (row column : ℤ) : Type 0 where
@@ -79,6 +79,7 @@ CommandFits NewSheet = Unit {0}
 CommandFits (DuplicateSheet sheet) = SheetFits sheet
 CommandFits (DeleteSheet sheet) = SheetFits sheet
 CommandFits (MoveSheet move) = SheetMoveFits move
+CommandFits (RenameSheet sheet text) = SheetFits sheet × IsUtf8 text
 CommandFits (HideSheet sheet) = SheetFits sheet
 CommandFits (UnhideSheet sheet) = SheetFits sheet
 CommandFits (SheetColor named) = ColorFits named

@@ -19,7 +19,7 @@ use Rattle.script_lines.specs.declared.command.NamedSheetMove.{NamedSheetMove}
 use Rattle.script_lines.specs.declared.command.NamedColor.{NamedColor}
 use Rattle.script_lines.specs.declared.command.NamedGrid.{NamedGrid}
 use Rattle.script_lines.specs.declared.command.Command.{Command}
-use Rattle.script_lines.specs.declared.command.Command.TheVariants.{Set, Get, Array, Link, Unlink, Merge, Unmerge, InsertRows, InsertColumns, DeleteRows, DeleteColumns, MoveRows, MoveColumns, NewSheet, DuplicateSheet, DeleteSheet, MoveSheet, HideSheet, UnhideSheet, SheetColor, GridLines, Undo, Redo, Sync, Show}
+use Rattle.script_lines.specs.declared.command.Command.TheVariants.{Set, Get, Array, Link, Unlink, Merge, Unmerge, InsertRows, InsertColumns, DeleteRows, DeleteColumns, MoveRows, MoveColumns, NewSheet, DuplicateSheet, DeleteSheet, MoveSheet, RenameSheet, HideSheet, UnhideSheet, SheetColor, GridLines, Undo, Redo, Sync, Show}
 
 -- the next step, if this one has a value
 infixl 10 ◌>>=◌
@@ -143,6 +143,7 @@ commands =
     ∷ (codes "duplicate-sheet", exactly sheet_word DuplicateSheet)
     ∷ (codes "delete-sheet", exactly sheet_word DeleteSheet)
     ∷ (codes "move-sheet", exactly sheet_move_words MoveSheet)
+    ∷ (codes "rename-sheet", and_text sheet_word (λ sheet text. Some (RenameSheet sheet text)))
     ∷ (codes "hide-sheet", exactly sheet_word HideSheet)
     ∷ (codes "unhide-sheet", exactly sheet_word UnhideSheet)
     ∷ (codes "color", exactly color_words SheetColor)

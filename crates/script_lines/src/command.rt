@@ -169,6 +169,8 @@ pub enum Command {
     DeleteSheet(u32),
     /// `move-sheet S S`: take a sheet to another index.
     MoveSheet(NamedSheetMove),
+    /// `rename-sheet S TEXT`: give a sheet another name.
+    RenameSheet(u32, Text),
     /// `hide-sheet S`: hide a sheet.
     HideSheet(u32),
     /// `unhide-sheet S`: show a sheet again.

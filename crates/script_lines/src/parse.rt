@@ -222,6 +222,9 @@ fn read_words(alloc: Global, word: &str, words: Option<&str>) -> Result<Option<C
         "duplicate-sheet" => Ok(ended(sheet_word(words)).map(Command::DuplicateSheet)),
         "delete-sheet" => Ok(ended(sheet_word(words)).map(Command::DeleteSheet)),
         "move-sheet" => Ok(ended(sheet_move_words(words)).map(Command::MoveSheet)),
+        "rename-sheet" => Ok(with_text(alloc, sheet_word(words))?.map(|(sheet, text)| {
+            Command::RenameSheet(sheet, text)
+        })),
         "hide-sheet" => Ok(ended(sheet_word(words)).map(Command::HideSheet)),
         "unhide-sheet" => Ok(ended(sheet_word(words)).map(Command::UnhideSheet)),
         "color" => Ok(ended(color_words(words)).map(Command::SheetColor)),

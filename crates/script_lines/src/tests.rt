@@ -30,6 +30,10 @@ fn in_words(alloc: Global, command: Option<Command>) -> Result<String, AllocErro
             let (from, to) = (moved.from, moved.to);
             format!(in alloc; "move sheet: from {from} to {to}")
         }
+        Some(Command::RenameSheet(sheet, text)) => {
+            let name = text.as_str();
+            format!(in alloc; "rename: sheet {sheet} |{name}|")
+        }
         Some(Command::HideSheet(sheet)) => format!(in alloc; "hide: sheet {sheet}"),
         Some(Command::UnhideSheet(sheet)) => format!(in alloc; "unhide: sheet {sheet}"),
         Some(Command::SheetColor(named)) => color_in_words(alloc, named),
@@ -88,7 +92,7 @@ fn move_in_words(alloc: Global, word: &str, moved: NamedMove) -> Result<String, 
 }
 
 /// Lines, and the commands that they are.
-const COMMANDS: [(&[u8], &str); 51] = [
+const COMMANDS: [(&[u8], &str); 54] = [
     (b"set 0 A1 12", "set: sheet 0 row 1 column 1 |12|"),
     (b"set 0 A1", "set: sheet 0 row 1 column 1 ||"),
     (b"set 0 A1 ", "set: sheet 0 row 1 column 1 ||"),
@@ -168,6 +172,9 @@ const COMMANDS: [(&[u8], &str); 51] = [
     (b"duplicate-sheet 0", "duplicate: sheet 0"),
     (b"delete-sheet 4294967295", "delete: sheet 4294967295"),
     (b"move-sheet 007 0", "move sheet: from 7 to 0"),
+    (b"rename-sheet 1 a b", "rename: sheet 1 |a b|"),
+    (b"rename-sheet 007", "rename: sheet 7 ||"),
+    (b"rename-sheet 0 a\\n\\\\", "rename: sheet 0 |a\n\\|"),
     (b"hide-sheet 1", "hide: sheet 1"),
     (b"unhide-sheet 1", "unhide: sheet 1"),
     (b"color 0 -", "color: sheet 0 none"),
@@ -185,7 +192,7 @@ const COMMANDS: [(&[u8], &str); 51] = [
 ];
 
 /// Lines that are no commands.
-const BAD_LINES: [&[u8]; 81] = [
+const BAD_LINES: [&[u8]; 84] = [
     b"insert-rows",
     b"insert-rows 0",
     b"insert-rows 0 1",
@@ -228,6 +235,9 @@ const BAD_LINES: [&[u8]; 81] = [
     b"move-sheet 0",
     b"move-sheet 0 1 2",
     b"move-sheet 0 -1",
+    b"rename-sheet",
+    b"rename-sheet  a",
+    b"rename-sheet 0 \\q",
     b"hide-sheet a",
     b"color 0",
     b"color 0 ",

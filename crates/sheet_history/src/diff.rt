@@ -2,6 +2,7 @@ use crate::field::FieldChange;
 use base_axis::MergeList;
 use base_shared::Shared;
 use base_values::{Exact, Items, Position, Text};
+use book_names::KeptTrees;
 use book_sheets::KeptSheet;
 use line_map::EditKind;
 use sheet_grid::{Cell, Link};
@@ -73,6 +74,14 @@ pub enum Diff {
         sheet: u32,
         from: u32,
         to: u32,
+    },
+    /// The sheet of that id, which got a new name in place of the old one, and the trees that the
+    /// opposite renaming does not give back.
+    RenameSheet {
+        sheet: u32,
+        old: Text,
+        new: Text,
+        kept: Shared<KeptTrees>,
     },
 }
 

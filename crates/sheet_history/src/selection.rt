@@ -67,6 +67,7 @@ fn forward_step(diff: &Diff) -> ListStep
             sheet: *sheet,
             to: *to,
         },
+        Diff::RenameSheet { .. } => ListStep::Stays,
     }
 }
 
@@ -90,6 +91,7 @@ fn back_step(diff: &Diff) -> ListStep
             sheet: *sheet,
             to: *from,
         },
+        Diff::RenameSheet { .. } => ListStep::Stays,
     }
 }
 

@@ -11,9 +11,10 @@ use Rattle.sheet_lines.specs.declared.KeptLines.{KeptLines}
 use Rattle.base_styles.specs.declared.Color.{Color}
 use Rattle.sheet_grid.specs.declared.SheetState.{SheetState}
 use Rattle.book_sheets.specs.declared.KeptSheet.{KeptSheet}
+use Rattle.book_names.specs.declared.KeptTrees.{KeptTrees}
 use Rattle.sheet_history.specs.declared.FieldChange.TheVariants as change
 use Rattle.sheet_history.specs.declared.Diff.{Diff}
-use Rattle.sheet_history.specs.declared.Diff.TheVariants.{Cell as CellDiff, Link as LinkDiff, Merges as MergesDiff, Field as FieldDiff, Lines as LinesDiff, NewSheet as NewDiff, DuplicateSheet as CopyDiff, DeleteSheet as DeletionDiff, MoveSheet as MoveDiff}
+use Rattle.sheet_history.specs.declared.Diff.TheVariants.{Cell as CellDiff, Link as LinkDiff, Merges as MergesDiff, Field as FieldDiff, Lines as LinesDiff, NewSheet as NewDiff, DuplicateSheet as CopyDiff, DeleteSheet as DeletionDiff, MoveSheet as MoveDiff, RenameSheet as RenameDiff}
 use Rattle.sheet_history.specs.declared.LineAxis.{LineAxis}
 use Rattle.sheet_history.specs.declared.DiffType.{DiffType}
 use Rattle.sheet_history.specs.declared.DiffType.TheVariants.{Undo, Redo}
@@ -29,6 +30,7 @@ use Rattle.lines_wire.specs.KeptBytes.{IsKnownKept}
 use Rattle.sheet_wire.specs.ChangeBytes.{spell_change, change_at, FitsChange, spell_sheet_change, sheet_change_at, FitsSheetChange}
 use Rattle.sheet_wire.specs.LinesBytes.{spell_lines, lines_parts_at, FitsLines}
 use Rattle.sheet_wire.specs.SheetsBytes.{spell_color_change, spell_state_change, spell_grid_change, state_at, FitsField, spell_new, new_parts_at, FitsNew, spell_copy, copy_parts_at, FitsCopy}
+use Rattle.sheet_wire.specs.TreesBytes.{spell_rename, rename_parts_at, FitsRename, AreKnownTrees}
 use Rattle.sheet_wire.specs.SheetsBytes.{spell_deletion, deletion_parts_at, FitsDeletion, IsKnownKeptSheet, spell_move, move_parts_at, FitsMove}
 
 -- ---- diffs
@@ -42,6 +44,7 @@ spell_diff (LinesDiff sheet axis edit kept) = 7 ∷ spell_lines sheet axis edit 
 spell_diff (NewDiff sheet index name) = 8 ∷ spell_new sheet index name
 spell_diff (CopyDiff source sheet index name) = 9 ∷ spell_copy source sheet index name
 spell_diff (DeletionDiff index kept) = 10 ∷ spell_deletion index kept
+spell_diff (RenameDiff sheet old new kept) = 11 ∷ spell_rename sheet old new kept
 spell_diff (MoveDiff sheet from to) = 12 ∷ spell_move sheet from to
 spell_diff (FieldDiff sheet (change.Color old new)) = 13 ∷ spell_color_change sheet old new
 spell_diff (FieldDiff sheet (change.State old new)) = 14 ∷ spell_state_change sheet old new
@@ -89,6 +92,12 @@ deletion_diff_made x = DeletionDiff x.0 x.1
 unfoldable pub deletion_diff_at : Reader Diff
 deletion_diff_at = map_at deletion_diff_made deletion_parts_at
 
+abbrev pub rename_diff_made : ℕ × (List ℕ × (List ℕ × KeptTrees)) → Diff
+rename_diff_made x = RenameDiff x.0 x.1.0 x.1.1.0 x.1.1.1
+
+unfoldable pub rename_diff_at : Reader Diff
+rename_diff_at = map_at rename_diff_made rename_parts_at
+
 abbrev pub move_diff_made : ℕ × (ℕ × ℕ) → Diff
 move_diff_made x = MoveDiff x.0 x.1.0 x.1.1
 
@@ -123,6 +132,7 @@ diff_of tag =
     else if tag == 8 then new_diff_at
     else if tag == 9 then copy_diff_at
     else if tag == 10 then deletion_diff_at
+    else if tag == 11 then rename_diff_at
     else if tag == 12 then move_diff_at
     else if tag == 13 then color_diff_at
     else if tag == 14 then state_diff_at
@@ -143,6 +153,7 @@ FitsDiff (NewDiff sheet index name) = FitsNew sheet index name
 FitsDiff (CopyDiff source sheet index name) = FitsCopy source sheet index name
 FitsDiff (DeletionDiff index kept) = FitsDeletion index kept
 FitsDiff (MoveDiff sheet from to) = FitsMove sheet from to
+FitsDiff (RenameDiff sheet old new kept) = FitsRename sheet old new kept
 
 -- what encoding asks of a diff: its numbers are canonical, and its formulas are at most 64 deep
 abbrev pub IsKnownDiff : Diff → Type 0
@@ -155,6 +166,7 @@ IsKnownDiff (NewDiff sheet index name) = Unit {0}
 IsKnownDiff (CopyDiff source sheet index name) = Unit {0}
 IsKnownDiff (DeletionDiff index kept) = IsKnownKeptSheet kept
 IsKnownDiff (MoveDiff sheet from to) = Unit {0}
+IsKnownDiff (RenameDiff sheet old new kept) = AreKnownTrees kept
 
 -- a list of diffs that bytes can carry
 abbrev pub FitsList : List Diff → Type 0

@@ -13,6 +13,7 @@ mod encode;
 mod encode_sheets;
 mod parts;
 mod sheets;
+mod trees;
 
 pub use decode::decode_queue;
 pub use encode::encode_queue;

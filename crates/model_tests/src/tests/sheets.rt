@@ -210,3 +210,53 @@ fn a_second_view_follows(rt: HostRuntime) -> Result<(), Fail> {
     assert_eq!(rt; seen(&second), (0, 1));
     Ok(())
 }
+
+/// The bytes of a sheet's new name, which a formula names in part.
+fn renamed_bytes(model: &mut UserModel<ClearAll>) -> Result<Vec<u8>, EditError> {
+    model.set_user_input(0, 1, 1, "=sheet1!B1+Data!B1")?;
+    model.rename_sheet(0, "Data")?;
+    model.flush_send_queue()
+}
+
+/// The bytes of what is taken back.
+fn undone_bytes(model: &mut UserModel<ClearAll>) -> Result<Vec<u8>, EditError> {
+    model.undo()?;
+    model.flush_send_queue()
+}
+
+/// A second model follows a renaming and takes it back, with the name that no sheet had, and its view
+/// stays.
+#[test]
+fn a_renaming_is_followed(rt: HostRuntime) -> Result<(), Fail> {
+    let mut first = new_model(rt.alloc())?;
+    let mut second = new_model(rt.alloc())?;
+    second.set_selected_range(3, 1, 3, 1)?;
+    second.apply_external_diffs(&renamed_bytes(&mut first)?)?;
+    assert_eq!(rt; seen(&second), (0, 3));
+    assert_eq!(rt;
+        second.get_cell_content(0, 1, 1)?.as_str(),
+        "=Data!B1+Data!B1"
+    );
+    second.apply_external_diffs(&undone_bytes(&mut first)?)?;
+    assert_eq!(rt;
+        second.get_cell_content(0, 1, 1)?.as_str(),
+        "=sheet1!B1+Data!B1"
+    );
+    Ok(())
+}
+
+/// A name that a sheet has letter by letter is no step, and one that it may not have is refused.
+#[test]
+fn names_are_refused(rt: HostRuntime) -> Result<(), Fail> {
+    let mut model = new_model(rt.alloc())?;
+    model.new_sheet()?;
+    assert_eq!(rt; model.rename_sheet(2, "a"), Err(EditError::InvalidSheet));
+    assert_eq!(rt; model.rename_sheet(0, "SHEET2"), Err(EditError::SheetName));
+    assert_eq!(rt; model.rename_sheet(0, ""), Err(EditError::SheetName));
+    model.undo()?;
+    model.rename_sheet(0, "Sheet1")?;
+    assert!(rt; model.can_redo() && !model.can_undo());
+    model.rename_sheet(0, "sheet1")?;
+    assert!(rt; !model.can_redo() && model.can_undo());
+    Ok(())
+}

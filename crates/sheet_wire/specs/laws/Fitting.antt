@@ -15,20 +15,24 @@ use Rattle.sheet_grid.specs.CanonicalCell.{IsCanonicalCell}
 use Rattle.sheet_grid.specs.Lines.{is_plain}
 use Rattle.sheet_lines.specs.declared.KeptLines.{KeptLines}
 use Rattle.sheet_history.specs.declared.Diff.{Diff}
-use Rattle.sheet_history.specs.declared.Diff.TheVariants.{Cell as CellDiff, Link as LinkDiff, Merges as MergesDiff, Field as FieldDiff, Lines as LinesDiff, NewSheet as NewDiff, DuplicateSheet as CopyDiff, DeleteSheet as DeletionDiff, MoveSheet as MoveDiff}
+use Rattle.sheet_history.specs.declared.Diff.TheVariants.{Cell as CellDiff, Link as LinkDiff, Merges as MergesDiff, Field as FieldDiff, Lines as LinesDiff, NewSheet as NewDiff, DuplicateSheet as CopyDiff, DeleteSheet as DeletionDiff, MoveSheet as MoveDiff, RenameSheet as RenameDiff}
 use Rattle.sheet_history.specs.declared.QueueDiffs.{QueueDiffs}
 use Rattle.book_sheets.specs.declared.KeptSheet.{KeptSheet}
 use Rattle.book_sheets.specs.SheetDiffs.{IsCanonicalSheet}
+use Rattle.book_names.specs.declared.KeptTrees.{KeptTrees}
+use Rattle.book_names.specs.Renaming.{AreCanonicalTrees}
 use Rattle.sheet_history.specs.laws.Depth.{IsShallowDiff, IsShallowSheet}
 use Rattle.sheet_history.specs.Diffs.{IsCanonicalDiff, IsCanonicalList, IsCanonicalQueue}
-use Rattle.formula_wire.specs.Carried.{IsKnownNode}
+use Rattle.formula_wire.specs.Carried.{FitsNode, IsKnownNode}
+use Rattle.formula_wire.specs.laws.CanonicalLaws.{canonical_from_carried}
 use Rattle.cell_wire.specs.CellBytes.{FitsCell, IsKnownCell}
 use Rattle.cell_wire.specs.laws.Fitting.{canonical_cell_from_fits}
-use Rattle.lines_wire.specs.laws.KeptFits.{kept_lines_from_fits}
+use Rattle.lines_wire.specs.laws.KeptFits.{formulas_from_fits, kept_lines_from_fits}
 use Rattle.map_wire.specs.laws.MapFits.{values_hold}
 use Rattle.grid_wire.specs.NameBytes.{FitsName, IsKnownName}
 use Rattle.grid_wire.specs.laws.GridFits.{canonical_cells_from_fits, canonical_name_from_fits}
 use Rattle.sheet_wire.specs.SheetsBytes.{FitsKeptSheet, IsKnownKeptSheet}
+use Rattle.sheet_wire.specs.TreesBytes.{FitsTrees}
 use Rattle.sheet_wire.specs.QueueBytes.{FitsDiff, FitsList, FitsEntry, FitsQueue, IsKnownDiff}
 
 -- ---- what encoding asks of lines
@@ -53,6 +57,7 @@ IsKeptOfDiff (NewDiff sheet index name) = Unit {0}
 IsKeptOfDiff (CopyDiff source sheet index name) = Unit {0}
 IsKeptOfDiff (DeletionDiff index kept) = HasOwnLines kept
 IsKeptOfDiff (MoveDiff sheet from to) = Unit {0}
+IsKeptOfDiff (RenameDiff sheet old new kept) = Unit {0}
 
 -- ---- the numbers of what fits are canonical
 
@@ -66,6 +71,12 @@ kept_sheet_from_fits kept fits = record {
   names = values_hold (λ place. place < 2 ^ 64) FitsName _ canonical_name_from_fits kept.names fits.names;
 }
 
+kept_trees_from_fits : (kept : KeptTrees) → FitsTrees kept → AreCanonicalTrees kept
+kept_trees_from_fits kept fits = record {
+  formulas = formulas_from_fits kept.formulas fits.formulas;
+  names = values_hold (λ place. place < 2 ^ 64) FitsNode _ (λ tree fits. canonical_from_carried tree fits.carried) kept.names fits.names;
+}
+
 pub canonical_diff_from_fits : (diff : Diff) → FitsDiff diff → IsCanonicalDiff diff
 canonical_diff_from_fits (CellDiff sheet place old new) fits =
     (kept_option old fits.old, kept_option new fits.new)
@@ -77,6 +88,7 @@ canonical_diff_from_fits (NewDiff sheet index name) fits = tt
 canonical_diff_from_fits (CopyDiff source sheet index name) fits = tt
 canonical_diff_from_fits (DeletionDiff index kept) fits = kept_sheet_from_fits kept fits.kept
 canonical_diff_from_fits (MoveDiff sheet from to) fits = tt
+canonical_diff_from_fits (RenameDiff sheet old new kept) fits = kept_trees_from_fits kept fits.kept
 
 kept_diffs : (diffs : List Diff) → AllByRecursion FitsDiff diffs → AllByRecursion IsCanonicalDiff diffs
 kept_diffs [] fits = tt
@@ -128,6 +140,10 @@ known_diff (NewDiff sheet index name) kept shallow of_lines = tt
 known_diff (CopyDiff source sheet index name) kept shallow of_lines = tt
 known_diff (DeletionDiff index part) kept shallow of_lines = known_sheet part kept shallow of_lines
 known_diff (MoveDiff sheet from to) kept shallow of_lines = tt
+known_diff (RenameDiff sheet old new trees) kept shallow of_lines = record {
+  formulas = λ place. known_tree (get trees.formulas place) (kept.formulas place) (shallow.formulas place);
+  names = λ place. known_tree (get trees.names place) (kept.names place) (shallow.names place);
+}
 known_diff (LinesDiff sheet axis edit lines) kept shallow of_lines = record {
   cells = λ place. known_entry (get lines.cells place) (kept.cells place) (shallow.cells place);
   lines = of_lines;

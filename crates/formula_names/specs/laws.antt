@@ -1,0 +1,4 @@
+pub mod NamedEquations
+pub mod NamedLaws
+pub mod NameLeaves
+pub mod RenamedLaws

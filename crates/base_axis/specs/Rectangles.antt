@@ -47,13 +47,6 @@ is_between first last line = int_le first line && int_le line last
 unfoldable pub holds : MergedCell → Position → Bool
 holds r place = is_between r.row (last_row r) place.row && is_between r.column (last_column r) place.column
 
--- the same, part by part
-pub record Holds (r : MergedCell) (place : Position) : Type 0 where
-  pub row_low : r.row ≤ℤ place.row
-  pub row_high : place.row ≤ℤ last_row r
-  pub column_low : r.column ≤ℤ place.column
-  pub column_high : place.column ≤ℤ last_column r
-
 -- it has more than one place
 unfoldable pub has_many : MergedCell → Bool
 has_many r = int_lt (pos 1) r.width || int_lt (pos 1) r.height

@@ -13,6 +13,3 @@ pub use axis::{Axis, ColumnAxis, RowAxis};
 pub use axis_map::AxisMap;
 pub use merge_list::MergeList;
 pub use merged_cell::MergedCell;
-
-#[cfg(test)]
-mod tests;

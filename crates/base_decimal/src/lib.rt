@@ -7,8 +7,6 @@ mod decimal;
 mod digits;
 mod numeral;
 mod print;
-#[cfg(test)]
-mod tests;
 mod value;
 
 pub use decimal::Decimal;

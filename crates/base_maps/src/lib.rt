@@ -13,6 +13,3 @@ pub use number_map::NumberMap;
 pub use position_map::PositionMap;
 pub use sheet_place::SheetPlace;
 pub use sheet_place_map::SheetPlaceMap;
-
-#[cfg(test)]
-mod tests;

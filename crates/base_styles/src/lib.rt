@@ -10,6 +10,3 @@ pub use alignment::{Alignment, HorizontalAlignment, VerticalAlignment};
 pub use border::{Border, BorderItem, BorderStyle};
 pub use color::{Color, ThemeColor};
 pub use style::{Font, Style};
-
-#[cfg(test)]
-mod tests;

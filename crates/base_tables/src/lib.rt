@@ -11,8 +11,6 @@ mod language;
 mod locale;
 mod quote;
 mod tables;
-#[cfg(test)]
-mod tests;
 mod word;
 mod zone;
 

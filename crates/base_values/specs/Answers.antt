@@ -41,8 +41,3 @@ ok_or error (Some value) = Ok value
 abbrev pub and_then : {A B E : Type 0} → Result A E → (A → Result B E) → Result B E
 and_then (Ok value) f = f value
 and_then (Err error) f = Err error
-
--- the value of an answer, if it has one
-abbrev pub value_of : {A E : Type 0} → Result A E → Option A
-value_of (Ok value) = Some value
-value_of (Err error) = None

@@ -17,6 +17,3 @@ pub use items::Items;
 pub use place_map::PlaceMap;
 pub use position::{LAST_COLUMN, LAST_ROW, Position, line_of, place_of};
 pub use text::Text;
-
-#[cfg(test)]
-mod tests;

@@ -19,6 +19,3 @@ mod writing;
 pub use codes::boolean_code;
 pub use many::put_items;
 pub use part::Part;
-
-#[cfg(test)]
-mod tests;

@@ -22,11 +22,14 @@ pub fn sheet_diffs_lead_both_ways()
         → LeadsBothWays (new_forward at id index name) (new_back at id) w (with_sheet_at index (new_sheet id name) w.names w) }
     ensures copy { (at id index from : ℕ) (name : List ℕ) (source : Sheet) (w : Book) → IsWellFormed w → slice_get w.worksheets from ≡ Some source
         → index_of w id ≡ None → index ≤ length w.worksheets
-        → LeadsBothWays (copy_forward at source.id id index name) (copy_back at id) w (with_sheet_at index (sheet_as id name source) (names_copied source.id id w.names) w) }
+        → LeadsBothWays (copy_forward at source.id id index name) (copy_back at id) w
+        (with_sheet_at index (sheet_as id name source) (names_copied source.id id w.names) w) }
     ensures deletion { (at index : ℕ) (sheet : Sheet) (w : Book) → IsWellFormed w → slice_get w.worksheets index ≡ Some sheet
-        → LeadsBothWays (deletion_forward at (kept_of sheet w.names)) (deletion_back at index (kept_of sheet w.names)) w (without_sheet_at index (names_left sheet.id w.names) w) }
+        → LeadsBothWays (deletion_forward at (kept_of sheet w.names)) (deletion_back at index (kept_of sheet w.names)) w
+        (without_sheet_at index (names_left sheet.id w.names) w) }
     ensures moved { (at from to : ℕ) (sheet : Sheet) (w : Book) → IsWellFormed w → slice_get w.worksheets from ≡ Some sheet → to < length w.worksheets
-        → LeadsBothWays (sheet_moves at sheet.id from to) (sheet_moves at sheet.id to from) w (record w { worksheets = sheets_moved w.worksheets from to }) }
+        → LeadsBothWays (sheet_moves at sheet.id from to) (sheet_moves at sheet.id to from) w
+        (record w { worksheets = sheets_moved w.worksheets from to }) }
 {}
 
 /// A law about the list of sheets, with no work at run time: a well-formed workbook stays so where a

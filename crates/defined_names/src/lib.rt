@@ -13,6 +13,3 @@ mod of_sheets;
 pub use defined_name::DefinedName;
 pub use legal::is_defined_name;
 pub use name_list::NameList;
-
-#[cfg(test)]
-mod tests;

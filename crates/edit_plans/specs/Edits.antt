@@ -27,9 +27,11 @@ use Rattle.edit_plans.specs.ArrayInputs.{array_put}
 use Rattle.edit_plans.specs.Links.{link_set}
 use Rattle.edit_plans.specs.Merging.{merge_made, merge_undone}
 use Rattle.edit_plans.specs.HiddenLines.{grown}
-use Rattle.edit_plans.specs.SheetEdits.{sheet_added, sheet_copied, sheet_deleted, sheet_taken, stays_there, field_set, added_record, copied_record, deleted_record, taken_record}
+use Rattle.name_edits.specs.NameEdits.{NameEdit}
+use Rattle.edit_plans.specs.NamedEdits.{names_edited, names_record}
+use Rattle.edit_plans.specs.SheetEdits.{sheet_added, sheet_copied, sheet_deleted, sheet_taken, sheet_named, stays_there, is_named, field_set, added_record, copied_record, deleted_record, taken_record, named_record}
 
--- an edit with its arguments. The first is the index of its sheet, but for a new sheet
+-- an edit with its arguments. The first is the index of its sheet, but for a new sheet and for defined names
 pub data Edit : Type 0 where
   -- the content that goes to a row and a column
   Input : ℕ → ℤ → ℤ → Content → Edit
@@ -53,18 +55,24 @@ pub data Edit : Type 0 where
   DeleteSheet : ℕ → Edit
   -- the sheet that is moved, and the index to which it is taken
   MoveSheet : ℕ → ℕ → Edit
+  -- the sheet that is renamed, and its new name
+  RenameSheet : ℕ → List ℕ → Edit
+  -- what changes of the defined names
+  ChangeNames : NameEdit → Edit
   -- what a field of a sheet becomes
   SetField : ℕ → SheetField → Edit
 
--- whether an edit is one of the list of the sheets
+-- whether an edit is one of the list of the sheets or of the defined names, whose record is one diff
 abbrev pub is_of_sheets : Edit → Bool
 is_of_sheets AddSheet = true
 is_of_sheets (CopySheet index) = true
 is_of_sheets (DeleteSheet index) = true
 is_of_sheets (MoveSheet from to) = true
+is_of_sheets (RenameSheet index name) = true
+is_of_sheets (ChangeNames edit) = true
 is_of_sheets edit = false
 
--- whether an edit is one of entries, not of lines and not of the list of the sheets
+-- whether an edit is one of entries, not of lines, of the list of the sheets or of the defined names
 abbrev pub is_of_entries : Edit → Bool
 is_of_entries (Lines index axis kind) = false
 is_of_entries (MoveLines index axis first count delta) = false
@@ -72,6 +80,8 @@ is_of_entries AddSheet = false
 is_of_entries (CopySheet index) = false
 is_of_entries (DeleteSheet index) = false
 is_of_entries (MoveSheet from to) = false
+is_of_entries (RenameSheet index name) = false
+is_of_entries (ChangeNames edit) = false
 is_of_entries edit = true
 
 -- what a content that is put has to be: it may stand at its place, and it is an array just where it is put in a rectangle
@@ -84,10 +94,12 @@ IsGiven edit = Unit {0}
 abbrev pub grown_move : Along → ℤ → ℤ → ℤ → Sheet → EditKind
 grown_move a first count delta sheet = Move first count (grown a sheet first count delta)
 
--- where no line moves, or by none, a move does nothing, whatever else is asked. Nor does the move of a sheet that is there to its own index
+-- where no line moves, or by none, a move does nothing, whatever else is asked. Nor does the move of a sheet that is there to its own
+-- index, or a sheet's renaming to exactly its own name
 abbrev pub is_silent : Edit → Book → Bool
 is_silent (MoveLines index axis first count delta) book = int_eq delta (pos 0) || int_lt count (pos 1)
 is_silent (MoveSheet from to) book = stays_there from to book
+is_silent (RenameSheet index name) book = is_named index name book
 is_silent edit book = false
 
 -- the workbook after an edit, or the edit's first refusal
@@ -104,6 +116,8 @@ changed AddSheet book = sheet_added book
 changed (CopySheet index) book = sheet_copied index book
 changed (DeleteSheet index) book = sheet_deleted index book
 changed (MoveSheet from to) book = sheet_taken from to book
+changed (RenameSheet index name) book = sheet_named index name book
+changed (ChangeNames edit) book = names_edited edit book
 changed (SetField index value) book = field_set index value book
 
 -- the record of an edit of lines of a sheet, if it is there
@@ -112,7 +126,7 @@ lines_record axis kind book (Ok sheet) = line_record axis (kind sheet) sheet.id 
 lines_record axis kind book (Err error) = []
 
 -- the record of an edit that led from one workbook to another: the edit of lines with what taking it back does not give, the one diff of
--- an edit of the list of the sheets, else the entries that differ
+-- an edit of the list of the sheets or of the defined names, else the entries that differ
 abbrev pub record_of : Edit → Book → Book → List Diff
 record_of (Lines index axis kind) earlier later = lines_record axis (λ sheet. kind) earlier (sheet_at earlier index)
 record_of (MoveLines index axis first count delta) earlier later = lines_record axis (grown_move (along_of axis) first count delta) earlier (sheet_at earlier index)
@@ -120,4 +134,6 @@ record_of AddSheet earlier later = added_record earlier
 record_of (CopySheet index) earlier later = copied_record index earlier
 record_of (DeleteSheet index) earlier later = deleted_record index earlier
 record_of (MoveSheet from to) earlier later = taken_record from to earlier
+record_of (RenameSheet index name) earlier later = named_record index name earlier
+record_of (ChangeNames edit) earlier later = names_record edit earlier
 record_of edit earlier later = record_between earlier later

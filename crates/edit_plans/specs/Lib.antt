@@ -9,3 +9,4 @@ pub mod SheetEdits
 pub mod Edits
 pub mod ViewSteps
 pub mod laws
+pub mod NamedEdits

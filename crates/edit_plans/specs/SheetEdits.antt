@@ -1,17 +1,21 @@
--- Edits of the list of a workbook's sheets, and of the fields of a sheet: what each changes, when it is refused, and its diff.
-use Rattle.std.specs.Prelude.{ℕ, ◌+◌, ◌==◌, ◌&&◌, nat_lt, Bool, List, [], ◌∷◌, length, Result, Ok, Err, if◌then◌else◌}
+-- Edits of the list of a workbook's sheets, and of the name and the fields of a sheet: what each changes, when it is refused, and its diff.
+use Rattle.std.specs.Prelude.{ℕ, ◌+◌, ◌==◌, ◌&&◌, nat_lt, slice_get, Bool, false, List, [], ◌∷◌, length, Result, Ok, Err, if◌then◌else◌}
+use Rattle.std.specs.Option.{option_map_or}
 use Rattle.base_values.specs.declared.EditError.{EditError}
-use Rattle.base_values.specs.declared.EditError.TheVariants.{OnlySheet}
+use Rattle.base_values.specs.declared.EditError.TheVariants.{OnlySheet, SheetName}
 use Rattle.base_values.specs.Answers.{and_then, map_ok}
+use Rattle.base_tables.specs.Tables.{same_text}
 use Rattle.defined_names.specs.Names.{names_left, names_copied}
 use Rattle.sheet_grid.specs.Sheet.{Sheet, new_sheet}
 use Rattle.sheet_grid.specs.Book.{Book, ids_of, names_of, sheet_at, sheet_edit, sheet_moved}
 use Rattle.sheet_naming.specs.FreeNames.{new_name, copy_name}
 use Rattle.sheet_naming.specs.NextIds.{next_id}
 use Rattle.book_sheets.specs.SheetDiffs.{with_sheet_at, without_sheet_at, sheet_as, kept_of}
+use Rattle.book_names.specs.Renaming.{book_renamed, trees_kept}
+use Rattle.book_names.specs.RenameDiffs.{may_be_named}
 use Rattle.sheet_history.specs.declared.SheetField.{SheetField}
 use Rattle.sheet_history.specs.declared.Diff.{Diff}
-use Rattle.sheet_history.specs.declared.Diff.TheVariants.{NewSheet as NewDiff, DuplicateSheet as CopyDiff, DeleteSheet as DeletionDiff, MoveSheet as MoveDiff}
+use Rattle.sheet_history.specs.declared.Diff.TheVariants.{NewSheet as NewDiff, DuplicateSheet as CopyDiff, DeleteSheet as DeletionDiff, MoveSheet as MoveDiff, RenameSheet as RenameDiff}
 use Rattle.sheet_history.specs.Entries.EntryKey.{FieldKey}
 use Rattle.sheet_history.specs.Entries.EntryValue.{FieldValue}
 use Rattle.sheet_history.specs.Fields.{field_of, field_in, with_field}
@@ -49,6 +53,18 @@ sheet_taken from to book = sheet_moved book from to
 abbrev pub stays_there : ℕ → ℕ → Book → Bool
 stays_there from to book = (from == to) && nat_lt from (length book.worksheets)
 
+-- the workbook with a name for one of its sheets, if that sheet may have it
+abbrev pub with_name : List ℕ → Book → Sheet → Result Book EditError
+with_name name book sheet = if may_be_named sheet.id name book.worksheets then Ok (book_renamed sheet.id sheet.name name book) else Err SheetName
+
+-- the sheet at an index gets another name, in all formulas and defined names too: there is no such sheet, or it may not have that name
+unfoldable pub sheet_named : ℕ → List ℕ → Book → Result Book EditError
+sheet_named index name book = and_then (sheet_at book index) (with_name name book)
+
+-- a sheet that has exactly that name already: nothing is done. One that is not there is refused
+unfoldable pub is_named : ℕ → List ℕ → Book → Bool
+is_named index name book = option_map_or (λ (sheet : Sheet). same_text sheet.name name) (slice_get book.worksheets index) false
+
 -- ---- the diff of each, of the workbook before it
 
 abbrev pub new_diff : Book → ℕ → Diff
@@ -62,6 +78,9 @@ deletion_diff index book sheet = DeletionDiff index (kept_of sheet book.names)
 
 abbrev pub move_diff : ℕ → ℕ → Sheet → Diff
 move_diff from to sheet = MoveDiff sheet.id from to
+
+abbrev pub rename_diff : List ℕ → Book → Sheet → Diff
+rename_diff name book sheet = RenameDiff sheet.id sheet.name name (trees_kept sheet.name name book)
 
 -- the record of one diff, if there is that diff
 abbrev pub one_diff : Result Diff EditError → List Diff
@@ -79,6 +98,9 @@ deleted_record index book = one_diff (map_ok (deletion_diff index book) (sheet_a
 
 abbrev pub taken_record : ℕ → ℕ → Book → List Diff
 taken_record from to book = one_diff (map_ok (move_diff from to) (sheet_at book from))
+
+abbrev pub named_record : ℕ → List ℕ → Book → List Diff
+named_record index name book = one_diff (map_ok (rename_diff name book) (sheet_at book index))
 
 -- ---- the fields of a sheet
 

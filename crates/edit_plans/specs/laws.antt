@@ -15,3 +15,4 @@ pub mod SheetRecords
 pub mod SheetEditLaws
 pub mod SheetPlans
 pub mod FieldPlans
+pub mod NamedPlans

@@ -11,6 +11,7 @@ mod laws;
 mod link;
 mod list;
 mod merge;
+mod names;
 mod sheets;
 mod unmerge;
 mod view;
@@ -22,7 +23,10 @@ pub use input::{free_place, plan_input};
 pub use laws::{edits_have_records, sheet_edits_go_both_ways};
 pub use link::plan_link;
 pub use merge::plan_merge;
-pub use sheets::{plan_copied_sheet, plan_deleted_sheet, plan_moved_sheet, plan_new_sheet};
+pub use names::{plan_changed_name, plan_new_name, plan_removed_name};
+pub use sheets::{
+    plan_copied_sheet, plan_deleted_sheet, plan_moved_sheet, plan_new_sheet, plan_renamed_sheet,
+};
 pub use unmerge::plan_unmerge;
 pub use view::{
     selected_by_copy, selected_by_deletion, selected_by_field, selected_by_move, selected_by_new,

@@ -1,18 +1,20 @@
-//! Sheets that are added, copied, deleted and moved.
+//! Sheets that are added, copied, deleted, moved and renamed.
 
 ghost use Rattle.std.specs.Prelude.{◌≡◌, ◌<◌, ◌≤◌, [], ◌∷◌, length, IfOk, IsOkUnless};
 ghost use Rattle.base_values.specs.declared.EditError.TheVariants.{NoMemory};
 ghost use Rattle.sheet_grid.specs.Book.{ids_of};
 ghost use Rattle.sheet_rules.specs.WellFormed.{IsWellFormed};
 ghost use Rattle.sheet_naming.specs.NextIds.{next_id};
+ghost use Rattle.book_names.specs.RenameDiffs.{may_be_named};
 ghost use Rattle.sheet_history.specs.Diffs.{IsCanonicalDiff, IsCanonicalList};
-ghost use Rattle.edit_plans.specs.Edits.Edit.{AddSheet, CopySheet, DeleteSheet, MoveSheet};
+ghost use Rattle.edit_plans.specs.Edits.Edit.{AddSheet, CopySheet, DeleteSheet, MoveSheet, RenameSheet};
 ghost use Rattle.edit_plans.specs.Plans.{PlansSheets};
-ghost use Rattle.edit_plans.specs.SheetEdits.{new_diff, copy_diff, deletion_diff};
+ghost use Rattle.edit_plans.specs.SheetEdits.{new_diff, copy_diff, deletion_diff, rename_diff};
 
 use crate::list::list_of_two;
 use base_shared::Shared;
-use base_values::EditError;
+use base_values::{EditError, Text};
+use book_names::{KeptTrees, may_be_named};
 use book_sheets::KeptSheet;
 use sheet_grid::{Workbook, Worksheet};
 use sheet_history::{Diff, DiffList};
@@ -20,7 +22,7 @@ use sheet_naming::{copy_name, new_name, next_id};
 use std::alloc::Global;
 
 /// The record of one diff.
-fn list_of_one(alloc: Global, diff: Diff) -> Result<DiffList, EditError>
+pub(crate) fn list_of_one(alloc: Global, diff: Diff) -> Result<DiffList, EditError>
     requires { IsCanonicalDiff diff }
     ensures made { IfOk result (λ list. list ≡ diff ∷ []) }
     ensures canonical { IfOk result IsCanonicalList }
@@ -94,6 +96,36 @@ fn deletion_diff(
     let kept = KeptSheet::of(alloc, sheet, workbook.name_list())?;
     let kept = Shared::new(alloc, kept)?;
     Ok(Diff::DeleteSheet { index, kept })
+}
+
+/// Whether a sheet of a workbook may get a name.
+fn may_have(workbook: &Workbook, sheet: &Worksheet, name: &str) -> bool
+    ensures { result ≡ may_be_named sheet.now.id name.now workbook.now.worksheets }
+{
+    may_be_named(sheet.get_sheet_id(), name, workbook.worksheets())
+}
+
+/// The diff of a sheet that gets another name.
+fn rename_diff(
+    alloc: Global,
+    workbook: &Workbook,
+    sheet: &Worksheet,
+    name: &str,
+) -> Result<Diff, EditError>
+    ensures made { IfOk result (λ diff. diff ≡ rename_diff name.now workbook.now sheet.now) }
+    ensures canonical { IfOk result IsCanonicalDiff }
+    ensures only { IsOkUnless result NoMemory }
+{
+    let kept = KeptTrees::of(alloc, workbook, sheet.get_name(), name)?;
+    let kept = Shared::new(alloc, kept)?;
+    let old = sheet.copied_name()?;
+    let new = Text::new(String::from_str(alloc, name)?);
+    Ok(Diff::RenameSheet {
+        sheet: sheet.get_sheet_id(),
+        old,
+        new,
+        kept,
+    })
 }
 
 /// The record of a new sheet behind the last one. Its id is one above the greatest, and its name is
@@ -172,5 +204,29 @@ pub fn plan_moved_sheet(
         from,
         to,
     };
+    list_of_one(alloc, diff)
+}
+
+/// The record of the sheet at an index, which gets another name. Every reference, range and defined
+/// name that names a sheet, and whose sheet name is equal to the old one by simple case folding, names
+/// the new one afterwards. Nothing is changed. It is a record of one diff too where the name is the
+/// same.
+///
+/// `InvalidSheet` where there is no such sheet, else `SheetName` where it may not have that name. Then
+/// `NoMemory` is possible.
+pub fn plan_renamed_sheet(
+    alloc: Global,
+    workbook: &Workbook,
+    sheet: u32,
+    name: &str,
+) -> Result<DiffList, EditError>
+    requires rules { IsWellFormed workbook.now }
+    ensures planned { PlansSheets (RenameSheet sheet name.now) result workbook.now }
+{
+    let found = workbook.worksheet(sheet)?;
+    if !may_have(workbook, found, name) {
+        return Err(EditError::SheetName);
+    }
+    let diff = rename_diff(alloc, workbook, found, name)?;
     list_of_one(alloc, diff)
 }

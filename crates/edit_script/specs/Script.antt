@@ -1,5 +1,5 @@
 -- A script's output on the machine that keeps whole earlier and later workbooks.
-use Rattle.std.proofs.Common.{ℕ, List, [], ◌∷◌, ◌++◌, Option, Some, None, Result, Ok, Err}
+use Rattle.std.proofs.Common.{ℕ, pos, List, [], ◌∷◌, ◌++◌, Option, Some, None, Result, Ok, Err}
 use Rattle.std.specs.Prelude.{codes}
 use Rattle.std.specs.Option.{option_map, option_map_or}
 use Rattle.base_values.specs.declared.EditError.{EditError}
@@ -19,8 +19,9 @@ use Rattle.script_lines.specs.declared.Command.{Command}
 use Rattle.script_lines.specs.declared.Command.TheVariants as command
 use Rattle.script_dump.specs.Text.{line, hex}
 use Rattle.script_dump.specs.Dump.{dump}
+use Rattle.name_edits.specs.NameEdits.NameEdit.{Add, Remove, Update}
 use Rattle.edit_plans.specs.Edits.{Edit}
-use Rattle.edit_plans.specs.Edits.Edit.{Input, ArrayInput, SetLink, Merge, Unmerge, Lines, MoveLines, AddSheet, CopySheet, DeleteSheet, MoveSheet, SetField}
+use Rattle.edit_plans.specs.Edits.Edit.{Input, ArrayInput, SetLink, Merge, Unmerge, Lines, MoveLines, AddSheet, CopySheet, DeleteSheet, MoveSheet, RenameSheet, ChangeNames, SetField}
 use Rattle.user_model.specs.Machine.{State, begun, edit_of, undo_of, redo_of, synced_of, sync_bytes}
 use Rattle.user_model.specs.Reading.{content_text, formula_typed, link_to, typed}
 
@@ -63,6 +64,11 @@ edit_for command.NewSheet s = Some AddSheet
 edit_for (command.DuplicateSheet sheet) s = Some (CopySheet sheet)
 edit_for (command.DeleteSheet sheet) s = Some (DeleteSheet sheet)
 edit_for (command.MoveSheet move) s = Some (MoveSheet move.from move.to)
+edit_for (command.RenameSheet sheet text) s = Some (RenameSheet sheet text)
+edit_for (command.Name named text) s = Some (ChangeNames (Add named.scope named.name (formula_typed s.present s.language (pos 1) (pos 1) text)))
+edit_for (command.NameUpdate named text) s =
+    Some (ChangeNames (Update named.old.scope named.old.name named.new.scope named.new.name (formula_typed s.present s.language (pos 1) (pos 1) text)))
+edit_for (command.NameDelete named) s = Some (ChangeNames (Remove named.scope named.name))
 edit_for (command.HideSheet sheet) s = Some (SetField sheet (StateField Hidden))
 edit_for (command.UnhideSheet sheet) s = Some (SetField sheet (StateField Visible))
 edit_for (command.SheetColor named) s = Some (SetField named.sheet (ColorField named.color))

@@ -277,6 +277,46 @@ impl Session {
         push_outcome(&mut self.out, done)
     }
 
+    fn rename_sheet(&mut self, sheet: u32, name: &str) -> Result<(), EditError>
+        ensures { RunsCommand (command.RenameSheet sheet name.now) result self.old self.new }
+    {
+        let done = self.model.rename_sheet(sheet, name);
+        push_outcome(&mut self.out, done)
+    }
+
+    fn name(&mut self, scope: Option<u32>, name: &str, text: &str) -> Result<(), EditError>
+        ensures { RunsCommand (command.Name (record { scope = scope; name = name.now }) text.now) result self.old self.new }
+    {
+        let done = self.model.new_defined_name(name, scope, text);
+        push_outcome(&mut self.out, done)
+    }
+
+    fn name_update(
+        &mut self,
+        scope: Option<u32>,
+        name: &str,
+        new_scope: Option<u32>,
+        new_name: &str,
+        text: &str,
+    ) -> Result<(), EditError>
+        ensures { RunsCommand (command.NameUpdate (record {
+          old = record { scope = scope; name = name.now };
+          new = record { scope = new_scope; name = new_name.now };
+        }) text.now) result self.old self.new }
+    {
+        let done = self
+            .model
+            .update_defined_name(name, scope, new_name, new_scope, text);
+        push_outcome(&mut self.out, done)
+    }
+
+    fn name_delete(&mut self, scope: Option<u32>, name: &str) -> Result<(), EditError>
+        ensures { RunsCommand (command.NameDelete (record { scope = scope; name = name.now })) result self.old self.new }
+    {
+        let done = self.model.delete_defined_name(name, scope);
+        push_outcome(&mut self.out, done)
+    }
+
     fn hide_sheet(&mut self, sheet: u32) -> Result<(), EditError>
         ensures { RunsCommand (command.HideSheet sheet) result self.old self.new }
     {
@@ -355,6 +395,18 @@ impl Session {
             Command::DuplicateSheet(sheet) => self.duplicate_sheet(sheet),
             Command::DeleteSheet(sheet) => self.delete_sheet(sheet),
             Command::MoveSheet(moved) => self.move_sheet(moved),
+            Command::RenameSheet(sheet, text) => self.rename_sheet(sheet, text.as_str()),
+            Command::Name(named, text) => {
+                self.name(named.scope, named.name.as_str(), text.as_str())
+            }
+            Command::NameUpdate(named, text) => self.name_update(
+                named.old.scope,
+                named.old.name.as_str(),
+                named.new.scope,
+                named.new.name.as_str(),
+                text.as_str(),
+            ),
+            Command::NameDelete(named) => self.name_delete(named.scope, named.name.as_str()),
             Command::HideSheet(sheet) => self.hide_sheet(sheet),
             Command::UnhideSheet(sheet) => self.unhide_sheet(sheet),
             Command::SheetColor(named) => self.color(named),

@@ -51,6 +51,10 @@ const ONE_MERGE: &str = concat!(
     "0000000000000000000000000000000000000000000000000000000000000000000000000000000000",
 );
 
+/// The queue of one new name, `X`, which stands for 1.
+const ONE_NAME: &str =
+    "494351310000000000000001010000000000000001160000000000000000000100000000000000015800010000000000000000000000000000000100000000000000000000000000000000000000000000000000";
+
 /// The bytes of a sync after `new-sheet` alone.
 const ONE_SHEET: &str = concat!(
     "494351310000000000000001",
@@ -315,6 +319,78 @@ const SHEETS: [(&str, &str); 13] = [
     ),
 ];
 
+/// Scripts that rename sheets, each with its answers.
+const RENAMINGS: [(&str, &str); 8] = [
+    (
+        "set 0 A1 =Data!B1\nset 0 A2 =Sheet1!B1\nrename-sheet 0 Data\nget 0 A2\nundo\nget 0 A1\nget 0 A2",
+        "ok\nok\nok\nvalue =Data!B1\nok\nvalue =Data!B1\nvalue =Sheet1!B1\n",
+    ),
+    (
+        "new-sheet\nrename-sheet 1 sheet1\nrename-sheet 2 a\nrename-sheet 0 SHEET1\nshow",
+        "ok\nerror SheetName\nerror InvalidSheet\nok\nbook en UTC workbook\nsheet 1 visible 1 0 0 - SHEET1\nsheet 2 visible 1 0 0 - Sheet2\nend\n",
+    ),
+    (
+        "set 0 A1 1\nundo\nrename-sheet 0 Sheet1\nredo\nget 0 A1",
+        "ok\nok\nok\nok\nvalue 1\n",
+    ),
+    (
+        "rename-sheet 0 Sheet1\nundo\nshow",
+        "ok\nok\nbook en UTC workbook\nsheet 1 visible 1 0 0 - Sheet1\nend\n",
+    ),
+    (
+        "rename-sheet 0\nrename-sheet 0 'a\nrename-sheet 0 a'\nrename-sheet 0 a:b\nrename-sheet 0 a/b\nrename-sheet 0 0123456789012345678901234567890x",
+        "error SheetName\nerror SheetName\nerror SheetName\nerror SheetName\nerror SheetName\nerror SheetName\n",
+    ),
+    (
+        "new-sheet\nset 1 A1 =SHEET1!A1+Sheet2!A1\nrename-sheet 0 a b\nget 1 A1\nundo\nget 1 A1\nredo\nget 1 A1",
+        "ok\nok\nok\nvalue ='a b'!A1+Sheet2!A1\nok\nvalue =SHEET1!A1+Sheet2!A1\nok\nvalue ='a b'!A1+Sheet2!A1\n",
+    ),
+    (
+        "set 0 A1 =DATA!B1\nrename-sheet 0 Data\nrename-sheet 0 Other\nget 0 A1\nundo\nget 0 A1\nundo\nget 0 A1",
+        "ok\nok\nok\nvalue =Other!B1\nok\nvalue =DATA!B1\nok\nvalue =DATA!B1\n",
+    ),
+    (
+        "rename-sheet 0 a\nset 0 A1 =a!B1\nundo\nundo\nnew-sheet\nshow",
+        "ok\nok\nok\nok\nok\nbook en UTC workbook\nsheet 1 visible 1 0 0 - Sheet1\nsheet 2 visible 1 0 0 - Sheet2\nend\n",
+    ),
+];
+
+/// Scripts that define, change and delete names, each with its answers.
+const NAMES: [(&str, &str); 8] = [
+    (
+        "name - Rate =$A$1\nname - rate =1\nname - B2 =1\nname - X =1+\nname-delete 0 Rate",
+        "ok\nerror NameTaken\nerror BadName\nerror BadFormula\nerror UnknownName\n",
+    ),
+    (
+        "set 0 A1 =rate+1\nset 0 A2 =other\nname - Rate =5\nname-update - rate - Interest =6\nget 0 A1\nget 0 A2\nundo\nget 0 A1\nredo\nget 0 A1\nshow",
+        "ok\nok\nok\nok\nvalue =Interest+1\nvalue =other\nok\nvalue =rate+1\nok\nvalue =Interest+1\nbook en UTC workbook\nname - Interest =6\nsheet 1 visible 1 0 0 - Sheet1\ncell A1 - formula =Interest+1\ncell A2 - formula =other\nend\n",
+    ),
+    (
+        "new-sheet\nset 0 A1 =Rate\nset 1 A1 =Rate\nname - Rate =1\nname 1 Rate =2\nname-update - Rate - Tax 1\nget 0 A1\nget 1 A1\nname-update 1 Rate - Vat =2\nget 1 A1",
+        "ok\nok\nok\nok\nok\nok\nvalue =Tax\nvalue =Rate\nok\nvalue =Vat\n",
+    ),
+    (
+        "new-sheet\nname 1 Rate =2\nname - Rate =1\nname-delete 1 RATE\nundo\nshow",
+        "ok\nok\nok\nok\nok\nbook en UTC workbook\nname 2 Rate =2\nname - Rate =1\nsheet 1 visible 1 0 0 - Sheet1\nsheet 2 visible 1 0 0 - Sheet2\nend\n",
+    ),
+    (
+        "name 5 X =1\nname-update - No 9 X =1\nname-update - No - X =1\nname - R2C2 =1\nname - WAHR =1\nname - 1a =1\nname - X\nname-delete 1 X",
+        "error InvalidSheet\nerror InvalidSheet\nerror UnknownName\nerror BadName\nerror BadName\nerror BadName\nerror BadFormula\nerror InvalidSheet\n",
+    ),
+    (
+        "name - A_ =1\nname - B_ =2\nname-update - A_ - b_ =1\nname-update - A_ - a_ =3\nname-update - A_ - R1C1 =3\nname-update - A_ - C_ )\nshow",
+        "ok\nok\nerror NameTaken\nok\nerror BadName\nerror BadFormula\nbook en UTC workbook\nname - a_ =3\nname - B_ =2\nsheet 1 visible 1 0 0 - Sheet1\nend\n",
+    ),
+    (
+        "name - Rate =1\nname - Twice =Rate*2\nname - Far =A5\nname-update - Rate - Tax =1\ninsert-rows 0 1 1\nshow",
+        "ok\nok\nok\nok\nok\nbook en UTC workbook\nname - Tax =1\nname - Twice =Rate*2\nname - Far =A5\nsheet 1 visible 1 0 0 - Sheet1\nend\n",
+    ),
+    (
+        "name -  =1\nname x X =1\nname-delete 0\nname-delete - X y\nname-update - X 0\nname",
+        "error BadLine\nerror BadLine\nerror BadLine\nerror BadLine\nerror BadLine\nerror BadLine\n",
+    ),
+];
+
 /// Whether a script writes these answers, and then the second copy, which had nothing.
 fn is_answered(alloc: Global, script: &str, answers: &str) -> Result<bool, Fail> {
     let (outcome, output) = run_failing(alloc, script, &[], &[])?;
@@ -362,6 +438,26 @@ fn arrays_merges_and_links(rt: HostRuntime) -> Result<(), Fail> {
 #[test]
 fn sheets_are_edited(rt: HostRuntime) -> Result<(), Fail> {
     assert_eq!(rt; first_wrong(rt.alloc(), &SHEETS)?, None);
+    assert_eq!(rt; first_wrong(rt.alloc(), &RENAMINGS)?, None);
+    Ok(())
+}
+
+#[test]
+fn names_are_edited(rt: HostRuntime) -> Result<(), Fail> {
+    assert_eq!(rt; first_wrong(rt.alloc(), &NAMES)?, None);
+    Ok(())
+}
+
+/// A name is sent, and the second copy has it.
+#[test]
+fn a_name_is_sent(rt: HostRuntime) -> Result<(), Fail> {
+    let alloc = rt.alloc();
+    let (outcome, output) = run_failing(alloc, "name - X =1\nsync", &[], &[])?;
+    assert_eq!(rt; outcome, Ok(()));
+    let expected = format!(in alloc;
+        "ok\nsync {ONE_NAME}\ncopy\nbook en UTC workbook\nname - X =1\nsheet 1 visible 1 0 0 - Sheet1\nend\n"
+    )?;
+    assert_eq!(rt; output.bytes(), expected.as_bytes());
     Ok(())
 }
 

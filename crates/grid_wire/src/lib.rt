@@ -17,6 +17,3 @@ pub use lines::LinePart;
 pub use names::NamePart;
 pub use sheets::SheetPart;
 pub use states::StatePart;
-
-#[cfg(test)]
-mod tests;

@@ -11,6 +11,3 @@ mod merged;
 pub use edit::{Block, EditKind, LineEdit, within};
 pub use laws::{image_of_opposite, move_by_single_lines};
 pub use line_map::LineMap;
-
-#[cfg(test)]
-mod tests;

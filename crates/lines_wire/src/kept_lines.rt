@@ -28,7 +28,8 @@ type LinksPart = MapPart<PositionMap<Link>, PositionPart, LinkPart>;
 
 type LinesPart = MapPart<NumberMap<LineAttr>, i32, LinePart>;
 
-type FormulasPart = MapPart<SheetPlaceMap<Shared<Node>>, SheetPlacePart, Shared<NodePart>>;
+/// The trees of formulas, by the ids of their sheets and their positions.
+pub type FormulasPart = MapPart<SheetPlaceMap<Shared<Node>>, SheetPlacePart, Shared<NodePart>>;
 
 #[tactic(auto, using(map_wire::specs::laws::MapFits::any_option))]
 fn put_kept_merges(out: &mut Vec<u8>, merges: &Option<MergeList>) -> Result<(), AllocError>

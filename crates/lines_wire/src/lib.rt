@@ -10,7 +10,5 @@ mod kept_lines;
 mod values;
 
 pub use edits::EditPart;
-pub use kept_lines::KeptLinesPart;
-
-#[cfg(test)]
-mod tests;
+pub use kept_lines::{FormulasPart, KeptLinesPart};
+pub use values::SheetPlacePart;

@@ -20,7 +20,7 @@ fn sheet_place_at(alloc: Global, bytes: &[u8]) -> Result<(SheetPlace, &[u8]), Ed
 }
 
 /// The id of a sheet, and a position, inside the sheet or not.
-pub(crate) struct SheetPlacePart;
+pub struct SheetPlacePart;
 
 impl Part for SheetPlacePart {
     ghost use Rattle.base_wire.specs.Spelling.{Any};

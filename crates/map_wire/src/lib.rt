@@ -15,6 +15,3 @@ pub use keyed::Keyed;
 pub use maps::MapPart;
 pub use reading::{after_no_items, entries_at, read};
 pub use writing::put_entries;
-
-#[cfg(test)]
-mod tests;

@@ -15,6 +15,7 @@ use user_model::{CellArrayStructure, ClearAll, Recalc, UserModel, View};
 
 mod copies;
 mod lines;
+mod names;
 mod places;
 mod sheets;
 mod values;

@@ -271,6 +271,3 @@ pub fn push_dump(alloc: Global, out: &mut Vec<u8>, workbook: &Workbook) -> Resul
     push_line(out, b"end")?;
     Ok(())
 }
-
-#[cfg(test)]
-mod tests;

@@ -11,8 +11,6 @@ mod source;
 mod standard;
 mod stream;
 mod sure;
-#[cfg(test)]
-mod tests;
 
 pub use error::{Failed, RunError, status_of};
 pub use memory::{MemorySink, MemorySource};

@@ -1,10 +1,10 @@
 -- Every command that is read fits.
-use Rattle.std.proofs.Common.{◌≡◌, ℕ, zero, suc, ℤ, pos, ◌+ℤ◌, ◌-ℤ◌, ◌+◌, ◌*◌, ◌^◌, ◌<◌, ◌≤◌, ◌≤ℤ◌, ◌==◌, Bool, true, false, cond, List, [], ◌∷◌, ◌++◌, length, Option, Some, None, refl, sym, subst, arith, w32}
-use Rattle.std.specs.Prelude.{IfSome, FitsSigned, neg_ℤ, nat_lt, int_le}
+use Rattle.std.proofs.Common.{◌≡◌, ℕ, zero, suc, ℤ, pos, ◌+ℤ◌, ◌-ℤ◌, ◌+◌, ◌*◌, ◌^◌, ◌<◌, ◌≤◌, ◌≤ℤ◌, ◌==◌, Bool, true, false, cond, List, [], ◌∷◌, ◌++◌, length, Option, Some, None, take, refl, ap, sym, subst, arith, w32}
+use Rattle.std.specs.Prelude.{codes, IfSome, FitsSigned, neg_ℤ, nat_lt, int_le}
 use Rattle.std.specs.Option.{option_and_then, option_map, option_or}
 use Rattle.std.specs.Str.{IsUtf8, is_utf8, bytes_eq}
 use Rattle.std.specs.List.{list_all, find, AllByRecursion}
-use Rattle.std.proofs.lemmas.Str.{IsUtf8-nil, IsUtf8-drop, IsCharBoundary-after_ascii, IsUtf8-from_is_utf8}
+use Rattle.std.proofs.lemmas.Str.{IsUtf8-nil, IsUtf8-drop, IsUtf8-take, IsCharBoundary-after_ascii, IsCharBoundary-before_ascii, IsUtf8-from_is_utf8}
 use Rattle.std.proofs.lemmas.List.Splits.{join_with_byte-slice_split}
 use Rattle.std.proofs.lemmas.List.{length-append}
 use Rattle.std.proofs.Math.Seq.{get_or-append_seam, drop-append-add}
@@ -20,12 +20,12 @@ use Rattle.script_lines.specs.Colors.{named_colors, named_color, digit_value, pa
 use Rattle.script_lines.specs.Escapes.{unescaped}
 use Rattle.script_lines.proofs.EscapeLaws.{unescaped-IsUtf8}
 use Rattle.script_lines.specs.Unsupported.{is_unsupported}
-use Rattle.script_lines.specs.Commands.{Reader, word, sheet_word, cell_words, area_words, lines_words, move_words, sheet_move_words, color_words, grid_words, bit_of, ended, with_text, alone, exactly, and_text, set_to, commands, from_words, command_of}
+use Rattle.script_lines.specs.Commands.{Reader, word, sheet_word, cell_words, area_words, lines_words, move_words, sheet_move_words, color_words, grid_words, bit_of, scope_of, name_of, name_words, update_words, ended, with_text, alone, exactly, and_text, set_to, commands, from_words, command_of}
 use Rattle.script_lines.specs.declared.reference.Reference.{Reference}
 use Rattle.script_lines.specs.declared.command.NamedCell.{NamedCell}
 use Rattle.script_lines.specs.declared.command.Command.{Command}
-use Rattle.script_lines.specs.declared.command.Command.TheVariants.{Set, Get, Array, Link, Unlink, Merge, Unmerge, InsertRows, InsertColumns, DeleteRows, DeleteColumns, MoveRows, MoveColumns, NewSheet, DuplicateSheet, DeleteSheet, MoveSheet, HideSheet, UnhideSheet, SheetColor, GridLines, Undo, Redo, Sync, Show}
-use Rattle.script_lines.specs.CommandFits.{IsNamed, IsNamedArea, CellFits, AreaFits, LinesFit, MoveFits, SheetFits, SheetMoveFits, IsNamedColor, ColorFits, GridFits, CommandFits}
+use Rattle.script_lines.specs.declared.command.Command.TheVariants.{Set, Get, Array, Link, Unlink, Merge, Unmerge, InsertRows, InsertColumns, DeleteRows, DeleteColumns, MoveRows, MoveColumns, NewSheet, DuplicateSheet, DeleteSheet, MoveSheet, RenameSheet, HideSheet, UnhideSheet, SheetColor, GridLines, Name, NameUpdate, NameDelete, Undo, Redo, Sync, Show}
+use Rattle.script_lines.specs.CommandFits.{IsNamed, IsNamedArea, CellFits, AreaFits, LinesFit, MoveFits, SheetFits, SheetMoveFits, IsNamedColor, ColorFits, GridFits, NameFits, UpdateFits, CommandFits}
 
 -- ---- lists
 
@@ -279,6 +279,41 @@ grid_fits words t =
     (λ sheet s. step (Fit (λ show. Unit {0})) (Fit GridFits) (word bit_of sheet.1) _ (word_fits (λ show. Unit {0}) bit_of (λ bytes. any_value (bit_of bytes)) sheet.1 s.1)
     (λ show b. (s.0, b.1)))
 
+-- the first word of a text in UTF-8 is so
+take_front : (xs ys : List ℕ) → take (length xs) (xs ++ ys) ≡ xs
+take_front [] ys = refl
+take_front (x ∷ xs) ys = ap (λ zs. x ∷ zs) (take_front xs ys)
+
+before_space : (word rest : List ℕ) → IsUtf8 (word ++ 32 ∷ rest) → IsUtf8 word
+before_space word rest h =
+    let space = get_or-append_seam word 32 rest 0 in
+    let boundary = IsCharBoundary-before_ascii (word ++ 32 ∷ rest) (length word) (omega (arith, length-append word (32 ∷ rest))) (omega (arith, space)) in
+    subst IsUtf8 (take_front word (32 ∷ rest)) (IsUtf8-take (word ++ 32 ∷ rest) (length word) h boundary)
+
+first_word : (first : List ℕ) (words : List (List ℕ)) → IsUtf8 (text_of (first ∷ words)) → IsUtf8 first
+first_word first [] t = t
+first_word first (next ∷ words) t = before_space first (text_of (next ∷ words)) t
+
+scope_fits : (bytes : List ℕ) → IfSome (scope_of bytes) (λ scope. IfSome scope SheetFits)
+scope_fits bytes =
+    either (λ scope. IfSome scope SheetFits) (bytes_eq bytes (codes "-")) (Some None) (option_map Some (number_below (2 ^ 32) bytes)) tt
+    (mapped SheetFits (λ scope. IfSome scope SheetFits) (number_below (2 ^ 32) bytes) Some (number_fits (2 ^ 32) bytes) (λ n fits. fits))
+
+name_word_fits : Reads IsUtf8 (word name_of)
+name_word_fits [] t = tt
+name_word_fits ([] ∷ words) t = tt
+name_word_fits ((b ∷ bytes) ∷ words) t = (first_word (b ∷ bytes) words t, rest_text (b ∷ bytes) words t)
+
+name_words_fit : Reads NameFits name_words
+name_words_fit words t =
+    step (Fit (λ scope. IfSome scope SheetFits)) (Fit NameFits) (word scope_of words) _ (word_fits (λ scope. IfSome scope SheetFits) scope_of scope_fits words t)
+    (λ scope s. step (Fit IsUtf8) (Fit NameFits) (word name_of scope.1) _ (name_word_fits scope.1 s.1) (λ name n. ((s.0, n.0), n.1)))
+
+update_words_fit : Reads UpdateFits update_words
+update_words_fit words t =
+    step (Fit NameFits) (Fit UpdateFits) (name_words words) _ (name_words_fit words t)
+    (λ old o. step (Fit NameFits) (Fit UpdateFits) (name_words old.1) _ (name_words_fit old.1 o.1) (λ new n. ((o.0, n.0), n.1)))
+
 -- ---- commands
 
 -- what the words behind a command are read as fits
@@ -331,10 +366,14 @@ each_fits =
     ▸ exactly_fits SheetFits sheet_word DuplicateSheet sheet_fits (λ sheet s. s)
     ▸ exactly_fits SheetFits sheet_word DeleteSheet sheet_fits (λ sheet s. s)
     ▸ exactly_fits SheetMoveFits sheet_move_words MoveSheet sheet_move_fits (λ move m. m)
+    ▸ and_text_fits SheetFits sheet_word (λ sheet text. Some (RenameSheet sheet text)) sheet_fits (λ sheet text s t. (s, t))
     ▸ exactly_fits SheetFits sheet_word HideSheet sheet_fits (λ sheet s. s)
     ▸ exactly_fits SheetFits sheet_word UnhideSheet sheet_fits (λ sheet s. s)
     ▸ exactly_fits ColorFits color_words SheetColor color_words_fit (λ named c. c)
     ▸ exactly_fits GridFits grid_words GridLines grid_fits (λ named g. g)
+    ▸ and_text_fits NameFits name_words (λ name text. Some (Name name text)) name_words_fit (λ name text n t. (n, t))
+    ▸ and_text_fits UpdateFits update_words (λ update text. Some (NameUpdate update text)) update_words_fit (λ update text u t. (u, t))
+    ▸ exactly_fits NameFits name_words NameDelete name_words_fit (λ name n. n)
     ▸ alone_fits Undo tt
     ▸ alone_fits Redo tt
     ▸ alone_fits Sync tt

@@ -1,6 +1,6 @@
 -- What every command that is read fits.
 use Rattle.std.proofs.Common.{ℕ, ℤ, pos, ◌^◌, ◌<◌, ◌≤ℤ◌, w32}
-use Rattle.std.specs.Prelude.{FitsSigned}
+use Rattle.std.specs.Prelude.{FitsSigned, IfSome}
 use Rattle.std.specs.Str.{IsUtf8}
 use Rattle.base_axis.specs.declared.MergedCell.{MergedCell}
 use Rattle.script_lines.specs.declared.command.NamedCell.{NamedCell}
@@ -12,8 +12,10 @@ use Rattle.base_styles.specs.declared.Color.TheVariants.{Rgb}
 use Rattle.script_lines.specs.declared.command.NamedSheetMove.{NamedSheetMove}
 use Rattle.script_lines.specs.declared.command.NamedColor.{NamedColor}
 use Rattle.script_lines.specs.declared.command.NamedGrid.{NamedGrid}
+use Rattle.script_lines.specs.declared.command.NamedName.{NamedName}
+use Rattle.script_lines.specs.declared.command.NamedUpdate.{NamedUpdate}
 use Rattle.script_lines.specs.declared.command.Command.{Command}
-use Rattle.script_lines.specs.declared.command.Command.TheVariants.{Set, Get, Array, Link, Unlink, Merge, Unmerge, InsertRows, InsertColumns, DeleteRows, DeleteColumns, MoveRows, MoveColumns, NewSheet, DuplicateSheet, DeleteSheet, MoveSheet, HideSheet, UnhideSheet, SheetColor, GridLines, Undo, Redo, Sync, Show}
+use Rattle.script_lines.specs.declared.command.Command.TheVariants.{Set, Get, Array, Link, Unlink, Merge, Unmerge, InsertRows, InsertColumns, DeleteRows, DeleteColumns, MoveRows, MoveColumns, NewSheet, DuplicateSheet, DeleteSheet, MoveSheet, RenameSheet, HideSheet, UnhideSheet, SheetColor, GridLines, Name, NameUpdate, NameDelete, Undo, Redo, Sync, Show}
 
 -- a row and a column that letters and digits can name
 pub record IsNamed (row column : ℤ) : Type 0 where
@@ -60,7 +62,14 @@ ColorFits named = SheetFits named.sheet × IsNamedColor named.color
 abbrev pub GridFits : NamedGrid → Type 0
 GridFits named = SheetFits named.sheet
 
--- a command with such numbers, and with a text in UTF-8
+-- a scope that 32 bits hold, and a name in UTF-8
+abbrev pub NameFits : NamedName → Type 0
+NameFits name = IfSome name.scope SheetFits × IsUtf8 name.name
+
+abbrev pub UpdateFits : NamedUpdate → Type 0
+UpdateFits update = NameFits update.old × NameFits update.new
+
+-- a command with such numbers, and with texts in UTF-8
 abbrev pub CommandFits : Command → Type 0
 CommandFits (Set cell text) = CellFits cell × IsUtf8 text
 CommandFits (Get cell) = CellFits cell
@@ -79,10 +88,14 @@ CommandFits NewSheet = Unit {0}
 CommandFits (DuplicateSheet sheet) = SheetFits sheet
 CommandFits (DeleteSheet sheet) = SheetFits sheet
 CommandFits (MoveSheet move) = SheetMoveFits move
+CommandFits (RenameSheet sheet text) = SheetFits sheet × IsUtf8 text
 CommandFits (HideSheet sheet) = SheetFits sheet
 CommandFits (UnhideSheet sheet) = SheetFits sheet
 CommandFits (SheetColor named) = ColorFits named
 CommandFits (GridLines named) = GridFits named
+CommandFits (Name name text) = NameFits name × IsUtf8 text
+CommandFits (NameUpdate update text) = UpdateFits update × IsUtf8 text
+CommandFits (NameDelete name) = NameFits name
 CommandFits Undo = Unit {0}
 CommandFits Redo = Unit {0}
 CommandFits Sync = Unit {0}

@@ -18,8 +18,10 @@ use Rattle.script_lines.specs.declared.command.NamedMove.{NamedMove}
 use Rattle.script_lines.specs.declared.command.NamedSheetMove.{NamedSheetMove}
 use Rattle.script_lines.specs.declared.command.NamedColor.{NamedColor}
 use Rattle.script_lines.specs.declared.command.NamedGrid.{NamedGrid}
+use Rattle.script_lines.specs.declared.command.NamedName.{NamedName}
+use Rattle.script_lines.specs.declared.command.NamedUpdate.{NamedUpdate}
 use Rattle.script_lines.specs.declared.command.Command.{Command}
-use Rattle.script_lines.specs.declared.command.Command.TheVariants.{Set, Get, Array, Link, Unlink, Merge, Unmerge, InsertRows, InsertColumns, DeleteRows, DeleteColumns, MoveRows, MoveColumns, NewSheet, DuplicateSheet, DeleteSheet, MoveSheet, HideSheet, UnhideSheet, SheetColor, GridLines, Undo, Redo, Sync, Show}
+use Rattle.script_lines.specs.declared.command.Command.TheVariants.{Set, Get, Array, Link, Unlink, Merge, Unmerge, InsertRows, InsertColumns, DeleteRows, DeleteColumns, MoveRows, MoveColumns, NewSheet, DuplicateSheet, DeleteSheet, MoveSheet, RenameSheet, HideSheet, UnhideSheet, SheetColor, GridLines, Name, NameUpdate, NameDelete, Undo, Redo, Sync, Show}
 
 -- the next step, if this one has a value
 infixl 10 ◌>>=◌
@@ -96,6 +98,29 @@ grid_words words = do
   show ← word bit_of sheet.1
   Some (record { sheet = sheet.0; show = show.0 }, show.1)
 
+-- SCOPE: `-` for the whole workbook, or the index of a sheet
+abbrev pub scope_of : List ℕ → Option (Option ℕ)
+scope_of bytes = if bytes_eq bytes (codes "-") then Some None else option_map Some (number_below (2 ^ 32) bytes)
+
+-- NAME: a word that is not empty
+abbrev pub name_of : List ℕ → Option (List ℕ)
+name_of [] = None
+name_of (b ∷ bytes) = Some (b ∷ bytes)
+
+-- `SCOPE NAME`
+abbrev pub name_words : Reader NamedName
+name_words words = do
+  scope ← word scope_of words
+  name ← word name_of scope.1
+  Some (record { scope = scope.0; name = name.0 }, name.1)
+
+-- `SCOPE NAME SCOPE NAME`
+abbrev pub update_words : Reader NamedUpdate
+update_words words = do
+  old ← name_words words
+  new ← name_words old.1
+  Some (record { old = old.0; new = new.0 }, new.1)
+
 -- no word is left
 abbrev pub ended : {A : Type 0} → A × List (List ℕ) → Option A
 ended (value, []) = Some value
@@ -143,10 +168,14 @@ commands =
     ∷ (codes "duplicate-sheet", exactly sheet_word DuplicateSheet)
     ∷ (codes "delete-sheet", exactly sheet_word DeleteSheet)
     ∷ (codes "move-sheet", exactly sheet_move_words MoveSheet)
+    ∷ (codes "rename-sheet", and_text sheet_word (λ sheet text. Some (RenameSheet sheet text)))
     ∷ (codes "hide-sheet", exactly sheet_word HideSheet)
     ∷ (codes "unhide-sheet", exactly sheet_word UnhideSheet)
     ∷ (codes "color", exactly color_words SheetColor)
     ∷ (codes "grid", exactly grid_words GridLines)
+    ∷ (codes "name", and_text name_words (λ name text. Some (Name name text)))
+    ∷ (codes "name-update", and_text update_words (λ update text. Some (NameUpdate update text)))
+    ∷ (codes "name-delete", exactly name_words NameDelete)
     ∷ (codes "undo", alone Undo)
     ∷ (codes "redo", alone Redo)
     ∷ (codes "sync", alone Sync)

@@ -131,6 +131,21 @@ impl Exact for NamedGrid {
     ghost equals = { named_grid_equals };
 }
 
+/// A defined name that a line names.
+#[derive(Debug, PartialEq, Eq, Drop)]
+pub struct NamedName {
+    /// The index of the sheet where alone it is known. None stands for the whole workbook.
+    pub scope: Option<u32>,
+    pub name: Text,
+}
+
+/// A defined name that a line names, and what it becomes.
+#[derive(Debug, PartialEq, Eq, Drop)]
+pub struct NamedUpdate {
+    pub old: NamedName,
+    pub new: NamedName,
+}
+
 /// What a line of a script asks for. Rows, columns and counts are those that the line names, and may lie
 /// outside every sheet.
 #[derive(Debug, Drop)]
@@ -169,6 +184,8 @@ pub enum Command {
     DeleteSheet(u32),
     /// `move-sheet S S`: take a sheet to another index.
     MoveSheet(NamedSheetMove),
+    /// `rename-sheet S TEXT`: give a sheet another name.
+    RenameSheet(u32, Text),
     /// `hide-sheet S`: hide a sheet.
     HideSheet(u32),
     /// `unhide-sheet S`: show a sheet again.
@@ -177,6 +194,12 @@ pub enum Command {
     SheetColor(NamedColor),
     /// `grid S 0` or `grid S 1`: draw the grid lines of a sheet or not.
     GridLines(NamedGrid),
+    /// `name SCOPE NAME TEXT`: define a name.
+    Name(NamedName, Text),
+    /// `name-update SCOPE NAME SCOPE NAME TEXT`: give a defined name another scope, name and formula.
+    NameUpdate(NamedUpdate, Text),
+    /// `name-delete SCOPE NAME`: take a defined name away.
+    NameDelete(NamedName),
     /// `undo`: take back the last edit.
     Undo,
     /// `redo`: do again what was taken back last.

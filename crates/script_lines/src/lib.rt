@@ -16,12 +16,10 @@ mod reference;
 mod unsupported;
 
 pub use command::{
-    Command, NamedArea, NamedCell, NamedColor, NamedGrid, NamedLines, NamedMove, NamedSheetMove,
+    Command, NamedArea, NamedCell, NamedColor, NamedGrid, NamedLines, NamedMove, NamedName,
+    NamedSheetMove, NamedUpdate,
 };
 pub use escape::{escapes_read_back, push_escaped};
 pub use parse::read_command;
 pub use parts::{split_first, without_return};
 pub use reference::{push_reference, references_read_again};
-
-#[cfg(test)]
-mod tests;

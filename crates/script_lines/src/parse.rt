@@ -8,7 +8,8 @@ ghost use Rattle.script_lines.specs.Commands as spec;
 
 use crate::color::color_of;
 use crate::command::{
-    Command, NamedArea, NamedCell, NamedColor, NamedGrid, NamedLines, NamedMove, NamedSheetMove,
+    Command, NamedArea, NamedCell, NamedColor, NamedGrid, NamedLines, NamedMove, NamedName,
+    NamedSheetMove, NamedUpdate,
 };
 use crate::escape::unescape;
 use crate::number::{read_i32, read_u32};
@@ -142,9 +143,82 @@ fn grid_words(words: Option<&str>) -> Option<(NamedGrid, Option<&str>)>
     Some((NamedGrid { sheet, show }, words))
 }
 
+/// SCOPE: a dash for the whole workbook, or the index of a sheet.
+fn scope_of(word: &str) -> Option<Option<u32>>
+    ensures { result ≡ spec.scope_of word.now }
+{
+    if word == "-" {
+        return Some(None);
+    }
+    read_u32(word.as_bytes()).map(Some)
+}
+
+/// SCOPE, and the words behind it.
+fn scope_word(words: Option<&str>) -> Option<(Option<u32>, Option<&str>)>
+    ensures { option_map (λ found. (found.0, parts_after 32 (option_copied found.1))) result ≡ spec.word spec.scope_of (parts_after 32 (option_copied words.entry)) }
+{
+    let Some(words) = words else {
+        return None;
+    };
+    let (word, words) = split_word(words);
+    match scope_of(word) {
+        Some(scope) => Some((scope, words)),
+        None => None,
+    }
+}
+
+/// NAME, and the words behind it.
+fn name_word(words: Option<&str>) -> Option<(&str, Option<&str>)>
+    ensures { option_map (λ found. (found.0.now, parts_after 32 (option_copied found.1))) result ≡ spec.word spec.name_of (parts_after 32 (option_copied words.entry)) }
+{
+    let Some(words) = words else {
+        return None;
+    };
+    let (word, words) = split_word(words);
+    if word.is_empty() {
+        return None;
+    }
+    Some((word, words))
+}
+
+/// `SCOPE NAME`, and the words behind it.
+fn name_words(
+    alloc: Global,
+    words: Option<&str>,
+) -> Result<Option<(NamedName, Option<&str>)>, EditError>
+    ensures value { IfOk result (λ found. option_map (λ found. (found.0, parts_after 32 (option_copied found.1))) found ≡ spec.name_words (parts_after 32 (option_copied words.entry))) }
+    ensures err { IsOkUnless result NoMemory }
+{
+    let Some((scope, words)) = scope_word(words) else {
+        return Ok(None);
+    };
+    let Some((name, words)) = name_word(words) else {
+        return Ok(None);
+    };
+    let name = Text::new(String::from_str(alloc, name)?);
+    Ok(Some((NamedName { scope, name }, words)))
+}
+
+/// `SCOPE NAME SCOPE NAME`, and the words behind it.
+fn update_words(
+    alloc: Global,
+    words: Option<&str>,
+) -> Result<Option<(NamedUpdate, Option<&str>)>, EditError>
+    ensures value { IfOk result (λ found. option_map (λ found. (found.0, parts_after 32 (option_copied found.1))) found ≡ spec.update_words (parts_after 32 (option_copied words.entry))) }
+    ensures err { IsOkUnless result NoMemory }
+{
+    let Some((old, words)) = name_words(alloc, words)? else {
+        return Ok(None);
+    };
+    let Some((new, words)) = name_words(alloc, words)? else {
+        return Ok(None);
+    };
+    Ok(Some((NamedUpdate { old, new }, words)))
+}
+
 /// What was found, where no word is behind it.
 #[tactic(auto, using(crate::proofs::Words::never_ended))]
-fn ended<T: Copy>(found: Option<(T, Option<&str>)>) -> Option<T>
+fn ended<T: Drop>(found: Option<(T, Option<&str>)>) -> Option<T>
     ensures { result ≡ option_and_then spec.ended (option_map (λ found. (found.0, parts_after 32 (option_copied found.1))) found.entry) }
 {
     match found {
@@ -155,7 +229,7 @@ fn ended<T: Copy>(found: Option<(T, Option<&str>)>) -> Option<T>
 }
 
 /// What was found, with what is left of the line as a text.
-fn with_text<T: Copy>(
+fn with_text<T: Drop>(
     alloc: Global,
     found: Option<(T, Option<&str>)>,
 ) -> Result<Option<(T, Text)>, EditError>
@@ -222,10 +296,20 @@ fn read_words(alloc: Global, word: &str, words: Option<&str>) -> Result<Option<C
         "duplicate-sheet" => Ok(ended(sheet_word(words)).map(Command::DuplicateSheet)),
         "delete-sheet" => Ok(ended(sheet_word(words)).map(Command::DeleteSheet)),
         "move-sheet" => Ok(ended(sheet_move_words(words)).map(Command::MoveSheet)),
+        "rename-sheet" => Ok(with_text(alloc, sheet_word(words))?.map(|(sheet, text)| {
+            Command::RenameSheet(sheet, text)
+        })),
         "hide-sheet" => Ok(ended(sheet_word(words)).map(Command::HideSheet)),
         "unhide-sheet" => Ok(ended(sheet_word(words)).map(Command::UnhideSheet)),
         "color" => Ok(ended(color_words(words)).map(Command::SheetColor)),
         "grid" => Ok(ended(grid_words(words)).map(Command::GridLines)),
+        "name" => Ok(with_text(alloc, name_words(alloc, words)?)?.map(|(name, text)| Command::Name(
+            name, text,
+        ))),
+        "name-update" => Ok(with_text(alloc, update_words(alloc, words)?)?.map(|(update, text)| {
+            Command::NameUpdate(update, text)
+        })),
+        "name-delete" => Ok(ended(name_words(alloc, words)?).map(Command::NameDelete)),
         "undo" => Ok(alone(Command::Undo, words)),
         "redo" => Ok(alone(Command::Redo, words)),
         "sync" => Ok(alone(Command::Sync, words)),

@@ -13,6 +13,3 @@ pub use model::Model;
 pub use plan::{plan_delete, plan_insert, plan_move};
 pub use sheet_lines::{KeptLines, line_back, line_edit};
 pub use sheet_rules::{broken_rule, is_well_formed};
-
-#[cfg(test)]
-mod tests;

@@ -1,11 +1,13 @@
 //! The base of the spreadsheet layers in one crate: values, styles, decimals and tables.
 //!
-//! It passes on what `base_values`, `base_axis`, `base_styles`, `base_decimal` and `base_tables` hold;
-//! their contracts stand there.
+//! It passes on what `base_values`, `base_shared`, `base_axis`, `base_maps`, `base_styles`, `base_decimal`
+//! and `base_tables` hold; their contracts stand there.
 #![tactic(auto)]
 
 pub use base_axis::{Area, Axis, AxisMap, ColumnAxis, MergeList, MergedCell, RowAxis};
 pub use base_decimal::Decimal;
+pub use base_maps::{IndexMap, NumberMap, PositionMap, SheetPlace, SheetPlaceMap};
+pub use base_shared::Shared;
 pub use base_styles::{
     Alignment, Border, BorderItem, BorderStyle, Color, Font, HorizontalAlignment, Style,
     ThemeColor, VerticalAlignment,

@@ -5,6 +5,14 @@ use crate::{
 use std::process::Abort;
 use std::test::Fail;
 
+mod axis;
+mod decimal;
+mod maps;
+mod shared;
+mod styles;
+mod tables;
+mod values;
+
 fn check_function(rt: &impl Abort, function: Function, names: [&str; 4]) {
     for (language, name) in Language::ALL.iter().zip(names.iter()) {
         assert_eq!(rt; function.name(*language), *name);

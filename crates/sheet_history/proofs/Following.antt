@@ -3,7 +3,7 @@ use Rattle.std.proofs.Common.{◌≡◌, ◌∙◌, ◌||◌, ℕ, Bool, false, 
 use Rattle.std.specs.List.{list_any}
 use Rattle.std.proofs.lemmas.Grind.{reverse_onto}
 use Rattle.sheet_history.specs.declared.diff.Diff.{Diff}
-use Rattle.sheet_history.specs.declared.diff.Diff.TheVariants.{Cell as CellDiff, Link as LinkDiff, Merges as MergesDiff, Field as FieldDiff, Lines as LinesDiff, NewSheet as NewDiff, DuplicateSheet as CopyDiff, DeleteSheet as DeletionDiff, MoveSheet as MoveDiff}
+use Rattle.sheet_history.specs.declared.diff.Diff.TheVariants.{Cell as CellDiff, Link as LinkDiff, Merges as MergesDiff, Field as FieldDiff, Lines as LinesDiff, NewSheet as NewDiff, DuplicateSheet as CopyDiff, DeleteSheet as DeletionDiff, MoveSheet as MoveDiff, RenameSheet as RenameDiff, ChangeName as NameDiff}
 use Rattle.sheet_history.specs.declared.diff.DiffType.{DiffType}
 use Rattle.sheet_history.specs.declared.diff.DiffType.TheVariants.{Undo, Redo}
 use Rattle.sheet_history.specs.declared.selection.ListStep.{ListStep}
@@ -19,6 +19,8 @@ forward_stays (LinesDiff _ _ _ _) ids selected stays = refl
 forward_stays (NewDiff _ _ _) ids selected stays = refl
 forward_stays (CopyDiff _ _ _ _) ids selected stays = refl
 forward_stays (DeletionDiff _ _) ids selected stays = refl
+forward_stays (RenameDiff _ _ _ _) ids selected stays = refl
+forward_stays (NameDiff _ _) ids selected stays = refl
 forward_stays (MoveDiff _ _ _) ids selected stays = absurd (let never : true ≡ false = stays in cc)
 
 back_stays : (diff : Diff) (ids : List ℕ) (selected : ℕ) → is_move diff ≡ false → selected_after (back_step diff) ids selected ≡ selected
@@ -30,6 +32,8 @@ back_stays (LinesDiff _ _ _ _) ids selected stays = refl
 back_stays (NewDiff _ _ _) ids selected stays = refl
 back_stays (CopyDiff _ _ _ _) ids selected stays = refl
 back_stays (DeletionDiff _ _) ids selected stays = refl
+back_stays (RenameDiff _ _ _ _) ids selected stays = refl
+back_stays (NameDiff _ _) ids selected stays = refl
 back_stays (MoveDiff _ _ _) ids selected stays = absurd (let never : true ≡ false = stays in cc)
 
 neither : (a b : Bool) → (a || b) ≡ false → (a ≡ false) × (b ≡ false)

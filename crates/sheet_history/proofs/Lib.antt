@@ -1,4 +1,4 @@
 mod DiffLemmas
 mod Following
-mod Placed
+pub mod Placed
 mod Standing

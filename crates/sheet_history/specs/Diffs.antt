@@ -10,8 +10,12 @@ use Rattle.sheet_grid.specs.CanonicalCell.{IsCanonicalCell}
 use Rattle.sheet_rules.specs.WellFormed.{broken_rule}
 use Rattle.sheet_lines.specs.CanonicalNumbers.{AreCanonicalLines}
 use Rattle.book_sheets.specs.SheetDiffs.{IsCanonicalSheet, new_forward, new_back, copy_forward, copy_back, deletion_forward, deletion_back, sheet_moves}
+use Rattle.book_names.specs.Renaming.{AreCanonicalTrees}
+use Rattle.book_names.specs.RenameDiffs.{rename_forward, rename_back}
+use Rattle.name_edits.specs.NameChanges.{IsCanonicalChange}
+use Rattle.name_edits.specs.NameDiffs.{name_forward, name_back}
 use Rattle.sheet_history.specs.declared.diff.Diff.{Diff}
-use Rattle.sheet_history.specs.declared.diff.Diff.TheVariants.{Cell as CellDiff, Link as LinkDiff, Merges as MergesDiff, Field as FieldDiff, Lines as LinesDiff, NewSheet as NewDiff, DuplicateSheet as CopyDiff, DeleteSheet as DeletionDiff, MoveSheet as MoveDiff}
+use Rattle.sheet_history.specs.declared.diff.Diff.TheVariants.{Cell as CellDiff, Link as LinkDiff, Merges as MergesDiff, Field as FieldDiff, Lines as LinesDiff, NewSheet as NewDiff, DuplicateSheet as CopyDiff, DeleteSheet as DeletionDiff, MoveSheet as MoveDiff, RenameSheet as RenameDiff, ChangeName as NameDiff}
 use Rattle.sheet_history.specs.declared.diff.DiffType.{DiffType}
 use Rattle.sheet_history.specs.declared.diff.DiffType.TheVariants.{Undo, Redo}
 use Rattle.sheet_history.specs.declared.diff.QueueDiffs.{QueueDiffs}
@@ -29,7 +33,7 @@ sheet_put at key value sheet = if value_fits key value then Ok (with_sheet_entry
 unfoldable pub put_in : ℕ → Book → EntryKey → EntryValue → Result Book EditError
 put_in at book key value = if accepts book key value then Ok (put_entry book key value) else Err (DiffRefused 0 at)
 
--- forward puts the new value, edits the lines, or makes the change of the list of sheets
+-- forward puts the new value, edits the lines, makes the change of the list of sheets or of the defined names, or renames a sheet
 abbrev pub step_forward : ℕ → Book → Diff → Result Book EditError
 step_forward at book (CellDiff sheet place old new) = put_in at book (CellKey sheet place) (CellValue new)
 step_forward at book (LinkDiff sheet place old new) = put_in at book (LinkKey sheet place) (LinkValue new)
@@ -40,8 +44,10 @@ step_forward at book (NewDiff sheet index name) = new_forward at sheet index nam
 step_forward at book (CopyDiff source sheet index name) = copy_forward at source sheet index name book
 step_forward at book (DeletionDiff index kept) = deletion_forward at kept book
 step_forward at book (MoveDiff sheet from to) = sheet_moves at sheet from to book
+step_forward at book (RenameDiff sheet old new kept) = rename_forward at sheet old new kept book
+step_forward at book (NameDiff change kept) = name_forward at change kept book
 
--- back puts the old value, takes the lines back, or the change of the list of sheets
+-- back puts the old value, takes the lines back, or the change of the list of sheets or of the defined names, or gives a sheet its old name back
 abbrev pub step_back : ℕ → Book → Diff → Result Book EditError
 step_back at book (CellDiff sheet place old new) = put_in at book (CellKey sheet place) (CellValue old)
 step_back at book (LinkDiff sheet place old new) = put_in at book (LinkKey sheet place) (LinkValue old)
@@ -52,6 +58,8 @@ step_back at book (NewDiff sheet index name) = new_back at sheet book
 step_back at book (CopyDiff source sheet index name) = copy_back at sheet book
 step_back at book (DeletionDiff index kept) = deletion_back at index kept book
 step_back at book (MoveDiff sheet from to) = sheet_moves at sheet to from book
+step_back at book (RenameDiff sheet old new kept) = rename_back at sheet old new kept book
+step_back at book (NameDiff change kept) = name_back at change kept book
 
 -- the diffs in order, where the first has the number at
 abbrev pub forward_from : ℕ → Book → List Diff → Result Book EditError
@@ -122,6 +130,8 @@ IsCanonicalDiff (NewDiff sheet index name) = Unit {0}
 IsCanonicalDiff (CopyDiff source sheet index name) = Unit {0}
 IsCanonicalDiff (DeletionDiff index kept) = IsCanonicalSheet kept
 IsCanonicalDiff (MoveDiff sheet from to) = Unit {0}
+IsCanonicalDiff (RenameDiff sheet old new kept) = AreCanonicalTrees kept
+IsCanonicalDiff (NameDiff change kept) = IsCanonicalChange change × AreCanonicalTrees kept
 
 abbrev pub IsCanonicalList : List Diff → Type 0
 IsCanonicalList diffs = All IsCanonicalDiff diffs

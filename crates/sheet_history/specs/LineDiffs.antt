@@ -1,6 +1,6 @@
 -- When a diff of lines is made, and when it is taken back.
 use Rattle.std.proofs.Common.{ℕ, ℤ, ◌+ℤ◌, Bool, true, false, List, Option, Some, None, Result, Ok, Err}
-use Rattle.std.specs.Prelude.{not, ◌&&◌, ◌==◌, is_some, is_none, int_le, int_lt, if◌then◌else◌}
+use Rattle.std.specs.Prelude.{not, ◌&&◌, ◌==◌, is_none, int_le, int_lt, if◌then◌else◌}
 use Rattle.std.specs.List.{list_all}
 use Rattle.std.specs.declared.cmp.Ordering.{Ordering}
 use Rattle.std.specs.FinMap.{FinMap, entries, get}
@@ -15,7 +15,6 @@ use Rattle.base_maps.specs.declared.SheetPlace.{SheetPlace}
 use Rattle.base_maps.specs.SheetPlaces.{sheet_place_cmp}
 use Rattle.formula_tree.specs.declared.Node.{Node}
 use Rattle.cell_content.specs.Fitting.{tree_fits_at}
-use Rattle.cell_content.specs.Lens.{tree_of}
 use Rattle.line_edits.specs.declared.EditKind.{EditKind}
 use Rattle.line_edits.specs.declared.EditKind.TheVariants.{Insert, Delete, Move}
 use Rattle.line_edits.specs.Edit.{image_at, is_valid, opposite_of}
@@ -30,6 +29,7 @@ use Rattle.sheet_lines.specs.Sheets.{sheet_of}
 use Rattle.sheet_lines.specs.Followed.{book_followed}
 use Rattle.sheet_lines.specs.Back.{book_back}
 use Rattle.book_sheets.specs.SheetDiffs.{lies_inside, cells_fit}
+pub use Rattle.book_names.specs.RenameDiffs.{is_formula}
 use Rattle.sheet_history.specs.declared.diff.LineAxis.{LineAxis}
 use Rattle.sheet_history.specs.declared.diff.LineAxis.TheVariants.{Rows, Columns}
 
@@ -77,11 +77,6 @@ merges_inside (Some merges) = list_all is_inside merges
 -- each kept cell that is an array lies inside the sheet, and so does each kept merge
 unfoldable pub lie_inside : KeptLines → Bool
 lie_inside kept = list_all (λ (entry : Position × Cell). lies_inside (array_at entry.0 entry.1.content)) (entries kept.cells) && merges_inside kept.merges
-
--- whether a cell is there, and its content is a formula
-abbrev pub is_formula : Option Cell → Bool
-is_formula None = false
-is_formula (Some cell) = is_some (tree_of cell.content)
 
 -- whether a place is there, and at it a formula
 abbrev pub is_formula_at : FinMap position_cmp Cell → Option Position → Bool

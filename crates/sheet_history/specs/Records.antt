@@ -23,7 +23,7 @@ use Rattle.sheet_history.specs.declared.field.SheetField.{SheetField}
 use Rattle.sheet_history.specs.declared.field.SheetField.TheVariants as field_value
 use Rattle.sheet_history.specs.declared.field.FieldChange.TheVariants as field_change
 use Rattle.sheet_history.specs.contracts.field.SheetFieldPartialEq.TheImpl as sheet_field
-use Rattle.sheet_history.specs.declared.diff.Diff.TheVariants.{Cell as CellDiff, Link as LinkDiff, Merges as MergesDiff, Field as FieldDiff, Lines as LinesDiff, NewSheet as NewDiff, DuplicateSheet as CopyDiff, DeleteSheet as DeletionDiff, MoveSheet as MoveDiff}
+use Rattle.sheet_history.specs.declared.diff.Diff.TheVariants.{Cell as CellDiff, Link as LinkDiff, Merges as MergesDiff, Field as FieldDiff, Lines as LinesDiff, NewSheet as NewDiff, DuplicateSheet as CopyDiff, DeleteSheet as DeletionDiff, MoveSheet as MoveDiff, RenameSheet as RenameDiff, ChangeName as NameDiff}
 use Rattle.sheet_history.specs.Entries.{EntryKey, EntryValue, key_cmp, entry_at, frame_of}
 use Rattle.sheet_history.specs.Entries.EntryKey.{CellKey, LinkKey, MergesKey, FieldKey}
 use Rattle.sheet_history.specs.Entries.EntryValue.{CellValue, LinkValue, MergesValue, FieldValue}
@@ -58,6 +58,8 @@ change_of (NewDiff sheet index name) = None
 change_of (CopyDiff source sheet index name) = None
 change_of (DeletionDiff index kept) = None
 change_of (MoveDiff sheet from to) = None
+change_of (RenameDiff sheet old new kept) = None
+change_of (NameDiff change kept) = None
 
 -- a list has, in the order of their keys, exactly the entries in which the later workbook differs from the earlier one, which
 -- differ in nothing else

@@ -12,7 +12,7 @@ use Rattle.sheet_lines.specs.Sheets.{sheet_of}
 use Rattle.sheet_history.specs.declared.diff.DiffType.{DiffType}
 use Rattle.sheet_history.specs.declared.diff.DiffType.TheVariants.{Undo, Redo}
 use Rattle.sheet_history.specs.declared.diff.Diff.{Diff}
-use Rattle.sheet_history.specs.declared.diff.Diff.TheVariants.{Cell as CellDiff, Link as LinkDiff, Merges as MergesDiff, Field as FieldDiff, Lines as LinesDiff, NewSheet as NewDiff, DuplicateSheet as CopyDiff, DeleteSheet as DeletionDiff, MoveSheet as MoveDiff}
+use Rattle.sheet_history.specs.declared.diff.Diff.TheVariants.{Cell as CellDiff, Link as LinkDiff, Merges as MergesDiff, Field as FieldDiff, Lines as LinesDiff, NewSheet as NewDiff, DuplicateSheet as CopyDiff, DeleteSheet as DeletionDiff, MoveSheet as MoveDiff, RenameSheet as RenameDiff, ChangeName as NameDiff}
 
 -- what is put, a cell or none, has a font of at least size 1
 abbrev pub entry_has_font : Option Cell → Bool
@@ -49,6 +49,8 @@ diff_keeps_rules kind book (NewDiff id index name) = false
 diff_keeps_rules kind book (CopyDiff source id index name) = false
 diff_keeps_rules kind book (DeletionDiff index kept) = false
 diff_keeps_rules kind book (MoveDiff id from to) = false
+diff_keeps_rules kind book (RenameDiff id old new kept) = false
+diff_keeps_rules kind book (NameDiff change kept) = false
 
 -- a list that does: it is empty, or has one such diff
 abbrev pub keeps_rules : DiffType → Book → List Diff → Bool

@@ -13,10 +13,12 @@ use crate::line_diffs::{lines_back, lines_forward};
 use crate::put::{put_cell, put_field, put_link, put_merges};
 use base_axis::{ColumnAxis, RowAxis};
 use base_values::{EditError, copy_of};
+use book_names::{rename_back, rename_forward};
 use book_sheets::{
     copy_back, copy_forward, deletion_back, deletion_forward, new_back, new_forward, sheet_moves,
 };
 use line_map::{EditKind, LineEdit};
+use name_edits::{name_back, name_forward};
 use sheet_grid::Workbook;
 use sheet_lines::KeptLines;
 use sheet_rules::is_well_formed;
@@ -114,6 +116,21 @@ fn make(alloc: Global, workbook: &mut Workbook, diff: &Diff, at: u64) -> Result<
         } => copy_forward(workbook, *source, *sheet, *index, name.as_str(), at),
         Diff::DeleteSheet { index: _, kept } => deletion_forward(alloc, workbook, kept.get(), at),
         Diff::MoveSheet { sheet, from, to } => sheet_moves(workbook, *sheet, *from, *to, at),
+        Diff::RenameSheet {
+            sheet,
+            old,
+            new,
+            kept,
+        } => rename_forward(
+            alloc,
+            workbook,
+            *sheet,
+            old.as_str(),
+            new.as_str(),
+            kept.get(),
+            at,
+        ),
+        Diff::ChangeName { change, kept } => name_forward(alloc, workbook, change, kept.get(), at),
     }
 }
 
@@ -149,6 +166,21 @@ fn take_back(alloc: Global, workbook: &mut Workbook, diff: &Diff, at: u64) -> Re
         Diff::DuplicateSheet { sheet, .. } => copy_back(alloc, workbook, *sheet, at),
         Diff::DeleteSheet { index, kept } => deletion_back(workbook, *index, kept.get(), at),
         Diff::MoveSheet { sheet, from, to } => sheet_moves(workbook, *sheet, *to, *from, at),
+        Diff::RenameSheet {
+            sheet,
+            old,
+            new,
+            kept,
+        } => rename_back(
+            alloc,
+            workbook,
+            *sheet,
+            old.as_str(),
+            new.as_str(),
+            kept.get(),
+            at,
+        ),
+        Diff::ChangeName { change, kept } => name_back(alloc, workbook, change, kept.get(), at),
     }
 }
 
@@ -196,7 +228,8 @@ fn by_rule(workbook: Workbook, at: u64) -> Result<Workbook, EditError>
 /// `DiffRefused` with entry 0 and the number of the first diff that cannot be made; where each can,
 /// but the result breaks a rule, with the number of diffs. A cell cannot be put where its sheet is
 /// not there, its position is outside, or it may not stand there. docs/MODEL.md says when lines can
-/// be inserted, deleted and moved, and when a sheet can come, go and move.
+/// be inserted, deleted and moved, when a sheet can come, go, move and be renamed, and when a defined name
+/// can come, go and change.
 pub fn forward(alloc: Global, workbook: &Workbook, list: &DiffList) -> Result<Workbook, EditError>
     requires canonical { IsCanonicalList list.now }
     requires rules { IsWellFormed workbook.now }

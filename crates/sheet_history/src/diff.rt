@@ -2,8 +2,10 @@ use crate::field::FieldChange;
 use base_axis::MergeList;
 use base_shared::Shared;
 use base_values::{Exact, Items, Position, Text};
+use book_names::KeptTrees;
 use book_sheets::KeptSheet;
 use line_map::EditKind;
+use name_edits::NameChange;
 use sheet_grid::{Cell, Link};
 use sheet_lines::KeptLines;
 
@@ -73,6 +75,19 @@ pub enum Diff {
         sheet: u32,
         from: u32,
         to: u32,
+    },
+    /// The sheet of that id, which got a new name in place of the old one, and the trees that the
+    /// opposite renaming does not give back.
+    RenameSheet {
+        sheet: u32,
+        old: Text,
+        new: Text,
+        kept: Shared<KeptTrees>,
+    },
+    /// A defined name that came, went or changed, and the trees that taking this back does not give.
+    ChangeName {
+        change: NameChange,
+        kept: Shared<KeptTrees>,
     },
 }
 

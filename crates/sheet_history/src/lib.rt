@@ -23,6 +23,3 @@ pub use laws::{
     line_records_go_both_ways, records_are_computed, records_are_unique, records_go_both_ways,
 };
 pub use selection::selection_followed;
-
-#[cfg(test)]
-mod tests;

@@ -23,26 +23,15 @@ ghost use Rattle.sheet_history.specs.LineDiffs.{goes_forward, goes_back, lines_f
 use base_axis::{Axis, MergeList};
 use base_maps::{NumberMap, PositionMap, SheetPlaceMap};
 use base_shared::Shared;
-use base_values::{EditError, LAST_COLUMN, LAST_ROW, PlaceMap, Position};
+use base_values::{EditError, PlaceMap, Position};
+use book_names::{is_formula, is_line, is_place};
 use book_sheets::{array_lies_inside, merges_lie_inside};
-use cell_content::{fits_at, tree_fits_at, tree_of};
+use cell_content::{fits_at, tree_fits_at};
 use formula_tree::Node;
 use line_map::{EditKind, LineEdit};
 use sheet_grid::{Cell, Workbook, Worksheet};
 use sheet_lines::{KeptLines, followed_book, line_back, sheet_of};
 use std::alloc::Global;
-
-fn is_line(last: i32, line: i32) -> bool
-    ensures { result ≡ is_line last line }
-{
-    1 <= line && line <= last
-}
-
-fn is_place(place: Position) -> bool
-    ensures { result ≡ is_place place }
-{
-    is_line(LAST_ROW, place.row) && is_line(LAST_COLUMN, place.column)
-}
 
 fn is_past(last: i32, line: i32, count: i32) -> bool
     ensures { result ≡ int_lt last (line +ℤ count) }
@@ -176,15 +165,6 @@ fn cells_fit(cells: &PositionMap<Shared<Cell>>) -> bool
     cells
         .iter()
         .all(|(place, cell)| fits_at(*place, &cell.get().content))
-}
-
-fn is_formula(cell: Option<&Shared<Cell>>) -> bool
-    ensures { result ≡ is_formula (option_copied cell.entry) }
-{
-    match cell {
-        Some(cell) => tree_of(&cell.get().content).is_some(),
-        None => false,
-    }
 }
 
 fn is_formula_at(cells: &PlaceMap<Shared<Cell>>, place: Option<Position>) -> bool

@@ -67,6 +67,8 @@ fn forward_step(diff: &Diff) -> ListStep
             sheet: *sheet,
             to: *to,
         },
+        Diff::RenameSheet { .. } => ListStep::Stays,
+        Diff::ChangeName { .. } => ListStep::Stays,
     }
 }
 
@@ -90,6 +92,8 @@ fn back_step(diff: &Diff) -> ListStep
             sheet: *sheet,
             to: *from,
         },
+        Diff::RenameSheet { .. } => ListStep::Stays,
+        Diff::ChangeName { .. } => ListStep::Stays,
     }
 }
 

@@ -9,6 +9,3 @@ mod names;
 
 pub use ids::next_id;
 pub use names::{copy_name, new_name};
-
-#[cfg(test)]
-mod tests;

@@ -10,6 +10,3 @@ mod walk;
 
 pub use direction::NavigationDirection;
 pub use navigate::Navigate;
-
-#[cfg(test)]
-mod tests;

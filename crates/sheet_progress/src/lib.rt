@@ -13,8 +13,6 @@ mod progression;
 mod reading;
 mod steps;
 mod suffix;
-#[cfg(test)]
-mod tests;
 mod trim;
 
 pub use detect::{

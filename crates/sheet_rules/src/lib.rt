@@ -15,6 +15,3 @@ mod rules;
 pub use names::is_sheet_name;
 pub use occupied::{array_over, is_hidden_place};
 pub use rules::{broken_rule, is_well_formed};
-
-#[cfg(test)]
-mod tests;

@@ -12,6 +12,3 @@ mod view;
 pub use chosen::{next_visible, selected_after_delete, viewed, viewed_id};
 pub use moved::selected_sheet_after_move;
 pub use view::View;
-
-#[cfg(test)]
-mod tests;

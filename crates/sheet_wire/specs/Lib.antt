@@ -1,5 +1,6 @@
 pub mod LinesBytes
 pub mod SheetsBytes
+pub mod TreesBytes
 pub mod ChangeBytes
 pub mod QueueBytes
 pub mod laws

@@ -11,9 +11,11 @@ use Rattle.sheet_lines.specs.declared.KeptLines.{KeptLines}
 use Rattle.base_styles.specs.declared.Color.{Color}
 use Rattle.sheet_grid.specs.declared.SheetState.{SheetState}
 use Rattle.book_sheets.specs.declared.KeptSheet.{KeptSheet}
+use Rattle.defined_names.specs.declared.DefinedName.{DefinedName}
+use Rattle.book_names.specs.declared.KeptTrees.{KeptTrees}
 use Rattle.sheet_history.specs.declared.FieldChange.TheVariants as change
 use Rattle.sheet_history.specs.declared.Diff.{Diff}
-use Rattle.sheet_history.specs.declared.Diff.TheVariants.{Cell as CellDiff, Link as LinkDiff, Merges as MergesDiff, Field as FieldDiff, Lines as LinesDiff, NewSheet as NewDiff, DuplicateSheet as CopyDiff, DeleteSheet as DeletionDiff, MoveSheet as MoveDiff}
+use Rattle.sheet_history.specs.declared.Diff.TheVariants.{Cell as CellDiff, Link as LinkDiff, Merges as MergesDiff, Field as FieldDiff, Lines as LinesDiff, NewSheet as NewDiff, DuplicateSheet as CopyDiff, DeleteSheet as DeletionDiff, MoveSheet as MoveDiff, RenameSheet as RenameDiff, ChangeName as NameDiff}
 use Rattle.sheet_history.specs.declared.LineAxis.{LineAxis}
 use Rattle.sheet_history.specs.declared.DiffType.{DiffType}
 use Rattle.sheet_history.specs.declared.DiffType.TheVariants.{Undo, Redo}
@@ -29,6 +31,7 @@ use Rattle.lines_wire.specs.KeptBytes.{IsKnownKept}
 use Rattle.sheet_wire.specs.ChangeBytes.{spell_change, change_at, FitsChange, spell_sheet_change, sheet_change_at, FitsSheetChange}
 use Rattle.sheet_wire.specs.LinesBytes.{spell_lines, lines_parts_at, FitsLines}
 use Rattle.sheet_wire.specs.SheetsBytes.{spell_color_change, spell_state_change, spell_grid_change, state_at, FitsField, spell_new, new_parts_at, FitsNew, spell_copy, copy_parts_at, FitsCopy}
+use Rattle.sheet_wire.specs.TreesBytes.{spell_rename, rename_parts_at, FitsRename, AreKnownTrees, spell_name_change, name_parts_at, FitsNameChange, IsKnownChange}
 use Rattle.sheet_wire.specs.SheetsBytes.{spell_deletion, deletion_parts_at, FitsDeletion, IsKnownKeptSheet, spell_move, move_parts_at, FitsMove}
 
 -- ---- diffs
@@ -42,10 +45,12 @@ spell_diff (LinesDiff sheet axis edit kept) = 7 ∷ spell_lines sheet axis edit 
 spell_diff (NewDiff sheet index name) = 8 ∷ spell_new sheet index name
 spell_diff (CopyDiff source sheet index name) = 9 ∷ spell_copy source sheet index name
 spell_diff (DeletionDiff index kept) = 10 ∷ spell_deletion index kept
+spell_diff (RenameDiff sheet old new kept) = 11 ∷ spell_rename sheet old new kept
 spell_diff (MoveDiff sheet from to) = 12 ∷ spell_move sheet from to
 spell_diff (FieldDiff sheet (change.Color old new)) = 13 ∷ spell_color_change sheet old new
 spell_diff (FieldDiff sheet (change.State old new)) = 14 ∷ spell_state_change sheet old new
 spell_diff (FieldDiff sheet (change.GridLines old new)) = 15 ∷ spell_grid_change sheet old new
+spell_diff (NameDiff change kept) = 22 ∷ spell_name_change change kept
 
 abbrev pub cell_diff_made : ℕ × (Position × (Option Cell × Option Cell)) → Diff
 cell_diff_made x = CellDiff x.0 x.1.0 x.1.1.0 x.1.1.1
@@ -89,6 +94,12 @@ deletion_diff_made x = DeletionDiff x.0 x.1
 unfoldable pub deletion_diff_at : Reader Diff
 deletion_diff_at = map_at deletion_diff_made deletion_parts_at
 
+abbrev pub rename_diff_made : ℕ × (List ℕ × (List ℕ × KeptTrees)) → Diff
+rename_diff_made x = RenameDiff x.0 x.1.0 x.1.1.0 x.1.1.1
+
+unfoldable pub rename_diff_at : Reader Diff
+rename_diff_at = map_at rename_diff_made rename_parts_at
+
 abbrev pub move_diff_made : ℕ × (ℕ × ℕ) → Diff
 move_diff_made x = MoveDiff x.0 x.1.0 x.1.1
 
@@ -113,6 +124,12 @@ grid_diff_made x = FieldDiff x.0 (change.GridLines x.1.0 x.1.1)
 unfoldable pub grid_diff_at : Reader Diff
 grid_diff_at = map_at grid_diff_made (sheet_change_at boolean_at)
 
+abbrev pub name_diff_made : ℕ × (Option DefinedName × (Option DefinedName × KeptTrees)) → Diff
+name_diff_made x = NameDiff (record { index = x.0; old = x.1.0; new = x.1.1.0 }) x.1.1.1
+
+unfoldable pub name_diff_at : Reader Diff
+name_diff_at = map_at name_diff_made name_parts_at
+
 -- what follows each tag
 abbrev pub diff_of : ℕ → Reader Diff
 diff_of tag =
@@ -123,10 +140,12 @@ diff_of tag =
     else if tag == 8 then new_diff_at
     else if tag == 9 then copy_diff_at
     else if tag == 10 then deletion_diff_at
+    else if tag == 11 then rename_diff_at
     else if tag == 12 then move_diff_at
     else if tag == 13 then color_diff_at
     else if tag == 14 then state_diff_at
     else if tag == 15 then grid_diff_at
+    else if tag == 22 then name_diff_at
     else refused
 
 unfoldable pub diff_at : Reader Diff
@@ -143,6 +162,8 @@ FitsDiff (NewDiff sheet index name) = FitsNew sheet index name
 FitsDiff (CopyDiff source sheet index name) = FitsCopy source sheet index name
 FitsDiff (DeletionDiff index kept) = FitsDeletion index kept
 FitsDiff (MoveDiff sheet from to) = FitsMove sheet from to
+FitsDiff (RenameDiff sheet old new kept) = FitsRename sheet old new kept
+FitsDiff (NameDiff change kept) = FitsNameChange change kept
 
 -- what encoding asks of a diff: its numbers are canonical, and its formulas are at most 64 deep
 abbrev pub IsKnownDiff : Diff → Type 0
@@ -155,6 +176,8 @@ IsKnownDiff (NewDiff sheet index name) = Unit {0}
 IsKnownDiff (CopyDiff source sheet index name) = Unit {0}
 IsKnownDiff (DeletionDiff index kept) = IsKnownKeptSheet kept
 IsKnownDiff (MoveDiff sheet from to) = Unit {0}
+IsKnownDiff (RenameDiff sheet old new kept) = AreKnownTrees kept
+IsKnownDiff (NameDiff change kept) = IsKnownChange change kept
 
 -- a list of diffs that bytes can carry
 abbrev pub FitsList : List Diff → Type 0

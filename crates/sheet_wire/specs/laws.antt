@@ -1,4 +1,5 @@
 pub mod QueueLaws
 pub mod QueueFormats
 pub mod SheetsFormats
+pub mod TreesFormats
 pub mod Fitting

@@ -12,8 +12,8 @@ ghost use Rattle.sheet_history.specs.declared.QueueDiffs.{QueueDiffs};
 
 use crate::codes::{axis_of, direction_of};
 use crate::decode_sheets::{
-    color_diff_at, copy_diff_at, deletion_diff_at, grid_diff_at, move_diff_at, new_diff_at,
-    sheet_change_at, state_diff_at,
+    color_diff_at, copy_diff_at, deletion_diff_at, grid_diff_at, move_diff_at, name_diff_at,
+    new_diff_at, rename_diff_at, sheet_change_at, state_diff_at,
 };
 use crate::parts::{DiffPart, EntryPart};
 use base_shared::Shared;
@@ -131,10 +131,12 @@ pub(crate) fn diff_at<'a>(
         8 => new_diff_at(alloc, rest),
         9 => copy_diff_at(alloc, rest),
         10 => deletion_diff_at(alloc, plain, rest),
+        11 => rename_diff_at(alloc, rest),
         12 => move_diff_at(alloc, rest),
         13 => color_diff_at(alloc, rest),
         14 => state_diff_at(alloc, rest),
         15 => grid_diff_at(alloc, rest),
+        22 => name_diff_at(alloc, rest),
         _ => Err(EditError::ParseDiffs),
     }
 }

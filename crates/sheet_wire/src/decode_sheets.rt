@@ -2,16 +2,18 @@
 
 ghost use Rattle.base_values.specs.Answers.{Answers, map_ok};
 ghost use Rattle.sheet_wire.specs.ChangeBytes.{sheet_change_at};
-ghost use Rattle.sheet_wire.specs.QueueBytes.{color_diff_at, copy_diff_at, deletion_diff_at, grid_diff_at, move_diff_at, new_diff_at, state_diff_at};
+ghost use Rattle.sheet_wire.specs.QueueBytes.{color_diff_at, copy_diff_at, deletion_diff_at, grid_diff_at, move_diff_at, name_diff_at, new_diff_at, rename_diff_at, state_diff_at};
 
 use crate::sheets::KeptSheetPart;
+use crate::trees::KeptTreesPart;
 use base_shared::Shared;
 use base_styles::Style;
 use base_values::{EditError, Text};
 use base_wire::Part;
 use cell_wire::ColorPart;
-use grid_wire::StatePart;
+use grid_wire::{NamePart, StatePart};
 use map_wire::read;
+use name_edits::NameChange;
 use sheet_history::{Diff, FieldChange};
 use std::alloc::Global;
 
@@ -97,6 +99,35 @@ pub(crate) fn deletion_diff_at<'a>(
     let (index, rest) = read::<u32>(alloc, &(), bytes)?;
     let (kept, rest) = read::<Shared<KeptSheetPart>>(alloc, plain, rest)?;
     Ok((Diff::DeleteSheet { index, kept }, rest))
+}
+
+#[tactic(auto, unfolding(crate::specs::QueueBytes::rename_diff_at))]
+pub(crate) fn rename_diff_at(alloc: Global, bytes: &[u8]) -> Result<(Diff, &[u8]), EditError>
+    ensures { Answers (map_ok (λ x. (x.0, x.1.now)) result) (rename_diff_at bytes.now) }
+{
+    let (sheet, rest) = read::<u32>(alloc, &(), bytes)?;
+    let (old, rest) = read::<Text>(alloc, &(), rest)?;
+    let (new, rest) = read::<Text>(alloc, &(), rest)?;
+    let (kept, rest) = read::<Shared<KeptTreesPart>>(alloc, &(), rest)?;
+    let diff = Diff::RenameSheet {
+        sheet,
+        old,
+        new,
+        kept,
+    };
+    Ok((diff, rest))
+}
+
+#[tactic(auto, unfolding(crate::specs::QueueBytes::name_diff_at, crate::specs::TreesBytes::name_there_at))]
+pub(crate) fn name_diff_at(alloc: Global, bytes: &[u8]) -> Result<(Diff, &[u8]), EditError>
+    ensures { Answers (map_ok (λ x. (x.0, x.1.now)) result) (name_diff_at bytes.now) }
+{
+    let (index, rest) = read::<u64>(alloc, &(), bytes)?;
+    let (old, rest) = read::<Option<NamePart>>(alloc, &(), rest)?;
+    let (new, rest) = read::<Option<NamePart>>(alloc, &(), rest)?;
+    let (kept, rest) = read::<Shared<KeptTreesPart>>(alloc, &(), rest)?;
+    let change = NameChange { index, old, new };
+    Ok((Diff::ChangeName { change, kept }, rest))
 }
 
 #[tactic(auto, unfolding(crate::specs::QueueBytes::move_diff_at))]

@@ -9,7 +9,8 @@ ghost use Rattle.sheet_wire.specs.QueueBytes.{spell_diff, spell_entry, spell_que
 
 use crate::codes::{axis_code, direction_code};
 use crate::encode_sheets::{
-    put_copy, put_deletion, put_field, put_move, put_new, put_sheet_change,
+    put_copy, put_deletion, put_field, put_move, put_name_change, put_new, put_rename,
+    put_sheet_change,
 };
 use crate::parts::{DiffPart, EntryPart};
 use base_shared::Shared;
@@ -110,6 +111,19 @@ pub(crate) fn put_diff(out: &mut Vec<u8>, diff: &Diff) -> Result<(), AllocError>
         Diff::DeleteSheet { index, kept } => {
             out.push(10)?;
             put_deletion(out, *index, kept)?;
+        }
+        Diff::RenameSheet {
+            sheet,
+            old,
+            new,
+            kept,
+        } => {
+            out.push(11)?;
+            put_rename(out, *sheet, old, new, kept)?;
+        }
+        Diff::ChangeName { change, kept } => {
+            out.push(22)?;
+            put_name_change(out, change, kept)?;
         }
         Diff::MoveSheet { sheet, from, to } => {
             out.push(12)?;

@@ -5,15 +5,19 @@ ghost use Rattle.sheet_wire.specs.ChangeBytes.{spell_sheet_change, FitsSheetChan
 ghost use Rattle.sheet_wire.specs.QueueBytes.{spell_diff};
 ghost use Rattle.sheet_wire.specs.SheetsBytes.{spell_copy, spell_deletion, spell_move, spell_new};
 ghost use Rattle.sheet_wire.specs.SheetsBytes.{FitsCopy, FitsDeletion, FitsField, FitsMove, FitsNew, IsKnownKeptSheet};
+ghost use Rattle.sheet_wire.specs.TreesBytes.{spell_rename, AreKnownTrees, FitsRename, spell_name_change, FitsNameChange, IsKnownChange};
 ghost use Rattle.sheet_history.specs.declared.Diff.TheVariants.{Field as FieldDiff};
 
 use crate::sheets::KeptSheetPart;
+use crate::trees::KeptTreesPart;
 use base_shared::Shared;
 use base_values::Text;
 use base_wire::Part;
+use book_names::KeptTrees;
 use book_sheets::KeptSheet;
 use cell_wire::ColorPart;
-use grid_wire::StatePart;
+use grid_wire::{NamePart, StatePart};
+use name_edits::NameChange;
 use sheet_history::FieldChange;
 use std::alloc::AllocError;
 
@@ -103,6 +107,41 @@ pub(crate) fn put_deletion(
 {
     out.extend_from_slice(&index.to_be_bytes())?;
     Shared::<KeptSheetPart>::put(out, kept)
+}
+
+/// Adds the id of a renamed sheet, its old name, its new name, and what is kept.
+#[tactic(auto, unfolding(crate::specs::TreesBytes::spell_rename))]
+pub(crate) fn put_rename(
+    out: &mut Vec<u8>,
+    sheet: u32,
+    old: &Text,
+    new: &Text,
+    kept: &Shared<KeptTrees>,
+) -> Result<(), AllocError>
+    ensures spelled { OnOk result (out.new.items ≡ out.old.items ++ spell_rename sheet old.now new.now kept.now) }
+    ensures fits { OnOk result (AreKnownTrees kept.now → FitsRename sheet old.now new.now kept.now) }
+{
+    u32::put(out, &sheet)?;
+    Text::put(out, old)?;
+    Text::put(out, new)?;
+    Shared::<KeptTreesPart>::put(out, kept)?;
+    Ok(())
+}
+
+/// Adds the place of a defined name, the name before and after, and what is kept.
+#[tactic(auto, unfolding(crate::specs::TreesBytes::spell_name_change))]
+pub(crate) fn put_name_change(
+    out: &mut Vec<u8>,
+    change: &NameChange,
+    kept: &Shared<KeptTrees>,
+) -> Result<(), AllocError>
+    ensures spelled { OnOk result (out.new.items ≡ out.old.items ++ spell_name_change change.now kept.now) }
+    ensures fits { OnOk result (IsKnownChange change.now kept.now → FitsNameChange change.now kept.now) }
+{
+    u64::put(out, &change.index)?;
+    Option::<NamePart>::put(out, &change.old)?;
+    Option::<NamePart>::put(out, &change.new)?;
+    Shared::<KeptTreesPart>::put(out, kept)
 }
 
 /// Adds the id of a moved sheet, and the indexes between which it moves.

@@ -13,9 +13,8 @@ mod encode;
 mod encode_sheets;
 mod parts;
 mod sheets;
+mod trees;
 
 pub use decode::decode_queue;
 pub use encode::encode_queue;
-
-#[cfg(test)]
-mod tests;
+pub use parts::DiffPart;

@@ -9,8 +9,8 @@ use base_wire::Part;
 use sheet_history::{Diff, QueueDiffs};
 use std::alloc::{AllocError, Global};
 
-/// One change: its tag, and then its fields.
-pub(crate) struct DiffPart;
+/// One change: its tag, and then its fields (docs/FORMATS.md).
+pub struct DiffPart;
 
 /// What is sent of one edit: its direction, and its diffs.
 pub(crate) struct EntryPart;

@@ -10,7 +10,7 @@ use Rattle.sheet_history.specs.Records.{IsRecord, record_between}
 use Rattle.sheet_history.specs.laws.RecordBetween.{record_computed}
 use Rattle.sheet_history.specs.laws.SoundEntries.{entries_forwarded, entries_backed}
 use Rattle.edit_plans.specs.Edits.{Edit, changed, is_of_entries, is_silent, record_of}
-use Rattle.edit_plans.specs.Edits.Edit.{Input, ArrayInput, SetLink, Merge, Unmerge, Lines, MoveLines, AddSheet, CopySheet, DeleteSheet, MoveSheet, SetField}
+use Rattle.edit_plans.specs.Edits.Edit.{Input, ArrayInput, SetLink, Merge, Unmerge, Lines, MoveLines, AddSheet, CopySheet, DeleteSheet, MoveSheet, RenameSheet, ChangeNames, SetField}
 use Rattle.edit_plans.specs.Plans.{IsPlan, Plans}
 use Rattle.edit_plans.specs.ViewSteps.{selected_by}
 use Rattle.user_model.specs.BothWays.{GoesBothWays}
@@ -38,6 +38,8 @@ of_entries AddSheet is = absurd (let never : false ≡ true = is in cc)
 of_entries (CopySheet index) is = absurd (let never : false ≡ true = is in cc)
 of_entries (DeleteSheet index) is = absurd (let never : false ≡ true = is in cc)
 of_entries (MoveSheet from to) is = absurd (let never : false ≡ true = is in cc)
+of_entries (RenameSheet index name) is = absurd (let never : false ≡ true = is in cc)
+of_entries (ChangeNames edit) is = absurd (let never : false ≡ true = is in cc)
 of_entries (SetField index value) is = record { loud = λ book. refl; records = λ earlier later. refl; exact = λ earlier later list exact. exact }
 
 module _ (edit : Edit) (it : IsOfEntries edit) where

@@ -19,3 +19,4 @@ mod Sounds
 mod Spelled
 mod Tested
 mod Typed
+mod NamesTyped

@@ -17,8 +17,17 @@ use Rattle.sheet_lines.specs.Followed.{book_followed}
 use Rattle.sheet_lines.specs.Back.{book_back}
 use Rattle.book_sheets.specs.declared.KeptSheet.{KeptSheet}
 use Rattle.book_sheets.specs.SheetDiffs.{copied_from, copy_back, copy_forward, deletion_back, deletion_forward, goes_from, may_come, may_come_back, moved_from, new_back, new_forward, sheet_as, sheet_comes, sheet_goes, sheet_lies_inside, sheet_moves, with_sheet_at}
+use Rattle.book_names.specs.declared.KeptTrees.{KeptTrees}
+use Rattle.book_names.specs.Renaming.{book_renamed}
+use Rattle.book_names.specs.Renaming.{book_back as named_back}
+use Rattle.book_names.specs.RenameDiffs.{rename_forward, rename_back}
+use Rattle.book_names.specs.RenameDiffs.{goes_forward as may_rename, goes_back as may_rename_back}
+use Rattle.name_edits.specs.declared.NameChange.{NameChange}
+use Rattle.name_edits.specs.NameChanges.{name_made, name_unmade}
+use Rattle.name_edits.specs.NameDiffs.{name_forward, name_back}
+use Rattle.name_edits.specs.NameDiffs.{goes_forward as may_change, goes_back as may_change_back}
 use Rattle.sheet_history.specs.declared.Diff.{Diff}
-use Rattle.sheet_history.specs.declared.Diff.TheVariants.{Cell as CellDiff, Link as LinkDiff, Merges as MergesDiff, Field as FieldDiff, Lines as LinesDiff, NewSheet as NewDiff, DuplicateSheet as CopyDiff, DeleteSheet as DeletionDiff, MoveSheet as MoveDiff}
+use Rattle.sheet_history.specs.declared.Diff.TheVariants.{Cell as CellDiff, Link as LinkDiff, Merges as MergesDiff, Field as FieldDiff, Lines as LinesDiff, NewSheet as NewDiff, DuplicateSheet as CopyDiff, DeleteSheet as DeletionDiff, MoveSheet as MoveDiff, RenameSheet as RenameDiff, ChangeName as NameDiff}
 use Rattle.sheet_history.specs.declared.DiffType.{DiffType}
 use Rattle.sheet_history.specs.declared.DiffType.TheVariants.{Undo, Redo}
 use Rattle.sheet_history.specs.declared.QueueDiffs.{QueueDiffs}
@@ -110,6 +119,22 @@ moves_only at id other to book =
     from None = tt
     from (Some index) = tt
 
+rename_only : (at id : ℕ) (old new : List ℕ) (kept : KeptTrees) (book : Book) → Only (rename_forward at id old new kept book)
+unfolding rename_forward
+rename_only at id old new kept book = either_only (may_rename id kept book) (Ok (book_renamed id old new book)) (Err (DiffRefused 0 at)) tt tt
+
+rename_back_only : (at id : ℕ) (old new : List ℕ) (kept : KeptTrees) (book : Book) → Only (rename_back at id old new kept book)
+unfolding rename_back
+rename_back_only at id old new kept book = either_only (may_rename_back id kept book) (Ok (named_back id old new kept book)) (Err (DiffRefused 0 at)) tt tt
+
+name_only : (at : ℕ) (change : NameChange) (kept : KeptTrees) (book : Book) → Only (name_forward at change kept book)
+unfolding name_forward
+name_only at change kept book = either_only (may_change change kept book) (Ok (name_made change book)) (Err (DiffRefused 0 at)) tt tt
+
+name_back_only : (at : ℕ) (change : NameChange) (kept : KeptTrees) (book : Book) → Only (name_back at change kept book)
+unfolding name_back
+name_back_only at change kept book = either_only (may_change_back change kept book) (Ok (name_unmade change kept book)) (Err (DiffRefused 0 at)) tt tt
+
 -- ---- lists
 
 step_only : (at : ℕ) (book : Book) (diff : Diff) → Only (step_forward at book diff)
@@ -122,6 +147,8 @@ step_only at book (NewDiff sheet index name) = new_only at sheet index name book
 step_only at book (CopyDiff source sheet index name) = copy_only at source sheet index name book
 step_only at book (DeletionDiff index kept) = deletion_only at kept book
 step_only at book (MoveDiff sheet from to) = moves_only at sheet from to book
+step_only at book (RenameDiff sheet old new kept) = rename_only at sheet old new kept book
+step_only at book (NameDiff change kept) = name_only at change kept book
 
 step_back_only : (at : ℕ) (book : Book) (diff : Diff) → Only (step_back at book diff)
 step_back_only at book (CellDiff sheet place old new) = put_only at book (CellKey sheet place) (CellValue old)
@@ -133,6 +160,8 @@ step_back_only at book (NewDiff sheet index name) = new_back_only at sheet book
 step_back_only at book (CopyDiff source sheet index name) = copy_back_only at sheet book
 step_back_only at book (DeletionDiff index kept) = deletion_back_only at index kept book
 step_back_only at book (MoveDiff sheet from to) = moves_only at sheet to from book
+step_back_only at book (RenameDiff sheet old new kept) = rename_back_only at sheet old new kept book
+step_back_only at book (NameDiff change kept) = name_back_only at change kept book
 
 made_only : (at : ℕ) (book : Book) (diffs : List Diff) → Only (forward_from at book diffs)
 made_only at book [] = tt

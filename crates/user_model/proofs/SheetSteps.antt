@@ -13,10 +13,14 @@ use Rattle.sheet_naming.specs.NextIds.{next_id}
 use Rattle.sheet_history.specs.declared.Diff.{Diff}
 use Rattle.sheet_history.specs.Diffs.{IsCanonicalList}
 use Rattle.edit_plans.specs.Edits.{Edit, changed, is_of_sheets, is_silent, record_of}
-use Rattle.edit_plans.specs.Edits.Edit.{Input, ArrayInput, SetLink, Merge, Unmerge, Lines, MoveLines, AddSheet, CopySheet, DeleteSheet, MoveSheet, SetField}
+use Rattle.edit_plans.specs.Edits.Edit.{Input, ArrayInput, SetLink, Merge, Unmerge, Lines, MoveLines, AddSheet, CopySheet, DeleteSheet, MoveSheet, RenameSheet, ChangeNames, SetField}
 use Rattle.edit_plans.specs.Plans.{IsSheetPlan, PlansSheets}
 use Rattle.edit_plans.specs.Plans.{GoesBothWays as SheetsGoBothWays}
-use Rattle.edit_plans.specs.SheetEdits.{added_record, copied_record, copy_diff, deleted_record, deletion_diff, move_diff, new_diff, one_diff, sheet_added, sheet_copied, sheet_deleted, sheet_taken, taken_record, with_copy, with_new_sheet}
+use Rattle.name_edits.specs.declared.NameChange.{NameChange}
+use Rattle.name_edits.specs.NameChanges.{name_made}
+use Rattle.name_edits.specs.NameEdits.{NameEdit, name_change}
+use Rattle.edit_plans.specs.NamedEdits.{name_diff, names_edited, names_record}
+use Rattle.edit_plans.specs.SheetEdits.{added_record, copied_record, copy_diff, deleted_record, deletion_diff, move_diff, named_record, new_diff, one_diff, rename_diff, sheet_added, sheet_copied, sheet_deleted, sheet_named, sheet_taken, taken_record, with_copy, with_name, with_new_sheet}
 use Rattle.edit_plans.specs.ViewSteps.{selected_by}
 use Rattle.user_model.specs.BothWays.{GoesBothWays}
 use Rattle.user_model.specs.Document.{Document}
@@ -69,6 +73,22 @@ module _ (earlier later : Book) where
       at (Ok sheet) f is = refl
       at (Err error) f is = never_accepted error later is
 
+  named_exact : (index : ℕ) (name : List ℕ) → changed (RenameSheet index name) earlier ≡ Ok later → IsExact (RenameSheet index name) earlier later (named_record index name earlier)
+  unfolding sheet_named
+  named_exact index name how = at (sheet_at earlier index) how
+    where
+      at : (s : Result Sheet EditError) → and_then s (with_name name earlier) ≡ Ok later → IsOneDiff (map_ok (rename_diff name earlier) s) (one_diff (map_ok (rename_diff name earlier) s))
+      at (Ok sheet) is = refl
+      at (Err error) is = never_accepted error later is
+
+  names_exact : (edit : NameEdit) → changed (ChangeNames edit) earlier ≡ Ok later → IsExact (ChangeNames edit) earlier later (names_record edit earlier)
+  unfolding names_edited
+  names_exact edit how = at (name_change edit earlier) how
+    where
+      at : (r : Result NameChange EditError) → map_ok (λ change. name_made change earlier) r ≡ Ok later → IsOneDiff (map_ok (name_diff earlier) r) (one_diff (map_ok (name_diff earlier) r))
+      at (Ok change) is = refl
+      at (Err error) is = never_accepted error later is
+
   module _ (from to : ℕ) where
     -- a sheet that is not there is not taken away
     never_taken : slice_get earlier.worksheets from ≡ None → changed (MoveSheet from to) earlier ≡ Ok later → ⊥
@@ -98,6 +118,8 @@ module _ (earlier later : Book) where
   exact (CopySheet index) is how = copied_exact index how
   exact (DeleteSheet index) is how = deleted_exact index how
   exact (MoveSheet from to) is how = taken_exact from to how
+  exact (RenameSheet index name) is how = named_exact index name how
+  exact (ChangeNames edit) is how = names_exact edit how
   exact (Input index row column content) is how = absurd (let never : false ≡ true = is in cc)
   exact (ArrayInput index r tree) is how = absurd (let never : false ≡ true = is in cc)
   exact (SetLink index row column link) is how = absurd (let never : false ≡ true = is in cc)

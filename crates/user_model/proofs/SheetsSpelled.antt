@@ -1,14 +1,17 @@
--- The record of an edit of the list of the sheets can be spelled.
-use Rattle.std.proofs.Common.{◌≡◌, ℕ, true, false, Bool, cond, length, Option, Some, None, Result, Ok, Err, refl}
+-- The record of an edit of the list of the sheets, or of the defined names, can be spelled.
+use Rattle.std.proofs.Common.{◌≡◌, ℕ, true, false, Bool, cond, length, Option, Some, None, Result, Ok, Err, List, refl, sym, subst}
 use Rattle.std.specs.Prelude.{slice_get, IfSome, IsTrue}
 use Rattle.std.specs.Cmp.{nat_cmp_total}
-use Rattle.std.specs.FinMap.{get}
+use Rattle.std.specs.Option.{option_map_or}
+use Rattle.std.specs.FinMap.{get, get-empty}
 use Rattle.std.specs.Ordering.{nat_cmp}
 use Rattle.std.proofs.lemmas.List.Elements.{recursion_from_All}
 use Rattle.std.proofs.lemmas.Map.Lookups.{exact_unsigned}
 use Rattle.base_values.specs.declared.EditError.{EditError}
 use Rattle.base_values.specs.declared.EditError.TheVariants.{DiffRefused, InvalidSheet}
+use Rattle.base_values.specs.declared.Position.{Position}
 use Rattle.base_values.specs.Answers.{and_then, map_ok, ok_or}
+use Rattle.base_maps.specs.declared.SheetPlace.{SheetPlace}
 use Rattle.formula_tree.specs.declared.Node.{Node}
 use Rattle.formula_tree.specs.Depth.{is_within}
 use Rattle.cell_content.specs.Fitting.{tree_fits_at}
@@ -17,24 +20,35 @@ use Rattle.defined_names.specs.Names.{names_left}
 use Rattle.sheet_grid.specs.Sheet.{Sheet}
 use Rattle.sheet_grid.specs.Book.{Book, ids_of, sheet_at}
 use Rattle.sheet_grid.specs.laws.FittingLaws.{shallow_entry}
-use Rattle.sheet_rules.specs.Names.{first_place}
+use Rattle.sheet_rules.specs.Names.{first_place, have_name_trees}
 use Rattle.sheet_rules.specs.WellFormed.{IsWellFormed}
 use Rattle.sheet_rules.specs.laws.EntryLaws.{both}
-use Rattle.sheet_rules.specs.laws.WellFormedLaws.{cells_fit_from_trees}
+use Rattle.sheet_rules.specs.laws.WellFormedLaws.{cells_fit_from_trees, distinct_ids_from_well_formed, well_formed_parts}
+use Rattle.sheet_lines.specs.Sheets.{sheet_of}
 use Rattle.sheet_naming.specs.NextIds.{next_id}
 use Rattle.book_sheets.specs.declared.KeptSheet.{KeptSheet}
 use Rattle.book_sheets.specs.SheetDiffs.{deletion_back, kept_of, may_come_back, names_fit}
 use Rattle.book_sheets.specs.laws.SheetRules.{rules_at}
+use Rattle.book_names.specs.declared.KeptTrees.{KeptTrees}
+use Rattle.book_names.specs.Renaming.{everywhere, trees_kept}
+use Rattle.book_names.specs.laws.Stands.{kept_of_name, kept_tree_fits}
 use Rattle.book_laws.specs.laws.BothWays.{deletion_both_ways}
-use Rattle.sheet_history.specs.declared.Diff.TheVariants.{DeleteSheet as DeletionDiff}
-use Rattle.sheet_history.specs.laws.Depth.{IsShallowSheet}
+use Rattle.book_laws.specs.laws.SheetDiffLaws.{found_at}
+use Rattle.sheet_history.specs.declared.Diff.TheVariants.{DeleteSheet as DeletionDiff, RenameSheet as RenameDiff, ChangeName as NameDiff}
+use Rattle.sheet_history.specs.laws.Depth.{AreShallowTrees, IsShallowSheet}
 use Rattle.sheet_history.specs.Diffs.{IsCanonicalDiff, IsCanonicalList}
 use Rattle.sheet_history.specs.laws.Entries.{entry_holds}
 use Rattle.sheet_wire.specs.QueueBytes.{IsKnownDiff}
 use Rattle.sheet_wire.specs.laws.Fitting.{known_diff}
 use Rattle.edit_plans.specs.Edits.{Edit, is_of_sheets, record_of}
-use Rattle.edit_plans.specs.Edits.Edit.{Input, ArrayInput, SetLink, Merge, Unmerge, Lines, MoveLines, AddSheet, CopySheet, DeleteSheet, MoveSheet, SetField}
-use Rattle.edit_plans.specs.SheetEdits.{copy_diff, deletion_diff, move_diff, new_diff, one_diff}
+use Rattle.edit_plans.specs.Edits.Edit.{Input, ArrayInput, SetLink, Merge, Unmerge, Lines, MoveLines, AddSheet, CopySheet, DeleteSheet, MoveSheet, RenameSheet, ChangeNames, SetField}
+use Rattle.name_edits.specs.declared.NameChange.{NameChange}
+use Rattle.name_edits.specs.NameChanges.{trees_lost}
+use Rattle.name_edits.specs.NameEdits.{NameEdit, name_change}
+use Rattle.name_edits.specs.laws.BothWays.{IsMade, lost_tree_fits, old_fits}
+use Rattle.name_edits.specs.laws.LaterRules.{edited}
+use Rattle.edit_plans.specs.NamedEdits.{name_diff}
+use Rattle.edit_plans.specs.SheetEdits.{copy_diff, deletion_diff, move_diff, new_diff, one_diff, rename_diff}
 use Rattle.user_model.specs.Spellable.{AreSpellable}
 use Rattle.user_model.proofs.KeptLines.{own_lines}
 
@@ -45,9 +59,9 @@ comes_back true r w is = refl
 comes_back false r w is = absurd (let never : ◌≡◌ {A = Result Book EditError} (Err (DiffRefused 0 0)) (Ok w) = is in cc)
 
 -- a tree that fits is not deep
-shallow_tree : (tree : Node) → tree_fits_at first_place tree ≡ true → IsTrue (is_within 64 tree)
+shallow_tree : (place : Position) (tree : Node) → tree_fits_at place tree ≡ true → IsTrue (is_within 64 tree)
 unfolding tree_fits_at
-shallow_tree tree fits = (both _ _ (both _ _ fits).0).1
+shallow_tree place tree fits = (both _ _ (both _ _ fits).0).1
 
 module _ (index : ℕ) (sheet : Sheet) (w : Book) (rules : IsWellFormed w) (found : slice_get w.worksheets index ≡ Some sheet) where
   abbrev kept : KeptSheet
@@ -67,7 +81,7 @@ module _ (index : ℕ) (sheet : Sheet) (w : Book) (rules : IsWellFormed w) (foun
       go : (o : Option DefinedName) → get kept.names place ≡ o → IfSome o (λ name. IsTrue (is_within 64 name.formula))
       go None is = tt
       go (Some name) is =
-          shallow_tree name.formula (entry_holds nat_cmp nat_cmp_total exact_unsigned (λ (entry : ℕ × DefinedName). tree_fits_at first_place entry.1.formula) kept.names kept_names_fit place name is)
+          shallow_tree first_place name.formula (entry_holds nat_cmp nat_cmp_total exact_unsigned (λ (entry : ℕ × DefinedName). tree_fits_at first_place entry.1.formula) kept.names kept_names_fit place name is)
 
   shallow : IsShallowSheet kept
   shallow = record {
@@ -80,6 +94,59 @@ module _ (index : ℕ) (sheet : Sheet) (w : Book) (rules : IsWellFormed w) (foun
   deletion_known numbers =
       known_diff (DeletionDiff index kept) numbers shallow
       (record { rows = own_lines sheet (rules_at w rules index sheet found).attributes true; columns = own_lines sheet (rules_at w rules index sheet found).attributes false })
+
+-- ---- a renamed sheet
+
+module _ (sheet : Sheet) (name : List ℕ) (w : Book) (rules : IsWellFormed w) (found : sheet_of w sheet.id ≡ Some sheet) where
+  abbrev trees : KeptTrees
+  trees = trees_kept sheet.name name w
+
+  shallow_cells : (key : SheetPlace) → IfSome (get trees.formulas key) (λ tree. IsTrue (is_within 64 tree))
+  shallow_cells key = go (get trees.formulas key) refl
+    where
+      go : (o : Option Node) → get trees.formulas key ≡ o → IfSome o (λ tree. IsTrue (is_within 64 tree))
+      go None is = tt
+      go (Some tree) is = shallow_tree key.place tree (kept_tree_fits everywhere everywhere sheet.name name w rules key tree is)
+
+  shallow_defined : (place : ℕ) → IfSome (get trees.names place) (λ tree. IsTrue (is_within 64 tree))
+  unfolding have_name_trees
+  shallow_defined place = go (get trees.names place) refl
+    where
+      go : (o : Option Node) → get trees.names place ≡ o → IfSome o (λ tree. IsTrue (is_within 64 tree))
+      go None is = tt
+      go (Some tree) is = shallow_tree first_place tree (kept_of_name sheet.name name w.names (well_formed_parts w rules).name_trees place tree is).fits
+
+  shallow_trees : AreShallowTrees trees
+  shallow_trees = record { formulas = shallow_cells; names = shallow_defined }
+
+  -- what is kept of the trees can be spelled
+  rename_known : IsCanonicalDiff (rename_diff name w sheet) → IsKnownDiff (rename_diff name w sheet)
+  rename_known numbers = known_diff (RenameDiff sheet.id sheet.name name trees) numbers shallow_trees tt
+
+-- ---- a changed name
+
+module _ (change : NameChange) (w : Book) (rules : IsWellFormed w) (made : IsMade change.index change.old change.new w) where
+  abbrev lost : KeptTrees
+  lost = trees_lost change w
+
+  shallow_name : (o : Option DefinedName) → option_map_or (λ (name : DefinedName). tree_fits_at first_place name.formula) o true ≡ true → IfSome o (λ name. IsTrue (is_within 64 name.formula))
+  shallow_name None fits = tt
+  shallow_name (Some name) fits = shallow_tree first_place name.formula fits
+
+  shallow_lost : (key : SheetPlace) → IfSome (get lost.formulas key) (λ tree. IsTrue (is_within 64 tree))
+  shallow_lost key = go (get lost.formulas key) refl
+    where
+      go : (o : Option Node) → get lost.formulas key ≡ o → IfSome o (λ tree. IsTrue (is_within 64 tree))
+      go None is = tt
+      go (Some tree) is = shallow_tree key.place tree (lost_tree_fits change.index w change.old change.new rules key tree is)
+
+  -- a change and what is kept of it can be spelled
+  name_known : IsCanonicalDiff (name_diff w change) → IsKnownDiff (name_diff w change)
+  name_known numbers =
+      known_diff (NameDiff change lost) numbers (
+        record { old = shallow_name change.old (old_fits change.index w change.old change.new rules made.at); new = shallow_name change.new made.fits },
+        record { formulas = shallow_lost; names = λ place. subst (λ o. IfSome o (λ tree. IsTrue (is_within 64 tree))) (sym (get-empty nat_cmp place)) tt },
+      ) tt
 
 -- ---- records
 
@@ -105,11 +172,27 @@ module _ (w : Book) (rules : IsWellFormed w) where
   move_spellable from to (Ok sheet) = (tt, tt)
   move_spellable from to (Err error) = tt
 
+  rename_spellable : (index : ℕ) (name : List ℕ) (o : Option Sheet) → slice_get w.worksheets index ≡ o → IsCanonicalList (one_diff (map_ok (rename_diff name w) (ok_or InvalidSheet o)))
+      → AreSpellable (one_diff (map_ok (rename_diff name w) (ok_or InvalidSheet o)))
+  rename_spellable index name None found numbers = tt
+  rename_spellable index name (Some sheet) found numbers = (
+    rename_known sheet name w rules (found_at index w.worksheets sheet (distinct_ids_from_well_formed w rules) found)
+        (recursion_from_All IsCanonicalDiff (one_diff (Ok (rename_diff name w sheet))) numbers).0,
+    tt,
+  )
+
+  names_spellable : (edit : NameEdit) (r : Result NameChange EditError) → name_change edit w ≡ r → IsCanonicalList (one_diff (map_ok (name_diff w) r)) → AreSpellable (one_diff (map_ok (name_diff w) r))
+  names_spellable edit (Err error) found numbers = tt
+  names_spellable edit (Ok change) found numbers =
+      (name_known change w rules (edited w rules edit change found).made (recursion_from_All IsCanonicalDiff (one_diff (Ok (name_diff w change))) numbers).0, tt)
+
   pub sheets_spellable : (edit : Edit) → IsTrue (is_of_sheets edit) → (later : Book) → IsCanonicalList (record_of edit w later) → AreSpellable (record_of edit w later)
   sheets_spellable AddSheet is later numbers = new_spellable (next_id (ids_of w.worksheets))
   sheets_spellable (CopySheet index) is later numbers = copy_spellable index (sheet_at w index)
   sheets_spellable (DeleteSheet index) is later numbers = deletion_spellable index (slice_get w.worksheets index) refl numbers
   sheets_spellable (MoveSheet from to) is later numbers = move_spellable from to (sheet_at w from)
+  sheets_spellable (RenameSheet index name) is later numbers = rename_spellable index name (slice_get w.worksheets index) refl numbers
+  sheets_spellable (ChangeNames edit) is later numbers = names_spellable edit (name_change edit w) refl numbers
   sheets_spellable (Input index row column content) is later numbers = absurd (let never : false ≡ true = is in cc)
   sheets_spellable (ArrayInput index r tree) is later numbers = absurd (let never : false ≡ true = is in cc)
   sheets_spellable (SetLink index row column link) is later numbers = absurd (let never : false ≡ true = is in cc)

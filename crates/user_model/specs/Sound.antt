@@ -19,8 +19,10 @@ use Rattle.sheet_history.specs.Records.{IsRecord, line_record}
 use Rattle.sheet_wire.specs.QueueBytes.{FitsQueue, IsKnownQueue, spell_queue}
 use Rattle.user_model.specs.Spellable.{AreSpellable}
 use Rattle.edit_plans.specs.Edits.{Edit, changed, grown_move, is_silent}
-use Rattle.edit_plans.specs.Edits.Edit.{Lines, MoveLines, AddSheet, CopySheet, DeleteSheet, MoveSheet}
-use Rattle.edit_plans.specs.SheetEdits.{new_diff, copy_diff, deletion_diff, move_diff}
+use Rattle.edit_plans.specs.Edits.Edit.{Lines, MoveLines, AddSheet, CopySheet, DeleteSheet, MoveSheet, RenameSheet, ChangeNames}
+use Rattle.name_edits.specs.NameEdits.{name_change}
+use Rattle.edit_plans.specs.NamedEdits.{name_diff}
+use Rattle.edit_plans.specs.SheetEdits.{new_diff, copy_diff, deletion_diff, move_diff, rename_diff}
 use Rattle.user_model.specs.Machine.{Step, State, step_record, sync_bytes}
 
 -- every sheet follows an edit of lines of the sheet at an index, and a list has that edit, with what taking it back does not give
@@ -44,6 +46,8 @@ IsExact (CopySheet index) earlier later list =
     IsOneDiff (and_then (sheet_at earlier index) (λ sheet. map_ok (copy_diff index earlier sheet) (next_id (ids_of earlier.worksheets)))) list
 IsExact (DeleteSheet index) earlier later list = IsOneDiff (map_ok (deletion_diff index earlier) (sheet_at earlier index)) list
 IsExact (MoveSheet from to) earlier later list = IsOneDiff (map_ok (move_diff from to) (sheet_at earlier from)) list
+IsExact (RenameSheet index name) earlier later list = IsOneDiff (map_ok (rename_diff name earlier) (sheet_at earlier index)) list
+IsExact (ChangeNames edit) earlier later list = IsOneDiff (map_ok (name_diff earlier) (name_change edit earlier)) list
 IsExact edit earlier later list = IsRecord earlier later list
 
 -- the record of a step takes its earlier workbook to its later one and back, and both are well-formed

@@ -1,8 +1,14 @@
 -- Texts that a user types.
-use Rattle.std.proofs.Common.{ℕ, ℤ, List, Result}
+use Rattle.std.proofs.Common.{ℕ, ℤ, pos, List, Option, Result}
 use Rattle.base_values.specs.declared.EditError.{EditError}
 use Rattle.base_axis.specs.declared.MergedCell.{MergedCell}
-use Rattle.edit_plans.specs.Edits.Edit.{Input, ArrayInput}
+use Rattle.base_values.specs.Answers.{map_ok}
+use Rattle.base_tables.specs.declared.Language.{Language}
+use Rattle.defined_names.specs.declared.DefinedName.{DefinedName}
+use Rattle.sheet_grid.specs.Book.{Book}
+use Rattle.name_edits.specs.NameEdits.{valid_name}
+use Rattle.name_edits.specs.NameEdits.NameEdit.{Add, Update}
+use Rattle.edit_plans.specs.Edits.Edit.{Input, ArrayInput, ChangeNames}
 use Rattle.user_model.specs.Machine.{State, edit_of}
 use Rattle.user_model.specs.Reading.{typed, formula_typed}
 
@@ -13,3 +19,15 @@ text_typed sheet row column text s = edit_of (Input sheet row column (typed s.pr
 -- a text typed as the array formula of a rectangle: it is read so at the first cell
 abbrev pub array_typed : ℕ → MergedCell → List ℕ → State → Result State EditError
 array_typed sheet area text s = edit_of (ArrayInput sheet area (formula_typed s.present s.language area.row area.column text)) s
+
+-- a text typed as the formula of a new defined name: it is read so at A1
+abbrev pub name_typed : Option ℕ → List ℕ → List ℕ → State → Result State EditError
+name_typed scope name text s = edit_of (ChangeNames (Add scope name (formula_typed s.present s.language (pos 1) (pos 1) text))) s
+
+-- as that of a defined name that changes
+abbrev pub update_typed : Option ℕ → List ℕ → Option ℕ → List ℕ → List ℕ → State → Result State EditError
+update_typed scope name new_scope new_name text s = edit_of (ChangeNames (Update scope name new_scope new_name (formula_typed s.present s.language (pos 1) (pos 1) text))) s
+
+-- the scope of such a new name of a workbook, or why there is none
+abbrev pub name_tested : Option ℕ → List ℕ → List ℕ → Book → Language → Result (Option ℕ) EditError
+name_tested scope name text book language = map_ok (λ (made : DefinedName). made.scope) (valid_name scope name (formula_typed book language (pos 1) (pos 1) text) book)

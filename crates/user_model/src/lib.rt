@@ -16,6 +16,7 @@ mod user_model;
 mod view_steps;
 
 pub use laws::edits_go_both_ways;
+pub use name_lists::ScopedName;
 pub use properties::SheetProperties;
 pub use recalc::{ClearAll, Recalc};
 pub use sheet_views::{View, selected_sheet_after_move};

@@ -6,7 +6,7 @@ use Rattle.base_values.specs.declared.Position.{Position}
 use Rattle.base_values.specs.Places.{IsLine, IsPlace}
 use Rattle.base_axis.specs.declared.merged_cell.MergedCell.{MergedCell}
 use Rattle.base_axis.specs.Along.{Along, IsAxis, rows, columns}
-use Rattle.base_axis.specs.Rectangles.{last_of, last_row, last_column, anchor_place, stands_inside, is_inside, IsInside, is_between, holds, Holds, has_many, overlap, meets, first_line, line_count, last_line, across, line_span, with_lines}
+use Rattle.base_axis.specs.Rectangles.{last_of, last_row, last_column, anchor_place, stands_inside, is_inside, IsInside, is_between, holds, has_many, overlap, meets, first_line, line_count, last_line, across, line_span, with_lines}
 
 -- its first cross line, and its last
 abbrev pub first_cross : Along → MergedCell → ℤ
@@ -14,6 +14,13 @@ first_cross a r = a.cross (anchor_place r)
 
 abbrev pub last_cross : Along → MergedCell → ℤ
 last_cross a r = last_of (first_cross a r) (across a r)
+
+-- a place is one of a rectangle's places, part by part
+pub record Holds (r : MergedCell) (place : Position) : Type 0 where
+  pub row_low : r.row ≤ℤ place.row
+  pub row_high : place.row ≤ℤ last_row r
+  pub column_low : r.column ≤ℤ place.column
+  pub column_high : place.column ≤ℤ last_column r
 
 -- two rectangles meet, part by part
 pub record Meets (r s : MergedCell) : Type 0 where

@@ -6,7 +6,7 @@ use Rattle.std.proofs.lemmas.Bool.{and_parts}
 use Rattle.std.proofs.lemmas.List.{length-map}
 use Rattle.std.proofs.lemmas.Option.{slice_get_within, slice_get-get_or}
 use Rattle.base_values.specs.declared.EditError.{EditError}
-use Rattle.base_values.specs.declared.EditError.TheVariants.{InvalidSheet, OnlySheet}
+use Rattle.base_values.specs.declared.EditError.TheVariants.{InvalidSheet, OnlySheet, SheetName}
 use Rattle.base_values.specs.Answers.{and_then, map_ok, ok_or}
 use Rattle.base_tables.specs.Folding.{same_folded}
 use Rattle.defined_names.specs.Names.{names_left}
@@ -15,22 +15,34 @@ use Rattle.sheet_grid.specs.Book.{Book, ids_of, index_of, names_of, sheet_at, sh
 use Rattle.sheet_rules.specs.Distinct.{are_distinct}
 use Rattle.sheet_rules.specs.SheetNames.{is_sheet_name}
 use Rattle.sheet_rules.specs.WellFormed.{are_sheets, IsWellFormed}
-use Rattle.sheet_rules.specs.laws.WellFormedLaws.{well_formed_parts}
+use Rattle.sheet_rules.specs.laws.WellFormedLaws.{distinct_ids_from_well_formed, well_formed_parts}
+use Rattle.sheet_lines.specs.Sheets.{sheet_of}
 use Rattle.sheet_naming.specs.FreeNames.{new_name, copy_name}
 use Rattle.sheet_naming.specs.NextIds.{next_id}
 use Rattle.sheet_naming.specs.laws.IdLaws.{below_next, count_small, next_id_is}
 use Rattle.sheet_naming.specs.laws.LegalNames.{new_name_is_legal, copy_name_is_legal}
 use Rattle.sheet_naming.specs.laws.Numbered.{new_name_is_free, copy_name_is_free}
 use Rattle.book_sheets.specs.SheetDiffs.{without_sheet_at}
+use Rattle.book_names.specs.Renaming.{book_renamed}
+use Rattle.book_names.specs.RenameDiffs.{may_be_named}
+use Rattle.book_names.specs.laws.LaterRules.{renamed_well_formed}
+use Rattle.book_names.specs.laws.Stands.{rename_made, rename_taken_back}
+use Rattle.name_edits.specs.declared.NameChange.{NameChange}
+use Rattle.name_edits.specs.NameChanges.{name_made}
+use Rattle.name_edits.specs.NameEdits.{NameEdit, name_change}
+use Rattle.name_edits.specs.laws.BothWays.{name_both_ways}
+use Rattle.name_edits.specs.laws.LaterRules.{edited, later_well_formed}
+use Rattle.edit_plans.specs.NamedEdits.{names_edited, name_diff}
 use Rattle.book_laws.specs.Ways.{LeadsBothWays}
 use Rattle.book_laws.specs.laws.BothWays.{new_both_ways, copy_both_ways, deletion_both_ways, move_both_ways}
 use Rattle.book_laws.specs.laws.LaterRules.{free_above, new_well_formed, copy_well_formed, deletion_well_formed, move_well_formed}
+use Rattle.book_laws.specs.laws.SheetDiffLaws.{found_at}
 use Rattle.sheet_history.specs.declared.Diff.{Diff}
 use Rattle.sheet_history.specs.Diffs.{step_forward, step_back, by_rule, tested, book_after, book_before}
 use Rattle.edit_plans.specs.Edits.{Edit, changed, is_of_sheets, record_of}
-use Rattle.edit_plans.specs.Edits.Edit.{Input, ArrayInput, SetLink, Merge, Unmerge, Lines, MoveLines, AddSheet, CopySheet, DeleteSheet, MoveSheet, SetField}
+use Rattle.edit_plans.specs.Edits.Edit.{Input, ArrayInput, SetLink, Merge, Unmerge, Lines, MoveLines, AddSheet, CopySheet, DeleteSheet, MoveSheet, RenameSheet, ChangeNames, SetField}
 use Rattle.edit_plans.specs.Plans.{GoesBothWays}
-use Rattle.edit_plans.specs.SheetEdits.{with_new_sheet, sheet_added, with_copy, sheet_copied, sheet_deleted, sheet_taken, new_diff, copy_diff, deletion_diff, move_diff, one_diff}
+use Rattle.edit_plans.specs.SheetEdits.{with_new_sheet, sheet_added, with_copy, sheet_copied, sheet_deleted, sheet_taken, with_name, sheet_named, new_diff, copy_diff, deletion_diff, move_diff, rename_diff, one_diff}
 
 -- ---- a record of one diff
 
@@ -155,6 +167,15 @@ module _ (w : Book) (rules : IsWellFormed w) where
       (move_well_formed from to w rules) (ap (λ r. one_diff (map_ok (move_diff from to) r)) at)
       (move_both_ways 0 from to sheet w rules (sheet_there w from sheet at) within)
 
+  -- the sheet at an index gets another name
+  pub rename_goes : (index : ℕ) (name : List ℕ) (sheet : Sheet) → sheet_at w index ≡ Ok sheet → may_be_named sheet.id name w.worksheets ≡ true
+      → GoesBothWays (RenameSheet index name) w (book_renamed sheet.id sheet.name name w)
+  rename_goes index name sheet at may =
+      let found : sheet_of w sheet.id ≡ Some sheet = found_at index w.worksheets sheet (distinct_ids_from_well_formed w rules) (sheet_there w index sheet at) in
+      one_both_ways (RenameSheet index name) (rename_diff name w sheet) w (book_renamed sheet.id sheet.name name w) rules
+      (renamed_well_formed sheet.id sheet.name name w rules may) (ap (λ r. one_diff (map_ok (rename_diff name w) r)) at)
+      (record { forth = rename_made sheet.id name w rules sheet found 0; back = rename_taken_back sheet.id name w rules sheet found 0 })
+
   -- ---- each accepted one
 
   added_goes : (later : Book) → sheet_added w ≡ Ok later → GoesBothWays AddSheet w later
@@ -219,13 +240,44 @@ module _ (w : Book) (rules : IsWellFormed w) where
       go true false low high e = absurd (let never : ◌≡◌ {A = Result Book EditError} (Err InvalidSheet) (Ok later) = e in cc)
       go false b low high e = absurd (let never : ◌≡◌ {A = Result Book EditError} (Err InvalidSheet) (Ok later) = e in cc)
 
--- an accepted edit of the list of the sheets of a well-formed workbook
+  named_goes : (index : ℕ) (name : List ℕ) (later : Book) → sheet_named index name w ≡ Ok later → GoesBothWays (RenameSheet index name) w later
+  unfolding sheet_named
+  named_goes index name later how = on_sheet (sheet_at w index) refl how
+    where
+      on_name : (sheet : Sheet) → sheet_at w index ≡ Ok sheet → (b : Bool) → may_be_named sheet.id name w.worksheets ≡ b
+          → cond b (Ok (book_renamed sheet.id sheet.name name w)) (Err SheetName) ≡ Ok later → GoesBothWays (RenameSheet index name) w later
+      on_name sheet at true may e =
+          subst (GoesBothWays (RenameSheet index name) w)
+          (let same : ◌≡◌ {A = Result Book EditError} (Ok (book_renamed sheet.id sheet.name name w)) (Ok later) = e in cc)
+          (rename_goes index name sheet at may)
+      on_name sheet at false never e = absurd (let no : ◌≡◌ {A = Result Book EditError} (Err SheetName) (Ok later) = e in cc)
+
+      on_sheet : (r : Result Sheet EditError) → sheet_at w index ≡ r → and_then r (with_name name w) ≡ Ok later
+          → GoesBothWays (RenameSheet index name) w later
+      on_sheet (Ok sheet) at e = on_name sheet at (may_be_named sheet.id name w.worksheets) refl e
+      on_sheet (Err error) at e = absurd (let never : ◌≡◌ {A = Result Book EditError} (Err error) (Ok later) = e in cc)
+
+  names_go : (edit : NameEdit) (later : Book) → names_edited edit w ≡ Ok later → GoesBothWays (ChangeNames edit) w later
+  unfolding names_edited
+  names_go edit later how = go (name_change edit w) refl how
+    where
+      go : (r : Result NameChange EditError) → name_change edit w ≡ r → map_ok (λ change. name_made change w) r ≡ Ok later → GoesBothWays (ChangeNames edit) w later
+      go (Ok change) found e =
+          let it = edited w rules edit change found in
+          subst (GoesBothWays (ChangeNames edit) w) (let same : name_made change w ≡ later = cc in same)
+          (one_both_ways (ChangeNames edit) (name_diff w change) w (name_made change w) rules (later_well_formed change.index w rules change.old change.new it.may)
+          (ap (λ r. one_diff (map_ok (name_diff w) r)) found) (name_both_ways change.index w change.old change.new it.made 0))
+      go (Err error) found e = absurd (let never : ◌≡◌ {A = Result Book EditError} (Err error) (Ok later) = e in cc)
+
+-- an accepted edit of the list of the sheets, or of the defined names, of a well-formed workbook
 pub goes_both_ways : (edit : Edit) (earlier later : Book) → IsTrue (is_of_sheets edit) → IsWellFormed earlier → changed edit earlier ≡ Ok later
     → GoesBothWays edit earlier later
 goes_both_ways AddSheet earlier later is rules how = added_goes earlier rules later how
 goes_both_ways (CopySheet index) earlier later is rules how = copied_goes earlier rules index later how
 goes_both_ways (DeleteSheet index) earlier later is rules how = deleted_goes earlier rules index later how
 goes_both_ways (MoveSheet from to) earlier later is rules how = taken_goes earlier rules from to later how
+goes_both_ways (RenameSheet index name) earlier later is rules how = named_goes earlier rules index name later how
+goes_both_ways (ChangeNames edit) earlier later is rules how = names_go earlier rules edit later how
 goes_both_ways (Input index row column content) earlier later is rules how = absurd (let never : false ≡ true = is in cc)
 goes_both_ways (ArrayInput index r tree) earlier later is rules how = absurd (let never : false ≡ true = is in cc)
 goes_both_ways (SetLink index row column link) earlier later is rules how = absurd (let never : false ≡ true = is in cc)

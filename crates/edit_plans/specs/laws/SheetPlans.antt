@@ -3,7 +3,7 @@ use Rattle.std.proofs.Common.{◌≡◌, ◌≢◌, ℕ, ◌+◌, ◌≤◌, ◌
 use Rattle.std.specs.Prelude.{◌&&◌, nat_le, nat_lt, slice_get, IfOk, IsOk, IsOkAnd, IsOkUnless, IsTrue}
 use Rattle.std.proofs.lemmas.Option.{slice_get_within, slice_get-get_or}
 use Rattle.base_values.specs.declared.EditError.{EditError}
-use Rattle.base_values.specs.declared.EditError.TheVariants.{InvalidSheet, OnlySheet, SheetIds, NoMemory}
+use Rattle.base_values.specs.declared.EditError.TheVariants.{InvalidSheet, OnlySheet, SheetIds, SheetName, NoMemory}
 use Rattle.base_values.specs.Answers.{and_then, map_ok, ok_or}
 use Rattle.defined_names.specs.Names.{names_left}
 use Rattle.sheet_grid.specs.Sheet.{Sheet, new_sheet}
@@ -11,12 +11,14 @@ use Rattle.sheet_grid.specs.Book.{Book, ids_of, sheet_at, sheets_moved}
 use Rattle.sheet_rules.specs.WellFormed.{IsWellFormed}
 use Rattle.sheet_naming.specs.NextIds.{greatest, last_id, next_id}
 use Rattle.book_sheets.specs.SheetDiffs.{without_sheet_at}
+use Rattle.book_names.specs.Renaming.{book_renamed}
+use Rattle.book_names.specs.RenameDiffs.{may_be_named}
 use Rattle.sheet_history.specs.declared.Diff.{Diff}
 use Rattle.sheet_history.specs.Diffs.{book_after, IsCanonicalList}
 use Rattle.edit_plans.specs.Edits.{Edit, changed, is_of_sheets, record_of}
-use Rattle.edit_plans.specs.Edits.Edit.{AddSheet, CopySheet, DeleteSheet, MoveSheet}
+use Rattle.edit_plans.specs.Edits.Edit.{AddSheet, CopySheet, DeleteSheet, MoveSheet, RenameSheet}
 use Rattle.edit_plans.specs.Plans.{IsSheetPlan, PlansSheets}
-use Rattle.edit_plans.specs.SheetEdits.{with_new_sheet, sheet_added, with_copy, sheet_copied, sheet_deleted, sheet_taken, new_diff, copy_diff, deletion_diff, move_diff, one_diff}
+use Rattle.edit_plans.specs.SheetEdits.{with_new_sheet, sheet_added, with_copy, sheet_copied, sheet_deleted, sheet_taken, with_name, sheet_named, new_diff, copy_diff, deletion_diff, move_diff, rename_diff, one_diff}
 use Rattle.edit_plans.specs.laws.PlanLaws.{sheet_sure}
 use Rattle.edit_plans.specs.laws.SheetEditLaws.{goes_both_ways, few_sheets, sheet_there}
 
@@ -37,7 +39,7 @@ sheets_planned edit book later (Err error) of_sheets rules how only is kept =
     record { planned = tt; refused = λ other. absurd (other only); memory = λ short. subst IsOk (sym how) refl }
 
 -- a record of one diff is that record
-one_planned : (edit : Edit) (book later : Book) (diff : Diff) → IsTrue (is_of_sheets edit) → IsWellFormed book → changed edit book ≡ Ok later
+pub one_planned : (edit : Edit) (book later : Book) (diff : Diff) → IsTrue (is_of_sheets edit) → IsWellFormed book → changed edit book ≡ Ok later
     → record_of edit book later ≡ diff ∷ []
     → (result : Result (List Diff) EditError) → IsOkUnless result NoMemory → IfOk result (λ list. list ≡ diff ∷ []) → IfOk result IsCanonicalList
     → PlansSheets edit result book
@@ -59,6 +61,9 @@ other_sheet same = cc
 
 other_only : OnlySheet ≢ NoMemory
 other_only same = cc
+
+other_name : SheetName ≢ NoMemory
+other_name same = cc
 
 -- ---- a new sheet
 
@@ -186,3 +191,28 @@ module _ (book : Book) (from to : ℕ) where
       let high : nat_lt to count ≡ true = grind (arith, within) in
       one_planned (MoveSheet from to) book moved (move_diff from to sheet) refl rules
       (λ i. cond (low i && high i) (Ok moved) (Err InvalidSheet)) (ap (λ r. one_diff (map_ok (move_diff from to) r)) at)
+
+-- ---- a renaming
+
+module _ (book : Book) (index : ℕ) (name : List ℕ) where
+  pub rename_no_sheet : (error : EditError) → sheet_at book index ≡ Err error → PlansSheets (RenameSheet index name) (Err error) book
+  unfolding sheet_named
+  rename_no_sheet error missing =
+      sheets_refused (RenameSheet index name) book error (ap (λ r. and_then r (with_name name book)) missing) (sheet_sure book index error missing)
+
+  -- where the sheet may not have that name
+  pub rename_not_named : (sheet : Sheet) → sheet_at book index ≡ Ok sheet → may_be_named sheet.id name book.worksheets ≡ false
+      → PlansSheets (RenameSheet index name) (Err SheetName) book
+  unfolding sheet_named
+  rename_not_named sheet at never =
+      sheets_refused (RenameSheet index name) book SheetName
+      (ap (λ r. and_then r (with_name name book)) at ∙ ap (λ b. cond b (Ok (book_renamed sheet.id sheet.name name book)) (Err SheetName)) never) other_name
+
+  pub rename_planned : IsWellFormed book → (sheet : Sheet) → sheet_at book index ≡ Ok sheet → may_be_named sheet.id name book.worksheets ≡ true
+      → (result : Result (List Diff) EditError) → IsOkUnless result NoMemory → IfOk result (λ list. list ≡ rename_diff name book sheet ∷ [])
+      → IfOk result IsCanonicalList → PlansSheets (RenameSheet index name) result book
+  unfolding sheet_named
+  rename_planned rules sheet at may =
+      one_planned (RenameSheet index name) book (book_renamed sheet.id sheet.name name book) (rename_diff name book sheet) refl rules
+      (ap (λ r. and_then r (with_name name book)) at ∙ ap (λ b. cond b (Ok (book_renamed sheet.id sheet.name name book)) (Err SheetName)) may)
+      (ap (λ r. one_diff (map_ok (rename_diff name book) r)) at)

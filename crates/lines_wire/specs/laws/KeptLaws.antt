@@ -44,7 +44,7 @@ lines_format : Format (FitsMap {order = int_cmp} (FitsSigned w32) FitsLine) (spe
 unfolding lines_at
 lines_format = map_format int_cmp_total exact_signed signed_format line_format (λ line. omega arith) (λ m. m) (λ m. m) (λ m. refl) (λ m. refl)
 
-formulas_format : Format (FitsMap {order = sheet_place_cmp} FitsSheetPlace FitsNode) (spell_map spell_sheet_place spell_node) formulas_at
+pub formulas_format : Format (FitsMap {order = sheet_place_cmp} FitsSheetPlace FitsNode) (spell_map spell_sheet_place spell_node) formulas_at
 unfolding formulas_at
 formulas_format = map_format sheet_place_total exact_sheet_places sheet_place_format node_format sheet_place_some (λ m. m) (λ m. m) (λ m. refl) (λ m. refl)
 

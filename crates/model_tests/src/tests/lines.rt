@@ -1,58 +1,5 @@
-// Rows and columns inserted, deleted and moved.
+// Lines moved past hidden ones. What else becomes of lines is in the scripts of `edit_script`.
 use super::*;
-
-/// The calls that follow one another, and where the letter then stands that stood in B2.
-fn lines_are_edited(rt: &impl Abort, model: &mut UserModel<ClearAll>) -> Result<(), EditError> {
-    model.set_user_input(0, 2, 2, "a")?;
-    model.insert_rows(0, 1, 1)?;
-    assert_eq!(rt; model.get_cell_content(0, 3, 2)?.as_str(), "a");
-    model.insert_columns(0, 1, 2)?;
-    assert_eq!(rt; model.get_cell_content(0, 3, 4)?.as_str(), "a");
-    model.delete_rows(0, 1, 2)?;
-    assert_eq!(rt; model.get_cell_content(0, 1, 4)?.as_str(), "a");
-    model.delete_columns(0, 2, 1)?;
-    assert_eq!(rt; model.get_cell_content(0, 1, 3)?.as_str(), "a");
-    model.move_rows_action(0, 1, 1, 3)?;
-    assert_eq!(rt; model.get_cell_content(0, 4, 3)?.as_str(), "a");
-    model.move_columns_action(0, 3, 1, -2)?;
-    assert_eq!(rt; model.get_cell_content(0, 4, 1)?.as_str(), "a");
-    Ok(())
-}
-
-/// Each of the six edits once, and all taken back and made again.
-#[test]
-fn cells_go_with_their_lines(rt: HostRuntime) -> Result<(), Fail> {
-    let mut model = new_model(rt.alloc())?;
-    lines_are_edited(&rt, &mut model)?;
-    for _ in 0..6 {
-        model.undo()?;
-    }
-    assert_eq!(rt; model.get_cell_content(0, 2, 2)?.as_str(), "a");
-    model.undo()?;
-    assert!(rt; !model.can_undo());
-    for _ in 0..7 {
-        assert!(rt; model.can_redo());
-        model.redo()?;
-    }
-    assert!(rt; !model.can_redo());
-    assert_eq!(rt; model.get_cell_content(0, 4, 1)?.as_str(), "a");
-    Ok(())
-}
-
-fn an_array_goes_down(rt: &impl Abort, model: &mut UserModel<ClearAll>) -> Result<(), EditError> {
-    model.set_user_array_formula(0, 2, 2, 1, 3, "=1")?;
-    model.insert_rows(0, 2, 1)?;
-    assert_eq!(rt; model.get_cell_content(0, 3, 2)?.as_str(), "=1");
-    assert_eq!(rt; model.insert_rows(0, 4, 1), Err(EditError::SplitsArray));
-    Ok(())
-}
-
-/// An array goes down with its rows, and no row comes into it.
-#[test]
-fn an_array_is_not_split(rt: HostRuntime) -> Result<(), Fail> {
-    let mut model = new_model(rt.alloc())?;
-    Ok(an_array_goes_down(&rt, &mut model)?)
-}
 
 /// A workbook with letters in its first row and in its first column, whose fourth row and column are
 /// hidden.

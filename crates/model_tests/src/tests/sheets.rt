@@ -198,15 +198,99 @@ fn deletion_bytes(model: &mut UserModel<ClearAll>) -> Result<Vec<u8>, EditError>
     model.flush_send_queue()
 }
 
+/// The bytes of both, one after the other.
+fn sheet_bytes(alloc: Global) -> Result<(Vec<u8>, Vec<u8>), EditError> {
+    let mut model = new_model(alloc)?;
+    let moved = moved_bytes(&mut model)?;
+    let deleted = deletion_bytes(&mut model)?;
+    Ok((moved, deleted))
+}
+
+fn a_view_goes_along(
+    rt: &impl Abort,
+    model: &mut UserModel<ClearAll>,
+    moved: &[u8],
+    deleted: &[u8],
+) -> Result<(), EditError> {
+    model.set_selected_range(3, 1, 3, 1)?;
+    model.apply_external_diffs(moved)?;
+    assert_eq!(rt; seen(model), (1, 3));
+    model.apply_external_diffs(deleted)?;
+    assert_eq!(rt; seen(model), (0, 1));
+    Ok(())
+}
+
 /// A second model follows moves and deletions of sheets, and its view goes along.
 #[test]
 fn a_second_view_follows(rt: HostRuntime) -> Result<(), Fail> {
-    let mut first = new_model(rt.alloc())?;
-    let mut second = new_model(rt.alloc())?;
-    second.set_selected_range(3, 1, 3, 1)?;
-    second.apply_external_diffs(&moved_bytes(&mut first)?)?;
-    assert_eq!(rt; seen(&second), (1, 3));
-    second.apply_external_diffs(&deletion_bytes(&mut first)?)?;
-    assert_eq!(rt; seen(&second), (0, 1));
+    let (moved, deleted) = sheet_bytes(rt.alloc())?;
+    let mut model = new_model(rt.alloc())?;
+    Ok(a_view_goes_along(&rt, &mut model, &moved, &deleted)?)
+}
+
+/// The bytes of a sheet's new name, which a formula names in part.
+fn renamed_bytes(model: &mut UserModel<ClearAll>) -> Result<Vec<u8>, EditError> {
+    model.set_user_input(0, 1, 1, "=sheet1!B1+Data!B1")?;
+    model.rename_sheet(0, "Data")?;
+    model.flush_send_queue()
+}
+
+/// The bytes of what is taken back.
+fn undone_bytes(model: &mut UserModel<ClearAll>) -> Result<Vec<u8>, EditError> {
+    model.undo()?;
+    model.flush_send_queue()
+}
+
+/// The bytes of both, one after the other.
+fn renaming_bytes(alloc: Global) -> Result<(Vec<u8>, Vec<u8>), EditError> {
+    let mut model = new_model(alloc)?;
+    let renamed = renamed_bytes(&mut model)?;
+    let undone = undone_bytes(&mut model)?;
+    Ok((renamed, undone))
+}
+
+fn a_formula_follows(
+    rt: &impl Abort,
+    model: &mut UserModel<ClearAll>,
+    renamed: &[u8],
+    undone: &[u8],
+) -> Result<(), EditError> {
+    model.set_selected_range(3, 1, 3, 1)?;
+    model.apply_external_diffs(renamed)?;
+    assert_eq!(rt; seen(model), (0, 3));
+    assert_eq!(rt;
+        model.get_cell_content(0, 1, 1)?.as_str(),
+        "=Data!B1+Data!B1"
+    );
+    model.apply_external_diffs(undone)?;
+    assert_eq!(rt;
+        model.get_cell_content(0, 1, 1)?.as_str(),
+        "=sheet1!B1+Data!B1"
+    );
+    Ok(())
+}
+
+/// A second model follows a renaming and takes it back, with the name that no sheet had, and its view
+/// stays.
+#[test]
+fn a_renaming_is_followed(rt: HostRuntime) -> Result<(), Fail> {
+    let (renamed, undone) = renaming_bytes(rt.alloc())?;
+    let mut model = new_model(rt.alloc())?;
+    Ok(a_formula_follows(&rt, &mut model, &renamed, &undone)?)
+}
+
+/// A name that a sheet has letter by letter is no step, and one that it may not have is refused.
+#[test]
+fn names_are_refused(rt: HostRuntime) -> Result<(), Fail> {
+    let mut model = new_model(rt.alloc())?;
+    model.new_sheet()?;
+    assert_eq!(rt; model.rename_sheet(2, "a"), Err(EditError::InvalidSheet));
+    assert_eq!(rt; model.rename_sheet(0, "SHEET2"), Err(EditError::SheetName));
+    assert_eq!(rt; model.rename_sheet(0, ""), Err(EditError::SheetName));
+    model.undo()?;
+    model.rename_sheet(0, "Sheet1")?;
+    assert!(rt; model.can_redo() && !model.can_undo());
+    model.rename_sheet(0, "sheet1")?;
+    assert!(rt; !model.can_redo() && model.can_undo());
     Ok(())
 }

@@ -7,8 +7,10 @@ use Rattle.formula_tree.specs.Depth.{is_within}
 use Rattle.sheet_grid.specs.laws.FittingCells.{is_shallow_entry}
 use Rattle.sheet_lines.specs.declared.KeptLines.{KeptLines}
 use Rattle.book_sheets.specs.declared.KeptSheet.{KeptSheet}
+use Rattle.book_names.specs.declared.KeptTrees.{KeptTrees}
+use Rattle.name_edits.specs.declared.NameChange.{NameChange}
 use Rattle.sheet_history.specs.declared.diff.Diff.{Diff}
-use Rattle.sheet_history.specs.declared.diff.Diff.TheVariants.{Cell as CellDiff, Link as LinkDiff, Merges as MergesDiff, Field as FieldDiff, Lines as LinesDiff, NewSheet as NewDiff, DuplicateSheet as CopyDiff, DeleteSheet as DeletionDiff, MoveSheet as MoveDiff}
+use Rattle.sheet_history.specs.declared.diff.Diff.TheVariants.{Cell as CellDiff, Link as LinkDiff, Merges as MergesDiff, Field as FieldDiff, Lines as LinesDiff, NewSheet as NewDiff, DuplicateSheet as CopyDiff, DeleteSheet as DeletionDiff, MoveSheet as MoveDiff, RenameSheet as RenameDiff, ChangeName as NameDiff}
 
 -- so is each kept formula
 pub record AreShallowLines (kept : KeptLines) : Type 0 where
@@ -19,6 +21,16 @@ pub record AreShallowLines (kept : KeptLines) : Type 0 where
 pub record IsShallowSheet (kept : KeptSheet) : Type 0 where
   pub cells : (place : Position) → IsTrue (is_shallow_entry (get kept.sheet.cells place))
   pub names : (place : ℕ) → IfSome (get kept.names place) (λ name. IsTrue (is_within 64 name.formula))
+
+-- so is each kept tree of a renaming
+pub record AreShallowTrees (kept : KeptTrees) : Type 0 where
+  pub formulas : (place : SheetPlace) → IfSome (get kept.formulas place) (λ tree. IsTrue (is_within 64 tree))
+  pub names : (place : ℕ) → IfSome (get kept.names place) (λ tree. IsTrue (is_within 64 tree))
+
+-- and the tree of each name of a change
+pub record IsShallowChange (change : NameChange) : Type 0 where
+  pub old : IfSome change.old (λ name. IsTrue (is_within 64 name.formula))
+  pub new : IfSome change.new (λ name. IsTrue (is_within 64 name.formula))
 
 -- and each formula of a diff
 abbrev pub IsShallowDiff : Diff → Type 0
@@ -31,3 +43,5 @@ IsShallowDiff (NewDiff sheet index name) = Unit {0}
 IsShallowDiff (CopyDiff source sheet index name) = Unit {0}
 IsShallowDiff (DeletionDiff index kept) = IsShallowSheet kept
 IsShallowDiff (MoveDiff sheet from to) = Unit {0}
+IsShallowDiff (RenameDiff sheet old new kept) = AreShallowTrees kept
+IsShallowDiff (NameDiff change kept) = IsShallowChange change × AreShallowTrees kept

@@ -12,9 +12,11 @@ use Rattle.sheet_grid.specs.laws.LineEquals.{link_equals}
 use Rattle.line_edits.specs.laws.Equals.{kind_equals}
 use Rattle.sheet_lines.specs.laws.KeptEquals.{kept_equals}
 use Rattle.book_sheets.specs.laws.KeptSheetEquals.{kept_sheet_equals}
+use Rattle.book_names.specs.laws.KeptTreesEquals.{kept_trees_equals}
+use Rattle.name_edits.specs.laws.ChangeEquals.{name_change_equals}
 use Rattle.sheet_history.specs.laws.FieldEquals.{field_change_equals}
 use Rattle.sheet_history.specs.declared.diff.Diff.{Diff}
-use Rattle.sheet_history.specs.declared.diff.Diff.TheVariants.{Cell as CellDiff, Link as LinkDiff, Merges as MergesDiff, Field as FieldDiff, Lines as LinesDiff, NewSheet as NewDiff, DuplicateSheet as CopyDiff, DeleteSheet as DeletionDiff, MoveSheet as MoveDiff}
+use Rattle.sheet_history.specs.declared.diff.Diff.TheVariants.{Cell as CellDiff, Link as LinkDiff, Merges as MergesDiff, Field as FieldDiff, Lines as LinesDiff, NewSheet as NewDiff, DuplicateSheet as CopyDiff, DeleteSheet as DeletionDiff, MoveSheet as MoveDiff, RenameSheet as RenameDiff, ChangeName as NameDiff}
 use Rattle.sheet_history.specs.declared.diff.DiffType.{DiffType}
 use Rattle.sheet_history.specs.declared.diff.DiffType.TheVariants.{Undo, Redo}
 use Rattle.sheet_history.specs.declared.diff.QueueDiffs.{QueueDiffs}
@@ -143,6 +145,29 @@ diff_equals (MoveDiff s f o) (MoveDiff t g p) =
 
     to_of : MoveDiff s f o ≡ MoveDiff t g p → o ≡ p
     to_of e = cc
+diff_equals (RenameDiff s o n k) (RenameDiff t p m l) =
+    Decides-like _ (λ h i. RenameDiff (h.0 i) (h.1.0 i) (h.1.1.0 i) (h.1.1.1 i)) (λ e. (sheet_of e, (old_of e, (new_of e, kept_of e))))
+    (Decides-and _ _ (unsigned_Decides _ _) (Decides-and _ _ (bytes_decides _ _) (Decides-and _ _ (bytes_decides _ _) (kept_trees_equals _ _))))
+  where
+    sheet_of : RenameDiff s o n k ≡ RenameDiff t p m l → s ≡ t
+    sheet_of e = cc
+
+    old_of : RenameDiff s o n k ≡ RenameDiff t p m l → o ≡ p
+    old_of e = cc
+
+    new_of : RenameDiff s o n k ≡ RenameDiff t p m l → n ≡ m
+    new_of e = cc
+
+    kept_of : RenameDiff s o n k ≡ RenameDiff t p m l → k ≡ l
+    kept_of e = cc
+diff_equals (NameDiff c k) (NameDiff d l) =
+    Decides-like _ (λ h i. NameDiff (h.0 i) (h.1 i)) (λ e. (change_of e, kept_of e)) (Decides-and _ _ (name_change_equals _ _) (kept_trees_equals _ _))
+  where
+    change_of : NameDiff c k ≡ NameDiff d l → c ≡ d
+    change_of e = cc
+
+    kept_of : NameDiff c k ≡ NameDiff d l → k ≡ l
+    kept_of e = cc
 diff_equals _ _ = (λ e. cc, λ e. cc)
 
 pub diff_type_equals : (a b : DiffType) → Decides (diff_type.ghosts.eq a b) (a ≡ b)

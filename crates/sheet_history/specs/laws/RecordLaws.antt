@@ -7,7 +7,7 @@ use Rattle.std.specs.FinMap.Entries.{same_entries}
 use Rattle.std.proofs.lemmas.Map.Lookups.{CmpEqualImpliesEq, exact_pairs, exact_unsigned, exact_signed}
 use Rattle.sheet_grid.specs.Book.{Book}
 use Rattle.sheet_history.specs.declared.diff.Diff.{Diff}
-use Rattle.sheet_history.specs.declared.diff.Diff.TheVariants.{Cell as CellDiff, Link as LinkDiff, Merges as MergesDiff, Field as FieldDiff, Lines as LinesDiff, NewSheet as NewDiff, DuplicateSheet as CopyDiff, DeleteSheet as DeletionDiff, MoveSheet as MoveDiff}
+use Rattle.sheet_history.specs.declared.diff.Diff.TheVariants.{Cell as CellDiff, Link as LinkDiff, Merges as MergesDiff, Field as FieldDiff, Lines as LinesDiff, NewSheet as NewDiff, DuplicateSheet as CopyDiff, DeleteSheet as DeletionDiff, MoveSheet as MoveDiff, RenameSheet as RenameDiff, ChangeName as NameDiff}
 use Rattle.sheet_history.specs.Entries.{EntryKey, Rank, rank_of, rank_cmp, key_cmp}
 use Rattle.sheet_history.specs.Entries.EntryKey.{CellKey, LinkKey, MergesKey, FieldKey}
 use Rattle.sheet_history.specs.Entries.EntryValue.{CellValue, LinkValue, MergesValue, FieldValue}
@@ -79,6 +79,8 @@ diff_of-change_of (NewDiff _ _ _) change h = absurd (cc)
 diff_of-change_of (CopyDiff _ _ _ _) change h = absurd (cc)
 diff_of-change_of (DeletionDiff _ _) change h = absurd (cc)
 diff_of-change_of (MoveDiff _ _ _) change h = absurd (cc)
+diff_of-change_of (RenameDiff _ _ _ _) change h = absurd (cc)
+diff_of-change_of (NameDiff _ _) change h = absurd (cc)
 
 -- diffs of one change are equal
 same_diff : (a b : Diff) (change : Change) → change_of a ≡ Some change → change_of b ≡ Some change → a ≡ b

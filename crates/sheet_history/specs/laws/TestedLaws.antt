@@ -16,7 +16,7 @@ use Rattle.sheet_history.specs.Entries.EntryValue.{CellValue, LinkValue, FieldVa
 use Rattle.sheet_history.specs.Untested.{cell_keeps_rules, entry_has_font, may_stand_on, keeps_rules}
 use Rattle.sheet_history.specs.laws.RuleLaws.{well_formed-cell, well_formed-link, well_formed-field}
 use Rattle.sheet_history.specs.declared.diff.Diff.{Diff}
-use Rattle.sheet_history.specs.declared.diff.Diff.TheVariants.{Cell as CellDiff, Link as LinkDiff, Merges as MergesDiff, Field as FieldDiff, Lines as LinesDiff, NewSheet as NewDiff, DuplicateSheet as CopyDiff, DeleteSheet as DeletionDiff, MoveSheet as MoveDiff}
+use Rattle.sheet_history.specs.declared.diff.Diff.TheVariants.{Cell as CellDiff, Link as LinkDiff, Merges as MergesDiff, Field as FieldDiff, Lines as LinesDiff, NewSheet as NewDiff, DuplicateSheet as CopyDiff, DeleteSheet as DeletionDiff, MoveSheet as MoveDiff, RenameSheet as RenameDiff, ChangeName as NameDiff}
 use Rattle.sheet_history.specs.declared.diff.DiffType.{DiffType}
 use Rattle.sheet_history.specs.declared.diff.DiffType.TheVariants.{Undo, Redo}
 use Rattle.sheet_history.specs.declared.field.SheetField.{SheetField}
@@ -92,6 +92,8 @@ made_rules book (NewDiff id index name ∷ []) keeps rules next is = absurd (cc)
 made_rules book (CopyDiff source id index name ∷ []) keeps rules next is = absurd (cc)
 made_rules book (DeletionDiff index kept ∷ []) keeps rules next is = absurd (cc)
 made_rules book (MoveDiff id from to ∷ []) keeps rules next is = absurd (cc)
+made_rules book (RenameDiff id old new kept ∷ []) keeps rules next is = absurd (cc)
+made_rules book (NameDiff change kept ∷ []) keeps rules next is = absurd (cc)
 made_rules book (first ∷ second ∷ rest) keeps rules next is = absurd (cc)
 
 taken_back_rules : (book : Book) (diffs : List Diff) → keeps_rules Undo book diffs ≡ true → IsWellFormed book → (next : Book) → untested_before book diffs ≡ Ok next → IsWellFormed next
@@ -105,6 +107,8 @@ taken_back_rules book (NewDiff id index name ∷ []) keeps rules next is = absur
 taken_back_rules book (CopyDiff source id index name ∷ []) keeps rules next is = absurd (cc)
 taken_back_rules book (DeletionDiff index kept ∷ []) keeps rules next is = absurd (cc)
 taken_back_rules book (MoveDiff id from to ∷ []) keeps rules next is = absurd (cc)
+taken_back_rules book (RenameDiff id old new kept ∷ []) keeps rules next is = absurd (cc)
+taken_back_rules book (NameDiff change kept ∷ []) keeps rules next is = absurd (cc)
 taken_back_rules book (first ∷ second ∷ rest) keeps rules next is = absurd (cc)
 
 -- the result of such a list needs no test

@@ -15,20 +15,24 @@ use Rattle.sheet_grid.specs.CanonicalCell.{IsCanonicalCell}
 use Rattle.sheet_grid.specs.Lines.{is_plain}
 use Rattle.sheet_lines.specs.declared.KeptLines.{KeptLines}
 use Rattle.sheet_history.specs.declared.Diff.{Diff}
-use Rattle.sheet_history.specs.declared.Diff.TheVariants.{Cell as CellDiff, Link as LinkDiff, Merges as MergesDiff, Field as FieldDiff, Lines as LinesDiff, NewSheet as NewDiff, DuplicateSheet as CopyDiff, DeleteSheet as DeletionDiff, MoveSheet as MoveDiff}
+use Rattle.sheet_history.specs.declared.Diff.TheVariants.{Cell as CellDiff, Link as LinkDiff, Merges as MergesDiff, Field as FieldDiff, Lines as LinesDiff, NewSheet as NewDiff, DuplicateSheet as CopyDiff, DeleteSheet as DeletionDiff, MoveSheet as MoveDiff, RenameSheet as RenameDiff, ChangeName as NameDiff}
 use Rattle.sheet_history.specs.declared.QueueDiffs.{QueueDiffs}
 use Rattle.book_sheets.specs.declared.KeptSheet.{KeptSheet}
 use Rattle.book_sheets.specs.SheetDiffs.{IsCanonicalSheet}
-use Rattle.sheet_history.specs.laws.Depth.{IsShallowDiff, IsShallowSheet}
+use Rattle.book_names.specs.declared.KeptTrees.{KeptTrees}
+use Rattle.book_names.specs.Renaming.{AreCanonicalTrees}
+use Rattle.sheet_history.specs.laws.Depth.{AreShallowTrees, IsShallowDiff, IsShallowSheet}
 use Rattle.sheet_history.specs.Diffs.{IsCanonicalDiff, IsCanonicalList, IsCanonicalQueue}
-use Rattle.formula_wire.specs.Carried.{IsKnownNode}
+use Rattle.formula_wire.specs.Carried.{FitsNode, IsKnownNode}
+use Rattle.formula_wire.specs.laws.CanonicalLaws.{canonical_from_carried}
 use Rattle.cell_wire.specs.CellBytes.{FitsCell, IsKnownCell}
 use Rattle.cell_wire.specs.laws.Fitting.{canonical_cell_from_fits}
-use Rattle.lines_wire.specs.laws.KeptFits.{kept_lines_from_fits}
+use Rattle.lines_wire.specs.laws.KeptFits.{formulas_from_fits, kept_lines_from_fits}
 use Rattle.map_wire.specs.laws.MapFits.{values_hold}
 use Rattle.grid_wire.specs.NameBytes.{FitsName, IsKnownName}
 use Rattle.grid_wire.specs.laws.GridFits.{canonical_cells_from_fits, canonical_name_from_fits}
 use Rattle.sheet_wire.specs.SheetsBytes.{FitsKeptSheet, IsKnownKeptSheet}
+use Rattle.sheet_wire.specs.TreesBytes.{FitsTrees, AreKnownTrees}
 use Rattle.sheet_wire.specs.QueueBytes.{FitsDiff, FitsList, FitsEntry, FitsQueue, IsKnownDiff}
 
 -- ---- what encoding asks of lines
@@ -53,6 +57,8 @@ IsKeptOfDiff (NewDiff sheet index name) = Unit {0}
 IsKeptOfDiff (CopyDiff source sheet index name) = Unit {0}
 IsKeptOfDiff (DeletionDiff index kept) = HasOwnLines kept
 IsKeptOfDiff (MoveDiff sheet from to) = Unit {0}
+IsKeptOfDiff (RenameDiff sheet old new kept) = Unit {0}
+IsKeptOfDiff (NameDiff change kept) = Unit {0}
 
 -- ---- the numbers of what fits are canonical
 
@@ -66,6 +72,16 @@ kept_sheet_from_fits kept fits = record {
   names = values_hold (λ place. place < 2 ^ 64) FitsName _ canonical_name_from_fits kept.names fits.names;
 }
 
+kept_trees_from_fits : (kept : KeptTrees) → FitsTrees kept → AreCanonicalTrees kept
+kept_trees_from_fits kept fits = record {
+  formulas = formulas_from_fits kept.formulas fits.formulas;
+  names = values_hold (λ place. place < 2 ^ 64) FitsNode _ (λ tree fits. canonical_from_carried tree fits.carried) kept.names fits.names;
+}
+
+kept_name : (name : Option DefinedName) → IfSome name FitsName → IfSome name IsCanonicalName
+kept_name None fits = tt
+kept_name (Some name) fits = canonical_name_from_fits name fits
+
 pub canonical_diff_from_fits : (diff : Diff) → FitsDiff diff → IsCanonicalDiff diff
 canonical_diff_from_fits (CellDiff sheet place old new) fits =
     (kept_option old fits.old, kept_option new fits.new)
@@ -77,6 +93,9 @@ canonical_diff_from_fits (NewDiff sheet index name) fits = tt
 canonical_diff_from_fits (CopyDiff source sheet index name) fits = tt
 canonical_diff_from_fits (DeletionDiff index kept) fits = kept_sheet_from_fits kept fits.kept
 canonical_diff_from_fits (MoveDiff sheet from to) fits = tt
+canonical_diff_from_fits (RenameDiff sheet old new kept) fits = kept_trees_from_fits kept fits.kept
+canonical_diff_from_fits (NameDiff change kept) fits =
+    (record { old = kept_name change.old fits.old; new = kept_name change.new fits.new }, kept_trees_from_fits kept fits.kept)
 
 kept_diffs : (diffs : List Diff) → AllByRecursion FitsDiff diffs → AllByRecursion IsCanonicalDiff diffs
 kept_diffs [] fits = tt
@@ -118,6 +137,12 @@ known_sheet kept numbers shallow own = record {
   names = λ place. known_name (get kept.names place) (numbers.names place) (shallow.names place);
 }
 
+known_trees : (trees : KeptTrees) → AreCanonicalTrees trees → AreShallowTrees trees → AreKnownTrees trees
+known_trees trees kept shallow = record {
+  formulas = λ place. known_tree (get trees.formulas place) (kept.formulas place) (shallow.formulas place);
+  names = λ place. known_tree (get trees.names place) (kept.names place) (shallow.names place);
+}
+
 -- a diff whose numbers are canonical, and whose formulas are at most 64 deep, can be encoded
 pub known_diff : (diff : Diff) → IsCanonicalDiff diff → IsShallowDiff diff → IsKeptOfDiff diff → IsKnownDiff diff
 known_diff (CellDiff sheet place old new) kept shallow of_lines = (known_entry old kept.0 shallow.0, known_entry new kept.1 shallow.1)
@@ -128,6 +153,12 @@ known_diff (NewDiff sheet index name) kept shallow of_lines = tt
 known_diff (CopyDiff source sheet index name) kept shallow of_lines = tt
 known_diff (DeletionDiff index part) kept shallow of_lines = known_sheet part kept shallow of_lines
 known_diff (MoveDiff sheet from to) kept shallow of_lines = tt
+known_diff (RenameDiff sheet old new trees) kept shallow of_lines = known_trees trees kept shallow
+known_diff (NameDiff change trees) kept shallow of_lines = record {
+  old = known_name change.old kept.0.old shallow.0.old;
+  new = known_name change.new kept.0.new shallow.0.new;
+  kept = known_trees trees kept.1 shallow.1;
+}
 known_diff (LinesDiff sheet axis edit lines) kept shallow of_lines = record {
   cells = λ place. known_entry (get lines.cells place) (kept.cells place) (shallow.cells place);
   lines = of_lines;

@@ -4,7 +4,7 @@ use Rattle.std.specs.Prelude.{IfSome}
 use Rattle.std.specs.Int.{w32, to_be_bytes}
 use Rattle.base_values.specs.declared.Position.{Position}
 use Rattle.sheet_history.specs.declared.Diff.{Diff}
-use Rattle.sheet_history.specs.declared.Diff.TheVariants.{Cell as CellDiff, Link as LinkDiff, Merges as MergesDiff, Field as FieldDiff, Lines as LinesDiff, NewSheet as NewDiff, DuplicateSheet as CopyDiff, DeleteSheet as DeletionDiff, MoveSheet as MoveDiff}
+use Rattle.sheet_history.specs.declared.Diff.TheVariants.{Cell as CellDiff, Link as LinkDiff, Merges as MergesDiff, Field as FieldDiff, Lines as LinesDiff, NewSheet as NewDiff, DuplicateSheet as CopyDiff, DeleteSheet as DeletionDiff, MoveSheet as MoveDiff, RenameSheet as RenameDiff, ChangeName as NameDiff}
 use Rattle.sheet_history.specs.declared.FieldChange.TheVariants as change
 use Rattle.sheet_history.specs.declared.DiffType.{DiffType}
 use Rattle.sheet_history.specs.declared.DiffType.TheVariants.{Undo, Redo}
@@ -32,8 +32,10 @@ use Rattle.lines_wire.specs.laws.KeptLaws.{kept_format}
 use Rattle.sheet_wire.specs.ChangeBytes.{spell_change, standing_at, change_at, spell_sheet_change, sheet_change_at}
 use Rattle.sheet_wire.specs.LinesBytes.{axis_code, axes, spell_lines, lines_parts_at}
 use Rattle.sheet_wire.specs.SheetsBytes.{spell_color_change, spell_state_change, spell_grid_change, state_at, spell_new, new_parts_at, spell_copy, copy_parts_at, spell_deletion, deletion_parts_at, spell_move, move_parts_at}
+use Rattle.sheet_wire.specs.TreesBytes.{spell_rename, rename_parts_at, spell_name_change, name_parts_at}
+use Rattle.sheet_wire.specs.laws.TreesFormats.{rename_parts_format, name_parts_format}
 use Rattle.sheet_wire.specs.laws.SheetsFormats.{sheet_change_format, sheet_state_format, new_parts_format, copy_parts_format, deletion_parts_format, move_parts_format}
-use Rattle.sheet_wire.specs.QueueBytes.{move_diff_made, move_diff_at, color_diff_made, color_diff_at, state_diff_made, state_diff_at, grid_diff_made, grid_diff_at}
+use Rattle.sheet_wire.specs.QueueBytes.{rename_diff_made, rename_diff_at, name_diff_made, name_diff_at, move_diff_made, move_diff_at, color_diff_made, color_diff_at, state_diff_made, state_diff_at, grid_diff_made, grid_diff_at}
 use Rattle.sheet_wire.specs.QueueBytes.{spell_diff, cell_diff_made, cell_diff_at, link_diff_made, link_diff_at, merges_diff_made, merges_diff_at, lines_diff_made, lines_diff_at, new_diff_made, new_diff_at, copy_diff_made, copy_diff_at, deletion_diff_made, deletion_diff_at, diff_of, diff_at, FitsDiff, FitsList, direction_code, directions, spell_entry, entry_made, list_of_diffs_at, entry_at, FitsEntry, magic, FitsQueue}
 
 -- ---- diffs
@@ -63,7 +65,7 @@ map_reads : {A B : Type 0} (f : A → B) (r : Reader A) (bytes : List ℕ) (x : 
 map_reads f r bytes x rest h = rw h refl
 
 diff_again : ReadsAgain FitsDiff spell_diff diff_at
-unfolding spell_sheet_change spell_new spell_copy spell_deletion spell_move diff_at cell_diff_at link_diff_at merges_diff_at lines_diff_at new_diff_at copy_diff_at deletion_diff_at move_diff_at color_diff_at state_diff_at grid_diff_at
+unfolding spell_sheet_change spell_new spell_copy spell_deletion spell_rename spell_name_change spell_move diff_at cell_diff_at link_diff_at merges_diff_at lines_diff_at new_diff_at copy_diff_at deletion_diff_at rename_diff_at move_diff_at color_diff_at state_diff_at grid_diff_at name_diff_at
 diff_again = record { again = one }
   where
     one : (x : Diff) (rest : List ℕ) → FitsDiff x → diff_at (spell_diff x ++ rest) ≡ Ok (x, rest)
@@ -91,6 +93,12 @@ diff_again = record { again = one }
     one (MoveDiff sheet from to) rest fits =
         map_reads move_diff_made move_parts_at (spell_move sheet from to ++ rest) (sheet, (from, to)) rest
         (move_parts_format.again.again (sheet, (from, to)) rest (fits.sheet, (fits.from, fits.to)))
+    one (RenameDiff sheet old new kept) rest fits =
+        map_reads rename_diff_made rename_parts_at (spell_rename sheet old new kept ++ rest) (sheet, (old, (new, kept))) rest
+        (rename_parts_format.again.again (sheet, (old, (new, kept))) rest (fits.sheet, (fits.old, (fits.new, fits.kept))))
+    one (NameDiff c kept) rest fits =
+        map_reads name_diff_made name_parts_at (spell_name_change c kept ++ rest) (c.index, (c.old, (c.new, kept))) rest
+        (name_parts_format.again.again (c.index, (c.old, (c.new, kept))) rest (fits.index, (fits.old, (fits.new, fits.kept))))
     one (FieldDiff sheet (change.Color old new)) rest fits =
         map_reads color_diff_made (sheet_change_at color_at) (spell_color_change sheet old new ++ rest) (sheet, (old, new)) rest
         ((sheet_change_format color_format).again.again (sheet, (old, new)) rest (fits.sheet, (fits.old, fits.new)))
@@ -102,7 +110,7 @@ diff_again = record { again = one }
         ((sheet_change_format boolean_format).again.again (sheet, (old, new)) rest (fits.sheet, (tt, tt)))
 
 diff_spelled : ReadsSpelled FitsDiff spell_diff diff_at
-unfolding spell_sheet_change spell_new spell_copy spell_deletion spell_move diff_at cell_diff_at link_diff_at merges_diff_at lines_diff_at new_diff_at copy_diff_at deletion_diff_at move_diff_at color_diff_at state_diff_at grid_diff_at
+unfolding spell_sheet_change spell_new spell_copy spell_deletion spell_rename spell_name_change spell_move diff_at cell_diff_at link_diff_at merges_diff_at lines_diff_at new_diff_at copy_diff_at deletion_diff_at rename_diff_at move_diff_at color_diff_at state_diff_at grid_diff_at name_diff_at
 diff_spelled =
     tagged_spelled diff_of (λ tag.
     tag_if tag 1 (tag_map (change_format cell_format).spelled cell_diff_made FitsDiff spell_diff 1 (λ x. refl) (λ x fits. record { sheet = fits.0; place = fits.1.0; old = fits.1.1.0; new = fits.1.1.1 }))
@@ -112,14 +120,16 @@ diff_spelled =
     (tag_if tag 8 (tag_map new_parts_format.spelled new_diff_made FitsDiff spell_diff 8 (λ x. refl) (λ x fits. record { sheet = fits.0; index = fits.1.0; name = fits.1.1 }))
     (tag_if tag 9 (tag_map copy_parts_format.spelled copy_diff_made FitsDiff spell_diff 9 (λ x. refl) (λ x fits. record { source = fits.0; copy = record { sheet = fits.1.0; index = fits.1.1.0; name = fits.1.1.1 } }))
     (tag_if tag 10 (tag_map deletion_parts_format.spelled deletion_diff_made FitsDiff spell_diff 10 (λ x. refl) (λ x fits. record { index = fits.0; kept = fits.1 }))
+    (tag_if tag 11 (tag_map rename_parts_format.spelled rename_diff_made FitsDiff spell_diff 11 (λ x. refl) (λ x fits. record { sheet = fits.0; old = fits.1.0; new = fits.1.1.0; kept = fits.1.1.1 }))
     (tag_if tag 12 (tag_map move_parts_format.spelled move_diff_made FitsDiff spell_diff 12 (λ x. refl) (λ x fits. record { sheet = fits.0; from = fits.1.0; to = fits.1.1 }))
     (tag_if tag 13 (tag_map (sheet_change_format color_format).spelled color_diff_made FitsDiff spell_diff 13 (λ x. refl) (λ x fits. record { sheet = fits.0; old = fits.1.0; new = fits.1.1 }))
     (tag_if tag 14 (tag_map (sheet_change_format sheet_state_format).spelled state_diff_made FitsDiff spell_diff 14 (λ x. refl) (λ x fits. record { sheet = fits.0; old = tt; new = tt }))
     (tag_if tag 15 (tag_map (sheet_change_format boolean_format).spelled grid_diff_made FitsDiff spell_diff 15 (λ x. refl) (λ x fits. record { sheet = fits.0; old = tt; new = tt }))
-    (tag_refused FitsDiff spell_diff tag))))))))))))
+    (tag_if tag 22 (tag_map name_parts_format.spelled name_diff_made FitsDiff spell_diff 22 (λ x. refl) (λ x fits. record { index = fits.0; old = fits.1.0; new = fits.1.1.0; kept = fits.1.1.1 }))
+    (tag_refused FitsDiff spell_diff tag))))))))))))))
 
 diff_plain : IsPlain diff_at
-unfolding diff_at cell_diff_at link_diff_at merges_diff_at lines_diff_at new_diff_at copy_diff_at deletion_diff_at move_diff_at color_diff_at state_diff_at grid_diff_at
+unfolding diff_at cell_diff_at link_diff_at merges_diff_at lines_diff_at new_diff_at copy_diff_at deletion_diff_at rename_diff_at move_diff_at color_diff_at state_diff_at grid_diff_at name_diff_at
 diff_plain =
     tagged_plain diff_of (λ tag.
     if_plain (eqb tag 1) (map_plain cell_diff_made (change_format cell_format).plain)
@@ -129,10 +139,12 @@ diff_plain =
     (if_plain (eqb tag 8) (map_plain new_diff_made new_parts_format.plain)
     (if_plain (eqb tag 9) (map_plain copy_diff_made copy_parts_format.plain)
     (if_plain (eqb tag 10) (map_plain deletion_diff_made deletion_parts_format.plain)
+    (if_plain (eqb tag 11) (map_plain rename_diff_made rename_parts_format.plain)
     (if_plain (eqb tag 12) (map_plain move_diff_made move_parts_format.plain)
     (if_plain (eqb tag 13) (map_plain color_diff_made (sheet_change_format color_format).plain)
     (if_plain (eqb tag 14) (map_plain state_diff_made (sheet_change_format sheet_state_format).plain)
-    (if_plain (eqb tag 15) (map_plain grid_diff_made (sheet_change_format boolean_format).plain) refused_plain)))))))))))
+    (if_plain (eqb tag 15) (map_plain grid_diff_made (sheet_change_format boolean_format).plain)
+    (if_plain (eqb tag 22) (map_plain name_diff_made name_parts_format.plain) refused_plain)))))))))))))
 
 pub diff_format : Format FitsDiff spell_diff diff_at
 diff_format = record { again = diff_again; spelled = diff_spelled; plain = diff_plain }
@@ -146,6 +158,8 @@ diff_some (NewDiff sheet index name) = omega arith
 diff_some (CopyDiff source sheet index name) = omega arith
 diff_some (DeletionDiff index kept) = omega arith
 diff_some (MoveDiff sheet from to) = omega arith
+diff_some (RenameDiff sheet old new kept) = omega arith
+diff_some (NameDiff change kept) = omega arith
 diff_some (FieldDiff sheet (change.Color old new)) = omega arith
 diff_some (FieldDiff sheet (change.State old new)) = omega arith
 diff_some (FieldDiff sheet (change.GridLines old new)) = omega arith

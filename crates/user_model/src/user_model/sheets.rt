@@ -1,12 +1,12 @@
-//! Sheets that a user adds, copies, deletes, moves, hides, colours and lists.
+//! Sheets that a user adds, copies, deletes, moves, renames, hides, colours and lists.
 
 ghost use Rattle.std.specs.Prelude.{◌≡◌, false, Ok, OnOk, OnErr};
 ghost use Rattle.base_values.specs.Answers.{Returns};
 ghost use Rattle.sheet_grid.specs.declared.SheetState.TheVariants.{Visible, Hidden};
 ghost use Rattle.sheet_history.specs.declared.SheetField.TheVariants as field;
 ghost use Rattle.edit_plans.specs.Edits.{is_silent};
-ghost use Rattle.edit_plans.specs.Edits.Edit.{AddSheet, CopySheet, DeleteSheet, MoveSheet, SetField};
-ghost use Rattle.edit_plans.specs.SheetEdits.{stays_there};
+ghost use Rattle.edit_plans.specs.Edits.Edit.{AddSheet, CopySheet, DeleteSheet, MoveSheet, RenameSheet, SetField};
+ghost use Rattle.edit_plans.specs.SheetEdits.{is_named, stays_there};
 ghost use Rattle.user_model.specs.Machine.{edit_of};
 ghost use Rattle.user_model.specs.Properties.{all_properties, draws_grid_lines};
 ghost use Rattle.user_model.specs.Stands.{Steps};
@@ -20,7 +20,8 @@ use base_styles::Color;
 use base_values::{EditError, Items};
 use edit_plans::{
     plan_copied_sheet, plan_deleted_sheet, plan_field, plan_moved_sheet, plan_new_sheet,
-    selected_by_copy, selected_by_move, selected_by_new, sheet_edits_go_both_ways,
+    plan_renamed_sheet, selected_by_copy, selected_by_move, selected_by_new,
+    sheet_edits_go_both_ways,
 };
 use sheet_grid::{SheetState, Workbook};
 use sheet_history::SheetField;
@@ -30,6 +31,17 @@ fn stays_there(workbook: &Workbook, from: u32, to: u32) -> bool
     ensures { result ≡ stays_there from to workbook.now }
 {
     from == to && (from as usize) < workbook.worksheets().len()
+}
+
+/// Whether a sheet that is there has exactly that name already.
+#[tactic(auto, unfolding(edit_plans::specs::SheetEdits::is_named))]
+fn is_named(workbook: &Workbook, sheet: u32, name: &str) -> bool
+    ensures { result ≡ is_named sheet name.now workbook.now }
+{
+    match workbook.worksheets().get(sheet as usize) {
+        Some(found) => found.get_name() == name,
+        None => false,
+    }
 }
 
 impl<R: Recalc + Drop> UserModel<R> {
@@ -142,6 +154,46 @@ impl<R: Recalc + Drop> UserModel<R> {
         let book = &self.book;
         let selected = selected_by_move(&book.workbook, from, to, book.view.sheet);
         let plan = plan_moved_sheet(book.alloc, &book.workbook, from, to);
+        self.make(plan, selected)
+    }
+
+    /// Renames the sheet at an index, and records the change. Every reference and range, in a cell or in
+    /// a defined name, that names a sheet with the old name, whatever the case of its letters, names the
+    /// new one. Where the sheet has exactly that name already, nothing is done and recorded.
+    ///
+    /// `InvalidSheet` where there is no such sheet, else `SheetName` where the name has not 1 to 31
+    /// characters, or one of them is one of `: \ / ? * [ ]`, or an apostrophe is at one of its ends, or
+    /// another sheet has it, whatever the case of the letters; else `NoMemory` where there is not enough.
+    /// An error changes nothing.
+    ///
+    /// ```
+    /// model.rename_sheet(0, "Data")?;
+    /// ```
+    pub fn rename_sheet(&mut self, sheet: u32, name: &str) -> Result<(), EditError>
+        ensures next { Steps result self.old.document self.new.document (edit_of (RenameSheet sheet name.now)) }
+        ensures made { OnOk result (Makes (is_silent (RenameSheet sheet name.now) self.old.document.book) R.Fits self.old self.new) }
+        ensures err { OnErr result (self.new ≡ self.old) }
+        ensures paused { self.new.paused ≡ self.old.paused }
+    {
+        if is_named(&self.book.workbook, sheet, name) {
+            return Ok(());
+        }
+        self.name_sheet(sheet, name)
+    }
+
+    /// Gives the sheet at an index another name, and records the change.
+    fn name_sheet(&mut self, sheet: u32, name: &str) -> Result<(), EditError>
+        requires { is_silent (RenameSheet sheet name.now) self.now.document.book ≡ false }
+        ensures next { Steps result self.old.document self.new.document (edit_of (RenameSheet sheet name.now)) }
+        ensures made { OnOk result (IsMade R.Fits self.new) }
+        ensures err { OnErr result (self.new ≡ self.old) }
+        ensures paused { self.new.paused ≡ self.old.paused }
+    {
+        // For the proof alone.
+        sheet_edits_go_both_ways();
+        let book = &self.book;
+        let selected = book.view.sheet as usize;
+        let plan = plan_renamed_sheet(book.alloc, &book.workbook, sheet, name);
         self.make(plan, selected)
     }
 

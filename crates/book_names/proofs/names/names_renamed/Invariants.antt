@@ -1,0 +1,6 @@
+use Rattle.std.proofs.Common.{◌≡◌, map, take}
+use Rattle.book_names.specs.Renaming.{defined_renamed}
+use Rattle.book_names.proofs.names.names_renamed.Given as goal
+
+abbrev pub invariant-loop-name : goal.invariant-loop-name
+invariant-loop-name l = l.made ≡ map (defined_renamed l.old l.new) (take l.name-index l.names)

@@ -1,0 +1,3 @@
+pub mod Renaming
+pub mod RenameDiffs
+pub mod laws

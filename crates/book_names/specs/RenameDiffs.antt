@@ -1,0 +1,76 @@
+-- When a diff of a renamed sheet is made, and when it is taken back; and which name a sheet may get.
+use Rattle.std.proofs.Common.{ℕ, Bool, false, List, length, Option, Some, None, Result, Ok, Err}
+use Rattle.std.specs.Prelude.{◌&&◌, ◌==◌, not, is_some, nat_lt, if◌then◌else◌}
+use Rattle.std.specs.List.{list_all, list_any}
+use Rattle.std.specs.Ordering.{nat_cmp}
+use Rattle.std.specs.FinMap.{FinMap, entries, get}
+use Rattle.base_values.specs.declared.EditError.{EditError}
+use Rattle.base_values.specs.declared.EditError.TheVariants.{DiffRefused}
+use Rattle.base_values.specs.declared.Position.{Position}
+use Rattle.base_maps.specs.declared.SheetPlace.{SheetPlace}
+use Rattle.base_maps.specs.SheetPlaces.{sheet_place_cmp}
+use Rattle.base_tables.specs.Folding.{same_folded}
+use Rattle.formula_tree.specs.declared.Node.{Node}
+use Rattle.cell_content.specs.Fitting.{tree_fits_at}
+use Rattle.cell_content.specs.Lens.{tree_of}
+use Rattle.sheet_grid.specs.declared.Cell.{Cell}
+use Rattle.sheet_grid.specs.Sheet.{Sheet}
+use Rattle.sheet_grid.specs.Book.{Book}
+use Rattle.sheet_rules.specs.Names.{first_place}
+use Rattle.sheet_rules.specs.SheetNames.{is_sheet_name}
+use Rattle.sheet_rules.specs.WellFormed.{is_place}
+use Rattle.sheet_lines.specs.Sheets.{sheet_of}
+use Rattle.book_names.specs.declared.kept_trees.KeptTrees.{KeptTrees}
+use Rattle.book_names.specs.Renaming.{book_renamed, book_back}
+
+-- each kept tree of a cell stands at a place of a sheet
+unfoldable pub stand_on_places : FinMap sheet_place_cmp Node → Bool
+stand_on_places formulas = list_all (λ (entry : SheetPlace × Node). is_place entry.0.place) (entries formulas)
+
+-- whether a cell is there, and its content is a formula
+abbrev pub is_formula : Option Cell → Bool
+is_formula None = false
+is_formula (Some cell) = is_some (tree_of cell.content)
+
+-- a kept tree fits its place, the sheet is there, and there is a formula at the place
+unfoldable pub tree_stands : Option Sheet → Position → Node → Bool
+tree_stands None place tree = false
+tree_stands (Some sheet) place tree = tree_fits_at place tree && is_formula (get sheet.cells place)
+
+-- so does each kept tree of a cell
+unfoldable pub formulas_stand : FinMap sheet_place_cmp Node → Book → Bool
+formulas_stand formulas book = list_all (λ (entry : SheetPlace × Node). tree_stands (sheet_of book entry.0.sheet) entry.0.place entry.1) (entries formulas)
+
+-- each kept tree of a defined name fits A1, and its place is one of so many names
+unfoldable pub names_stand : FinMap nat_cmp Node → ℕ → Bool
+names_stand names count = list_all (λ (entry : ℕ × Node). nat_lt entry.0 count && tree_fits_at first_place entry.1) (entries names)
+
+-- whether what is kept may stand where it stood
+abbrev pub may_stand : KeptTrees → Book → Bool
+may_stand kept book = formulas_stand kept.formulas book && names_stand kept.names (length book.names)
+
+-- whether the sheet of an id can be renamed
+abbrev pub goes_forward : ℕ → KeptTrees → Book → Bool
+goes_forward id kept book = is_some (sheet_of book id) && stand_on_places kept.formulas
+
+-- whether it can get its old name back
+abbrev pub goes_back : ℕ → KeptTrees → Book → Bool
+goes_back id kept book = goes_forward id kept book && may_stand kept book
+
+-- the workbook with the sheet renamed, or the diff of that number is refused
+unfoldable pub rename_forward : ℕ → ℕ → List ℕ → List ℕ → KeptTrees → Book → Result Book EditError
+rename_forward at id old new kept book = if goes_forward id kept book then Ok (book_renamed id old new book) else Err (DiffRefused 0 at)
+
+-- the workbook with the old name back, or the diff of that number is refused
+unfoldable pub rename_back : ℕ → ℕ → List ℕ → List ℕ → KeptTrees → Book → Result Book EditError
+rename_back at id old new kept book = if goes_back id kept book then Ok (book_back id old new kept book) else Err (DiffRefused 0 at)
+
+-- ---- names that a sheet may get
+
+-- another sheet than the one of the id has a name that is equal by folding
+unfoldable pub is_taken : ℕ → List ℕ → List Sheet → Bool
+is_taken id name sheets = list_any (λ (sheet : Sheet). not (sheet.id == id) && same_folded name sheet.name) sheets
+
+-- the name is one of 1 to 31 characters, none of them forbidden and none at an end an apostrophe, and no other sheet has it
+unfoldable pub may_be_named : ℕ → List ℕ → List Sheet → Bool
+may_be_named id name sheets = is_sheet_name name && not (is_taken id name sheets)

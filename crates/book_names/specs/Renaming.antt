@@ -1,0 +1,124 @@
+-- Formulas of a workbook after a renaming, what the opposite renaming does not give back, and the formulas taken back with it; and a
+-- workbook whose sheet was renamed.
+use Rattle.std.specs.Prelude.{◌≡◌, ℕ, ◌==◌, true, List, map, Option, Some, if◌then◌else◌}
+use Rattle.std.specs.List.{enumerate_from, filter_map}
+use Rattle.std.specs.Option.{option_map}
+use Rattle.std.specs.Ordering.{nat_cmp}
+use Rattle.std.specs.FinMap.{FinMap, from_entries, get}
+use Rattle.base_values.specs.declared.Position.{Position}
+use Rattle.base_values.specs.Places.{position_cmp}
+use Rattle.base_maps.specs.Carried.{carried_map, gathered, if_there, settled}
+use Rattle.base_maps.specs.declared.SheetPlace.{SheetPlace}
+use Rattle.base_maps.specs.SheetPlaces.{sheet_place_cmp}
+use Rattle.base_maps.specs.Tagged.{all_under, place_on}
+use Rattle.formula_tree.specs.declared.Node.{Node}
+use Rattle.formula_tree.specs.Placed.{is_placed}
+use Rattle.formula_names.specs.declared.Reach.{Reach}
+use Rattle.formula_names.specs.declared.Reach.TheVariants.{Sheets}
+use Rattle.formula_names.specs.Renamed.{tree_renamed, tree_kept}
+use Rattle.cell_content.specs.declared.Content.{Content}
+use Rattle.cell_content.specs.Lens.{tree_of}
+use Rattle.defined_names.specs.declared.DefinedName.{DefinedName}
+use Rattle.line_map.specs.Contents.{with_new_tree, cell_restored}
+use Rattle.sheet_grid.specs.declared.Cell.{Cell}
+use Rattle.sheet_grid.specs.Sheet.{Sheet}
+use Rattle.sheet_grid.specs.Book.{Book}
+use Rattle.sheet_lines.specs.CanonicalNumbers.{AreCanonicalFormulas}
+use Rattle.book_names.specs.declared.kept_trees.KeptTrees.{KeptTrees}
+
+-- ---- the later workbook
+
+-- a content whose tree, if it has one, is renamed
+abbrev pub content_renamed : Reach → List ℕ → List ℕ → Content → Content
+content_renamed reach old new content = with_new_tree content (option_map (tree_renamed reach old new) (tree_of content))
+
+-- a cell: its content is, and its style stays
+abbrev pub cell_renamed : Reach → List ℕ → List ℕ → Cell → Cell
+cell_renamed reach old new cell = record cell { content = content_renamed reach old new cell.content }
+
+-- each cell of a sheet at its place
+abbrev pub cells_renamed : Reach → List ℕ → List ℕ → FinMap position_cmp Cell → FinMap position_cmp Cell
+cells_renamed reach old new cells = carried_map Some (λ _ _ cell. cell_renamed reach old new cell) cells
+
+-- a sheet: the one of the id has the new name, and in the trees of each the name of a sheet is renamed
+abbrev pub sheet_renamed : ℕ → List ℕ → List ℕ → Sheet → Sheet
+sheet_renamed id old new sheet = record sheet { name = if sheet.id == id then new else sheet.name; cells = cells_renamed Sheets old new sheet.cells }
+
+-- a defined name in whose tree the name of a sheet is renamed
+abbrev pub defined_renamed : List ℕ → List ℕ → DefinedName → DefinedName
+defined_renamed old new name = record name { formula = tree_renamed Sheets old new name.formula }
+
+-- a workbook whose sheet of an id is renamed: the trees of all sheets and of all defined names are, and all else stays
+abbrev pub book_renamed : ℕ → List ℕ → List ℕ → Book → Book
+book_renamed id old new book = record book { names = map (defined_renamed old new) book.names; worksheets = map (sheet_renamed id old new) book.worksheets }
+
+-- ---- what is kept
+
+-- of a cell: its tree, where the opposite renaming does not give it
+abbrev pub cell_kept : Reach → Reach → List ℕ → List ℕ → Cell → Option Node
+cell_kept there back old new cell = if_there (tree_of cell.content) (tree_kept there back old new)
+
+-- of the cells of a sheet, under their places
+abbrev pub cells_kept : Reach → Reach → List ℕ → List ℕ → FinMap position_cmp Cell → FinMap position_cmp Node
+cells_kept there back old new cells = gathered Some (λ _ _ cell. cell_kept there back old new cell) cells
+
+-- of each sheet, under its id, where the renamings reach what they do in the sheet of an id
+abbrev pub formulas_kept : (ℕ → Reach) → (ℕ → Reach) → List ℕ → List ℕ → List Sheet → FinMap sheet_place_cmp Node
+formulas_kept there back old new sheets = all_under (λ (sheet : Sheet). sheet.id) (λ (sheet : Sheet). cells_kept (there sheet.id) (back sheet.id) old new sheet.cells) sheets
+
+-- the renaming of a sheet reaches the names of sheets in every sheet
+abbrev pub everywhere : ℕ → Reach
+everywhere id = Sheets
+
+-- of a defined name at a place of the list
+abbrev pub defined_kept : List ℕ → List ℕ → ℕ × DefinedName → Option (ℕ × Node)
+defined_kept old new entry = option_map (λ tree. (entry.0, tree)) (tree_kept Sheets Sheets old new entry.1.formula)
+
+-- of the defined names, by their places in the list
+abbrev pub names_kept : List ℕ → List ℕ → List DefinedName → FinMap nat_cmp Node
+names_kept old new names = from_entries (filter_map (defined_kept old new) (enumerate_from 0 names))
+
+-- the trees that the opposite renaming of a sheet does not give back
+abbrev pub trees_kept : List ℕ → List ℕ → Book → KeptTrees
+trees_kept old new book = record { formulas = formulas_kept everywhere everywhere old new book.worksheets; names = names_kept old new book.names }
+
+-- every number of them is canonical
+pub record AreCanonicalTrees (kept : KeptTrees) : Type 0 where
+  pub formulas : AreCanonicalFormulas kept.formulas
+  pub names : AreCanonicalFormulas kept.names
+
+-- the kept trees of cells may stand where they stood
+abbrev pub ArePlacedTrees : KeptTrees → Type 0
+ArePlacedTrees kept = (key : SheetPlace) (tree : Node) → get kept.formulas key ≡ Some tree → is_placed key.place tree ≡ true
+
+-- ---- the workbook taken back
+
+-- a cell with the tree that is kept of it, if there is one, else renamed back
+abbrev pub cell_back : Reach → List ℕ → List ℕ → Option Node → Cell → Cell
+cell_back reach old new kept cell = settled (cell_renamed reach new old) cell_restored kept cell
+
+-- each cell of a sheet at its place
+abbrev pub cells_back : Reach → List ℕ → List ℕ → (Position → Option Node) → FinMap position_cmp Cell → FinMap position_cmp Cell
+cells_back reach old new kept cells = carried_map Some (λ _ place cell. cell_back reach old new (kept place) cell) cells
+
+-- what is kept of the sheet of an id, by place
+abbrev pub kept_under : KeptTrees → ℕ → Position → Option Node
+kept_under kept id place = get kept.formulas (place_on id place)
+
+-- a sheet: the one of the id has the old name, and the trees of each are the kept ones or renamed back
+abbrev pub sheet_back : ℕ → List ℕ → List ℕ → KeptTrees → Sheet → Sheet
+sheet_back id old new kept sheet = record sheet {
+  name = if sheet.id == id then old else sheet.name;
+  cells = cells_back Sheets old new (kept_under kept sheet.id) sheet.cells;
+}
+
+-- a defined name at a place of the list, whose tree is the kept one or renamed back
+abbrev pub defined_back : Reach → List ℕ → List ℕ → (ℕ → Option Node) → ℕ × DefinedName → DefinedName
+defined_back reach old new kept entry = record entry.1 { formula = settled (tree_renamed reach new old) (λ _ tree. tree) (kept entry.0) entry.1.formula }
+
+abbrev pub names_back : Reach → List ℕ → List ℕ → (ℕ → Option Node) → List DefinedName → List DefinedName
+names_back reach old new kept names = map (defined_back reach old new kept) (enumerate_from 0 names)
+
+-- a workbook whose sheet of an id gets its old name back: every tree is the kept one or renamed back, and all else stays
+abbrev pub book_back : ℕ → List ℕ → List ℕ → KeptTrees → Book → Book
+book_back id old new kept book = record book { names = names_back Sheets old new (get kept.names) book.names; worksheets = map (sheet_back id old new kept) book.worksheets }

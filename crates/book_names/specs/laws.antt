@@ -1,0 +1,11 @@
+pub mod KeptTreesEquals
+pub mod Entries
+pub mod Cells
+pub mod Names
+pub mod Numbers
+pub mod Sheets
+pub mod Regained
+pub mod SheetNames
+pub mod LaterRules
+pub mod Placed
+pub mod Stands

@@ -1,0 +1,226 @@
+-- The conditions of a diff of a renamed sheet hold of what is kept of a well-formed workbook: the sheet is renamed, and gets its old name back.
+use Rattle.std.proofs.Common.{◌≡◌, ℕ, ◌+◌, ◌<◌, Bool, true, false, cond, ◌&&◌, List, [], ◌∷◌, map, length, suc, Option, Some, None, Ok, Err, refl, ap, sym, ◌∙◌, arith}
+use Rattle.std.specs.Prelude.{◌==◌, is_some, nat_lt, if◌then◌else◌}
+use Rattle.std.specs.Cmp.{nat_cmp_total}
+use Rattle.std.specs.List.{cons_option, find, list_all}
+use Rattle.std.specs.Option.{option_map, option_map_or}
+use Rattle.std.specs.Ordering.{eq_by_cmp, nat_cmp}
+use Rattle.std.specs.FinMap.{FinMap, entries, get, get-from_entries}
+use Rattle.std.specs.FinMap.Entries.{find as find_entry}
+use Rattle.std.proofs.lemmas.Bool.{lt-ltb}
+use Rattle.std.proofs.lemmas.Map.Lookups.{exact_unsigned}
+use Rattle.base_values.specs.declared.EditError.TheVariants.{DiffRefused}
+use Rattle.base_values.specs.declared.Position.{Position}
+use Rattle.base_values.specs.Places.{position_cmp}
+use Rattle.base_values.specs.laws.Places.{position_total, exact_positions}
+use Rattle.base_maps.specs.Carried.{if_there}
+use Rattle.base_maps.specs.declared.SheetPlace.{SheetPlace}
+use Rattle.base_maps.specs.SheetPlaces.{sheet_place_cmp}
+use Rattle.base_maps.specs.laws.Found.{found_holds}
+use Rattle.base_maps.specs.laws.Keys.{one_key}
+use Rattle.base_maps.specs.laws.SheetPlaces.{sheet_place_total, exact_sheet_places}
+use Rattle.formula_tree.specs.declared.Node.{Node}
+use Rattle.formula_names.specs.declared.Reach.{Reach}
+use Rattle.formula_names.specs.declared.Reach.TheVariants.{Sheets}
+use Rattle.formula_names.specs.Renamed.{tree_kept}
+use Rattle.formula_names.specs.laws.RenamedLaws.{something_kept}
+use Rattle.cell_content.specs.Fitting.{tree_fits_at}
+use Rattle.cell_content.specs.Lens.{tree_of}
+use Rattle.defined_names.specs.declared.DefinedName.{DefinedName}
+use Rattle.sheet_grid.specs.declared.Cell.{Cell}
+use Rattle.sheet_grid.specs.Sheet.{Sheet}
+use Rattle.sheet_grid.specs.Book.{Book}
+use Rattle.sheet_grid.specs.laws.FittingCells.{entry_fits_at, CellsFit}
+use Rattle.sheet_rules.specs.Names.{first_place, have_name_trees}
+use Rattle.sheet_rules.specs.WellFormed.{is_place, stands_inside, IsWellFormed}
+use Rattle.sheet_rules.specs.laws.EntryLaws.{both}
+use Rattle.sheet_rules.specs.laws.WellFormedLaws.{well_formed_parts, cells_fit_from_trees, distinct_ids_from_well_formed}
+use Rattle.sheet_lines.specs.Sheets.{sheet_of}
+use Rattle.book_sheets.specs.laws.SheetRules.{KeepsSheetRules, all_keep}
+use Rattle.book_names.specs.declared.kept_trees.KeptTrees.{KeptTrees}
+use Rattle.book_names.specs.Renaming.{cell_renamed, cells_renamed, defined_renamed, sheet_renamed, book_renamed, cell_kept, formulas_kept, everywhere, names_kept, trees_kept, book_back}
+use Rattle.book_names.specs.RenameDiffs.{stand_on_places, is_formula, tree_stands, formulas_stand, names_stand, goes_forward, goes_back, rename_forward, rename_back}
+use Rattle.book_names.specs.laws.Cells.{kept_is, formula_stays}
+use Rattle.book_names.specs.laws.Entries.{all_entries, entry_holds, get_changed}
+use Rattle.book_names.specs.laws.Names.{listed}
+use Rattle.book_names.specs.laws.Regained.{formulas_at, book_regained}
+
+-- ---- defined names
+
+module _ (old new : List ℕ) where
+  -- a kept tree is one of a defined name: its place is one of the list, and it fits A1 where all do
+  pub record IsOfName (at : ℕ) (names : List DefinedName) (q : ℕ) (tree : Node) : Type 0 where
+    pub within : q < at + length names
+    pub fits : tree_fits_at first_place tree ≡ true
+
+  abbrev FitFirst : List DefinedName → Type 0
+  FitFirst names = list_all (λ (name : DefinedName). tree_fits_at first_place name.formula) names ≡ true
+
+  found_in : (at : ℕ) (names : List DefinedName) → FitFirst names → (q : ℕ) (tree : Node) → find_entry nat_cmp q (listed old new at names) ≡ Some tree → IsOfName at names q tree
+  found_in at [] fit q tree h = absurd (cc)
+  found_in at (name ∷ names) fit q tree h = go (found_in (at + 1) names parts.1 q tree) (tree_kept Sheets Sheets old new name.formula) refl h
+    where
+      parts : (tree_fits_at first_place name.formula ≡ true) × FitFirst names
+      parts = both (tree_fits_at first_place name.formula) (list_all (λ (other : DefinedName). tree_fits_at first_place other.formula) names) fit
+
+      more : IsOfName (at + 1) names q tree → IsOfName at (name ∷ names) q tree
+      more later = let lower = later.within in record { within = omega (arith, lower); fits = later.fits }
+
+      here : (find_entry nat_cmp q (listed old new (at + 1) names) ≡ Some tree → IsOfName (at + 1) names q tree) → (part : Node) → tree_kept Sheets Sheets old new name.formula ≡ Some part
+          → (b : Bool) → eq_by_cmp nat_cmp q at ≡ b → cond b (Some part) (find_entry nat_cmp q (listed old new (at + 1) names)) ≡ Some tree → IsOfName at (name ∷ names) q tree
+      here rest part is true same it =
+          let place : q ≡ at = one_key nat_cmp nat_cmp_total exact_unsigned q at same in
+          let own : part ≡ tree = cc in
+          record { within = omega (arith, place); fits = ap (tree_fits_at first_place) (sym own ∙ (something_kept Sheets Sheets old new name.formula part is).itself) ∙ parts.0 }
+      here rest part is false other it = more (rest it)
+
+      go : (find_entry nat_cmp q (listed old new (at + 1) names) ≡ Some tree → IsOfName (at + 1) names q tree) → (o : Option Node) → tree_kept Sheets Sheets old new name.formula ≡ o
+          → find_entry nat_cmp q (cons_option (option_map (λ t. (at, t)) o) (listed old new (at + 1) names)) ≡ Some tree → IsOfName at (name ∷ names) q tree
+      go rest None is it = more (rest it)
+      go rest (Some part) is it = here rest part is (eq_by_cmp nat_cmp q at) refl it
+
+  -- a kept tree of a defined name fits A1, and its place is one of the list
+  pub kept_of_name : (names : List DefinedName) → FitFirst names → (q : ℕ) (tree : Node) → get (names_kept old new names) q ≡ Some tree → IsOfName 0 names q tree
+  kept_of_name names fit q tree h = found_in 0 names fit q tree (sym (get-from_entries nat_cmp_total (listed old new 0 names) q) ∙ h)
+
+  same_count : (names : List DefinedName) → length (map (defined_renamed old new) names) ≡ length names
+  same_count [] = refl
+  same_count (name ∷ names) = ap suc (same_count names)
+
+  -- the kept trees of defined names stand in as many names
+  pub kept_names_stand : (names : List DefinedName) → have_name_trees names ≡ true → names_stand (names_kept old new names) (length (map (defined_renamed old new) names)) ≡ true
+  unfolding have_name_trees names_stand
+  kept_names_stand names fit =
+      all_entries nat_cmp nat_cmp_total exact_unsigned (λ (entry : ℕ × Node). nat_lt entry.0 (length (map (defined_renamed old new) names)) && tree_fits_at first_place entry.1) (names_kept old new names)
+      (λ q tree h.
+      let of = kept_of_name names fit q tree h in
+      let lower = of.within in
+      let count = same_count names in
+      λ i. lt-ltb q (length (map (defined_renamed old new) names)) (omega (arith, count, lower)) i && of.fits i)
+
+-- ---- cells
+
+-- the sheet of an id in the later workbook
+pub later_found : (id : ℕ) (old new : List ℕ) (n : ℕ) (sheets : List Sheet) (s : Sheet) → find (λ (t : Sheet). t.id == n) sheets ≡ Some s
+    → find (λ (t : Sheet). t.id == n) (map (sheet_renamed id old new) sheets) ≡ Some (sheet_renamed id old new s)
+later_found id old new n [] s h = absurd (cc)
+later_found id old new n (t ∷ sheets) s h = go (later_found id old new n sheets s) (t.id == n) refl h
+  where
+    rest : List Sheet
+    rest = map (sheet_renamed id old new) sheets
+
+    go : (find (λ (u : Sheet). u.id == n) sheets ≡ Some s → find (λ (u : Sheet). u.id == n) rest ≡ Some (sheet_renamed id old new s)) → (b : Bool) → (t.id == n) ≡ b
+        → cond b (Some t) (find (λ (u : Sheet). u.id == n) sheets) ≡ Some s → cond (t.id == n) (Some (sheet_renamed id old new t)) (find (λ (u : Sheet). u.id == n) rest) ≡ Some (sheet_renamed id old new s)
+    go more true is it = let same : t ≡ s = cc in ap (λ b. cond b (Some (sheet_renamed id old new t)) (find (λ (u : Sheet). u.id == n) rest)) is ∙ ap (λ u. Some (sheet_renamed id old new u)) same
+    go more false is it = ap (λ b. cond b (Some (sheet_renamed id old new t)) (find (λ (u : Sheet). u.id == n) rest)) is ∙ more it
+
+-- a sheet of a later workbook under an id: its cells are those of an earlier one, renamed
+pub record HasLater (old new : List ℕ) (later : Book) (n : ℕ) (s : Sheet) : Type 0 where
+  pub sheet : Sheet
+  pub there : sheet_of later n ≡ Some sheet
+  pub reach : Reach
+  pub cells : sheet.cells ≡ cells_renamed reach old new s.cells
+
+module _ (there back : ℕ → Reach) (old new : List ℕ) (book : Book) (rules : IsWellFormed book) where
+  abbrev formulas : FinMap sheet_place_cmp Node
+  formulas = formulas_kept there back old new book.worksheets
+
+  rules_of : (n : ℕ) (s : Sheet) → sheet_of book n ≡ Some s → KeepsSheetRules s
+  rules_of n s found = found_holds (λ (t : Sheet). t.id == n) KeepsSheetRules book.worksheets (all_keep book rules) s found
+
+  -- a kept tree is that of a cell of a sheet
+  pub record IsOfCell (key : SheetPlace) (tree : Node) : Type 0 where
+    pub of : Sheet
+    pub cell : Cell
+    pub found : sheet_of book key.sheet ≡ Some of
+    pub stands : get of.cells key.place ≡ Some cell
+    pub is_it : tree_of cell.content ≡ Some tree
+
+  of_cell : (key : SheetPlace) (tree : Node) (o : Option Sheet) → sheet_of book key.sheet ≡ o
+      → if_there o (λ s. if_there (get s.cells key.place) (cell_kept (there s.id) (back s.id) old new)) ≡ Some tree → IsOfCell key tree
+  of_cell key tree None none h = absurd (cc)
+  of_cell key tree (Some s) found h = go (get s.cells key.place) refl h
+    where
+      go : (o : Option Cell) → get s.cells key.place ≡ o → if_there o (cell_kept (there s.id) (back s.id) old new) ≡ Some tree → IsOfCell key tree
+      go None none h = absurd (cc)
+      go (Some cell) stands h = record { of = s; cell = cell; found = found; stands = stands; is_it = kept_is (there s.id) (back s.id) old new (tree_of cell.content) tree h }
+
+  kept_tree : (key : SheetPlace) (tree : Node) → get formulas key ≡ Some tree → IsOfCell key tree
+  kept_tree key tree h =
+      of_cell key tree (sheet_of book key.sheet) refl (sym (formulas_at there back old new book (distinct_ids_from_well_formed book rules) key.sheet key.place) ∙ h)
+
+  -- it fits its place
+  pub kept_tree_fits : (key : SheetPlace) (tree : Node) → get formulas key ≡ Some tree → tree_fits_at key.place tree ≡ true
+  kept_tree_fits key tree h =
+      let it = kept_tree key tree h in
+      let fits : CellsFit it.of = cells_fit_from_trees it.of (rules_of key.sheet it.of it.found).trees in
+      sym (ap (λ o. option_map_or (tree_fits_at key.place) o true) it.is_it) ∙ sym (ap (entry_fits_at key.place) it.stands) ∙ fits key.place
+
+  -- its place is one of a sheet
+  cells_inside : (s : Sheet) → stands_inside s ≡ true → list_all (λ (entry : Position × Cell). is_place entry.0) (entries s.cells) ≡ true
+  unfolding stands_inside
+  cells_inside s inside = (both _ _ (both _ _ (both _ _ inside).0).0).0
+
+  pub kept_on_places : stand_on_places formulas ≡ true
+  unfolding stand_on_places
+  kept_on_places = all_entries sheet_place_cmp sheet_place_total exact_sheet_places (λ (entry : SheetPlace × Node). is_place entry.0.place) formulas (λ key tree h.
+      let it = kept_tree key tree h in
+      entry_holds position_cmp position_total exact_positions (λ (entry : Position × Cell). is_place entry.0) it.of.cells (cells_inside it.of (rules_of key.sheet it.of it.found).inside) key.place it.cell it.stands)
+
+  -- and at its place there is a formula later, where each sheet has its cells renamed
+  module _ (later : Book) (laters : (n : ℕ) (s : Sheet) → sheet_of book n ≡ Some s → HasLater old new later n s) where
+    formula_there : (key : SheetPlace) (tree : Node) (it : IsOfCell key tree) → is_formula (get (laters key.sheet it.of it.found).sheet.cells key.place) ≡ true
+    formula_there key tree it =
+        let last = laters key.sheet it.of it.found in
+        ap (λ cells. is_formula (get cells key.place)) last.cells
+        ∙ ap is_formula (get_changed position_cmp (λ _ cell. cell_renamed last.reach old new cell) position_total exact_positions it.of.cells key.place)
+        ∙ formula_stays last.reach old new (get it.of.cells key.place) ∙ ap is_formula it.stands ∙ ap is_some it.is_it
+
+    stands_later : (key : SheetPlace) (tree : Node) → IsOfCell key tree → tree_fits_at key.place tree ≡ true → tree_stands (sheet_of later key.sheet) key.place tree ≡ true
+    unfolding tree_stands
+    stands_later key tree it fits =
+        ap (λ o. tree_stands o key.place tree) (laters key.sheet it.of it.found).there ∙ (λ i. fits i && formula_there key tree it i)
+
+    pub kept_stand_later : formulas_stand formulas later ≡ true
+    unfolding formulas_stand
+    kept_stand_later = all_entries sheet_place_cmp sheet_place_total exact_sheet_places (λ (entry : SheetPlace × Node). tree_stands (sheet_of later entry.0.sheet) entry.0.place entry.1) formulas
+        (λ key tree h. stands_later key tree (kept_tree key tree h) (kept_tree_fits key tree h))
+
+-- ---- a renamed sheet
+
+module _ (id : ℕ) (new : List ℕ) (book : Book) (rules : IsWellFormed book) (sheet : Sheet) (found : sheet_of book id ≡ Some sheet) where
+  abbrev old : List ℕ
+  old = sheet.name
+
+  abbrev kept : KeptTrees
+  kept = trees_kept old new book
+
+  abbrev later : Book
+  later = book_renamed id old new book
+
+  on_places : stand_on_places kept.formulas ≡ true
+  on_places = kept_on_places everywhere everywhere old new book rules
+
+  formulas_later : formulas_stand kept.formulas later ≡ true
+  formulas_later = kept_stand_later everywhere everywhere old new book rules later (λ n s there. record {
+    sheet = sheet_renamed id old new s;
+    there = later_found id old new n book.worksheets s there;
+    reach = Sheets;
+    cells = refl;
+  })
+
+  -- the sheet is renamed
+  pub rename_made : (at : ℕ) → rename_forward at id old new kept book ≡ Ok later
+  unfolding rename_forward
+  rename_made at =
+      let goes : goes_forward id kept book ≡ true = λ i. is_some (found i) && on_places i in
+      ap (λ b. if b then Ok later else Err (DiffRefused 0 at)) goes
+
+  -- and gets its old name back
+  pub rename_taken_back : (at : ℕ) → rename_back at id old new kept later ≡ Ok book
+  unfolding rename_back
+  rename_taken_back at =
+      let names = kept_names_stand old new book.names (well_formed_parts book rules).name_trees in
+      let there = later_found id old new id book.worksheets sheet found in
+      let goes : goes_back id kept later ≡ true = λ i. (is_some (there i) && on_places i) && (formulas_later i && names i) in
+      ap (λ b. if b then Ok (book_back id old new kept later) else Err (DiffRefused 0 at)) goes ∙ ap Ok (book_regained id new book (distinct_ids_from_well_formed book rules) sheet found)

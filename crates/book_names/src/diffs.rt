@@ -1,0 +1,139 @@
+//! Diffs of renamed sheets: whether they can be made and taken back, and what they do.
+
+ghost use Rattle.std.specs.Prelude.{◌≡◌, ◌<◌, ◌^◌, IsTrue, OnOk};
+ghost use Rattle.std.specs.Option.{option_copied};
+ghost use Rattle.base_values.specs.Answers.{Edits};
+ghost use Rattle.sheet_lines.specs.Sheets.{IsPlacedBook};
+ghost use Rattle.book_names.specs.RenameDiffs.{stand_on_places, tree_stands, formulas_stand, names_stand, may_stand, goes_forward, goes_back};
+ghost use Rattle.book_names.specs.RenameDiffs.{rename_forward, rename_back};
+ghost use Rattle.book_names.specs.Renaming.{AreCanonicalTrees, ArePlacedTrees};
+
+use crate::kept_trees::KeptTrees;
+use crate::sheets::{book_back, book_renamed};
+use crate::standing::{is_formula, is_place};
+use base_maps::{IndexMap, SheetPlaceMap};
+use base_shared::Shared;
+use base_values::{EditError, Position};
+use cell_content::tree_fits_at;
+use formula_tree::Node;
+use sheet_grid::{Workbook, Worksheet};
+use sheet_lines::{has_sheet, sheet_of};
+use std::alloc::Global;
+
+/// Whether each kept tree of a cell stands at a place of a sheet.
+#[tactic(auto, unfolding(crate::specs::RenameDiffs::stand_on_places))]
+pub fn stand_on_places(formulas: &SheetPlaceMap<Shared<Node>>) -> bool
+    ensures { result ≡ stand_on_places formulas.now }
+{
+    formulas.iter().all(|(key, _tree)| is_place(key.place))
+}
+
+/// Whether a kept tree fits its place in the sheet, and a formula is there for it.
+#[tactic(auto, unfolding(crate::specs::RenameDiffs::tree_stands))]
+fn tree_stands(sheet: Option<&Worksheet>, place: Position, tree: &Node) -> bool
+    ensures { result ≡ tree_stands (option_copied sheet.entry) place tree.now }
+{
+    match sheet {
+        Some(sheet) => tree_fits_at(place, tree) && is_formula(sheet.cell_map().get(place)),
+        None => false,
+    }
+}
+
+/// Whether each kept tree of a cell does.
+#[tactic(auto, unfolding(crate::specs::RenameDiffs::formulas_stand))]
+fn formulas_stand(formulas: &SheetPlaceMap<Shared<Node>>, workbook: &Workbook) -> bool
+    ensures { result ≡ formulas_stand formulas.now workbook.now }
+{
+    formulas.iter().all(|(key, tree)| tree_stands(
+        sheet_of(workbook, key.sheet),
+        key.place,
+        tree.get(),
+    ))
+}
+
+/// Whether each kept tree of a defined name fits A1, and its place is one of so many names.
+#[tactic(auto, unfolding(crate::specs::RenameDiffs::names_stand))]
+fn names_stand(names: &IndexMap<Shared<Node>>, count: usize) -> bool
+    requires { count < 2 ^ 63 }
+    ensures { result ≡ names_stand names.now count }
+{
+    let (all, first) = (count as u64, Position { row: 1, column: 1 });
+    names.iter().all(|(place, tree)| *place < all && tree_fits_at(first, tree.get()))
+}
+
+fn goes_forward(workbook: &Workbook, id: u32, kept: &KeptTrees) -> bool
+    ensures { result ≡ goes_forward id kept.now workbook.now }
+{
+    has_sheet(workbook, id) && stand_on_places(&kept.formulas)
+}
+
+/// Whether what is kept may stand where it stood: each tree of a cell fits its place, its sheet is there
+/// and has a formula at the place; and each tree of a defined name fits A1 and has a place in the list.
+pub fn may_stand(workbook: &Workbook, kept: &KeptTrees) -> bool
+    ensures value { result ≡ may_stand kept.now workbook.now }
+    ensures placed { IsTrue result → ArePlacedTrees kept.now }
+{
+    formulas_stand(&kept.formulas, workbook)
+        && names_stand(&kept.names, workbook.defined_names().len())
+}
+
+fn goes_back(workbook: &Workbook, id: u32, kept: &KeptTrees) -> bool
+    ensures value { result ≡ goes_back id kept.now workbook.now }
+    ensures placed { IsTrue result → ArePlacedTrees kept.now }
+{
+    goes_forward(workbook, id, kept) && may_stand(workbook, kept)
+}
+
+/// The sheet of an id gets the new name, and every tree of a sheet or of a defined name that names the
+/// old one names the new one.
+///
+/// `DiffRefused` with the number `at` of its diff where no sheet has the id, or a kept tree stands at no
+/// place of a sheet.
+#[tactic(auto, unfolding(crate::specs::RenameDiffs::rename_forward))]
+pub fn rename_forward(
+    alloc: Global,
+    workbook: &mut Workbook,
+    id: u32,
+    old: &str,
+    new: &str,
+    kept: &KeptTrees,
+    at: u64,
+) -> Result<(), EditError>
+    requires { IsPlacedBook workbook.old }
+    ensures edits { Edits result workbook.old workbook.new (rename_forward at id old.now new.now kept.now workbook.old) }
+    ensures placed { OnOk result (IsPlacedBook workbook.new) }
+{
+    if !goes_forward(workbook, id, kept) {
+        return Err(EditError::DiffRefused { entry: 0, diff: at });
+    }
+    *workbook = book_renamed(alloc, workbook, id, old, new)?;
+    Ok(())
+}
+
+/// The sheet of an id gets its old name back, and every tree is the kept one, or renamed back without
+/// one.
+///
+/// `DiffRefused` with the number `at` of its diff where no sheet has the id; where a kept tree stands at
+/// no place of a sheet, or does not fit there; where its sheet is not there or has no formula at the
+/// place; or where the kept tree of a defined name has no place in the list, or does not fit A1.
+#[tactic(auto, unfolding(crate::specs::RenameDiffs::rename_back))]
+pub fn rename_back(
+    alloc: Global,
+    workbook: &mut Workbook,
+    id: u32,
+    old: &str,
+    new: &str,
+    kept: &KeptTrees,
+    at: u64,
+) -> Result<(), EditError>
+    requires placed { IsPlacedBook workbook.old }
+    requires canonical { AreCanonicalTrees kept.now }
+    ensures edits { Edits result workbook.old workbook.new (rename_back at id old.now new.now kept.now workbook.old) }
+    ensures placed { OnOk result (IsPlacedBook workbook.new) }
+{
+    if !goes_back(workbook, id, kept) {
+        return Err(EditError::DiffRefused { entry: 0, diff: at });
+    }
+    *workbook = book_back(alloc, workbook, id, old, new, kept)?;
+    Ok(())
+}

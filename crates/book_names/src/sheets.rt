@@ -1,0 +1,233 @@
+//! The sheets of a workbook, each with its trees renamed or taken back; the one of an id gets another
+//! name.
+
+ghost use Rattle.std.specs.Prelude.{◌≡◌, ◌==◌, map, IfOk, IsOkUnless, if◌then◌else◌};
+ghost use Rattle.base_values.specs.declared.EditError.TheVariants.{NoMemory};
+ghost use Rattle.sheet_grid.specs.CanonicalCell.{CanonicalCells};
+ghost use Rattle.sheet_lines.specs.Sheets.{IsPlacedBook};
+ghost use Rattle.book_names.specs.Renaming.{AreCanonicalTrees, ArePlacedTrees, cells_renamed, cells_back, kept_under};
+ghost use Rattle.book_names.specs.Renaming.{sheet_renamed, sheet_back, book_renamed, book_back};
+
+use crate::cells::{Renamed, Returned, changed_cells};
+use crate::kept_trees::KeptTrees;
+use crate::names::{list_back, renamed_list};
+use base_shared::Shared;
+use base_values::{EditError, Items, PlaceMap, Text, copy_of};
+use defined_names::NameList;
+use formula_names::Reach;
+use sheet_grid::{Cell, Workbook, Worksheet};
+use std::alloc::Global;
+
+/// A copy of a sheet that holds these cells in place of its own.
+fn with_cells(sheet: &Worksheet, cells: PlaceMap<Shared<Cell>>) -> Result<Worksheet, EditError>
+    requires { CanonicalCells cells }
+    ensures sheet { IfOk result (λ made. made ≡ record sheet.now { cells = cells }) }
+    ensures only { IsOkUnless result NoMemory }
+{
+    sheet.with_entries(
+        cells,
+        copy_of(sheet.link_map())?,
+        copy_of(sheet.row_map())?,
+        copy_of(sheet.column_map())?,
+        copy_of(sheet.merge_list())?,
+    )
+}
+
+/// A copy of a sheet whose formulas are renamed, as far as the renaming reaches. `NoMemory` alone is an
+/// error.
+pub fn with_formulas_renamed(
+    alloc: Global,
+    sheet: &Worksheet,
+    reach: Reach,
+    old: &str,
+    new: &Shared<Text>,
+) -> Result<Worksheet, EditError>
+    ensures sheet { IfOk result (λ made. made ≡ record sheet.now { cells = cells_renamed reach old.now new.now sheet.now.cells }) }
+    ensures only { IsOkUnless result NoMemory }
+{
+    let change = Renamed {
+        reach,
+        before: old,
+        after: new,
+    };
+    let cells = changed_cells(alloc, &change, sheet.cell_map())?;
+    with_cells(sheet, cells)
+}
+
+/// A copy of a sheet whose formulas are the kept ones, or renamed back without one, as far as the
+/// renaming reaches. `NoMemory` alone is an error.
+pub fn with_formulas_back(
+    alloc: Global,
+    sheet: &Worksheet,
+    reach: Reach,
+    old: &Shared<Text>,
+    new: &str,
+    kept: &KeptTrees,
+) -> Result<Worksheet, EditError>
+    requires { AreCanonicalTrees kept.now }
+    ensures sheet { IfOk result (λ made. made ≡ record sheet.now { cells = cells_back reach old.now new.now (kept_under kept.now sheet.now.id) sheet.now.cells }) }
+    ensures only { IsOkUnless result NoMemory }
+{
+    let change = Returned {
+        reach,
+        before: old,
+        after: new,
+        kept,
+        id: sheet.get_sheet_id(),
+    };
+    let cells = changed_cells(alloc, &change, sheet.cell_map())?;
+    with_cells(sheet, cells)
+}
+
+/// A sheet that has that name where its id is that one.
+fn with_name_at(mut sheet: Worksheet, id: u32, name: &str) -> Result<Worksheet, EditError>
+    ensures sheet { IfOk result (λ made. made ≡ record sheet { name = if sheet.id == id then name.now else sheet.name }) }
+    ensures only { IsOkUnless result NoMemory }
+{
+    if sheet.get_sheet_id() == id {
+        sheet.set_name(name)?;
+    }
+    Ok(sheet)
+}
+
+fn renamed_sheet(
+    alloc: Global,
+    sheet: &Worksheet,
+    id: u32,
+    old: &str,
+    new: &Shared<Text>,
+) -> Result<Worksheet, EditError>
+    ensures sheet { IfOk result (λ made. made ≡ sheet_renamed id old.now new.now sheet.now) }
+    ensures only { IsOkUnless result NoMemory }
+{
+    let made = with_formulas_renamed(alloc, sheet, Reach::Sheets, old, new)?;
+    with_name_at(made, id, new.get().as_str())
+}
+
+fn sheet_back(
+    alloc: Global,
+    sheet: &Worksheet,
+    id: u32,
+    old: &Shared<Text>,
+    new: &str,
+    kept: &KeptTrees,
+) -> Result<Worksheet, EditError>
+    requires { AreCanonicalTrees kept.now }
+    ensures sheet { IfOk result (λ made. made ≡ sheet_back id old.now new.now kept.now sheet.now) }
+    ensures only { IsOkUnless result NoMemory }
+{
+    let made = with_formulas_back(alloc, sheet, Reach::Sheets, old, new, kept)?;
+    with_name_at(made, id, old.get().as_str())
+}
+
+fn sheets_renamed(
+    alloc: Global,
+    sheets: &[Worksheet],
+    id: u32,
+    old: &str,
+    new: &Shared<Text>,
+) -> Result<Items<Worksheet>, EditError>
+    ensures sheets { IfOk result (λ made. made ≡ map (sheet_renamed id old.now new.now) sheets.now) }
+    ensures only { IsOkUnless result NoMemory }
+{
+    let mut made = Items::empty(alloc);
+    for sheet in sheets {
+        let renamed = renamed_sheet(alloc, sheet, id, old, new)?;
+        made.push(renamed)?;
+    }
+    Ok(made)
+}
+
+fn sheets_back(
+    alloc: Global,
+    sheets: &[Worksheet],
+    id: u32,
+    old: &Shared<Text>,
+    new: &str,
+    kept: &KeptTrees,
+) -> Result<Items<Worksheet>, EditError>
+    requires { AreCanonicalTrees kept.now }
+    ensures sheets { IfOk result (λ made. made ≡ map (sheet_back id old.now new.now kept.now) sheets.now) }
+    ensures only { IsOkUnless result NoMemory }
+{
+    let mut made = Items::empty(alloc);
+    for sheet in sheets {
+        let back = sheet_back(alloc, sheet, id, old, new, kept)?;
+        made.push(back)?;
+    }
+    Ok(made)
+}
+
+/// The text of a name, to be held once for every tree that names it. `NoMemory` alone is an error.
+pub fn shared_name(alloc: Global, name: &str) -> Result<Shared<Text>, EditError>
+    ensures name { IfOk result (λ shared. shared ≡ name.now) }
+    ensures only { IsOkUnless result NoMemory }
+{
+    let text = Text::new(String::from_str(alloc, name)?);
+    Ok(Shared::new(alloc, text)?)
+}
+
+/// A copy of a workbook that has these sheets and defined names in place of its own. `NoMemory` alone is
+/// an error.
+pub fn with_lists(
+    workbook: &Workbook,
+    sheets: Items<Worksheet>,
+    names: NameList,
+) -> Result<Workbook, EditError>
+    ensures book { IfOk result (λ made. made ≡ record workbook.now { names = names; worksheets = sheets }) }
+    ensures only { IsOkUnless result NoMemory }
+{
+    let mut made = workbook.with_worksheets(sheets)?;
+    made.set_name_list(names);
+    Ok(made)
+}
+
+/// The workbook whose sheet of an id is renamed: each tree of its sheets and of its defined names that
+/// names `old` names `new`. `NoMemory` alone is an error.
+pub(crate) fn book_renamed(
+    alloc: Global,
+    workbook: &Workbook,
+    id: u32,
+    old: &str,
+    new: &str,
+) -> Result<Workbook, EditError>
+    requires { IsPlacedBook workbook.now }
+    ensures book { IfOk result (λ made. made ≡ book_renamed id old.now new.now workbook.now) }
+    ensures placed { IfOk result IsPlacedBook }
+    ensures only { IsOkUnless result NoMemory }
+{
+    let new = shared_name(alloc, new)?;
+    let sheets = sheets_renamed(alloc, workbook.worksheets(), id, old, &new)?;
+    let names = renamed_list(alloc, workbook.name_list(), old, &new)?;
+    with_lists(workbook, sheets, names)
+}
+
+/// The workbook whose sheet of an id gets its old name back: each tree is the kept one, or renamed back
+/// without one. `NoMemory` alone is an error.
+pub(crate) fn book_back(
+    alloc: Global,
+    workbook: &Workbook,
+    id: u32,
+    old: &str,
+    new: &str,
+    kept: &KeptTrees,
+) -> Result<Workbook, EditError>
+    requires placed { IsPlacedBook workbook.now }
+    requires numbers { AreCanonicalTrees kept.now }
+    requires trees { ArePlacedTrees kept.now }
+    ensures book { IfOk result (λ made. made ≡ book_back id old.now new.now kept.now workbook.now) }
+    ensures placed { IfOk result IsPlacedBook }
+    ensures only { IsOkUnless result NoMemory }
+{
+    let old = shared_name(alloc, old)?;
+    let sheets = sheets_back(alloc, workbook.worksheets(), id, &old, new, kept)?;
+    let names = list_back(
+        alloc,
+        workbook.name_list(),
+        &kept.names,
+        Reach::Sheets,
+        &old,
+        new,
+    )?;
+    with_lists(workbook, sheets, names)
+}

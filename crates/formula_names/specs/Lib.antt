@@ -1,0 +1,4 @@
+pub mod Named
+pub mod NameTests
+pub mod Renamed
+pub mod laws

@@ -1,0 +1,6 @@
+mod names;
+mod naming;
+mod navigation;
+mod progress;
+mod rules;
+mod views;

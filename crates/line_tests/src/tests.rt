@@ -1,0 +1,3 @@
+mod actions;
+mod edits;
+mod history;

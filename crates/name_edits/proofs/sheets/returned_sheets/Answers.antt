@@ -1,0 +1,18 @@
+use Rattle.std.proofs.Common.{[], ◌∷◌, ◌++◌, ◌<◌, length, map, take, ap, sym, ◌∙◌, arith}
+use Rattle.std.proofs.lemmas.List.{map_more}
+use Rattle.sheet_grid.specs.Sheet.{Sheet}
+use Rattle.name_edits.specs.NameChanges.{sheet_returned}
+use Rattle.name_edits.proofs.sheets.returned_sheets.Goals as goal
+
+pub loop-sheet-preserved : goal.loop-sheet-preserved
+loop-sheet-preserved c =
+    let found = c.args.found.now in
+    let made = sheet_returned found.place c.args.old.now found.text.now found.names.now c.args.kept.now in
+    let sheets = c.args.sheets.now in
+    let i = c.loop-sheet.sheet-index in
+    let sheet = c.sheet-item.result in
+    let within : i < length sheets = omega arith in
+    c.in_ok-push.ensures.ok
+    ∙ (λ j. c.loop-sheet.invariant j ++ c.in_ok-returned.ensures.sheet j ∷ [])
+    ∙ ap (λ (other : Sheet). map made (take i sheets) ++ made other ∷ []) c.sheet-item.is
+    ∙ sym (map_more made sheets i sheet within)

@@ -1,0 +1,5 @@
+pub mod ChangeEquals
+pub mod Lists
+pub mod Replaced
+pub mod BothWays
+pub mod LaterRules

@@ -1,0 +1,46 @@
+-- The three laws of the parts of a renamed sheet, and of a changed defined name.
+use Rattle.std.proofs.Common.{ℕ, ◌^◌, ◌<◌, ◌≤◌, List, length, refl, arith}
+use Rattle.std.specs.Prelude.{IfSome}
+use Rattle.std.proofs.lemmas.List.{length-append}
+use Rattle.std.proofs.lemmas.Map.Lookups.{exact_unsigned}
+use Rattle.std.specs.Cmp.{nat_cmp_total}
+use Rattle.std.specs.Int.{w64, to_be_bytes}
+use Rattle.std.specs.Ordering.{nat_cmp}
+use Rattle.book_names.specs.declared.KeptTrees.{KeptTrees}
+use Rattle.base_wire.specs.Spelling.{Both, spell_both, spell_option, spell_text, FitsText}
+use Rattle.base_wire.specs.laws.Format.{Format, option_format}
+use Rattle.base_wire.specs.laws.Formats.{after_format, both_format, made_format}
+use Rattle.base_wire.specs.laws.Parts.{long_format, short_format, text_format}
+use Rattle.formula_wire.specs.NodeBytes.{spell_node}
+use Rattle.formula_wire.specs.Carried.{FitsNode}
+use Rattle.formula_wire.specs.laws.NodeLaws.{node_format}
+use Rattle.map_wire.specs.MapBytes.{spell_map, no_items, FitsMap}
+use Rattle.map_wire.specs.laws.MapLaws.{map_format}
+use Rattle.grid_wire.specs.NameBytes.{spell_name, FitsName}
+use Rattle.grid_wire.specs.laws.NameLaws.{name_format}
+use Rattle.lines_wire.specs.PartBytes.{spell_sheet_place}
+use Rattle.lines_wire.specs.laws.KeptLaws.{formulas_format}
+use Rattle.sheet_wire.specs.TreesBytes.{spell_trees, name_trees_at, trees_made, trees_at, FitsTrees, rename_parts_at, name_there_at, name_parts_at}
+use Rattle.sheet_wire.specs.laws.SheetsFormats.{IsShort, spell_short}
+
+name_trees_format : Format (FitsMap {order = nat_cmp} (λ place. place < 2 ^ 64) FitsNode) (spell_map (to_be_bytes w64) spell_node) name_trees_at
+unfolding name_trees_at
+name_trees_format = map_format nat_cmp_total exact_unsigned long_format node_format (λ place. omega arith) (λ m. m) (λ m. m) (λ m. refl) (λ m. refl)
+
+pub trees_format : Format FitsTrees spell_trees trees_at
+unfolding spell_trees trees_at
+trees_format =
+    made_format (both_format formulas_format (after_format name_trees_format no_items refl)) trees_made (λ kept. (kept.formulas, kept.names))
+    (λ kept fits. (refl, (fits.formulas, fits.names))) (λ x fits. (refl, record { formulas = fits.0; names = fits.1 }))
+
+pub trees_some : (kept : KeptTrees) → 1 ≤ length (spell_trees kept)
+unfolding spell_trees
+trees_some kept = omega arith
+
+pub rename_parts_format : Format (Both IsShort (Both FitsText (Both FitsText FitsTrees))) (spell_both spell_short (spell_both spell_text (spell_both spell_text spell_trees))) rename_parts_at
+rename_parts_format = both_format short_format (both_format text_format (both_format text_format trees_format))
+
+pub name_parts_format : Format (Both (λ index. index < 2 ^ 64) (Both (λ old. IfSome old FitsName) (Both (λ new. IfSome new FitsName) FitsTrees)))
+    (spell_both (to_be_bytes w64) (spell_both (spell_option spell_name) (spell_both (spell_option spell_name) spell_trees))) name_parts_at
+unfolding name_there_at
+name_parts_format = both_format long_format (both_format (option_format name_format) (both_format (option_format name_format) trees_format))

@@ -1,0 +1,75 @@
+//! The trees that a renaming keeps as a part of formats.
+
+ghost use Rattle.std.specs.Prelude.{◌≡◌, ◌++◌, OnOk};
+ghost use Rattle.base_values.specs.Answers.{Answers, map_ok};
+ghost use Rattle.sheet_wire.specs.TreesBytes.{spell_trees, trees_at, AreKnownTrees, FitsTrees};
+
+use base_maps::IndexMap;
+use base_shared::Shared;
+use base_values::EditError;
+use base_wire::Part;
+use book_names::KeptTrees;
+use formula_tree::Node;
+use formula_wire::NodePart;
+use lines_wire::FormulasPart;
+use map_wire::{MapPart, after_no_items, read};
+use std::alloc::{AllocError, Global};
+
+type NameTreesPart = MapPart<IndexMap<Shared<Node>>, u64, Shared<NodePart>>;
+
+#[tactic(auto, unfolding(crate::specs::TreesBytes::trees_at, crate::specs::TreesBytes::name_trees_at, lines_wire::specs::KeptBytes::formulas_at))]
+fn trees_at(alloc: Global, bytes: &[u8]) -> Result<(KeptTrees, &[u8]), EditError>
+    ensures { Answers (map_ok (λ x. (x.0, x.1.now)) result) (trees_at bytes.now) }
+{
+    let (formulas, rest) = read::<FormulasPart>(alloc, &(), bytes)?;
+    let rest = after_no_items(rest)?;
+    let (names, rest) = read::<NameTreesPart>(alloc, &(), rest)?;
+    Ok((KeptTrees { formulas, names }, rest))
+}
+
+#[tactic(auto, unfolding(crate::specs::TreesBytes::spell_trees))]
+fn put_trees(out: &mut Vec<u8>, kept: &KeptTrees) -> Result<(), AllocError>
+    ensures spelled { OnOk result (out.new.items ≡ out.old.items ++ spell_trees kept.now) }
+    ensures fits { OnOk result (AreKnownTrees kept.now → FitsTrees kept.now) }
+{
+    FormulasPart::put(out, &kept.formulas)?;
+    out.extend_from_slice(&[0; 8])?;
+    NameTreesPart::put(out, &kept.names)?;
+    Ok(())
+}
+
+/// The trees of cells and of defined names that the opposite renaming does not give back.
+pub(crate) struct KeptTreesPart;
+
+impl Part for KeptTreesPart {
+    ghost use Rattle.sheet_wire.specs.TreesBytes.{spell_trees, trees_at, AreKnownTrees, FitsTrees};
+    ghost use Rattle.sheet_wire.specs.laws.TreesFormats.{trees_format, trees_some};
+
+    type Value = KeptTrees;
+
+    type Context = ();
+
+    ghost Known = { AreKnownTrees };
+
+    ghost Fits = { FitsTrees };
+
+    ghost spelling = { spell_trees };
+
+    ghost reading = { trees_at };
+
+    fn put(out: &mut Vec<u8>, value: &KeptTrees) -> Result<(), AllocError> {
+        put_trees(out, value)
+    }
+
+    fn take<'a>(
+        alloc: Global,
+        _context: &(),
+        bytes: &'a [u8],
+    ) -> Result<(KeptTrees, &'a [u8]), EditError> {
+        trees_at(alloc, bytes)
+    }
+
+    ghost format = { trees_format };
+
+    ghost some = { trees_some };
+}

@@ -1,0 +1,5 @@
+mod grid;
+mod lines;
+mod maps;
+mod sheets;
+mod values;

@@ -13,6 +13,12 @@ use Rattle.script_lines.specs.declared.command.NamedLines.{NamedLines}
 use Rattle.script_lines.specs.contracts.command.NamedLinesPartialEq.TheImpl as named_lines
 use Rattle.script_lines.specs.declared.command.NamedMove.{NamedMove}
 use Rattle.script_lines.specs.contracts.command.NamedMovePartialEq.TheImpl as named_move
+use Rattle.script_lines.specs.declared.command.NamedSpan.{NamedSpan}
+use Rattle.script_lines.specs.contracts.command.NamedSpanPartialEq.TheImpl as named_span
+use Rattle.script_lines.specs.declared.command.NamedSize.{NamedSize}
+use Rattle.script_lines.specs.contracts.command.NamedSizePartialEq.TheImpl as named_size
+use Rattle.script_lines.specs.declared.command.NamedCount.{NamedCount}
+use Rattle.script_lines.specs.contracts.command.NamedCountPartialEq.TheImpl as named_count
 use Rattle.script_lines.specs.declared.command.NamedSheetMove.{NamedSheetMove}
 use Rattle.script_lines.specs.contracts.command.NamedSheetMovePartialEq.TheImpl as named_sheet_move
 use Rattle.script_lines.specs.declared.command.NamedColor.{NamedColor}
@@ -39,6 +45,21 @@ pub named_move_equals : (a b : NamedMove) → Decides (named_move.ghosts.eq a b)
 named_move_equals a b =
     Decides-like _ (λ p i. record { sheet = p.0 i; first = p.1.0 i; count = p.1.1.0 i; delta = p.1.1.1 i }) (λ e. (ap (λ x. x.sheet) e, (ap (λ x. x.first) e, (ap (λ x. x.count) e, ap (λ x. x.delta) e))))
     (Decides-and _ _ (unsigned_Decides _ _) (Decides-and _ _ (signed_Decides _ _) (Decides-and _ _ (signed_Decides _ _) (signed_Decides _ _))))
+
+pub named_span_equals : (a b : NamedSpan) → Decides (named_span.ghosts.eq a b) (a ≡ b)
+named_span_equals a b =
+    Decides-like _ (λ p i. record { sheet = p.0 i; first = p.1.0 i; last = p.1.1 i }) (λ e. (ap (λ x. x.sheet) e, (ap (λ x. x.first) e, ap (λ x. x.last) e)))
+    (Decides-and _ _ (unsigned_Decides _ _) (Decides-and _ _ (signed_Decides _ _) (signed_Decides _ _)))
+
+pub named_size_equals : (a b : NamedSize) → Decides (named_size.ghosts.eq a b) (a ≡ b)
+named_size_equals a b =
+    Decides-like _ (λ p i. record { sheet = p.0 i; first = p.1.0 i; last = p.1.1.0 i; size = p.1.1.1 i }) (λ e. (ap (λ x. x.sheet) e, (ap (λ x. x.first) e, (ap (λ x. x.last) e, ap (λ x. x.size) e))))
+    (Decides-and _ _ (unsigned_Decides _ _) (Decides-and _ _ (signed_Decides _ _) (Decides-and _ _ (signed_Decides _ _) (signed_Decides _ _))))
+
+pub named_count_equals : (a b : NamedCount) → Decides (named_count.ghosts.eq a b) (a ≡ b)
+named_count_equals a b =
+    Decides-like _ (λ p i. record { sheet = p.0 i; count = p.1 i }) (λ e. (ap (λ x. x.sheet) e, ap (λ x. x.count) e))
+    (Decides-and _ _ (unsigned_Decides _ _) (signed_Decides _ _))
 
 pub named_sheet_move_equals : (a b : NamedSheetMove) → Decides (named_sheet_move.ghosts.eq a b) (a ≡ b)
 named_sheet_move_equals a b =

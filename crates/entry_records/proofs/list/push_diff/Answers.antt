@@ -2,7 +2,7 @@ use Rattle.std.proofs.Common.{◌≡◌, Some, sym, subst, rules}
 use Rattle.std.specs.Prelude.{IfSome}
 use Rattle.std.proofs.lemmas.List.Elements.{All-push}
 use Rattle.sheet_history.specs.Diffs.{IsCanonicalDiff, IsCanonicalList}
-use Rattle.edit_plans.proofs.list.push_diff.Goals as goal
+use Rattle.entry_records.proofs.list.push_diff.Goals as goal
 
 pub returns-in_ok-push-clause-canonical : goal.returns-in_ok-push-clause-canonical
 returns-in_ok-push-clause-canonical c =

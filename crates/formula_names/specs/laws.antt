@@ -1,5 +1,6 @@
 pub mod NamedEquations
 pub mod NamedLaws
 pub mod NameLeaves
+pub mod ReachEquals
 pub mod RenamedLaws
 pub mod TestEquations

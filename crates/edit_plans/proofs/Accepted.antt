@@ -1,5 +1,5 @@
 -- An accepted edit by entries has a record.
-use Rattle.std.specs.Prelude.{IsTrue}
+use Rattle.std.specs.Prelude.{IfOk, IsTrue}
 use Rattle.std.proofs.Common.{◌≡◌, ℕ, ℤ, true, false, cond, not, List, [], ◌∷◌, Option, Some, None, Result, Ok, Err, refl, ap, sym, subst, ◌∙◌}
 use Rattle.base_values.specs.declared.EditError.{EditError}
 use Rattle.base_values.specs.declared.EditError.TheVariants.{InvalidArea, MergeOverlap, ArrayCell, NoMerge}
@@ -27,12 +27,21 @@ use Rattle.sheet_history.specs.Fields.{field_of, with_field}
 use Rattle.sheet_history.specs.Records.{IsRecord}
 use Rattle.edit_plans.specs.Plans.{HasRecord}
 use Rattle.edit_plans.specs.Edits.{Edit, IsGiven, changed, is_of_entries}
-use Rattle.edit_plans.specs.Edits.Edit.{Input, ArrayInput, SetLink, Merge, Unmerge, Lines, MoveLines, AddSheet, CopySheet, DeleteSheet, MoveSheet, RenameSheet, ChangeNames, SetField}
+use Rattle.edit_plans.specs.Edits.Edit.{Input, ArrayInput, SetLink, Merge, Unmerge, Lines, MoveLines, AddSheet, CopySheet, DeleteSheet, MoveSheet, RenameSheet, ChangeNames, SetField, SetSize, SetHidden}
 use Rattle.edit_plans.specs.Inputs.{IsInput, input_place, input_put, with_input}
 use Rattle.edit_plans.specs.Links.{link_set}
 use Rattle.edit_plans.specs.Merging.{merge_diffs, merge_made, merge_undone, merged_in, unmerged_at, unmerged_in, with_merge, without_merge}
-use Rattle.edit_plans.specs.SheetEdits.{field_set, field_change}
-use Rattle.edit_plans.specs.laws.FieldPlans.{field_exact, field_well_formed}
+use Rattle.line_sizes.specs.declared.LineChange.{LineChange}
+use Rattle.line_sizes.specs.declared.LineChange.TheVariants.{Hidden}
+use Rattle.line_sizes.specs.LineChanges.{lines_from}
+use Rattle.sheet_history.specs.declared.LineAxis.{LineAxis}
+use Rattle.sheet_history.specs.LineDiffs.{along_of}
+use Rattle.entry_records.specs.LineRecords.{change_fits, lines_set, size_change}
+use Rattle.entry_records.specs.laws.AttrRules.{hidden_fits, size_fits}
+use Rattle.entry_records.specs.laws.LineRecordLaws.{attrs_exact, attrs_well_formed, lines_inside}
+use Rattle.edit_plans.specs.LineEdits.{attrs_in, attrs_set}
+use Rattle.edit_plans.specs.SheetEdits.{field_put, field_set, field_change}
+use Rattle.edit_plans.specs.laws.FieldPlans.{field_exact, field_may, field_taken, field_well_formed}
 use Rattle.edit_plans.specs.laws.InputLaws.{input_exact, input_well_formed}
 use Rattle.edit_plans.specs.laws.LinkLaws.{link_exact, link_well_formed}
 use Rattle.edit_plans.specs.ArrayInputs.{array_area, array_diffs, array_put, with_array}
@@ -68,15 +77,15 @@ has_record w index next made later list done is exact rules =
     record { list = list; exact = subst (λ b. IsRecord w b list) book exact; rules = subst IsWellFormed book rules }
 
 module _ (index : ℕ) (row column : ℤ) where
-  pub input_has_record : (content : Content) (w later : Book) → IsWellFormed w → IsInput row column content → input_put index row column content w ≡ Ok later → HasRecord w later
+  pub input_has_record : (content : Content) (feeds : ℕ) (w later : Book) → IsWellFormed w → IsInput row column content → input_put index row column content feeds w ≡ Ok later → HasRecord w later
   unfolding input_put
-  input_has_record content w later rules may how =
-      let it = edited w index (λ s. map_ok (with_input s content) (input_place s row column)) later how in
+  input_has_record content feeds w later rules may how =
+      let it = edited w index (λ s. map_ok (with_input s content feeds) (input_place s row column)) later how in
       go it.sheet it.next it.at it.later_is (input_place it.sheet row column) refl it.done
     where
-      go : (sheet next : Sheet) → sheet_at w index ≡ Ok sheet → with_sheet w index next ≡ later → (r : Result Position EditError) → input_place sheet row column ≡ r → map_ok (with_input sheet content) r ≡ Ok next → HasRecord w later
+      go : (sheet next : Sheet) → sheet_at w index ≡ Ok sheet → with_sheet w index next ≡ later → (r : Result Position EditError) → input_place sheet row column ≡ r → map_ok (with_input sheet content feeds) r ≡ Ok next → HasRecord w later
       go sheet next at is (Ok place) goes e =
-          has_record w index next (with_input sheet content place) later _ e is (input_exact w index row column content rules may sheet place at goes) (input_well_formed w index row column content rules may sheet place at goes)
+          has_record w index next (with_input sheet content feeds place) later _ e is (input_exact w index row column content feeds rules may sheet place at goes) (input_well_formed w index row column content feeds rules may sheet place at goes)
       go sheet next at is (Err error) goes e = absurd (let never : ◌≡◌ {A = Result Sheet EditError} (Err error) (Ok next) = e in cc)
 
   pub link_has_record : (entry : Option Link) (w later : Book) → IsWellFormed w → link_set index row column entry w ≡ Ok later → HasRecord w later
@@ -135,12 +144,30 @@ array_has_record index r tree w later rules fits how =
 pub field_has_record : (index : ℕ) (value : SheetField) (w later : Book) → IsWellFormed w → field_set index value w ≡ Ok later → HasRecord w later
 unfolding field_set
 field_has_record index value w later rules how =
-    let it = edited w index (λ s. Ok (with_field (field_of value) value s)) later how in
-    has_record w index it.next (with_field (field_of value) value it.sheet) later (field_change it.sheet value) it.done it.later_is
-    (field_exact w index value rules it.sheet it.at) (field_well_formed w index value rules it.sheet it.at)
+    let it = edited w index (field_put value) later how in
+    let may = field_may value it.sheet it.next it.done in
+    has_record w index it.next (with_field (field_of value) value it.sheet) later (field_change it.sheet value) (sym (field_taken value it.sheet may) ∙ it.done) it.later_is
+    (field_exact w index value may rules it.sheet it.at) (field_well_formed w index value may rules it.sheet it.at)
+
+attrs_has_record : (index : ℕ) (axis : LineAxis) (first last : ℤ) (change : Result LineChange EditError) (w later : Book) → IsWellFormed w
+    → IfOk change (λ made. change_fits axis made ≡ true) → attrs_set index axis first last change w ≡ Ok later → HasRecord w later
+unfolding attrs_set
+attrs_has_record index axis first last change w later rules fits how =
+    let it = edited w index (attrs_in axis first last change) later how in
+    go it.sheet it.next it.at it.later_is (lines_from (along_of axis).last first last) refl change fits it.done
+  where
+    go : (sheet next : Sheet) → sheet_at w index ≡ Ok sheet → with_sheet w index next ≡ later → (r : Result ℕ EditError) → lines_from (along_of axis).last first last ≡ r
+        → (made : Result LineChange EditError) → IfOk made (λ change. change_fits axis change ≡ true)
+        → and_then r (λ count. map_ok (λ change. lines_set axis change first count sheet) made) ≡ Ok next → HasRecord w later
+    go sheet next at is (Ok count) from (Ok change) fits e =
+        has_record w index next (lines_set axis change first count sheet) later _ e is
+        (attrs_exact w rules index sheet at axis change fits first count (lines_inside (along_of axis).last first last count from))
+        (attrs_well_formed w rules index sheet at axis change fits first count (lines_inside (along_of axis).last first last count from))
+    go sheet next at is (Ok count) from (Err error) fits e = absurd (let never : ◌≡◌ {A = Result Sheet EditError} (Err error) (Ok next) = e in cc)
+    go sheet next at is (Err error) from made fits e = absurd (let never : ◌≡◌ {A = Result Sheet EditError} (Err error) (Ok next) = e in cc)
 
 pub accepted : (edit : Edit) (earlier later : Book) → IsTrue (is_of_entries edit) → IsGiven edit → IsWellFormed earlier → changed edit earlier ≡ Ok later → HasRecord earlier later
-accepted (Input index row column content) earlier later is given rules how = input_has_record index row column content earlier later rules given how
+accepted (Input index row column content feeds) earlier later is given rules how = input_has_record index row column content feeds earlier later rules given how
 accepted (ArrayInput index r tree) earlier later is given rules how = array_has_record index r tree earlier later rules given how
 accepted (SetLink index row column link) earlier later is given rules how = link_has_record index row column link earlier later rules how
 accepted (Merge index r) earlier later is given rules how = merge_has_record index r earlier later rules how
@@ -154,3 +181,5 @@ accepted (MoveSheet from to) earlier later is given rules how = absurd (let neve
 accepted (RenameSheet index name) earlier later is given rules how = absurd (let never : false ≡ true = is in cc)
 accepted (ChangeNames edit) earlier later is given rules how = absurd (let never : false ≡ true = is in cc)
 accepted (SetField index value) earlier later is given rules how = field_has_record index value earlier later rules how
+accepted (SetSize index axis first last size) earlier later is given rules how = attrs_has_record index axis first last (size_change axis size) earlier later rules (size_fits axis size) how
+accepted (SetHidden index axis first last hidden) earlier later is given rules how = attrs_has_record index axis first last (Ok (Hidden hidden)) earlier later rules (hidden_fits axis hidden) how

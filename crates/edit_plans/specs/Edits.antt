@@ -22,7 +22,10 @@ use Rattle.sheet_history.specs.declared.LineAxis.{LineAxis}
 use Rattle.sheet_history.specs.declared.SheetField.{SheetField}
 use Rattle.sheet_history.specs.LineDiffs.{along_of}
 use Rattle.sheet_history.specs.Records.{line_record, record_between}
+use Rattle.line_sizes.specs.declared.LineChange.TheVariants.{Hidden}
+use Rattle.entry_records.specs.LineRecords.{size_change}
 use Rattle.edit_plans.specs.Inputs.{IsInput, input_put}
+use Rattle.edit_plans.specs.LineEdits.{attrs_set}
 use Rattle.edit_plans.specs.ArrayInputs.{array_put}
 use Rattle.edit_plans.specs.Links.{link_set}
 use Rattle.edit_plans.specs.Merging.{merge_made, merge_undone}
@@ -33,8 +36,8 @@ use Rattle.edit_plans.specs.SheetEdits.{sheet_added, sheet_copied, sheet_deleted
 
 -- an edit with its arguments. The first is the index of its sheet, but for a new sheet and for defined names
 pub data Edit : Type 0 where
-  -- the content that goes to a row and a column
-  Input : ℕ → ℤ → ℤ → Content → Edit
+  -- the content that goes to a row and a column, and how many line feeds its text has
+  Input : ℕ → ℤ → ℤ → Content → ℕ → Edit
   -- the formula whose values fill a rectangle
   ArrayInput : ℕ → MergedCell → Node → Edit
   -- the link, or none, that goes to a row and a column
@@ -61,6 +64,10 @@ pub data Edit : Type 0 where
   ChangeNames : NameEdit → Edit
   -- what a field of a sheet becomes
   SetField : ℕ → SheetField → Edit
+  -- the first and the last of the rows or columns that get a size, and the size
+  SetSize : ℕ → LineAxis → ℤ → ℤ → ℤ → Edit
+  -- the first and the last of the rows or columns that are hidden or shown, and whether they are hidden
+  SetHidden : ℕ → LineAxis → ℤ → ℤ → Bool → Edit
 
 -- whether an edit is one of the list of the sheets or of the defined names, whose record is one diff
 abbrev pub is_of_sheets : Edit → Bool
@@ -86,7 +93,7 @@ is_of_entries edit = true
 
 -- what a content that is put has to be: it may stand at its place, and it is an array just where it is put in a rectangle
 abbrev pub IsGiven : Edit → Type 0
-IsGiven (Input index row column content) = IsInput row column content
+IsGiven (Input index row column content feeds) = IsInput row column content
 IsGiven (ArrayInput index r tree) = IsTrue (fits_at (anchor_place r) (Array tree r.width r.height))
 IsGiven edit = Unit {0}
 
@@ -104,7 +111,7 @@ is_silent edit book = false
 
 -- the workbook after an edit, or the edit's first refusal
 abbrev pub changed : Edit → Book → Result Book EditError
-changed (Input index row column content) book = input_put index row column content book
+changed (Input index row column content feeds) book = input_put index row column content feeds book
 changed (ArrayInput index r tree) book = array_put index r tree book
 changed (SetLink index row column entry) book = link_set index row column entry book
 changed (Merge index r) book = merge_made index r book
@@ -119,6 +126,8 @@ changed (MoveSheet from to) book = sheet_taken from to book
 changed (RenameSheet index name) book = sheet_named index name book
 changed (ChangeNames edit) book = names_edited edit book
 changed (SetField index value) book = field_set index value book
+changed (SetSize index axis first last size) book = attrs_set index axis first last (size_change axis size) book
+changed (SetHidden index axis first last hidden) book = attrs_set index axis first last (Ok (Hidden hidden)) book
 
 -- the record of an edit of lines of a sheet, if it is there
 abbrev pub lines_record : LineAxis → (Sheet → EditKind) → Book → Result Sheet EditError → List Diff

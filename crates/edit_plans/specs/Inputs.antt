@@ -13,15 +13,19 @@ use Rattle.cell_content.specs.declared.Content.{Content}
 use Rattle.cell_content.specs.declared.Content.TheVariants.{Empty}
 use Rattle.cell_content.specs.Fitting.{fits_at}
 use Rattle.sheet_grid.specs.declared.Cell.{Cell}
+use Rattle.sheet_grid.specs.declared.LineAttr.{LineAttr}
 use Rattle.sheet_grid.specs.Arrays.{array_at}
 use Rattle.sheet_grid.specs.Merges.{is_covered, is_empty}
 use Rattle.sheet_grid.specs.Sheet.{Sheet, with_cell, shown_style}
 use Rattle.sheet_grid.specs.Book.{Book, sheet_edit}
+use Rattle.line_sizes.specs.Heights.{needed_height, raised_entry}
 use Rattle.sheet_rules.specs.Occupied.{array_over}
 use Rattle.sheet_history.specs.declared.Diff.{Diff}
+use Rattle.sheet_history.specs.declared.LineAxis.TheVariants.{Rows}
 use Rattle.sheet_history.specs.Entries.EntryKey.{CellKey}
 use Rattle.sheet_history.specs.Entries.EntryValue.{CellValue}
 use Rattle.sheet_history.specs.Records.{entry_record}
+use Rattle.entry_records.specs.LineRecords.{attr_record}
 use Rattle.edit_plans.specs.Links.{link_change}
 
 -- a new cell, with the style that its place shows; an empty input makes none
@@ -42,9 +46,22 @@ cell_entered sheet place content = entered (fin.get sheet.cells place) content (
 abbrev pub link_left : Content → Sheet → Position → Sheet
 link_left content sheet place = if is_empty content then record sheet { links = with_entry sheet.links place None } else sheet
 
--- the sheet after the input of a content at a place
-abbrev pub with_input : Sheet → Content → Position → Sheet
-with_input sheet content place = link_left content (with_cell sheet place (cell_entered sheet place content)) place
+-- the sheet with a content at a place
+abbrev pub with_content : Sheet → Content → Position → Sheet
+with_content sheet content place = link_left content (with_cell sheet place (cell_entered sheet place content)) place
+
+-- what the row of a place has where a text of so many line feeds is put there: the height that it asks for in the font that the place shows,
+-- where that is greater than the row's
+abbrev pub row_raised : Sheet → Position → ℕ → Option LineAttr
+row_raised sheet place feeds = raised_entry (needed_height feeds (shown_style sheet place).font.sz) (fin.get sheet.rows place.row)
+
+-- a sheet whose row has this
+abbrev pub with_row : Sheet → ℤ → Option LineAttr → Sheet
+with_row sheet row entry = record sheet { rows = with_entry sheet.rows row entry }
+
+-- the sheet after the input of a content at a place, whose text has so many line feeds
+abbrev pub with_input : Sheet → Content → ℕ → Position → Sheet
+with_input sheet content feeds place = with_row (with_content sheet content place) place.row (row_raised sheet place feeds)
 
 -- a place that no merge covers, and that no array of more than one cell holds
 abbrev pub free_place : Sheet → Position → Result Position EditError
@@ -59,8 +76,8 @@ abbrev pub input_place : Sheet → ℤ → ℤ → Result Position EditError
 input_place sheet row column = and_then (place_of row column) (free_place sheet)
 
 -- the workbook after an input, or the first refusal: no such sheet, or no place to which it may go
-unfoldable pub input_put : ℕ → ℤ → ℤ → Content → Book → Result Book EditError
-input_put index row column content book = sheet_edit book index (λ sheet. map_ok (with_input sheet content) (input_place sheet row column))
+unfoldable pub input_put : ℕ → ℤ → ℤ → Content → ℕ → Book → Result Book EditError
+input_put index row column content feeds book = sheet_edit book index (λ sheet. map_ok (with_input sheet content feeds) (input_place sheet row column))
 
 -- the change of the cell at a place that gets a content
 abbrev pub cell_record : Content → Sheet → Position → List Diff
@@ -70,9 +87,13 @@ cell_record content sheet place = entry_record (CellKey sheet.id place) (CellVal
 abbrev pub link_record : Content → Sheet → Position → List Diff
 link_record content sheet place = if is_empty content then link_change sheet place None else []
 
+-- the change of its row
+abbrev pub height_record : ℕ → Sheet → Position → List Diff
+height_record feeds sheet place = attr_record sheet.id Rows place.row (fin.get sheet.rows place.row) (row_raised sheet place feeds)
+
 -- the record of an input at a place
-abbrev pub input_record : Content → Sheet → Position → List Diff
-input_record content sheet place = cell_record content sheet place ++ link_record content sheet place
+abbrev pub input_record : Content → ℕ → Sheet → Position → List Diff
+input_record content feeds sheet place = (cell_record content sheet place ++ link_record content sheet place) ++ height_record feeds sheet place
 
 -- what an input may be: a content that may stand at its place, and no array
 pub record IsInput (row column : ℤ) (content : Content) : Type 0 where

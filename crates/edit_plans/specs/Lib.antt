@@ -1,5 +1,6 @@
 pub mod Plans
 pub mod Inputs
+pub mod LineEdits
 pub mod Links
 pub mod Blanked
 pub mod Merging

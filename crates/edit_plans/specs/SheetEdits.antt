@@ -2,7 +2,7 @@
 use Rattle.std.specs.Prelude.{ℕ, ◌+◌, ◌==◌, ◌&&◌, nat_lt, slice_get, Bool, false, List, [], ◌∷◌, length, Result, Ok, Err, if◌then◌else◌}
 use Rattle.std.specs.Option.{option_map_or}
 use Rattle.base_values.specs.declared.EditError.{EditError}
-use Rattle.base_values.specs.declared.EditError.TheVariants.{OnlySheet, SheetName}
+use Rattle.base_values.specs.declared.EditError.TheVariants.{FrozenCount, OnlySheet, SheetName}
 use Rattle.base_values.specs.Answers.{and_then, map_ok}
 use Rattle.base_tables.specs.Tables.{same_text}
 use Rattle.defined_names.specs.Names.{names_left, names_copied}
@@ -18,7 +18,7 @@ use Rattle.sheet_history.specs.declared.Diff.{Diff}
 use Rattle.sheet_history.specs.declared.Diff.TheVariants.{NewSheet as NewDiff, DuplicateSheet as CopyDiff, DeleteSheet as DeletionDiff, MoveSheet as MoveDiff, RenameSheet as RenameDiff}
 use Rattle.sheet_history.specs.Entries.EntryKey.{FieldKey}
 use Rattle.sheet_history.specs.Entries.EntryValue.{FieldValue}
-use Rattle.sheet_history.specs.Fields.{field_of, field_in, with_field}
+use Rattle.sheet_history.specs.Fields.{field_of, field_in, may_have, with_field}
 use Rattle.sheet_history.specs.Records.{entry_record}
 
 -- ---- the list of the sheets
@@ -104,9 +104,13 @@ named_record index name book = one_diff (map_ok (rename_diff name book) (sheet_a
 
 -- ---- the fields of a sheet
 
--- a field of a sheet gets a value: there is no such sheet
+-- a sheet whose field gets a value, or the refusal of a count of frozen lines that is below 0 or not less than the lines that the sheet has
+abbrev pub field_put : SheetField → Sheet → Result Sheet EditError
+field_put value sheet = if may_have value then Ok (with_field (field_of value) value sheet) else Err FrozenCount
+
+-- a field of a sheet gets a value: there is no such sheet, or no such value
 unfoldable pub field_set : ℕ → SheetField → Book → Result Book EditError
-field_set index value book = sheet_edit book index (λ sheet. Ok (with_field (field_of value) value sheet))
+field_set index value book = sheet_edit book index (field_put value)
 
 -- the change where a field gets a value: nothing where it stays
 abbrev pub field_change : Sheet → SheetField → List Diff

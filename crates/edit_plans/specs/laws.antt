@@ -7,10 +7,12 @@ pub mod BlankedLaws
 pub mod BlankRecord
 pub mod Fonts
 pub mod InputLaws
+pub mod LinePlans
 pub mod LinkLaws
 pub mod MappedMaps
 pub mod MergeRecords
 pub mod PlanLaws
+pub mod ViewLaws
 pub mod SheetRecords
 pub mod SheetEditLaws
 pub mod SheetPlans

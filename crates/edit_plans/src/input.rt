@@ -12,14 +12,16 @@ ghost use Rattle.sheet_grid.specs.Merges.{is_covered, is_empty};
 ghost use Rattle.sheet_rules.specs.WellFormed.{IsWellFormed};
 ghost use Rattle.sheet_history.specs.Diffs.{IsCanonicalDiff, IsCanonicalList};
 ghost use Rattle.edit_plans.specs.Plans.{Plans};
-ghost use Rattle.edit_plans.specs.Inputs.{IsInput, entered, free_place, input_place, input_put, cell_record, link_record, input_record};
+ghost use Rattle.edit_plans.specs.Inputs.{IsInput, entered, free_place, input_place, input_put, cell_record, height_record, link_record, input_record};
 
 use crate::blanked::is_empty;
 use crate::link::link_change;
-use crate::list::{cell_diff, list_of_two};
+use crate::list::{cell_diff, list_of_three};
 use base_shared::Shared;
 use base_styles::Style;
 use base_values::{EditError, Position, copy_of, place_of};
+use entry_records::raised_diff;
+use line_sizes::needed_height;
 use sheet_grid::{Cell, Content, DefaultStyle, Workbook, Worksheet};
 use sheet_history::{Diff, DiffList};
 use sheet_rules::array_over;
@@ -116,6 +118,23 @@ fn link_left(
     link_change(sheet, place, None)
 }
 
+/// The diff of the row of a place that gets a text of so many line feeds, or none where the row stays.
+fn height_change(
+    plain: &DefaultStyle,
+    sheet: &Worksheet,
+    place: Position,
+    feeds: u64,
+) -> Result<Option<Diff>, EditError>
+    requires { place_of place.row place.column ≡ Ok place }
+    ensures made { IfOk result (λ diff. cons_option diff [] ≡ height_record feeds sheet.now place) }
+    ensures canonical { IfOk result (λ diff. IfSome diff IsCanonicalDiff) }
+    ensures only { IsOkUnless result NoMemory }
+{
+    let style = sheet.shown_style(place.row, place.column, plain)?;
+    let needed = needed_height(feeds, style.get().font.sz);
+    raised_diff(sheet, place.row, needed)
+}
+
 /// The record of an input that goes to a place.
 fn input_list(
     alloc: Global,
@@ -123,21 +142,25 @@ fn input_list(
     sheet: &Worksheet,
     place: Position,
     content: Content,
+    feeds: u64,
 ) -> Result<DiffList, EditError>
     requires place { place_of place.row place.column ≡ Ok place }
     requires canonical { IsCanonicalContent content }
-    ensures made { IfOk result (λ list. list ≡ input_record content sheet.now place) }
+    ensures made { IfOk result (λ list. list ≡ input_record content feeds sheet.now place) }
     ensures canonical { IfOk result IsCanonicalList }
     ensures only { IsOkUnless result NoMemory }
 {
     let link = link_left(sheet, place, &content)?;
     let cell = cell_change(alloc, plain, sheet, place, content)?;
-    list_of_two(alloc, cell, link)
+    let height = height_change(plain, sheet, place, feeds)?;
+    list_of_three(alloc, cell, link, height)
 }
 
-/// The record of the input of a content at a row and a column of the sheet at an index: the change
-/// of the cell, and where the content is empty that of the link, each only where it changes. A
-/// present cell keeps its style, a new one has the style that its place shows. Nothing is changed.
+/// The record of the input of a content, whose text has so many line feeds, at a row and a column of the
+/// sheet at an index: the change of the cell, where the content is empty that of the link, and that of
+/// the row's height, each only where it changes. A present cell keeps its style, a new one has the style
+/// that its place shows. The height that the text asks for in the size of that font becomes the row's,
+/// where it is greater than the row's, which may be hidden (docs/MODEL.md). Nothing is changed.
 ///
 /// `InvalidSheet` where there is no such sheet, else `InvalidRow` where the row is outside the
 /// sheet, else `InvalidColumn` where the column is, else `CoveredCell` where a merge covers the
@@ -151,13 +174,14 @@ pub fn plan_input(
     row: i32,
     column: i32,
     content: Content,
+    feeds: u64,
 ) -> Result<DiffList, EditError>
     requires rules { IsWellFormed workbook.now }
     requires canonical { IsCanonicalContent content }
     requires input { IsInput row column content }
-    ensures planned { Plans result workbook.now (input_put sheet row column content workbook.now) }
+    ensures planned { Plans result workbook.now (input_put sheet row column content feeds workbook.now) }
 {
     let found = workbook.worksheet(sheet)?;
     let place = input_place(found, row, column)?;
-    input_list(alloc, plain, found, place, content)
+    input_list(alloc, plain, found, place, content, feeds)
 }

@@ -8,6 +8,7 @@ mod field;
 mod hidden;
 mod input;
 mod laws;
+mod lines;
 mod link;
 mod list;
 mod merge;
@@ -21,6 +22,7 @@ pub use field::plan_field;
 pub use hidden::grown_delta;
 pub use input::{free_place, plan_input};
 pub use laws::{edits_have_records, sheet_edits_go_both_ways};
+pub use lines::{plan_hidden, plan_size};
 pub use link::plan_link;
 pub use merge::plan_merge;
 pub use names::{plan_changed_name, plan_new_name, plan_removed_name};
@@ -29,5 +31,6 @@ pub use sheets::{
 };
 pub use unmerge::plan_unmerge;
 pub use view::{
-    selected_by_copy, selected_by_deletion, selected_by_field, selected_by_move, selected_by_new,
+    range_by_hiding, selected_by_copy, selected_by_deletion, selected_by_field, selected_by_move,
+    selected_by_new,
 };

@@ -1,12 +1,17 @@
 //! Which sheet is selected after an edit of the sheets. Each is asked before the edit; `viewed` of the
 //! later sheets, where that index is selected, is then the view.
 
-ghost use Rattle.std.specs.Prelude.{◌≡◌, ◌<◌, length};
+ghost use Rattle.std.specs.Prelude.{◌≡◌, ◌≤ℤ◌, ◌<◌, length, pos, Ok};
+ghost use Rattle.line_sizes.specs.ShownLines.{next_shown};
+ghost use Rattle.sheet_history.specs.LineDiffs.{along_of};
+ghost use Rattle.entry_records.specs.LineRecords.{lines_of};
 ghost use Rattle.edit_plans.specs.Edits.Edit.{AddSheet, CopySheet, DeleteSheet, MoveSheet, SetField};
-ghost use Rattle.edit_plans.specs.ViewSteps.{selected_by};
+ghost use Rattle.edit_plans.specs.ViewSteps.{line_shown, selected_by, whole_line};
 
-use sheet_grid::{SheetState, Workbook};
-use sheet_history::SheetField;
+use base_values::{LAST_COLUMN, LAST_ROW};
+use line_sizes::next_shown;
+use sheet_grid::{SheetState, Workbook, Worksheet};
+use sheet_history::{LineAxis, SheetField};
 use sheet_views::{next_visible, selected_after_delete, selected_sheet_after_move};
 
 /// The index that a new sheet of a workbook selects, whichever was selected: its own. It takes no
@@ -57,4 +62,46 @@ pub fn selected_by_field(workbook: &Workbook, sheet: u32, value: SheetField, sel
         }
         _ => selected as usize,
     }
+}
+
+/// A whole row or column, as a rectangle.
+fn whole_line(axis: LineAxis, line: i32) -> [i32; 4]
+    ensures { result ≡ whole_line axis line }
+{
+    match axis {
+        LineAxis::Rows => [line, 1, line, LAST_COLUMN],
+        LineAxis::Columns => [1, line, LAST_ROW, line],
+    }
+}
+
+/// The next line of a sheet that is shown behind those from a first to a last, else the nearest one before
+/// them, else line 1.
+fn next_line(sheet: &Worksheet, axis: LineAxis, first: i32, last: i32) -> i32
+    requires low { pos 1 ≤ℤ first }
+    requires order { first ≤ℤ last }
+    requires high { last ≤ℤ (along_of axis).last }
+    ensures { result ≡ next_shown (along_of axis).last (lines_of axis sheet.now) first last }
+{
+    match axis {
+        LineAxis::Rows => next_shown(sheet.row_map(), first, last),
+        LineAxis::Columns => next_shown(sheet.column_map(), first, last),
+    }
+}
+
+/// The rectangle that is selected of a sheet, which is viewed, where its rows or columns from a first to a
+/// last are hidden: as a whole, the next one that is shown behind them, else the nearest one before them,
+/// else the first one. It takes no memory.
+pub fn range_by_hiding(
+    sheet: &Worksheet,
+    axis: LineAxis,
+    first: i32,
+    last: i32,
+    _range: [i32; 4],
+) -> [i32; 4]
+    requires low { pos 1 ≤ℤ first }
+    requires order { first ≤ℤ last }
+    requires high { last ≤ℤ (along_of axis).last }
+    ensures { result ≡ line_shown axis first last (Ok sheet.now) _range }
+{
+    whole_line(axis, next_line(sheet, axis, first, last))
 }

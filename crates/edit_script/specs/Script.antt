@@ -1,5 +1,5 @@
 -- A script's output on the machine that keeps whole earlier and later workbooks.
-use Rattle.std.proofs.Common.{ℕ, pos, List, [], ◌∷◌, ◌++◌, Option, Some, None, Result, Ok, Err}
+use Rattle.std.proofs.Common.{ℕ, pos, List, [], ◌∷◌, ◌++◌, Option, Some, None, Result, Ok, Err, true, false}
 use Rattle.std.specs.Prelude.{codes}
 use Rattle.std.specs.Option.{option_map, option_map_or}
 use Rattle.base_values.specs.declared.EditError.{EditError}
@@ -12,6 +12,8 @@ use Rattle.sheet_grid.specs.declared.SheetState.TheVariants.{Visible, Hidden}
 use Rattle.sheet_grid.specs.Book.{new_book}
 use Rattle.sheet_history.specs.declared.LineAxis.TheVariants.{Rows, Columns}
 use Rattle.sheet_history.specs.declared.SheetField.TheVariants.{State as StateField, Color as ColorField, GridLines as GridField}
+use Rattle.sheet_history.specs.declared.SheetField.TheVariants.{FrozenRows as FrozenRowsField, FrozenColumns as FrozenColumnsField}
+use Rattle.line_sizes.specs.Heights.{line_feeds}
 use Rattle.script_lines.specs.Parts.{parts_at, without_return}
 use Rattle.script_lines.specs.Escapes.{escaped}
 use Rattle.script_lines.specs.Commands.{command_of}
@@ -21,7 +23,7 @@ use Rattle.script_dump.specs.Text.{line, hex}
 use Rattle.script_dump.specs.Dump.{dump}
 use Rattle.name_edits.specs.NameEdits.NameEdit.{Add, Remove, Update}
 use Rattle.edit_plans.specs.Edits.{Edit}
-use Rattle.edit_plans.specs.Edits.Edit.{Input, ArrayInput, SetLink, Merge, Unmerge, Lines, MoveLines, AddSheet, CopySheet, DeleteSheet, MoveSheet, RenameSheet, ChangeNames, SetField}
+use Rattle.edit_plans.specs.Edits.Edit.{Input, ArrayInput, SetLink, Merge, Unmerge, Lines, MoveLines, AddSheet, CopySheet, DeleteSheet, MoveSheet, RenameSheet, ChangeNames, SetField, SetSize, SetHidden}
 use Rattle.user_model.specs.Machine.{State, begun, edit_of, undo_of, redo_of, synced_of, sync_bytes}
 use Rattle.user_model.specs.Reading.{content_text, formula_typed, link_to, typed}
 
@@ -48,7 +50,7 @@ value_line (Err error) = refusal error
 
 -- the edit that a command asks for, if it asks for one
 abbrev pub edit_for : Command → State → Option Edit
-edit_for (command.Set cell text) s = Some (Input cell.sheet cell.row cell.column (typed s.present s.language cell.row cell.column text))
+edit_for (command.Set cell text) s = Some (Input cell.sheet cell.row cell.column (typed s.present s.language cell.row cell.column text) (line_feeds text))
 edit_for (command.Array named text) s = Some (ArrayInput named.sheet named.area (formula_typed s.present s.language named.area.row named.area.column text))
 edit_for (command.Link cell text) s = Some (SetLink cell.sheet cell.row cell.column (Some (link_to text)))
 edit_for (command.Unlink cell) s = Some (SetLink cell.sheet cell.row cell.column None)
@@ -60,6 +62,14 @@ edit_for (command.DeleteRows lines) s = Some (Lines lines.sheet Rows (Delete lin
 edit_for (command.DeleteColumns lines) s = Some (Lines lines.sheet Columns (Delete lines.first lines.count))
 edit_for (command.MoveRows move) s = Some (MoveLines move.sheet Rows move.first move.count move.delta)
 edit_for (command.MoveColumns move) s = Some (MoveLines move.sheet Columns move.first move.count move.delta)
+edit_for (command.Width named) s = Some (SetSize named.sheet Columns named.first named.last named.size)
+edit_for (command.Height named) s = Some (SetSize named.sheet Rows named.first named.last named.size)
+edit_for (command.HideRows span) s = Some (SetHidden span.sheet Rows span.first span.last true)
+edit_for (command.ShowRows span) s = Some (SetHidden span.sheet Rows span.first span.last false)
+edit_for (command.HideColumns span) s = Some (SetHidden span.sheet Columns span.first span.last true)
+edit_for (command.ShowColumns span) s = Some (SetHidden span.sheet Columns span.first span.last false)
+edit_for (command.FreezeRows named) s = Some (SetField named.sheet (FrozenRowsField named.count))
+edit_for (command.FreezeColumns named) s = Some (SetField named.sheet (FrozenColumnsField named.count))
 edit_for command.NewSheet s = Some AddSheet
 edit_for (command.DuplicateSheet sheet) s = Some (CopySheet sheet)
 edit_for (command.DeleteSheet sheet) s = Some (DeleteSheet sheet)

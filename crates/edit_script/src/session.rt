@@ -10,8 +10,8 @@ use base_axis::Area;
 use base_values::EditError;
 use script_dump::{push_dump, push_hex, push_line};
 use script_lines::{
-    Command, NamedArea, NamedCell, NamedColor, NamedGrid, NamedLines, NamedMove, NamedSheetMove,
-    push_escaped, read_command, split_first, without_return,
+    Command, NamedArea, NamedCell, NamedColor, NamedCount, NamedGrid, NamedLines, NamedMove,
+    NamedSheetMove, NamedSize, NamedSpan, push_escaped, read_command, split_first, without_return,
 };
 use std::alloc::Global;
 use user_model::{ClearAll, UserModel};
@@ -249,6 +249,76 @@ impl Session {
         push_outcome(&mut self.out, done)
     }
 
+    fn width(&mut self, named: NamedSize) -> Result<(), EditError>
+        ensures { RunsCommand (command.Width named) result self.old self.new }
+    {
+        let done = self
+            .model
+            .set_columns_width(named.sheet, named.first, named.last, named.size);
+        push_outcome(&mut self.out, done)
+    }
+
+    fn height(&mut self, named: NamedSize) -> Result<(), EditError>
+        ensures { RunsCommand (command.Height named) result self.old self.new }
+    {
+        let done = self
+            .model
+            .set_rows_height(named.sheet, named.first, named.last, named.size);
+        push_outcome(&mut self.out, done)
+    }
+
+    fn hide_rows(&mut self, span: NamedSpan) -> Result<(), EditError>
+        ensures { RunsCommand (command.HideRows span) result self.old self.new }
+    {
+        let done = self
+            .model
+            .set_rows_hidden(span.sheet, span.first, span.last, true);
+        push_outcome(&mut self.out, done)
+    }
+
+    fn hide_columns(&mut self, span: NamedSpan) -> Result<(), EditError>
+        ensures { RunsCommand (command.HideColumns span) result self.old self.new }
+    {
+        let done = self
+            .model
+            .set_columns_hidden(span.sheet, span.first, span.last, true);
+        push_outcome(&mut self.out, done)
+    }
+
+    fn show_rows(&mut self, span: NamedSpan) -> Result<(), EditError>
+        ensures { RunsCommand (command.ShowRows span) result self.old self.new }
+    {
+        let done = self
+            .model
+            .set_rows_hidden(span.sheet, span.first, span.last, false);
+        push_outcome(&mut self.out, done)
+    }
+
+    fn show_columns(&mut self, span: NamedSpan) -> Result<(), EditError>
+        ensures { RunsCommand (command.ShowColumns span) result self.old self.new }
+    {
+        let done = self
+            .model
+            .set_columns_hidden(span.sheet, span.first, span.last, false);
+        push_outcome(&mut self.out, done)
+    }
+
+    fn freeze_rows(&mut self, named: NamedCount) -> Result<(), EditError>
+        ensures { RunsCommand (command.FreezeRows named) result self.old self.new }
+    {
+        let done = self.model.set_frozen_rows_count(named.sheet, named.count);
+        push_outcome(&mut self.out, done)
+    }
+
+    fn freeze_columns(&mut self, named: NamedCount) -> Result<(), EditError>
+        ensures { RunsCommand (command.FreezeColumns named) result self.old self.new }
+    {
+        let done = self
+            .model
+            .set_frozen_columns_count(named.sheet, named.count);
+        push_outcome(&mut self.out, done)
+    }
+
     fn new_sheet(&mut self) -> Result<(), EditError>
         ensures { RunsCommand command.NewSheet result self.old self.new }
     {
@@ -391,6 +461,14 @@ impl Session {
             Command::DeleteColumns(lines) => self.delete_columns(lines),
             Command::MoveRows(moved) => self.move_rows(moved),
             Command::MoveColumns(moved) => self.move_columns(moved),
+            Command::Width(named) => self.width(named),
+            Command::Height(named) => self.height(named),
+            Command::HideRows(span) => self.hide_rows(span),
+            Command::ShowRows(span) => self.show_rows(span),
+            Command::HideColumns(span) => self.hide_columns(span),
+            Command::ShowColumns(span) => self.show_columns(span),
+            Command::FreezeRows(named) => self.freeze_rows(named),
+            Command::FreezeColumns(named) => self.freeze_columns(named),
             Command::NewSheet => self.new_sheet(),
             Command::DuplicateSheet(sheet) => self.duplicate_sheet(sheet),
             Command::DeleteSheet(sheet) => self.delete_sheet(sheet),

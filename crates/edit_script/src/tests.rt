@@ -92,7 +92,7 @@ const ANSWERED: [(&str, &str); 19] = [
         "error InvalidSheet\nerror InvalidRow\nerror InvalidColumn\n",
     ),
     ("set 0", "error BadLine\n"),
-    ("set 0 A1 =A2\nset 0 A1 a\\nb", "ok\nerror BadLine\n"),
+    ("set 0 A1 a\\nb\nget 0 A1", "ok\nvalue a\\nb\n"),
     ("undo", "ok\n"),
     (
         "set 0 A1 1\nundo\nset 0 A1 2\nredo\nget 0 A1",
@@ -260,6 +260,50 @@ const AREAS: [(&str, &str); 11] = [
     (
         "link 0 A1 a\\nb\nshow\nset 0 A1\nunlink 0 A1",
         "ok\nbook en UTC workbook\nsheet 1 visible 1 0 0 - Sheet1\nlink A1 a\\nb\nend\nok\nok\n",
+    ),
+];
+
+/// Scripts that size, hide and freeze rows and columns, each with its answers.
+const LINE_SIZES: [(&str, &str); 10] = [
+    (
+        "height 0 1 1 10\nset 0 B1 x\nshow\nundo\nshow",
+        "ok\nok\nbook en UTC workbook\nsheet 1 visible 1 0 0 - Sheet1\nrow 1 42 0 -\ncell B1 - value x\nend\nok\nbook en UTC workbook\nsheet 1 visible 1 0 0 - Sheet1\nrow 1 10 0 -\nend\n",
+    ),
+    (
+        "freeze-rows 0 1048576\nfreeze-rows 0 1048575\nfreeze-rows 1 -1\nfreeze-columns 0 16384\nfreeze-columns 0 -1\nfreeze-columns 0 16383\nshow",
+        "error FrozenCount\nok\nerror InvalidSheet\nerror FrozenCount\nerror FrozenCount\nok\nbook en UTC workbook\nsheet 1 visible 1 1048575 16383 - Sheet1\nend\n",
+    ),
+    (
+        "freeze-rows 0 2\nfreeze-columns 0 1\nundo\nundo\nredo\nshow",
+        "ok\nok\nok\nok\nok\nbook en UTC workbook\nsheet 1 visible 1 2 0 - Sheet1\nend\n",
+    ),
+    (
+        "width 0 1 1 -1\nwidth 0 3 2 10\nwidth 1 3 2 -1\nheight 0 0 1 -1\nheight 0 1 1048577 5\nheight 0 1 1 -1",
+        "error NegativeSize\nerror InvalidArea\nerror InvalidSheet\nerror InvalidArea\nerror InvalidArea\nerror NegativeSize\n",
+    ),
+    (
+        "hide-columns 0 16384 16385\nhide-rows 0 2 1\nshow-rows 1 1 1\nhide-columns 0 16384 16384\nhide-rows 0 1048576 1048576\nshow",
+        "error InvalidArea\nerror InvalidArea\nerror InvalidSheet\nok\nok\nbook en UTC workbook\nsheet 1 visible 1 0 0 - Sheet1\nrow 1048576 - 1 -\ncolumn 16384 - 1 -\nend\n",
+    ),
+    (
+        "set 0 A1 a\\nb\nshow",
+        "ok\nbook en UTC workbook\nsheet 1 visible 1 0 0 - Sheet1\nrow 1 81 0 -\ncell A1 - value a\\nb\nend\n",
+    ),
+    (
+        "height 0 1 1 80\nhide-rows 0 1 1\nset 0 A1 a\\nb\nheight 0 2 2 82\nset 0 A2 a\\nb\nshow\nundo\nundo\nundo\nshow",
+        "ok\nok\nok\nok\nok\nbook en UTC workbook\nsheet 1 visible 1 0 0 - Sheet1\nrow 1 81 1 -\nrow 2 82 0 -\ncell A1 - value a\\nb\ncell A2 - value a\\nb\nend\nok\nok\nok\nbook en UTC workbook\nsheet 1 visible 1 0 0 - Sheet1\nrow 1 80 1 -\nend\n",
+    ),
+    (
+        "hide-columns 0 4 4\nset 0 B1 x\nmove-columns 0 2 1 1\nget 0 D1",
+        "ok\nok\nok\nvalue x\n",
+    ),
+    (
+        "width 0 2 3 300\ninsert-columns 0 3 1\nshow",
+        "ok\nok\nbook en UTC workbook\nsheet 1 visible 1 0 0 - Sheet1\ncolumn 2 300 0 -\ncolumn 3 300 0 -\ncolumn 4 300 0 -\nend\n",
+    ),
+    (
+        "width 0 1 2 300\nwidth 0 1 1 250\nheight 0 1 1 56\nhide-columns 0 2 2\nshow-columns 0 1 2\nshow\nwidth 0 2 2 250\nundo\nundo\nundo\nundo\nshow",
+        "ok\nok\nok\nok\nok\nbook en UTC workbook\nsheet 1 visible 1 0 0 - Sheet1\nrow 1 56 0 -\ncolumn 2 300 0 -\nend\nok\nok\nok\nok\nok\nbook en UTC workbook\nsheet 1 visible 1 0 0 - Sheet1\ncolumn 2 300 0 -\nend\n",
     ),
 ];
 
@@ -458,6 +502,12 @@ fn a_name_is_sent(rt: HostRuntime) -> Result<(), Fail> {
         "ok\nsync {ONE_NAME}\ncopy\nbook en UTC workbook\nname - X =1\nsheet 1 visible 1 0 0 - Sheet1\nend\n"
     )?;
     assert_eq!(rt; output.bytes(), expected.as_bytes());
+    Ok(())
+}
+
+#[test]
+fn lines_are_sized_and_hidden(rt: HostRuntime) -> Result<(), Fail> {
+    assert_eq!(rt; first_wrong(rt.alloc(), &LINE_SIZES)?, None);
     Ok(())
 }
 

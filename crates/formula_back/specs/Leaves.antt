@@ -1,4 +1,4 @@
--- What is told of a tree by its references and ranges.
+-- What is told of a tree by its references, ranges and names.
 use Rattle.std.specs.Prelude.{ℕ, Bool, false, ◌||◌, List, Option}
 use Rattle.std.specs.List.{list_any}
 use Rattle.formula_tree.specs.declared.Corner.{Corner}
@@ -6,10 +6,11 @@ use Rattle.formula_tree.specs.declared.Node.{Node, fold-Node}
 use Rattle.formula_tree.specs.declared.Node.TheOpen.{Node-F}
 use Rattle.formula_tree.specs.declared.Node.TheOpen as layer
 
--- a test of references and one of ranges, beside the sheet that they name
+-- a test of references and one of ranges, beside the sheet that they name, and one of names
 pub record LeafTests : Type 0 where
   pub reference : Option (List ℕ) → Corner → Bool
   pub range : Option (List ℕ) → Corner → Corner → Bool
+  pub name : List ℕ → Bool
 
 -- one node, whose children are tested
 abbrev pub leaf_layer : LeafTests → Node-F Bool → Bool
@@ -28,7 +29,7 @@ leaf_layer t (layer.Unary kind a) = a
 leaf_layer t (layer.Call function all) = list_any (λ test. test) all
 leaf_layer t (layer.NamedCall name all) = list_any (λ test. test) all
 leaf_layer t (layer.Array lines) = false
-leaf_layer t (layer.Name name) = false
+leaf_layer t (layer.Name name) = t.name name
 leaf_layer t (layer.Error error) = false
 leaf_layer t (layer.ParseError text) = false
 leaf_layer t layer.EmptyArgument = false
@@ -37,6 +38,6 @@ leaf_layer t (layer.Lambda parameters a) = a
 leaf_layer t (layer.LambdaCall a all) = a || list_any (λ test. test) all
 leaf_layer t (layer.ImplicitIntersection a) = a
 
--- some reference or range of the tree passes its test
+-- some reference, range or name of the tree passes its test
 unfoldable pub has_leaf : LeafTests → Node → Bool
 has_leaf t = fold-Node Bool (leaf_layer t)

@@ -6,7 +6,7 @@ use base_shared::Shared;
 use base_values::{Items, Text};
 use formula_tree::{Corner, Node};
 
-/// A test of the references and ranges of a tree, beside the sheet that they name.
+/// A test of the references and ranges of a tree, beside the sheet that they name, and of its names.
 pub trait LeafTest {
     /// The tests as definitions speak of them.
     ghost tests: { Self → LeafTests };
@@ -18,9 +18,13 @@ pub trait LeafTest {
     /// Whether a range passes.
     fn range(&self, sheet: &Option<Shared<Text>>, first: Corner, second: Corner) -> bool
         ensures { result ≡ (tests self.now).range sheet.now first second };
+
+    /// Whether a name passes, of a variable or a defined one.
+    fn name(&self, name: &Text) -> bool
+        ensures { result ≡ (tests self.now).name name.now };
 }
 
-/// Whether some reference or range of a tree passes.
+/// Whether some reference, range or name of a tree passes.
 #[cycle(leaves)]
 #[tactic(auto, using(crate::specs::laws::LeafEquations::leaves))]
 pub fn has_leaf<T: LeafTest>(node: &Node, test: &T) -> bool
@@ -42,7 +46,7 @@ pub fn has_leaf<T: LeafTest>(node: &Node, test: &T) -> bool
         Node::Call(_, all) => have_leaf(all, test),
         Node::NamedCall(_, all) => have_leaf(all, test),
         Node::Array(_) => false,
-        Node::Name(_) => false,
+        Node::Name(name) => test.name(name),
         Node::Error(_) => false,
         Node::ParseError(_) => false,
         Node::EmptyArgument => false,

@@ -1,4 +1,3 @@
 pub mod Named
-pub mod NameTests
 pub mod Renamed
 pub mod laws

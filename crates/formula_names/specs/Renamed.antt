@@ -9,7 +9,7 @@ use Rattle.formula_tree.specs.contracts.node.Node.{the_row}
 use Rattle.formula_names.specs.declared.reach.Reach.{Reach}
 use Rattle.formula_names.specs.declared.reach.Reach.TheVariants.{Sheets, Names, Nothing}
 use Rattle.formula_names.specs.Named.{Naming, named}
-use Rattle.formula_names.specs.NameTests.{NameTests}
+use Rattle.formula_back.specs.Leaves.{LeafTests}
 
 -- ---- names
 
@@ -60,8 +60,9 @@ is_lost_name there back old new name = not (same_text (renamed_name back new old
 abbrev pub is_lost_sheet : Bool → Bool → List ℕ → List ℕ → Option (List ℕ) → Bool
 is_lost_sheet there back old new sheet = option_map_or (is_lost_name there back old new) sheet false
 
-abbrev pub lost_names : Reach → Reach → List ℕ → List ℕ → NameTests
+abbrev pub lost_names : Reach → Reach → List ℕ → List ℕ → LeafTests
 lost_names there back old new = record {
-  sheet = is_lost_sheet (reaches_sheets there) (reaches_sheets back) old new;
+  reference = λ sheet corner. is_lost_sheet (reaches_sheets there) (reaches_sheets back) old new sheet;
+  range = λ sheet first second. is_lost_sheet (reaches_sheets there) (reaches_sheets back) old new sheet;
   name = is_lost_name (reaches_names there) (reaches_names back) old new;
 }

@@ -1,5 +1,5 @@
 pub mod NamedEquations
 pub mod NamedLaws
 pub mod NameLeaves
+pub mod ReachEquals
 pub mod RenamedLaws
-pub mod TestEquations

@@ -1,6 +1,8 @@
 ghost use Rattle.std.specs.Prelude.{◌≡◌};
 ghost use Rattle.formula_names.specs.Renamed.{reaches_names, reaches_sheets};
 
+use base_values::Exact;
+
 /// What a renaming reaches in a formula.
 #[derive(Clone, Copy, Debug, PartialEq, Eq)]
 pub enum Reach {
@@ -9,6 +11,15 @@ pub enum Reach {
     /// Names: defined ones and variables.
     Names,
     Nothing,
+}
+
+impl Exact for Reach {
+    ghost use Rattle.std.proofs.Common.{rules};
+    ghost use Rattle.formula_names.specs.laws.ReachEquals.{reach_equals};
+
+    ghost copies = { λ a b h. Prim.search rules };
+
+    ghost equals = { reach_equals };
 }
 
 impl Reach {

@@ -3,17 +3,16 @@
 
 ghost use Rattle.std.specs.Prelude.{◌≡◌, None, Some, IfOk, IsOkUnless, if◌then◌else◌};
 ghost use Rattle.std.specs.Bool.{Decides};
-ghost use Rattle.std.specs.List.{list_any};
 ghost use Rattle.base_values.specs.declared.EditError.TheVariants.{NoMemory};
-ghost use Rattle.formula_names.specs.NameTests.{has_name};
-ghost use Rattle.formula_names.specs.Renamed.{is_lost_name, is_lost_sheet, lost_names, reaches_names, reaches_sheets};
+ghost use Rattle.formula_names.specs.Renamed.{is_lost_name, is_lost_sheet, reaches_sheets};
 ghost use Rattle.formula_names.specs.Renamed.{renamed_and_back, renamed_name, tree_kept, tree_renamed};
 
 use crate::reach::Reach;
 use base_shared::Shared;
 use base_tables::same_by_folding;
-use base_values::{EditError, Items, Text, copy_of};
-use formula_tree::Node;
+use base_values::{EditError, Text, copy_of};
+use formula_back::{LeafTest, has_leaf};
+use formula_tree::{Corner, Node};
 
 /// The text that a name is after a renaming, which reaches it or not.
 #[tactic(auto, unfolding(crate::specs::Renamed::renamed_name))]
@@ -37,103 +36,66 @@ fn is_lost_name(there: bool, back: bool, old: &str, new: &str, name: &str) -> bo
     after_renaming(back, new, old, after) != name
 }
 
-/// Whether the sheet that a node names, if it names one, is lost.
-fn is_lost_sheet(
+/// Two renamings, the second of which goes the opposite way, and what each reaches.
+#[derive(Drop)]
+struct Renamings<'n> {
     there: Reach,
     back: Reach,
-    old: &str,
-    new: &str,
-    sheet: &Option<Shared<Text>>,
-) -> bool
-    ensures { result ≡ is_lost_sheet (reaches_sheets there) (reaches_sheets back) old.now new.now sheet.now }
+    old: &'n str,
+    new: &'n str,
+}
+
+/// Whether the sheet that a node names, if it names one, is lost.
+fn is_lost_sheet(renamings: &Renamings<'_>, sheet: &Option<Shared<Text>>) -> bool
+    ensures { result ≡ is_lost_sheet (reaches_sheets renamings.now.there) (reaches_sheets renamings.now.back) renamings.now.old.now renamings.now.new.now sheet.now }
 {
     match sheet {
         Some(name) => is_lost_name(
-            there.reaches_sheets(),
-            back.reaches_sheets(),
-            old,
-            new,
+            renamings.there.reaches_sheets(),
+            renamings.back.reaches_sheets(),
+            renamings.old,
+            renamings.new,
             name.get().as_str(),
         ),
         None => false,
     }
 }
 
-/// Whether some name in a tree is lost.
-#[cycle(losing)]
-#[tactic(auto, using(crate::specs::laws::TestEquations::tellings))]
-fn has_lost(node: &Node, there: Reach, back: Reach, old: &str, new: &str) -> bool
-    ensures { result ≡ has_name (lost_names there back old.now new.now) node.now }
-{
-    match node {
-        Node::Boolean(_) => false,
-        Node::Number(_) => false,
-        Node::Text(_) => false,
-        Node::Reference(sheet, _) => is_lost_sheet(there, back, old, new, sheet),
-        Node::Range(sheet, _, _) => is_lost_sheet(there, back, old, new, sheet),
-        Node::Colon(a, b) => child_has(a, there, back, old, new)
-            || child_has(b, there, back, old, new),
-        Node::Concatenate(a, b) => {
-            child_has(a, there, back, old, new) || child_has(b, there, back, old, new)
-        }
-        Node::Compare(_, a, b) => {
-            child_has(a, there, back, old, new) || child_has(b, there, back, old, new)
-        }
-        Node::Sum(_, a, b) => {
-            child_has(a, there, back, old, new) || child_has(b, there, back, old, new)
-        }
-        Node::Product(_, a, b) => {
-            child_has(a, there, back, old, new) || child_has(b, there, back, old, new)
-        }
-        Node::Power(a, b) => child_has(a, there, back, old, new)
-            || child_has(b, there, back, old, new),
-        Node::Unary(_, a) => child_has(a, there, back, old, new),
-        Node::Call(_, all) => some_has(all, there, back, old, new),
-        Node::NamedCall(_, all) => some_has(all, there, back, old, new),
-        Node::Array(_) => false,
-        Node::Name(name) => is_lost_name(
-            there.reaches_names(),
-            back.reaches_names(),
-            old,
-            new,
+impl<'n> LeafTest for Renamings<'n> {
+    ghost use Rattle.formula_names.specs.Renamed.{lost_names};
+
+    ghost tests = { λ self. lost_names self.there self.back self.old.now self.new.now };
+
+    fn reference(&self, sheet: &Option<Shared<Text>>, _corner: Corner) -> bool {
+        is_lost_sheet(self, sheet)
+    }
+
+    fn range(&self, sheet: &Option<Shared<Text>>, _first: Corner, _second: Corner) -> bool {
+        is_lost_sheet(self, sheet)
+    }
+
+    fn name(&self, name: &Text) -> bool {
+        is_lost_name(
+            self.there.reaches_names(),
+            self.back.reaches_names(),
+            self.old,
+            self.new,
             name.as_str(),
-        ),
-        Node::Error(_) => false,
-        Node::ParseError(_) => false,
-        Node::EmptyArgument => false,
-        Node::Spill(a) => child_has(a, there, back, old, new),
-        Node::Lambda(_, a) => child_has(a, there, back, old, new),
-        Node::LambdaCall(a, all) => {
-            child_has(a, there, back, old, new) || some_has(all, there, back, old, new)
-        }
-        Node::ImplicitIntersection(a) => child_has(a, there, back, old, new),
+        )
     }
-}
-
-#[cycle(losing)]
-fn child_has(node: &Shared<Node>, there: Reach, back: Reach, old: &str, new: &str) -> bool
-    ensures { result ≡ has_name (lost_names there back old.now new.now) node.now }
-{
-    has_lost(node.get(), there, back, old, new)
-}
-
-#[cycle(losing)]
-fn some_has(nodes: &Items<Node>, there: Reach, back: Reach, old: &str, new: &str) -> bool
-    ensures { result ≡ list_any (has_name (lost_names there back old.now new.now)) nodes.now }
-{
-    for node in nodes.as_slice() {
-        if has_lost(node, there, back, old, new) {
-            return true;
-        }
-    }
-    false
 }
 
 /// Whether a tree stays as it is where `old` is renamed to `new`, told without memory.
 pub fn is_unchanged(tree: &Node, reach: Reach, old: &str, new: &str) -> bool
     ensures { Decides result (tree_renamed reach old.now new.now tree.now ≡ tree.now) }
 {
-    !has_lost(tree, reach, Reach::Nothing, old, new)
+    let renamings = Renamings {
+        there: reach,
+        back: Reach::Nothing,
+        old,
+        new,
+    };
+    !has_leaf(tree, &renamings)
 }
 
 /// Whether a tree comes back where `old` is renamed to `new` and then `new` to `old`, told without memory.
@@ -141,7 +103,13 @@ pub fn is_unchanged(tree: &Node, reach: Reach, old: &str, new: &str) -> bool
 pub fn comes_back(tree: &Node, there: Reach, back: Reach, old: &str, new: &str) -> bool
     ensures { Decides result (renamed_and_back there back old.now new.now tree.now ≡ tree.now) }
 {
-    !has_lost(tree, there, back, old, new)
+    let renamings = Renamings {
+        there,
+        back,
+        old,
+        new,
+    };
+    !has_leaf(tree, &renamings)
 }
 
 /// The tree, which is shared, but where it comes back.

@@ -31,8 +31,9 @@ is_given_up w None second = true
 unfoldable pub keeps_range : Way → Option (List ℕ) → Corner → Corner → Bool
 keeps_range w sheet first second = is_exposed w sheet first second && is_given_up w (moved_corner w true first) (moved_corner w true second)
 
+-- no name has to be kept
 abbrev pub kept_leaves : Way → LeafTests
-kept_leaves w = record { reference = keeps_reference w; range = keeps_range w }
+kept_leaves w = record { reference = keeps_reference w; range = keeps_range w; name = λ name. false }
 
 -- a formula has to be kept where one of its references or ranges has to be
 unfoldable pub must_keep : Way → Node → Bool

@@ -83,6 +83,10 @@ impl<'r, 'a, A: Axis, M: LineMap<A>> LeafTest for Following<'r, 'a, A, M> {
     fn range(&self, sheet: &Option<Shared<Text>>, first: Corner, second: Corner) -> bool {
         keeps_range(self.route, sheet, first, second)
     }
+
+    fn name(&self, _name: &Text) -> bool {
+        false
+    }
 }
 
 /// Whether a formula has to be kept, told by its corners.

@@ -18,6 +18,7 @@ mod lines;
 mod names;
 mod places;
 mod sheets;
+mod sizes;
 mod values;
 
 fn new_model(alloc: Global) -> Result<UserModel<ClearAll>, EditError> {

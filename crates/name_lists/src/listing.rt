@@ -5,7 +5,7 @@ ghost use Rattle.sheet_rules.specs.Names.{first_place};
 ghost use Rattle.name_lists.specs.Listed.{listed_name, listed_names, scope_index};
 
 use base_tables::{Language, Locale};
-use base_values::{EditError, Items, Text, copy_of};
+use base_values::{EditError, Exact, Items, Text, copy_of};
 use defined_names::DefinedName;
 use formula_print::to_localized_string;
 use formula_tree::{CellReferenceRC, Node};
@@ -25,6 +25,15 @@ pub struct ScopedName {
     pub scope: Option<u32>,
     /// The text of its formula, as at A1 and without an equals sign.
     pub formula: Text,
+}
+
+impl Exact for ScopedName {
+    ghost use Rattle.std.proofs.Common.{rules};
+    ghost use Rattle.name_lists.specs.laws.ListedEquals.{scoped_name_equals};
+
+    ghost copies = { λ a b h. Prim.search rules };
+
+    ghost equals = { scoped_name_equals };
 }
 
 /// The index of the sheet of an id, if there is an id and such a sheet.

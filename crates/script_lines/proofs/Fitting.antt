@@ -19,13 +19,12 @@ use Rattle.script_lines.proofs.Letters.{all_letters}
 use Rattle.script_lines.specs.Colors.{named_colors, named_color, digit_value, pair_value, color_of_pairs, color_of_digits, digit_color, color_of}
 use Rattle.script_lines.specs.Escapes.{unescaped}
 use Rattle.script_lines.proofs.EscapeLaws.{unescaped-IsUtf8}
-use Rattle.script_lines.specs.Unsupported.{is_unsupported}
-use Rattle.script_lines.specs.Commands.{Reader, word, sheet_word, cell_words, area_words, lines_words, move_words, sheet_move_words, color_words, grid_words, bit_of, scope_of, name_of, name_words, update_words, ended, with_text, alone, exactly, and_text, set_to, commands, from_words, command_of}
+use Rattle.script_lines.specs.Commands.{Reader, word, sheet_word, cell_words, area_words, lines_words, move_words, sheet_move_words, color_words, grid_words, bit_of, scope_of, name_of, name_words, update_words, ended, with_text, alone, exactly, and_text, commands, from_words, command_of, count_words, span_of, size_of}
 use Rattle.script_lines.specs.declared.reference.Reference.{Reference}
 use Rattle.script_lines.specs.declared.command.NamedCell.{NamedCell}
 use Rattle.script_lines.specs.declared.command.Command.{Command}
-use Rattle.script_lines.specs.declared.command.Command.TheVariants.{Set, Get, Array, Link, Unlink, Merge, Unmerge, InsertRows, InsertColumns, DeleteRows, DeleteColumns, MoveRows, MoveColumns, NewSheet, DuplicateSheet, DeleteSheet, MoveSheet, RenameSheet, HideSheet, UnhideSheet, SheetColor, GridLines, Name, NameUpdate, NameDelete, Undo, Redo, Sync, Show}
-use Rattle.script_lines.specs.CommandFits.{IsNamed, IsNamedArea, CellFits, AreaFits, LinesFit, MoveFits, SheetFits, SheetMoveFits, IsNamedColor, ColorFits, GridFits, NameFits, UpdateFits, CommandFits}
+use Rattle.script_lines.specs.declared.command.Command.TheVariants.{Set, Get, Array, Link, Unlink, Merge, Unmerge, InsertRows, InsertColumns, DeleteRows, DeleteColumns, MoveRows, MoveColumns, NewSheet, DuplicateSheet, DeleteSheet, MoveSheet, RenameSheet, HideSheet, UnhideSheet, SheetColor, GridLines, Name, NameUpdate, NameDelete, Undo, Redo, Sync, Show, Width, Height, HideRows, ShowRows, HideColumns, ShowColumns, FreezeRows, FreezeColumns}
+use Rattle.script_lines.specs.CommandFits.{IsNamed, IsNamedArea, CellFits, AreaFits, LinesFit, MoveFits, SheetFits, SheetMoveFits, IsNamedColor, ColorFits, GridFits, NameFits, UpdateFits, CommandFits, SpanFits, SizeFits, CountFits}
 
 -- ---- lists
 
@@ -263,6 +262,11 @@ move_fits words t =
     (λ lines l. step (Fit (FitsSigned w32)) (Fit MoveFits) (word signed_number lines.1) _ (signed_word_fits lines.1 l.1)
     (λ delta d. ((l.0.0, l.0.1, l.0.2, d.0), d.1)))
 
+count_fits : Reads CountFits count_words
+count_fits words t =
+    step (Fit SheetFits) (Fit CountFits) (sheet_word words) _ (sheet_fits words t)
+    (λ sheet s. step (Fit (FitsSigned w32)) (Fit CountFits) (word signed_number sheet.1) _ (signed_word_fits sheet.1 s.1) (λ count c. ((s.0, c.0), c.1)))
+
 sheet_move_fits : Reads SheetMoveFits sheet_move_words
 sheet_move_fits words t =
     step (Fit SheetFits) (Fit SheetMoveFits) (sheet_word words) _ (sheet_fits words t)
@@ -340,16 +344,13 @@ and_text_fits P read command h k words t =
     step (λ found. P found.0 × IsUtf8 found.1) CommandFits (option_and_then with_text (read words)) (λ found. command found.0 found.1)
     (step (Fit P) (λ found. P found.0 × IsUtf8 found.1) (read words) with_text (h words t) (text_fits P)) (λ found q. k found.0 found.1 q.0 q.1)
 
-set_fits : (cell : NamedCell) (text : List ℕ) → CellFits cell → IsUtf8 text → IfSome (set_to cell text) CommandFits
-set_fits cell text c t = either CommandFits (is_unsupported text) None (Some (Set cell text)) tt (c, t)
-
 alone_fits : (command : Command) → CommandFits command → (words : List (List ℕ)) → IsUtf8 (text_of words) → IfSome (alone command words) CommandFits
 alone_fits command h [] t = h
 alone_fits command h (next ∷ words) t = tt
 
 each_fits : AllByRecursion Readable commands
 each_fits =
-    and_text_fits CellFits cell_words set_to cell_fits set_fits
+    and_text_fits CellFits cell_words (λ cell text. Some (Set cell text)) cell_fits (λ cell text c t. (c, t))
     ▸ exactly_fits CellFits cell_words Get cell_fits (λ cell c. c)
     ▸ and_text_fits AreaFits area_words (λ area text. Some (Array area text)) area_words_fit (λ area text a t. (a, t))
     ▸ and_text_fits CellFits cell_words (λ cell text. Some (Link cell text)) cell_fits (λ cell text c t. (c, t))
@@ -362,6 +363,14 @@ each_fits =
     ▸ exactly_fits LinesFit lines_words DeleteColumns lines_fit (λ lines l. l)
     ▸ exactly_fits MoveFits move_words MoveRows move_fits (λ move m. m)
     ▸ exactly_fits MoveFits move_words MoveColumns move_fits (λ move m. m)
+    ▸ exactly_fits MoveFits move_words (λ move. Width (size_of move)) move_fits (λ move m. m)
+    ▸ exactly_fits MoveFits move_words (λ move. Height (size_of move)) move_fits (λ move m. m)
+    ▸ exactly_fits LinesFit lines_words (λ lines. HideRows (span_of lines)) lines_fit (λ lines l. l)
+    ▸ exactly_fits LinesFit lines_words (λ lines. ShowRows (span_of lines)) lines_fit (λ lines l. l)
+    ▸ exactly_fits LinesFit lines_words (λ lines. HideColumns (span_of lines)) lines_fit (λ lines l. l)
+    ▸ exactly_fits LinesFit lines_words (λ lines. ShowColumns (span_of lines)) lines_fit (λ lines l. l)
+    ▸ exactly_fits CountFits count_words FreezeRows count_fits (λ named c. c)
+    ▸ exactly_fits CountFits count_words FreezeColumns count_fits (λ named c. c)
     ▸ alone_fits NewSheet tt
     ▸ exactly_fits SheetFits sheet_word DuplicateSheet sheet_fits (λ sheet s. s)
     ▸ exactly_fits SheetFits sheet_word DeleteSheet sheet_fits (λ sheet s. s)

@@ -14,8 +14,11 @@ use Rattle.script_lines.specs.declared.command.NamedColor.{NamedColor}
 use Rattle.script_lines.specs.declared.command.NamedGrid.{NamedGrid}
 use Rattle.script_lines.specs.declared.command.NamedName.{NamedName}
 use Rattle.script_lines.specs.declared.command.NamedUpdate.{NamedUpdate}
+use Rattle.script_lines.specs.declared.command.NamedSpan.{NamedSpan}
+use Rattle.script_lines.specs.declared.command.NamedSize.{NamedSize}
+use Rattle.script_lines.specs.declared.command.NamedCount.{NamedCount}
 use Rattle.script_lines.specs.declared.command.Command.{Command}
-use Rattle.script_lines.specs.declared.command.Command.TheVariants.{Set, Get, Array, Link, Unlink, Merge, Unmerge, InsertRows, InsertColumns, DeleteRows, DeleteColumns, MoveRows, MoveColumns, NewSheet, DuplicateSheet, DeleteSheet, MoveSheet, RenameSheet, HideSheet, UnhideSheet, SheetColor, GridLines, Name, NameUpdate, NameDelete, Undo, Redo, Sync, Show}
+use Rattle.script_lines.specs.declared.command.Command.TheVariants.{Set, Get, Array, Link, Unlink, Merge, Unmerge, InsertRows, InsertColumns, DeleteRows, DeleteColumns, MoveRows, MoveColumns, NewSheet, DuplicateSheet, DeleteSheet, MoveSheet, RenameSheet, HideSheet, UnhideSheet, SheetColor, GridLines, Name, NameUpdate, NameDelete, Undo, Redo, Sync, Show, Width, Height, HideRows, ShowRows, HideColumns, ShowColumns, FreezeRows, FreezeColumns}
 
 -- a row and a column that letters and digits can name
 pub record IsNamed (row column : ℤ) : Type 0 where
@@ -44,6 +47,15 @@ LinesFit lines = (lines.sheet < 2 ^ 32) × FitsSigned w32 lines.first × FitsSig
 
 abbrev pub MoveFits : NamedMove → Type 0
 MoveFits move = (move.sheet < 2 ^ 32) × FitsSigned w32 move.first × FitsSigned w32 move.count × FitsSigned w32 move.delta
+
+abbrev pub SpanFits : NamedSpan → Type 0
+SpanFits span = (span.sheet < 2 ^ 32) × FitsSigned w32 span.first × FitsSigned w32 span.last
+
+abbrev pub SizeFits : NamedSize → Type 0
+SizeFits named = (named.sheet < 2 ^ 32) × FitsSigned w32 named.first × FitsSigned w32 named.last × FitsSigned w32 named.size
+
+abbrev pub CountFits : NamedCount → Type 0
+CountFits named = (named.sheet < 2 ^ 32) × FitsSigned w32 named.count
 
 abbrev pub SheetFits : ℕ → Type 0
 SheetFits sheet = sheet < 2 ^ 32
@@ -84,6 +96,14 @@ CommandFits (DeleteRows lines) = LinesFit lines
 CommandFits (DeleteColumns lines) = LinesFit lines
 CommandFits (MoveRows move) = MoveFits move
 CommandFits (MoveColumns move) = MoveFits move
+CommandFits (Width named) = SizeFits named
+CommandFits (Height named) = SizeFits named
+CommandFits (HideRows span) = SpanFits span
+CommandFits (ShowRows span) = SpanFits span
+CommandFits (HideColumns span) = SpanFits span
+CommandFits (ShowColumns span) = SpanFits span
+CommandFits (FreezeRows named) = CountFits named
+CommandFits (FreezeColumns named) = CountFits named
 CommandFits NewSheet = Unit {0}
 CommandFits (DuplicateSheet sheet) = SheetFits sheet
 CommandFits (DeleteSheet sheet) = SheetFits sheet

@@ -10,18 +10,20 @@ use Rattle.script_lines.specs.Number.{number_below, signed_number}
 use Rattle.script_lines.specs.References.{reference_of, area_of}
 use Rattle.script_lines.specs.Colors.{color_of}
 use Rattle.script_lines.specs.Escapes.{unescaped}
-use Rattle.script_lines.specs.Unsupported.{is_unsupported}
 use Rattle.script_lines.specs.declared.command.NamedCell.{NamedCell}
 use Rattle.script_lines.specs.declared.command.NamedArea.{NamedArea}
 use Rattle.script_lines.specs.declared.command.NamedLines.{NamedLines}
 use Rattle.script_lines.specs.declared.command.NamedMove.{NamedMove}
+use Rattle.script_lines.specs.declared.command.NamedSpan.{NamedSpan}
+use Rattle.script_lines.specs.declared.command.NamedSize.{NamedSize}
+use Rattle.script_lines.specs.declared.command.NamedCount.{NamedCount}
 use Rattle.script_lines.specs.declared.command.NamedSheetMove.{NamedSheetMove}
 use Rattle.script_lines.specs.declared.command.NamedColor.{NamedColor}
 use Rattle.script_lines.specs.declared.command.NamedGrid.{NamedGrid}
 use Rattle.script_lines.specs.declared.command.NamedName.{NamedName}
 use Rattle.script_lines.specs.declared.command.NamedUpdate.{NamedUpdate}
 use Rattle.script_lines.specs.declared.command.Command.{Command}
-use Rattle.script_lines.specs.declared.command.Command.TheVariants.{Set, Get, Array, Link, Unlink, Merge, Unmerge, InsertRows, InsertColumns, DeleteRows, DeleteColumns, MoveRows, MoveColumns, NewSheet, DuplicateSheet, DeleteSheet, MoveSheet, RenameSheet, HideSheet, UnhideSheet, SheetColor, GridLines, Name, NameUpdate, NameDelete, Undo, Redo, Sync, Show}
+use Rattle.script_lines.specs.declared.command.Command.TheVariants.{Set, Get, Array, Link, Unlink, Merge, Unmerge, InsertRows, InsertColumns, DeleteRows, DeleteColumns, MoveRows, MoveColumns, NewSheet, DuplicateSheet, DeleteSheet, MoveSheet, RenameSheet, HideSheet, UnhideSheet, SheetColor, GridLines, Name, NameUpdate, NameDelete, Undo, Redo, Sync, Show, Width, Height, HideRows, ShowRows, HideColumns, ShowColumns, FreezeRows, FreezeColumns}
 
 -- the next step, if this one has a value
 infixl 10 ◌>>=◌
@@ -71,6 +73,20 @@ move_words words = do
   lines ← lines_words words
   delta ← word signed_number lines.1
   Some (record { sheet = lines.0.sheet; first = lines.0.first; count = lines.0.count; delta = delta.0 }, delta.1)
+
+-- `S N N` as a first line and a last one, and `S N N N` as these and a size
+abbrev pub span_of : NamedLines → NamedSpan
+span_of lines = record { sheet = lines.sheet; first = lines.first; last = lines.count }
+
+abbrev pub size_of : NamedMove → NamedSize
+size_of move = record { sheet = move.sheet; first = move.first; last = move.count; size = move.delta }
+
+-- `S N`: how many
+abbrev pub count_words : Reader NamedCount
+count_words words = do
+  sheet ← sheet_word words
+  count ← word signed_number sheet.1
+  Some (record { sheet = sheet.0; count = count.0 }, count.1)
 
 -- `S S`: a sheet, and the index that it goes to
 abbrev pub sheet_move_words : Reader NamedSheetMove
@@ -142,16 +158,12 @@ exactly read command words = option_map command (option_and_then ended (read wor
 abbrev pub and_text : {A : Type 0} → Reader A → (A → List ℕ → Option Command) → List (List ℕ) → Option Command
 and_text read command words = option_and_then (λ found. command found.0 found.1) (option_and_then with_text (read words))
 
--- no cell is set to a text of several lines yet
-abbrev pub set_to : NamedCell → List ℕ → Option Command
-set_to cell text = if is_unsupported text then None else Some (Set cell text)
-
 -- ---- the table
 
 -- the word that each command begins with, and how the words behind it are read
 abbrev pub commands : List (List ℕ × (List (List ℕ) → Option Command))
 commands =
-    (codes "set", and_text cell_words set_to)
+    (codes "set", and_text cell_words (λ cell text. Some (Set cell text)))
     ∷ (codes "get", exactly cell_words Get)
     ∷ (codes "array", and_text area_words (λ area text. Some (Array area text)))
     ∷ (codes "link", and_text cell_words (λ cell text. Some (Link cell text)))
@@ -164,6 +176,14 @@ commands =
     ∷ (codes "delete-columns", exactly lines_words DeleteColumns)
     ∷ (codes "move-rows", exactly move_words MoveRows)
     ∷ (codes "move-columns", exactly move_words MoveColumns)
+    ∷ (codes "width", exactly move_words (λ move. Width (size_of move)))
+    ∷ (codes "height", exactly move_words (λ move. Height (size_of move)))
+    ∷ (codes "hide-rows", exactly lines_words (λ lines. HideRows (span_of lines)))
+    ∷ (codes "show-rows", exactly lines_words (λ lines. ShowRows (span_of lines)))
+    ∷ (codes "hide-columns", exactly lines_words (λ lines. HideColumns (span_of lines)))
+    ∷ (codes "show-columns", exactly lines_words (λ lines. ShowColumns (span_of lines)))
+    ∷ (codes "freeze-rows", exactly count_words FreezeRows)
+    ∷ (codes "freeze-columns", exactly count_words FreezeColumns)
     ∷ (codes "new-sheet", alone NewSheet)
     ∷ (codes "duplicate-sheet", exactly sheet_word DuplicateSheet)
     ∷ (codes "delete-sheet", exactly sheet_word DeleteSheet)

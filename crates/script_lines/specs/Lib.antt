@@ -3,7 +3,6 @@ pub mod Number
 pub mod References
 pub mod Colors
 pub mod Escapes
-pub mod Unsupported
 pub mod Commands
 pub mod CommandFits
 pub mod laws

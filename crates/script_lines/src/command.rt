@@ -79,6 +79,62 @@ impl Exact for NamedMove {
     ghost equals = { named_move_equals };
 }
 
+/// Rows or columns that a line names by the first and the last of them.
+#[derive(Clone, Copy, Debug, PartialEq, Eq)]
+pub struct NamedSpan {
+    /// The index of their sheet.
+    pub sheet: u32,
+    pub first: i32,
+    pub last: i32,
+}
+
+impl Exact for NamedSpan {
+    ghost use Rattle.std.proofs.Common.{rules};
+    ghost use Rattle.script_lines.specs.laws.NamedEquals.{named_span_equals};
+
+    ghost copies = { λ a b h. Prim.search rules };
+
+    ghost equals = { named_span_equals };
+}
+
+/// Rows or columns that a line names by the first and the last of them, and the size that they are to
+/// have.
+#[derive(Clone, Copy, Debug, PartialEq, Eq)]
+pub struct NamedSize {
+    /// The index of their sheet.
+    pub sheet: u32,
+    pub first: i32,
+    pub last: i32,
+    /// In half pixels.
+    pub size: i32,
+}
+
+impl Exact for NamedSize {
+    ghost use Rattle.std.proofs.Common.{rules};
+    ghost use Rattle.script_lines.specs.laws.NamedEquals.{named_size_equals};
+
+    ghost copies = { λ a b h. Prim.search rules };
+
+    ghost equals = { named_size_equals };
+}
+
+/// How many lines of a sheet that a line names are to be frozen.
+#[derive(Clone, Copy, Debug, PartialEq, Eq)]
+pub struct NamedCount {
+    /// The index of the sheet.
+    pub sheet: u32,
+    pub count: i32,
+}
+
+impl Exact for NamedCount {
+    ghost use Rattle.std.proofs.Common.{rules};
+    ghost use Rattle.script_lines.specs.laws.NamedEquals.{named_count_equals};
+
+    ghost copies = { λ a b h. Prim.search rules };
+
+    ghost equals = { named_count_equals };
+}
+
 /// A sheet that a line names, and where it is to go.
 #[derive(Clone, Copy, Debug, PartialEq, Eq)]
 pub struct NamedSheetMove {
@@ -132,18 +188,36 @@ impl Exact for NamedGrid {
 }
 
 /// A defined name that a line names.
-#[derive(Debug, PartialEq, Eq, Drop)]
+#[derive(Clone, Debug, PartialEq, Eq, Drop)]
 pub struct NamedName {
     /// The index of the sheet where alone it is known. None stands for the whole workbook.
     pub scope: Option<u32>,
     pub name: Text,
 }
 
+impl Exact for NamedName {
+    ghost use Rattle.std.proofs.Common.{rules};
+    ghost use Rattle.script_lines.specs.laws.NamedEquals.{named_name_equals};
+
+    ghost copies = { λ a b h. Prim.search rules };
+
+    ghost equals = { named_name_equals };
+}
+
 /// A defined name that a line names, and what it becomes.
-#[derive(Debug, PartialEq, Eq, Drop)]
+#[derive(Clone, Debug, PartialEq, Eq, Drop)]
 pub struct NamedUpdate {
     pub old: NamedName,
     pub new: NamedName,
+}
+
+impl Exact for NamedUpdate {
+    ghost use Rattle.std.proofs.Common.{rules};
+    ghost use Rattle.script_lines.specs.laws.NamedEquals.{named_update_equals};
+
+    ghost copies = { λ a b h. Prim.search rules };
+
+    ghost equals = { named_update_equals };
 }
 
 /// What a line of a script asks for. Rows, columns and counts are those that the line names, and may lie
@@ -176,6 +250,22 @@ pub enum Command {
     MoveRows(NamedMove),
     /// `move-columns S N N N`: move columns, as many as the count from a column on.
     MoveColumns(NamedMove),
+    /// `width S FIRST LAST N`: give columns a width.
+    Width(NamedSize),
+    /// `height S FIRST LAST N`: give rows a height.
+    Height(NamedSize),
+    /// `hide-rows S FIRST LAST`: hide rows.
+    HideRows(NamedSpan),
+    /// `show-rows S FIRST LAST`: show rows again.
+    ShowRows(NamedSpan),
+    /// `hide-columns S FIRST LAST`: hide columns.
+    HideColumns(NamedSpan),
+    /// `show-columns S FIRST LAST`: show columns again.
+    ShowColumns(NamedSpan),
+    /// `freeze-rows S N`: freeze rows at the top of a sheet.
+    FreezeRows(NamedCount),
+    /// `freeze-columns S N`: freeze columns at the left of a sheet.
+    FreezeColumns(NamedCount),
     /// `new-sheet`: put an empty sheet behind the last one.
     NewSheet,
     /// `duplicate-sheet S`: put a copy of a sheet behind it.

@@ -13,11 +13,10 @@ mod number;
 mod parse;
 mod parts;
 mod reference;
-mod unsupported;
 
 pub use command::{
-    Command, NamedArea, NamedCell, NamedColor, NamedGrid, NamedLines, NamedMove, NamedName,
-    NamedSheetMove, NamedUpdate,
+    Command, NamedArea, NamedCell, NamedColor, NamedCount, NamedGrid, NamedLines, NamedMove,
+    NamedName, NamedSheetMove, NamedSize, NamedSpan, NamedUpdate,
 };
 pub use escape::{escapes_read_back, push_escaped};
 pub use parse::read_command;

@@ -8,14 +8,13 @@ ghost use Rattle.script_lines.specs.Commands as spec;
 
 use crate::color::color_of;
 use crate::command::{
-    Command, NamedArea, NamedCell, NamedColor, NamedGrid, NamedLines, NamedMove, NamedName,
-    NamedSheetMove, NamedUpdate,
+    Command, NamedArea, NamedCell, NamedColor, NamedCount, NamedGrid, NamedLines, NamedMove,
+    NamedName, NamedSheetMove, NamedSize, NamedSpan, NamedUpdate,
 };
 use crate::escape::unescape;
 use crate::number::{read_i32, read_u32};
 use crate::parts::{split_word, text_of};
 use crate::reference::{read_area, read_reference};
-use crate::unsupported::is_unsupported;
 use base_values::{EditError, Text};
 use std::alloc::Global;
 use std::str;
@@ -101,6 +100,38 @@ fn move_words(words: Option<&str>) -> Option<(NamedMove, Option<&str>)>
         delta,
     };
     Some((moved, words))
+}
+
+/// `S N N` as a first line and a last one.
+fn span_of(lines: NamedLines) -> NamedSpan
+    ensures { result ≡ spec.span_of lines }
+{
+    NamedSpan {
+        sheet: lines.sheet,
+        first: lines.first,
+        last: lines.count,
+    }
+}
+
+/// `S N N N` as a first line, a last one, and a size.
+fn size_of(moved: NamedMove) -> NamedSize
+    ensures { result ≡ spec.size_of moved }
+{
+    NamedSize {
+        sheet: moved.sheet,
+        first: moved.first,
+        last: moved.count,
+        size: moved.delta,
+    }
+}
+
+/// `S N`, and the words behind it.
+fn count_words(words: Option<&str>) -> Option<(NamedCount, Option<&str>)>
+    ensures { option_map (λ found. (found.0, parts_after 32 (option_copied found.1))) result ≡ spec.count_words (parts_after 32 (option_copied words.entry)) }
+{
+    let (sheet, words) = sheet_word(words)?;
+    let (count, words) = number_word(words)?;
+    Some((NamedCount { sheet, count }, words))
 }
 
 /// `S S`, and the words behind it.
@@ -257,15 +288,6 @@ fn alone(command: Command, words: Option<&str>) -> Option<Command>
     }
 }
 
-fn set_to(cell: NamedCell, text: Text) -> Option<Command>
-    ensures { result ≡ spec.set_to cell text }
-{
-    if is_unsupported(text.as_str().as_bytes()) {
-        return None;
-    }
-    Some(Command::Set(cell, text))
-}
-
 /// The command that words are: the first, and the others.
 fn read_words(alloc: Global, word: &str, words: Option<&str>) -> Result<Option<Command>, EditError>
     ensures value { IfOk result
@@ -273,7 +295,7 @@ fn read_words(alloc: Global, word: &str, words: Option<&str>) -> Result<Option<C
     ensures err { IsOkUnless result NoMemory }
 {
     match word {
-        "set" => Ok(with_text(alloc, cell_words(words))?.and_then(|(cell, text)| set_to(
+        "set" => Ok(with_text(alloc, cell_words(words))?.map(|(cell, text)| Command::Set(
             cell, text,
         ))),
         "get" => Ok(ended(cell_words(words)).map(Command::Get)),
@@ -292,6 +314,18 @@ fn read_words(alloc: Global, word: &str, words: Option<&str>) -> Result<Option<C
         "delete-columns" => Ok(ended(lines_words(words)).map(Command::DeleteColumns)),
         "move-rows" => Ok(ended(move_words(words)).map(Command::MoveRows)),
         "move-columns" => Ok(ended(move_words(words)).map(Command::MoveColumns)),
+        "width" => Ok(ended(move_words(words)).map(|moved| Command::Width(size_of(moved)))),
+        "height" => Ok(ended(move_words(words)).map(|moved| Command::Height(size_of(moved)))),
+        "hide-rows" => Ok(ended(lines_words(words)).map(|lines| Command::HideRows(span_of(lines)))),
+        "show-rows" => Ok(ended(lines_words(words)).map(|lines| Command::ShowRows(span_of(lines)))),
+        "hide-columns" => Ok(ended(lines_words(words)).map(|lines| Command::HideColumns(span_of(
+            lines,
+        )))),
+        "show-columns" => Ok(ended(lines_words(words)).map(|lines| Command::ShowColumns(span_of(
+            lines,
+        )))),
+        "freeze-rows" => Ok(ended(count_words(words)).map(Command::FreezeRows)),
+        "freeze-columns" => Ok(ended(count_words(words)).map(Command::FreezeColumns)),
         "new-sheet" => Ok(alone(Command::NewSheet, words)),
         "duplicate-sheet" => Ok(ended(sheet_word(words)).map(Command::DuplicateSheet)),
         "delete-sheet" => Ok(ended(sheet_word(words)).map(Command::DeleteSheet)),

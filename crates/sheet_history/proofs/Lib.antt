@@ -1,4 +1,5 @@
 mod DiffLemmas
 mod Following
+mod KeptAttributes
 pub mod Placed
 mod Standing

@@ -1,5 +1,5 @@
 -- Corners of formulas lie inside the sheet: in a well-formed workbook, and where an entry that fits is put.
-use Rattle.std.proofs.Common.{◌≡◌, ℕ, Bool, true, false, cond, ◌&&◌, List, [], ◌∷◌, Option, Some, None, Result, Ok, Err, refl, ap, sym, subst, ◌∙◌}
+use Rattle.std.proofs.Common.{◌≡◌, ℕ, Bool, true, false, cond, List, [], ◌∷◌, Option, Some, None, Result, Ok, Err, refl, ap, sym, subst, ◌∙◌}
 use Rattle.std.specs.Prelude.{OnOk, ◌==◌, is_some}
 use Rattle.std.specs.List.{AllByRecursion, list_all}
 use Rattle.std.specs.Ordering.{eq_by_cmp}
@@ -22,12 +22,13 @@ use Rattle.sheet_rules.specs.WellFormed.{is_place, have_trees, IsWellFormed}
 use Rattle.sheet_lines.specs.Sheets.{IsPlacedCell, IsPlacedSheet, IsPlacedBook, sheet_of}
 use Rattle.book_sheets.specs.laws.Placed.{placed_cell, merges_lie}
 use Rattle.sheet_history.specs.Entries.{EntryKey, EntryValue, cell_stands_at, value_fits, sheet_id_of, with_sheet_entry, with_changed, put_entry, accepts}
-use Rattle.sheet_history.specs.Entries.EntryKey.{CellKey, LinkKey, MergesKey, FieldKey}
-use Rattle.sheet_history.specs.Entries.EntryValue.{CellValue, LinkValue, MergesValue, FieldValue}
+use Rattle.sheet_history.specs.Entries.EntryKey.{CellKey, LinkKey, MergesKey, FieldKey, AttrKey}
+use Rattle.sheet_history.specs.Entries.EntryValue.{CellValue, LinkValue, MergesValue, FieldValue, AttrValue}
+use Rattle.sheet_history.specs.declared.diff.LineAxis.TheVariants.{Rows, Columns}
 use Rattle.sheet_history.specs.declared.field.SheetField.{SheetField}
 use Rattle.sheet_history.specs.declared.field.SheetField.TheVariants as value
 use Rattle.sheet_history.specs.Fields.{Field, with_field}
-use Rattle.sheet_history.specs.Fields.Field.{ColorField, StateField, GridField}
+use Rattle.sheet_history.specs.Fields.Field.{ColorField, StateField, GridField, FrozenRowsField, FrozenColumnsField}
 use Rattle.sheet_history.specs.Diffs.{put_in}
 use Rattle.sheet_history.specs.laws.EntryLaws.{decide}
 use Rattle.sheet_history.specs.laws.SoundEntries.{sheet_merges_inside}
@@ -68,6 +69,8 @@ placed_field : (s : Sheet) (field : Field) (v : SheetField) → IsPlacedSheet s 
 placed_field s ColorField (value.Color v) all = record { cells = all.cells; merges = all.merges }
 placed_field s StateField (value.State v) all = record { cells = all.cells; merges = all.merges }
 placed_field s GridField (value.GridLines v) all = record { cells = all.cells; merges = all.merges }
+placed_field s FrozenRowsField (value.FrozenRows v) all = record { cells = all.cells; merges = all.merges }
+placed_field s FrozenColumnsField (value.FrozenColumns v) all = record { cells = all.cells; merges = all.merges }
 placed_field s _ _ all = all
 
 -- of a sheet with an entry that fits
@@ -76,6 +79,8 @@ placed_entry s (CellKey id place) (CellValue entry) fits all = placed-put s plac
 placed_entry s (LinkKey id place) (LinkValue entry) fits all = record { cells = all.cells; merges = all.merges }
 placed_entry s (MergesKey id) (MergesValue merges) fits all = record { cells = all.cells; merges = merges_lie merges fits }
 placed_entry s (FieldKey id field) (FieldValue v) fits all = placed_field s field v all
+placed_entry s (AttrKey id Rows line) (AttrValue entry) fits all = record { cells = all.cells; merges = all.merges }
+placed_entry s (AttrKey id Columns line) (AttrValue entry) fits all = record { cells = all.cells; merges = all.merges }
 placed_entry s _ _ fits all = absurd (let never : false ≡ true = fits in cc)
 
 each_changed : (P : Sheet → Type 0) (f : Sheet → Sheet) → ((s : Sheet) → P s → P (f s)) → (id : ℕ) (ss : List Sheet) → AllByRecursion P ss → AllByRecursion P (with_changed id f ss)

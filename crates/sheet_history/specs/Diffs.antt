@@ -15,13 +15,13 @@ use Rattle.book_names.specs.RenameDiffs.{rename_forward, rename_back}
 use Rattle.name_edits.specs.NameChanges.{IsCanonicalChange}
 use Rattle.name_edits.specs.NameDiffs.{name_forward, name_back}
 use Rattle.sheet_history.specs.declared.diff.Diff.{Diff}
-use Rattle.sheet_history.specs.declared.diff.Diff.TheVariants.{Cell as CellDiff, Link as LinkDiff, Merges as MergesDiff, Field as FieldDiff, Lines as LinesDiff, NewSheet as NewDiff, DuplicateSheet as CopyDiff, DeleteSheet as DeletionDiff, MoveSheet as MoveDiff, RenameSheet as RenameDiff, ChangeName as NameDiff}
+use Rattle.sheet_history.specs.declared.diff.Diff.TheVariants.{Cell as CellDiff, Link as LinkDiff, Merges as MergesDiff, Field as FieldDiff, Lines as LinesDiff, NewSheet as NewDiff, DuplicateSheet as CopyDiff, DeleteSheet as DeletionDiff, MoveSheet as MoveDiff, RenameSheet as RenameDiff, ChangeName as NameDiff, Attributes as AttrDiff}
 use Rattle.sheet_history.specs.declared.diff.DiffType.{DiffType}
 use Rattle.sheet_history.specs.declared.diff.DiffType.TheVariants.{Undo, Redo}
 use Rattle.sheet_history.specs.declared.diff.QueueDiffs.{QueueDiffs}
 use Rattle.sheet_history.specs.Entries.{EntryKey, EntryValue, value_fits, with_sheet_entry, accepts, put_entry}
-use Rattle.sheet_history.specs.Entries.EntryKey.{CellKey, LinkKey, MergesKey, FieldKey}
-use Rattle.sheet_history.specs.Entries.EntryValue.{CellValue, LinkValue, MergesValue, FieldValue}
+use Rattle.sheet_history.specs.Entries.EntryKey.{CellKey, LinkKey, MergesKey, FieldKey, AttrKey}
+use Rattle.sheet_history.specs.Entries.EntryValue.{CellValue, LinkValue, MergesValue, FieldValue, AttrValue}
 use Rattle.sheet_history.specs.Fields.{old_of, new_of, changed_field}
 use Rattle.sheet_history.specs.LineDiffs.{along_of, lines_forward, lines_back}
 
@@ -39,6 +39,7 @@ step_forward at book (CellDiff sheet place old new) = put_in at book (CellKey sh
 step_forward at book (LinkDiff sheet place old new) = put_in at book (LinkKey sheet place) (LinkValue new)
 step_forward at book (MergesDiff sheet old new) = put_in at book (MergesKey sheet) (MergesValue new)
 step_forward at book (FieldDiff sheet change) = put_in at book (FieldKey sheet (changed_field change)) (FieldValue (new_of change))
+step_forward at book (AttrDiff sheet axis line old new) = put_in at book (AttrKey sheet axis line) (AttrValue new)
 step_forward at book (LinesDiff sheet axis edit kept) = lines_forward at (along_of axis) sheet edit kept book
 step_forward at book (NewDiff sheet index name) = new_forward at sheet index name book
 step_forward at book (CopyDiff source sheet index name) = copy_forward at source sheet index name book
@@ -53,6 +54,7 @@ step_back at book (CellDiff sheet place old new) = put_in at book (CellKey sheet
 step_back at book (LinkDiff sheet place old new) = put_in at book (LinkKey sheet place) (LinkValue old)
 step_back at book (MergesDiff sheet old new) = put_in at book (MergesKey sheet) (MergesValue old)
 step_back at book (FieldDiff sheet change) = put_in at book (FieldKey sheet (changed_field change)) (FieldValue (old_of change))
+step_back at book (AttrDiff sheet axis line old new) = put_in at book (AttrKey sheet axis line) (AttrValue old)
 step_back at book (LinesDiff sheet axis edit kept) = lines_back at (along_of axis) sheet edit kept book
 step_back at book (NewDiff sheet index name) = new_back at sheet book
 step_back at book (CopyDiff source sheet index name) = copy_back at sheet book
@@ -125,6 +127,7 @@ IsCanonicalDiff (CellDiff sheet place old new) = IfSome old IsCanonicalCell × I
 IsCanonicalDiff (LinkDiff sheet place old new) = Unit {0}
 IsCanonicalDiff (MergesDiff sheet old new) = Unit {0}
 IsCanonicalDiff (FieldDiff sheet change) = Unit {0}
+IsCanonicalDiff (AttrDiff sheet axis line old new) = Unit {0}
 IsCanonicalDiff (LinesDiff sheet axis edit kept) = AreCanonicalLines kept
 IsCanonicalDiff (NewDiff sheet index name) = Unit {0}
 IsCanonicalDiff (CopyDiff source sheet index name) = Unit {0}

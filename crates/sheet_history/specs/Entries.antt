@@ -1,6 +1,7 @@
--- A workbook as a map of entries: the cells and the links of its sheets, and the merges and the fields of each sheet.
+-- A workbook as a map of entries: the cells and the links of its sheets, what their rows and columns have of their own, and the merges and the
+-- fields of each sheet.
 use Rattle.std.proofs.Common.{ℕ, ℤ, pos, Bool, true, false, ◌&&◌, List, [], ◌∷◌, map, Option, Some, None}
-use Rattle.std.specs.Prelude.{◌==◌, is_some, if◌then◌else◌}
+use Rattle.std.specs.Prelude.{◌==◌, is_some, not, if◌then◌else◌}
 use Rattle.std.specs.Option.{option_map}
 use Rattle.std.specs.List.{list_all}
 use Rattle.std.specs.Ordering.{nat_cmp, int_cmp, ordering_then}
@@ -8,19 +9,25 @@ use Rattle.std.specs.declared.cmp.Ordering.{Ordering}
 use Rattle.std.specs.FinMap as fin
 use Rattle.base_values.specs.declared.Position.{Position}
 use Rattle.base_values.specs.KeyMap.{with_entry}
+use Rattle.base_values.specs.Places.{is_line}
 use Rattle.base_axis.specs.declared.MergedCell.{MergedCell}
 use Rattle.base_axis.specs.Rectangles.{is_inside}
 use Rattle.cell_content.specs.Fitting.{fits_at}
 use Rattle.base_styles.specs.declared.Color.TheVariants.{None as NoColor}
 use Rattle.sheet_grid.specs.declared.Cell.{Cell}
+use Rattle.sheet_grid.specs.declared.LineAttr.{LineAttr}
 use Rattle.sheet_grid.specs.declared.Link.{Link}
 use Rattle.sheet_grid.specs.declared.SheetState.TheVariants.{Visible}
 use Rattle.sheet_grid.specs.Arrays.{array_at}
+use Rattle.sheet_grid.specs.Lines.{is_plain}
 use Rattle.sheet_grid.specs.Sheet.{Sheet}
 use Rattle.sheet_grid.specs.Book.{Book}
 use Rattle.sheet_rules.specs.WellFormed.{is_place}
 use Rattle.sheet_lines.specs.Sheets.{sheet_of}
 pub use Rattle.book_sheets.specs.SheetDiffs.{lies_inside}
+use Rattle.sheet_history.specs.declared.diff.LineAxis.{LineAxis}
+use Rattle.sheet_history.specs.declared.diff.LineAxis.TheVariants.{Rows, Columns}
+use Rattle.sheet_history.specs.LineDiffs.{along_of}
 use Rattle.sheet_history.specs.declared.field.SheetField.{SheetField}
 use Rattle.sheet_history.specs.Fields.{Field, tag_of, field_in, with_field, is_of}
 
@@ -34,6 +41,8 @@ pub data EntryKey : Type 0 where
   MergesKey : ℕ → EntryKey
   -- a field of the sheet of an id
   FieldKey : ℕ → Field → EntryKey
+  -- what a row or a column of the sheet of an id has of its own
+  AttrKey : ℕ → LineAxis → ℤ → EntryKey
 
 -- what an entry is
 pub data EntryValue : Type 0 where
@@ -45,6 +54,8 @@ pub data EntryValue : Type 0 where
   MergesValue : List MergedCell → EntryValue
   -- what stands in a field
   FieldValue : SheetField → EntryValue
+  -- what a line has of its own, or nothing
+  AttrValue : Option LineAttr → EntryValue
 
 -- ---- the order of keys
 
@@ -55,13 +66,18 @@ pub record Rank : Type 0 where
   pub row : ℤ
   pub column : ℤ
 
+abbrev pub line_tag : LineAxis → ℕ
+line_tag Columns = 3
+line_tag Rows = 4
+
 abbrev pub rank_of : EntryKey → Rank
 rank_of (CellKey sheet place) = record { tag = 1; sheet = sheet; row = place.row; column = place.column }
 rank_of (LinkKey sheet place) = record { tag = 2; sheet = sheet; row = place.row; column = place.column }
 rank_of (MergesKey sheet) = record { tag = 5; sheet = sheet; row = pos 0; column = pos 0 }
 rank_of (FieldKey sheet field) = record { tag = tag_of field; sheet = sheet; row = pos 0; column = pos 0 }
+rank_of (AttrKey sheet axis line) = record { tag = line_tag axis; sheet = sheet; row = line; column = pos 0 }
 
--- by tag, then by sheet id, then by row, then by column
+-- by tag, then by sheet id, then by row, then by column. The number of a line, of columns too, stands in the place of the row
 abbrev pub rank_cmp : Rank → Rank → Ordering
 rank_cmp a b = ordering_then (nat_cmp a.tag b.tag) (ordering_then (nat_cmp a.sheet b.sheet) (ordering_then (int_cmp a.row b.row) (int_cmp a.column b.column)))
 
@@ -76,6 +92,7 @@ sheet_id_of (CellKey sheet place) = sheet
 sheet_id_of (LinkKey sheet place) = sheet
 sheet_id_of (MergesKey sheet) = sheet
 sheet_id_of (FieldKey sheet field) = sheet
+sheet_id_of (AttrKey sheet axis line) = sheet
 
 -- what a sheet has at a key
 abbrev pub sheet_entry : EntryKey → Sheet → EntryValue
@@ -83,6 +100,8 @@ sheet_entry (CellKey id place) sheet = CellValue (fin.get sheet.cells place)
 sheet_entry (LinkKey id place) sheet = LinkValue (fin.get sheet.links place)
 sheet_entry (MergesKey id) sheet = MergesValue sheet.merges
 sheet_entry (FieldKey id field) sheet = FieldValue (field_in field sheet)
+sheet_entry (AttrKey id Rows line) sheet = AttrValue (fin.get sheet.rows line)
+sheet_entry (AttrKey id Columns line) sheet = AttrValue (fin.get sheet.columns line)
 
 -- the sheet with a value at a key. A value of another kind changes nothing
 abbrev pub with_sheet_entry : EntryKey → EntryValue → Sheet → Sheet
@@ -90,6 +109,8 @@ with_sheet_entry (CellKey id place) (CellValue entry) sheet = record sheet { cel
 with_sheet_entry (LinkKey id place) (LinkValue entry) sheet = record sheet { links = with_entry sheet.links place entry }
 with_sheet_entry (MergesKey id) (MergesValue merges) sheet = record sheet { merges = merges }
 with_sheet_entry (FieldKey id field) (FieldValue value) sheet = with_field field value sheet
+with_sheet_entry (AttrKey id Rows line) (AttrValue entry) sheet = record sheet { rows = with_entry sheet.rows line entry }
+with_sheet_entry (AttrKey id Columns line) (AttrValue entry) sheet = record sheet { columns = with_entry sheet.columns line entry }
 with_sheet_entry _ _ sheet = sheet
 
 -- what is put at a place, a cell or none, may stand there: a formula fits its place, and an array lies inside the sheet
@@ -97,13 +118,19 @@ abbrev pub cell_stands_at : Position → Option Cell → Bool
 cell_stands_at place None = true
 cell_stands_at place (Some cell) = fits_at place cell.content && lies_inside (array_at place cell.content)
 
--- whether a value may stand at a key: it is one of the key's kind, the place lies inside the sheet, a cell may stand there, and each
--- merge lies inside
+-- what a line has of its own is something, if it is there
+abbrev pub is_kept : Option LineAttr → Bool
+is_kept None = true
+is_kept (Some attr) = not (is_plain attr)
+
+-- whether a value may stand at a key: it is one of the key's kind, the place or the line lies inside the sheet, a cell may stand there, what a
+-- line has is something, and each merge lies inside
 abbrev pub value_fits : EntryKey → EntryValue → Bool
 value_fits (CellKey id place) (CellValue entry) = is_place place && cell_stands_at place entry
 value_fits (LinkKey id place) (LinkValue entry) = is_place place
 value_fits (MergesKey id) (MergesValue merges) = list_all is_inside merges
 value_fits (FieldKey id field) (FieldValue value) = is_of field value
+value_fits (AttrKey id axis line) (AttrValue entry) = is_line (along_of axis).last line && is_kept entry
 value_fits _ _ = false
 
 -- ---- the entries of a workbook
@@ -127,7 +154,19 @@ accepts book key value = is_some (sheet_of book (sheet_id_of key)) && value_fits
 
 -- a sheet without its entries
 abbrev pub bare_sheet : Sheet → Sheet
-bare_sheet sheet = record sheet { state = Visible; color = NoColor; show_grid_lines = true; cells = fin.empty; links = fin.empty; merges = [] }
+bare_sheet sheet =
+    record sheet {
+      state = Visible;
+      color = NoColor;
+      show_grid_lines = true;
+      frozen_rows = pos 0;
+      frozen_columns = pos 0;
+      cells = fin.empty;
+      links = fin.empty;
+      rows = fin.empty;
+      columns = fin.empty;
+      merges = [];
+    }
 
 -- a workbook without its entries
 unfoldable pub frame_of : Book → Book

@@ -10,6 +10,7 @@ use Rattle.base_axis.specs.contracts.merged_cell.MergedCellPartialEq.TheImpl as 
 use Rattle.line_edits.specs.declared.EditKind.{EditKind}
 use Rattle.line_edits.specs.Edit.{IsValid}
 use Rattle.sheet_grid.specs.SameEntry.{same_entry}
+use Rattle.sheet_grid.specs.contracts.line_attr.LineAttrPartialEq.TheImpl as line_attr
 use Rattle.sheet_grid.specs.contracts.link.LinkPartialEq.TheImpl as link
 use Rattle.sheet_grid.specs.Sheet.{Sheet}
 use Rattle.sheet_grid.specs.Book.{Book}
@@ -23,10 +24,11 @@ use Rattle.sheet_history.specs.declared.field.SheetField.{SheetField}
 use Rattle.sheet_history.specs.declared.field.SheetField.TheVariants as field_value
 use Rattle.sheet_history.specs.declared.field.FieldChange.TheVariants as field_change
 use Rattle.sheet_history.specs.contracts.field.SheetFieldPartialEq.TheImpl as sheet_field
-use Rattle.sheet_history.specs.declared.diff.Diff.TheVariants.{Cell as CellDiff, Link as LinkDiff, Merges as MergesDiff, Field as FieldDiff, Lines as LinesDiff, NewSheet as NewDiff, DuplicateSheet as CopyDiff, DeleteSheet as DeletionDiff, MoveSheet as MoveDiff, RenameSheet as RenameDiff, ChangeName as NameDiff}
+use Rattle.sheet_history.specs.declared.diff.Diff.TheVariants.{Cell as CellDiff, Link as LinkDiff, Merges as MergesDiff, Field as FieldDiff, Lines as LinesDiff, NewSheet as NewDiff, DuplicateSheet as CopyDiff, DeleteSheet as DeletionDiff, MoveSheet as MoveDiff, RenameSheet as RenameDiff, ChangeName as NameDiff, Attributes as AttrDiff}
+use Rattle.sheet_history.specs.declared.diff.LineAxis.TheVariants.{Rows, Columns}
 use Rattle.sheet_history.specs.Entries.{EntryKey, EntryValue, key_cmp, entry_at, frame_of}
-use Rattle.sheet_history.specs.Entries.EntryKey.{CellKey, LinkKey, MergesKey, FieldKey}
-use Rattle.sheet_history.specs.Entries.EntryValue.{CellValue, LinkValue, MergesValue, FieldValue}
+use Rattle.sheet_history.specs.Entries.EntryKey.{CellKey, LinkKey, MergesKey, FieldKey, AttrKey}
+use Rattle.sheet_history.specs.Entries.EntryValue.{CellValue, LinkValue, MergesValue, FieldValue, AttrValue}
 use Rattle.sheet_history.specs.Fields.{all_fields, old_of, new_of, changed_field}
 use Rattle.sheet_history.specs.LineDiffs.{along_of, is_there_inside}
 
@@ -36,6 +38,7 @@ same_entry_value (CellValue a) (CellValue b) = same_entry a b
 same_entry_value (LinkValue a) (LinkValue b) = option_eq link.ghosts.eq a b
 same_entry_value (MergesValue a) (MergesValue b) = pointwise merged.ghosts.eq a b
 same_entry_value (FieldValue a) (FieldValue b) = sheet_field.ghosts.eq a b
+same_entry_value (AttrValue a) (AttrValue b) = option_eq line_attr.ghosts.eq a b
 same_entry_value _ _ = false
 
 -- the entry before and after, where they differ
@@ -53,6 +56,7 @@ change_of (CellDiff sheet place old new) = Some (CellKey sheet place, (CellValue
 change_of (LinkDiff sheet place old new) = Some (LinkKey sheet place, (LinkValue old, LinkValue new))
 change_of (MergesDiff sheet old new) = Some (MergesKey sheet, (MergesValue old, MergesValue new))
 change_of (FieldDiff sheet change) = Some (FieldKey sheet (changed_field change), (FieldValue (old_of change), FieldValue (new_of change)))
+change_of (AttrDiff sheet axis line old new) = Some (AttrKey sheet axis line, (AttrValue old, AttrValue new))
 change_of (LinesDiff sheet axis edit kept) = None
 change_of (NewDiff sheet index name) = None
 change_of (CopyDiff source sheet index name) = None
@@ -75,6 +79,8 @@ abbrev pub field_diff : ℕ → SheetField → SheetField → List Diff
 field_diff sheet (field_value.State old) (field_value.State new) = FieldDiff sheet (field_change.State old new) ∷ []
 field_diff sheet (field_value.Color old) (field_value.Color new) = FieldDiff sheet (field_change.Color old new) ∷ []
 field_diff sheet (field_value.GridLines old) (field_value.GridLines new) = FieldDiff sheet (field_change.GridLines old new) ∷ []
+field_diff sheet (field_value.FrozenRows old) (field_value.FrozenRows new) = FieldDiff sheet (field_change.FrozenRows old new) ∷ []
+field_diff sheet (field_value.FrozenColumns old) (field_value.FrozenColumns new) = FieldDiff sheet (field_change.FrozenColumns old new) ∷ []
 field_diff _ _ _ = []
 
 -- the diff of a change: its values are of its key's kind
@@ -83,6 +89,7 @@ diff_of (CellKey sheet place) (CellValue old) (CellValue new) = CellDiff sheet p
 diff_of (LinkKey sheet place) (LinkValue old) (LinkValue new) = LinkDiff sheet place old new ∷ []
 diff_of (MergesKey sheet) (MergesValue old) (MergesValue new) = MergesDiff sheet old new ∷ []
 diff_of (FieldKey sheet field) (FieldValue old) (FieldValue new) = field_diff sheet old new
+diff_of (AttrKey sheet axis line) (AttrValue old) (AttrValue new) = AttrDiff sheet axis line old new ∷ []
 diff_of _ _ _ = []
 
 -- the record of one entry: its change, or nothing where it stays
@@ -114,9 +121,13 @@ OfLineEdits Holds = (axis : LineAxis) (e : EditKind) (id : ℕ) (book : Book) �
 abbrev pub single_keys : ℕ → List EntryKey
 single_keys id = MergesKey id ∷ map (FieldKey id) all_fields
 
+-- the keys of what its lines have, of its columns and of its rows
+abbrev pub attr_keys : Sheet → List EntryKey
+attr_keys sheet = map (AttrKey sheet.id Columns) (fin.keys sheet.columns) ++ map (AttrKey sheet.id Rows) (fin.keys sheet.rows)
+
 -- the keys of all that a sheet has
 abbrev pub sheet_keys : Sheet → List EntryKey
-sheet_keys sheet = map (CellKey sheet.id) (fin.keys sheet.cells) ++ map (LinkKey sheet.id) (fin.keys sheet.links) ++ single_keys sheet.id
+sheet_keys sheet = map (CellKey sheet.id) (fin.keys sheet.cells) ++ map (LinkKey sheet.id) (fin.keys sheet.links) ++ (attr_keys sheet ++ single_keys sheet.id)
 
 -- and of all that a workbook has
 abbrev pub book_keys : Book → List EntryKey

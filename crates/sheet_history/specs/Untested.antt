@@ -1,4 +1,4 @@
--- Lists whose results need no test: nothing, one link, one field of a sheet, or one cell that cannot break a rule.
+-- Lists whose results need no test: nothing, one link, or one field of a sheet or one cell that cannot break a rule.
 use Rattle.std.proofs.Common.{Bool, true, false, ◌&&◌, List, [], ◌∷◌, Option, Some, None}
 use Rattle.std.specs.Prelude.{is_none}
 use Rattle.base_values.specs.declared.Position.{Position}
@@ -12,7 +12,10 @@ use Rattle.sheet_lines.specs.Sheets.{sheet_of}
 use Rattle.sheet_history.specs.declared.diff.DiffType.{DiffType}
 use Rattle.sheet_history.specs.declared.diff.DiffType.TheVariants.{Undo, Redo}
 use Rattle.sheet_history.specs.declared.diff.Diff.{Diff}
-use Rattle.sheet_history.specs.declared.diff.Diff.TheVariants.{Cell as CellDiff, Link as LinkDiff, Merges as MergesDiff, Field as FieldDiff, Lines as LinesDiff, NewSheet as NewDiff, DuplicateSheet as CopyDiff, DeleteSheet as DeletionDiff, MoveSheet as MoveDiff, RenameSheet as RenameDiff, ChangeName as NameDiff}
+use Rattle.sheet_history.specs.declared.diff.Diff.TheVariants.{Cell as CellDiff, Link as LinkDiff, Merges as MergesDiff, Field as FieldDiff, Lines as LinesDiff, NewSheet as NewDiff, DuplicateSheet as CopyDiff, DeleteSheet as DeletionDiff, MoveSheet as MoveDiff, RenameSheet as RenameDiff, ChangeName as NameDiff, Attributes as AttrDiff}
+use Rattle.sheet_history.specs.declared.field.FieldChange.{FieldChange}
+use Rattle.sheet_history.specs.declared.field.SheetField.{SheetField}
+use Rattle.sheet_history.specs.Fields.{may_have, new_of, old_of}
 
 -- what is put, a cell or none, has a font of at least size 1
 abbrev pub entry_has_font : Option Cell → Bool
@@ -38,12 +41,18 @@ abbrev pub put_by : DiffType → Option Cell → Option Cell → Option Cell
 put_by Undo old new = old
 put_by Redo old new = new
 
+-- of a change of a field, the value that is put
+abbrev pub field_put_by : DiffType → FieldChange → SheetField
+field_put_by Undo change = old_of change
+field_put_by Redo change = new_of change
+
 -- a diff that, followed in a well-formed workbook, leaves one for sure
 abbrev pub diff_keeps_rules : DiffType → Book → Diff → Bool
 diff_keeps_rules kind book (CellDiff id place old new) = cell_keeps_rules (sheet_of book id) place (put_by kind old new)
 diff_keeps_rules kind book (LinkDiff id place old new) = true
 diff_keeps_rules kind book (MergesDiff id old new) = false
-diff_keeps_rules kind book (FieldDiff id change) = true
+diff_keeps_rules kind book (FieldDiff id change) = may_have (field_put_by kind change)
+diff_keeps_rules kind book (AttrDiff id axis line old new) = false
 diff_keeps_rules kind book (LinesDiff id axis edit kept) = false
 diff_keeps_rules kind book (NewDiff id index name) = false
 diff_keeps_rules kind book (CopyDiff source id index name) = false

@@ -10,7 +10,7 @@ ghost use Rattle.sheet_history.specs.Diffs.{IsCanonicalDiff, IsCanonicalList, bo
 
 use crate::diff::{Diff, DiffList, LineAxis};
 use crate::line_diffs::{lines_back, lines_forward};
-use crate::put::{put_cell, put_field, put_link, put_merges};
+use crate::put::{put_attr, put_cell, put_field, put_link, put_merges};
 use base_axis::{ColumnAxis, RowAxis};
 use base_values::{EditError, copy_of};
 use book_names::{rename_back, rename_forward};
@@ -99,6 +99,13 @@ fn make(alloc: Global, workbook: &mut Workbook, diff: &Diff, at: u64) -> Result<
         } => put_link(workbook, *sheet, *position, new, at),
         Diff::Merges { sheet, old: _, new } => put_merges(workbook, *sheet, new, at),
         Diff::Field { sheet, change } => put_field(workbook, *sheet, change.new_value(), at),
+        Diff::Attributes {
+            sheet,
+            axis,
+            line,
+            old: _,
+            new,
+        } => put_attr(workbook, *sheet, *axis, *line, new, at),
         Diff::Lines {
             sheet,
             axis,
@@ -156,6 +163,13 @@ fn take_back(alloc: Global, workbook: &mut Workbook, diff: &Diff, at: u64) -> Re
         } => put_link(workbook, *sheet, *position, old, at),
         Diff::Merges { sheet, old, new: _ } => put_merges(workbook, *sheet, old, at),
         Diff::Field { sheet, change } => put_field(workbook, *sheet, change.old_value(), at),
+        Diff::Attributes {
+            sheet,
+            axis,
+            line,
+            old,
+            new: _,
+        } => put_attr(workbook, *sheet, *axis, *line, old, at),
         Diff::Lines {
             sheet,
             axis,

@@ -6,7 +6,7 @@ use book_names::KeptTrees;
 use book_sheets::KeptSheet;
 use line_map::EditKind;
 use name_edits::NameChange;
-use sheet_grid::{Cell, Link};
+use sheet_grid::{Cell, LineAttr, Link};
 use sheet_lines::KeptLines;
 
 /// The direction of a sheet whose lines are edited.
@@ -43,6 +43,14 @@ pub enum Diff {
     Field {
         sheet: u32,
         change: FieldChange,
+    },
+    /// What a row or a column of the sheet with that id has of its own. None stands for nothing.
+    Attributes {
+        sheet: u32,
+        axis: LineAxis,
+        line: i32,
+        old: Option<LineAttr>,
+        new: Option<LineAttr>,
     },
     /// Lines along an axis that were inserted in the sheet with that id, deleted from it or moved,
     /// and what the opposite edit does not give back.

@@ -5,10 +5,12 @@ ghost use Rattle.sheet_rules.specs.Occupied.{may_stand};
 ghost use Rattle.sheet_rules.specs.WellFormed.{IsWellFormed};
 ghost use Rattle.sheet_lines.specs.Sheets.{sheet_of};
 ghost use Rattle.sheet_history.specs.Diffs.{IsCanonicalList, book_before, follow, book_after};
-ghost use Rattle.sheet_history.specs.Untested.{cell_keeps_rules, entry_has_font, is_no_array, diff_keeps_rules, keeps_rules, may_stand_on};
+ghost use Rattle.sheet_history.specs.Fields.{may_have};
+ghost use Rattle.sheet_history.specs.Untested.{cell_keeps_rules, entry_has_font, field_put_by, is_no_array, diff_keeps_rules, keeps_rules, may_stand_on};
 
 use crate::apply::{back, back_in_place, forward, forward_in_place};
 use crate::diff::{Diff, DiffList, DiffType};
+use crate::field::FieldChange;
 use base_shared::Shared;
 use base_values::{EditError, Position};
 use cell_content::Content;
@@ -80,6 +82,16 @@ fn cell_keeps_rules(
     has_font(entry) && may_stand_on(workbook, id, place, entry)
 }
 
+/// Whether the value that a change of a field puts may stand in a well-formed workbook.
+fn field_keeps_rules(kind: DiffType, change: FieldChange) -> bool
+    ensures { result ≡ may_have (field_put_by kind change) }
+{
+    match kind {
+        DiffType::Undo => change.old_value().may_stand(),
+        DiffType::Redo => change.new_value().may_stand(),
+    }
+}
+
 /// Whether a diff, followed in a well-formed workbook, leaves one for sure.
 fn diff_keeps_rules(workbook: &Workbook, kind: DiffType, diff: &Diff) -> bool
     ensures { result ≡ diff_keeps_rules kind workbook.now diff.now }
@@ -95,7 +107,7 @@ fn diff_keeps_rules(workbook: &Workbook, kind: DiffType, diff: &Diff) -> bool
             DiffType::Redo => cell_keeps_rules(workbook, *sheet, *position, new),
         },
         Diff::Link { .. } => true,
-        Diff::Field { .. } => true,
+        Diff::Field { sheet: _, change } => field_keeps_rules(kind, *change),
         _ => false,
     }
 }
@@ -142,8 +154,8 @@ fn follow_back(alloc: Global, workbook: &mut Workbook, list: &DiffList) -> Resul
 ///
 /// `DiffRefused` as `forward` and `back` answer it; it and `NoMemory` leave the workbook. Where a test
 /// of the result has to be made the list is followed on a copy. A list of one link or of one field of a
-/// sheet needs none, and neither does one of one cell that has a font, is no array, and has no content
-/// or stands at no hidden place. For such a cell the merges and the arrays of more than one cell of its
+/// sheet whose value may stand in a well-formed workbook needs none, and neither does one of one cell
+/// that has a font, is no array, and has no content or stands at no hidden place. For such a cell the merges and the arrays of more than one cell of its
 /// sheet are looked at, and no other cell.
 pub fn follow_in_place(
     alloc: Global,

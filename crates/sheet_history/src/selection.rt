@@ -42,6 +42,7 @@ fn forward_step(diff: &Diff) -> ListStep
         Diff::Link { .. } => ListStep::Stays,
         Diff::Merges { .. } => ListStep::Stays,
         Diff::Field { .. } => ListStep::Stays,
+        Diff::Attributes { .. } => ListStep::Stays,
         Diff::Lines { .. } => ListStep::Stays,
         Diff::NewSheet {
             sheet,
@@ -81,6 +82,7 @@ fn back_step(diff: &Diff) -> ListStep
         Diff::Link { .. } => ListStep::Stays,
         Diff::Merges { .. } => ListStep::Stays,
         Diff::Field { .. } => ListStep::Stays,
+        Diff::Attributes { .. } => ListStep::Stays,
         Diff::Lines { .. } => ListStep::Stays,
         Diff::NewSheet { sheet, .. } => ListStep::Goes { sheet: *sheet },
         Diff::DuplicateSheet { sheet, .. } => ListStep::Goes { sheet: *sheet },

@@ -1,3 +1,4 @@
+pub mod AttrBytes
 pub mod LinesBytes
 pub mod SheetsBytes
 pub mod TreesBytes

@@ -1,11 +1,12 @@
 -- The bytes of a queue of diffs.
-use Rattle.std.specs.Prelude.{◌≢◌, ℕ, Bool, List, [], ◌∷◌, ◌++◌, Option, Result, ◌==◌, if◌then◌else◌, IfSome, codes}
+use Rattle.std.specs.Prelude.{◌≢◌, ℕ, ℤ, Bool, List, [], ◌∷◌, ◌++◌, Option, Result, ◌==◌, if◌then◌else◌, IfSome, codes}
 use Rattle.std.specs.List.{AllByRecursion}
 use Rattle.base_axis.specs.declared.MergedCell.{MergedCell}
 use Rattle.base_values.specs.declared.EditError.{EditError}
 use Rattle.base_values.specs.declared.Position.{Position}
 use Rattle.line_edits.specs.declared.EditKind.{EditKind}
 use Rattle.sheet_grid.specs.declared.Cell.{Cell}
+use Rattle.sheet_grid.specs.declared.LineAttr.{LineAttr}
 use Rattle.sheet_grid.specs.declared.Link.{Link}
 use Rattle.sheet_lines.specs.declared.KeptLines.{KeptLines}
 use Rattle.base_styles.specs.declared.Color.{Color}
@@ -15,22 +16,27 @@ use Rattle.defined_names.specs.declared.DefinedName.{DefinedName}
 use Rattle.book_names.specs.declared.KeptTrees.{KeptTrees}
 use Rattle.sheet_history.specs.declared.FieldChange.TheVariants as change
 use Rattle.sheet_history.specs.declared.Diff.{Diff}
-use Rattle.sheet_history.specs.declared.Diff.TheVariants.{Cell as CellDiff, Link as LinkDiff, Merges as MergesDiff, Field as FieldDiff, Lines as LinesDiff, NewSheet as NewDiff, DuplicateSheet as CopyDiff, DeleteSheet as DeletionDiff, MoveSheet as MoveDiff, RenameSheet as RenameDiff, ChangeName as NameDiff}
+use Rattle.sheet_history.specs.declared.Diff.TheVariants.{Cell as CellDiff, Link as LinkDiff, Merges as MergesDiff, Field as FieldDiff, Lines as LinesDiff, NewSheet as NewDiff, DuplicateSheet as CopyDiff, DeleteSheet as DeletionDiff, MoveSheet as MoveDiff, RenameSheet as RenameDiff, ChangeName as NameDiff, Attributes as AttrDiff}
 use Rattle.sheet_history.specs.declared.LineAxis.{LineAxis}
+use Rattle.sheet_history.specs.declared.LineAxis.TheVariants.{Rows, Columns}
+use Rattle.sheet_history.specs.Entries.{line_tag}
 use Rattle.sheet_history.specs.declared.DiffType.{DiffType}
 use Rattle.sheet_history.specs.declared.DiffType.TheVariants.{Undo, Redo}
 use Rattle.sheet_history.specs.declared.QueueDiffs.{QueueDiffs}
 use Rattle.base_wire.specs.Parts.{boolean_at}
-use Rattle.base_wire.specs.Reading.{Reader, refused, map_at, ◌⊗◌, tagged_at, code_at, list_at, after, whole}
+use Rattle.std.specs.Int.{w32}
+use Rattle.base_wire.specs.Reading.{Reader, refused, map_at, ◌⊗◌, tagged_at, code_at, list_at, signed_at, after, whole}
 use Rattle.base_wire.specs.Spelling.{spell_code, spell_list, FitsItems}
 use Rattle.cell_wire.specs.CellBytes.{spell_cell, cell_at, FitsCell, IsKnownCell}
 use Rattle.cell_wire.specs.StyleBytes.{color_at}
 use Rattle.cell_wire.specs.LinkBytes.{spell_link, link_at, FitsLink}
 use Rattle.cell_wire.specs.MergeBytes.{spell_merges, merges_at, FitsMerges}
+use Rattle.grid_wire.specs.LineBytes.{IsKnownLine}
 use Rattle.lines_wire.specs.KeptBytes.{IsKnownKept}
+use Rattle.sheet_wire.specs.AttrBytes.{spell_attr_change, attr_parts_at, FitsAttrChange}
 use Rattle.sheet_wire.specs.ChangeBytes.{spell_change, change_at, FitsChange, spell_sheet_change, sheet_change_at, FitsSheetChange}
 use Rattle.sheet_wire.specs.LinesBytes.{spell_lines, lines_parts_at, FitsLines}
-use Rattle.sheet_wire.specs.SheetsBytes.{spell_color_change, spell_state_change, spell_grid_change, state_at, FitsField, spell_new, new_parts_at, FitsNew, spell_copy, copy_parts_at, FitsCopy}
+use Rattle.sheet_wire.specs.SheetsBytes.{spell_color_change, spell_state_change, spell_grid_change, spell_count_change, state_at, FitsField, spell_new, new_parts_at, FitsNew, spell_copy, copy_parts_at, FitsCopy}
 use Rattle.sheet_wire.specs.TreesBytes.{spell_rename, rename_parts_at, FitsRename, AreKnownTrees, spell_name_change, name_parts_at, FitsNameChange, IsKnownChange}
 use Rattle.sheet_wire.specs.SheetsBytes.{spell_deletion, deletion_parts_at, FitsDeletion, IsKnownKeptSheet, spell_move, move_parts_at, FitsMove}
 
@@ -40,6 +46,7 @@ use Rattle.sheet_wire.specs.SheetsBytes.{spell_deletion, deletion_parts_at, Fits
 abbrev pub spell_diff : Diff → List ℕ
 spell_diff (CellDiff sheet place old new) = 1 ∷ spell_change spell_cell sheet place old new
 spell_diff (LinkDiff sheet place old new) = 2 ∷ spell_change spell_link sheet place old new
+spell_diff (AttrDiff sheet axis line old new) = line_tag axis ∷ spell_attr_change sheet line old new
 spell_diff (MergesDiff sheet old new) = 5 ∷ spell_sheet_change spell_merges sheet old new
 spell_diff (LinesDiff sheet axis edit kept) = 7 ∷ spell_lines sheet axis edit kept
 spell_diff (NewDiff sheet index name) = 8 ∷ spell_new sheet index name
@@ -51,6 +58,8 @@ spell_diff (FieldDiff sheet (change.Color old new)) = 13 ∷ spell_color_change 
 spell_diff (FieldDiff sheet (change.State old new)) = 14 ∷ spell_state_change sheet old new
 spell_diff (FieldDiff sheet (change.GridLines old new)) = 15 ∷ spell_grid_change sheet old new
 spell_diff (NameDiff change kept) = 22 ∷ spell_name_change change kept
+spell_diff (FieldDiff sheet (change.FrozenRows old new)) = 16 ∷ spell_count_change sheet old new
+spell_diff (FieldDiff sheet (change.FrozenColumns old new)) = 17 ∷ spell_count_change sheet old new
 
 abbrev pub cell_diff_made : ℕ × (Position × (Option Cell × Option Cell)) → Diff
 cell_diff_made x = CellDiff x.0 x.1.0 x.1.1.0 x.1.1.1
@@ -63,6 +72,12 @@ link_diff_made x = LinkDiff x.0 x.1.0 x.1.1.0 x.1.1.1
 
 unfoldable pub link_diff_at : Reader Diff
 link_diff_at = map_at link_diff_made (change_at link_at)
+
+abbrev pub attr_diff_made : LineAxis → ℕ × (ℤ × (Option LineAttr × Option LineAttr)) → Diff
+attr_diff_made axis x = AttrDiff x.0 axis x.1.0 x.1.1.0 x.1.1.1
+
+unfoldable pub attr_diff_at : LineAxis → Reader Diff
+attr_diff_at axis = map_at (attr_diff_made axis) attr_parts_at
 
 abbrev pub merges_diff_made : ℕ × (List MergedCell × List MergedCell) → Diff
 merges_diff_made x = MergesDiff x.0 x.1.0 x.1.1
@@ -130,11 +145,25 @@ name_diff_made x = NameDiff (record { index = x.0; old = x.1.0; new = x.1.1.0 })
 unfoldable pub name_diff_at : Reader Diff
 name_diff_at = map_at name_diff_made name_parts_at
 
+abbrev pub frozen_rows_diff_made : ℕ × (ℤ × ℤ) → Diff
+frozen_rows_diff_made x = FieldDiff x.0 (change.FrozenRows x.1.0 x.1.1)
+
+unfoldable pub frozen_rows_diff_at : Reader Diff
+frozen_rows_diff_at = map_at frozen_rows_diff_made (sheet_change_at (signed_at w32))
+
+abbrev pub frozen_columns_diff_made : ℕ × (ℤ × ℤ) → Diff
+frozen_columns_diff_made x = FieldDiff x.0 (change.FrozenColumns x.1.0 x.1.1)
+
+unfoldable pub frozen_columns_diff_at : Reader Diff
+frozen_columns_diff_at = map_at frozen_columns_diff_made (sheet_change_at (signed_at w32))
+
 -- what follows each tag
 abbrev pub diff_of : ℕ → Reader Diff
 diff_of tag =
     if tag == 1 then cell_diff_at
     else if tag == 2 then link_diff_at
+    else if tag == 3 then attr_diff_at Columns
+    else if tag == 4 then attr_diff_at Rows
     else if tag == 5 then merges_diff_at
     else if tag == 7 then lines_diff_at
     else if tag == 8 then new_diff_at
@@ -145,6 +174,8 @@ diff_of tag =
     else if tag == 13 then color_diff_at
     else if tag == 14 then state_diff_at
     else if tag == 15 then grid_diff_at
+    else if tag == 16 then frozen_rows_diff_at
+    else if tag == 17 then frozen_columns_diff_at
     else if tag == 22 then name_diff_at
     else refused
 
@@ -157,6 +188,7 @@ FitsDiff (CellDiff sheet place old new) = FitsChange FitsCell sheet place old ne
 FitsDiff (LinkDiff sheet place old new) = FitsChange FitsLink sheet place old new
 FitsDiff (MergesDiff sheet old new) = FitsSheetChange FitsMerges sheet old new
 FitsDiff (FieldDiff sheet change) = FitsField sheet change
+FitsDiff (AttrDiff sheet axis line old new) = FitsAttrChange sheet line old new
 FitsDiff (LinesDiff sheet axis edit kept) = FitsLines sheet edit kept
 FitsDiff (NewDiff sheet index name) = FitsNew sheet index name
 FitsDiff (CopyDiff source sheet index name) = FitsCopy source sheet index name
@@ -165,12 +197,13 @@ FitsDiff (MoveDiff sheet from to) = FitsMove sheet from to
 FitsDiff (RenameDiff sheet old new kept) = FitsRename sheet old new kept
 FitsDiff (NameDiff change kept) = FitsNameChange change kept
 
--- what encoding asks of a diff: its numbers are canonical, and its formulas are at most 64 deep
+-- what encoding asks of a diff: its numbers are canonical, its formulas are at most 64 deep, and each line has something of its own
 abbrev pub IsKnownDiff : Diff → Type 0
 IsKnownDiff (CellDiff sheet place old new) = IfSome old IsKnownCell × IfSome new IsKnownCell
 IsKnownDiff (LinkDiff sheet place old new) = Unit {0}
 IsKnownDiff (MergesDiff sheet old new) = Unit {0}
 IsKnownDiff (FieldDiff sheet change) = Unit {0}
+IsKnownDiff (AttrDiff sheet axis line old new) = IfSome old IsKnownLine × IfSome new IsKnownLine
 IsKnownDiff (LinesDiff sheet axis edit kept) = IsKnownKept kept
 IsKnownDiff (NewDiff sheet index name) = Unit {0}
 IsKnownDiff (CopyDiff source sheet index name) = Unit {0}

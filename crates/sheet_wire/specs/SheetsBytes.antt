@@ -1,5 +1,5 @@
 -- The bytes of changes of the fields of a sheet, and of changes of the list of sheets.
-use Rattle.std.specs.Prelude.{ℕ, ◌<◌, ◌^◌, Bool, List, ◌++◌, IfSome}
+use Rattle.std.specs.Prelude.{ℕ, ℤ, ◌<◌, ◌^◌, Bool, List, ◌++◌, IfSome, FitsSigned}
 use Rattle.std.specs.FinMap.{FinMap, get}
 use Rattle.std.specs.Int.{w32, w64, to_be_bytes}
 use Rattle.std.specs.Ordering.{nat_cmp}
@@ -11,7 +11,7 @@ use Rattle.book_sheets.specs.declared.KeptSheet.{KeptSheet}
 use Rattle.sheet_history.specs.declared.FieldChange.{FieldChange}
 use Rattle.sheet_history.specs.declared.FieldChange.TheVariants as change
 use Rattle.base_wire.specs.Reading.{Reader, map_at, ◌⊗◌, code_at, number_at, text_at}
-use Rattle.base_wire.specs.Spelling.{Any, spell_code, boolean_code, spell_text, FitsText}
+use Rattle.base_wire.specs.Spelling.{Any, spell_code, boolean_code, spell_signed, spell_text, FitsText}
 use Rattle.map_wire.specs.MapBytes.{spell_map, map_of_at, FitsMap}
 use Rattle.cell_wire.specs.StyleBytes.{spell_color, FitsColor}
 use Rattle.grid_wire.specs.StateBytes.{state_code, states}
@@ -30,6 +30,9 @@ spell_state_change = spell_sheet_change (spell_code state_code)
 abbrev pub spell_grid_change : ℕ → Bool → Bool → List ℕ
 spell_grid_change = spell_sheet_change (spell_code boolean_code)
 
+abbrev pub spell_count_change : ℕ → ℤ → ℤ → List ℕ
+spell_count_change = spell_sheet_change (spell_signed w32)
+
 unfoldable pub state_at : Reader SheetState
 state_at = code_at state_code states
 
@@ -38,6 +41,8 @@ abbrev pub FitsField : ℕ → FieldChange → Type 0
 FitsField id (change.State old new) = FitsSheetChange Any id old new
 FitsField id (change.Color old new) = FitsSheetChange FitsColor id old new
 FitsField id (change.GridLines old new) = FitsSheetChange Any id old new
+FitsField id (change.FrozenRows old new) = FitsSheetChange (FitsSigned w32) id old new
+FitsField id (change.FrozenColumns old new) = FitsSheetChange (FitsSigned w32) id old new
 
 -- ---- new sheets and copies
 

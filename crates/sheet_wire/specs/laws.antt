@@ -1,5 +1,6 @@
 pub mod QueueLaws
 pub mod QueueFormats
+pub mod AttrFormats
 pub mod SheetsFormats
 pub mod TreesFormats
 pub mod Fitting

@@ -10,10 +10,12 @@ ghost use Rattle.sheet_wire.specs.QueueBytes.{cell_diff_at, diff_at, lines_diff_
 ghost use Rattle.sheet_wire.specs.QueueBytes.{direction_code, directions, entry_at, magic, queue_of, spell_queue, FitsQueue, IsNoQueue};
 ghost use Rattle.sheet_history.specs.declared.QueueDiffs.{QueueDiffs};
 
+use crate::attributes::attr_diff_at;
 use crate::codes::{axis_of, direction_of};
 use crate::decode_sheets::{
-    color_diff_at, copy_diff_at, deletion_diff_at, grid_diff_at, move_diff_at, name_diff_at,
-    new_diff_at, rename_diff_at, sheet_change_at, state_diff_at,
+    color_diff_at, copy_diff_at, deletion_diff_at, frozen_columns_diff_at, frozen_rows_diff_at,
+    grid_diff_at, move_diff_at, name_diff_at, new_diff_at, rename_diff_at, sheet_change_at,
+    state_diff_at,
 };
 use crate::parts::{DiffPart, EntryPart};
 use base_shared::Shared;
@@ -126,6 +128,8 @@ pub(crate) fn diff_at<'a>(
     match tag {
         1 => cell_diff_at(alloc, plain, rest),
         2 => link_diff_at(alloc, rest),
+        3 => attr_diff_at(alloc, plain, LineAxis::Columns, rest),
+        4 => attr_diff_at(alloc, plain, LineAxis::Rows, rest),
         5 => merges_diff_at(alloc, rest),
         7 => lines_diff_at(alloc, plain, rest),
         8 => new_diff_at(alloc, rest),
@@ -136,6 +140,8 @@ pub(crate) fn diff_at<'a>(
         13 => color_diff_at(alloc, rest),
         14 => state_diff_at(alloc, rest),
         15 => grid_diff_at(alloc, rest),
+        16 => frozen_rows_diff_at(alloc, rest),
+        17 => frozen_columns_diff_at(alloc, rest),
         22 => name_diff_at(alloc, rest),
         _ => Err(EditError::ParseDiffs),
     }

@@ -2,7 +2,7 @@
 
 ghost use Rattle.base_values.specs.Answers.{Answers, map_ok};
 ghost use Rattle.sheet_wire.specs.ChangeBytes.{sheet_change_at};
-ghost use Rattle.sheet_wire.specs.QueueBytes.{color_diff_at, copy_diff_at, deletion_diff_at, grid_diff_at, move_diff_at, name_diff_at, new_diff_at, rename_diff_at, state_diff_at};
+ghost use Rattle.sheet_wire.specs.QueueBytes.{color_diff_at, copy_diff_at, deletion_diff_at, grid_diff_at, move_diff_at, name_diff_at, new_diff_at, rename_diff_at, state_diff_at, frozen_columns_diff_at, frozen_rows_diff_at};
 
 use crate::sheets::KeptSheetPart;
 use crate::trees::KeptTreesPart;
@@ -58,6 +58,27 @@ pub(crate) fn grid_diff_at(alloc: Global, bytes: &[u8]) -> Result<(Diff, &[u8]),
 {
     let ((sheet, old, new), rest) = sheet_change_at::<bool>(alloc, &(), bytes)?;
     let change = FieldChange::GridLines { old, new };
+    Ok((Diff::Field { sheet, change }, rest))
+}
+
+#[tactic(auto, unfolding(crate::specs::QueueBytes::frozen_rows_diff_at))]
+pub(crate) fn frozen_rows_diff_at(alloc: Global, bytes: &[u8]) -> Result<(Diff, &[u8]), EditError>
+    ensures { Answers (map_ok (λ x. (x.0, x.1.now)) result) (frozen_rows_diff_at bytes.now) }
+{
+    let ((sheet, old, new), rest) = sheet_change_at::<i32>(alloc, &(), bytes)?;
+    let change = FieldChange::FrozenRows { old, new };
+    Ok((Diff::Field { sheet, change }, rest))
+}
+
+#[tactic(auto, unfolding(crate::specs::QueueBytes::frozen_columns_diff_at))]
+pub(crate) fn frozen_columns_diff_at(
+    alloc: Global,
+    bytes: &[u8],
+) -> Result<(Diff, &[u8]), EditError>
+    ensures { Answers (map_ok (λ x. (x.0, x.1.now)) result) (frozen_columns_diff_at bytes.now) }
+{
+    let ((sheet, old, new), rest) = sheet_change_at::<i32>(alloc, &(), bytes)?;
+    let change = FieldChange::FrozenColumns { old, new };
     Ok((Diff::Field { sheet, change }, rest))
 }
 

@@ -7,6 +7,7 @@ ghost use Rattle.sheet_wire.specs.ChangeBytes.{spell_change, FitsChange};
 ghost use Rattle.sheet_wire.specs.LinesBytes.{spell_lines, FitsLines};
 ghost use Rattle.sheet_wire.specs.QueueBytes.{spell_diff, spell_entry, spell_queue, FitsDiff, FitsEntry, FitsQueue, IsKnownDiff, IsKnownEntry, IsKnownQueue};
 
+use crate::attributes::{line_tag, put_attr_change};
 use crate::codes::{axis_code, direction_code};
 use crate::encode_sheets::{
     put_copy, put_deletion, put_field, put_move, put_name_change, put_new, put_rename,
@@ -86,6 +87,16 @@ pub(crate) fn put_diff(out: &mut Vec<u8>, diff: &Diff) -> Result<(), AllocError>
             put_sheet_change::<MergeListPart>(out, *sheet, old, new)?;
         }
         Diff::Field { sheet, change } => put_field(out, *sheet, *change)?,
+        Diff::Attributes {
+            sheet,
+            axis,
+            line,
+            old,
+            new,
+        } => {
+            out.push(line_tag(*axis))?;
+            put_attr_change(out, *sheet, *line, old, new)?;
+        }
         Diff::Lines {
             sheet,
             axis,
@@ -141,8 +152,8 @@ pub(crate) fn put_entry(out: &mut Vec<u8>, entry: &QueueDiffs) -> Result<(), All
     Shared::<Items<DiffPart>>::put(out, &entry.list)
 }
 
-/// The bytes of a queue of diffs, whose numbers are canonical and whose trees are at most 64 deep. They can
-/// be read again as the queue (docs/FORMATS.md, "Bytes"). Refuses with `NoMemory` alone.
+/// The bytes of a queue of diffs, whose numbers are canonical, whose trees are at most 64 deep, and whose
+/// lines have something of their own. They can be read again as the queue (docs/FORMATS.md, "Bytes"). Refuses with `NoMemory` alone.
 #[tactic(auto, unfolding(crate::specs::QueueBytes::spell_queue))]
 pub fn encode_queue(alloc: Global, queue: &[QueueDiffs]) -> Result<Vec<u8>, EditError>
     requires known { IsKnownQueue queue.now }

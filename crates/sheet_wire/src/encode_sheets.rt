@@ -59,6 +59,14 @@ pub(crate) fn put_field(
             out.push(15)?;
             put_sheet_change::<bool>(out, sheet, &old, &new)
         }
+        FieldChange::FrozenRows { old, new } => {
+            out.push(16)?;
+            put_sheet_change::<i32>(out, sheet, &old, &new)
+        }
+        FieldChange::FrozenColumns { old, new } => {
+            out.push(17)?;
+            put_sheet_change::<i32>(out, sheet, &old, &new)
+        }
     }
 }
 

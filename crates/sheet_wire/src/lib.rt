@@ -6,6 +6,7 @@
 //! 64 deep.
 #![tactic(auto)]
 
+mod attributes;
 mod codes;
 mod decode;
 mod decode_sheets;

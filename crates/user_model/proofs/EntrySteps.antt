@@ -10,14 +10,15 @@ use Rattle.sheet_history.specs.Records.{IsRecord, record_between}
 use Rattle.sheet_history.specs.laws.RecordBetween.{record_computed}
 use Rattle.sheet_history.specs.laws.SoundEntries.{entries_forwarded, entries_backed}
 use Rattle.edit_plans.specs.Edits.{Edit, changed, is_of_entries, is_silent, record_of}
-use Rattle.edit_plans.specs.Edits.Edit.{Input, ArrayInput, SetLink, Merge, Unmerge, Lines, MoveLines, AddSheet, CopySheet, DeleteSheet, MoveSheet, RenameSheet, ChangeNames, SetField}
+use Rattle.edit_plans.specs.Edits.Edit.{Input, ArrayInput, SetLink, Merge, Unmerge, Lines, MoveLines, AddSheet, CopySheet, DeleteSheet, MoveSheet, RenameSheet, ChangeNames, SetField, SetSize, SetHidden}
 use Rattle.edit_plans.specs.Plans.{IsPlan, Plans}
-use Rattle.edit_plans.specs.ViewSteps.{selected_by}
+use Rattle.sheet_views.specs.declared.View.{View}
+use Rattle.edit_plans.specs.ViewSteps.{selected_by, view_asked}
 use Rattle.user_model.specs.BothWays.{GoesBothWays}
 use Rattle.user_model.specs.Document.{Document}
 use Rattle.user_model.specs.Sound.{IsExact, IsSoundStep}
 use Rattle.user_model.specs.Spellable.{AreSpellable}
-use Rattle.user_model.specs.Stands.{IsPlanOf, IsStepBy}
+use Rattle.user_model.specs.Stands.{IsSeenPlan, IsStepBy}
 use Rattle.user_model.proofs.Spelled.{record_spellable}
 
 -- an edit whose record has the entries that differ
@@ -27,7 +28,7 @@ pub record IsOfEntries (edit : Edit) : Type 0 where
   pub exact : (earlier later : Book) (list : List Diff) → IsRecord earlier later list → IsExact edit earlier later list
 
 pub of_entries : (edit : Edit) → IsTrue (is_of_entries edit) → IsOfEntries edit
-of_entries (Input index row column content) is = record { loud = λ book. refl; records = λ earlier later. refl; exact = λ earlier later list exact. exact }
+of_entries (Input index row column content feeds) is = record { loud = λ book. refl; records = λ earlier later. refl; exact = λ earlier later list exact. exact }
 of_entries (ArrayInput index r tree) is = record { loud = λ book. refl; records = λ earlier later. refl; exact = λ earlier later list exact. exact }
 of_entries (SetLink index row column link) is = record { loud = λ book. refl; records = λ earlier later. refl; exact = λ earlier later list exact. exact }
 of_entries (Merge index r) is = record { loud = λ book. refl; records = λ earlier later. refl; exact = λ earlier later list exact. exact }
@@ -41,6 +42,8 @@ of_entries (MoveSheet from to) is = absurd (let never : false ≡ true = is in c
 of_entries (RenameSheet index name) is = absurd (let never : false ≡ true = is in cc)
 of_entries (ChangeNames edit) is = absurd (let never : false ≡ true = is in cc)
 of_entries (SetField index value) is = record { loud = λ book. refl; records = λ earlier later. refl; exact = λ earlier later list exact. exact }
+of_entries (SetSize index axis first last size) is = record { loud = λ book. refl; records = λ earlier later. refl; exact = λ earlier later list exact. exact }
+of_entries (SetHidden index axis first last hidden) is = record { loud = λ book. refl; records = λ earlier later. refl; exact = λ earlier later list exact. exact }
 
 module _ (edit : Edit) (it : IsOfEntries edit) where
   module _ (earlier later : Book) (list : List Diff) (before : IsWellFormed earlier) (after : IsWellFormed later) (exact : IsRecord earlier later list) where
@@ -78,10 +81,12 @@ module _ (edit : Edit) (is : IsTrue (is_of_entries edit)) (doc : Document) (rule
   step_by list (Err error) plan = absurd plan
 
   -- it is one of a sound step
-  pub entries_plan : (plan : Result (List Diff) EditError) (selected : ℕ) → (IsOk (changed edit doc.book) → selected_by edit doc.book doc.view.sheet ≡ selected) → Plans plan doc.book (changed edit doc.book) → IsPlanOf edit plan selected doc
-  entries_plan plan selected selects plans = record {
+  pub entries_plan : (plan : Result (List Diff) EditError) (selected : ℕ) (seen : View) → (IsOk (changed edit doc.book) → selected_by edit doc.book doc.view.sheet ≡ selected)
+      → (IsOk (changed edit doc.book) → view_asked edit doc.book doc.view ≡ seen) → Plans plan doc.book (changed edit doc.book) → IsSeenPlan edit plan selected seen doc
+  entries_plan plan selected seen selects asks plans = record {
     loud = (of_entries edit is).loud doc.book;
     selects = selects;
+    asks = asks;
     planned = planned_by plan plans.planned;
     refused = plans.refused;
     memory = plans.memory;

@@ -20,3 +20,4 @@ mod Spelled
 mod Tested
 mod Typed
 mod NamesTyped
+mod HiddenLines

@@ -101,7 +101,7 @@ module _ (index : ℕ) (axis : LineAxis) (kind : EditKind) (plan : ℕ × EditKi
   pub planned_document : (doc : Document) → IsWellFormed doc.book → lines_planned (along_of axis) kind index doc.book ≡ Ok plan
       → Ok (lines_recorded axis plan.1 plan.0 doc) ≡ document_edit (Lines index axis kind) doc
   planned_document doc rules planned =
-      ap (λ list. Ok (recorded list doc.view.sheet doc (followed doc.book))) (sym (plan_record doc.book rules planned (followed doc.book)))
+      ap (λ list. Ok (recorded list doc.view.sheet doc.view doc (followed doc.book))) (sym (plan_record doc.book rules planned (followed doc.book)))
       ∙ sym (ap (map_ok (edited_to (Lines index axis kind) doc)) (plan_made doc.book rules planned))
 
 -- and an edit whose plan is refused is refused
@@ -124,5 +124,5 @@ module _ (a : Along) (axis : LineAxis) (named : a ≡ along_of axis) (kind : Edi
 
   -- to install the followed workbook with it is to record the edit
   pub installed_document : (id : ℕ) (doc : Document) (later : Book) (list : List Diff) → later ≡ book_followed a kind id doc.book → list ≡ line_record axis kind id doc.book
-      → ◌≡◌ {A = Result Document EditError} (Ok (recorded list doc.view.sheet doc later)) (Ok (lines_recorded axis kind id doc))
-  installed_document id doc later list later_is list_is = λ i. Ok (recorded (list_is i) doc.view.sheet doc ((later_is ∙ ap (λ b. book_followed b kind id doc.book) named) i))
+      → ◌≡◌ {A = Result Document EditError} (Ok (recorded list doc.view.sheet doc.view doc later)) (Ok (lines_recorded axis kind id doc))
+  installed_document id doc later list later_is list_is = λ i. Ok (recorded (list_is i) doc.view.sheet doc.view doc ((later_is ∙ ap (λ b. book_followed b kind id doc.book) named) i))

@@ -125,7 +125,7 @@ module _ (index : ℕ) (axis : LineAxis) (first count delta : ℤ) where
     module _ (sheet : Sheet) (at : sheet_at doc.book index ≡ Ok sheet) where
       -- it is the edit of its lines
       pub move_document : document_edit (Lines index axis (kind sheet)) doc ≡ document_edit move doc
-      move_document = (λ i. map_ok (λ later. recorded (records doc.book sheet at later i) doc.view.sheet doc later) (changes doc.book sheet at i)) ∙ sym heard
+      move_document = (λ i. map_ok (λ later. recorded (records doc.book sheet at later i) doc.view.sheet doc.view doc later) (changes doc.book sheet at i)) ∙ sym heard
 
       -- and is refused where it goes too far
       pub far_document : is_far (grown (along_of axis) sheet first count delta) ≡ true → document_edit move doc ≡ Err TargetOutOfBounds

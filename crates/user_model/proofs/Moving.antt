@@ -19,7 +19,11 @@ use Rattle.edit_plans.specs.Edits.{Edit, changed, is_of_entries, is_of_sheets, i
 use Rattle.edit_plans.specs.Plans.{Plans, PlansSheets}
 use Rattle.edit_plans.specs.Edits.Edit.{DeleteSheet, SetField}
 use Rattle.edit_plans.specs.SheetEdits.{field_set, sheet_deleted}
-use Rattle.edit_plans.specs.ViewSteps.{selected_by}
+use Rattle.std.specs.Prelude.{◌&&◌}
+use Rattle.sheet_views.specs.declared.View.{View}
+use Rattle.sheet_rules.specs.laws.EntryLaws.{both}
+use Rattle.edit_plans.specs.ViewSteps.{keeps_range, selected_by, view_asked}
+use Rattle.edit_plans.specs.laws.ViewLaws.{view_kept}
 use Rattle.sheet_history.specs.declared.Diff.{Diff}
 use Rattle.sheet_history.specs.declared.SheetField.{SheetField}
 use Rattle.user_model.specs.declared.open_book.OpenBook.{OpenBook}
@@ -28,7 +32,7 @@ use Rattle.user_model.specs.Document.{Document, document, document_edit, documen
 use Rattle.user_model.specs.Machine.{State, edit_of, edited, looking, undo_of, redo_of, synced_of, received}
 use Rattle.user_model.specs.Opened.{document_in, session_of}
 use Rattle.user_model.specs.Sound.{Carries, IsSound, IsSoundChange}
-use Rattle.user_model.specs.Stands.{StandsFor, IsReached, IsPlanOf, Moves, Turns}
+use Rattle.user_model.specs.Stands.{StandsFor, IsReached, IsPlanOf, IsSeenPlan, Moves, Turns}
 use Rattle.user_model.specs.Values.{Session, seeing}
 use Rattle.user_model.proofs.Documents.{document_edited, document_undone, document_redone, document_taken}
 use Rattle.user_model.proofs.EntrySteps.{entries_plan}
@@ -187,9 +191,18 @@ flushed_fits doc s stands fits = subst (λ (d : Document). FitsQueue d.queue) st
 -- a plan of the workbook inside is one of the document that callers see
 module _ (edit : Edit) (plan : Result (List Diff) EditError) (selected : ℕ) (book : OpenBook) (results : Results) (seen : Session) (same : session_of book results ≡ seen)
     (reached : IsReached (document_in book)) (selects : IsOk (changed edit book.workbook) → selected_by edit book.workbook book.view.sheet ≡ selected) where
-  pub plan_of : IsTrue (is_of_entries edit) → Plans plan book.workbook (changed edit book.workbook) → IsPlanOf edit plan selected seen.document
+  pub plan_of : IsTrue (is_of_entries edit && keeps_range edit) → Plans plan book.workbook (changed edit book.workbook) → IsPlanOf edit plan selected seen.document
   plan_of is plans =
-      subst (λ (session : Session). IsPlanOf edit plan selected session.document) same (entries_plan edit is (document_in book) (reached_rules (document_in book) reached) plan selected selects plans)
+      let parts = both (is_of_entries edit) (keeps_range edit) is in
+      subst (λ (session : Session). IsPlanOf edit plan selected session.document) same
+      (entries_plan edit parts.0 (document_in book) (reached_rules (document_in book) reached) plan selected book.view selects (λ accepted. view_kept edit parts.1 book.workbook book.view) plans)
+
+  -- the same where it asks for another view
+  pub seen_plan_of : (view : View) → (IsOk (changed edit book.workbook) → view_asked edit book.workbook book.view ≡ view) → IsTrue (is_of_entries edit)
+      → Plans plan book.workbook (changed edit book.workbook) → IsSeenPlan edit plan selected view seen.document
+  seen_plan_of view asks is plans =
+      subst (λ (session : Session). IsSeenPlan edit plan selected view session.document) same
+      (entries_plan edit is (document_in book) (reached_rules (document_in book) reached) plan selected view selects asks plans)
 
   pub sheet_plan_of : SheetLaw → IsTrue (is_of_sheets edit) → is_silent edit book.workbook ≡ false → PlansSheets edit plan book.workbook → IsPlanOf edit plan selected seen.document
   sheet_plan_of law is loud plans =

@@ -4,12 +4,13 @@ use Rattle.std.specs.Prelude.{IsOk, IsOkAnd}
 use Rattle.base_values.specs.declared.EditError.{EditError}
 use Rattle.base_values.specs.Answers.{map_ok}
 use Rattle.sheet_grid.specs.Book.{Book}
+use Rattle.sheet_views.specs.declared.View.{View}
 use Rattle.sheet_history.specs.declared.Diff.{Diff}
 use Rattle.sheet_history.specs.Diffs.{IsCanonicalList, book_after}
 use Rattle.edit_plans.specs.Edits.{Edit, changed, is_silent}
 use Rattle.user_model.specs.Document.{Document, document_edit, edited_to, list_recorded, recorded}
 use Rattle.user_model.specs.Sound.{IsSoundChange}
-use Rattle.user_model.specs.Stands.{IsPlanOf, IsStepBy}
+use Rattle.user_model.specs.Stands.{IsSeenPlan, IsStepBy}
 
 module _ (edit : Edit) (doc : Document) where
   abbrev after_edit : Result Book EditError → Result Document EditError
@@ -49,8 +50,8 @@ module _ (edit : Edit) (doc : Document) where
     works_by (Ok later) by = subst IsOk (sym (leads later by)) refl
     works_by (Err error) by = absurd by
 
-  module _ (selected : ℕ) where
-    module _ (list : List Diff) (it : IsPlanOf edit (Ok list) selected doc) where
+  module _ (selected : ℕ) (seen : View) where
+    module _ (list : List Diff) (it : IsSeenPlan edit (Ok list) selected seen doc) where
       pub plan_kept : IsCanonicalList list
       plan_kept = kept_by list (changed edit doc.book) it.planned
 
@@ -60,12 +61,12 @@ module _ (edit : Edit) (doc : Document) where
       changes : IsOk (changed edit doc.book)
       changes = ok_by list (changed edit doc.book) it.planned
 
-      recorded_by : (r : Result Book EditError) → IsOkAnd r (IsStepBy edit doc.book list) → list_recorded list selected doc ≡ after_edit r
-      recorded_by (Ok later) by = ap (map_ok (recorded list selected doc)) (leads list later by) ∙ (λ i. Ok (recorded (by.recorded i) (sym (it.selects changes) i) doc later))
+      recorded_by : (r : Result Book EditError) → IsOkAnd r (IsStepBy edit doc.book list) → list_recorded list selected seen doc ≡ after_edit r
+      recorded_by (Ok later) by = ap (map_ok (recorded list selected seen doc)) (leads list later by) ∙ (λ i. Ok (recorded (by.recorded i) (sym (it.selects changes) i) (sym (it.asks changes) i) doc later))
       recorded_by (Err error) by = absurd by
 
       -- to make the list and to record it is the edit
-      pub plan_document : list_recorded list selected doc ≡ document_edit edit doc
+      pub plan_document : list_recorded list selected seen doc ≡ document_edit edit doc
       plan_document = recorded_by (changed edit doc.book) it.planned ∙ heard it.loud (changed edit doc.book)
 
       pub plan_accepted : IsOk (document_edit edit doc)
@@ -74,7 +75,7 @@ module _ (edit : Edit) (doc : Document) where
       pub plan_sound : IsSoundChange edit doc.book
       plan_sound loud later how = let by : IsStepBy edit doc.book list later = subst (λ r. IsOkAnd r (IsStepBy edit doc.book list)) how it.planned in by.step
 
-    module _ (error : EditError) (it : IsPlanOf edit (Err error) selected doc) where
+    module _ (error : EditError) (it : IsSeenPlan edit (Err error) selected seen doc) where
       pub plan_refused : changed edit doc.book ≡ Err error → document_edit edit doc ≡ Err error
       plan_refused = refused it.loud error
 

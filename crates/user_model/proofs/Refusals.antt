@@ -27,13 +27,15 @@ use Rattle.name_edits.specs.NameChanges.{name_made, name_unmade}
 use Rattle.name_edits.specs.NameDiffs.{name_forward, name_back}
 use Rattle.name_edits.specs.NameDiffs.{goes_forward as may_change, goes_back as may_change_back}
 use Rattle.sheet_history.specs.declared.Diff.{Diff}
-use Rattle.sheet_history.specs.declared.Diff.TheVariants.{Cell as CellDiff, Link as LinkDiff, Merges as MergesDiff, Field as FieldDiff, Lines as LinesDiff, NewSheet as NewDiff, DuplicateSheet as CopyDiff, DeleteSheet as DeletionDiff, MoveSheet as MoveDiff, RenameSheet as RenameDiff, ChangeName as NameDiff}
+use Rattle.sheet_history.specs.declared.Diff.TheVariants.{Cell as CellDiff, Link as LinkDiff, Merges as MergesDiff, Field as FieldDiff, Lines as LinesDiff, NewSheet as NewDiff, DuplicateSheet as CopyDiff, DeleteSheet as DeletionDiff, MoveSheet as MoveDiff, RenameSheet as RenameDiff, ChangeName as NameDiff, Attributes as AttrDiff}
 use Rattle.sheet_history.specs.declared.DiffType.{DiffType}
 use Rattle.sheet_history.specs.declared.DiffType.TheVariants.{Undo, Redo}
 use Rattle.sheet_history.specs.declared.QueueDiffs.{QueueDiffs}
 use Rattle.sheet_history.specs.Entries.{EntryKey, EntryValue, accepts, put_entry}
 use Rattle.sheet_history.specs.Entries.EntryKey.{CellKey, LinkKey, MergesKey, FieldKey}
 use Rattle.sheet_history.specs.Entries.EntryValue.{CellValue, LinkValue, MergesValue, FieldValue}
+use Rattle.sheet_history.specs.Entries.EntryKey.{AttrKey}
+use Rattle.sheet_history.specs.Entries.EntryValue.{AttrValue}
 use Rattle.sheet_history.specs.Fields.{changed_field, new_of, old_of}
 use Rattle.sheet_history.specs.LineDiffs.{along_of, goes_forward, goes_back, lines_forward, lines_back}
 use Rattle.sheet_history.specs.Diffs.{put_in, step_forward, step_back, forward_from, back_from, by_rule, tested, follow, in_entry}
@@ -142,6 +144,7 @@ step_only at book (CellDiff sheet place old new) = put_only at book (CellKey she
 step_only at book (LinkDiff sheet place old new) = put_only at book (LinkKey sheet place) (LinkValue new)
 step_only at book (MergesDiff sheet old new) = put_only at book (MergesKey sheet) (MergesValue new)
 step_only at book (FieldDiff sheet change) = put_only at book (FieldKey sheet (changed_field change)) (FieldValue (new_of change))
+step_only at book (AttrDiff sheet axis line old new) = put_only at book (AttrKey sheet axis line) (AttrValue new)
 step_only at book (LinesDiff sheet axis edit kept) = forward_only at (along_of axis) sheet edit kept book
 step_only at book (NewDiff sheet index name) = new_only at sheet index name book
 step_only at book (CopyDiff source sheet index name) = copy_only at source sheet index name book
@@ -155,6 +158,7 @@ step_back_only at book (CellDiff sheet place old new) = put_only at book (CellKe
 step_back_only at book (LinkDiff sheet place old new) = put_only at book (LinkKey sheet place) (LinkValue old)
 step_back_only at book (MergesDiff sheet old new) = put_only at book (MergesKey sheet) (MergesValue old)
 step_back_only at book (FieldDiff sheet change) = put_only at book (FieldKey sheet (changed_field change)) (FieldValue (old_of change))
+step_back_only at book (AttrDiff sheet axis line old new) = put_only at book (AttrKey sheet axis line) (AttrValue old)
 step_back_only at book (LinesDiff sheet axis edit kept) = back_only at (along_of axis) sheet edit kept book
 step_back_only at book (NewDiff sheet index name) = new_back_only at sheet book
 step_back_only at book (CopyDiff source sheet index name) = copy_back_only at sheet book

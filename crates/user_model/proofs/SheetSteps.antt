@@ -13,7 +13,7 @@ use Rattle.sheet_naming.specs.NextIds.{next_id}
 use Rattle.sheet_history.specs.declared.Diff.{Diff}
 use Rattle.sheet_history.specs.Diffs.{IsCanonicalList}
 use Rattle.edit_plans.specs.Edits.{Edit, changed, is_of_sheets, is_silent, record_of}
-use Rattle.edit_plans.specs.Edits.Edit.{Input, ArrayInput, SetLink, Merge, Unmerge, Lines, MoveLines, AddSheet, CopySheet, DeleteSheet, MoveSheet, RenameSheet, ChangeNames, SetField}
+use Rattle.edit_plans.specs.Edits.Edit.{Input, ArrayInput, SetLink, Merge, Unmerge, Lines, MoveLines, AddSheet, CopySheet, DeleteSheet, MoveSheet, RenameSheet, ChangeNames, SetField, SetSize, SetHidden}
 use Rattle.edit_plans.specs.Plans.{IsSheetPlan, PlansSheets}
 use Rattle.edit_plans.specs.Plans.{GoesBothWays as SheetsGoBothWays}
 use Rattle.name_edits.specs.declared.NameChange.{NameChange}
@@ -22,6 +22,7 @@ use Rattle.name_edits.specs.NameEdits.{NameEdit, name_change}
 use Rattle.edit_plans.specs.NamedEdits.{name_diff, names_edited, names_record}
 use Rattle.edit_plans.specs.SheetEdits.{added_record, copied_record, copy_diff, deleted_record, deletion_diff, move_diff, named_record, new_diff, one_diff, rename_diff, sheet_added, sheet_copied, sheet_deleted, sheet_named, sheet_taken, taken_record, with_copy, with_name, with_new_sheet}
 use Rattle.edit_plans.specs.ViewSteps.{selected_by}
+use Rattle.edit_plans.specs.laws.ViewLaws.{sheets_keep_range, view_kept}
 use Rattle.user_model.specs.BothWays.{GoesBothWays}
 use Rattle.user_model.specs.Document.{Document}
 use Rattle.user_model.specs.Sound.{IsExact, IsOneDiff}
@@ -120,7 +121,7 @@ module _ (earlier later : Book) where
   exact (MoveSheet from to) is how = taken_exact from to how
   exact (RenameSheet index name) is how = named_exact index name how
   exact (ChangeNames edit) is how = names_exact edit how
-  exact (Input index row column content) is how = absurd (let never : false ≡ true = is in cc)
+  exact (Input index row column content feeds) is how = absurd (let never : false ≡ true = is in cc)
   exact (ArrayInput index r tree) is how = absurd (let never : false ≡ true = is in cc)
   exact (SetLink index row column link) is how = absurd (let never : false ≡ true = is in cc)
   exact (Merge index r) is how = absurd (let never : false ≡ true = is in cc)
@@ -128,6 +129,8 @@ module _ (earlier later : Book) where
   exact (Lines index axis kind) is how = absurd (let never : false ≡ true = is in cc)
   exact (MoveLines index axis first count delta) is how = absurd (let never : false ≡ true = is in cc)
   exact (SetField index value) is how = absurd (let never : false ≡ true = is in cc)
+  exact (SetSize index axis first last size) is how = absurd (let never : false ≡ true = is in cc)
+  exact (SetHidden index axis first last hidden) is how = absurd (let never : false ≡ true = is in cc)
 
 -- ---- what the law says of a step
 
@@ -160,7 +163,7 @@ module _ (law : SheetLaw) (edit : Edit) (is : IsTrue (is_of_sheets edit)) where
     -- the plan of such an edit is one of a sound step
     pub sheets_plan : (plan : Result (List Diff) EditError) (selected : ℕ) → is_silent edit doc.book ≡ false → (IsOk (changed edit doc.book) → selected_by edit doc.book doc.view.sheet ≡ selected) → PlansSheets edit plan doc.book
         → IsPlanOf edit plan selected doc
-    sheets_plan plan selected loud selects plans = record { loud = loud; selects = selects; planned = planned_by plan plans.planned; refused = plans.refused; memory = plans.memory }
+    sheets_plan plan selected loud selects plans = record { loud = loud; selects = selects; asks = λ accepted. view_kept edit (sheets_keep_range edit is) doc.book doc.view; planned = planned_by plan plans.planned; refused = plans.refused; memory = plans.memory }
       where
         planned_by : (p : Result (List Diff) EditError) → IfOk p (λ list. IsOkAnd (changed edit doc.book) (IsSheetPlan edit doc.book list)) → IfOk p (λ list. IsOkAnd (changed edit doc.book) (IsStepBy edit doc.book list))
         planned_by (Ok list) planned = made_by list (changed edit doc.book) refl planned

@@ -41,7 +41,7 @@ use Rattle.sheet_history.specs.laws.Entries.{entry_holds}
 use Rattle.sheet_wire.specs.QueueBytes.{IsKnownDiff}
 use Rattle.sheet_wire.specs.laws.Fitting.{known_diff}
 use Rattle.edit_plans.specs.Edits.{Edit, is_of_sheets, record_of}
-use Rattle.edit_plans.specs.Edits.Edit.{Input, ArrayInput, SetLink, Merge, Unmerge, Lines, MoveLines, AddSheet, CopySheet, DeleteSheet, MoveSheet, RenameSheet, ChangeNames, SetField}
+use Rattle.edit_plans.specs.Edits.Edit.{Input, ArrayInput, SetLink, Merge, Unmerge, Lines, MoveLines, AddSheet, CopySheet, DeleteSheet, MoveSheet, RenameSheet, ChangeNames, SetField, SetSize, SetHidden}
 use Rattle.name_edits.specs.declared.NameChange.{NameChange}
 use Rattle.name_edits.specs.NameChanges.{trees_lost}
 use Rattle.name_edits.specs.NameEdits.{NameEdit, name_change}
@@ -193,7 +193,7 @@ module _ (w : Book) (rules : IsWellFormed w) where
   sheets_spellable (MoveSheet from to) is later numbers = move_spellable from to (sheet_at w from)
   sheets_spellable (RenameSheet index name) is later numbers = rename_spellable index name (slice_get w.worksheets index) refl numbers
   sheets_spellable (ChangeNames edit) is later numbers = names_spellable edit (name_change edit w) refl numbers
-  sheets_spellable (Input index row column content) is later numbers = absurd (let never : false ≡ true = is in cc)
+  sheets_spellable (Input index row column content feeds) is later numbers = absurd (let never : false ≡ true = is in cc)
   sheets_spellable (ArrayInput index r tree) is later numbers = absurd (let never : false ≡ true = is in cc)
   sheets_spellable (SetLink index row column link) is later numbers = absurd (let never : false ≡ true = is in cc)
   sheets_spellable (Merge index r) is later numbers = absurd (let never : false ≡ true = is in cc)
@@ -201,3 +201,5 @@ module _ (w : Book) (rules : IsWellFormed w) where
   sheets_spellable (Lines index axis kind) is later numbers = absurd (let never : false ≡ true = is in cc)
   sheets_spellable (MoveLines index axis first count delta) is later numbers = absurd (let never : false ≡ true = is in cc)
   sheets_spellable (SetField index value) is later numbers = absurd (let never : false ≡ true = is in cc)
+  sheets_spellable (SetSize index axis first last size) is later numbers = absurd (let never : false ≡ true = is in cc)
+  sheets_spellable (SetHidden index axis first last hidden) is later numbers = absurd (let never : false ≡ true = is in cc)

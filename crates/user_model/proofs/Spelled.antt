@@ -1,11 +1,15 @@
 -- The record of two well-formed workbooks can be spelled.
-use Rattle.std.proofs.Common.{◌≡◌, ℕ, true, List, [], ◌∷◌, map, Option, Some, None, is_some, refl, ap, ◌∙◌}
-use Rattle.std.specs.Prelude.{IsTrue}
+use Rattle.std.proofs.Common.{◌≡◌, ℕ, ℤ, true, false, List, [], ◌∷◌, map, Option, Some, None, is_some, refl, ap, ◌∙◌}
+use Rattle.std.specs.Prelude.{IsTrue, IfSome, not}
+use Rattle.std.proofs.Common.{Bool}
 use Rattle.std.specs.List.{AllByRecursion}
 use Rattle.std.proofs.lemmas.List.Elements.{recursion_from_All}
 use Rattle.base_values.specs.declared.Position.{Position}
 use Rattle.cell_content.specs.Fitting.{fits_at}
 use Rattle.sheet_grid.specs.declared.Cell.{Cell}
+use Rattle.sheet_grid.specs.declared.LineAttr.{LineAttr}
+use Rattle.sheet_grid.specs.Lines.{is_plain}
+use Rattle.base_values.specs.Places.{is_line}
 use Rattle.sheet_grid.specs.Arrays.{array_at}
 use Rattle.sheet_grid.specs.Book.{Book}
 use Rattle.sheet_grid.specs.laws.FittingCells.{is_shallow_entry}
@@ -14,12 +18,14 @@ use Rattle.sheet_rules.specs.WellFormed.{is_place, IsWellFormed}
 use Rattle.sheet_rules.specs.laws.EntryLaws.{both}
 use Rattle.sheet_lines.specs.Sheets.{sheet_of}
 use Rattle.sheet_history.specs.declared.Diff.{Diff}
-use Rattle.sheet_history.specs.declared.Diff.TheVariants.{Cell as CellDiff, Link as LinkDiff, Merges as MergesDiff, Field as FieldDiff, Lines as LinesDiff, NewSheet as NewDiff, DuplicateSheet as CopyDiff, DeleteSheet as DeletionDiff, MoveSheet as MoveDiff, RenameSheet as RenameDiff, ChangeName as NameDiff}
+use Rattle.sheet_history.specs.declared.Diff.TheVariants.{Cell as CellDiff, Link as LinkDiff, Merges as MergesDiff, Field as FieldDiff, Lines as LinesDiff, NewSheet as NewDiff, DuplicateSheet as CopyDiff, DeleteSheet as DeletionDiff, MoveSheet as MoveDiff, RenameSheet as RenameDiff, ChangeName as NameDiff, Attributes as AttrDiff}
+use Rattle.sheet_history.specs.declared.LineAxis.{LineAxis}
+use Rattle.sheet_history.specs.LineDiffs.{along_of}
 use Rattle.sheet_history.specs.Diffs.{IsCanonicalDiff, IsCanonicalList}
 use Rattle.book_sheets.specs.SheetDiffs.{lies_inside}
-use Rattle.sheet_history.specs.Entries.{cell_stands_at, value_fits, accepts}
-use Rattle.sheet_history.specs.Entries.EntryKey.{CellKey}
-use Rattle.sheet_history.specs.Entries.EntryValue.{CellValue}
+use Rattle.sheet_history.specs.Entries.{cell_stands_at, is_kept, value_fits, accepts}
+use Rattle.sheet_history.specs.Entries.EntryKey.{CellKey, AttrKey}
+use Rattle.sheet_history.specs.Entries.EntryValue.{CellValue, AttrValue}
 use Rattle.sheet_history.specs.Records.{Change, change_of, IsRecord}
 use Rattle.sheet_history.specs.laws.BothWays.{AllFit}
 use Rattle.sheet_history.specs.laws.SoundEntries.{entries_fit}
@@ -32,12 +38,27 @@ shallow_standing : (place : Position) (entry : Option Cell) → cell_stands_at p
 shallow_standing place None stands = refl
 shallow_standing place (Some cell) stands = shallow_entry place (Some cell) (both (fits_at place cell.content) (lies_inside (array_at place cell.content)) stands).0
 
+not_plain : (b : Bool) → not b ≡ true → b ≡ false
+not_plain true h = absurd cc
+not_plain false h = refl
+
+-- an attribute that may stand is not plain
+kept_standing : (entry : Option LineAttr) → is_kept entry ≡ true → IfSome entry (λ attr. is_plain attr ≡ false)
+kept_standing None kept = tt
+kept_standing (Some attr) kept = not_plain (is_plain attr) kept
+
 module _ (w : Book) where
   shallow : (id : ℕ) (place : Position) (entry : Option Cell) → accepts w (CellKey id place) (CellValue entry) ≡ true → IsTrue (is_shallow_entry entry)
   unfolding accepts
   shallow id place entry accepted =
       let fits = (both (is_some (sheet_of w id)) (value_fits (CellKey id place) (CellValue entry)) accepted).1 in
       shallow_standing place entry (both (is_place place) (cell_stands_at place entry) fits).1
+
+  known_line : (id : ℕ) (axis : LineAxis) (line : ℤ) (entry : Option LineAttr) → accepts w (AttrKey id axis line) (AttrValue entry) ≡ true → IfSome entry (λ attr. is_plain attr ≡ false)
+  unfolding accepts
+  known_line id axis line entry accepted =
+      let fits = (both (is_some (sheet_of w id)) (value_fits (AttrKey id axis line) (AttrValue entry)) accepted).1 in
+      kept_standing entry (both (is_line (along_of axis).last line) (is_kept entry) fits).1
 
   -- a diff whose values the workbook can take can be spelled
   known : (diff : Diff) (c : Change) → change_of diff ≡ Some c → accepts w c.0 c.1.1 ≡ true → accepts w c.0 c.1.0 ≡ true → IsCanonicalDiff diff → IsKnownDiff diff
@@ -48,6 +69,9 @@ module _ (w : Book) where
   known (LinkDiff id place old new) c is news olds kept = tt
   known (MergesDiff id old new) c is news olds kept = tt
   known (FieldDiff id change) c is news olds kept = tt
+  known (AttrDiff id axis line old new) c is news olds kept =
+      let same : ◌≡◌ {A = Change} (AttrKey id axis line, (AttrValue old, AttrValue new)) c = cc in
+      (known_line id axis line old (ap (λ (x : Change). accepts w x.0 x.1.0) same ∙ olds), known_line id axis line new (ap (λ (x : Change). accepts w x.0 x.1.1) same ∙ news))
   known (LinesDiff id axis edit lines) c is news olds kept = absurd (cc)
   known (NewDiff id index name) c is news olds kept = absurd (cc)
   known (CopyDiff source id index name) c is news olds kept = absurd (cc)

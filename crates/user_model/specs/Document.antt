@@ -17,7 +17,7 @@ use Rattle.sheet_history.specs.Diffs.{book_after, book_before, follow, in_entry}
 use Rattle.sheet_history.specs.LineDiffs.{along_of}
 use Rattle.sheet_history.specs.Records.{line_record}
 use Rattle.edit_plans.specs.Edits.{Edit, changed, is_silent, record_of}
-use Rattle.edit_plans.specs.ViewSteps.{selected_by}
+use Rattle.edit_plans.specs.ViewSteps.{selected_by, view_asked}
 use Rattle.user_model.specs.Machine.{State, undo_list, redo_list, entry}
 use Rattle.user_model.specs.Views.{view_at, view_followed}
 
@@ -54,29 +54,29 @@ document s =
 abbrev pub sending : DiffType → List Diff → List QueueDiffs → List QueueDiffs
 sending kind list queue = queue ++ entry kind list ∷ []
 
--- a document after an accepted edit, which selects the sheet at an index
-abbrev pub recorded : List Diff → ℕ → Document → Book → Document
-recorded list selected doc later =
+-- a document after an accepted edit, which selects the sheet at an index; this view is what it asks for of the sheet that was viewed
+abbrev pub recorded : List Diff → ℕ → View → Document → Book → Document
+recorded list selected seen doc later =
     record doc {
       book = later;
       undo = list ∷ doc.undo;
       redo = [];
       stale_redo = 0;
       queue = sending Redo list doc.queue;
-      view = view_at selected doc.book later doc.view;
+      view = view_at selected doc.book later seen;
     }
 
 -- the changes of a list made, and recorded
-abbrev pub list_recorded : List Diff → ℕ → Document → Result Document EditError
-list_recorded list selected doc = map_ok (recorded list selected doc) (book_after doc.book list)
+abbrev pub list_recorded : List Diff → ℕ → View → Document → Result Document EditError
+list_recorded list selected seen doc = map_ok (recorded list selected seen doc) (book_after doc.book list)
 
 -- lines of the sheet of an id inserted, deleted or moved, and their record
 abbrev pub lines_recorded : LineAxis → EditKind → ℕ → Document → Document
-lines_recorded axis kind id doc = recorded (line_record axis kind id doc.book) doc.view.sheet doc (book_followed (along_of axis) kind id doc.book)
+lines_recorded axis kind id doc = recorded (line_record axis kind id doc.book) doc.view.sheet doc.view doc (book_followed (along_of axis) kind id doc.book)
 
 -- a document after an edit led to a workbook
 abbrev pub edited_to : Edit → Document → Book → Document
-edited_to edit doc later = recorded (record_of edit doc.book later) (selected_by edit doc.book doc.view.sheet) doc later
+edited_to edit doc later = recorded (record_of edit doc.book later) (selected_by edit doc.book doc.view.sheet) (view_asked edit doc.book doc.view) doc later
 
 -- an edit of a document. A silent one does nothing
 abbrev pub document_edit : Edit → Document → Result Document EditError

@@ -1,8 +1,9 @@
--- What is listed of each sheet.
-use Rattle.std.proofs.Common.{ℕ, Bool, List, map, Result}
+-- What is listed of each sheet, and asked of one.
+use Rattle.std.proofs.Common.{ℕ, ℤ, Bool, List, map, Result}
 use Rattle.base_values.specs.declared.EditError.{EditError}
-use Rattle.base_values.specs.Answers.{map_ok}
-use Rattle.sheet_grid.specs.Sheet.{Sheet}
+use Rattle.base_values.specs.Answers.{and_then, map_ok}
+use Rattle.sheet_grid.specs.Lines.{shown_size, usual_height, usual_width}
+use Rattle.sheet_grid.specs.Sheet.{Sheet, of_column, of_row}
 use Rattle.sheet_grid.specs.Book.{Book, sheet_at}
 use Rattle.user_model.specs.declared.properties.SheetProperties.{SheetProperties}
 
@@ -16,3 +17,18 @@ all_properties book = map properties_of book.worksheets
 -- whether grid lines are drawn in the sheet at an index, or the refusal where there is none
 abbrev pub draws_grid_lines : ℕ → Book → Result Bool EditError
 draws_grid_lines index book = map_ok (λ sheet. sheet.show_grid_lines) (sheet_at book index)
+
+-- the height that a row of the sheet at an index shows. The first refusal is that there is no such sheet
+abbrev pub row_height : ℕ → ℤ → Book → Result ℤ EditError
+row_height index row book = and_then (sheet_at book index) (λ sheet. of_row (shown_size usual_height) sheet row)
+
+-- the width that a column of the sheet shows
+abbrev pub column_width : ℕ → ℤ → Book → Result ℤ EditError
+column_width index column book = and_then (sheet_at book index) (λ sheet. of_column (shown_size usual_width) sheet column)
+
+-- how many first rows, and columns, of the sheet are frozen
+abbrev pub frozen_rows : ℕ → Book → Result ℤ EditError
+frozen_rows index book = map_ok (λ sheet. sheet.frozen_rows) (sheet_at book index)
+
+abbrev pub frozen_columns : ℕ → Book → Result ℤ EditError
+frozen_columns index book = map_ok (λ sheet. sheet.frozen_columns) (sheet_at book index)

@@ -8,7 +8,8 @@ use Rattle.sheet_history.specs.declared.Diff.{Diff}
 use Rattle.sheet_history.specs.declared.QueueDiffs.{QueueDiffs}
 use Rattle.sheet_history.specs.Diffs.{IsCanonicalList}
 use Rattle.edit_plans.specs.Edits.{Edit, changed, is_silent, record_of}
-use Rattle.edit_plans.specs.ViewSteps.{selected_by}
+use Rattle.sheet_views.specs.declared.View.{View}
+use Rattle.edit_plans.specs.ViewSteps.{selected_by, view_asked}
 use Rattle.user_model.specs.Document.{Document, document}
 use Rattle.user_model.specs.Machine.{State, applied}
 use Rattle.user_model.specs.Sound.{IsSound, IsSoundStep}
@@ -62,15 +63,23 @@ pub record IsStepBy (edit : Edit) (earlier : Book) (list : List Diff) (later : B
   pub step : IsSoundStep (record { edit = edit; before = earlier; after = later })
   pub canonical : IsCanonicalList list
 
--- a result is that of the plan of an edit that does something and, where it is accepted, selects the sheet at an index: it has the record
--- of the edit's change, or refuses it
-pub record IsPlanOf (edit : Edit) (plan : Result (List Diff) EditError) (selected : ℕ) (doc : Document) : Type 0 where
+-- a result is that of the plan of an edit that does something and, where it is accepted, selects the sheet at an index and asks for a view: it
+-- has the record of the edit's change, or refuses it
+pub record IsSeenPlan (edit : Edit) (plan : Result (List Diff) EditError) (selected : ℕ) (seen : View) (doc : Document) : Type 0 where
   pub loud : is_silent edit doc.book ≡ false
   pub selects : IsOk (changed edit doc.book) → selected_by edit doc.book doc.view.sheet ≡ selected
+  pub asks : IsOk (changed edit doc.book) → view_asked edit doc.book doc.view ≡ seen
   pub planned : IfOk plan (λ list. IsOkAnd (changed edit doc.book) (IsStepBy edit doc.book list))
   pub refused : IfErr plan (λ error. error ≢ NoMemory → changed edit doc.book ≡ Err error)
   pub memory : IfErr plan (λ error. error ≡ NoMemory → IsOk (changed edit doc.book))
 
+-- the same of an edit that asks for no other view than the present one
+abbrev pub IsPlanOf : Edit → Result (List Diff) EditError → ℕ → Document → Type 0
+IsPlanOf edit plan selected doc = IsSeenPlan edit plan selected doc.view doc
+
 -- of some edit
+abbrev pub IsAnySeenPlan : Result (List Diff) EditError → ℕ → View → Document → Type 0
+IsAnySeenPlan plan selected seen doc = (edit : Edit) × IsSeenPlan edit plan selected seen doc
+
 abbrev pub IsAnyPlan : Result (List Diff) EditError → ℕ → Document → Type 0
-IsAnyPlan plan selected doc = (edit : Edit) × IsPlanOf edit plan selected doc
+IsAnyPlan plan selected doc = IsAnySeenPlan plan selected doc.view doc

@@ -9,12 +9,13 @@ use Rattle.sheet_grid.specs.Book.{Book}
 use Rattle.name_edits.specs.NameEdits.{valid_name}
 use Rattle.name_edits.specs.NameEdits.NameEdit.{Add, Update}
 use Rattle.edit_plans.specs.Edits.Edit.{Input, ArrayInput, ChangeNames}
+use Rattle.line_sizes.specs.Heights.{line_feeds}
 use Rattle.user_model.specs.Machine.{State, edit_of}
 use Rattle.user_model.specs.Reading.{typed, formula_typed}
 
 -- a text typed into the cell at a row and a column: it is read in the workbook's locale and in the language of the state, and put there
 abbrev pub text_typed : ℕ → ℤ → ℤ → List ℕ → State → Result State EditError
-text_typed sheet row column text s = edit_of (Input sheet row column (typed s.present s.language row column text)) s
+text_typed sheet row column text s = edit_of (Input sheet row column (typed s.present s.language row column text) (line_feeds text)) s
 
 -- a text typed as the array formula of a rectangle: it is read so at the first cell
 abbrev pub array_typed : ℕ → MergedCell → List ℕ → State → Result State EditError

@@ -263,7 +263,7 @@ impl OpenBook {
     ghost use Rattle.user_model.specs.Opened.{document_in, session_of};
     ghost use Rattle.user_model.specs.Sound.{IsSoundChange};
     ghost use Rattle.user_model.specs.Machine.{State, begun};
-    ghost use Rattle.user_model.specs.Stands.{IsAnyPlan, IsPlanOf, IsReached, Leaves, StandsFor};
+    ghost use Rattle.user_model.specs.Stands.{IsAnySeenPlan, IsReached, IsSeenPlan, Leaves, StandsFor};
     ghost use Rattle.user_model.specs.Values.{AreMade, IsMade, LeavesMade, Makes, is_none_left};
 
     /// A workbook with nothing to undo and nothing to send.
@@ -289,25 +289,26 @@ impl OpenBook {
     }
 
     /// Makes the changes of a list in the workbook, selects the sheet at an index, and puts the list
-    /// on the undo stack and in the queue. The list is known not to be refused. An error changes
-    /// nothing.
+    /// on the undo stack and in the queue. `seen` is the view that is asked for of the sheet that was
+    /// viewed. The list is known not to be refused. An error changes nothing.
     fn apply<R: Recalc>(
         &mut self,
         results: &mut Results,
         recalc: &mut R,
         list: DiffList,
         selected: usize,
+        seen: View,
     ) -> Result<(), EditError>
         requires canonical { IsCanonicalList list }
         requires rules { IsWellFormed self.now.workbook }
         requires works { IsOk (book_after self.now.workbook list) }
-        ensures document { Edits result (document_in self.old) (document_in self.new) (list_recorded list selected (document_in self.old)) }
+        ensures document { Edits result (document_in self.old) (document_in self.new) (list_recorded list selected seen (document_in self.old)) }
         ensures made { OnOk result (AreMade R.Fits results.new.paused self.new.workbook results.new.values) }
         ensures err { OnErr result (results.new ≡ results.old) }
         ensures paused { results.new.paused ≡ results.old.paused }
     {
         let length = self.queue.len();
-        let was = viewed_id(self.workbook.worksheets(), self.view);
+        let was = viewed_id(self.workbook.worksheets(), seen);
         send(&mut self.history, &mut self.queue, &list)?;
         if let Err(error) = install(
             self.alloc,
@@ -321,7 +322,7 @@ impl OpenBook {
             self.queue.truncate(length);
             return Err(error);
         }
-        self.view = viewed(was, self.workbook.worksheets(), selected, self.view);
+        self.view = viewed(was, self.workbook.worksheets(), selected, seen);
         self.stale_redo = 0;
         match self.history.push(list) {
             Ok(()) => Ok(()),
@@ -330,24 +331,25 @@ impl OpenBook {
     }
 
     /// Makes what the plan of an edit says, and records it, or refuses as the plan does. The edit
-    /// selects the sheet at an index.
+    /// selects the sheet at an index, and asks for a view of the sheet that was viewed.
     pub(crate) fn make<R: Recalc>(
         &mut self,
         results: &mut Results,
         recalc: &mut R,
         plan: Result<DiffList, EditError>,
         selected: usize,
+        seen: View,
     ) -> Result<(), EditError>
-        requires plan { IsAnyPlan plan selected (document_in self.now) }
+        requires plan { IsAnySeenPlan plan selected seen (document_in self.now) }
         requires rules { IsWellFormed self.now.workbook }
-        ensures document { (edit : AnyEdit) → IsPlanOf edit plan selected (document_in self.old) → Changes result (document_in self.old) (document_in self.new) (document_edit edit (document_in self.old)) }
-        ensures sound { (edit : AnyEdit) → IsPlanOf edit plan selected (document_in self.old) → OnOk result (IsSoundChange edit self.old.workbook) }
+        ensures document { (edit : AnyEdit) → IsSeenPlan edit plan selected seen (document_in self.old) → Changes result (document_in self.old) (document_in self.new) (document_edit edit (document_in self.old)) }
+        ensures sound { (edit : AnyEdit) → IsSeenPlan edit plan selected seen (document_in self.old) → OnOk result (IsSoundChange edit self.old.workbook) }
         ensures made { OnOk result (IsMade R.Fits (session_of self.new results.new)) }
         ensures err { OnErr result (results.new ≡ results.old) }
         ensures paused { results.new.paused ≡ results.old.paused }
     {
         let list = plan?;
-        self.apply(results, recalc, list, selected)
+        self.apply(results, recalc, list, selected, seen)
     }
 
     /// Puts a workbook in place of this one, with its values, where the same index is selected, and
@@ -361,7 +363,7 @@ impl OpenBook {
         list: DiffList,
     ) -> Result<(), EditError>
         requires { IsCanonicalList list }
-        ensures document { Edits result (document_in self.old) (document_in self.new) (Ok (recorded list self.old.view.sheet (document_in self.old) later)) }
+        ensures document { Edits result (document_in self.old) (document_in self.new) (Ok (recorded list self.old.view.sheet self.old.view (document_in self.old) later)) }
         ensures made { OnOk result (IsMade R.Fits (session_of self.new results.new)) }
         ensures err { OnErr result (results.new ≡ results.old) }
         ensures paused { results.new.paused ≡ results.old.paused }

@@ -1,7 +1,7 @@
 ghost use Rattle.std.specs.Prelude.{◌≡◌, map, Ok, IfOk, IsOkUnless};
 ghost use Rattle.base_values.specs.Answers.{Returns};
 ghost use Rattle.base_values.specs.declared.EditError.TheVariants.{NoMemory};
-ghost use Rattle.user_model.specs.Properties.{all_properties, draws_grid_lines, properties_of};
+ghost use Rattle.user_model.specs.Properties.{all_properties, column_width, draws_grid_lines, frozen_columns, frozen_rows, properties_of, row_height};
 
 use base_styles::Color;
 use base_values::{EditError, Items, Text};
@@ -67,4 +67,32 @@ pub(crate) fn draws_grid_lines(workbook: &Workbook, sheet: u32) -> Result<bool, 
     ensures { result ≡ draws_grid_lines sheet workbook.now }
 {
     Ok(workbook.worksheet(sheet)?.show_grid_lines())
+}
+
+/// The height of a row of the sheet at an index, 0 where it is hidden. It takes no memory.
+pub(crate) fn row_height(workbook: &Workbook, sheet: u32, row: i32) -> Result<i32, EditError>
+    ensures { result ≡ row_height sheet row workbook.now }
+{
+    workbook.worksheet(sheet)?.row_height(row)
+}
+
+/// The width of a column of the sheet at an index, 0 where it is hidden. It takes no memory.
+pub(crate) fn column_width(workbook: &Workbook, sheet: u32, column: i32) -> Result<i32, EditError>
+    ensures { result ≡ column_width sheet column workbook.now }
+{
+    workbook.worksheet(sheet)?.get_column_width(column)
+}
+
+/// How many rows of the sheet at an index are frozen. It takes no memory.
+pub(crate) fn frozen_rows(workbook: &Workbook, sheet: u32) -> Result<i32, EditError>
+    ensures { result ≡ frozen_rows sheet workbook.now }
+{
+    Ok(workbook.worksheet(sheet)?.frozen_rows())
+}
+
+/// How many columns of the sheet at an index are frozen. It takes no memory.
+pub(crate) fn frozen_columns(workbook: &Workbook, sheet: u32) -> Result<i32, EditError>
+    ensures { result ≡ frozen_columns sheet workbook.now }
+{
+    Ok(workbook.worksheet(sheet)?.frozen_columns())
 }

@@ -20,9 +20,10 @@ ghost use Rattle.user_model.specs.Typing.{array_typed, text_typed};
 ghost use Rattle.user_model.specs.Structure.{structure_at};
 ghost use Rattle.user_model.specs.Machine.{State, begun, edit_of, undo_of, redo_of, synced_of, sync_bytes};
 ghost use Rattle.user_model.specs.Sound.{CarriesOn, WhereCarried, WhereSpelled};
-ghost use Rattle.user_model.specs.Stands.{StandsFor, IsReached, IsAnyPlan, IsPlanOf, Leaves, Moves, OnStates, Opens, Steps, Turns};
+ghost use Rattle.user_model.specs.Stands.{StandsFor, IsReached, IsAnyPlan, IsPlanOf, IsSeenPlan, IsAnySeenPlan, Leaves, Moves, OnStates, Opens, Steps, Turns};
 ghost use Rattle.user_model.specs.Values.{IsMade, LeavesMade, Makes, is_none_left};
 
+mod attributes;
 mod lines;
 mod names;
 mod sheets;
@@ -41,9 +42,11 @@ use base_tables::{Language, get_language, get_locale, get_zone};
 use base_values::{EditError, Items};
 use edit_plans::{plan_array, plan_input, plan_link, plan_merge, plan_unmerge};
 use formula_tree::Node;
+use line_sizes::line_feeds;
 use sheet_actions::Model as PlainModel;
 use sheet_grid::{Content, Link, Workbook};
 use sheet_history::DiffList;
+use sheet_views::View;
 use sheet_wire::{decode_queue, encode_queue};
 use std::alloc::Global;
 use std::fmt;
@@ -322,21 +325,40 @@ impl<R: Recalc + Drop> UserModel<R> {
         ensures err { OnErr result (self.new ≡ self.old) }
         ensures paused { self.new.paused ≡ self.old.paused }
     {
-        self.book
-            .make(&mut self.results, &mut self.recalc, plan, selected)
+        let seen = self.book.view;
+        self.make_seen(plan, selected, seen)
     }
 
-    /// Puts a content at a row and a column of the sheet at an index, and records the change.
+    /// The same where the edit asks for another view of the sheet that was viewed.
+    fn make_seen(
+        &mut self,
+        plan: Result<DiffList, EditError>,
+        selected: usize,
+        seen: View,
+    ) -> Result<(), EditError>
+        requires { IsAnySeenPlan plan selected seen self.now.document }
+        ensures next { (edit : AnyEdit) (state : State) → IsSeenPlan edit plan selected seen self.old.document → StandsFor self.old.document state → Moves result self.new.document (edit_of edit state) }
+        ensures made { OnOk result (IsMade R.Fits self.new) }
+        ensures err { OnErr result (self.new ≡ self.old) }
+        ensures paused { self.new.paused ≡ self.old.paused }
+    {
+        self.book
+            .make(&mut self.results, &mut self.recalc, plan, selected, seen)
+    }
+
+    /// Puts a content, whose text has so many line feeds, at a row and a column of the sheet at an index,
+    /// and records the change.
     fn set_content(
         &mut self,
         sheet: u32,
         row: i32,
         column: i32,
         content: Content,
+        feeds: u64,
     ) -> Result<(), EditError>
         requires canonical { IsCanonicalContent content }
         requires input { IsInput row column content }
-        ensures next { Steps result self.old.document self.new.document (edit_of (Input sheet row column content)) }
+        ensures next { Steps result self.old.document self.new.document (edit_of (Input sheet row column content feeds)) }
         ensures made { OnOk result (IsMade R.Fits self.new) }
         ensures err { OnErr result (self.new ≡ self.old) }
         ensures paused { self.new.paused ≡ self.old.paused }
@@ -350,6 +372,7 @@ impl<R: Recalc + Drop> UserModel<R> {
             row,
             column,
             content,
+            feeds,
         );
         let selected = book.view.sheet as usize;
         self.make(plan, selected)
@@ -359,7 +382,9 @@ impl<R: Recalc + Drop> UserModel<R> {
     /// in the workbook's locale and the display language, and records the change. Sheets are counted
     /// from 0, rows and columns from 1. What follows `=` is a formula, what follows `'` a text; a text
     /// that is no formula is kept as it is. The cell keeps its style; a new one has the style that its
-    /// place showed. An empty text takes the content and the link away, and makes no cell.
+    /// place showed. An empty text takes the content and the link away, and makes no cell. The row becomes
+    /// as high as the lines of the text ask for in the size of that font, if it is less high; docs/MODEL.md
+    /// has the rule.
     ///
     /// `InvalidSheet` where there is no such sheet, else `InvalidRow` where the row is outside the
     /// sheet, else `InvalidColumn` where the column is, else `CoveredCell` where a merge covers the
@@ -392,7 +417,7 @@ impl<R: Recalc + Drop> UserModel<R> {
             book.workbook.locale(),
             book.language,
         )?;
-        self.set_content(sheet, row, column, content)
+        self.set_content(sheet, row, column, content, line_feeds(value))
     }
 
     /// Puts an array formula in a rectangle of the sheet at an index.

@@ -1,15 +1,19 @@
 //! What is selected of a workbook after a step, also where the step is refused.
 
-ghost use Rattle.std.specs.Prelude.{◌≡◌, ◌≢◌, ◌<◌, length, nat_lt, Err};
+ghost use Rattle.std.specs.Prelude.{◌≡◌, ◌≢◌, ◌<◌, ◌≤ℤ◌, length, nat_lt, pos, Err};
 ghost use Rattle.base_values.specs.declared.EditError.TheVariants.{NoMemory};
+ghost use Rattle.sheet_grid.specs.Book.{sheet_at};
+ghost use Rattle.sheet_history.specs.LineDiffs.{along_of};
 ghost use Rattle.edit_plans.specs.Edits.Edit.{DeleteSheet, SetField};
-ghost use Rattle.edit_plans.specs.ViewSteps.{selected_by};
-ghost use Rattle.user_model.specs.Views.{sheet_chosen};
+ghost use Rattle.edit_plans.specs.ViewSteps.{line_shown, selected_by};
+ghost use Rattle.user_model.specs.Views.{seen_by, sheet_chosen};
 
 use base_values::EditError;
-use edit_plans::{selected_by_deletion, selected_by_field};
+use edit_plans::{range_by_hiding, selected_by_deletion, selected_by_field};
+use entry_records::axis_end;
+use line_sizes::has_lines;
 use sheet_grid::Workbook;
-use sheet_history::SheetField;
+use sheet_history::{LineAxis, SheetField};
 use sheet_views::{View, viewed, viewed_id};
 
 /// The view of the sheet at an index. It takes no memory.
@@ -54,5 +58,49 @@ pub(crate) fn selected_after_field(
         selected_by_field(workbook, sheet, value, selected)
     } else {
         selected as usize
+    }
+}
+
+/// The rectangle that is selected of the sheet at an index, which is viewed, where its rows or columns from a
+/// first to a last are hidden.
+fn range_hidden(
+    workbook: &Workbook,
+    sheet: u32,
+    axis: LineAxis,
+    first: i32,
+    last: i32,
+    range: [i32; 4],
+) -> [i32; 4]
+    requires low { pos 1 ≤ℤ first }
+    requires order { first ≤ℤ last }
+    requires high { last ≤ℤ (along_of axis).last }
+    ensures { result ≡ line_shown axis first last (sheet_at workbook.now sheet) range }
+{
+    match workbook.worksheet(sheet) {
+        Ok(found) => range_by_hiding(found, axis, first, last, range),
+        Err(_) => range,
+    }
+}
+
+/// The view that is asked for where the rows or columns from a first to a last of the sheet at an index are
+/// hidden or shown, if these are lines: where the viewed sheet's are hidden, another rectangle of it.
+pub(crate) fn seen_by_hiding(
+    workbook: &Workbook,
+    sheet: u32,
+    axis: LineAxis,
+    first: i32,
+    last: i32,
+    hidden: bool,
+    view: View,
+) -> View
+    ensures { result ≡ seen_by sheet axis first last hidden workbook.now view }
+{
+    if hidden && sheet == view.sheet && has_lines(axis_end(axis), first, last) {
+        View {
+            sheet: view.sheet,
+            range: range_hidden(workbook, sheet, axis, first, last, view.range),
+        }
+    } else {
+        view
     }
 }

@@ -27,6 +27,8 @@ use Rattle.sheet_rules.specs.laws.EntryLaws.{both}
 use Rattle.sheet_rules.specs.laws.ShownLaws.{not_true}
 use Rattle.sheet_history.specs.declared.Diff.TheVariants.{Cell as CellDiff}
 use Rattle.sheet_history.specs.Entries.{EntryKey, EntryValue, key_cmp, sheet_id_of, sheet_entry}
+use Rattle.sheet_history.specs.declared.LineAxis.TheVariants.{Rows, Columns}
+use Rattle.sheet_history.specs.Entries.EntryKey.{AttrKey}
 use Rattle.sheet_history.specs.Entries.EntryKey.{CellKey, LinkKey, MergesKey, FieldKey}
 use Rattle.sheet_history.specs.Entries.EntryValue.{CellValue, FieldValue}
 use Rattle.sheet_history.specs.Records.{Change, change_of, changed_entry, same_entry_value}
@@ -137,7 +139,9 @@ module _ (r : MergedCell) (tree : Node) (sheet : Sheet) where
       true≢false (sym (own_key key_cmp key_total exact_keys key) ∙ ap (λ k. eq_by_cmp key_cmp k key) (sym one) ∙ other)))))
   stays (LinkKey id q) own other = refl
   stays (MergesKey id) own other = refl
-  stays (FieldKey id field) own other = ap FieldValue (fields_stay field (blanked_sheet r sheet) next refl refl refl)
+  stays (FieldKey id field) own other = ap FieldValue (fields_stay field (blanked_sheet r sheet) next refl refl refl refl refl)
+  stays (AttrKey id Rows line) own other = refl
+  stays (AttrKey id Columns line) own other = refl
 
   here : (k : EntryKey) → sheet_id_of k ≡ sheet.id → fin.find key_cmp k array_changes ≡ changed_entry (Some (sheet_entry k sheet)) (Some (sheet_entry k next))
   here k own = decide (eq_by_cmp key_cmp k key)

@@ -21,6 +21,8 @@ use Rattle.sheet_rules.specs.Occupied.{covers}
 use Rattle.sheet_history.specs.declared.Diff.{Diff}
 use Rattle.sheet_history.specs.declared.Diff.TheVariants.{Cell as CellDiff}
 use Rattle.sheet_history.specs.Entries.{EntryKey, EntryValue, key_cmp, sheet_id_of, sheet_entry}
+use Rattle.sheet_history.specs.declared.LineAxis.TheVariants.{Rows, Columns}
+use Rattle.sheet_history.specs.Entries.EntryKey.{AttrKey}
 use Rattle.sheet_history.specs.Entries.EntryKey.{CellKey, LinkKey, MergesKey, FieldKey}
 use Rattle.sheet_history.specs.Entries.EntryValue.{CellValue, FieldValue}
 use Rattle.sheet_history.specs.Records.{Change, change_of, changed_entry, same_entry_value}
@@ -131,7 +133,13 @@ module _ (r : MergedCell) where
     blank_here (FieldKey id field) own = other_kind sheet.id (FieldKey id field)
         (λ other same. let never : FieldKey id field ≡ CellKey sheet.id other = same in cc) (entries sheet.cells)
         ∙ sym (changed_entry-same (Some (sheet_entry (FieldKey id field) sheet)))
-        ∙ ap (λ v. changed_entry (Some (sheet_entry (FieldKey id field) sheet)) (Some (FieldValue v))) (fields_stay field sheet (blanked_sheet r sheet) refl refl refl)
+        ∙ ap (λ v. changed_entry (Some (sheet_entry (FieldKey id field) sheet)) (Some (FieldValue v))) (fields_stay field sheet (blanked_sheet r sheet) refl refl refl refl refl)
+    blank_here (AttrKey id Rows line) own = other_kind sheet.id (AttrKey id Rows line)
+        (λ other same. let never : AttrKey id Rows line ≡ CellKey sheet.id other = same in cc) (entries sheet.cells)
+        ∙ sym (changed_entry-same (Some (sheet_entry (AttrKey id Rows line) sheet)))
+    blank_here (AttrKey id Columns line) own = other_kind sheet.id (AttrKey id Columns line)
+        (λ other same. let never : AttrKey id Columns line ≡ CellKey sheet.id other = same in cc) (entries sheet.cells)
+        ∙ sym (changed_entry-same (Some (sheet_entry (AttrKey id Columns line) sheet)))
 
     -- and all are below that of the merges
     pub blank_below : AllByRecursion (λ c. is_lt (key_cmp c.0 (MergesKey sheet.id)) ≡ true) blank_changes

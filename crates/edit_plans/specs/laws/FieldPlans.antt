@@ -1,8 +1,8 @@
 -- A field that gets a value leaves a well-formed workbook, and its change is the record.
-use Rattle.std.proofs.Common.{◌≡◌, ℕ, List, Result, Ok, Err, refl, sym, subst, ◌∙◌}
+use Rattle.std.proofs.Common.{◌≡◌, ℕ, Bool, true, false, cond, List, Result, Ok, Err, refl, ap, sym, subst, ◌∙◌}
 use Rattle.std.specs.Prelude.{IfOk, IsOkUnless}
 use Rattle.base_values.specs.declared.EditError.{EditError}
-use Rattle.base_values.specs.declared.EditError.TheVariants.{NoMemory}
+use Rattle.base_values.specs.declared.EditError.TheVariants.{FrozenCount, NoMemory}
 use Rattle.sheet_grid.specs.Sheet.{Sheet}
 use Rattle.sheet_grid.specs.Book.{Book, sheet_at, with_sheet}
 use Rattle.sheet_rules.specs.WellFormed.{IsWellFormed}
@@ -12,17 +12,29 @@ use Rattle.sheet_history.specs.Diffs.{IsCanonicalList}
 use Rattle.sheet_history.specs.Entries.{EntryKey, with_sheet_entry, put_entry}
 use Rattle.sheet_history.specs.Entries.EntryKey.{FieldKey}
 use Rattle.sheet_history.specs.Entries.EntryValue.{FieldValue}
-use Rattle.sheet_history.specs.Fields.{field_of, with_field}
+use Rattle.sheet_history.specs.Fields.{field_of, may_have, with_field}
 use Rattle.sheet_history.specs.Records.{IsRecord}
 use Rattle.sheet_history.specs.laws.FieldLaws.{own_field}
 use Rattle.sheet_history.specs.laws.OneEntry.{put_record}
 use Rattle.sheet_history.specs.laws.RuleLaws.{well_formed-field}
 use Rattle.edit_plans.specs.Plans.{IsPlan, Plans}
-use Rattle.edit_plans.specs.SheetEdits.{field_set, field_change}
+use Rattle.edit_plans.specs.SheetEdits.{field_put, field_set, field_change}
 use Rattle.edit_plans.specs.laws.AtIndex.{there, changed_at, put_changed}
-use Rattle.edit_plans.specs.laws.PlanLaws.{plan_refused, plan_made, no_sheet, sheet_takes, sheet_sure}
+use Rattle.edit_plans.specs.laws.PlanLaws.{plan_refused, plan_made, no_sheet, sheet_refuses, sheet_takes, sheet_sure}
 
-module _ (w : Book) (index : ℕ) (value : SheetField) (rules : IsWellFormed w) (sheet : Sheet) (at : sheet_at w index ≡ Ok sheet) where
+-- a sheet takes a value that it may have
+pub field_taken : (value : SheetField) (sheet : Sheet) → may_have value ≡ true → field_put value sheet ≡ Ok (with_field (field_of value) value sheet)
+field_taken value sheet may = ap (λ b. cond b (Ok (with_field (field_of value) value sheet)) (Err FrozenCount)) may
+
+-- and only such a one
+pub field_may : (value : SheetField) (sheet next : Sheet) → field_put value sheet ≡ Ok next → may_have value ≡ true
+field_may value sheet next taken = go (may_have value) refl taken
+  where
+    go : (b : Bool) → may_have value ≡ b → cond b (Ok (with_field (field_of value) value sheet)) (Err FrozenCount) ≡ Ok next → may_have value ≡ true
+    go true is it = is
+    go false is it = absurd (let never : ◌≡◌ {A = Result Sheet EditError} (Err FrozenCount) (Ok next) = it in cc)
+
+module _ (w : Book) (index : ℕ) (value : SheetField) (may : may_have value ≡ true) (rules : IsWellFormed w) (sheet : Sheet) (at : sheet_at w index ≡ Ok sheet) where
   abbrev key : EntryKey
   key = FieldKey sheet.id (field_of value)
 
@@ -33,7 +45,7 @@ module _ (w : Book) (index : ℕ) (value : SheetField) (rules : IsWellFormed w) 
   put_is = put_changed w key (FieldValue value) ∙ changed_at w rules index sheet at (with_sheet_entry key (FieldValue value))
 
   pub field_well_formed : IsWellFormed after
-  field_well_formed = subst IsWellFormed put_is (well_formed-field w sheet.id (field_of value) value rules)
+  field_well_formed = subst IsWellFormed put_is (well_formed-field w sheet.id (field_of value) value may rules)
 
   pub field_exact : IsRecord w after (field_change sheet value)
   field_exact =
@@ -49,7 +61,7 @@ module _ (w : Book) (index : ℕ) (value : SheetField) (rules : IsWellFormed w) 
 
   pub field_expected : field_set index value w ≡ Ok after
   unfolding field_set
-  field_expected = sheet_takes w index (λ s. Ok (with_field (field_of value) value s)) sheet (with_field (field_of value) value sheet) at refl
+  field_expected = sheet_takes w index (field_put value) sheet (with_field (field_of value) value sheet) at (field_taken value sheet may)
 
   -- what the plan returns
   pub field_planned : (result : Result (List Diff) EditError) → IfOk result (λ list. list ≡ field_change sheet value) → IfOk result IsCanonicalList
@@ -66,5 +78,14 @@ pub field_no_sheet : (w : Book) (index : ℕ) (value : SheetField) (error : Edit
     → Plans (Err error) w (field_set index value w)
 unfolding field_set
 field_no_sheet w index value error missing =
-    plan_refused w (field_set index value w) error (no_sheet w index (λ s. Ok (with_field (field_of value) value s)) error missing)
+    plan_refused w (field_set index value w) error (no_sheet w index (field_put value) error missing)
     (sheet_sure w index error missing)
+
+-- where the sheet may not have the value
+pub field_refused : (w : Book) (index : ℕ) (value : SheetField) (sheet : Sheet) → sheet_at w index ≡ Ok sheet → may_have value ≡ false
+    → Plans (Err FrozenCount) w (field_set index value w)
+unfolding field_set
+field_refused w index value sheet at may =
+    plan_refused w (field_set index value w) FrozenCount
+    (sheet_refuses w index (field_put value) sheet FrozenCount at (ap (λ b. cond b (Ok (with_field (field_of value) value sheet)) (Err FrozenCount)) may))
+    (λ short. cc)

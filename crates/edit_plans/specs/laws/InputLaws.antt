@@ -1,5 +1,5 @@
 -- An input that goes to a place leaves a well-formed workbook, and its changes are the record.
-use Rattle.std.proofs.Common.{◌≡◌, ◌≢◌, ◌&&◌, ℕ, ℤ, Bool, true, false, cond, List, [], ◌∷◌, ◌++◌, Option, Some, None, Result, Ok, Err}
+use Rattle.std.proofs.Common.{◌≡◌, ◌≢◌, ◌&&◌, ℕ, ℤ, pos, Bool, true, false, cond, List, [], ◌∷◌, ◌++◌, Option, Some, None, Result, Ok, Err}
 use Rattle.std.proofs.Common.{refl, ap, sym, subst, ◌∙◌}
 use Rattle.std.specs.Prelude.{IsTrue, IfOk, IsOkUnless, is_none, is_some, not, ◌||◌}
 use Rattle.std.specs.FinMap as fin
@@ -9,13 +9,15 @@ use Rattle.base_values.specs.declared.EditError.TheVariants.{CoveredCell, ArrayC
 use Rattle.base_values.specs.declared.Position.{Position}
 use Rattle.base_values.specs.Answers.{and_then, map_ok}
 use Rattle.base_values.specs.KeyMap.{with_entry}
-use Rattle.base_values.specs.Places.{place_of}
+use Rattle.base_values.specs.Places.{is_line, place_of}
 use Rattle.base_axis.specs.declared.MergedCell.{MergedCell}
 use Rattle.base_styles.specs.declared.Style.{Style}
 use Rattle.cell_content.specs.declared.Content.{Content}
 use Rattle.cell_content.specs.declared.Content.TheVariants.{Empty, Number, Boolean, Error, Text, Formula, Dynamic, Array}
 use Rattle.cell_content.specs.Fitting.{fits_at}
 use Rattle.sheet_grid.specs.declared.Cell.{Cell}
+use Rattle.sheet_grid.specs.declared.LineAttr.{LineAttr}
+use Rattle.sheet_grid.specs.declared.Link.{Link}
 use Rattle.sheet_grid.specs.Arrays.{array_at}
 use Rattle.sheet_grid.specs.Merges.{is_covered, is_empty}
 use Rattle.sheet_grid.specs.laws.FittingLaws.{place_is}
@@ -26,20 +28,25 @@ use Rattle.sheet_rules.specs.WellFormed.{is_place, has_font, IsWellFormed}
 use Rattle.sheet_rules.specs.laws.HiddenLaws.{shown_where_free}
 use Rattle.sheet_lines.specs.Sheets.{sheet_of}
 use Rattle.sheet_history.specs.declared.Diff.{Diff}
-use Rattle.sheet_history.specs.declared.Diff.TheVariants.{Cell as CellDiff}
+use Rattle.sheet_history.specs.declared.Diff.TheVariants.{Cell as CellDiff, Link as LinkDiff}
+use Rattle.sheet_history.specs.declared.LineAxis.TheVariants.{Rows}
 use Rattle.sheet_history.specs.Diffs.{IsCanonicalList}
-use Rattle.sheet_history.specs.Entries.{EntryKey, lies_inside, cell_stands_at, value_fits, with_sheet_entry, put_entry}
-use Rattle.sheet_history.specs.Entries.EntryKey.{CellKey, LinkKey}
-use Rattle.sheet_history.specs.Entries.EntryValue.{CellValue, LinkValue}
+use Rattle.sheet_history.specs.Entries.{EntryKey, lies_inside, cell_stands_at, value_fits, with_changed, with_sheet_entry, put_entry}
+use Rattle.sheet_history.specs.Entries.EntryKey.{AttrKey, CellKey, LinkKey}
+use Rattle.sheet_history.specs.Entries.EntryValue.{AttrValue, CellValue, LinkValue}
 use Rattle.sheet_history.specs.Records.{same_entry_value, IsRecord}
 use Rattle.sheet_history.specs.Untested.{entry_has_font, may_stand_on}
 use Rattle.sheet_history.specs.laws.OneEntry.{put_record}
-use Rattle.sheet_history.specs.laws.RuleLaws.{well_formed-cell, well_formed-link}
+use Rattle.sheet_history.specs.laws.EntryLaws.{id-with_sheet_entry}
+use Rattle.sheet_history.specs.laws.RuleLaws.{well_formed-cell, well_formed-link, well_formed-put}
+use Rattle.sheet_rules.specs.laws.EntryLaws.{both}
+use Rattle.line_sizes.specs.Heights.{needed_height}
 use Rattle.edit_plans.specs.Plans.{IsPlan, Plans}
-use Rattle.edit_plans.specs.Inputs.{IsInput, new_cell, entered, cell_entered, with_input, free_place, input_place, input_put, cell_record, input_record}
+use Rattle.edit_plans.specs.Inputs.{IsInput, new_cell, entered, cell_entered, with_input, with_row, row_raised, free_place, input_place, input_put, cell_record, height_record, input_record}
 use Rattle.edit_plans.specs.Links.{link_change}
-use Rattle.edit_plans.specs.laws.Appended.{come_before, put_after}
-use Rattle.edit_plans.specs.laws.AtIndex.{there, keeps, changed_at, put_changed, put_twice, sheet_of-put}
+use Rattle.entry_records.specs.laws.Appended.{come_before, come_before-append, put_after}
+use Rattle.entry_records.specs.laws.AtIndex.{there, keeps, changed_at, changed_twice, put_changed, put_twice, sheet_of-put}
+use Rattle.entry_records.specs.laws.AttrRules.{attr-put, line_own, needed_size, own_entry, own_kept, raised_own}
 use Rattle.edit_plans.specs.laws.Fonts.{place_inside, shown_font}
 use Rattle.edit_plans.specs.laws.PlanLaws.{plan_refused, plan_made, no_sheet, sheet_refuses, sheet_takes, sheet_sure, place_sure, place_again}
 
@@ -141,7 +148,18 @@ cell_first : (id : ℕ) (place : Position) (old new : Option Cell) (same : Bool)
 cell_first id place old new true = refl
 cell_first id place old new false = refl
 
-module _ (w : Book) (index : ℕ) (row column : ℤ) (content : Content) (rules : IsWellFormed w) (may : IsInput row column content)
+-- the change of a cell, and that of a link, come before that of a row
+cell_first_row : (id : ℕ) (place : Position) (old new : Option Cell) (same : Bool)
+    → come_before (AttrKey id Rows place.row) (cond same [] (CellDiff id place old new ∷ [])) ≡ true
+cell_first_row id place old new true = refl
+cell_first_row id place old new false = refl
+
+link_first_row : (id : ℕ) (place : Position) (old new : Option Link) (same : Bool)
+    → come_before (AttrKey id Rows place.row) (cond same [] (LinkDiff id place old new ∷ [])) ≡ true
+link_first_row id place old new true = refl
+link_first_row id place old new false = refl
+
+module _ (w : Book) (index : ℕ) (row column : ℤ) (content : Content) (feeds : ℕ) (rules : IsWellFormed w) (may : IsInput row column content)
     (sheet : Sheet) (place : Position) (at : sheet_at w index ≡ Ok sheet) (goes : input_place sheet row column ≡ Ok place) where
   abbrev free : IsFree sheet row column place
   free = is_free sheet row column place goes
@@ -221,40 +239,94 @@ module _ (w : Book) (index : ℕ) (row column : ℤ) (content : Content) (rules 
       (sheet_of-put w cell_key (CellValue new) sheet is_there) inside
       (cell_first sheet.id place old new (same_entry_value (CellValue old) (CellValue new)))
 
+  -- ---- and the height of the row
+
+  abbrev row_key : EntryKey
+  row_key = AttrKey sheet.id Rows place.row
+
+  abbrev raised : Option LineAttr
+  raised = row_raised sheet place feeds
+
+  inside_row : is_line (pos 1048576) place.row ≡ true
+  inside_row = (both (is_line (pos 1048576) place.row) (is_line (pos 16384) place.column) inside).0
+
+  raised_fits : own_entry Rows raised ≡ true
+  raised_fits =
+      raised_own (needed_height feeds (shown_style sheet place).font.sz) (fin.get sheet.rows place.row) (needed_size feeds (shown_style sheet place).font.sz)
+      (line_own Rows sheet (keeps w rules index sheet at) place.row)
+
+  row_fits : value_fits row_key (AttrValue raised) ≡ true
+  row_fits = λ i. inside_row i && own_kept Rows raised raised_fits i
+
+  row_rules : (book : Book) → IsWellFormed book → IsWellFormed (put_entry book row_key (AttrValue raised))
+  row_rules book well = well_formed-put book well row_key (AttrValue raised) (λ s found h. attr-put s sheet.id Rows place.row raised inside_row raised_fits h)
+
+  cell_before_row : come_before row_key (cell_record content sheet place) ≡ true
+  cell_before_row = cell_first_row sheet.id place old new (same_entry_value (CellValue old) (CellValue new))
+
+  celled_exact : IsRecord w (put_entry put_cell row_key (AttrValue raised)) (cell_record content sheet place ++ height_record feeds sheet place)
+  celled_exact =
+      put_after w put_cell (cell_record content sheet place) cell_exact row_key (AttrValue raised) celled
+      (sheet_of-put w cell_key (CellValue new) sheet is_there) row_fits cell_before_row
+
+  unlinked_exact : IsRecord w (put_entry put_both row_key (AttrValue raised)) ((cell_record content sheet place ++ link_change sheet place None) ++ height_record feeds sheet place)
+  unlinked_exact =
+      put_after w put_both (cell_record content sheet place ++ link_change sheet place None) both_exact row_key (AttrValue raised) unlinked
+      (sheet_of-put put_cell link_key (LinkValue None) celled (sheet_of-put w cell_key (CellValue new) sheet is_there)) row_fits
+      (come_before-append row_key (cell_record content sheet place) (link_change sheet place None) cell_before_row
+      (link_first_row sheet.id place (fin.get sheet.links place) None (same_entry_value (LinkValue (fin.get sheet.links place)) (LinkValue None))))
+
+  celled_is : put_entry put_cell row_key (AttrValue raised) ≡ with_sheet w index (with_row celled place.row raised)
+  celled_is =
+      put_twice w cell_key row_key (CellValue new) (AttrValue raised) refl
+      ∙ changed_at w rules index sheet at (λ s. with_sheet_entry row_key (AttrValue raised) (with_sheet_entry cell_key (CellValue new) s))
+
+  unlinked_is : put_entry put_both row_key (AttrValue raised) ≡ with_sheet w index (with_row unlinked place.row raised)
+  unlinked_is =
+      let unlink : Sheet → Sheet = λ s. with_sheet_entry link_key (LinkValue None) (with_sheet_entry cell_key (CellValue new) s) in
+      let ids : (s : Sheet) → (unlink s).id ≡ s.id =
+      λ s. id-with_sheet_entry link_key (LinkValue None) (with_sheet_entry cell_key (CellValue new) s) ∙ id-with_sheet_entry cell_key (CellValue new) s in
+      put_changed put_both row_key (AttrValue raised)
+      ∙ ap (λ (b : Book). record b { worksheets = with_changed sheet.id (with_sheet_entry row_key (AttrValue raised)) b.worksheets }) (put_twice w cell_key link_key (CellValue new) (LinkValue None) refl)
+      ∙ (λ i. record w { worksheets = changed_twice sheet.id unlink (with_sheet_entry row_key (AttrValue raised)) ids w.worksheets i })
+      ∙ changed_at w rules index sheet at (λ s. with_sheet_entry row_key (AttrValue raised) (unlink s))
+
   -- ---- the workbook after the input
 
   abbrev after : Book
-  after = with_sheet w index (with_input sheet content place)
+  after = with_sheet w index (with_input sheet content feeds place)
 
-  rules_by : (empty : Bool) → IsWellFormed (with_sheet w index (cond empty unlinked celled))
-  rules_by true = subst IsWellFormed put_both_is both_rules
-  rules_by false = subst IsWellFormed put_cell_is cell_rules
+  rules_by : (empty : Bool) → IsWellFormed (with_sheet w index (with_row (cond empty unlinked celled) place.row raised))
+  rules_by true = subst IsWellFormed unlinked_is (row_rules put_both both_rules)
+  rules_by false = subst IsWellFormed celled_is (row_rules put_cell cell_rules)
 
   exact_by : (empty : Bool)
-      → IsRecord w (with_sheet w index (cond empty unlinked celled)) (cell_record content sheet place ++ cond empty (link_change sheet place None) [])
-  exact_by true = subst (λ later. IsRecord w later (cell_record content sheet place ++ link_change sheet place None)) put_both_is both_exact
+      → IsRecord w (with_sheet w index (with_row (cond empty unlinked celled) place.row raised))
+      ((cell_record content sheet place ++ cond empty (link_change sheet place None) []) ++ height_record feeds sheet place)
+  exact_by true =
+      subst (λ later. IsRecord w later ((cell_record content sheet place ++ link_change sheet place None) ++ height_record feeds sheet place)) unlinked_is unlinked_exact
   exact_by false =
-      subst (IsRecord w (with_sheet w index celled)) (sym (append-nil (cell_record content sheet place)))
-      (subst (λ later. IsRecord w later (cell_record content sheet place)) put_cell_is cell_exact)
+      subst (λ xs. IsRecord w (with_sheet w index (with_row celled place.row raised)) (xs ++ height_record feeds sheet place)) (sym (append-nil (cell_record content sheet place)))
+      (subst (λ later. IsRecord w later (cell_record content sheet place ++ height_record feeds sheet place)) celled_is celled_exact)
 
   pub input_well_formed : IsWellFormed after
   input_well_formed = rules_by (is_empty content)
 
-  pub input_exact : IsRecord w after (input_record content sheet place)
+  pub input_exact : IsRecord w after (input_record content feeds sheet place)
   input_exact = exact_by (is_empty content)
 
-  pub input_plan : (list : List Diff) → list ≡ input_record content sheet place → IsCanonicalList list → IsPlan w list after
+  pub input_plan : (list : List Diff) → list ≡ input_record content feeds sheet place → IsCanonicalList list → IsPlan w list after
   input_plan list is kept = record {
     exact = subst (IsRecord w after) (sym is) input_exact;
     rules = input_well_formed;
     canonical = kept;
   }
 
-  pub input_expected : input_put index row column content w ≡ Ok after
+  pub input_expected : input_put index row column content feeds w ≡ Ok after
   unfolding input_put
   input_expected =
-      sheet_takes w index (λ s. map_ok (with_input s content) (input_place s row column)) sheet (with_input sheet content place) at
-      (ap (map_ok (with_input sheet content)) goes)
+      sheet_takes w index (λ s. map_ok (with_input s content feeds) (input_place s row column)) sheet (with_input sheet content feeds place) at
+      (ap (map_ok (with_input sheet content feeds)) goes)
 
 -- ---- what the plan returns
 
@@ -272,34 +344,34 @@ input_sure sheet row column error is short = go (place_of row column) refl is
     go (Err other) found e = let same : other ≡ error = cc in place_sure row column other found (same ∙ short)
 
 -- where no such sheet is there
-pub input_no_sheet : (w : Book) (index : ℕ) (row column : ℤ) (content : Content) (error : EditError) → sheet_at w index ≡ Err error
-    → Plans (Err error) w (input_put index row column content w)
+pub input_no_sheet : (w : Book) (index : ℕ) (row column : ℤ) (content : Content) (feeds : ℕ) (error : EditError) → sheet_at w index ≡ Err error
+    → Plans (Err error) w (input_put index row column content feeds w)
 unfolding input_put
-input_no_sheet w index row column content error missing =
-    plan_refused w (input_put index row column content w) error (no_sheet w index (λ s. map_ok (with_input s content) (input_place s row column)) error missing)
+input_no_sheet w index row column content feeds error missing =
+    plan_refused w (input_put index row column content feeds w) error (no_sheet w index (λ s. map_ok (with_input s content feeds) (input_place s row column)) error missing)
     (sheet_sure w index error missing)
 
 -- where no input may go to the place
-pub input_refused : (w : Book) (index : ℕ) (row column : ℤ) (content : Content) (sheet : Sheet) (error : EditError)
+pub input_refused : (w : Book) (index : ℕ) (row column : ℤ) (content : Content) (feeds : ℕ) (sheet : Sheet) (error : EditError)
     → sheet_at w index ≡ Ok sheet → input_place sheet row column ≡ Err error
-    → Plans (Err error) w (input_put index row column content w)
+    → Plans (Err error) w (input_put index row column content feeds w)
 unfolding input_put
-input_refused w index row column content sheet error at refused =
-    plan_refused w (input_put index row column content w) error
-    (sheet_refuses w index (λ s. map_ok (with_input s content) (input_place s row column)) sheet error at (ap (map_ok (with_input sheet content)) refused))
+input_refused w index row column content feeds sheet error at refused =
+    plan_refused w (input_put index row column content feeds w) error
+    (sheet_refuses w index (λ s. map_ok (with_input s content feeds) (input_place s row column)) sheet error at (ap (map_ok (with_input sheet content feeds)) refused))
     (input_sure sheet row column error refused)
 
 -- and else
-pub input_planned : (w : Book) (index : ℕ) (row column : ℤ) (content : Content) → IsWellFormed w → IsInput row column content
+pub input_planned : (w : Book) (index : ℕ) (row column : ℤ) (content : Content) (feeds : ℕ) → IsWellFormed w → IsInput row column content
     → (sheet : Sheet) (place : Position) → sheet_at w index ≡ Ok sheet
     → input_place sheet row column ≡ Ok place → (result : Result (List Diff) EditError)
-    → IfOk result (λ list. list ≡ input_record content sheet place) → IfOk result IsCanonicalList
-    → IsOkUnless result NoMemory → Plans result w (input_put index row column content w)
-input_planned w index row column content rules may sheet place at goes result made kept only =
-    plan_made w (after w index row column content rules may sheet place at goes) (input_put index row column content w) result
-    (input_expected w index row column content rules may sheet place at goes) only (plan result made kept)
+    → IfOk result (λ list. list ≡ input_record content feeds sheet place) → IfOk result IsCanonicalList
+    → IsOkUnless result NoMemory → Plans result w (input_put index row column content feeds w)
+input_planned w index row column content feeds rules may sheet place at goes result made kept only =
+    plan_made w (after w index row column content feeds rules may sheet place at goes) (input_put index row column content feeds w) result
+    (input_expected w index row column content feeds rules may sheet place at goes) only (plan result made kept)
   where
-    plan : (r : Result (List Diff) EditError) → IfOk r (λ list. list ≡ input_record content sheet place) → IfOk r IsCanonicalList
-        → IfOk r (λ list. IsPlan w list (after w index row column content rules may sheet place at goes))
-    plan (Ok list) is all = input_plan w index row column content rules may sheet place at goes list is all
+    plan : (r : Result (List Diff) EditError) → IfOk r (λ list. list ≡ input_record content feeds sheet place) → IfOk r IsCanonicalList
+        → IfOk r (λ list. IsPlan w list (after w index row column content feeds rules may sheet place at goes))
+    plan (Ok list) is all = input_plan w index row column content feeds rules may sheet place at goes list is all
     plan (Err error) is all = tt

@@ -11,6 +11,8 @@ use Rattle.base_axis.specs.declared.MergedCell.{MergedCell}
 use Rattle.sheet_grid.specs.Sheet.{Sheet}
 use Rattle.sheet_history.specs.declared.Diff.{Diff}
 use Rattle.sheet_history.specs.Entries.{EntryKey, EntryValue, key_cmp, sheet_id_of, sheet_entry}
+use Rattle.sheet_history.specs.declared.LineAxis.TheVariants.{Rows, Columns}
+use Rattle.sheet_history.specs.Entries.EntryKey.{AttrKey}
 use Rattle.sheet_history.specs.Entries.EntryKey.{CellKey, LinkKey, MergesKey, FieldKey}
 use Rattle.sheet_history.specs.Entries.EntryValue.{MergesValue, FieldValue}
 use Rattle.sheet_history.specs.Records.{Change, change_of, changed_entry, same_entry_value}
@@ -83,7 +85,11 @@ module _ (change : Sheet → Sheet) (merges : Sheet → List MergedCell) (sheet 
   here (MergesKey id) own = ap (λ n. fin.find key_cmp (MergesKey n) (cs ++ last ∷ [])) own ∙ at_merges
   here (FieldKey id field) own = others (FieldKey id field) (λ same. let never : FieldKey id field ≡ MergesKey sheet.id = same in cc)
       ∙ is.here (FieldKey id field) own
-      ∙ ap (λ v. changed_entry (Some (sheet_entry (FieldKey id field) sheet)) (Some (FieldValue v))) (fields_stay field (change sheet) (and_merges sheet) refl refl refl)
+      ∙ ap (λ v. changed_entry (Some (sheet_entry (FieldKey id field) sheet)) (Some (FieldValue v))) (fields_stay field (change sheet) (and_merges sheet) refl refl refl refl refl)
+  here (AttrKey id Rows line) own = others (AttrKey id Rows line) (λ same. let never : AttrKey id Rows line ≡ MergesKey sheet.id = same in cc)
+      ∙ is.here (AttrKey id Rows line) own
+  here (AttrKey id Columns line) own = others (AttrKey id Columns line) (λ same. let never : AttrKey id Columns line ≡ MergesKey sheet.id = same in cc)
+      ∙ is.here (AttrKey id Columns line) own
 
   -- the changes and that of the merges are the record
   pub merges_record : IsSheetRecord (λ s. record (change s) { merges = merges s }) sheet (cs ++ merges_change sheet (merges sheet) ∷ [])

@@ -40,7 +40,7 @@ use Rattle.book_laws.specs.laws.SheetDiffLaws.{found_at}
 use Rattle.sheet_history.specs.declared.Diff.{Diff}
 use Rattle.sheet_history.specs.Diffs.{step_forward, step_back, by_rule, tested, book_after, book_before}
 use Rattle.edit_plans.specs.Edits.{Edit, changed, is_of_sheets, record_of}
-use Rattle.edit_plans.specs.Edits.Edit.{Input, ArrayInput, SetLink, Merge, Unmerge, Lines, MoveLines, AddSheet, CopySheet, DeleteSheet, MoveSheet, RenameSheet, ChangeNames, SetField}
+use Rattle.edit_plans.specs.Edits.Edit.{Input, ArrayInput, SetLink, Merge, Unmerge, Lines, MoveLines, AddSheet, CopySheet, DeleteSheet, MoveSheet, RenameSheet, ChangeNames, SetField, SetSize, SetHidden}
 use Rattle.edit_plans.specs.Plans.{GoesBothWays}
 use Rattle.edit_plans.specs.SheetEdits.{with_new_sheet, sheet_added, with_copy, sheet_copied, sheet_deleted, sheet_taken, with_name, sheet_named, new_diff, copy_diff, deletion_diff, move_diff, rename_diff, one_diff}
 
@@ -278,7 +278,7 @@ goes_both_ways (DeleteSheet index) earlier later is rules how = deleted_goes ear
 goes_both_ways (MoveSheet from to) earlier later is rules how = taken_goes earlier rules from to later how
 goes_both_ways (RenameSheet index name) earlier later is rules how = named_goes earlier rules index name later how
 goes_both_ways (ChangeNames edit) earlier later is rules how = names_go earlier rules edit later how
-goes_both_ways (Input index row column content) earlier later is rules how = absurd (let never : false ≡ true = is in cc)
+goes_both_ways (Input index row column content feeds) earlier later is rules how = absurd (let never : false ≡ true = is in cc)
 goes_both_ways (ArrayInput index r tree) earlier later is rules how = absurd (let never : false ≡ true = is in cc)
 goes_both_ways (SetLink index row column link) earlier later is rules how = absurd (let never : false ≡ true = is in cc)
 goes_both_ways (Merge index r) earlier later is rules how = absurd (let never : false ≡ true = is in cc)
@@ -286,3 +286,5 @@ goes_both_ways (Unmerge index row column) earlier later is rules how = absurd (l
 goes_both_ways (Lines index axis kind) earlier later is rules how = absurd (let never : false ≡ true = is in cc)
 goes_both_ways (MoveLines index axis first count delta) earlier later is rules how = absurd (let never : false ≡ true = is in cc)
 goes_both_ways (SetField index value) earlier later is rules how = absurd (let never : false ≡ true = is in cc)
+goes_both_ways (SetSize index axis first last size) earlier later is rules how = absurd (let never : false ≡ true = is in cc)
+goes_both_ways (SetHidden index axis first last hidden) earlier later is rules how = absurd (let never : false ≡ true = is in cc)

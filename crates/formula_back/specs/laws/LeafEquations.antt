@@ -86,7 +86,7 @@ pub leaf_array : (t : LeafTests) (lines : List (List ArrayItem)) → has_leaf t 
 unfolding has_leaf
 leaf_array t lines = ap (fold-Node Bool (leaf_layer t)) (sym (node.rolls-Array lines)) ∙ fold-roll-Node Bool (leaf_layer t) (Node-F.Array lines)
 
-pub leaf_name : (t : LeafTests) (name : List ℕ) → has_leaf t (node.Name name) ≡ false
+pub leaf_name : (t : LeafTests) (name : List ℕ) → has_leaf t (node.Name name) ≡ t.name name
 unfolding has_leaf
 leaf_name t name = ap (fold-Node Bool (leaf_layer t)) (sym (node.rolls-Name name)) ∙ fold-roll-Node Bool (leaf_layer t) (Node-F.Name name)
 

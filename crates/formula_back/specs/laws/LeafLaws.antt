@@ -102,13 +102,14 @@ same_heads x y xs ys e = (cc, cc)
 
 -- ---- there and back
 
--- of each leaf whose corners lie inside, and in order, a test tells whether moving there and back gives another tree
+-- of each leaf whose corners lie inside, and in order, a test tells whether moving there and back gives another tree; no name passes
 pub record TellsLeaves (from to : Position) (there home : Mapping) (t : LeafTests) : Type 0 where
   pub reference : (sheet : Option (List ℕ)) (corner : Corner) → is_inside from corner ≡ true →
       Decides (not (t.reference sheet corner)) (moved from home (reference_to sheet (there.reference sheet corner)) ≡ node.Reference sheet corner)
   pub range : (sheet : Option (List ℕ)) (first second : Corner) → is_placed_range from first second ≡ true →
       Decides (not (t.range sheet first second)) (moved from home (range_to to sheet (there.first sheet first second) (there.second sheet first second))
       ≡ node.Range sheet first second)
+  pub no_name : (name : List ℕ) → t.name name ≡ false
 
 module _ (from to : Position) (there home : Mapping) (t : LeafTests) where
   abbrev pub returned : Node → Node
@@ -210,7 +211,7 @@ module _ (from to : Position) (there home : Mapping) (t : LeafTests) where
     named_call = λ name all told. many_told (node.NamedCall name) (same_named_call name) (λ p m. moved_named_call p m name) (leaf_named_call t name)
         (placed_named_call from name) all told;
     array = λ lines. constant (node.Array lines) (λ p m. moved_array p m lines) (leaf_array t lines);
-    name = λ name. constant (node.Name name) (λ p m. moved_name p m name) (leaf_name t name);
+    name = λ name. constant (node.Name name) (λ p m. moved_name p m name) (leaf_name t name ∙ tells.no_name name);
     error = λ error. constant (node.Error error) (λ p m. moved_error p m error) (leaf_error t error);
     parse_error = λ text. constant (node.ParseError text) (λ p m. moved_parse_error p m text) (leaf_parse_error t text);
     empty_argument = constant node.EmptyArgument (λ p m. moved_empty_argument p m) (leaf_empty_argument t);

@@ -19,12 +19,13 @@ use Rattle.formula_back.specs.laws.LeafEquations.{leaf_lambda_call, leaf_implici
 use Rattle.formula_back.specs.laws.LeafLaws.{same_colon, same_concatenate, same_compare, same_sum, same_product, same_power, same_unary, same_spill}
 use Rattle.formula_back.specs.laws.LeafLaws.{same_lambda, same_implicit_intersection, same_call, same_named_call, same_lambda_call, same_heads}
 
--- no reference or range passes that is the same where its corners went
+-- no reference or range passes that is the same where its corners went, and no name
 pub record PassesNoStill (to : Position) (m : Mapping) (t : LeafTests) : Type 0 where
   pub reference : (sheet : Option (List ℕ)) (corner : Corner) → reference_to sheet (m.reference sheet corner) ≡ node.Reference sheet corner →
       t.reference sheet corner ≡ false
   pub range : (sheet : Option (List ℕ)) (first second : Corner) →
       range_to to sheet (m.first sheet first second) (m.second sheet first second) ≡ node.Range sheet first second → t.range sheet first second ≡ false
+  pub no_name : (name : List ℕ) → t.name name ≡ false
 
 module _ (to : Position) (m : Mapping) (t : LeafTests) where
   abbrev pub Quiet : Node → Type 0
@@ -74,7 +75,7 @@ module _ (to : Position) (m : Mapping) (t : LeafTests) where
     call = λ function. many_quiet (node.Call function) (same_call function) (moved_call to m function) (leaf_call t function);
     named_call = λ name. many_quiet (node.NamedCall name) (same_named_call name) (moved_named_call to m name) (leaf_named_call t name);
     array = λ lines _. leaf_array t lines;
-    name = λ name _. leaf_name t name;
+    name = λ name _. leaf_name t name ∙ still.no_name name;
     error = λ error _. leaf_error t error;
     parse_error = λ text _. leaf_parse_error t text;
     empty_argument = λ _. leaf_empty_argument t;

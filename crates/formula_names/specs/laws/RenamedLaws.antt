@@ -13,7 +13,7 @@ use Rattle.formula_tree.specs.contracts.node.Node.{the_row}
 use Rattle.formula_names.specs.declared.reach.Reach.{Reach}
 use Rattle.formula_names.specs.declared.reach.Reach.TheVariants.{Nothing}
 use Rattle.formula_names.specs.Named.{named, followed}
-use Rattle.formula_names.specs.NameTests.{has_name}
+use Rattle.formula_back.specs.Leaves.{has_leaf}
 use Rattle.formula_names.specs.Renamed.{renamed_name, renamed_sheet, reaches_sheets, reaches_names, naming, tree_renamed, renamed_and_back, tree_kept, is_lost_name, is_lost_sheet, lost_names}
 use Rattle.formula_names.specs.laws.NamedLaws.{named-named, named-stays}
 use Rattle.formula_names.specs.laws.NameLeaves.{tells_named}
@@ -67,19 +67,20 @@ name_left old new name = refl
 -- ---- trees
 
 -- a tree comes back exactly where no name in it is lost
-pub lost_tree : (there back : Reach) (old new : List ℕ) (tree : Node) → Decides (not (has_name (lost_names there back old new) tree)) (renamed_and_back there back old new tree ≡ tree)
+pub lost_tree : (there back : Reach) (old new : List ℕ) (tree : Node) → Decides (not (has_leaf (lost_names there back old new) tree)) (renamed_and_back there back old new tree ≡ tree)
 lost_tree there back old new tree =
     let e = named-named (naming there old new) (naming back new old) tree in
     Decides-like _ (λ s. e ∙ s) (λ s. sym e ∙ s)
     (tells_named (followed (naming there old new) (naming back new old)) (lost_names there back old new)
-    (lost_sheet (reaches_sheets there) (reaches_sheets back) old new) (lost_name (reaches_names there) (reaches_names back) old new) tree)
+    (λ sheet corner. lost_sheet (reaches_sheets there) (reaches_sheets back) old new sheet)
+    (λ sheet first second. lost_sheet (reaches_sheets there) (reaches_sheets back) old new sheet) (lost_name (reaches_names there) (reaches_names back) old new) tree)
 
 -- a renaming that reaches nothing leaves a tree
 pub tree_left : (old new : List ℕ) (tree : Node) → tree_renamed Nothing old new tree ≡ tree
 tree_left old new tree = named-stays (naming Nothing old new) (sheet_left old new) (name_left old new) tree
 
 -- a tree stays exactly where no name in it changes
-pub changed_tree : (reach : Reach) (old new : List ℕ) (tree : Node) → Decides (not (has_name (lost_names reach Nothing old new) tree)) (tree_renamed reach old new tree ≡ tree)
+pub changed_tree : (reach : Reach) (old new : List ℕ) (tree : Node) → Decides (not (has_leaf (lost_names reach Nothing old new) tree)) (tree_renamed reach old new tree ≡ tree)
 changed_tree reach old new tree =
     let e = tree_left new old (tree_renamed reach old new tree) in
     Decides-like _ (λ s. sym e ∙ s) (λ s. e ∙ s) (lost_tree reach Nothing old new tree)

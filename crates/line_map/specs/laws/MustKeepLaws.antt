@@ -271,6 +271,7 @@ module _ (w : Way) (is : IsWay w) where
   leaves_told = record {
     reference = λ sheet corner inside. reference_told sheet corner inside;
     range = λ sheet first second placed. range_told sheet first second (placed_parts w.from first second placed);
+    no_name = λ name. refl;
   }
 
   -- there and back gives a formula whose corners lie inside and in order exactly where it has not to be kept
@@ -315,6 +316,7 @@ unfolding must_keep tree_carried keeps_reference keeps_range
 still_is_not_kept w tree = still_passes_none w.to (following w) (kept_leaves w) (record {
   reference = λ sheet corner. still_reference w sheet corner (is_on_sheet w.own w.edited sheet) _ refl;
   range = λ sheet first second. still_range w sheet first second (is_exposed w sheet first second) refl _ _ refl refl;
+  no_name = λ name. refl;
 }) tree
 
 -- so nothing is kept of it

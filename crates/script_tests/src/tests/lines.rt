@@ -1,8 +1,8 @@
 use base_styles::Color;
 use base_values::Position;
 use script_lines::{
-    Command, NamedArea, NamedCell, NamedColor, NamedLines, NamedMove, NamedName, push_escaped,
-    push_reference, read_command,
+    Command, NamedArea, NamedCell, NamedColor, NamedCount, NamedLines, NamedMove, NamedName,
+    NamedSize, NamedSpan, push_escaped, push_reference, read_command,
 };
 use std::alloc::{AllocError, Global};
 use std::test::Fail;
@@ -23,35 +23,51 @@ fn in_words(alloc: Global, command: Option<Command>) -> Result<String, AllocErro
         Some(Command::DeleteColumns(lines)) => lines_in_words(alloc, "delete columns", lines),
         Some(Command::MoveRows(moved)) => move_in_words(alloc, "move rows", moved),
         Some(Command::MoveColumns(moved)) => move_in_words(alloc, "move columns", moved),
-        Some(Command::NewSheet) => format!(in alloc; "new sheet"),
-        Some(Command::DuplicateSheet(sheet)) => format!(in alloc; "duplicate: sheet {sheet}"),
-        Some(Command::DeleteSheet(sheet)) => format!(in alloc; "delete: sheet {sheet}"),
-        Some(Command::MoveSheet(moved)) => {
+        Some(other) => other_in_words(alloc, other),
+        None => format!(in alloc; "none"),
+    }
+}
+
+/// A command that names no cells, and inserts, deletes or moves no lines, in words.
+fn other_in_words(alloc: Global, command: Command) -> Result<String, AllocError> {
+    match command {
+        Command::Width(size) => size_in_words(alloc, "width", size),
+        Command::Height(size) => size_in_words(alloc, "height", size),
+        Command::HideRows(span) => span_in_words(alloc, "hide rows", span),
+        Command::ShowRows(span) => span_in_words(alloc, "show rows", span),
+        Command::HideColumns(span) => span_in_words(alloc, "hide columns", span),
+        Command::ShowColumns(span) => span_in_words(alloc, "show columns", span),
+        Command::FreezeRows(named) => count_in_words(alloc, "freeze rows", named),
+        Command::FreezeColumns(named) => count_in_words(alloc, "freeze columns", named),
+        Command::NewSheet => format!(in alloc; "new sheet"),
+        Command::DuplicateSheet(sheet) => format!(in alloc; "duplicate: sheet {sheet}"),
+        Command::DeleteSheet(sheet) => format!(in alloc; "delete: sheet {sheet}"),
+        Command::MoveSheet(moved) => {
             let (from, to) = (moved.from, moved.to);
             format!(in alloc; "move sheet: from {from} to {to}")
         }
-        Some(Command::RenameSheet(sheet, text)) => {
+        Command::RenameSheet(sheet, text) => {
             let name = text.as_str();
             format!(in alloc; "rename: sheet {sheet} |{name}|")
         }
-        Some(Command::HideSheet(sheet)) => format!(in alloc; "hide: sheet {sheet}"),
-        Some(Command::UnhideSheet(sheet)) => format!(in alloc; "unhide: sheet {sheet}"),
-        Some(Command::SheetColor(named)) => color_in_words(alloc, named),
-        Some(Command::GridLines(named)) => {
+        Command::HideSheet(sheet) => format!(in alloc; "hide: sheet {sheet}"),
+        Command::UnhideSheet(sheet) => format!(in alloc; "unhide: sheet {sheet}"),
+        Command::SheetColor(named) => color_in_words(alloc, named),
+        Command::GridLines(named) => {
             let (sheet, show) = (named.sheet, named.show);
             format!(in alloc; "grid: sheet {sheet} {show}")
         }
-        Some(Command::Name(named, text)) => name_in_words(alloc, "name", &named, text.as_str()),
-        Some(Command::NameUpdate(named, text)) => {
+        Command::Name(named, text) => name_in_words(alloc, "name", &named, text.as_str()),
+        Command::NameUpdate(named, text) => {
             let new = name_in_words(alloc, "to", &named.new, text.as_str())?;
             name_in_words(alloc, "update", &named.old, new.as_str())
         }
-        Some(Command::NameDelete(named)) => name_in_words(alloc, "delete", &named, ""),
-        Some(Command::Undo) => format!(in alloc; "undo"),
-        Some(Command::Redo) => format!(in alloc; "redo"),
-        Some(Command::Sync) => format!(in alloc; "sync"),
-        Some(Command::Show) => format!(in alloc; "show"),
-        None => format!(in alloc; "none"),
+        Command::NameDelete(named) => name_in_words(alloc, "delete", &named, ""),
+        Command::Undo => format!(in alloc; "undo"),
+        Command::Redo => format!(in alloc; "redo"),
+        Command::Sync => format!(in alloc; "sync"),
+        Command::Show => format!(in alloc; "show"),
+        _ => format!(in alloc; "cells or lines"),
     }
 }
 
@@ -105,13 +121,28 @@ fn lines_in_words(alloc: Global, word: &str, lines: NamedLines) -> Result<String
     format!(in alloc; "{word}: sheet {sheet} first {first} count {count}")
 }
 
+fn span_in_words(alloc: Global, word: &str, span: NamedSpan) -> Result<String, AllocError> {
+    let (sheet, first, last) = (span.sheet, span.first, span.last);
+    format!(in alloc; "{word}: sheet {sheet} first {first} last {last}")
+}
+
+fn size_in_words(alloc: Global, word: &str, named: NamedSize) -> Result<String, AllocError> {
+    let (sheet, first, last, size) = (named.sheet, named.first, named.last, named.size);
+    format!(in alloc; "{word}: sheet {sheet} first {first} last {last} size {size}")
+}
+
+fn count_in_words(alloc: Global, word: &str, named: NamedCount) -> Result<String, AllocError> {
+    let (sheet, count) = (named.sheet, named.count);
+    format!(in alloc; "{word}: sheet {sheet} count {count}")
+}
+
 fn move_in_words(alloc: Global, word: &str, moved: NamedMove) -> Result<String, AllocError> {
     let (sheet, first, count, delta) = (moved.sheet, moved.first, moved.count, moved.delta);
     format!(in alloc; "{word}: sheet {sheet} first {first} count {count} delta {delta}")
 }
 
 /// Lines, and the commands that they are.
-const COMMANDS: [(&[u8], &str); 59] = [
+const COMMANDS: [(&[u8], &str); 70] = [
     (b"set 0 A1 12", "set: sheet 0 row 1 column 1 |12|"),
     (b"set 0 A1", "set: sheet 0 row 1 column 1 ||"),
     (b"set 0 A1 ", "set: sheet 0 row 1 column 1 ||"),
@@ -137,6 +168,8 @@ const COMMANDS: [(&[u8], &str); 59] = [
         "set: sheet 0 row 1 column 1 |\u{e9}\t=1|",
     ),
     (b"set 0 A1 =1", "set: sheet 0 row 1 column 1 |=1|"),
+    (b"set 0 A1 =1+\\n2", "set: sheet 0 row 1 column 1 |=1+\n2|"),
+    (b"set 0 A1 a\\nb", "set: sheet 0 row 1 column 1 |a\nb|"),
     (b"get 1 C3", "get: sheet 1 row 3 column 3 ||"),
     (b"insert-rows 0 3 2", "insert rows: sheet 0 first 3 count 2"),
     (
@@ -166,6 +199,30 @@ const COMMANDS: [(&[u8], &str); 59] = [
     (
         b"move-columns 09 -0 007 2147483647",
         "move columns: sheet 9 first 0 count 7 delta 2147483647",
+    ),
+    (b"width 0 2 3 300", "width: sheet 0 first 2 last 3 size 300"),
+    (
+        b"height 007 -0 1 -1",
+        "height: sheet 7 first 0 last 1 size -1",
+    ),
+    (b"hide-rows 0 2 2", "hide rows: sheet 0 first 2 last 2"),
+    (b"show-rows 0 2 1", "show rows: sheet 0 first 2 last 1"),
+    (
+        b"hide-columns 0 4 4",
+        "hide columns: sheet 0 first 4 last 4",
+    ),
+    (
+        b"show-columns 1 1 4",
+        "show columns: sheet 1 first 1 last 4",
+    ),
+    (
+        b"freeze-rows 0 1048576",
+        "freeze rows: sheet 0 count 1048576",
+    ),
+    (b"freeze-columns 0 -1", "freeze columns: sheet 0 count -1"),
+    (
+        b"freeze-rows 4294967295 2147483647",
+        "freeze rows: sheet 4294967295 count 2147483647",
     ),
     (
         b"array 0 B2:A1 =A1:A2",
@@ -219,7 +276,7 @@ const COMMANDS: [(&[u8], &str); 59] = [
 ];
 
 /// Lines that are no commands.
-const BAD_LINES: [&[u8]; 91] = [
+const BAD_LINES: [&[u8]; 94] = [
     b"insert-rows",
     b"insert-rows 0",
     b"insert-rows 0 1",
@@ -241,6 +298,11 @@ const BAD_LINES: [&[u8]; 91] = [
     b"move-rows 0 2 1 2147483648",
     b"move-columns 0 B 1 1",
     b"insert-columns 0 B 1",
+    b"width 0 2 3",
+    b"height 0 1 1 2147483648",
+    b"hide-rows 0 1",
+    b"hide-columns 0 1 2 3",
+    b"freeze-rows 0",
     b"array 0 C3 \\q",
     b"array 0",
     b"merge 0 A1:B1 ",
@@ -307,8 +369,6 @@ const BAD_LINES: [&[u8]; 91] = [
     b"set 0 A1\t12",
     b"set 0 A1 \\q",
     b"set 0 A1 12\\",
-    b"set 0 A1 =1+\\n2",
-    b"set 0 A1 a\\nb",
     b"set 0 A1 \xff",
     b"\xc3undo",
 ];

@@ -1,5 +1,5 @@
 -- The record of two workbooks takes the earlier one to the later one, and the later one back.
-use Rattle.std.proofs.Common.{◌≡◌, ◌≢◌, ◌⊎◌, ⊎_elim, ℕ, ◌+◌, true, false, cond, ◌&&◌, List, [], ◌∷◌, map, Option, Some, None, is_some, Ok, Err, refl, ap, sym, subst, ◌∙◌, true≢false}
+use Rattle.std.proofs.Common.{◌≡◌, ◌≢◌, ◌⊎◌, ⊎_elim, ℕ, ◌+◌, true, false, cond, List, [], ◌∷◌, map, Option, Some, None, is_some, Ok, Err, refl, ap, sym, subst, ◌∙◌, true≢false}
 use Rattle.std.specs.Ordering.{eq_by_cmp, is_lt, is_eq}
 use Rattle.std.specs.declared.cmp.Ordering.{Ordering}
 use Rattle.std.specs.declared.cmp.Ordering.TheVariants.{Less, Equal, Greater}
@@ -13,10 +13,10 @@ use Rattle.sheet_grid.specs.Book.{Book}
 use Rattle.sheet_rules.specs.laws.EntryLaws.{both}
 use Rattle.sheet_lines.specs.Sheets.{HasDistinctIds}
 use Rattle.sheet_history.specs.declared.diff.Diff.{Diff}
-use Rattle.sheet_history.specs.declared.diff.Diff.TheVariants.{Cell as CellDiff, Link as LinkDiff, Merges as MergesDiff, Field as FieldDiff, Lines as LinesDiff, NewSheet as NewDiff, DuplicateSheet as CopyDiff, DeleteSheet as DeletionDiff, MoveSheet as MoveDiff, RenameSheet as RenameDiff, ChangeName as NameDiff}
+use Rattle.sheet_history.specs.declared.diff.Diff.TheVariants.{Cell as CellDiff, Link as LinkDiff, Merges as MergesDiff, Field as FieldDiff, Lines as LinesDiff, NewSheet as NewDiff, DuplicateSheet as CopyDiff, DeleteSheet as DeletionDiff, MoveSheet as MoveDiff, RenameSheet as RenameDiff, ChangeName as NameDiff, Attributes as AttrDiff}
 use Rattle.sheet_history.specs.Entries.{EntryKey, EntryValue, key_cmp, entry_at, put_entry, accepts, frame_of}
-use Rattle.sheet_history.specs.Entries.EntryKey.{CellKey, LinkKey, MergesKey, FieldKey}
-use Rattle.sheet_history.specs.Entries.EntryValue.{CellValue, LinkValue, MergesValue, FieldValue}
+use Rattle.sheet_history.specs.Entries.EntryKey.{CellKey, LinkKey, MergesKey, FieldKey, AttrKey}
+use Rattle.sheet_history.specs.Entries.EntryValue.{CellValue, LinkValue, MergesValue, FieldValue, AttrValue}
 use Rattle.sheet_history.specs.Fields.{old_of, new_of, changed_field}
 use Rattle.sheet_history.specs.Diffs.{put_in, step_forward, step_back, forward_from, back_from, untested_after, untested_before}
 use Rattle.sheet_history.specs.Records.{same_entry_value, changed_entry, Change, change_of, IsRecord}
@@ -86,6 +86,8 @@ step_by_new at w (MergesDiff sheet old new) c h =
     let same : ◌≡◌ {A = Change} (MergesKey sheet, (MergesValue old, MergesValue new)) c = cc in ap (λ (x : Change). put_in at w x.0 x.1.1) same
 step_by_new at w (FieldDiff sheet change) c h =
     let same : ◌≡◌ {A = Change} (FieldKey sheet (changed_field change), (FieldValue (old_of change), FieldValue (new_of change))) c = cc in ap (λ (x : Change). put_in at w x.0 x.1.1) same
+step_by_new at w (AttrDiff sheet axis line old new) c h =
+    let same : ◌≡◌ {A = Change} (AttrKey sheet axis line, (AttrValue old, AttrValue new)) c = cc in ap (λ (x : Change). put_in at w x.0 x.1.1) same
 step_by_new at w (LinesDiff _ _ _ _) c h = absurd (cc)
 step_by_new at w (NewDiff _ _ _) c h = absurd (cc)
 step_by_new at w (CopyDiff _ _ _ _) c h = absurd (cc)
@@ -103,6 +105,8 @@ step_by_old at w (MergesDiff sheet old new) c h =
     let same : ◌≡◌ {A = Change} (MergesKey sheet, (MergesValue old, MergesValue new)) c = cc in ap (λ (x : Change). put_in at w x.0 x.1.0) same
 step_by_old at w (FieldDiff sheet change) c h =
     let same : ◌≡◌ {A = Change} (FieldKey sheet (changed_field change), (FieldValue (old_of change), FieldValue (new_of change))) c = cc in ap (λ (x : Change). put_in at w x.0 x.1.0) same
+step_by_old at w (AttrDiff sheet axis line old new) c h =
+    let same : ◌≡◌ {A = Change} (AttrKey sheet axis line, (AttrValue old, AttrValue new)) c = cc in ap (λ (x : Change). put_in at w x.0 x.1.0) same
 step_by_old at w (LinesDiff _ _ _ _) c h = absurd (cc)
 step_by_old at w (NewDiff _ _ _) c h = absurd (cc)
 step_by_old at w (CopyDiff _ _ _ _) c h = absurd (cc)

@@ -10,7 +10,7 @@ use Rattle.book_sheets.specs.declared.KeptSheet.{KeptSheet}
 use Rattle.book_names.specs.declared.KeptTrees.{KeptTrees}
 use Rattle.name_edits.specs.declared.NameChange.{NameChange}
 use Rattle.sheet_history.specs.declared.diff.Diff.{Diff}
-use Rattle.sheet_history.specs.declared.diff.Diff.TheVariants.{Cell as CellDiff, Link as LinkDiff, Merges as MergesDiff, Field as FieldDiff, Lines as LinesDiff, NewSheet as NewDiff, DuplicateSheet as CopyDiff, DeleteSheet as DeletionDiff, MoveSheet as MoveDiff, RenameSheet as RenameDiff, ChangeName as NameDiff}
+use Rattle.sheet_history.specs.declared.diff.Diff.TheVariants.{Cell as CellDiff, Link as LinkDiff, Merges as MergesDiff, Field as FieldDiff, Lines as LinesDiff, NewSheet as NewDiff, DuplicateSheet as CopyDiff, DeleteSheet as DeletionDiff, MoveSheet as MoveDiff, RenameSheet as RenameDiff, ChangeName as NameDiff, Attributes as AttrDiff}
 
 -- so is each kept formula
 pub record AreShallowLines (kept : KeptLines) : Type 0 where
@@ -38,6 +38,7 @@ IsShallowDiff (CellDiff sheet place old new) = IsTrue (is_shallow_entry old) × 
 IsShallowDiff (LinkDiff sheet place old new) = Unit {0}
 IsShallowDiff (MergesDiff sheet old new) = Unit {0}
 IsShallowDiff (FieldDiff sheet change) = Unit {0}
+IsShallowDiff (AttrDiff sheet axis line old new) = Unit {0}
 IsShallowDiff (LinesDiff sheet axis edit kept) = AreShallowLines kept
 IsShallowDiff (NewDiff sheet index name) = Unit {0}
 IsShallowDiff (CopyDiff source sheet index name) = Unit {0}

@@ -1,14 +1,14 @@
 -- `==` of diffs is equality of their values.
 use Rattle.std.proofs.Common.{◌≡◌, refl, ap}
 use Rattle.std.specs.Bool.{Decides}
-use Rattle.std.specs.Cmp.{unsigned_Decides}
+use Rattle.std.specs.Cmp.{signed_Decides, unsigned_Decides}
 use Rattle.std.specs.Cmp.Lexicographic.{bytes_decides, pointwise_decides}
 use Rattle.std.proofs.lemmas.Bool.Decides.{Decides-like, Decides-and}
 use Rattle.base_values.specs.laws.Decided.{option_equals}
 use Rattle.base_values.specs.laws.PositionEquals.{position_equals}
 use Rattle.base_axis.specs.laws.MergedEquals.{merged_equals}
 use Rattle.sheet_grid.specs.laws.CellEquals.{cell_equals}
-use Rattle.sheet_grid.specs.laws.LineEquals.{link_equals}
+use Rattle.sheet_grid.specs.laws.LineEquals.{line_attr_equals, link_equals}
 use Rattle.line_edits.specs.laws.Equals.{kind_equals}
 use Rattle.sheet_lines.specs.laws.KeptEquals.{kept_equals}
 use Rattle.book_sheets.specs.laws.KeptSheetEquals.{kept_sheet_equals}
@@ -16,7 +16,7 @@ use Rattle.book_names.specs.laws.KeptTreesEquals.{kept_trees_equals}
 use Rattle.name_edits.specs.laws.ChangeEquals.{name_change_equals}
 use Rattle.sheet_history.specs.laws.FieldEquals.{field_change_equals}
 use Rattle.sheet_history.specs.declared.diff.Diff.{Diff}
-use Rattle.sheet_history.specs.declared.diff.Diff.TheVariants.{Cell as CellDiff, Link as LinkDiff, Merges as MergesDiff, Field as FieldDiff, Lines as LinesDiff, NewSheet as NewDiff, DuplicateSheet as CopyDiff, DeleteSheet as DeletionDiff, MoveSheet as MoveDiff, RenameSheet as RenameDiff, ChangeName as NameDiff}
+use Rattle.sheet_history.specs.declared.diff.Diff.TheVariants.{Cell as CellDiff, Link as LinkDiff, Merges as MergesDiff, Field as FieldDiff, Lines as LinesDiff, NewSheet as NewDiff, DuplicateSheet as CopyDiff, DeleteSheet as DeletionDiff, MoveSheet as MoveDiff, RenameSheet as RenameDiff, ChangeName as NameDiff, Attributes as AttrDiff}
 use Rattle.sheet_history.specs.declared.diff.DiffType.{DiffType}
 use Rattle.sheet_history.specs.declared.diff.DiffType.TheVariants.{Undo, Redo}
 use Rattle.sheet_history.specs.declared.diff.QueueDiffs.{QueueDiffs}
@@ -98,6 +98,25 @@ diff_equals (FieldDiff s c) (FieldDiff t d) =
 
     change_of : FieldDiff s c ≡ FieldDiff t d → c ≡ d
     change_of e = cc
+diff_equals (AttrDiff s x l o n) (AttrDiff t y m u v) =
+    Decides-like _ (λ h i. AttrDiff (h.0 i) (h.1.0 i) (h.1.1.0 i) (h.1.1.1.0 i) (h.1.1.1.1 i)) (λ e. (sheet_of e, (axis_of e, (line_of e, (old_of e, new_of e)))))
+    (Decides-and _ _ (unsigned_Decides _ _) (Decides-and _ _ (line_axis_equals _ _) (Decides-and _ _ (signed_Decides _ _)
+    (Decides-and _ _ (option_equals line_attr_equals _ _) (option_equals line_attr_equals _ _)))))
+  where
+    sheet_of : AttrDiff s x l o n ≡ AttrDiff t y m u v → s ≡ t
+    sheet_of e = cc
+
+    axis_of : AttrDiff s x l o n ≡ AttrDiff t y m u v → x ≡ y
+    axis_of e = cc
+
+    line_of : AttrDiff s x l o n ≡ AttrDiff t y m u v → l ≡ m
+    line_of e = cc
+
+    old_of : AttrDiff s x l o n ≡ AttrDiff t y m u v → o ≡ u
+    old_of e = cc
+
+    new_of : AttrDiff s x l o n ≡ AttrDiff t y m u v → n ≡ v
+    new_of e = cc
 diff_equals (NewDiff s i n) (NewDiff t j m) =
     Decides-like _ (λ h k. NewDiff (h.0 k) (h.1.0 k) (h.1.1 k)) (λ e. (sheet_of e, (index_of e, name_of e)))
     (Decides-and _ _ (unsigned_Decides _ _) (Decides-and _ _ (unsigned_Decides _ _) (bytes_decides _ _)))

@@ -1,21 +1,24 @@
 -- The laws of entries of a workbook. What is said of lists of diffs rests on these alone, so that a further kind of entry joins by a case.
-use Rattle.std.proofs.Common.{◌≡◌, ◌≢◌, ℕ, ℤ, Bool, true, false, cond, ◌&&◌, List, [], ◌∷◌, map, Option, Some, None, is_some, option_map, refl, ap, sym, subst, ◌∙◌, true≢false}
+use Rattle.std.proofs.Common.{◌≡◌, ◌≢◌, ℕ, ℤ, pos, Bool, true, false, cond, ◌&&◌, List, [], ◌∷◌, map, Option, Some, None, is_some, option_map, refl, ap, sym, subst, ◌∙◌, true≢false}
 use Rattle.std.specs.Prelude.{◌==◌}
 use Rattle.std.specs.List.{find, IsDistinct, AllByRecursion}
-use Rattle.std.specs.Cmp.{IsTotalOrder, unsigned_Decides, eq_by_cmp_equiv}
+use Rattle.std.specs.Cmp.{IsTotalOrder, int_cmp_total, unsigned_Decides, eq_by_cmp_equiv}
 use Rattle.std.specs.declared.cmp.Ordering.{Ordering}
+use Rattle.std.specs.Ordering.{int_cmp}
 use Rattle.std.specs.FinMap as fin
 use Rattle.std.specs.FinMap.{FinMap}
-use Rattle.std.proofs.lemmas.Map.Lookups.{CmpEqualImpliesEq}
+use Rattle.std.proofs.lemmas.Map.Lookups.{CmpEqualImpliesEq, exact_signed}
 use Rattle.std.proofs.lemmas.Map.Views.{tells_apart}
 use Rattle.base_values.specs.declared.Position.{Position}
 use Rattle.base_values.specs.KeyMap.{with_entry}
 use Rattle.base_values.specs.laws.KeyMap.{get-with_entry}
+use Rattle.base_values.specs.Places.{is_line}
 use Rattle.base_values.specs.laws.Places.{position_total, exact_positions}
 use Rattle.base_axis.specs.declared.MergedCell.{MergedCell}
 use Rattle.base_styles.specs.declared.Color.{Color}
 use Rattle.base_styles.specs.declared.Color.TheVariants.{None as NoColor}
 use Rattle.sheet_grid.specs.declared.Cell.{Cell}
+use Rattle.sheet_grid.specs.declared.LineAttr.{LineAttr}
 use Rattle.sheet_grid.specs.declared.Link.{Link}
 use Rattle.sheet_grid.specs.declared.SheetState.{SheetState}
 use Rattle.sheet_grid.specs.declared.SheetState.TheVariants.{Visible}
@@ -24,14 +27,17 @@ use Rattle.sheet_grid.specs.Book.{Book}
 use Rattle.sheet_rules.specs.WellFormed.{is_place}
 use Rattle.sheet_rules.specs.laws.EntryLaws.{both}
 use Rattle.sheet_lines.specs.Sheets.{HasDistinctIds}
+use Rattle.sheet_history.specs.declared.diff.LineAxis.{LineAxis}
+use Rattle.sheet_history.specs.declared.diff.LineAxis.TheVariants.{Rows, Columns}
+use Rattle.sheet_history.specs.LineDiffs.{along_of}
 use Rattle.sheet_history.specs.declared.field.SheetField.{SheetField}
 use Rattle.sheet_history.specs.declared.field.SheetField.TheVariants as value
 use Rattle.sheet_history.specs.Fields.{Field, with_field}
-use Rattle.sheet_history.specs.Fields.Field.{ColorField, StateField, GridField}
+use Rattle.sheet_history.specs.Fields.Field.{ColorField, StateField, GridField, FrozenRowsField, FrozenColumnsField}
 use Rattle.sheet_history.specs.laws.FieldLaws.{field_in-with_field, fields_stay, plain_field, plain_is_of}
-use Rattle.sheet_history.specs.Entries.{EntryKey, EntryValue, sheet_id_of, sheet_entry, with_sheet_entry, cell_stands_at, value_fits, with_changed, entry_at, put_entry, accepts, bare_sheet, frame_of}
-use Rattle.sheet_history.specs.Entries.EntryKey.{CellKey, LinkKey, MergesKey, FieldKey}
-use Rattle.sheet_history.specs.Entries.EntryValue.{CellValue, LinkValue, MergesValue, FieldValue}
+use Rattle.sheet_history.specs.Entries.{EntryKey, EntryValue, sheet_id_of, sheet_entry, with_sheet_entry, cell_stands_at, is_kept, value_fits, with_changed, entry_at, put_entry, accepts, bare_sheet, frame_of}
+use Rattle.sheet_history.specs.Entries.EntryKey.{CellKey, LinkKey, MergesKey, FieldKey, AttrKey}
+use Rattle.sheet_history.specs.Entries.EntryValue.{CellValue, LinkValue, MergesValue, FieldValue, AttrValue}
 
 -- the value of a key that stands for nothing
 abbrev pub nothing_at : EntryKey → EntryValue
@@ -39,6 +45,7 @@ nothing_at (CellKey id place) = CellValue None
 nothing_at (LinkKey id place) = LinkValue None
 nothing_at (MergesKey id) = MergesValue []
 nothing_at (FieldKey id field) = FieldValue (plain_field field)
+nothing_at (AttrKey id axis line) = AttrValue None
 
 pub decide : {G : Type 0} (b : Bool) → (b ≡ true → G) → (b ≡ false → G) → G
 decide true hit miss = hit refl
@@ -65,47 +72,93 @@ entry-with_sheet_entry s (CellKey id place) (CellValue v) h = ap CellValue (get-
 entry-with_sheet_entry s (LinkKey id place) (LinkValue v) h = ap LinkValue (get-put position_total exact_positions s.links place v)
 entry-with_sheet_entry s (MergesKey id) (MergesValue v) h = refl
 entry-with_sheet_entry s (FieldKey id field) (FieldValue v) h = ap FieldValue (field_in-with_field field v s h)
+entry-with_sheet_entry s (AttrKey id Rows line) (AttrValue v) h = ap AttrValue (get-put int_cmp_total exact_signed s.rows line v)
+entry-with_sheet_entry s (AttrKey id Columns line) (AttrValue v) h = ap AttrValue (get-put int_cmp_total exact_signed s.columns line v)
 entry-with_sheet_entry s _ _ h = absurd (let never : false ≡ true = h in cc)
 
 cell_apart : (s : Sheet) (id : ℕ) (place : Position) (v : Option Cell) (q : EntryKey) → sheet_id_of q ≡ id → (q ≢ CellKey id place)
     → sheet_entry q (with_sheet_entry (CellKey id place) (CellValue v) s) ≡ sheet_entry q s
 cell_apart s id place v (CellKey j other) ids apart = ap CellValue (get-put_other position_total exact_positions s.cells place v other (λ e. apart (λ i. CellKey (ids i) (e i))))
-cell_apart s id place v (FieldKey j field) ids apart = ap FieldValue (fields_stay field (with_sheet_entry (CellKey id place) (CellValue v) s) s refl refl refl)
+cell_apart s id place v (FieldKey j field) ids apart = ap FieldValue (fields_stay field (with_sheet_entry (CellKey id place) (CellValue v) s) s refl refl refl refl refl)
+cell_apart s id place v (AttrKey j Rows line) ids apart = refl
+cell_apart s id place v (AttrKey j Columns line) ids apart = refl
 cell_apart s id place v _ ids apart = refl
 
 link_apart : (s : Sheet) (id : ℕ) (place : Position) (v : Option Link) (q : EntryKey) → sheet_id_of q ≡ id → (q ≢ LinkKey id place)
     → sheet_entry q (with_sheet_entry (LinkKey id place) (LinkValue v) s) ≡ sheet_entry q s
 link_apart s id place v (LinkKey j other) ids apart = ap LinkValue (get-put_other position_total exact_positions s.links place v other (λ e. apart (λ i. LinkKey (ids i) (e i))))
-link_apart s id place v (FieldKey j field) ids apart = ap FieldValue (fields_stay field (with_sheet_entry (LinkKey id place) (LinkValue v) s) s refl refl refl)
+link_apart s id place v (FieldKey j field) ids apart = ap FieldValue (fields_stay field (with_sheet_entry (LinkKey id place) (LinkValue v) s) s refl refl refl refl refl)
+link_apart s id place v (AttrKey j Rows line) ids apart = refl
+link_apart s id place v (AttrKey j Columns line) ids apart = refl
 link_apart s id place v _ ids apart = refl
 
 merges_apart : (s : Sheet) (id : ℕ) (v : List MergedCell) (q : EntryKey) → sheet_id_of q ≡ id → (q ≢ MergesKey id)
     → sheet_entry q (with_sheet_entry (MergesKey id) (MergesValue v) s) ≡ sheet_entry q s
 merges_apart s id v (MergesKey j) ids apart = absurd (apart (ap MergesKey ids))
-merges_apart s id v (FieldKey j field) ids apart = ap FieldValue (fields_stay field (with_sheet_entry (MergesKey id) (MergesValue v) s) s refl refl refl)
+merges_apart s id v (FieldKey j field) ids apart = ap FieldValue (fields_stay field (with_sheet_entry (MergesKey id) (MergesValue v) s) s refl refl refl refl refl)
+merges_apart s id v (AttrKey j Rows line) ids apart = refl
+merges_apart s id v (AttrKey j Columns line) ids apart = refl
 merges_apart s id v _ ids apart = refl
+
+-- a field that gets a value leaves what lines have
+rows_stay : (field : Field) (v : SheetField) (s : Sheet) → (with_field field v s).rows ≡ s.rows
+rows_stay ColorField (value.Color v) s = refl
+rows_stay StateField (value.State v) s = refl
+rows_stay GridField (value.GridLines v) s = refl
+rows_stay FrozenRowsField (value.FrozenRows v) s = refl
+rows_stay FrozenColumnsField (value.FrozenColumns v) s = refl
+rows_stay _ _ s = refl
+
+columns_stay : (field : Field) (v : SheetField) (s : Sheet) → (with_field field v s).columns ≡ s.columns
+columns_stay ColorField (value.Color v) s = refl
+columns_stay StateField (value.State v) s = refl
+columns_stay GridField (value.GridLines v) s = refl
+columns_stay FrozenRowsField (value.FrozenRows v) s = refl
+columns_stay FrozenColumnsField (value.FrozenColumns v) s = refl
+columns_stay _ _ s = refl
 
 field_apart : (s : Sheet) (id : ℕ) (field : Field) (v : SheetField) (q : EntryKey) → sheet_id_of q ≡ id → (q ≢ FieldKey id field)
     → sheet_entry q (with_sheet_entry (FieldKey id field) (FieldValue v) s) ≡ sheet_entry q s
+field_apart s id field v (AttrKey j Rows line) ids apart = ap (λ (lines : FinMap int_cmp LineAttr). AttrValue (fin.get lines line)) (rows_stay field v s)
+field_apart s id field v (AttrKey j Columns line) ids apart = ap (λ (lines : FinMap int_cmp LineAttr). AttrValue (fin.get lines line)) (columns_stay field v s)
 field_apart s id ColorField (value.Color v) (FieldKey j ColorField) ids apart = absurd (apart (ap (λ n. FieldKey n ColorField) ids))
 field_apart s id ColorField (value.Color v) _ ids apart = refl
 field_apart s id StateField (value.State v) (FieldKey j StateField) ids apart = absurd (apart (ap (λ n. FieldKey n StateField) ids))
 field_apart s id StateField (value.State v) _ ids apart = refl
 field_apart s id GridField (value.GridLines v) (FieldKey j GridField) ids apart = absurd (apart (ap (λ n. FieldKey n GridField) ids))
 field_apart s id GridField (value.GridLines v) _ ids apart = refl
+field_apart s id FrozenRowsField (value.FrozenRows v) (FieldKey j FrozenRowsField) ids apart = absurd (apart (ap (λ n. FieldKey n FrozenRowsField) ids))
+field_apart s id FrozenRowsField (value.FrozenRows v) _ ids apart = refl
+field_apart s id FrozenColumnsField (value.FrozenColumns v) (FieldKey j FrozenColumnsField) ids apart = absurd (apart (ap (λ n. FieldKey n FrozenColumnsField) ids))
+field_apart s id FrozenColumnsField (value.FrozenColumns v) _ ids apart = refl
 field_apart s id _ _ _ ids apart = refl
+
+attr_apart : (s : Sheet) (id : ℕ) (axis : LineAxis) (line : ℤ) (v : Option LineAttr) (q : EntryKey) → sheet_id_of q ≡ id → (q ≢ AttrKey id axis line)
+    → sheet_entry q (with_sheet_entry (AttrKey id axis line) (AttrValue v) s) ≡ sheet_entry q s
+attr_apart s id Rows line v (AttrKey j Rows other) ids apart = ap AttrValue (get-put_other int_cmp_total exact_signed s.rows line v other (λ e. apart (λ i. AttrKey (ids i) Rows (e i))))
+attr_apart s id Rows line v (AttrKey j Columns other) ids apart = refl
+attr_apart s id Rows line v (FieldKey j field) ids apart = ap FieldValue (fields_stay field (with_sheet_entry (AttrKey id Rows line) (AttrValue v) s) s refl refl refl refl refl)
+attr_apart s id Rows line v _ ids apart = refl
+attr_apart s id Columns line v (AttrKey j Columns other) ids apart = ap AttrValue (get-put_other int_cmp_total exact_signed s.columns line v other (λ e. apart (λ i. AttrKey (ids i) Columns (e i))))
+attr_apart s id Columns line v (AttrKey j Rows other) ids apart = refl
+attr_apart s id Columns line v (FieldKey j field) ids apart = ap FieldValue (fields_stay field (with_sheet_entry (AttrKey id Columns line) (AttrValue v) s) s refl refl refl refl refl)
+attr_apart s id Columns line v _ ids apart = refl
 
 entry-with_sheet_entry_other : (s : Sheet) (k : EntryKey) (v : EntryValue) (q : EntryKey) → sheet_id_of q ≡ sheet_id_of k → (q ≢ k) → sheet_entry q (with_sheet_entry k v s) ≡ sheet_entry q s
 entry-with_sheet_entry_other s (CellKey id place) (CellValue v) q ids apart = cell_apart s id place v q ids apart
 entry-with_sheet_entry_other s (LinkKey id place) (LinkValue v) q ids apart = link_apart s id place v q ids apart
 entry-with_sheet_entry_other s (MergesKey id) (MergesValue v) q ids apart = merges_apart s id v q ids apart
 entry-with_sheet_entry_other s (FieldKey id field) (FieldValue v) q ids apart = field_apart s id field v q ids apart
+entry-with_sheet_entry_other s (AttrKey id Rows line) (AttrValue v) q ids apart = attr_apart s id Rows line v q ids apart
+entry-with_sheet_entry_other s (AttrKey id Columns line) (AttrValue v) q ids apart = attr_apart s id Columns line v q ids apart
 entry-with_sheet_entry_other s _ _ q ids apart = refl
 
 bare-with_field : (field : Field) (v : SheetField) (s : Sheet) → bare_sheet (with_field field v s) ≡ bare_sheet s
 bare-with_field ColorField (value.Color v) s = refl
 bare-with_field StateField (value.State v) s = refl
 bare-with_field GridField (value.GridLines v) s = refl
+bare-with_field FrozenRowsField (value.FrozenRows v) s = refl
+bare-with_field FrozenColumnsField (value.FrozenColumns v) s = refl
 bare-with_field _ _ s = refl
 
 -- what is no entry stays
@@ -114,6 +167,8 @@ bare-with_sheet_entry (CellKey id place) (CellValue v) s = refl
 bare-with_sheet_entry (LinkKey id place) (LinkValue v) s = refl
 bare-with_sheet_entry (MergesKey id) (MergesValue v) s = refl
 bare-with_sheet_entry (FieldKey id field) (FieldValue v) s = bare-with_field field v s
+bare-with_sheet_entry (AttrKey id Rows line) (AttrValue v) s = refl
+bare-with_sheet_entry (AttrKey id Columns line) (AttrValue v) s = refl
 bare-with_sheet_entry _ _ s = refl
 
 pub id-with_sheet_entry : (k : EntryKey) (v : EntryValue) (s : Sheet) → (with_sheet_entry k v s).id ≡ s.id
@@ -124,6 +179,7 @@ nothing_fits (CellKey id place) (CellValue v) h = λ i. (both (is_place place) (
 nothing_fits (LinkKey id place) (LinkValue v) h = h
 nothing_fits (MergesKey id) (MergesValue v) h = refl
 nothing_fits (FieldKey id field) (FieldValue v) h = plain_is_of field
+nothing_fits (AttrKey id axis line) (AttrValue v) h = λ i. (both (is_line (along_of axis).last line) (is_kept v) h).0 i && true
 nothing_fits _ _ h = absurd (let never : false ≡ true = h in cc)
 
 abbrev cell_of : EntryValue → Option Cell
@@ -138,6 +194,10 @@ abbrev merges_of : EntryValue → List MergedCell
 merges_of (MergesValue v) = v
 merges_of _ = []
 
+abbrev attr_of : EntryValue → Option LineAttr
+attr_of (AttrValue v) = v
+attr_of _ = None
+
 abbrev color_of : EntryValue → Color
 color_of (FieldValue (value.Color v)) = v
 color_of _ = NoColor
@@ -150,16 +210,39 @@ abbrev grid_of : EntryValue → Bool
 grid_of (FieldValue (value.GridLines v)) = v
 grid_of _ = true
 
+abbrev frozen_rows_of : EntryValue → ℤ
+frozen_rows_of (FieldValue (value.FrozenRows v)) = v
+frozen_rows_of _ = pos 0
+
+abbrev frozen_columns_of : EntryValue → ℤ
+frozen_columns_of (FieldValue (value.FrozenColumns v)) = v
+frozen_columns_of _ = pos 0
+
 -- a sheet is its entries and the rest
 same_sheet : (s t : Sheet) → bare_sheet s ≡ bare_sheet t → ((k : EntryKey) → sheet_id_of k ≡ s.id → sheet_entry k s ≡ sheet_entry k t) → s ≡ t
 same_sheet s t e entries =
     let cells : s.cells ≡ t.cells = fin.same_map position_total exact_positions s.cells t.cells (λ place. ap cell_of (entries (CellKey s.id place) refl)) in
     let links : s.links ≡ t.links = fin.same_map position_total exact_positions s.links t.links (λ place. ap link_of (entries (LinkKey s.id place) refl)) in
+    let rows : s.rows ≡ t.rows = fin.same_map int_cmp_total exact_signed s.rows t.rows (λ line. ap attr_of (entries (AttrKey s.id Rows line) refl)) in
+    let columns : s.columns ≡ t.columns = fin.same_map int_cmp_total exact_signed s.columns t.columns (λ line. ap attr_of (entries (AttrKey s.id Columns line) refl)) in
     let merges : s.merges ≡ t.merges = ap merges_of (entries (MergesKey s.id) refl) in
     let color : s.color ≡ t.color = ap color_of (entries (FieldKey s.id ColorField) refl) in
     let state : s.state ≡ t.state = ap state_of (entries (FieldKey s.id StateField) refl) in
     let grid : s.show_grid_lines ≡ t.show_grid_lines = ap grid_of (entries (FieldKey s.id GridField) refl) in
-    λ i. record (e i) { state = state i; color = color i; show_grid_lines = grid i; cells = cells i; links = links i; merges = merges i }
+    let frozen_rows : s.frozen_rows ≡ t.frozen_rows = ap frozen_rows_of (entries (FieldKey s.id FrozenRowsField) refl) in
+    let frozen_columns : s.frozen_columns ≡ t.frozen_columns = ap frozen_columns_of (entries (FieldKey s.id FrozenColumnsField) refl) in
+    λ i. record (e i) {
+      state = state i;
+      color = color i;
+      show_grid_lines = grid i;
+      frozen_rows = frozen_rows i;
+      frozen_columns = frozen_columns i;
+      cells = cells i;
+      links = links i;
+      rows = rows i;
+      columns = columns i;
+      merges = merges i;
+    }
 
 -- ---- sheets by their ids
 

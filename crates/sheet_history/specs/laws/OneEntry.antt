@@ -1,5 +1,5 @@
 -- The record of one entry that was put.
-use Rattle.std.proofs.Common.{◌≡◌, ◌≢◌, ℕ, Bool, true, false, cond, ◌&&◌, List, [], ◌∷◌, map, Option, Some, None, is_some, refl, ap, sym, ◌∙◌, true≢false}
+use Rattle.std.proofs.Common.{◌≡◌, ◌≢◌, Bool, true, false, cond, ◌&&◌, List, [], ◌∷◌, map, Option, Some, None, is_some, refl, ap, sym, ◌∙◌, true≢false}
 use Rattle.std.specs.Prelude.{IsTrue}
 use Rattle.std.specs.Ordering.{eq_by_cmp}
 use Rattle.std.specs.Cmp.{eq_by_cmp_equiv}
@@ -8,11 +8,12 @@ use Rattle.std.specs.FinMap as fin
 use Rattle.sheet_grid.specs.Sheet.{Sheet}
 use Rattle.sheet_grid.specs.Book.{Book}
 use Rattle.sheet_lines.specs.Sheets.{sheet_of}
-use Rattle.sheet_history.specs.Entries.{EntryKey, EntryValue, key_cmp, sheet_id_of, sheet_entry, value_fits, entry_at, put_entry, accepts, frame_of}
-use Rattle.sheet_history.specs.Entries.EntryKey.{CellKey, LinkKey, MergesKey, FieldKey}
-use Rattle.sheet_history.specs.Entries.EntryValue.{CellValue, LinkValue, MergesValue, FieldValue}
+use Rattle.sheet_history.specs.Entries.{EntryKey, EntryValue, key_cmp, sheet_id_of, sheet_entry, value_fits, entry_at, put_entry, accepts}
+use Rattle.sheet_history.specs.Entries.EntryKey.{CellKey, LinkKey, MergesKey, FieldKey, AttrKey}
+use Rattle.sheet_history.specs.Entries.EntryValue.{CellValue, LinkValue, MergesValue, FieldValue, AttrValue}
+use Rattle.sheet_history.specs.declared.diff.LineAxis.TheVariants.{Rows, Columns}
 use Rattle.sheet_history.specs.declared.field.SheetField.TheVariants as value
-use Rattle.sheet_history.specs.Fields.Field.{ColorField, StateField, GridField}
+use Rattle.sheet_history.specs.Fields.Field.{ColorField, StateField, GridField, FrozenRowsField, FrozenColumnsField}
 use Rattle.sheet_history.specs.Records.{same_entry_value, changed_entry, Change, change_of, diff_of, entry_record, IsRecord}
 use Rattle.sheet_history.specs.laws.EntryLaws.{decide, entry_at-put_entry, entry_at-put_entry_other, frame_of-put_entry}
 use Rattle.sheet_history.specs.laws.PutLaws.{entry_at-found}
@@ -27,6 +28,10 @@ diff_is (MergesKey id) s (MergesValue v) h = refl
 diff_is (FieldKey id ColorField) s (FieldValue (value.Color v)) h = refl
 diff_is (FieldKey id StateField) s (FieldValue (value.State v)) h = refl
 diff_is (FieldKey id GridField) s (FieldValue (value.GridLines v)) h = refl
+diff_is (FieldKey id FrozenRowsField) s (FieldValue (value.FrozenRows v)) h = refl
+diff_is (FieldKey id FrozenColumnsField) s (FieldValue (value.FrozenColumns v)) h = refl
+diff_is (AttrKey id Rows line) s (AttrValue v) h = refl
+diff_is (AttrKey id Columns line) s (AttrValue v) h = refl
 diff_is _ s _ h = absurd (let never : false ≡ true = h in cc)
 
 -- an entry does not differ from itself

@@ -131,6 +131,8 @@ pub sheet_put-field : (at id : ℕ) (v : SheetField) (s : Sheet) → sheet_put a
 sheet_put-field at id (value.Color color) s = refl
 sheet_put-field at id (value.State state) s = refl
 sheet_put-field at id (value.GridLines drawn) s = refl
+sheet_put-field at id (value.FrozenRows count) s = refl
+sheet_put-field at id (value.FrozenColumns count) s = refl
 
 -- an edit of that sheet is one of the workbook
 pub Edits-put_in : (at : ℕ) (w : Book) (k : EntryKey) (v : EntryValue) (i : ℕ) (old new : Sheet) (result : Result (Unit {0}) EditError)

@@ -3,15 +3,14 @@ use Rattle.std.proofs.Common.{◌≡◌, ℕ, Bool, true, false, cond, ◌||◌,
 use Rattle.std.specs.Prelude.{◌==◌}
 use Rattle.std.specs.List.{list_any, filter_map, cons_option, flat_map}
 use Rattle.std.specs.Option.{option_map}
-use Rattle.std.specs.Cmp.{IsTotalOrder, unsigned_Decides}
-use Rattle.std.specs.Ordering.{eq_by_cmp}
+use Rattle.std.specs.Cmp.{IsTotalOrder, int_cmp_total, unsigned_Decides}
+use Rattle.std.specs.Ordering.{eq_by_cmp, int_cmp}
 use Rattle.std.specs.declared.cmp.Ordering.{Ordering}
 use Rattle.std.specs.FinMap as fin
 use Rattle.std.specs.FinMap.{entries, get, get-entries, get-from_entries, entries_sorted, find}
 use Rattle.std.specs.FinMap.Entries.{same_entries}
 use Rattle.std.proofs.lemmas.List.Folds.{list_any-append}
-use Rattle.std.proofs.lemmas.Map.Lookups.{CmpEqualImpliesEq}
-use Rattle.base_values.specs.declared.Position.{Position}
+use Rattle.std.proofs.lemmas.Map.Lookups.{CmpEqualImpliesEq, exact_signed}
 use Rattle.base_values.specs.Places.{position_cmp}
 use Rattle.base_values.specs.laws.Places.{position_total, exact_positions}
 use Rattle.base_maps.specs.laws.Keys.{one_key, own_key}
@@ -19,12 +18,13 @@ use Rattle.sheet_grid.specs.Sheet.{Sheet}
 use Rattle.sheet_grid.specs.Book.{Book}
 use Rattle.sheet_lines.specs.Sheets.{sheet_of}
 use Rattle.sheet_history.specs.declared.diff.Diff.{Diff}
+use Rattle.sheet_history.specs.declared.diff.LineAxis.TheVariants.{Rows, Columns}
 use Rattle.sheet_history.specs.Entries.{EntryKey, EntryValue, key_cmp, sheet_id_of, sheet_entry, entry_at}
-use Rattle.sheet_history.specs.Entries.EntryKey.{CellKey, LinkKey, MergesKey, FieldKey}
-use Rattle.sheet_history.specs.Entries.EntryValue.{CellValue, LinkValue}
+use Rattle.sheet_history.specs.Entries.EntryKey.{CellKey, LinkKey, MergesKey, FieldKey, AttrKey}
+use Rattle.sheet_history.specs.Entries.EntryValue.{CellValue, LinkValue, AttrValue}
 use Rattle.sheet_history.specs.Fields.{Field}
-use Rattle.sheet_history.specs.Fields.Field.{ColorField, StateField, GridField}
-use Rattle.sheet_history.specs.Records.{changed_entry, Change, change_of, IsRecord, diff_of, single_keys, sheet_keys, book_keys, change_at, changes_between, record_between}
+use Rattle.sheet_history.specs.Fields.Field.{ColorField, StateField, GridField, FrozenRowsField, FrozenColumnsField}
+use Rattle.sheet_history.specs.Records.{changed_entry, Change, change_of, IsRecord, diff_of, attr_keys, single_keys, sheet_keys, book_keys, change_at, changes_between, record_between}
 use Rattle.sheet_history.specs.laws.EntryLaws.{decide, by_id, nothing_at}
 use Rattle.sheet_history.specs.laws.RecordLaws.{holds, key_total, exact_keys, diff_of-change_of}
 use Rattle.sheet_history.specs.laws.ValueEquals.{same_value_decides}
@@ -73,14 +73,14 @@ abbrev has_key : EntryKey → List EntryKey → Bool
 has_key key keys = is_among key_cmp key keys
 
 -- a key of a map that is none of some keys has no value
-module _ {X : Type 0} (make : Position → EntryKey) where
-  free_place : (place : Position) (es : List (Position × X)) → has_key (make place) (map make (map (λ e. e.0) es)) ≡ false → find position_cmp place es ≡ None
-  free_place place [] h = refl
-  free_place place (e ∷ es) h =
+module _ {K X : Type 0} (R : K → K → Ordering) (total : IsTotalOrder R) (exact : CmpEqualImpliesEq R) (make : K → EntryKey) where
+  free_key : (key : K) (es : List (K × X)) → has_key (make key) (map make (map (λ e. e.0) es)) ≡ false → find R key es ≡ None
+  free_key key [] h = refl
+  free_key key (e ∷ es) h =
       let parts = neither _ _ h in
-      decide (eq_by_cmp position_cmp place e.0)
-      (λ same. absurd (true≢false (sym (own_key key_cmp key_total exact_keys (make place)) ∙ ap (λ p. eq_by_cmp key_cmp (make place) (make p)) (one_key position_cmp position_total exact_positions place e.0 same) ∙ parts.0)))
-      (λ apart. ap (λ b. cond b (Some e.1) (find position_cmp place es)) apart ∙ free_place place es parts.1)
+      decide (eq_by_cmp R key e.0)
+      (λ same. absurd (true≢false (sym (own_key key_cmp key_total exact_keys (make key)) ∙ ap (λ k. eq_by_cmp key_cmp (make key) (make k)) (one_key R total exact key e.0 same) ∙ parts.0)))
+      (λ apart. ap (λ b. cond b (Some e.1) (find R key es)) apart ∙ free_key key es parts.1)
 
 -- of three lists of keys that have no key
 apart_from : (key : EntryKey) (one two three : List EntryKey) → has_key key (one ++ two ++ three) ≡ false
@@ -97,24 +97,51 @@ apart_in key one (first ∷ front) back none = apart_in key one front back (neit
 
 -- a key that is none of those that each sheet has once is none of a field
 not_single : (key : EntryKey) (id : ℕ) (field : Field) → has_key key (single_keys id) ≡ false → eq_by_cmp key_cmp key (FieldKey id field) ≡ false
-not_single key id ColorField none = apart_in key (FieldKey id ColorField) (MergesKey id ∷ []) (FieldKey id StateField ∷ FieldKey id GridField ∷ []) none
-not_single key id StateField none = apart_in key (FieldKey id StateField) (MergesKey id ∷ FieldKey id ColorField ∷ []) (FieldKey id GridField ∷ []) none
-not_single key id GridField none = apart_in key (FieldKey id GridField) (MergesKey id ∷ FieldKey id ColorField ∷ FieldKey id StateField ∷ []) [] none
+not_single key id ColorField none =
+    apart_in key (FieldKey id ColorField) (MergesKey id ∷ []) (map (FieldKey id) (StateField ∷ GridField ∷ FrozenRowsField ∷ FrozenColumnsField ∷ [])) none
+not_single key id StateField none =
+    apart_in key (FieldKey id StateField) (MergesKey id ∷ FieldKey id ColorField ∷ []) (map (FieldKey id) (GridField ∷ FrozenRowsField ∷ FrozenColumnsField ∷ [])) none
+not_single key id GridField none =
+    apart_in key (FieldKey id GridField) (MergesKey id ∷ map (FieldKey id) (ColorField ∷ StateField ∷ [])) (map (FieldKey id) (FrozenRowsField ∷ FrozenColumnsField ∷ [])) none
+not_single key id FrozenRowsField none =
+    apart_in key (FieldKey id FrozenRowsField) (MergesKey id ∷ map (FieldKey id) (ColorField ∷ StateField ∷ GridField ∷ [])) (FieldKey id FrozenColumnsField ∷ []) none
+not_single key id FrozenColumnsField none =
+    apart_in key (FieldKey id FrozenColumnsField) (MergesKey id ∷ map (FieldKey id) (ColorField ∷ StateField ∷ GridField ∷ FrozenRowsField ∷ [])) [] none
+
+-- the keys of the cells of a sheet, of its links, of what its columns and its rows have, and of what it has once, where they have no key
+record HasNoKey (sheet : Sheet) (key : EntryKey) : Type 0 where
+  cells : has_key key (map (CellKey sheet.id) (fin.keys sheet.cells)) ≡ false
+  links : has_key key (map (LinkKey sheet.id) (fin.keys sheet.links)) ≡ false
+  columns : has_key key (map (AttrKey sheet.id Columns) (fin.keys sheet.columns)) ≡ false
+  rows : has_key key (map (AttrKey sheet.id Rows) (fin.keys sheet.rows)) ≡ false
+  singles : has_key key (single_keys sheet.id) ≡ false
+
+no_key : (sheet : Sheet) (key : EntryKey) → has_key key (sheet_keys sheet) ≡ false → HasNoKey sheet key
+no_key sheet key none =
+    let parts = apart_from key (map (CellKey sheet.id) (fin.keys sheet.cells)) (map (LinkKey sheet.id) (fin.keys sheet.links)) (attr_keys sheet ++ single_keys sheet.id) none in
+    let rest = apart_from key (map (AttrKey sheet.id Columns) (fin.keys sheet.columns)) (map (AttrKey sheet.id Rows) (fin.keys sheet.rows)) (single_keys sheet.id) parts.2 in
+    record { cells = parts.0; links = parts.1; columns = rest.0; rows = rest.1; singles = rest.2 }
 
 -- a sheet has nothing at a key that is none of its own
 nothing_in : (sheet : Sheet) (key : EntryKey) → sheet.id ≡ sheet_id_of key → has_key key (sheet_keys sheet) ≡ false → sheet_entry key sheet ≡ nothing_at key
 nothing_in sheet (CellKey id place) own none =
-    let parts = apart_from (CellKey id place) (map (CellKey sheet.id) (fin.keys sheet.cells)) (map (LinkKey sheet.id) (fin.keys sheet.links)) (single_keys sheet.id) none in
-    ap CellValue (get-entries sheet.cells place ∙ free_place (CellKey sheet.id) place (entries sheet.cells) (ap (λ n. has_key (CellKey n place) (map (CellKey sheet.id) (fin.keys sheet.cells))) own ∙ parts.0))
+    ap CellValue (get-entries sheet.cells place ∙ free_key position_cmp position_total exact_positions (CellKey sheet.id) place (entries sheet.cells)
+    (ap (λ n. has_key (CellKey n place) (map (CellKey sheet.id) (fin.keys sheet.cells))) own ∙ (no_key sheet (CellKey id place) none).cells))
 nothing_in sheet (LinkKey id place) own none =
-    let parts = apart_from (LinkKey id place) (map (CellKey sheet.id) (fin.keys sheet.cells)) (map (LinkKey sheet.id) (fin.keys sheet.links)) (single_keys sheet.id) none in
-    ap LinkValue (get-entries sheet.links place ∙ free_place (LinkKey sheet.id) place (entries sheet.links) (ap (λ n. has_key (LinkKey n place) (map (LinkKey sheet.id) (fin.keys sheet.links))) own ∙ parts.1))
+    ap LinkValue (get-entries sheet.links place ∙ free_key position_cmp position_total exact_positions (LinkKey sheet.id) place (entries sheet.links)
+    (ap (λ n. has_key (LinkKey n place) (map (LinkKey sheet.id) (fin.keys sheet.links))) own ∙ (no_key sheet (LinkKey id place) none).links))
+nothing_in sheet (AttrKey id Columns line) own none =
+    ap AttrValue (get-entries sheet.columns line ∙ free_key int_cmp int_cmp_total exact_signed (AttrKey sheet.id Columns) line (entries sheet.columns)
+    (ap (λ n. has_key (AttrKey n Columns line) (map (AttrKey sheet.id Columns) (fin.keys sheet.columns))) own ∙ (no_key sheet (AttrKey id Columns line) none).columns))
+nothing_in sheet (AttrKey id Rows line) own none =
+    ap AttrValue (get-entries sheet.rows line ∙ free_key int_cmp int_cmp_total exact_signed (AttrKey sheet.id Rows) line (entries sheet.rows)
+    (ap (λ n. has_key (AttrKey n Rows line) (map (AttrKey sheet.id Rows) (fin.keys sheet.rows))) own ∙ (no_key sheet (AttrKey id Rows line) none).rows))
 nothing_in sheet (MergesKey id) own none =
-    let parts = apart_from (MergesKey id) (map (CellKey sheet.id) (fin.keys sheet.cells)) (map (LinkKey sheet.id) (fin.keys sheet.links)) (single_keys sheet.id) none in
-    absurd (true≢false (sym (own_key key_cmp key_total exact_keys (MergesKey id)) ∙ ap (λ n. eq_by_cmp key_cmp (MergesKey id) (MergesKey n)) (sym own) ∙ (neither _ _ parts.2).0))
+    absurd (true≢false (sym (own_key key_cmp key_total exact_keys (MergesKey id)) ∙ ap (λ n. eq_by_cmp key_cmp (MergesKey id) (MergesKey n)) (sym own)
+    ∙ (neither _ _ (no_key sheet (MergesKey id) none).singles).0))
 nothing_in sheet (FieldKey id field) own none =
-    let parts = apart_from (FieldKey id field) (map (CellKey sheet.id) (fin.keys sheet.cells)) (map (LinkKey sheet.id) (fin.keys sheet.links)) (single_keys sheet.id) none in
-    absurd (true≢false (sym (own_key key_cmp key_total exact_keys (FieldKey id field)) ∙ ap (λ n. eq_by_cmp key_cmp (FieldKey id field) (FieldKey n field)) (sym own) ∙ not_single (FieldKey id field) sheet.id field parts.2))
+    absurd (true≢false (sym (own_key key_cmp key_total exact_keys (FieldKey id field)) ∙ ap (λ n. eq_by_cmp key_cmp (FieldKey id field) (FieldKey n field)) (sym own)
+    ∙ not_single (FieldKey id field) sheet.id field (no_key sheet (FieldKey id field) none).singles))
 
 -- so has a workbook, if the sheet is there
 nothing_there : (key : EntryKey) (sheets : List Sheet) → has_key key (flat_map sheet_keys sheets) ≡ false

@@ -7,14 +7,15 @@ use Rattle.std.specs.FinMap.Entries.{same_entries}
 use Rattle.std.proofs.lemmas.Map.Lookups.{CmpEqualImpliesEq, exact_pairs, exact_unsigned, exact_signed}
 use Rattle.sheet_grid.specs.Book.{Book}
 use Rattle.sheet_history.specs.declared.diff.Diff.{Diff}
-use Rattle.sheet_history.specs.declared.diff.Diff.TheVariants.{Cell as CellDiff, Link as LinkDiff, Merges as MergesDiff, Field as FieldDiff, Lines as LinesDiff, NewSheet as NewDiff, DuplicateSheet as CopyDiff, DeleteSheet as DeletionDiff, MoveSheet as MoveDiff, RenameSheet as RenameDiff, ChangeName as NameDiff}
+use Rattle.sheet_history.specs.declared.diff.Diff.TheVariants.{Cell as CellDiff, Link as LinkDiff, Merges as MergesDiff, Field as FieldDiff, Lines as LinesDiff, NewSheet as NewDiff, DuplicateSheet as CopyDiff, DeleteSheet as DeletionDiff, MoveSheet as MoveDiff, RenameSheet as RenameDiff, ChangeName as NameDiff, Attributes as AttrDiff}
+use Rattle.sheet_history.specs.declared.diff.LineAxis.TheVariants.{Rows, Columns}
 use Rattle.sheet_history.specs.Entries.{EntryKey, Rank, rank_of, rank_cmp, key_cmp}
-use Rattle.sheet_history.specs.Entries.EntryKey.{CellKey, LinkKey, MergesKey, FieldKey}
-use Rattle.sheet_history.specs.Entries.EntryValue.{CellValue, LinkValue, MergesValue, FieldValue}
+use Rattle.sheet_history.specs.Entries.EntryKey.{CellKey, LinkKey, MergesKey, FieldKey, AttrKey}
+use Rattle.sheet_history.specs.Entries.EntryValue.{CellValue, LinkValue, MergesValue, FieldValue, AttrValue}
 use Rattle.sheet_history.specs.declared.field.FieldChange.{FieldChange}
 use Rattle.sheet_history.specs.declared.field.FieldChange.TheVariants as field_change
 use Rattle.sheet_history.specs.Fields.{old_of, new_of, changed_field}
-use Rattle.sheet_history.specs.Fields.Field.{ColorField, StateField, GridField}
+use Rattle.sheet_history.specs.Fields.Field.{ColorField, StateField, GridField, FrozenRowsField, FrozenColumnsField}
 use Rattle.sheet_history.specs.Records.{Change, change_of, field_diff, diff_of, IsRecord}
 
 rank_total : IsTotalOrder rank_cmp
@@ -30,8 +31,10 @@ abbrev key_of : Rank → EntryKey
 key_of r =
     cond (r.tag == 1) (CellKey r.sheet (record { row = r.row; column = r.column }))
     (cond (r.tag == 2) (LinkKey r.sheet (record { row = r.row; column = r.column }))
+    (cond (r.tag == 3) (AttrKey r.sheet Columns r.row)
+    (cond (r.tag == 4) (AttrKey r.sheet Rows r.row)
     (cond (r.tag == 5) (MergesKey r.sheet)
-    (FieldKey r.sheet (cond (r.tag == 13) ColorField (cond (r.tag == 14) StateField GridField)))))
+    (FieldKey r.sheet (cond (r.tag == 13) ColorField (cond (r.tag == 14) StateField (cond (r.tag == 15) GridField (cond (r.tag == 16) FrozenRowsField FrozenColumnsField)))))))))
 
 key_of-rank_of : (key : EntryKey) → key_of (rank_of key) ≡ key
 key_of-rank_of (CellKey sheet place) = refl
@@ -40,6 +43,10 @@ key_of-rank_of (MergesKey sheet) = refl
 key_of-rank_of (FieldKey sheet ColorField) = refl
 key_of-rank_of (FieldKey sheet StateField) = refl
 key_of-rank_of (FieldKey sheet GridField) = refl
+key_of-rank_of (FieldKey sheet FrozenRowsField) = refl
+key_of-rank_of (FieldKey sheet FrozenColumnsField) = refl
+key_of-rank_of (AttrKey sheet Rows line) = refl
+key_of-rank_of (AttrKey sheet Columns line) = refl
 
 exact_ranks : CmpEqualImpliesEq rank_cmp
 exact_ranks a b h =
@@ -59,6 +66,8 @@ own_diff : (sheet : ℕ) (one : FieldChange) → field_diff sheet (old_of one) (
 own_diff sheet (field_change.State old new) = refl
 own_diff sheet (field_change.Color old new) = refl
 own_diff sheet (field_change.GridLines old new) = refl
+own_diff sheet (field_change.FrozenRows old new) = refl
+own_diff sheet (field_change.FrozenColumns old new) = refl
 
 -- a diff is the one of its change
 pub diff_of-change_of : (diff : Diff) (change : Change) → change_of diff ≡ Some change → diff_of change.0 change.1.0 change.1.1 ≡ diff ∷ []
@@ -74,6 +83,9 @@ diff_of-change_of (MergesDiff sheet old new) change h =
 diff_of-change_of (FieldDiff sheet one) change h =
     let same : ◌≡◌ {A = Change} (FieldKey sheet (changed_field one), (FieldValue (old_of one), FieldValue (new_of one))) change = cc in
     ap (λ (c : Change). diff_of c.0 c.1.0 c.1.1) (sym same) ∙ own_diff sheet one
+diff_of-change_of (AttrDiff sheet axis line old new) change h =
+    let same : ◌≡◌ {A = Change} (AttrKey sheet axis line, (AttrValue old, AttrValue new)) change = cc in
+    ap (λ (c : Change). diff_of c.0 c.1.0 c.1.1) (sym same)
 diff_of-change_of (LinesDiff _ _ _ _) change h = absurd (cc)
 diff_of-change_of (NewDiff _ _ _) change h = absurd (cc)
 diff_of-change_of (CopyDiff _ _ _ _) change h = absurd (cc)

@@ -1,5 +1,6 @@
--- What is put in a well-formed workbook leaves a well-formed one: a link, and a cell that has a font and may stand at its place.
-use Rattle.std.proofs.Common.{◌≡◌, ℕ, ℤ, suc, Bool, true, cond, ◌&&◌, List, [], ◌∷◌, length, map, Option, Some, None, refl, ap, sym, ◌∙◌}
+-- What is put in a well-formed workbook leaves a well-formed one: a link, a field that may have its value, and a cell that has a font and may
+-- stand at its place.
+use Rattle.std.proofs.Common.{◌≡◌, ℕ, ℤ, suc, Bool, true, cond, ◌&&◌, List, [], ◌∷◌, length, Option, Some, None, refl, ap, sym, ◌∙◌}
 use Rattle.std.specs.Prelude.{IsTrue, ◌==◌, nat_lt}
 use Rattle.std.specs.List.{list_all}
 use Rattle.std.specs.FinMap.{entries}
@@ -29,8 +30,8 @@ use Rattle.sheet_history.specs.Entries.EntryKey.{CellKey, LinkKey, FieldKey}
 use Rattle.sheet_history.specs.Entries.EntryValue.{CellValue, LinkValue, FieldValue}
 use Rattle.sheet_history.specs.declared.field.SheetField.{SheetField}
 use Rattle.sheet_history.specs.declared.field.SheetField.TheVariants as value
-use Rattle.sheet_history.specs.Fields.{Field, with_field}
-use Rattle.sheet_history.specs.Fields.Field.{ColorField, StateField, GridField}
+use Rattle.sheet_history.specs.Fields.{Field, may_have, with_field}
+use Rattle.sheet_history.specs.Fields.Field.{ColorField, StateField, GridField, FrozenRowsField, FrozenColumnsField}
 use Rattle.sheet_history.specs.Untested.{entry_has_font, may_stand_on}
 use Rattle.sheet_history.specs.laws.Entries.{all_with_entry}
 use Rattle.sheet_history.specs.laws.EntryLaws.{decide, by_id, map-changed, bare-with_sheet_entry}
@@ -145,16 +146,22 @@ link-put s place entry inside h =
       frozen = h.frozen;
     }
 
--- so does a field
-field-put : (s : Sheet) (field : Field) (v : SheetField) → KeepsSheetRules s → KeepsSheetRules (with_field field v s)
+-- so does a field that may have its value
+field-put : (s : Sheet) (field : Field) (v : SheetField) → may_have v ≡ true → KeepsSheetRules s → KeepsSheetRules (with_field field v s)
 unfolding stands_inside have_arrays have_merges are_hidden_blank have_trees have_attributes
-field-put s ColorField (value.Color v) h =
+field-put s ColorField (value.Color v) may h =
     record { inside = h.inside; arrays = h.arrays; merges = h.merges; hidden = h.hidden; trees = h.trees; attributes = h.attributes; frozen = h.frozen }
-field-put s StateField (value.State v) h =
+field-put s StateField (value.State v) may h =
     record { inside = h.inside; arrays = h.arrays; merges = h.merges; hidden = h.hidden; trees = h.trees; attributes = h.attributes; frozen = h.frozen }
-field-put s GridField (value.GridLines v) h =
+field-put s GridField (value.GridLines v) may h =
     record { inside = h.inside; arrays = h.arrays; merges = h.merges; hidden = h.hidden; trees = h.trees; attributes = h.attributes; frozen = h.frozen }
-field-put s _ _ h = h
+field-put s FrozenRowsField (value.FrozenRows v) may h =
+    let counts = both _ _ h.frozen in
+    record { inside = h.inside; arrays = h.arrays; merges = h.merges; hidden = h.hidden; trees = h.trees; attributes = h.attributes; frozen = λ i. may i && counts.1 i }
+field-put s FrozenColumnsField (value.FrozenColumns v) may h =
+    let counts = both _ _ h.frozen in
+    record { inside = h.inside; arrays = h.arrays; merges = h.merges; hidden = h.hidden; trees = h.trees; attributes = h.attributes; frozen = λ i. counts.0 i && may i }
+field-put s _ _ may h = h
 
 -- ---- workbooks
 
@@ -213,6 +220,6 @@ pub well_formed-link : (w : Book) (id : ℕ) (place : Position) (entry : Option 
     → IsWellFormed (put_entry w (LinkKey id place) (LinkValue entry))
 well_formed-link w id place entry rules inside = well_formed-put w rules (LinkKey id place) (LinkValue entry) (λ s found. link-put s place entry inside)
 
--- a field
-pub well_formed-field : (w : Book) (id : ℕ) (field : Field) (v : SheetField) → IsWellFormed w → IsWellFormed (put_entry w (FieldKey id field) (FieldValue v))
-well_formed-field w id field v rules = well_formed-put w rules (FieldKey id field) (FieldValue v) (λ s found. field-put s field v)
+-- a field that may have its value
+pub well_formed-field : (w : Book) (id : ℕ) (field : Field) (v : SheetField) → may_have v ≡ true → IsWellFormed w → IsWellFormed (put_entry w (FieldKey id field) (FieldValue v))
+well_formed-field w id field v may rules = well_formed-put w rules (FieldKey id field) (FieldValue v) (λ s found. field-put s field v may)

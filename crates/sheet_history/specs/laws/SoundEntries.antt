@@ -1,29 +1,39 @@
 -- Each entry of a well-formed workbook can be put where it is, so that its records go both ways.
-use Rattle.std.proofs.Common.{◌≡◌, ◌⊎◌, inl, inr, ℕ, true, ◌&&◌, List, [], ◌∷◌, length, Option, Some, None, is_some, option_map, Ok, refl, ap, sym, ◌∙◌}
+use Rattle.std.proofs.Common.{◌≡◌, ◌⊎◌, inl, inr, ℕ, ℤ, pos, true, ◌&&◌, List, [], ◌∷◌, length, Option, Some, None, is_some, option_map, Ok, refl, ap, sym, ◌∙◌}
+use Rattle.std.specs.Prelude.{not}
 use Rattle.std.specs.List.{list_all}
 use Rattle.std.specs.Option.{option_and_then}
+use Rattle.std.specs.Cmp.{int_cmp_total}
+use Rattle.std.specs.Ordering.{int_cmp}
 use Rattle.std.specs.FinMap as fin
+use Rattle.std.specs.FinMap.{FinMap}
+use Rattle.std.proofs.lemmas.Map.Lookups.{exact_signed}
 use Rattle.base_values.specs.declared.Position.{Position}
-use Rattle.base_values.specs.Places.{position_cmp}
+use Rattle.base_values.specs.Places.{is_line, position_cmp}
 use Rattle.base_values.specs.laws.Places.{position_total, exact_positions}
 use Rattle.base_axis.specs.declared.MergedCell.{MergedCell}
 use Rattle.base_axis.specs.Rectangles.{has_many, is_inside}
 use Rattle.sheet_grid.specs.Arrays.{array_at}
 use Rattle.sheet_grid.specs.laws.FittingCells.{entry_fits_at}
 use Rattle.sheet_grid.specs.declared.Cell.{Cell}
+use Rattle.sheet_grid.specs.declared.LineAttr.{LineAttr}
 use Rattle.sheet_grid.specs.declared.Link.{Link}
+use Rattle.sheet_grid.specs.Lines.{is_plain}
 use Rattle.sheet_grid.specs.Sheet.{Sheet}
 use Rattle.sheet_grid.specs.Book.{Book}
 use Rattle.sheet_rules.specs.laws.EntryLaws.{both}
 use Rattle.sheet_rules.specs.laws.OccupiedLaws.{keeps_arrays, keeps_merges}
 use Rattle.sheet_rules.specs.laws.WellFormedLaws.{cells_fit_from_trees, distinct_ids_from_well_formed}
 use Rattle.sheet_rules.specs.Occupied.{is_merge, have_arrays, have_merges}
-use Rattle.sheet_rules.specs.WellFormed.{is_place, stands_inside, IsWellFormed}
+use Rattle.sheet_rules.specs.WellFormed.{have_attributes, is_column, is_column_style, is_place, is_row, is_row_style, is_size, is_width, stands_inside, IsWellFormed}
 use Rattle.sheet_lines.specs.Sheets.{sheet_of}
 use Rattle.sheet_history.specs.declared.diff.Diff.{Diff}
+use Rattle.sheet_history.specs.declared.diff.LineAxis.{LineAxis}
+use Rattle.sheet_history.specs.declared.diff.LineAxis.TheVariants.{Rows, Columns}
+use Rattle.sheet_history.specs.LineDiffs.{along_of}
 use Rattle.sheet_history.specs.Entries.{EntryKey, sheet_id_of, sheet_entry, lies_inside, cell_stands_at, value_fits, entry_at, accepts}
-use Rattle.sheet_history.specs.Entries.EntryKey.{CellKey, LinkKey, MergesKey, FieldKey}
-use Rattle.sheet_history.specs.Entries.EntryValue.{CellValue, LinkValue}
+use Rattle.sheet_history.specs.Entries.EntryKey.{CellKey, LinkKey, MergesKey, FieldKey, AttrKey}
+use Rattle.sheet_history.specs.Entries.EntryValue.{CellValue, LinkValue, AttrValue}
 use Rattle.sheet_history.specs.Diffs.{untested_after, untested_before, book_after, book_before, tested}
 use Rattle.sheet_history.specs.Records.{IsRecord}
 use Rattle.sheet_history.specs.laws.EntryLaws.{nothing_at}
@@ -66,6 +76,35 @@ link_place s h place link found =
     let inner = both _ _ (both _ _ (both _ _ h).0).0 in
     entry_holds position_cmp position_total exact_positions (λ (e : Position × Link). is_place e.0) s.links inner.1 place link found
 
+-- what a row has stands inside, and is something
+row_kept : (s : Sheet) → stands_inside s ≡ true → have_attributes s ≡ true → (line : ℤ) (attr : LineAttr) → fin.get s.rows line ≡ Some attr
+    → (is_line (pos 1048576) line && not (is_plain attr)) ≡ true
+unfolding stands_inside have_attributes
+row_kept s inside attributes line attr found =
+    let lines = entry_holds int_cmp int_cmp_total exact_signed (λ (e : ℤ × LineAttr). is_line (pos 1048576) e.0) s.rows (both _ _ (both _ _ inside).0).1 line attr found in
+    let kept = entry_holds int_cmp int_cmp_total exact_signed (λ (e : ℤ × LineAttr). is_row e.1) s.rows (both _ _ (both _ _ attributes).0).0 line attr found in
+    λ i. lines i && (both (not (is_plain attr)) (is_size attr.size) (both (not (is_plain attr) && is_size attr.size) (is_row_style attr.style) kept).0).0 i
+
+-- so is it of a column
+column_kept : (s : Sheet) → stands_inside s ≡ true → have_attributes s ≡ true → (line : ℤ) (attr : LineAttr) → fin.get s.columns line ≡ Some attr
+    → (is_line (pos 16384) line && not (is_plain attr)) ≡ true
+unfolding stands_inside have_attributes
+column_kept s inside attributes line attr found =
+    let lines = entry_holds int_cmp int_cmp_total exact_signed (λ (e : ℤ × LineAttr). is_line (pos 16384) e.0) s.columns (both _ _ inside).1 line attr found in
+    let kept = entry_holds int_cmp int_cmp_total exact_signed (λ (e : ℤ × LineAttr). is_column e.1) s.columns (both _ _ (both _ _ attributes).0).1 line attr found in
+    λ i. lines i && (both (not (is_plain attr)) (is_width attr.size) (both (not (is_plain attr) && is_width attr.size) (is_column_style attr.style) kept).0).0 i
+
+-- what a line of some lines has fits there, or is nothing
+attr_fits : (id : ℕ) (axis : LineAxis) (lines : FinMap int_cmp LineAttr) (line : ℤ)
+    → ((attr : LineAttr) → fin.get lines line ≡ Some attr → (is_line (along_of axis).last line && not (is_plain attr)) ≡ true)
+    → (value_fits (AttrKey id axis line) (AttrValue (fin.get lines line)) ≡ true) ⊎ (AttrValue (fin.get lines line) ≡ AttrValue None)
+attr_fits id axis lines line kept = go (fin.get lines line) refl
+  where
+    go : (o : Option LineAttr) → fin.get lines line ≡ o
+        → (value_fits (AttrKey id axis line) (AttrValue (fin.get lines line)) ≡ true) ⊎ (AttrValue (fin.get lines line) ≡ AttrValue None)
+    go None found = inr (ap AttrValue found)
+    go (Some attr) found = inl (ap (λ o. value_fits (AttrKey id axis line) (AttrValue o)) found ∙ kept attr found)
+
 -- an entry of a sheet that keeps its rules fits, or stands for nothing
 entry_fits : (s : Sheet) → KeepsSheetRules s → (k : EntryKey) → (value_fits k (sheet_entry k s) ≡ true) ⊎ (sheet_entry k s ≡ nothing_at k)
 entry_fits s h (CellKey id place) = go (fin.get s.cells place) refl
@@ -82,6 +121,8 @@ entry_fits s h (LinkKey id place) = go (fin.get s.links place) refl
     go (Some link) found = inl (link_place s h.inside place link found)
 entry_fits s h (MergesKey id) = inl (sheet_merges_inside s h.merges)
 entry_fits s h (FieldKey id field) = inl (field_is_of field s)
+entry_fits s h (AttrKey id Rows line) = attr_fits id Rows s.rows line (row_kept s h.inside h.attributes line)
+entry_fits s h (AttrKey id Columns line) = attr_fits id Columns s.columns line (column_kept s h.inside h.attributes line)
 
 -- so it is with each entry of a well-formed workbook
 pub sound_by_rules : (w : Book) → IsWellFormed w → IsSound w

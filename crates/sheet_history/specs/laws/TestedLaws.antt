@@ -1,5 +1,5 @@
 -- Lists whose results are tested.
-use Rattle.std.proofs.Common.{◌≡◌, ℕ, Bool, true, false, cond, ◌&&◌, List, [], ◌∷◌, length, Option, Some, None, Result, Ok, Err, refl, ap, sym, subst, ◌∙◌}
+use Rattle.std.proofs.Common.{◌≡◌, ℕ, Bool, true, false, cond, List, [], ◌∷◌, length, Option, Some, None, Result, Ok, Err, refl, ap, sym, subst, ◌∙◌}
 use Rattle.std.specs.Prelude.{is_some}
 use Rattle.base_values.specs.declared.EditError.{EditError}
 use Rattle.base_values.specs.declared.EditError.TheVariants.{DiffRefused}
@@ -16,11 +16,11 @@ use Rattle.sheet_history.specs.Entries.EntryValue.{CellValue, LinkValue, FieldVa
 use Rattle.sheet_history.specs.Untested.{cell_keeps_rules, entry_has_font, may_stand_on, keeps_rules}
 use Rattle.sheet_history.specs.laws.RuleLaws.{well_formed-cell, well_formed-link, well_formed-field}
 use Rattle.sheet_history.specs.declared.diff.Diff.{Diff}
-use Rattle.sheet_history.specs.declared.diff.Diff.TheVariants.{Cell as CellDiff, Link as LinkDiff, Merges as MergesDiff, Field as FieldDiff, Lines as LinesDiff, NewSheet as NewDiff, DuplicateSheet as CopyDiff, DeleteSheet as DeletionDiff, MoveSheet as MoveDiff, RenameSheet as RenameDiff, ChangeName as NameDiff}
+use Rattle.sheet_history.specs.declared.diff.Diff.TheVariants.{Cell as CellDiff, Link as LinkDiff, Merges as MergesDiff, Field as FieldDiff, Lines as LinesDiff, NewSheet as NewDiff, DuplicateSheet as CopyDiff, DeleteSheet as DeletionDiff, MoveSheet as MoveDiff, RenameSheet as RenameDiff, ChangeName as NameDiff, Attributes as AttrDiff}
 use Rattle.sheet_history.specs.declared.diff.DiffType.{DiffType}
 use Rattle.sheet_history.specs.declared.diff.DiffType.TheVariants.{Undo, Redo}
 use Rattle.sheet_history.specs.declared.field.SheetField.{SheetField}
-use Rattle.sheet_history.specs.Fields.{Field, old_of, new_of, changed_field}
+use Rattle.sheet_history.specs.Fields.{Field, may_have, old_of, new_of, changed_field}
 use Rattle.sheet_history.specs.Diffs.{put_in, by_rule, tested, untested_after, untested_before, book_after, book_before, follow, of_entry, in_entry}
 use Rattle.sheet_history.specs.laws.ReplayLaws.{and_then-Ok}
 
@@ -52,11 +52,11 @@ link_rules at book id place entry next rules is =
     let done = put_in-done at book (LinkKey id place) (LinkValue entry) next is in
     subst IsWellFormed done.1 (well_formed-link book id place entry rules (fits_of book (LinkKey id place) (LinkValue entry) done.0))
 
--- and a field of a sheet
-field_rules : (at : ℕ) (book : Book) (id : ℕ) (field : Field) (v : SheetField) (next : Book) → IsWellFormed book → put_in at book (FieldKey id field) (FieldValue v) ≡ Ok next → IsWellFormed next
-field_rules at book id field v next rules is =
+-- and a field of a sheet that may have its value
+field_rules : (at : ℕ) (book : Book) (id : ℕ) (field : Field) (v : SheetField) (next : Book) → may_have v ≡ true → IsWellFormed book → put_in at book (FieldKey id field) (FieldValue v) ≡ Ok next → IsWellFormed next
+field_rules at book id field v next may rules is =
     let done = put_in-done at book (FieldKey id field) (FieldValue v) next is in
-    subst IsWellFormed done.1 (well_formed-field book id field v rules)
+    subst IsWellFormed done.1 (well_formed-field book id field v may rules)
 
 -- a workbook that breaks no rule passes
 pub by_rule-kept : (at : ℕ) (book : Book) → IsWellFormed book → by_rule at book (broken_rule book) ≡ Ok book
@@ -86,7 +86,8 @@ made_rules book [] keeps rules next is = subst IsWellFormed (same_of book next i
 made_rules book (CellDiff id place old new ∷ []) keeps rules next is = cell_rules 0 book id place new next keeps rules (sym (and_then-Ok _) ∙ is)
 made_rules book (LinkDiff id place old new ∷ []) keeps rules next is = link_rules 0 book id place new next rules (sym (and_then-Ok _) ∙ is)
 made_rules book (MergesDiff id old new ∷ []) keeps rules next is = absurd (cc)
-made_rules book (FieldDiff id change ∷ []) keeps rules next is = field_rules 0 book id (changed_field change) (new_of change) next rules (sym (and_then-Ok _) ∙ is)
+made_rules book (FieldDiff id change ∷ []) keeps rules next is = field_rules 0 book id (changed_field change) (new_of change) next keeps rules (sym (and_then-Ok _) ∙ is)
+made_rules book (AttrDiff id axis line old new ∷ []) keeps rules next is = absurd (cc)
 made_rules book (LinesDiff id axis edit kept ∷ []) keeps rules next is = absurd (cc)
 made_rules book (NewDiff id index name ∷ []) keeps rules next is = absurd (cc)
 made_rules book (CopyDiff source id index name ∷ []) keeps rules next is = absurd (cc)
@@ -101,7 +102,8 @@ taken_back_rules book [] keeps rules next is = subst IsWellFormed (same_of book 
 taken_back_rules book (CellDiff id place old new ∷ []) keeps rules next is = cell_rules 0 book id place old next keeps rules is
 taken_back_rules book (LinkDiff id place old new ∷ []) keeps rules next is = link_rules 0 book id place old next rules is
 taken_back_rules book (MergesDiff id old new ∷ []) keeps rules next is = absurd (cc)
-taken_back_rules book (FieldDiff id change ∷ []) keeps rules next is = field_rules 0 book id (changed_field change) (old_of change) next rules is
+taken_back_rules book (FieldDiff id change ∷ []) keeps rules next is = field_rules 0 book id (changed_field change) (old_of change) next keeps rules is
+taken_back_rules book (AttrDiff id axis line old new ∷ []) keeps rules next is = absurd (cc)
 taken_back_rules book (LinesDiff id axis edit kept ∷ []) keeps rules next is = absurd (cc)
 taken_back_rules book (NewDiff id index name ∷ []) keeps rules next is = absurd (cc)
 taken_back_rules book (CopyDiff source id index name ∷ []) keeps rules next is = absurd (cc)

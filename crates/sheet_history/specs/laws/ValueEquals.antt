@@ -6,9 +6,9 @@ use Rattle.std.proofs.lemmas.Bool.Decides.{Decides-like}
 use Rattle.base_axis.specs.laws.MergedEquals.{merged_equals}
 use Rattle.base_values.specs.laws.Decided.{option_equals}
 use Rattle.sheet_grid.specs.laws.CellEquals.{same_entry_decides}
-use Rattle.sheet_grid.specs.laws.LineEquals.{link_equals}
+use Rattle.sheet_grid.specs.laws.LineEquals.{line_attr_equals, link_equals}
 use Rattle.sheet_history.specs.Entries.{EntryValue}
-use Rattle.sheet_history.specs.Entries.EntryValue.{CellValue, LinkValue, MergesValue, FieldValue}
+use Rattle.sheet_history.specs.Entries.EntryValue.{CellValue, LinkValue, MergesValue, FieldValue, AttrValue}
 use Rattle.sheet_history.specs.Records.{same_entry_value}
 use Rattle.sheet_history.specs.laws.FieldEquals.{sheet_field_equals}
 
@@ -17,4 +17,5 @@ same_value_decides (CellValue a) (CellValue b) = Decides-like _ (ap CellValue) (
 same_value_decides (LinkValue a) (LinkValue b) = Decides-like _ (ap LinkValue) (λ e. cc) (option_equals link_equals a b)
 same_value_decides (MergesValue a) (MergesValue b) = Decides-like _ (ap MergesValue) (λ e. cc) (pointwise_decides merged_equals a b)
 same_value_decides (FieldValue a) (FieldValue b) = Decides-like _ (ap FieldValue) (λ e. cc) (sheet_field_equals a b)
+same_value_decides (AttrValue a) (AttrValue b) = Decides-like _ (ap AttrValue) (λ e. cc) (option_equals line_attr_equals a b)
 same_value_decides _ _ = (λ e. cc, λ e. cc)

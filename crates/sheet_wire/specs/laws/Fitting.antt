@@ -15,7 +15,7 @@ use Rattle.sheet_grid.specs.CanonicalCell.{IsCanonicalCell}
 use Rattle.sheet_grid.specs.Lines.{is_plain}
 use Rattle.sheet_lines.specs.declared.KeptLines.{KeptLines}
 use Rattle.sheet_history.specs.declared.Diff.{Diff}
-use Rattle.sheet_history.specs.declared.Diff.TheVariants.{Cell as CellDiff, Link as LinkDiff, Merges as MergesDiff, Field as FieldDiff, Lines as LinesDiff, NewSheet as NewDiff, DuplicateSheet as CopyDiff, DeleteSheet as DeletionDiff, MoveSheet as MoveDiff, RenameSheet as RenameDiff, ChangeName as NameDiff}
+use Rattle.sheet_history.specs.declared.Diff.TheVariants.{Cell as CellDiff, Link as LinkDiff, Merges as MergesDiff, Field as FieldDiff, Lines as LinesDiff, NewSheet as NewDiff, DuplicateSheet as CopyDiff, DeleteSheet as DeletionDiff, MoveSheet as MoveDiff, RenameSheet as RenameDiff, ChangeName as NameDiff, Attributes as AttrDiff}
 use Rattle.sheet_history.specs.declared.QueueDiffs.{QueueDiffs}
 use Rattle.book_sheets.specs.declared.KeptSheet.{KeptSheet}
 use Rattle.book_sheets.specs.SheetDiffs.{IsCanonicalSheet}
@@ -46,12 +46,13 @@ pub record HasOwnLines (kept : KeptSheet) : Type 0 where
   pub rows : (row : ℤ) → IfSome (get kept.sheet.rows row) (λ attr. is_plain attr ≡ false)
   pub columns : (column : ℤ) → IfSome (get kept.sheet.columns column) (λ attr. is_plain attr ≡ false)
 
--- each line that a diff keeps has something of its own, be it that of an edit of lines or of a deleted sheet
+-- each line that a diff keeps has something of its own, be it one that changes, that of an edit of lines or of a deleted sheet
 abbrev pub IsKeptOfDiff : Diff → Type 0
 IsKeptOfDiff (CellDiff sheet place old new) = Unit {0}
 IsKeptOfDiff (LinkDiff sheet place old new) = Unit {0}
 IsKeptOfDiff (MergesDiff sheet old new) = Unit {0}
 IsKeptOfDiff (FieldDiff sheet change) = Unit {0}
+IsKeptOfDiff (AttrDiff sheet axis line old new) = IfSome old (λ attr. is_plain attr ≡ false) × IfSome new (λ attr. is_plain attr ≡ false)
 IsKeptOfDiff (LinesDiff sheet axis edit kept) = IsKeptOfLines kept
 IsKeptOfDiff (NewDiff sheet index name) = Unit {0}
 IsKeptOfDiff (CopyDiff source sheet index name) = Unit {0}
@@ -88,6 +89,7 @@ canonical_diff_from_fits (CellDiff sheet place old new) fits =
 canonical_diff_from_fits (LinkDiff sheet place old new) fits = tt
 canonical_diff_from_fits (MergesDiff sheet old new) fits = tt
 canonical_diff_from_fits (FieldDiff sheet change) fits = tt
+canonical_diff_from_fits (AttrDiff sheet axis line old new) fits = tt
 canonical_diff_from_fits (LinesDiff sheet axis edit kept) fits = kept_lines_from_fits kept fits.kept
 canonical_diff_from_fits (NewDiff sheet index name) fits = tt
 canonical_diff_from_fits (CopyDiff source sheet index name) fits = tt
@@ -149,6 +151,7 @@ known_diff (CellDiff sheet place old new) kept shallow of_lines = (known_entry o
 known_diff (LinkDiff sheet place old new) kept shallow of_lines = tt
 known_diff (MergesDiff sheet old new) kept shallow of_lines = tt
 known_diff (FieldDiff sheet change) kept shallow of_lines = tt
+known_diff (AttrDiff sheet axis line old new) kept shallow of_lines = of_lines
 known_diff (NewDiff sheet index name) kept shallow of_lines = tt
 known_diff (CopyDiff source sheet index name) kept shallow of_lines = tt
 known_diff (DeletionDiff index part) kept shallow of_lines = known_sheet part kept shallow of_lines

@@ -4,19 +4,19 @@ use Rattle.std.specs.Prelude.{IfSome}
 use Rattle.std.specs.Int.{w32, to_be_bytes}
 use Rattle.base_values.specs.declared.Position.{Position}
 use Rattle.sheet_history.specs.declared.Diff.{Diff}
-use Rattle.sheet_history.specs.declared.Diff.TheVariants.{Cell as CellDiff, Link as LinkDiff, Merges as MergesDiff, Field as FieldDiff, Lines as LinesDiff, NewSheet as NewDiff, DuplicateSheet as CopyDiff, DeleteSheet as DeletionDiff, MoveSheet as MoveDiff, RenameSheet as RenameDiff, ChangeName as NameDiff}
+use Rattle.sheet_history.specs.declared.Diff.TheVariants.{Cell as CellDiff, Link as LinkDiff, Merges as MergesDiff, Field as FieldDiff, Lines as LinesDiff, NewSheet as NewDiff, DuplicateSheet as CopyDiff, DeleteSheet as DeletionDiff, MoveSheet as MoveDiff, RenameSheet as RenameDiff, ChangeName as NameDiff, Attributes as AttrDiff}
 use Rattle.sheet_history.specs.declared.FieldChange.TheVariants as change
 use Rattle.sheet_history.specs.declared.DiffType.{DiffType}
 use Rattle.sheet_history.specs.declared.DiffType.TheVariants.{Undo, Redo}
 use Rattle.sheet_history.specs.declared.LineAxis.{LineAxis}
 use Rattle.sheet_history.specs.declared.LineAxis.TheVariants.{Rows, Columns}
-use Rattle.base_wire.specs.Reading.{Reader, map_at, after, code_at, decoded, list_at}
+use Rattle.base_wire.specs.Reading.{Reader, map_at, after, code_at, decoded, list_at, signed_at}
 use Rattle.base_wire.specs.Spelling.{Any, Both, spell_both, spell_code, spell_list, spell_option}
 use Rattle.base_wire.specs.laws.Again.{ReadsAgain, code_again}
 use Rattle.base_wire.specs.laws.Format.{Format, list_format, option_format}
 use Rattle.base_wire.specs.laws.Formats.{both_format, after_format, made_format}
 use Rattle.base_wire.specs.Parts.{boolean_at}
-use Rattle.base_wire.specs.laws.Parts.{boolean_format, short_format}
+use Rattle.base_wire.specs.laws.Parts.{boolean_format, short_format, signed_format}
 use Rattle.cell_wire.specs.StyleBytes.{color_at}
 use Rattle.base_wire.specs.laws.Refusals.{IsPlain, code_plain, if_plain, map_plain, refused_plain, tagged_plain}
 use Rattle.base_wire.specs.laws.Spelled.{ReadsSpelled, code_spelled, tag_if, tag_map, tag_refused, tagged_spelled}
@@ -31,11 +31,13 @@ use Rattle.lines_wire.specs.laws.EditLaws.{edit_format}
 use Rattle.lines_wire.specs.laws.KeptLaws.{kept_format}
 use Rattle.sheet_wire.specs.ChangeBytes.{spell_change, standing_at, change_at, spell_sheet_change, sheet_change_at}
 use Rattle.sheet_wire.specs.LinesBytes.{axis_code, axes, spell_lines, lines_parts_at}
-use Rattle.sheet_wire.specs.SheetsBytes.{spell_color_change, spell_state_change, spell_grid_change, state_at, spell_new, new_parts_at, spell_copy, copy_parts_at, spell_deletion, deletion_parts_at, spell_move, move_parts_at}
+use Rattle.sheet_wire.specs.SheetsBytes.{spell_color_change, spell_state_change, spell_grid_change, state_at, spell_new, new_parts_at, spell_copy, copy_parts_at, spell_deletion, deletion_parts_at, spell_move, move_parts_at, spell_count_change}
 use Rattle.sheet_wire.specs.TreesBytes.{spell_rename, rename_parts_at, spell_name_change, name_parts_at}
 use Rattle.sheet_wire.specs.laws.TreesFormats.{rename_parts_format, name_parts_format}
+use Rattle.sheet_wire.specs.AttrBytes.{spell_attr_change, attr_parts_at}
+use Rattle.sheet_wire.specs.laws.AttrFormats.{attr_parts_format}
 use Rattle.sheet_wire.specs.laws.SheetsFormats.{sheet_change_format, sheet_state_format, new_parts_format, copy_parts_format, deletion_parts_format, move_parts_format}
-use Rattle.sheet_wire.specs.QueueBytes.{rename_diff_made, rename_diff_at, name_diff_made, name_diff_at, move_diff_made, move_diff_at, color_diff_made, color_diff_at, state_diff_made, state_diff_at, grid_diff_made, grid_diff_at}
+use Rattle.sheet_wire.specs.QueueBytes.{rename_diff_made, rename_diff_at, name_diff_made, name_diff_at, move_diff_made, move_diff_at, color_diff_made, color_diff_at, state_diff_made, state_diff_at, grid_diff_made, grid_diff_at, attr_diff_made, attr_diff_at, frozen_rows_diff_made, frozen_rows_diff_at, frozen_columns_diff_made, frozen_columns_diff_at}
 use Rattle.sheet_wire.specs.QueueBytes.{spell_diff, cell_diff_made, cell_diff_at, link_diff_made, link_diff_at, merges_diff_made, merges_diff_at, lines_diff_made, lines_diff_at, new_diff_made, new_diff_at, copy_diff_made, copy_diff_at, deletion_diff_made, deletion_diff_at, diff_of, diff_at, FitsDiff, FitsList, direction_code, directions, spell_entry, entry_made, list_of_diffs_at, entry_at, FitsEntry, magic, FitsQueue}
 
 -- ---- diffs
@@ -65,7 +67,7 @@ map_reads : {A B : Type 0} (f : A → B) (r : Reader A) (bytes : List ℕ) (x : 
 map_reads f r bytes x rest h = rw h refl
 
 diff_again : ReadsAgain FitsDiff spell_diff diff_at
-unfolding spell_sheet_change spell_new spell_copy spell_deletion spell_rename spell_name_change spell_move diff_at cell_diff_at link_diff_at merges_diff_at lines_diff_at new_diff_at copy_diff_at deletion_diff_at rename_diff_at move_diff_at color_diff_at state_diff_at grid_diff_at name_diff_at
+unfolding spell_sheet_change spell_new spell_copy spell_deletion spell_rename spell_name_change spell_move diff_at cell_diff_at link_diff_at merges_diff_at lines_diff_at new_diff_at copy_diff_at deletion_diff_at rename_diff_at move_diff_at color_diff_at state_diff_at grid_diff_at name_diff_at attr_diff_at frozen_rows_diff_at frozen_columns_diff_at
 diff_again = record { again = one }
   where
     one : (x : Diff) (rest : List ℕ) → FitsDiff x → diff_at (spell_diff x ++ rest) ≡ Ok (x, rest)
@@ -108,13 +110,27 @@ diff_again = record { again = one }
     one (FieldDiff sheet (change.GridLines old new)) rest fits =
         map_reads grid_diff_made (sheet_change_at boolean_at) (spell_grid_change sheet old new ++ rest) (sheet, (old, new)) rest
         ((sheet_change_format boolean_format).again.again (sheet, (old, new)) rest (fits.sheet, (tt, tt)))
+    one (FieldDiff sheet (change.FrozenRows old new)) rest fits =
+        map_reads frozen_rows_diff_made (sheet_change_at (signed_at w32)) (spell_count_change sheet old new ++ rest) (sheet, (old, new)) rest
+        ((sheet_change_format signed_format).again.again (sheet, (old, new)) rest (fits.sheet, (fits.old, fits.new)))
+    one (FieldDiff sheet (change.FrozenColumns old new)) rest fits =
+        map_reads frozen_columns_diff_made (sheet_change_at (signed_at w32)) (spell_count_change sheet old new ++ rest) (sheet, (old, new)) rest
+        ((sheet_change_format signed_format).again.again (sheet, (old, new)) rest (fits.sheet, (fits.old, fits.new)))
+    one (AttrDiff sheet Columns line old new) rest fits =
+        map_reads (attr_diff_made Columns) attr_parts_at (spell_attr_change sheet line old new ++ rest) (sheet, (line, (old, new))) rest
+        (attr_parts_format.again.again (sheet, (line, (old, new))) rest (fits.sheet, (fits.line, (fits.old, fits.new))))
+    one (AttrDiff sheet Rows line old new) rest fits =
+        map_reads (attr_diff_made Rows) attr_parts_at (spell_attr_change sheet line old new ++ rest) (sheet, (line, (old, new))) rest
+        (attr_parts_format.again.again (sheet, (line, (old, new))) rest (fits.sheet, (fits.line, (fits.old, fits.new))))
 
 diff_spelled : ReadsSpelled FitsDiff spell_diff diff_at
-unfolding spell_sheet_change spell_new spell_copy spell_deletion spell_rename spell_name_change spell_move diff_at cell_diff_at link_diff_at merges_diff_at lines_diff_at new_diff_at copy_diff_at deletion_diff_at rename_diff_at move_diff_at color_diff_at state_diff_at grid_diff_at name_diff_at
+unfolding spell_sheet_change spell_new spell_copy spell_deletion spell_rename spell_name_change spell_move diff_at cell_diff_at link_diff_at merges_diff_at lines_diff_at new_diff_at copy_diff_at deletion_diff_at rename_diff_at move_diff_at color_diff_at state_diff_at grid_diff_at name_diff_at attr_diff_at frozen_rows_diff_at frozen_columns_diff_at
 diff_spelled =
     tagged_spelled diff_of (λ tag.
     tag_if tag 1 (tag_map (change_format cell_format).spelled cell_diff_made FitsDiff spell_diff 1 (λ x. refl) (λ x fits. record { sheet = fits.0; place = fits.1.0; old = fits.1.1.0; new = fits.1.1.1 }))
     (tag_if tag 2 (tag_map (change_format link_format).spelled link_diff_made FitsDiff spell_diff 2 (λ x. refl) (λ x fits. record { sheet = fits.0; place = fits.1.0; old = fits.1.1.0; new = fits.1.1.1 }))
+    (tag_if tag 3 (tag_map attr_parts_format.spelled (attr_diff_made Columns) FitsDiff spell_diff 3 (λ x. refl) (λ x fits. record { sheet = fits.0; line = fits.1.0; old = fits.1.1.0; new = fits.1.1.1 }))
+    (tag_if tag 4 (tag_map attr_parts_format.spelled (attr_diff_made Rows) FitsDiff spell_diff 4 (λ x. refl) (λ x fits. record { sheet = fits.0; line = fits.1.0; old = fits.1.1.0; new = fits.1.1.1 }))
     (tag_if tag 5 (tag_map (sheet_change_format merges_format).spelled merges_diff_made FitsDiff spell_diff 5 (λ x. refl) (λ x fits. record { sheet = fits.0; old = fits.1.0; new = fits.1.1 }))
     (tag_if tag 7 (tag_map lines_parts_format.spelled lines_diff_made FitsDiff spell_diff 7 (λ x. refl) (λ x fits. record { sheet = fits.0; edit = fits.1.1.0; kept = fits.1.1.1 }))
     (tag_if tag 8 (tag_map new_parts_format.spelled new_diff_made FitsDiff spell_diff 8 (λ x. refl) (λ x fits. record { sheet = fits.0; index = fits.1.0; name = fits.1.1 }))
@@ -125,15 +141,19 @@ diff_spelled =
     (tag_if tag 13 (tag_map (sheet_change_format color_format).spelled color_diff_made FitsDiff spell_diff 13 (λ x. refl) (λ x fits. record { sheet = fits.0; old = fits.1.0; new = fits.1.1 }))
     (tag_if tag 14 (tag_map (sheet_change_format sheet_state_format).spelled state_diff_made FitsDiff spell_diff 14 (λ x. refl) (λ x fits. record { sheet = fits.0; old = tt; new = tt }))
     (tag_if tag 15 (tag_map (sheet_change_format boolean_format).spelled grid_diff_made FitsDiff spell_diff 15 (λ x. refl) (λ x fits. record { sheet = fits.0; old = tt; new = tt }))
+    (tag_if tag 16 (tag_map (sheet_change_format signed_format).spelled frozen_rows_diff_made FitsDiff spell_diff 16 (λ x. refl) (λ x fits. record { sheet = fits.0; old = fits.1.0; new = fits.1.1 }))
+    (tag_if tag 17 (tag_map (sheet_change_format signed_format).spelled frozen_columns_diff_made FitsDiff spell_diff 17 (λ x. refl) (λ x fits. record { sheet = fits.0; old = fits.1.0; new = fits.1.1 }))
     (tag_if tag 22 (tag_map name_parts_format.spelled name_diff_made FitsDiff spell_diff 22 (λ x. refl) (λ x fits. record { index = fits.0; old = fits.1.0; new = fits.1.1.0; kept = fits.1.1.1 }))
-    (tag_refused FitsDiff spell_diff tag))))))))))))))
+    (tag_refused FitsDiff spell_diff tag))))))))))))))))))
 
 diff_plain : IsPlain diff_at
-unfolding diff_at cell_diff_at link_diff_at merges_diff_at lines_diff_at new_diff_at copy_diff_at deletion_diff_at rename_diff_at move_diff_at color_diff_at state_diff_at grid_diff_at name_diff_at
+unfolding diff_at cell_diff_at link_diff_at merges_diff_at lines_diff_at new_diff_at copy_diff_at deletion_diff_at rename_diff_at move_diff_at color_diff_at state_diff_at grid_diff_at name_diff_at attr_diff_at frozen_rows_diff_at frozen_columns_diff_at
 diff_plain =
     tagged_plain diff_of (λ tag.
     if_plain (eqb tag 1) (map_plain cell_diff_made (change_format cell_format).plain)
     (if_plain (eqb tag 2) (map_plain link_diff_made (change_format link_format).plain)
+    (if_plain (eqb tag 3) (map_plain (attr_diff_made Columns) attr_parts_format.plain)
+    (if_plain (eqb tag 4) (map_plain (attr_diff_made Rows) attr_parts_format.plain)
     (if_plain (eqb tag 5) (map_plain merges_diff_made (sheet_change_format merges_format).plain)
     (if_plain (eqb tag 7) (map_plain lines_diff_made lines_parts_format.plain)
     (if_plain (eqb tag 8) (map_plain new_diff_made new_parts_format.plain)
@@ -144,7 +164,9 @@ diff_plain =
     (if_plain (eqb tag 13) (map_plain color_diff_made (sheet_change_format color_format).plain)
     (if_plain (eqb tag 14) (map_plain state_diff_made (sheet_change_format sheet_state_format).plain)
     (if_plain (eqb tag 15) (map_plain grid_diff_made (sheet_change_format boolean_format).plain)
-    (if_plain (eqb tag 22) (map_plain name_diff_made name_parts_format.plain) refused_plain)))))))))))))
+    (if_plain (eqb tag 16) (map_plain frozen_rows_diff_made (sheet_change_format signed_format).plain)
+    (if_plain (eqb tag 17) (map_plain frozen_columns_diff_made (sheet_change_format signed_format).plain)
+    (if_plain (eqb tag 22) (map_plain name_diff_made name_parts_format.plain) refused_plain)))))))))))))))))
 
 pub diff_format : Format FitsDiff spell_diff diff_at
 diff_format = record { again = diff_again; spelled = diff_spelled; plain = diff_plain }
@@ -163,6 +185,9 @@ diff_some (NameDiff change kept) = omega arith
 diff_some (FieldDiff sheet (change.Color old new)) = omega arith
 diff_some (FieldDiff sheet (change.State old new)) = omega arith
 diff_some (FieldDiff sheet (change.GridLines old new)) = omega arith
+diff_some (FieldDiff sheet (change.FrozenRows old new)) = omega arith
+diff_some (FieldDiff sheet (change.FrozenColumns old new)) = omega arith
+diff_some (AttrDiff sheet axis line old new) = omega arith
 
 -- ---- entries and queues
 

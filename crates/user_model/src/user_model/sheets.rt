@@ -198,7 +198,7 @@ impl<R: Recalc + Drop> UserModel<R> {
     }
 
     /// Puts a value in a field of the sheet at an index, and records the change.
-    fn put_field(&mut self, sheet: u32, value: SheetField) -> Result<(), EditError>
+    pub(super) fn put_field(&mut self, sheet: u32, value: SheetField) -> Result<(), EditError>
         ensures next { Steps result self.old.document self.new.document (edit_of (SetField sheet value)) }
         ensures made { OnOk result (IsMade R.Fits self.new) }
         ensures err { OnErr result (self.new ≡ self.old) }

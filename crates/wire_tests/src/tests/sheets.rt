@@ -88,6 +88,23 @@ const CHANGED_NAME: [u8; 73] = [
     0, 0, 0, 0, 0, 0, 0, 0, 0, 0, 0,
 ];
 
+/// Of the sheet of id 1, column 3 became 300 wide and hidden, and row 2 lost its own height of 56. Two rows
+/// were frozen in place of none, and -1 columns in place of one.
+const SIZES: [&[u8]; 4] = [
+    &[3, 0, 0, 0, 1, 0, 0, 0, 3, 0, 1, 1, 0, 0, 1, 44, 0, 1],
+    &[4, 0, 0, 0, 1, 0, 0, 0, 2, 1, 1, 0, 0, 0, 56, 0, 0, 0],
+    &[16, 0, 0, 0, 1, 0, 0, 0, 0, 0, 0, 0, 2],
+    &[17, 0, 0, 0, 1, 0, 0, 0, 1, 255, 255, 255, 255],
+];
+
+/// Diffs that are none: a column that has nothing of its own, hiding that is neither false nor true, and
+/// a count that is cut.
+const NO_SIZES: [&[u8]; 3] = [
+    &[3, 0, 0, 0, 1, 0, 0, 0, 3, 0, 1, 0, 0, 0],
+    &[4, 0, 0, 0, 1, 0, 0, 0, 2, 0, 1, 0, 0, 2],
+    &[16, 0, 0, 0, 1, 0, 0, 0, 0, 0, 0, 0],
+];
+
 /// Diffs that are none: colours, states and booleans that don't exist, a name that is no UTF-8, and a
 /// tag that no diff has.
 const NO_SHEETS: [&[u8]; 6] = [
@@ -248,6 +265,23 @@ fn diffs_of_sheets_are_read_and_written(rt: HostRuntime) -> Result<(), Fail> {
     assert!(rt; is_read_and_written(rt, &CHANGED_NAME)?);
     for bytes in SHEETS {
         assert!(rt; is_read_and_written(rt, bytes)?);
+    }
+    Ok(())
+}
+
+#[test]
+fn diffs_of_sizes_are_read_and_written(rt: HostRuntime) -> Result<(), Fail> {
+    for bytes in SIZES {
+        assert!(rt; is_read_and_written(rt, bytes)?);
+    }
+    let plain = plain_style(rt)?;
+    for bytes in NO_SIZES {
+        assert!(rt;
+            matches!(
+                DiffPart::take(rt.alloc(), &plain, bytes),
+                Err(EditError::ParseDiffs)
+            )
+        );
     }
     Ok(())
 }

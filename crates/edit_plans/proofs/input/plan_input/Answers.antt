@@ -7,7 +7,7 @@ use Rattle.edit_plans.proofs.input.plan_input.Goals as goal
 pub returns-in_err-found : goal.returns-in_err-found
 returns-in_err-found c =
     let p = err_from_is_err_and c.from_residual.result c.from_residual.ensures.1 in
-    let refused = input_no_sheet c.args.workbook.now c.args.sheet c.args.row c.args.column c.args.content
+    let refused = input_no_sheet c.args.workbook.now c.args.sheet c.args.row c.args.column c.args.content c.args.feeds
     c.in_err-found.field-0.0 (sym c.in_err-found.ensures) in
     rw (p.1, p.2) (record { planned = refused })
 
@@ -17,7 +17,7 @@ returns-in_err-place c =
     let column_fits : SFits w32 c.args.column = c.ranges.column in
     let p = err_from_is_err_and c.from_residual-in_err-place.result c.from_residual-in_err-place.ensures.1 in
     let refused = simp to_z-of_z at c.in_err-place.ensures in
-    let planned = input_refused c.args.workbook.now c.args.sheet c.args.row c.args.column c.args.content
+    let planned = input_refused c.args.workbook.now c.args.sheet c.args.row c.args.column c.args.content c.args.feeds
     c.in_ok-found.found.now c.in_err-place.field-0.0 (sym (c.in_ok-found.ensures {u = _})) (sym refused) in
     rw (p.1, p.2) (record { planned = planned })
 
@@ -34,7 +34,7 @@ returns c =
     let column_fits : SFits w32 c.args.column = c.ranges.column in
     let goes = simp to_z-of_z at (c.in_ok-place.ensures {u = _}) in
     record {
-      planned = input_planned c.args.workbook.now c.args.sheet c.args.row c.args.column c.args.content c.requires.rules c.requires.input
+      planned = input_planned c.args.workbook.now c.args.sheet c.args.row c.args.column c.args.content c.args.feeds c.requires.rules c.requires.input
           c.in_ok-found.found.now c.in_ok-place.place (sym (c.in_ok-found.ensures {u = _})) (sym goes)
           c.input_list.result c.input_list.ensures.made c.input_list.ensures.canonical c.input_list.ensures.only;
     }

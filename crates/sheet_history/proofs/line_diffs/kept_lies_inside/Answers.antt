@@ -1,5 +1,5 @@
 use Rattle.std.proofs.Common.{◌≡◌, true, sym, ◌∙◌, rules}
-use Rattle.sheet_history.specs.LineDiffs.{stand_on_lost, lie_inside}
+use Rattle.sheet_history.specs.LineDiffs.{stand_on_lost}
 use Rattle.sheet_history.proofs.Standing.{inside_of_lost}
 use Rattle.sheet_history.proofs.line_diffs.kept_lies_inside.Goals as goal
 

@@ -3,7 +3,7 @@ use Rattle.sheet_grid.specs.Book.{Book}
 use Rattle.sheet_rules.specs.WellFormed.{IsWellFormed}
 use Rattle.edit_plans.specs.Plans.{HasRecord}
 use Rattle.edit_plans.specs.Edits.{Edit, IsGiven, changed, is_of_entries}
-use Rattle.edit_plans.specs.Edits.Edit.{Input, ArrayInput, SetLink, Merge, Unmerge, Lines, MoveLines, AddSheet, CopySheet, DeleteSheet, MoveSheet, RenameSheet, ChangeNames, SetField}
+use Rattle.edit_plans.specs.Edits.Edit.{Input, ArrayInput, SetLink, Merge, Unmerge, Lines, MoveLines, AddSheet, CopySheet, DeleteSheet, MoveSheet, RenameSheet, ChangeNames, SetField, SetSize, SetHidden}
 use Rattle.user_model.specs.BothWays.{GoesBothWays}
 use Rattle.user_model.proofs.EntrySteps.{of_entries, entries_both}
 use Rattle.user_model.proofs.LineSteps.{lines_go_both_ways}
@@ -21,7 +21,7 @@ returns c = go
     by_law edit earlier later is rules given how = by_record edit earlier later is rules (c.edits_have_records.ensures edit earlier later is given rules how)
 
     go : (edit : Edit) (earlier later : Book) → IsWellFormed earlier → IsGiven edit → changed edit earlier ≡ Ok later → GoesBothWays edit earlier later
-    go (Input index row column content) earlier later rules given how = by_law (Input index row column content) earlier later refl rules given how
+    go (Input index row column content feeds) earlier later rules given how = by_law (Input index row column content feeds) earlier later refl rules given how
     go (ArrayInput index r tree) earlier later rules given how = by_law (ArrayInput index r tree) earlier later refl rules given how
     go (SetLink index row column link) earlier later rules given how = by_law (SetLink index row column link) earlier later refl rules given how
     go (Merge index r) earlier later rules given how = by_law (Merge index r) earlier later refl rules given how
@@ -37,3 +37,5 @@ returns c = go
     go (RenameSheet index name) earlier later rules given how = sheets_both c.sheet_edits_go_both_ways.ensures (RenameSheet index name) refl earlier later rules how
     go (ChangeNames edit) earlier later rules given how = sheets_both c.sheet_edits_go_both_ways.ensures (ChangeNames edit) refl earlier later rules how
     go (SetField index value) earlier later rules given how = by_law (SetField index value) earlier later refl rules given how
+    go (SetSize index axis first last size) earlier later rules given how = by_law (SetSize index axis first last size) earlier later refl rules given how
+    go (SetHidden index axis first last hidden) earlier later rules given how = by_law (SetHidden index axis first last hidden) earlier later refl rules given how

@@ -5,6 +5,7 @@ use Rattle.base_values.specs.declared.EditError.{EditError}
 use Rattle.base_values.specs.declared.EditError.TheVariants.{NoMemory}
 use Rattle.base_values.specs.declared.Position.{Position}
 use Rattle.cell_input.specs.Inputs.{input_of}
+use Rattle.line_sizes.specs.Heights.{line_feeds}
 use Rattle.edit_plans.specs.Edits.{Edit}
 use Rattle.edit_plans.specs.Edits.Edit.{Input}
 use Rattle.edit_plans.specs.Inputs.{IsInput}
@@ -27,8 +28,8 @@ returns-in_err-place-clause-next g c =
     subst (λ (seen : Session). input_goes c.args.sheet c.args.row c.args.column seen.document.book ≡ Err error) c.self.view_is (sym (simp to_z-of_z at c.in_err-place.ensures.found)) in
     let p = err_from_is_err_and c.from_residual.result c.from_residual.ensures.1 in
     rw (p.1, p.2) (λ state stands.
-    let edit : Edit = Input c.args.sheet c.args.row c.args.column (typed state.present state.language c.args.row c.args.column c.args.value.now) in
-    refused_moves edit doc state error stands refl (λ short. c.in_err-place.ensures.sure (ap Err short)) (input_refused c.args.sheet c.args.row c.args.column doc.book _ error found))
+    let edit : Edit = Input c.args.sheet c.args.row c.args.column (typed state.present state.language c.args.row c.args.column c.args.value.now) (line_feeds c.args.value.now) in
+    refused_moves edit doc state error stands refl (λ short. c.in_err-place.ensures.sure (ap Err short)) (input_refused c.args.sheet c.args.row c.args.column doc.book _ (line_feeds c.args.value.now) error found))
 
 pub returns-in_err-content-clause-next : goal.returns-in_err-content-clause-next
 returns-in_err-content-clause-next g c =
@@ -41,9 +42,9 @@ returns-in_err-content-clause-next g c =
     let short : c.in_err-content.field-0.0 ≡ NoMemory = c.in_err-content.ensures.memory in
     let p = err_from_is_err_and c.from_residual-in_err-content.result c.from_residual-in_err-content.ensures.1 in
     rw (p.1, p.2) (λ state stands.
-    let edit : Edit = Input c.args.sheet c.args.row c.args.column (typed state.present state.language c.args.row c.args.column c.args.value.now) in
+    let edit : Edit = Input c.args.sheet c.args.row c.args.column (typed state.present state.language c.args.row c.args.column c.args.value.now) (line_feeds c.args.value.now) in
     subst (λ (e : EditError). Moves {T = Unit {0}} (Err e) doc (edit_of edit state)) (sym short)
-    (short_moves edit doc state stands refl (input_accepted c.args.sheet c.args.row c.args.column doc.book _ place found)))
+    (short_moves edit doc state stands refl (input_accepted c.args.sheet c.args.row c.args.column doc.book _ (line_feeds c.args.value.now) place found)))
 
 pub set_content-requires-clause-input : goal.set_content-requires-clause-input
 set_content-requires-clause-input g c =
@@ -64,5 +65,6 @@ returns-clause-next g c = λ state stands.
     (c.in_ok-content.ensures {u = _}).value
     ∙ (λ i. input_of (profile_at c.in_ok-place.place (c.locale.ensures i) c.self.inside.book.language) c.args.value.now)
     ∙ (λ i. input_of (profile_at (here i) (doc i).book.locale (doc i).language) c.args.value.now) in
-    subst (λ k. Moves c.set_content.result c.set_content.new.self.document (edit_of (Input c.args.sheet c.args.row c.args.column k) state)) same
-    (simp to_z-of_z at (c.set_content.ensures.next state stands))
+    subst (λ k. Moves c.set_content.result c.set_content.new.self.document (edit_of (Input c.args.sheet c.args.row c.args.column k (line_feeds c.args.value.now)) state)) same
+    (subst (λ n. Moves c.set_content.result c.set_content.new.self.document (edit_of (Input c.args.sheet c.args.row c.args.column c.in_ok-content.content n) state)) c.line_feeds.ensures
+    (simp to_z-of_z at (c.set_content.ensures.next state stands)))

@@ -1,0 +1,2 @@
+pub mod LineRecords
+pub mod laws

@@ -1,0 +1,4 @@
+pub mod Appended
+pub mod AtIndex
+pub mod AttrRules
+pub mod LineRecordLaws

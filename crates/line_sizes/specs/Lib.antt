@@ -1,0 +1,4 @@
+pub mod Heights
+pub mod LineChanges
+pub mod ShownLines
+pub mod laws

@@ -2,3 +2,4 @@ pub mod AlignmentEquals
 pub mod BorderEquals
 pub mod ColorEquals
 pub mod StyleEquals
+pub mod ThemeEquals

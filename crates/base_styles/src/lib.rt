@@ -5,8 +5,10 @@ mod alignment;
 mod border;
 mod color;
 mod style;
+mod theme;
 
 pub use alignment::{Alignment, HorizontalAlignment, VerticalAlignment};
 pub use border::{Border, BorderItem, BorderStyle};
 pub use color::{Color, ThemeColor};
 pub use style::{Font, Style};
+pub use theme::{RgbColor, Theme};

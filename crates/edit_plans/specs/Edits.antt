@@ -30,6 +30,9 @@ use Rattle.edit_plans.specs.ArrayInputs.{array_put}
 use Rattle.edit_plans.specs.Links.{link_set}
 use Rattle.edit_plans.specs.Merging.{merge_made, merge_undone}
 use Rattle.edit_plans.specs.HiddenLines.{grown}
+use Rattle.base_styles.specs.declared.Style.{Style}
+use Rattle.range_styles.specs.declared.Clearing.{Clearing}
+use Rattle.edit_plans.specs.RangeEdits.{formats_cleared, range_cleared, styles_pasted, styles_set}
 use Rattle.name_edits.specs.NameEdits.{NameEdit}
 use Rattle.edit_plans.specs.NamedEdits.{names_edited, names_record}
 use Rattle.edit_plans.specs.SheetEdits.{sheet_added, sheet_copied, sheet_deleted, sheet_taken, sheet_named, stays_there, is_named, field_set, added_record, copied_record, deleted_record, taken_record, named_record}
@@ -68,6 +71,14 @@ pub data Edit : Type 0 where
   SetSize : ℕ → LineAxis → ℤ → ℤ → ℤ → Edit
   -- the first and the last of the rows or columns that are hidden or shown, and whether they are hidden
   SetHidden : ℕ → LineAxis → ℤ → ℤ → Bool → Edit
+  -- the rectangle of whose styles an attribute gets a value, the path of the attribute, and the value
+  SetRangeStyle : ℕ → MergedCell → List ℕ → List ℕ → Edit
+  -- what goes of the cells of a rectangle, with its links
+  ClearRange : ℕ → Clearing → MergedCell → Edit
+  -- the rectangle whose styles are taken away
+  ClearFormatting : ℕ → MergedCell → Edit
+  -- the rectangle whose places get styles, and the styles, row by row, which are laid over it as tiles
+  PasteStyles : ℕ → MergedCell → List (List Style) → Edit
 
 -- whether an edit is one of the list of the sheets or of the defined names, whose record is one diff
 abbrev pub is_of_sheets : Edit → Bool
@@ -128,6 +139,10 @@ changed (ChangeNames edit) book = names_edited edit book
 changed (SetField index value) book = field_set index value book
 changed (SetSize index axis first last size) book = attrs_set index axis first last (size_change axis size) book
 changed (SetHidden index axis first last hidden) book = attrs_set index axis first last (Ok (Hidden hidden)) book
+changed (SetRangeStyle index r path value) book = styles_set index r path value book
+changed (ClearRange index clearing r) book = range_cleared index clearing r book
+changed (ClearFormatting index r) book = formats_cleared index r book
+changed (PasteStyles index r styles) book = styles_pasted index r styles book
 
 -- the record of an edit of lines of a sheet, if it is there
 abbrev pub lines_record : LineAxis → (Sheet → EditKind) → Book → Result Sheet EditError → List Diff

@@ -6,6 +6,7 @@ pub mod Blanked
 pub mod Merging
 pub mod ArrayInputs
 pub mod HiddenLines
+pub mod RangeEdits
 pub mod SheetEdits
 pub mod Edits
 pub mod ViewSteps

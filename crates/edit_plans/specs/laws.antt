@@ -18,3 +18,6 @@ pub mod SheetEditLaws
 pub mod SheetPlans
 pub mod FieldPlans
 pub mod NamedPlans
+pub mod RangePlans
+pub mod RangeRules
+pub mod UpdateLaws

@@ -23,7 +23,8 @@ use Rattle.script_dump.specs.Text.{line, hex}
 use Rattle.script_dump.specs.Dump.{dump}
 use Rattle.name_edits.specs.NameEdits.NameEdit.{Add, Remove, Update}
 use Rattle.edit_plans.specs.Edits.{Edit}
-use Rattle.edit_plans.specs.Edits.Edit.{Input, ArrayInput, SetLink, Merge, Unmerge, Lines, MoveLines, AddSheet, CopySheet, DeleteSheet, MoveSheet, RenameSheet, ChangeNames, SetField, SetSize, SetHidden}
+use Rattle.edit_plans.specs.Edits.Edit.{Input, ArrayInput, SetLink, Merge, Unmerge, Lines, MoveLines, AddSheet, CopySheet, DeleteSheet, MoveSheet, RenameSheet, ChangeNames, SetField, SetSize, SetHidden, SetRangeStyle, ClearRange, ClearFormatting}
+use Rattle.range_styles.specs.declared.Clearing.TheVariants.{Contents, Cells}
 use Rattle.user_model.specs.Machine.{State, begun, edit_of, undo_of, redo_of, synced_of, sync_bytes}
 use Rattle.user_model.specs.Reading.{content_text, formula_typed, link_to, typed}
 
@@ -83,6 +84,10 @@ edit_for (command.HideSheet sheet) s = Some (SetField sheet (StateField Hidden))
 edit_for (command.UnhideSheet sheet) s = Some (SetField sheet (StateField Visible))
 edit_for (command.SheetColor named) s = Some (SetField named.sheet (ColorField named.color))
 edit_for (command.GridLines named) s = Some (SetField named.sheet (GridField named.show))
+edit_for (command.Style named text) s = Some (SetRangeStyle named.area.sheet named.area.area named.path text)
+edit_for (command.Clear named) s = Some (ClearRange named.sheet Cells named.area)
+edit_for (command.ClearContents named) s = Some (ClearRange named.sheet Contents named.area)
+edit_for (command.ClearFormatting named) s = Some (ClearFormatting named.sheet named.area)
 edit_for other s = None
 
 -- a refused edit leaves all as it was

@@ -444,6 +444,34 @@ impl Session {
         push_dump(self.alloc, &mut self.out, self.model.get_model())
     }
 
+    fn style(&mut self, named: NamedArea, path: &str, value: &str) -> Result<(), EditError>
+        ensures { RunsCommand (command.Style (record { area = named; path = path.now }) value.now) result self.old self.new }
+    {
+        let done = self.model.update_range_style(&area_of(named), path, value);
+        push_outcome(&mut self.out, done)
+    }
+
+    fn clear(&mut self, named: NamedArea) -> Result<(), EditError>
+        ensures { RunsCommand (command.Clear named) result self.old self.new }
+    {
+        let done = self.model.range_clear_all(&area_of(named));
+        push_outcome(&mut self.out, done)
+    }
+
+    fn clear_contents(&mut self, named: NamedArea) -> Result<(), EditError>
+        ensures { RunsCommand (command.ClearContents named) result self.old self.new }
+    {
+        let done = self.model.range_clear_contents(&area_of(named));
+        push_outcome(&mut self.out, done)
+    }
+
+    fn clear_formatting(&mut self, named: NamedArea) -> Result<(), EditError>
+        ensures { RunsCommand (command.ClearFormatting named) result self.old self.new }
+    {
+        let done = self.model.range_clear_formatting(&area_of(named));
+        push_outcome(&mut self.out, done)
+    }
+
     fn run_command(&mut self, command: Command) -> Result<(), EditError>
         ensures { RunsCommand command result self.old self.new }
     {
@@ -493,6 +521,12 @@ impl Session {
             Command::Redo => self.redo(),
             Command::Sync => self.sync(),
             Command::Show => self.show(),
+            Command::Style(named, text) => {
+                self.style(named.area, named.path.as_str(), text.as_str())
+            }
+            Command::Clear(named) => self.clear(named),
+            Command::ClearContents(named) => self.clear_contents(named),
+            Command::ClearFormatting(named) => self.clear_formatting(named),
         }
     }
 

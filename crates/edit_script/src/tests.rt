@@ -307,6 +307,46 @@ const LINE_SIZES: [(&str, &str); 10] = [
     ),
 ];
 
+/// Scripts that change styles and clear, each with its answers.
+const STYLES: [(&str, &str); 9] = [
+    (
+        "style 0 A1 font.x true\nstyle 0 A1 font.size_delta 2147483647\nstyle 0 A0:A1 font.x true\nstyle 1 A0 font.x true\nstyle 0 A1 font.b True\nclear 0 A0\nclear-formatting 1 A1\nclear 0 A1 x",
+        "error StylePath\nerror StyleValue\nerror InvalidArea\nerror InvalidSheet\nerror StyleValue\nerror InvalidArea\nerror InvalidSheet\nerror BadLine\n",
+    ),
+    (
+        "array 0 A1:B1 =1\nclear 0 A1\nclear-contents 0 B1\nclear 0 A1:C2\nundo\nclear-contents 0 A1:B1\nshow",
+        "ok\nerror PartialArray\nerror PartialArray\nok\nok\nok\nbook en UTC workbook\nsheet 1 visible 1 0 0 - Sheet1\ncell A1 - empty\nend\n",
+    ),
+    (
+        "style 0 A1:A1048576 font.b true\nset 0 A1 x\nshow\nclear-formatting 0 A1:A1048576\nshow",
+        "ok\nok\nbook en UTC workbook\nsheet 1 visible 1 0 0 - Sheet1\ncolumn 1 - 0 010000000000000d000000000000000000000000000767656e6572616c00\ncell A1 010000000000000d000000000000000000000000000767656e6572616c00 value x\nend\nok\nbook en UTC workbook\nsheet 1 visible 1 0 0 - Sheet1\ncell A1 - value x\nend\n",
+    ),
+    (
+        "style 0 B1:B1048576 font.b true\nstyle 0 A1:XFD1 font.i true\nshow\nundo\nundo\nshow",
+        "ok\nok\nbook en UTC workbook\nsheet 1 visible 1 0 0 - Sheet1\nrow 1 - 0 000100000000000d000000000000000000000000000767656e6572616c00\ncolumn 2 - 0 010000000000000d000000000000000000000000000767656e6572616c00\ncell B1 010100000000000d000000000000000000000000000767656e6572616c00 empty\nend\nok\nok\nbook en UTC workbook\nsheet 1 visible 1 0 0 - Sheet1\nend\n",
+    ),
+    (
+        "style 0 A1 font.size 30\nset 0 A1 x\nshow",
+        "ok\nok\nbook en UTC workbook\nsheet 1 visible 1 0 0 - Sheet1\nrow 1 76 0 -\ncell A1 000000000000001e000000000000000000000000000767656e6572616c00 value x\nend\n",
+    ),
+    (
+        "style 0 B1 font.size 2147483647\nstyle 0 A1:B1 font.size_delta 1\nundo\nshow",
+        "ok\nerror StyleValue\nok\nbook en UTC workbook\nsheet 1 visible 1 0 0 - Sheet1\nend\n",
+    ),
+    (
+        "set 0 A1 x\nlink 0 A1 u\nclear-contents 0 A1\nshow\nundo\nclear 0 A1:B2\nshow\nundo\nshow",
+        "ok\nok\nok\nbook en UTC workbook\nsheet 1 visible 1 0 0 - Sheet1\ncell A1 - empty\nend\nok\nok\nbook en UTC workbook\nsheet 1 visible 1 0 0 - Sheet1\nend\nok\nbook en UTC workbook\nsheet 1 visible 1 0 0 - Sheet1\ncell A1 - value x\nlink A1 u\nend\n",
+    ),
+    (
+        "style 0 B1:B1048576 font.b true\nclear-formatting 0 A1:XFD1\nshow\nundo\nundo\nstyle 0 A1:XFD1 font.b true\nclear-formatting 0 B1:B1048576\nclear-formatting 0 D1\nshow",
+        "ok\nok\nbook en UTC workbook\nsheet 1 visible 1 0 0 - Sheet1\ncolumn 2 - 0 010000000000000d000000000000000000000000000767656e6572616c00\nend\nok\nok\nok\nok\nok\nbook en UTC workbook\nsheet 1 visible 1 0 0 - Sheet1\nrow 1 - 0 010000000000000d000000000000000000000000000767656e6572616c00\ncell B1 - empty\ncell D1 - empty\nend\n",
+    ),
+    (
+        "style 0 A1:A1048576 font.b false\nstyle 0 A1:XFD1 font.b true\nstyle 0 A2:XFD2 font.b false\nshow",
+        "ok\nok\nok\nbook en UTC workbook\nsheet 1 visible 1 0 0 - Sheet1\nrow 1 - 0 010000000000000d000000000000000000000000000767656e6572616c00\ncolumn 1 - 0 000000000000000d000000000000000000000000000767656e6572616c00\ncell A1 010000000000000d000000000000000000000000000767656e6572616c00 empty\ncell A2 - empty\nend\n",
+    ),
+];
+
 /// Scripts that edit the list of the sheets and the fields of sheets, each with its answers.
 const SHEETS: [(&str, &str); 13] = [
     (
@@ -508,6 +548,12 @@ fn a_name_is_sent(rt: HostRuntime) -> Result<(), Fail> {
 #[test]
 fn lines_are_sized_and_hidden(rt: HostRuntime) -> Result<(), Fail> {
     assert_eq!(rt; first_wrong(rt.alloc(), &LINE_SIZES)?, None);
+    Ok(())
+}
+
+#[test]
+fn styles_are_changed_and_cleared(rt: HostRuntime) -> Result<(), Fail> {
+    assert_eq!(rt; first_wrong(rt.alloc(), &STYLES)?, None);
     Ok(())
 }
 

@@ -19,6 +19,7 @@ mod names;
 mod places;
 mod sheets;
 mod sizes;
+mod styles;
 mod values;
 
 fn new_model(alloc: Global) -> Result<UserModel<ClearAll>, EditError> {

@@ -19,12 +19,12 @@ use Rattle.script_lines.proofs.Letters.{all_letters}
 use Rattle.script_lines.specs.Colors.{named_colors, named_color, digit_value, pair_value, color_of_pairs, color_of_digits, digit_color, color_of}
 use Rattle.script_lines.specs.Escapes.{unescaped}
 use Rattle.script_lines.proofs.EscapeLaws.{unescaped-IsUtf8}
-use Rattle.script_lines.specs.Commands.{Reader, word, sheet_word, cell_words, area_words, lines_words, move_words, sheet_move_words, color_words, grid_words, bit_of, scope_of, name_of, name_words, update_words, ended, with_text, alone, exactly, and_text, commands, from_words, command_of, count_words, span_of, size_of}
+use Rattle.script_lines.specs.Commands.{Reader, word, sheet_word, cell_words, area_words, lines_words, move_words, sheet_move_words, color_words, grid_words, bit_of, scope_of, name_of, name_words, path_words, update_words, ended, with_text, alone, exactly, and_text, commands, from_words, command_of, count_words, span_of, size_of}
 use Rattle.script_lines.specs.declared.reference.Reference.{Reference}
 use Rattle.script_lines.specs.declared.command.NamedCell.{NamedCell}
 use Rattle.script_lines.specs.declared.command.Command.{Command}
-use Rattle.script_lines.specs.declared.command.Command.TheVariants.{Set, Get, Array, Link, Unlink, Merge, Unmerge, InsertRows, InsertColumns, DeleteRows, DeleteColumns, MoveRows, MoveColumns, NewSheet, DuplicateSheet, DeleteSheet, MoveSheet, RenameSheet, HideSheet, UnhideSheet, SheetColor, GridLines, Name, NameUpdate, NameDelete, Undo, Redo, Sync, Show, Width, Height, HideRows, ShowRows, HideColumns, ShowColumns, FreezeRows, FreezeColumns}
-use Rattle.script_lines.specs.CommandFits.{IsNamed, IsNamedArea, CellFits, AreaFits, LinesFit, MoveFits, SheetFits, SheetMoveFits, IsNamedColor, ColorFits, GridFits, NameFits, UpdateFits, CommandFits, SpanFits, SizeFits, CountFits}
+use Rattle.script_lines.specs.declared.command.Command.TheVariants.{Set, Get, Array, Link, Unlink, Merge, Unmerge, InsertRows, InsertColumns, DeleteRows, DeleteColumns, MoveRows, MoveColumns, NewSheet, DuplicateSheet, DeleteSheet, MoveSheet, RenameSheet, HideSheet, UnhideSheet, SheetColor, GridLines, Name, NameUpdate, NameDelete, Undo, Redo, Sync, Show, Width, Height, HideRows, ShowRows, HideColumns, ShowColumns, FreezeRows, FreezeColumns, Style, Clear, ClearContents, ClearFormatting}
+use Rattle.script_lines.specs.CommandFits.{IsNamed, IsNamedArea, CellFits, AreaFits, LinesFit, MoveFits, SheetFits, SheetMoveFits, IsNamedColor, ColorFits, GridFits, NameFits, PathFits, UpdateFits, CommandFits, SpanFits, SizeFits, CountFits}
 
 -- ---- lists
 
@@ -318,6 +318,11 @@ update_words_fit words t =
     step (Fit NameFits) (Fit UpdateFits) (name_words words) _ (name_words_fit words t)
     (λ old o. step (Fit NameFits) (Fit UpdateFits) (name_words old.1) _ (name_words_fit old.1 o.1) (λ new n. ((o.0, n.0), n.1)))
 
+path_words_fit : Reads PathFits path_words
+path_words_fit words t =
+    step (Fit AreaFits) (Fit PathFits) (area_words words) _ (area_words_fit words t)
+    (λ area a. step (Fit IsUtf8) (Fit PathFits) (word name_of area.1) _ (name_word_fits area.1 a.1) (λ path p. ((a.0, p.0), p.1)))
+
 -- ---- commands
 
 -- what the words behind a command are read as fits
@@ -387,6 +392,10 @@ each_fits =
     ▸ alone_fits Redo tt
     ▸ alone_fits Sync tt
     ▸ alone_fits Show tt
+    ▸ and_text_fits PathFits path_words (λ named text. Some (Style named text)) path_words_fit (λ named text n t. (n, t))
+    ▸ exactly_fits AreaFits area_words Clear area_words_fit (λ area a. a)
+    ▸ exactly_fits AreaFits area_words ClearContents area_words_fit (λ area a. a)
+    ▸ exactly_fits AreaFits area_words ClearFormatting area_words_fit (λ area a. a)
     ▸ tt
 
 from_words_fit : (words : List (List ℕ)) → IsUtf8 (text_of words) → IfSome (from_words words) CommandFits

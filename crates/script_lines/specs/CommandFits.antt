@@ -13,12 +13,13 @@ use Rattle.script_lines.specs.declared.command.NamedSheetMove.{NamedSheetMove}
 use Rattle.script_lines.specs.declared.command.NamedColor.{NamedColor}
 use Rattle.script_lines.specs.declared.command.NamedGrid.{NamedGrid}
 use Rattle.script_lines.specs.declared.command.NamedName.{NamedName}
+use Rattle.script_lines.specs.declared.command.NamedPath.{NamedPath}
 use Rattle.script_lines.specs.declared.command.NamedUpdate.{NamedUpdate}
 use Rattle.script_lines.specs.declared.command.NamedSpan.{NamedSpan}
 use Rattle.script_lines.specs.declared.command.NamedSize.{NamedSize}
 use Rattle.script_lines.specs.declared.command.NamedCount.{NamedCount}
 use Rattle.script_lines.specs.declared.command.Command.{Command}
-use Rattle.script_lines.specs.declared.command.Command.TheVariants.{Set, Get, Array, Link, Unlink, Merge, Unmerge, InsertRows, InsertColumns, DeleteRows, DeleteColumns, MoveRows, MoveColumns, NewSheet, DuplicateSheet, DeleteSheet, MoveSheet, RenameSheet, HideSheet, UnhideSheet, SheetColor, GridLines, Name, NameUpdate, NameDelete, Undo, Redo, Sync, Show, Width, Height, HideRows, ShowRows, HideColumns, ShowColumns, FreezeRows, FreezeColumns}
+use Rattle.script_lines.specs.declared.command.Command.TheVariants.{Set, Get, Array, Link, Unlink, Merge, Unmerge, InsertRows, InsertColumns, DeleteRows, DeleteColumns, MoveRows, MoveColumns, NewSheet, DuplicateSheet, DeleteSheet, MoveSheet, RenameSheet, HideSheet, UnhideSheet, SheetColor, GridLines, Name, NameUpdate, NameDelete, Undo, Redo, Sync, Show, Width, Height, HideRows, ShowRows, HideColumns, ShowColumns, FreezeRows, FreezeColumns, Style, Clear, ClearContents, ClearFormatting}
 
 -- a row and a column that letters and digits can name
 pub record IsNamed (row column : ℤ) : Type 0 where
@@ -78,6 +79,10 @@ GridFits named = SheetFits named.sheet
 abbrev pub NameFits : NamedName → Type 0
 NameFits name = IfSome name.scope SheetFits × IsUtf8 name.name
 
+-- a rectangle whose numbers 32 bits hold, and a path in UTF-8
+abbrev pub PathFits : NamedPath → Type 0
+PathFits named = AreaFits named.area × IsUtf8 named.path
+
 abbrev pub UpdateFits : NamedUpdate → Type 0
 UpdateFits update = NameFits update.old × NameFits update.new
 
@@ -120,3 +125,7 @@ CommandFits Undo = Unit {0}
 CommandFits Redo = Unit {0}
 CommandFits Sync = Unit {0}
 CommandFits Show = Unit {0}
+CommandFits (Style named text) = PathFits named × IsUtf8 text
+CommandFits (Clear area) = AreaFits area
+CommandFits (ClearContents area) = AreaFits area
+CommandFits (ClearFormatting area) = AreaFits area

@@ -21,9 +21,10 @@ use Rattle.script_lines.specs.declared.command.NamedSheetMove.{NamedSheetMove}
 use Rattle.script_lines.specs.declared.command.NamedColor.{NamedColor}
 use Rattle.script_lines.specs.declared.command.NamedGrid.{NamedGrid}
 use Rattle.script_lines.specs.declared.command.NamedName.{NamedName}
+use Rattle.script_lines.specs.declared.command.NamedPath.{NamedPath}
 use Rattle.script_lines.specs.declared.command.NamedUpdate.{NamedUpdate}
 use Rattle.script_lines.specs.declared.command.Command.{Command}
-use Rattle.script_lines.specs.declared.command.Command.TheVariants.{Set, Get, Array, Link, Unlink, Merge, Unmerge, InsertRows, InsertColumns, DeleteRows, DeleteColumns, MoveRows, MoveColumns, NewSheet, DuplicateSheet, DeleteSheet, MoveSheet, RenameSheet, HideSheet, UnhideSheet, SheetColor, GridLines, Name, NameUpdate, NameDelete, Undo, Redo, Sync, Show, Width, Height, HideRows, ShowRows, HideColumns, ShowColumns, FreezeRows, FreezeColumns}
+use Rattle.script_lines.specs.declared.command.Command.TheVariants.{Set, Get, Array, Link, Unlink, Merge, Unmerge, InsertRows, InsertColumns, DeleteRows, DeleteColumns, MoveRows, MoveColumns, NewSheet, DuplicateSheet, DeleteSheet, MoveSheet, RenameSheet, HideSheet, UnhideSheet, SheetColor, GridLines, Name, NameUpdate, NameDelete, Undo, Redo, Sync, Show, Width, Height, HideRows, ShowRows, HideColumns, ShowColumns, FreezeRows, FreezeColumns, Style, Clear, ClearContents, ClearFormatting}
 
 -- the next step, if this one has a value
 infixl 10 ◌>>=◌
@@ -137,6 +138,13 @@ update_words words = do
   new ← name_words old.1
   Some (record { old = old.0; new = new.0 }, new.1)
 
+-- `S AREA PATH`
+abbrev pub path_words : Reader NamedPath
+path_words words = do
+  area ← area_words words
+  path ← word name_of area.1
+  Some (record { area = area.0; path = path.0 }, path.1)
+
 -- no word is left
 abbrev pub ended : {A : Type 0} → A × List (List ℕ) → Option A
 ended (value, []) = Some value
@@ -200,6 +208,10 @@ commands =
     ∷ (codes "redo", alone Redo)
     ∷ (codes "sync", alone Sync)
     ∷ (codes "show", alone Show)
+    ∷ (codes "style", and_text path_words (λ named text. Some (Style named text)))
+    ∷ (codes "clear", exactly area_words Clear)
+    ∷ (codes "clear-contents", exactly area_words ClearContents)
+    ∷ (codes "clear-formatting", exactly area_words ClearFormatting)
     ∷ []
 
 -- ---- lines

@@ -220,6 +220,22 @@ impl Exact for NamedUpdate {
     ghost equals = { named_update_equals };
 }
 
+/// A rectangle that a line names, and the path of an attribute of styles.
+#[derive(Clone, Debug, PartialEq, Eq, Drop)]
+pub struct NamedPath {
+    pub area: NamedArea,
+    pub path: Text,
+}
+
+impl Exact for NamedPath {
+    ghost use Rattle.std.proofs.Common.{rules};
+    ghost use Rattle.script_lines.specs.laws.NamedEquals.{named_path_equals};
+
+    ghost copies = { λ a b h. Prim.search rules };
+
+    ghost equals = { named_path_equals };
+}
+
 /// What a line of a script asks for. Rows, columns and counts are those that the line names, and may lie
 /// outside every sheet.
 #[derive(Debug, Drop)]
@@ -298,4 +314,12 @@ pub enum Command {
     Sync,
     /// `show`: print the workbook.
     Show,
+    /// `style S AREA PATH TEXT`: give an attribute of styles a value.
+    Style(NamedPath, Text),
+    /// `clear S AREA`: take cells and links away.
+    Clear(NamedArea),
+    /// `clear-contents S AREA`: take contents and links away.
+    ClearContents(NamedArea),
+    /// `clear-formatting S AREA`: take styles away.
+    ClearFormatting(NamedArea),
 }

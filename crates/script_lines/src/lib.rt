@@ -16,7 +16,7 @@ mod reference;
 
 pub use command::{
     Command, NamedArea, NamedCell, NamedColor, NamedCount, NamedGrid, NamedLines, NamedMove,
-    NamedName, NamedSheetMove, NamedSize, NamedSpan, NamedUpdate,
+    NamedName, NamedPath, NamedSheetMove, NamedSize, NamedSpan, NamedUpdate,
 };
 pub use escape::{escapes_read_back, push_escaped};
 pub use parse::read_command;

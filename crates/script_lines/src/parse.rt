@@ -9,7 +9,7 @@ ghost use Rattle.script_lines.specs.Commands as spec;
 use crate::color::color_of;
 use crate::command::{
     Command, NamedArea, NamedCell, NamedColor, NamedCount, NamedGrid, NamedLines, NamedMove,
-    NamedName, NamedSheetMove, NamedSize, NamedSpan, NamedUpdate,
+    NamedName, NamedPath, NamedSheetMove, NamedSize, NamedSpan, NamedUpdate,
 };
 use crate::escape::unescape;
 use crate::number::{read_i32, read_u32};
@@ -247,6 +247,24 @@ fn update_words(
     Ok(Some((NamedUpdate { old, new }, words)))
 }
 
+/// `S AREA PATH`, and the words behind it.
+fn path_words(
+    alloc: Global,
+    words: Option<&str>,
+) -> Result<Option<(NamedPath, Option<&str>)>, EditError>
+    ensures value { IfOk result (λ found. option_map (λ found. (found.0, parts_after 32 (option_copied found.1))) found ≡ spec.path_words (parts_after 32 (option_copied words.entry))) }
+    ensures err { IsOkUnless result NoMemory }
+{
+    let Some((area, words)) = area_words(words) else {
+        return Ok(None);
+    };
+    let Some((path, words)) = name_word(words) else {
+        return Ok(None);
+    };
+    let path = Text::new(String::from_str(alloc, path)?);
+    Ok(Some((NamedPath { area, path }, words)))
+}
+
 /// What was found, where no word is behind it.
 #[tactic(auto, using(crate::proofs::Words::never_ended))]
 fn ended<T: Drop>(found: Option<(T, Option<&str>)>) -> Option<T>
@@ -348,6 +366,12 @@ fn read_words(alloc: Global, word: &str, words: Option<&str>) -> Result<Option<C
         "redo" => Ok(alone(Command::Redo, words)),
         "sync" => Ok(alone(Command::Sync, words)),
         "show" => Ok(alone(Command::Show, words)),
+        "style" => Ok(with_text(alloc, path_words(alloc, words)?)?.map(|(named, text)| {
+            Command::Style(named, text)
+        })),
+        "clear" => Ok(ended(area_words(words)).map(Command::Clear)),
+        "clear-contents" => Ok(ended(area_words(words)).map(Command::ClearContents)),
+        "clear-formatting" => Ok(ended(area_words(words)).map(Command::ClearFormatting)),
         _ => Ok(None),
     }
 }

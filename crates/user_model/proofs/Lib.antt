@@ -21,3 +21,4 @@ mod Tested
 mod Typed
 mod NamesTyped
 mod HiddenLines
+mod PastedStyles

@@ -26,6 +26,7 @@ ghost use Rattle.user_model.specs.Values.{IsMade, LeavesMade, Makes, is_none_lef
 mod attributes;
 mod lines;
 mod names;
+mod ranges;
 mod sheets;
 mod views;
 

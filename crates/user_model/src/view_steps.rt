@@ -6,8 +6,9 @@ ghost use Rattle.sheet_grid.specs.Book.{sheet_at};
 ghost use Rattle.sheet_history.specs.LineDiffs.{along_of};
 ghost use Rattle.edit_plans.specs.Edits.Edit.{DeleteSheet, SetField};
 ghost use Rattle.edit_plans.specs.ViewSteps.{line_shown, selected_by};
-ghost use Rattle.user_model.specs.Views.{seen_by, sheet_chosen};
+ghost use Rattle.user_model.specs.Views.{seen_by, seen_by_pasting, sheet_chosen};
 
+use base_axis::{ColumnAxis, MergedCell, RowAxis};
 use base_values::EditError;
 use edit_plans::{range_by_hiding, selected_by_deletion, selected_by_field};
 use entry_records::axis_end;
@@ -102,5 +103,21 @@ pub(crate) fn seen_by_hiding(
         }
     } else {
         view
+    }
+}
+
+/// The view that is asked for where styles are pasted over a rectangle of the viewed sheet, if it lies in
+/// the sheet: that rectangle.
+pub(crate) fn seen_by_pasting(area: MergedCell, view: View) -> View
+    ensures { result ≡ seen_by_pasting area view }
+{
+    if !area.is_inside() {
+        return view;
+    }
+    let (first_row, last_row) = area.lines::<RowAxis>();
+    let (first_column, last_column) = area.lines::<ColumnAxis>();
+    View {
+        sheet: view.sheet,
+        range: [first_row, first_column, last_row, last_column],
     }
 }

@@ -64,11 +64,11 @@ no_style Rows = refl
 no_style Columns = refl
 
 -- the size and the style of an entry that a line may have
-entry_size : (axis : LineAxis) (entry : Option LineAttr) → own_entry axis entry ≡ true → own_size axis (attr_of entry).size ≡ true
+pub entry_size : (axis : LineAxis) (entry : Option LineAttr) → own_entry axis entry ≡ true → own_size axis (attr_of entry).size ≡ true
 entry_size axis None own = no_size axis
 entry_size axis (Some attr) own = (both (not (is_plain attr)) (own_size axis attr.size) (both (not (is_plain attr) && own_size axis attr.size) (own_style axis attr.style) own).0).1
 
-entry_style : (axis : LineAxis) (entry : Option LineAttr) → own_entry axis entry ≡ true → own_style axis (attr_of entry).style ≡ true
+pub entry_style : (axis : LineAxis) (entry : Option LineAttr) → own_entry axis entry ≡ true → own_style axis (attr_of entry).style ≡ true
 entry_style axis None own = no_style axis
 entry_style axis (Some attr) own = (both (not (is_plain attr) && own_size axis attr.size) (own_style axis attr.style) own).1
 

@@ -29,6 +29,8 @@ use Rattle.script_lines.specs.declared.command.NamedGrid.{NamedGrid}
 use Rattle.script_lines.specs.contracts.command.NamedGridPartialEq.TheImpl as named_grid
 use Rattle.script_lines.specs.declared.command.NamedName.{NamedName}
 use Rattle.script_lines.specs.contracts.command.NamedNamePartialEq.TheImpl as named_name
+use Rattle.script_lines.specs.declared.command.NamedPath.{NamedPath}
+use Rattle.script_lines.specs.contracts.command.NamedPathPartialEq.TheImpl as named_path
 use Rattle.script_lines.specs.declared.command.NamedUpdate.{NamedUpdate}
 use Rattle.script_lines.specs.contracts.command.NamedUpdatePartialEq.TheImpl as named_update
 
@@ -91,3 +93,8 @@ pub named_update_equals : (a b : NamedUpdate) → Decides (named_update.ghosts.e
 named_update_equals a b =
     Decides-like _ (λ p i. record { old = p.0 i; new = p.1 i }) (λ e. (ap (λ x. x.old) e, ap (λ x. x.new) e))
     (Decides-and _ _ (named_name_equals _ _) (named_name_equals _ _))
+
+pub named_path_equals : (a b : NamedPath) → Decides (named_path.ghosts.eq a b) (a ≡ b)
+named_path_equals a b =
+    Decides-like _ (λ p i. record { area = p.0 i; path = p.1 i }) (λ e. (ap (λ x. x.area) e, ap (λ x. x.path) e))
+    (Decides-and _ _ (named_area_equals _ _) (bytes_decides _ _))

@@ -1,0 +1,7 @@
+pub mod CanonicalPlans
+pub mod Clearing
+pub mod StyleRanges
+pub mod StyleWalks
+pub mod Styled
+pub mod Tiles
+pub mod laws

@@ -1,0 +1,6 @@
+pub mod CanonicalLaws
+pub mod ClearLaws
+pub mod DefaultTest
+pub mod KeptLaws
+pub mod RangeLaws
+pub mod TileLaws

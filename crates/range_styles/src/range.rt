@@ -1,0 +1,71 @@
+//! Ranges of places whose styles are changed or taken away.
+
+ghost use Rattle.std.specs.Prelude.{◌≡◌};
+ghost use Rattle.range_styles.specs.StyleRanges.{kind_of};
+ghost use Rattle.range_styles.specs.StyleWalks.{reaches_all, reaches_columns, reaches_rows};
+
+use base_axis::MergedCell;
+use base_values::{LAST_COLUMN, LAST_ROW};
+
+/// What a rectangle consists of.
+#[derive(Clone, Copy, Debug)]
+pub enum AreaKind {
+    /// Of full columns: it begins at row 1 and has all rows.
+    FullColumns,
+    /// Of full rows: it begins at column 1, has all columns, and is not one of full columns.
+    FullRows,
+    /// Of places alone.
+    OtherPlaces,
+}
+
+/// A rectangle of places whose styles are changed, and how: of full columns and full rows the lines
+/// have styles of their own.
+#[derive(Clone, Copy, Debug)]
+pub struct StyleRange {
+    pub area: MergedCell,
+    pub kind: AreaKind,
+    /// Whether styles are taken away, so that the default one shows.
+    pub clears: bool,
+}
+
+/// What a rectangle consists of. It takes no memory.
+pub fn kind_of(area: MergedCell) -> AreaKind
+    ensures { result ≡ kind_of area }
+{
+    if area.row == 1 && area.height == LAST_ROW {
+        AreaKind::FullColumns
+    } else if area.column == 1 && area.width == LAST_COLUMN {
+        AreaKind::FullRows
+    } else {
+        AreaKind::OtherPlaces
+    }
+}
+
+/// Whether all places of a range are gone over, since it touches each of them.
+pub(crate) fn reaches_all(range: StyleRange) -> bool
+    ensures { result ≡ reaches_all range.kind range.clears }
+{
+    matches!(range.kind, AreaKind::OtherPlaces) && !range.clears
+}
+
+/// Whether else the places of rows that have a style are.
+pub(crate) fn reaches_rows(range: StyleRange) -> bool
+    ensures { result ≡ reaches_rows range.kind range.clears }
+{
+    match range.kind {
+        AreaKind::FullColumns => true,
+        AreaKind::FullRows => false,
+        AreaKind::OtherPlaces => range.clears,
+    }
+}
+
+/// Whether the places of columns that have one are.
+pub(crate) fn reaches_columns(range: StyleRange) -> bool
+    ensures { result ≡ reaches_columns range.kind range.clears }
+{
+    match range.kind {
+        AreaKind::FullColumns => false,
+        AreaKind::FullRows => !range.clears,
+        AreaKind::OtherPlaces => range.clears,
+    }
+}

@@ -9,8 +9,8 @@ pub use base_decimal::Decimal;
 pub use base_maps::{IndexMap, NumberMap, PositionMap, SheetPlace, SheetPlaceMap};
 pub use base_shared::Shared;
 pub use base_styles::{
-    Alignment, Border, BorderItem, BorderStyle, Color, Font, HorizontalAlignment, Style,
-    ThemeColor, VerticalAlignment,
+    Alignment, Border, BorderArea, BorderItem, BorderStyle, BorderType, Color, Font,
+    HorizontalAlignment, RgbColor, Style, Theme, ThemeColor, VerticalAlignment,
 };
 pub use base_tables::{
     Error, Function, Language, Locale, Zone, column_to_number, function_by_name, get_language,

@@ -7,6 +7,7 @@ mod LineSteps
 mod Lists
 mod MoveSteps
 mod Moving
+mod SettingSteps
 mod Named
 mod Planned
 mod Recording

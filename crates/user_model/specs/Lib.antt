@@ -15,4 +15,6 @@ pub mod Places
 pub mod Reading
 pub mod Typing
 pub mod Structure
+pub mod CellTypes
+pub mod Settings
 pub mod laws

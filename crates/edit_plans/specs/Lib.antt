@@ -11,3 +11,4 @@ pub mod Edits
 pub mod ViewSteps
 pub mod laws
 pub mod NamedEdits
+pub mod SettingEdits

@@ -14,6 +14,7 @@ pub mod MergeRecords
 pub mod PlanLaws
 pub mod ViewLaws
 pub mod SheetRecords
+pub mod SettingStays
 pub mod SheetEditLaws
 pub mod SheetPlans
 pub mod FieldPlans

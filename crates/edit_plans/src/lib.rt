@@ -13,6 +13,7 @@ mod link;
 mod list;
 mod merge;
 mod names;
+mod settings;
 mod sheets;
 mod unmerge;
 mod view;
@@ -26,6 +27,7 @@ pub use lines::{plan_hidden, plan_size};
 pub use link::plan_link;
 pub use merge::plan_merge;
 pub use names::{plan_changed_name, plan_new_name, plan_removed_name};
+pub use settings::{plan_setting, plan_title};
 pub use sheets::{
     plan_copied_sheet, plan_deleted_sheet, plan_moved_sheet, plan_new_sheet, plan_renamed_sheet,
 };

@@ -7,6 +7,7 @@ ghost use Rattle.user_model.specs.Reading.{rectangle_of};
 ghost use Rattle.user_model.specs.Stands.{StandsFor};
 
 use base_axis::Area;
+use base_styles::Theme;
 use base_values::EditError;
 use script_dump::{push_dump, push_hex, push_line};
 use script_lines::{
@@ -415,6 +416,41 @@ impl Session {
         push_outcome(&mut self.out, done)
     }
 
+    fn title(&mut self, name: &str) -> Result<(), EditError>
+        ensures { RunsCommand (command.Title name.now) result self.old self.new }
+    {
+        let done = self.model.set_name(name);
+        push_outcome(&mut self.out, done)
+    }
+
+    fn theme(&mut self, theme: Theme) -> Result<(), EditError>
+        ensures { RunsCommand (command.ThemeColors theme) result self.old self.new }
+    {
+        let done = self.model.set_theme(&theme);
+        push_outcome(&mut self.out, done)
+    }
+
+    fn locale(&mut self, name: &str) -> Result<(), EditError>
+        ensures { RunsCommand (command.Locale name.now) result self.old self.new }
+    {
+        let done = self.model.set_locale(name);
+        push_outcome(&mut self.out, done)
+    }
+
+    fn zone(&mut self, name: &str) -> Result<(), EditError>
+        ensures { RunsCommand (command.Zone name.now) result self.old self.new }
+    {
+        let done = self.model.set_timezone(name);
+        push_outcome(&mut self.out, done)
+    }
+
+    fn language(&mut self, name: &str) -> Result<(), EditError>
+        ensures { RunsCommand (command.Language name.now) result self.old self.new }
+    {
+        let done = self.model.set_language(name);
+        push_outcome(&mut self.out, done)
+    }
+
     fn undo(&mut self) -> Result<(), EditError>
         ensures { RunsCommand command.Undo result self.old self.new }
     {
@@ -489,6 +525,11 @@ impl Session {
             Command::UnhideSheet(sheet) => self.unhide_sheet(sheet),
             Command::SheetColor(named) => self.color(named),
             Command::GridLines(named) => self.grid(named),
+            Command::Title(text) => self.title(text.as_str()),
+            Command::ThemeColors(theme) => self.theme(theme),
+            Command::Locale(name) => self.locale(name.as_str()),
+            Command::Zone(name) => self.zone(name.as_str()),
+            Command::Language(name) => self.language(name.as_str()),
             Command::Undo => self.undo(),
             Command::Redo => self.redo(),
             Command::Sync => self.sync(),

@@ -5,6 +5,8 @@ use script_ends::{
 use std::alloc::Global;
 use std::test::Fail;
 
+mod settings;
+
 /// What a new workbook prints.
 const NEW_BOOK: &str = "book en UTC workbook\nsheet 1 visible 1 0 0 - Sheet1\nend\n";
 

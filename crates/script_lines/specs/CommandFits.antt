@@ -9,6 +9,8 @@ use Rattle.script_lines.specs.declared.command.NamedLines.{NamedLines}
 use Rattle.script_lines.specs.declared.command.NamedMove.{NamedMove}
 use Rattle.base_styles.specs.declared.Color.{Color}
 use Rattle.base_styles.specs.declared.Color.TheVariants.{Rgb}
+use Rattle.base_styles.specs.declared.RgbColor.{RgbColor}
+use Rattle.base_styles.specs.declared.Theme.{Theme}
 use Rattle.script_lines.specs.declared.command.NamedSheetMove.{NamedSheetMove}
 use Rattle.script_lines.specs.declared.command.NamedColor.{NamedColor}
 use Rattle.script_lines.specs.declared.command.NamedGrid.{NamedGrid}
@@ -18,7 +20,7 @@ use Rattle.script_lines.specs.declared.command.NamedSpan.{NamedSpan}
 use Rattle.script_lines.specs.declared.command.NamedSize.{NamedSize}
 use Rattle.script_lines.specs.declared.command.NamedCount.{NamedCount}
 use Rattle.script_lines.specs.declared.command.Command.{Command}
-use Rattle.script_lines.specs.declared.command.Command.TheVariants.{Set, Get, Array, Link, Unlink, Merge, Unmerge, InsertRows, InsertColumns, DeleteRows, DeleteColumns, MoveRows, MoveColumns, NewSheet, DuplicateSheet, DeleteSheet, MoveSheet, RenameSheet, HideSheet, UnhideSheet, SheetColor, GridLines, Name, NameUpdate, NameDelete, Undo, Redo, Sync, Show, Width, Height, HideRows, ShowRows, HideColumns, ShowColumns, FreezeRows, FreezeColumns}
+use Rattle.script_lines.specs.declared.command.Command.TheVariants.{Set, Get, Array, Link, Unlink, Merge, Unmerge, InsertRows, InsertColumns, DeleteRows, DeleteColumns, MoveRows, MoveColumns, NewSheet, DuplicateSheet, DeleteSheet, MoveSheet, RenameSheet, HideSheet, UnhideSheet, SheetColor, GridLines, Name, NameUpdate, NameDelete, Title, ThemeColors, Locale, Zone, Language, Undo, Redo, Sync, Show, Width, Height, HideRows, ShowRows, HideColumns, ShowColumns, FreezeRows, FreezeColumns}
 
 -- a row and a column that letters and digits can name
 pub record IsNamed (row column : ℤ) : Type 0 where
@@ -81,6 +83,25 @@ NameFits name = IfSome name.scope SheetFits × IsUtf8 name.name
 abbrev pub UpdateFits : NamedUpdate → Type 0
 UpdateFits update = NameFits update.old × NameFits update.new
 
+-- parts that are bytes
+abbrev pub PartsFit : RgbColor → Type 0
+PartsFit color = (color.red < 2 ^ 8) × (color.green < 2 ^ 8) × (color.blue < 2 ^ 8)
+
+-- a theme whose colours have such parts
+pub record ThemeFits (theme : Theme) : Type 0 where
+  pub light1 : PartsFit theme.light1
+  pub dark1 : PartsFit theme.dark1
+  pub light2 : PartsFit theme.light2
+  pub dark2 : PartsFit theme.dark2
+  pub accent1 : PartsFit theme.accent1
+  pub accent2 : PartsFit theme.accent2
+  pub accent3 : PartsFit theme.accent3
+  pub accent4 : PartsFit theme.accent4
+  pub accent5 : PartsFit theme.accent5
+  pub accent6 : PartsFit theme.accent6
+  pub hyperlink : PartsFit theme.hyperlink
+  pub followed_hyperlink : PartsFit theme.followed_hyperlink
+
 -- a command with such numbers, and with texts in UTF-8
 abbrev pub CommandFits : Command → Type 0
 CommandFits (Set cell text) = CellFits cell × IsUtf8 text
@@ -116,6 +137,11 @@ CommandFits (GridLines named) = GridFits named
 CommandFits (Name name text) = NameFits name × IsUtf8 text
 CommandFits (NameUpdate update text) = UpdateFits update × IsUtf8 text
 CommandFits (NameDelete name) = NameFits name
+CommandFits (Title text) = IsUtf8 text
+CommandFits (ThemeColors theme) = ThemeFits theme
+CommandFits (Locale text) = IsUtf8 text
+CommandFits (Zone text) = IsUtf8 text
+CommandFits (Language text) = IsUtf8 text
 CommandFits Undo = Unit {0}
 CommandFits Redo = Unit {0}
 CommandFits Sync = Unit {0}

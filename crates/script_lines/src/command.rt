@@ -1,5 +1,5 @@
 use base_axis::MergedCell;
-use base_styles::Color;
+use base_styles::{Color, Theme};
 use base_values::{Exact, Text};
 
 /// A cell that a line names.
@@ -290,6 +290,16 @@ pub enum Command {
     NameUpdate(NamedUpdate, Text),
     /// `name-delete SCOPE NAME`: take a defined name away.
     NameDelete(NamedName),
+    /// `title TEXT`: name the workbook.
+    Title(Text),
+    /// `theme` and twelve `#RRGGBB`: give the workbook other theme colours.
+    ThemeColors(Theme),
+    /// `locale WORD`: give the workbook another locale.
+    Locale(Text),
+    /// `zone WORD`: give the workbook another time zone.
+    Zone(Text),
+    /// `language WORD`: show the workbook in another language.
+    Language(Text),
     /// `undo`: take back the last edit.
     Undo,
     /// `redo`: do again what was taken back last.

@@ -6,6 +6,7 @@ pub mod Dimension
 pub mod CanonicalCell
 pub mod Lines
 pub mod Merges
+pub mod Searches
 pub mod SameEntry
 pub mod Sheet
 pub mod laws

@@ -16,6 +16,7 @@ mod entries;
 mod fields;
 mod lines;
 mod merges;
+mod searches;
 mod sizes;
 mod styles;
 

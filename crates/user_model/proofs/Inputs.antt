@@ -52,14 +52,14 @@ module _ {T : Type 0} (index : ℕ) (book : Book) (goes : Sheet → Result T Edi
       go (Ok sheet) e = there sheet (goes sheet) e
       go (Err error) e = absurd (let never : ◌≡◌ {A = Result T EditError} (Err error) (Ok value) = e in cc)
 
-module _ (index : ℕ) (row column : ℤ) (book : Book) (content : Content) (feeds : ℕ) where
-  pub input_refused : (error : EditError) → input_goes index row column book ≡ Err error → input_put index row column content feeds book ≡ Err error
+module _ (index : ℕ) (row column : ℤ) (book : Book) (content : Content) where
+  pub input_refused : (error : EditError) → input_goes index row column book ≡ Err error → input_put index row column content book ≡ Err error
   unfolding input_put
-  input_refused error is = refused_there index book (λ sheet. input_place sheet row column) (λ sheet. with_input sheet content feeds) error is
+  input_refused error is = refused_there index book (λ sheet. input_place sheet row column) (λ sheet. with_input sheet content) error is
 
-  pub input_accepted : (place : Position) → input_goes index row column book ≡ Ok place → IsOk (input_put index row column content feeds book)
+  pub input_accepted : (place : Position) → input_goes index row column book ≡ Ok place → IsOk (input_put index row column content book)
   unfolding input_put
-  input_accepted place is = accepted_there index book (λ sheet. input_place sheet row column) (λ sheet. with_input sheet content feeds) place is
+  input_accepted place is = accepted_there index book (λ sheet. input_place sheet row column) (λ sheet. with_input sheet content) place is
 
 module _ (index : ℕ) (r : MergedCell) (book : Book) (tree : Node) where
   pub array_refused : (error : EditError) → array_goes index r book ≡ Err error → array_put index r tree book ≡ Err error

@@ -7,6 +7,7 @@ mod LineSteps
 mod Lists
 mod MoveSteps
 mod Moving
+mod SettingSteps
 mod Named
 mod Planned
 mod Recording
@@ -20,4 +21,3 @@ mod Spelled
 mod Tested
 mod Typed
 mod NamesTyped
-mod HiddenLines

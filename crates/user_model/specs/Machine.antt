@@ -132,6 +132,10 @@ redo_of s = redo_from s.undone s
 abbrev pub looking : Result View EditError → State → Result State EditError
 looking view s = map_ok (λ seen. record s { view = seen }) view
 
+-- shown in another language, or with the refusal of one
+abbrev pub speaking_in : Result Language EditError → State → Result State EditError
+speaking_in language s = map_ok (λ spoken. record s { language = spoken }) language
+
 -- the sheet at an index is selected
 abbrev pub sheet_selected : ℕ → State → Result State EditError
 sheet_selected index s = looking (sheet_chosen index s.present s.view) s

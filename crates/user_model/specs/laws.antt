@@ -1,1 +1,2 @@
 pub mod StructureEquals
+pub mod CellTypeEquals

@@ -1,6 +1,5 @@
 -- What a line gets keeps the rules of its sheet.
-use Rattle.std.proofs.Common.{◌≡◌, ℕ, ℤ, pos, Bool, true, false, cond, ◌&&◌, not, Option, Some, None, Ok, Err, refl, ap, sym, ◌∙◌, arith}
-use Rattle.std.proofs.lemmas.Int.{ints}
+use Rattle.std.proofs.Common.{◌≡◌, ℕ, ℤ, pos, Bool, true, false, cond, ◌&&◌, not, Option, Some, None, Ok, Err, refl, ap, sym, ◌∙◌}
 use Rattle.std.specs.Prelude.{IfOk, int_le, int_lt}
 use Rattle.std.specs.FinMap.{get}
 use Rattle.std.specs.Cmp.{int_cmp_total}
@@ -161,13 +160,9 @@ attr-put s id Columns line entry inside own h =
 
 -- ---- heights that texts ask for, sizes and hiding
 
--- a natural number is not negative
-not_negative : (n : ℕ) → int_le (pos 0) (pos n) ≡ true
-not_negative n = grind (arith, ints)
-
 -- a height that a text asks for is a size
 pub needed_size : (feeds : ℕ) (size : ℤ) → is_size (Some (needed_height feeds size)) ≡ true
-needed_size feeds size = not_negative _
+needed_size feeds size = refl
 
 -- what a row has where a text asks for a height it may have
 pub raised_own : (needed : ℤ) (entry : Option LineAttr) → is_size (Some needed) ≡ true → own_entry Rows entry ≡ true → own_entry Rows (raised_entry needed entry) ≡ true

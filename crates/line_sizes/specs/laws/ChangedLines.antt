@@ -1,7 +1,7 @@
 -- Lines that are changed, and the line that is selected where lines are hidden, told line by line.
-use Rattle.std.proofs.Common.{◌≡◌, ◌≢◌, ℕ, zero, suc, ◌+◌, ◌<◌, ℤ, pos, ◌+ℤ◌, ◌-ℤ◌, ◌≤ℤ◌, Bool, true, false, cond, Some, refl, ap, sym, subst, ◌∙◌, arith}
+use Rattle.std.proofs.Common.{◌≡◌, ◌≢◌, ℕ, zero, suc, ◌+◌, ◌<◌, ℤ, pos, ◌+ℤ◌, ◌-ℤ◌, ◌≤ℤ◌, Bool, true, false, cond, Option, Some, None, refl, ap, sym, subst, ◌∙◌, arith}
 use Rattle.std.specs.Prelude.{nat_lt}
-use Rattle.std.specs.Ordering.{int_cmp}
+use Rattle.std.specs.Ordering.{int_cmp, eq_by_cmp}
 use Rattle.std.specs.Cmp.{int_cmp_total}
 use Rattle.std.specs.FinMap.{FinMap, get}
 use Rattle.std.proofs.lemmas.Int.{ints}
@@ -10,7 +10,7 @@ use Rattle.base_values.specs.laws.KeyMap.{get-with_entry}
 use Rattle.base_maps.specs.laws.Keys.{apart_keys, own_key}
 use Rattle.sheet_grid.specs.declared.LineAttr.{LineAttr}
 use Rattle.sheet_grid.specs.Lines.{is_hidden}
-use Rattle.line_sizes.specs.declared.change.LineChange.{LineChange}
+use Rattle.line_sizes.specs.declared.LineChange.{LineChange}
 use Rattle.line_sizes.specs.LineChanges.{changed_entry, lines_changed}
 use Rattle.line_sizes.specs.ShownLines.{shown_from, shown_before}
 
@@ -42,7 +42,7 @@ module _ (change : LineChange) (lines : FinMap int_cmp LineAttr) (first : ℤ) w
   -- each of them has what the change makes of what it had
   pub changed_line : (count k : ℕ) → k < count → get (lines_changed change lines first count) (first +ℤ pos k) ≡ changed_entry change (get lines (first +ℤ pos k))
   changed_line zero k less = absurd (omega arith)
-  changed_line (suc more) k less = go (nat_lt k more) refl (λ before. changed_line more k before)
+  changed_line (suc more) k less = go (nat_lt k more) refl
     where
       Made : ℕ → Type 0
       Made n = get (lines_changed change lines first (suc more)) (first +ℤ pos n) ≡ changed_entry change (get lines (first +ℤ pos n))
@@ -53,15 +53,12 @@ module _ (change : LineChange) (lines : FinMap int_cmp LineAttr) (first : ℤ) w
           ∙ ap (λ b. cond b (changed_entry change (get lines (first +ℤ pos more))) (get (lines_changed change lines first more) (first +ℤ pos more)))
           (own_key int_cmp int_cmp_total exact_signed (first +ℤ pos more))
 
-      Before : Type 0
-      Before = k < more → get (lines_changed change lines first more) (first +ℤ pos k) ≡ changed_entry change (get lines (first +ℤ pos k))
-
-      go : (b : Bool) → nat_lt k more ≡ b → Before → Made k
-      go true e earlier =
+      go : (b : Bool) → nat_lt k more ≡ b → Made k
+      go true e =
           let before : k < more = grind (arith, e) in
           let other : (first +ℤ pos k ≢ first +ℤ pos more) = λ same. absurd (omega (arith, ints)) in
-          other_line more (first +ℤ pos k) other ∙ earlier before
-      go false e earlier =
+          other_line more (first +ℤ pos k) other ∙ changed_line more k before
+      go false e =
           let same : more ≡ k = grind (arith, e, less) in
           subst Made same last
 
@@ -98,35 +95,33 @@ module _ (lines : FinMap int_cmp LineAttr) where
   -- the walk behind lines finds the next one that is shown
   pub next_from : (count : ℕ) (first line : ℤ) → shown_from lines first count ≡ Some line → IsNextShown lines (λ k. first +ℤ pos k) count line
   next_from zero first line found = absurd (cc)
-  next_from (suc more) first line found = go (is_hidden (get lines first)) refl found (λ rest. next_from more (first +ℤ pos 1) line rest)
+  next_from (suc more) first line found = go (is_hidden (get lines first)) refl found
     where
       start : first ≡ first +ℤ pos 0
       start = omega (arith, ints)
 
       go : (b : Bool) → is_hidden (get lines first) ≡ b → cond b (shown_from lines (first +ℤ pos 1) more) (Some first) ≡ Some line
-          → (shown_from lines (first +ℤ pos 1) more ≡ Some line → IsNextShown lines (λ k. (first +ℤ pos 1) +ℤ pos k) more line)
           → IsNextShown lines (λ k. first +ℤ pos k) (suc more) line
-      go true hidden rest walk =
+      go true hidden rest =
           further (λ k. first +ℤ pos k) (λ k. (first +ℤ pos 1) +ℤ pos k) (λ k. omega (arith, ints)) (ap (λ line. is_hidden (get lines line)) (sym start) ∙ hidden) more line
-          (walk rest)
-      go false shown rest walk =
+          (next_from more (first +ℤ pos 1) line rest)
+      go false shown rest =
           let same : line ≡ first = cc in
           here (λ k. first +ℤ pos k) more line (same ∙ start) (ap (λ line. is_hidden (get lines line)) same ∙ shown)
 
   -- the walk before lines finds the nearest one
   pub next_before : (count : ℕ) (first line : ℤ) → shown_before lines first count ≡ Some line → IsNextShown lines (λ k. first -ℤ pos k) count line
   next_before zero first line found = absurd (cc)
-  next_before (suc more) first line found = go (is_hidden (get lines first)) refl found (λ rest. next_before more (first -ℤ pos 1) line rest)
+  next_before (suc more) first line found = go (is_hidden (get lines first)) refl found
     where
       start : first ≡ first -ℤ pos 0
       start = omega (arith, ints)
 
       go : (b : Bool) → is_hidden (get lines first) ≡ b → cond b (shown_before lines (first -ℤ pos 1) more) (Some first) ≡ Some line
-          → (shown_before lines (first -ℤ pos 1) more ≡ Some line → IsNextShown lines (λ k. (first -ℤ pos 1) -ℤ pos k) more line)
           → IsNextShown lines (λ k. first -ℤ pos k) (suc more) line
-      go true hidden rest walk =
+      go true hidden rest =
           further (λ k. first -ℤ pos k) (λ k. (first -ℤ pos 1) -ℤ pos k) (λ k. omega (arith, ints)) (ap (λ line. is_hidden (get lines line)) (sym start) ∙ hidden) more line
-          (walk rest)
-      go false shown rest walk =
+          (next_before more (first -ℤ pos 1) line rest)
+      go false shown rest =
           let same : line ≡ first = cc in
           here (λ k. first -ℤ pos k) more line (same ∙ start) (ap (λ line. is_hidden (get lines line)) same ∙ shown)

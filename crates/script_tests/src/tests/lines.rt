@@ -1,8 +1,12 @@
-use base_styles::Color;
-use base_values::Position;
+use base_styles::{Color, Theme};
+use base_values::{Position, Text};
 use script_lines::{
-    Command, NamedArea, NamedCell, NamedColor, NamedCount, NamedLines, NamedMove, NamedName,
-    NamedSize, NamedSpan, push_escaped, push_reference, read_command,
+    Command, NamedArea, NamedCell, NamedColor, NamedLines, NamedMove, NamedName, push_escaped,
+    push_reference, read_command,
+};
+use script_lines::{
+    Command, NamedArea, NamedCell, NamedColor, NamedCount, NamedLines, NamedMove, NamedSize,
+    NamedSpan, push_escaped, push_reference, read_command,
 };
 use std::alloc::{AllocError, Global};
 use std::test::Fail;
@@ -57,18 +61,37 @@ fn other_in_words(alloc: Global, command: Command) -> Result<String, AllocError>
             let (sheet, show) = (named.sheet, named.show);
             format!(in alloc; "grid: sheet {sheet} {show}")
         }
-        Command::Name(named, text) => name_in_words(alloc, "name", &named, text.as_str()),
-        Command::NameUpdate(named, text) => {
+        Command::Name(named, text)) => name_in_words(alloc, "name", &named, text.as_str()),
+        Some(Command::NameUpdate(named, text)) => {
             let new = name_in_words(alloc, "to", &named.new, text.as_str())?;
             name_in_words(alloc, "update", &named.old, new.as_str())
         }
-        Command::NameDelete(named) => name_in_words(alloc, "delete", &named, ""),
-        Command::Undo => format!(in alloc; "undo"),
+        Some(Command::NameDelete(named)) => name_in_words(alloc, "delete", &named, ""),
+        Some(Command::Undo => format!(in alloc; "undo"),
         Command::Redo => format!(in alloc; "redo"),
         Command::Sync => format!(in alloc; "sync"),
         Command::Show => format!(in alloc; "show"),
+        Command::Title(text) => word_in_words(alloc, "title", &text),
+        Command::ThemeColors(theme) => theme_in_words(alloc, theme),
+        Command::Locale(text) => word_in_words(alloc, "locale", &text),
+        Command::Zone(text) => word_in_words(alloc, "zone", &text),
+        Command::Language(text) => word_in_words(alloc, "language", &text),
         _ => format!(in alloc; "cells or lines"),
     }
+}
+
+fn word_in_words(alloc: Global, word: &str, text: &Text) -> Result<String, AllocError> {
+    let text = text.as_str();
+    format!(in alloc; "{word} |{text}|")
+}
+
+/// The first and the last colour of a theme, in words.
+fn theme_in_words(alloc: Global, theme: Theme) -> Result<String, AllocError> {
+    let first = theme.light1;
+    let last = theme.followed_hyperlink;
+    let (red, green, blue) = (first.red, first.green, first.blue);
+    let end = last.blue;
+    format!(in alloc; "theme: from {red} {green} {blue} to {end}")
 }
 
 fn name_in_words(
@@ -245,6 +268,12 @@ const COMMANDS: [(&[u8], &str); 70] = [
     (b"link 0 A1 a\\nb", "link: sheet 0 row 1 column 1 |a\nb|"),
     (b"unlink 0 AB1", "unlink: sheet 0 row 1 column 28 ||"),
     (b"new-sheet", "new sheet"),
+    (b"title a b\\n", "title |a b\n|"),
+    (b"title", "title ||"),
+    (b"theme #0aFf10 #000000 #000000 #000000 #000000 #000000 #000000 #000000 #000000 #000000 #000000 #00007f", "theme: from 10 255 16 to 127"),
+    (b"locale de", "locale |de|"),
+    (b"zone Europe/Paris", "zone |Europe/Paris|"),
+    (b"language -", "language |-|"),
     (b"duplicate-sheet 0", "duplicate: sheet 0"),
     (b"delete-sheet 4294967295", "delete: sheet 4294967295"),
     (b"move-sheet 007 0", "move sheet: from 7 to 0"),
@@ -316,6 +345,15 @@ const BAD_LINES: [&[u8]; 94] = [
     b"unmerge 0 A1:B1",
     b"unlink 0 A1 x",
     b"new-sheet 0",
+    b"title a\\",
+    b"theme",
+    b"theme #000 #000000 #000000 #000000 #000000 #000000 #000000 #000000 #000000 #000000 #000000 #000000",
+    b"theme #000000 #000000 #000000 #000000 #000000 #000000 #000000 #000000 #000000 #000000 #000000",
+    b"theme #000000 #000000 #000000 #000000 #000000 #000000 #000000 #000000 #000000 #000000 #000000 #000000 #000000",
+    b"locale",
+    b"locale ",
+    b"zone a b",
+    b"language en ",
     b"new-sheet ",
     b"duplicate-sheet",
     b"duplicate-sheet -1",

@@ -18,7 +18,7 @@ fn merge_holding(merges: &[MergedCell], place: Position) -> Option<MergedCell>
     merges.iter().copied().find(|merge| merge.holds(place))
 }
 
-fn is_empty(content: &Content) -> bool
+pub(super) fn is_empty(content: &Content) -> bool
     ensures { result ≡ is_empty content.now }
 {
     matches!(content, Content::Empty)

@@ -2,7 +2,7 @@
 
 ghost use Rattle.std.specs.Prelude.{◌≡◌, OnOk, OnErr};
 ghost use Rattle.sheet_history.specs.declared.LineAxis.TheVariants.{Rows, Columns};
-ghost use Rattle.sheet_history.specs.declared.SheetField.TheVariants.{FrozenColumns, FrozenRows};
+ghost use Rattle.sheet_history.specs.declared.SheetField.TheVariants as field;
 ghost use Rattle.edit_plans.specs.Edits.Edit.{SetField, SetHidden, SetSize};
 ghost use Rattle.user_model.specs.Machine.{edit_of};
 ghost use Rattle.user_model.specs.Properties.{column_width, frozen_columns, frozen_rows, row_height};
@@ -169,7 +169,7 @@ impl<R: Recalc + Drop> UserModel<R> {
     /// model.set_frozen_rows_count(0, 2)?;
     /// ```
     pub fn set_frozen_rows_count(&mut self, sheet: u32, count: i32) -> Result<(), EditError>
-        ensures next { Steps result self.old.document self.new.document (edit_of (SetField sheet (FrozenRows count))) }
+        ensures next { Steps result self.old.document self.new.document (edit_of (SetField sheet (field.FrozenRows count))) }
         ensures made { OnOk result (IsMade R.Fits self.new) }
         ensures err { OnErr result (self.new ≡ self.old) }
         ensures paused { self.new.paused ≡ self.old.paused }
@@ -185,7 +185,7 @@ impl<R: Recalc + Drop> UserModel<R> {
     /// model.set_frozen_columns_count(0, 1)?;
     /// ```
     pub fn set_frozen_columns_count(&mut self, sheet: u32, count: i32) -> Result<(), EditError>
-        ensures next { Steps result self.old.document self.new.document (edit_of (SetField sheet (FrozenColumns count))) }
+        ensures next { Steps result self.old.document self.new.document (edit_of (SetField sheet (field.FrozenColumns count))) }
         ensures made { OnOk result (IsMade R.Fits self.new) }
         ensures err { OnErr result (self.new ≡ self.old) }
         ensures paused { self.new.paused ≡ self.old.paused }

@@ -1,4 +1,4 @@
-use Rattle.std.proofs.Common.{◌≡◌, ℕ, ℤ, Result, Ok, Err, ap, rules, subst, sym, ◌∙◌, w32, SFits}
+use Rattle.std.proofs.Common.{◌≡◌, ℕ, ℤ, Result, Ok, Err, ap, subst, sym, ◌∙◌, w32, SFits}
 use Rattle.std.specs.Prelude.{IfOk, IsTrue}
 use Rattle.std.proofs.lemmas.Int.{to_z-of_z}
 use Rattle.std.proofs.lemmas.Result.{err_from_is_err_and}
@@ -22,7 +22,6 @@ pub returns-in_err-count : goal.returns-in_err-count
 returns-in_err-count c =
     let first_fits : SFits w32 c.args.first = c.ranges.first in
     let last_fits : SFits w32 c.args.last = c.ranges.last in
-    let end_fits : SFits w32 c.axis_end-end.result = search rules in
     let p = err_from_is_err_and c.from_residual-in_err-count.result c.from_residual-in_err-count.ensures.1 in
     let outside = subst (λ (end : ℤ). ◌≡◌ {A = Result ℕ EditError} (Err c.in_err-count.field-0.0) (lines_from end c.args.first c.args.last)) c.axis_end-end.ensures.end (simp to_z-of_z at c.in_err-count.ensures.count) in
     rw (p.1, p.2)
@@ -34,7 +33,6 @@ pub returns-in_err-made : goal.returns-in_err-made
 returns-in_err-made c =
     let first_fits : SFits w32 c.args.first = c.ranges.first in
     let last_fits : SFits w32 c.args.last = c.ranges.last in
-    let end_fits : SFits w32 c.axis_end-end.result = search rules in
     let p = err_from_is_err_and c.from_residual-in_err-made.result c.from_residual-in_err-made.ensures.1 in
     let is = c.in_err-made.was in
     let from = subst (λ (end : ℤ). ◌≡◌ {A = Result ℕ EditError} (Ok c.in_ok-count.count) (lines_from end c.args.first c.args.last)) c.axis_end-end.ensures.end (simp to_z-of_z at (c.in_ok-count.ensures {u = _}).count) in
@@ -49,7 +47,6 @@ pub returns : goal.returns
 returns c =
     let first_fits : SFits w32 c.args.first = c.ranges.first in
     let last_fits : SFits w32 c.args.last = c.ranges.last in
-    let end_fits : SFits w32 c.axis_end-end.result = search rules in
     let is = c.in_ok-made.was in
     let fits = subst (λ (r : Result LineChange EditError). IfOk r (λ made. IsTrue (change_fits c.args.axis made))) is c.requires.fits in
     let from = subst (λ (end : ℤ). ◌≡◌ {A = Result ℕ EditError} (Ok c.in_ok-count.count) (lines_from end c.args.first c.args.last)) c.axis_end-end.ensures.end (simp to_z-of_z at (c.in_ok-count.ensures {u = _}).count) in

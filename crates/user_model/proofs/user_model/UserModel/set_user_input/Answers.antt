@@ -29,7 +29,7 @@ returns-in_err-place-clause-next g c =
     let p = err_from_is_err_and c.from_residual.result c.from_residual.ensures.1 in
     rw (p.1, p.2) (λ state stands.
     let edit : Edit = Input c.args.sheet c.args.row c.args.column (typed state.present state.language c.args.row c.args.column c.args.value.now) (line_feeds c.args.value.now) in
-    refused_moves edit doc state error stands refl (λ short. c.in_err-place.ensures.sure (ap Err short)) (input_refused c.args.sheet c.args.row c.args.column doc.book _ (line_feeds c.args.value.now) error found))
+    refused_moves edit doc state error stands refl (λ short. c.in_err-place.ensures.sure (ap Err short)) (input_refused c.args.sheet c.args.row c.args.column doc.book _ error found))
 
 pub returns-in_err-content-clause-next : goal.returns-in_err-content-clause-next
 returns-in_err-content-clause-next g c =
@@ -44,7 +44,7 @@ returns-in_err-content-clause-next g c =
     rw (p.1, p.2) (λ state stands.
     let edit : Edit = Input c.args.sheet c.args.row c.args.column (typed state.present state.language c.args.row c.args.column c.args.value.now) (line_feeds c.args.value.now) in
     subst (λ (e : EditError). Moves {T = Unit {0}} (Err e) doc (edit_of edit state)) (sym short)
-    (short_moves edit doc state stands refl (input_accepted c.args.sheet c.args.row c.args.column doc.book _ (line_feeds c.args.value.now) place found)))
+    (short_moves edit doc state stands refl (input_accepted c.args.sheet c.args.row c.args.column doc.book _ place found)))
 
 pub set_content-requires-clause-input : goal.set_content-requires-clause-input
 set_content-requires-clause-input g c =

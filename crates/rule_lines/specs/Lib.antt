@@ -1,0 +1,5 @@
+pub mod ByIndex
+pub mod Canonical
+pub mod Rules
+pub mod EditedRules
+pub mod laws

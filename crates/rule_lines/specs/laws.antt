@@ -1,0 +1,4 @@
+pub mod ByIndexLaws
+pub mod RuleLaws
+pub mod EditedEquals
+pub mod EditedLaws

@@ -27,7 +27,7 @@ use Rattle.sheet_history.specs.Fields.{field_of, with_field}
 use Rattle.sheet_history.specs.Records.{IsRecord}
 use Rattle.edit_plans.specs.Plans.{HasRecord}
 use Rattle.edit_plans.specs.Edits.{Edit, IsGiven, changed, is_of_entries}
-use Rattle.edit_plans.specs.Edits.Edit.{Input, ArrayInput, SetLink, Merge, Unmerge, Lines, MoveLines, AddSheet, CopySheet, DeleteSheet, MoveSheet, RenameSheet, ChangeNames, SetField, SetSize, SetHidden}
+use Rattle.edit_plans.specs.Edits.Edit.{Input, ArrayInput, SetLink, Merge, Unmerge, Lines, MoveLines, AddSheet, CopySheet, DeleteSheet, MoveSheet, RenameSheet, ChangeNames, SetField, SetSize, SetHidden, Fill}
 use Rattle.edit_plans.specs.Inputs.{IsInput, input_place, input_put, with_input}
 use Rattle.edit_plans.specs.Links.{link_set}
 use Rattle.edit_plans.specs.Merging.{merge_diffs, merge_made, merge_undone, merged_in, unmerged_at, unmerged_in, with_merge, without_merge}
@@ -46,6 +46,11 @@ use Rattle.edit_plans.specs.laws.InputLaws.{input_exact, input_well_formed}
 use Rattle.edit_plans.specs.laws.LinkLaws.{link_exact, link_well_formed}
 use Rattle.edit_plans.specs.ArrayInputs.{array_area, array_diffs, array_put, with_array}
 use Rattle.edit_plans.proofs.ArrayPlans.{array_exact, array_is, array_well_formed}
+use Rattle.base_tables.specs.declared.Language.{Language}
+use Rattle.sheet_fill.specs.declared.FillPlan.{FillPlan}
+use Rattle.sheet_fill.specs.Plans.{planned_in}
+use Rattle.edit_plans.specs.Fills.{fill_made, fill_record, with_fill}
+use Rattle.edit_plans.specs.laws.FillLaws.{fill_exact, fill_well_formed}
 use Rattle.edit_plans.proofs.Merges.{merge_exact, merge_well_formed, unmerge_exact, unmerge_well_formed}
 use Rattle.edit_plans.proofs.MergePlans.{may_merge}
 
@@ -166,6 +171,20 @@ attrs_has_record index axis first last change w later rules fits how =
     go sheet next at is (Ok count) from (Err error) fits e = absurd (let never : ◌≡◌ {A = Result Sheet EditError} (Err error) (Ok next) = e in cc)
     go sheet next at is (Err error) from made fits e = absurd (let never : ◌≡◌ {A = Result Sheet EditError} (Err error) (Ok next) = e in cc)
 
+fill_has_record : (index : ℕ) (axis : LineAxis) (source : MergedCell) (to : ℤ) (language : Language) (w later : Book) → IsWellFormed w
+    → fill_made index axis source to language w ≡ Ok later → HasRecord w later
+unfolding fill_made
+fill_has_record index axis source to language w later rules how =
+    let it = edited w index (λ s. map_ok (with_fill s) (planned_in (along_of axis) source to w.locale language s)) later how in
+    go it.sheet it.next it.at it.later_is (planned_in (along_of axis) source to w.locale language it.sheet) refl it.done
+  where
+    go : (sheet next : Sheet) → sheet_at w index ≡ Ok sheet → with_sheet w index next ≡ later → (r : Result FillPlan EditError)
+        → planned_in (along_of axis) source to w.locale language sheet ≡ r → map_ok (with_fill sheet) r ≡ Ok next → HasRecord w later
+    go sheet next at is (Ok plan) planned e =
+        has_record w index next (with_fill sheet plan) later (fill_record sheet plan) e is
+        (fill_exact w rules index sheet at axis source to language plan planned) (fill_well_formed w rules index sheet at axis source to language plan planned)
+    go sheet next at is (Err error) planned e = absurd (let never : ◌≡◌ {A = Result Sheet EditError} (Err error) (Ok next) = e in cc)
+
 pub accepted : (edit : Edit) (earlier later : Book) → IsTrue (is_of_entries edit) → IsGiven edit → IsWellFormed earlier → changed edit earlier ≡ Ok later → HasRecord earlier later
 accepted (Input index row column content feeds) earlier later is given rules how = input_has_record index row column content feeds earlier later rules given how
 accepted (ArrayInput index r tree) earlier later is given rules how = array_has_record index r tree earlier later rules given how
@@ -183,3 +202,4 @@ accepted (ChangeNames edit) earlier later is given rules how = absurd (let never
 accepted (SetField index value) earlier later is given rules how = field_has_record index value earlier later rules how
 accepted (SetSize index axis first last size) earlier later is given rules how = attrs_has_record index axis first last (size_change axis size) earlier later rules (size_fits axis size) how
 accepted (SetHidden index axis first last hidden) earlier later is given rules how = attrs_has_record index axis first last (Ok (Hidden hidden)) earlier later rules (hidden_fits axis hidden) how
+accepted (Fill index axis source to language) earlier later is given rules how = fill_has_record index axis source to language earlier later rules how

@@ -6,3 +6,4 @@ mod Accepted
 pub mod Blanks
 pub mod MergePlans
 pub mod Merges
+mod Filling

@@ -7,6 +7,7 @@ use Rattle.base_values.specs.Answers.{and_then}
 use Rattle.base_axis.specs.Along.{Along}
 use Rattle.base_axis.specs.declared.MergedCell.{MergedCell}
 use Rattle.base_axis.specs.Rectangles.{anchor_place}
+use Rattle.base_tables.specs.declared.Language.{Language}
 use Rattle.formula_tree.specs.declared.Node.{Node}
 use Rattle.cell_content.specs.declared.Content.{Content}
 use Rattle.cell_content.specs.declared.Content.TheVariants.{Array}
@@ -26,6 +27,7 @@ use Rattle.line_sizes.specs.declared.LineChange.TheVariants.{Hidden}
 use Rattle.entry_records.specs.LineRecords.{size_change}
 use Rattle.edit_plans.specs.Inputs.{IsInput, input_put}
 use Rattle.edit_plans.specs.LineEdits.{attrs_set}
+use Rattle.edit_plans.specs.Fills.{fill_made}
 use Rattle.edit_plans.specs.ArrayInputs.{array_put}
 use Rattle.edit_plans.specs.Links.{link_set}
 use Rattle.edit_plans.specs.Merging.{merge_made, merge_undone}
@@ -68,6 +70,8 @@ pub data Edit : Type 0 where
   SetSize : ℕ → LineAxis → ℤ → ℤ → ℤ → Edit
   -- the first and the last of the rows or columns that are hidden or shown, and whether they are hidden
   SetHidden : ℕ → LineAxis → ℤ → ℤ → Bool → Edit
+  -- the rectangle that is filled from, the row or the column to which, and the language in which texts that go on are read
+  Fill : ℕ → LineAxis → MergedCell → ℤ → Language → Edit
 
 -- whether an edit is one of the list of the sheets or of the defined names, whose record is one diff
 abbrev pub is_of_sheets : Edit → Bool
@@ -128,6 +132,7 @@ changed (ChangeNames edit) book = names_edited edit book
 changed (SetField index value) book = field_set index value book
 changed (SetSize index axis first last size) book = attrs_set index axis first last (size_change axis size) book
 changed (SetHidden index axis first last hidden) book = attrs_set index axis first last (Ok (Hidden hidden)) book
+changed (Fill index axis source to language) book = fill_made index axis source to language book
 
 -- the record of an edit of lines of a sheet, if it is there
 abbrev pub lines_record : LineAxis → (Sheet → EditKind) → Book → Result Sheet EditError → List Diff

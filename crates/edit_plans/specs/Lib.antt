@@ -7,6 +7,7 @@ pub mod Merging
 pub mod ArrayInputs
 pub mod HiddenLines
 pub mod SheetEdits
+pub mod Fills
 pub mod Edits
 pub mod ViewSteps
 pub mod laws

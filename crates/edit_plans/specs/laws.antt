@@ -18,3 +18,4 @@ pub mod SheetEditLaws
 pub mod SheetPlans
 pub mod FieldPlans
 pub mod NamedPlans
+pub mod FillLaws

@@ -5,6 +5,7 @@
 mod array;
 mod blanked;
 mod field;
+mod fill;
 mod hidden;
 mod input;
 mod laws;
@@ -19,6 +20,7 @@ mod view;
 
 pub use array::{free_area, plan_array};
 pub use field::plan_field;
+pub use fill::plan_auto_fill;
 pub use hidden::grown_delta;
 pub use input::{free_place, plan_input};
 pub use laws::{edits_have_records, sheet_edits_go_both_ways};

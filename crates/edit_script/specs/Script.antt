@@ -23,7 +23,7 @@ use Rattle.script_dump.specs.Text.{line, hex}
 use Rattle.script_dump.specs.Dump.{dump}
 use Rattle.name_edits.specs.NameEdits.NameEdit.{Add, Remove, Update}
 use Rattle.edit_plans.specs.Edits.{Edit}
-use Rattle.edit_plans.specs.Edits.Edit.{Input, ArrayInput, SetLink, Merge, Unmerge, Lines, MoveLines, AddSheet, CopySheet, DeleteSheet, MoveSheet, RenameSheet, ChangeNames, SetField, SetSize, SetHidden}
+use Rattle.edit_plans.specs.Edits.Edit.{Input, ArrayInput, SetLink, Merge, Unmerge, Lines, MoveLines, AddSheet, CopySheet, DeleteSheet, MoveSheet, RenameSheet, ChangeNames, SetField, SetSize, SetHidden, Fill}
 use Rattle.user_model.specs.Machine.{State, begun, edit_of, undo_of, redo_of, synced_of, sync_bytes}
 use Rattle.user_model.specs.Reading.{content_text, formula_typed, link_to, typed}
 
@@ -70,6 +70,8 @@ edit_for (command.HideColumns span) s = Some (SetHidden span.sheet Columns span.
 edit_for (command.ShowColumns span) s = Some (SetHidden span.sheet Columns span.first span.last false)
 edit_for (command.FreezeRows named) s = Some (SetField named.sheet (FrozenRowsField named.count))
 edit_for (command.FreezeColumns named) s = Some (SetField named.sheet (FrozenColumnsField named.count))
+edit_for (command.FillRows named) s = Some (Fill named.sheet Rows named.area named.to s.language)
+edit_for (command.FillColumns named) s = Some (Fill named.sheet Columns named.area named.to s.language)
 edit_for command.NewSheet s = Some AddSheet
 edit_for (command.DuplicateSheet sheet) s = Some (CopySheet sheet)
 edit_for (command.DeleteSheet sheet) s = Some (DeleteSheet sheet)

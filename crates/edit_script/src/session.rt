@@ -10,8 +10,9 @@ use base_axis::Area;
 use base_values::EditError;
 use script_dump::{push_dump, push_hex, push_line};
 use script_lines::{
-    Command, NamedArea, NamedCell, NamedColor, NamedCount, NamedGrid, NamedLines, NamedMove,
-    NamedSheetMove, NamedSize, NamedSpan, push_escaped, read_command, split_first, without_return,
+    Command, NamedArea, NamedCell, NamedColor, NamedCount, NamedFill, NamedGrid, NamedLines,
+    NamedMove, NamedSheetMove, NamedSize, NamedSpan, push_escaped, read_command, split_first,
+    without_return,
 };
 use std::alloc::Global;
 use user_model::{ClearAll, UserModel};
@@ -99,6 +100,17 @@ fn area_of(named: NamedArea) -> Area
         width: named.area.width,
         height: named.area.height,
     }
+}
+
+/// The area that a line fills from.
+fn fill_source(named: NamedFill) -> Area
+    ensures sheet { result.sheet ≡ named.sheet }
+    ensures rectangle { rectangle_of result ≡ named.area }
+{
+    area_of(NamedArea {
+        sheet: named.sheet,
+        area: named.area,
+    })
 }
 
 /// A new workbook.
@@ -264,6 +276,22 @@ impl Session {
         let done = self
             .model
             .set_rows_height(named.sheet, named.first, named.last, named.size);
+        push_outcome(&mut self.out, done)
+    }
+
+    fn fill_rows(&mut self, named: NamedFill) -> Result<(), EditError>
+        ensures { RunsCommand (command.FillRows named) result self.old self.new }
+    {
+        let source = fill_source(named);
+        let done = self.model.auto_fill_rows(&source, named.to);
+        push_outcome(&mut self.out, done)
+    }
+
+    fn fill_columns(&mut self, named: NamedFill) -> Result<(), EditError>
+        ensures { RunsCommand (command.FillColumns named) result self.old self.new }
+    {
+        let source = fill_source(named);
+        let done = self.model.auto_fill_columns(&source, named.to);
         push_outcome(&mut self.out, done)
     }
 
@@ -469,6 +497,8 @@ impl Session {
             Command::ShowColumns(span) => self.show_columns(span),
             Command::FreezeRows(named) => self.freeze_rows(named),
             Command::FreezeColumns(named) => self.freeze_columns(named),
+            Command::FillRows(named) => self.fill_rows(named),
+            Command::FillColumns(named) => self.fill_columns(named),
             Command::NewSheet => self.new_sheet(),
             Command::DuplicateSheet(sheet) => self.duplicate_sheet(sheet),
             Command::DeleteSheet(sheet) => self.delete_sheet(sheet),

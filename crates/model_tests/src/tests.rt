@@ -14,6 +14,7 @@ use std::test::Fail;
 use user_model::{CellArrayStructure, ClearAll, Recalc, UserModel, View};
 
 mod copies;
+mod fills;
 mod lines;
 mod names;
 mod places;

@@ -19,12 +19,12 @@ use Rattle.script_lines.proofs.Letters.{all_letters}
 use Rattle.script_lines.specs.Colors.{named_colors, named_color, digit_value, pair_value, color_of_pairs, color_of_digits, digit_color, color_of}
 use Rattle.script_lines.specs.Escapes.{unescaped}
 use Rattle.script_lines.proofs.EscapeLaws.{unescaped-IsUtf8}
-use Rattle.script_lines.specs.Commands.{Reader, word, sheet_word, cell_words, area_words, lines_words, move_words, sheet_move_words, color_words, grid_words, bit_of, scope_of, name_of, name_words, update_words, ended, with_text, alone, exactly, and_text, commands, from_words, command_of, count_words, span_of, size_of}
+use Rattle.script_lines.specs.Commands.{Reader, word, sheet_word, cell_words, area_words, lines_words, move_words, sheet_move_words, color_words, grid_words, bit_of, scope_of, name_of, name_words, update_words, ended, with_text, alone, exactly, and_text, commands, from_words, command_of, count_words, fill_words, span_of, size_of}
 use Rattle.script_lines.specs.declared.reference.Reference.{Reference}
 use Rattle.script_lines.specs.declared.command.NamedCell.{NamedCell}
 use Rattle.script_lines.specs.declared.command.Command.{Command}
-use Rattle.script_lines.specs.declared.command.Command.TheVariants.{Set, Get, Array, Link, Unlink, Merge, Unmerge, InsertRows, InsertColumns, DeleteRows, DeleteColumns, MoveRows, MoveColumns, NewSheet, DuplicateSheet, DeleteSheet, MoveSheet, RenameSheet, HideSheet, UnhideSheet, SheetColor, GridLines, Name, NameUpdate, NameDelete, Undo, Redo, Sync, Show, Width, Height, HideRows, ShowRows, HideColumns, ShowColumns, FreezeRows, FreezeColumns}
-use Rattle.script_lines.specs.CommandFits.{IsNamed, IsNamedArea, CellFits, AreaFits, LinesFit, MoveFits, SheetFits, SheetMoveFits, IsNamedColor, ColorFits, GridFits, NameFits, UpdateFits, CommandFits, SpanFits, SizeFits, CountFits}
+use Rattle.script_lines.specs.declared.command.Command.TheVariants.{Set, Get, Array, Link, Unlink, Merge, Unmerge, InsertRows, InsertColumns, DeleteRows, DeleteColumns, MoveRows, MoveColumns, NewSheet, DuplicateSheet, DeleteSheet, MoveSheet, RenameSheet, HideSheet, UnhideSheet, SheetColor, GridLines, Name, NameUpdate, NameDelete, Undo, Redo, Sync, Show, Width, Height, HideRows, ShowRows, HideColumns, ShowColumns, FreezeRows, FreezeColumns, FillRows, FillColumns}
+use Rattle.script_lines.specs.CommandFits.{IsNamed, IsNamedArea, CellFits, AreaFits, LinesFit, MoveFits, SheetFits, SheetMoveFits, IsNamedColor, ColorFits, GridFits, NameFits, UpdateFits, CommandFits, SpanFits, SizeFits, FillFits, CountFits}
 
 -- ---- lists
 
@@ -262,6 +262,11 @@ move_fits words t =
     (λ lines l. step (Fit (FitsSigned w32)) (Fit MoveFits) (word signed_number lines.1) _ (signed_word_fits lines.1 l.1)
     (λ delta d. ((l.0.0, l.0.1, l.0.2, d.0), d.1)))
 
+fill_words_fit : Reads FillFits fill_words
+fill_words_fit words t =
+    step (Fit AreaFits) (Fit FillFits) (area_words words) _ (area_words_fit words t)
+    (λ named a. step (Fit (FitsSigned w32)) (Fit FillFits) (word signed_number named.1) _ (signed_word_fits named.1 a.1) (λ to n. ((a.0.0, a.0.1, n.0), n.1)))
+
 count_fits : Reads CountFits count_words
 count_fits words t =
     step (Fit SheetFits) (Fit CountFits) (sheet_word words) _ (sheet_fits words t)
@@ -371,6 +376,8 @@ each_fits =
     ▸ exactly_fits LinesFit lines_words (λ lines. ShowColumns (span_of lines)) lines_fit (λ lines l. l)
     ▸ exactly_fits CountFits count_words FreezeRows count_fits (λ named c. c)
     ▸ exactly_fits CountFits count_words FreezeColumns count_fits (λ named c. c)
+    ▸ exactly_fits FillFits fill_words FillRows fill_words_fit (λ named f. f)
+    ▸ exactly_fits FillFits fill_words FillColumns fill_words_fit (λ named f. f)
     ▸ alone_fits NewSheet tt
     ▸ exactly_fits SheetFits sheet_word DuplicateSheet sheet_fits (λ sheet s. s)
     ▸ exactly_fits SheetFits sheet_word DeleteSheet sheet_fits (λ sheet s. s)

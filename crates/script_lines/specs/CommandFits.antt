@@ -16,9 +16,10 @@ use Rattle.script_lines.specs.declared.command.NamedName.{NamedName}
 use Rattle.script_lines.specs.declared.command.NamedUpdate.{NamedUpdate}
 use Rattle.script_lines.specs.declared.command.NamedSpan.{NamedSpan}
 use Rattle.script_lines.specs.declared.command.NamedSize.{NamedSize}
+use Rattle.script_lines.specs.declared.command.NamedFill.{NamedFill}
 use Rattle.script_lines.specs.declared.command.NamedCount.{NamedCount}
 use Rattle.script_lines.specs.declared.command.Command.{Command}
-use Rattle.script_lines.specs.declared.command.Command.TheVariants.{Set, Get, Array, Link, Unlink, Merge, Unmerge, InsertRows, InsertColumns, DeleteRows, DeleteColumns, MoveRows, MoveColumns, NewSheet, DuplicateSheet, DeleteSheet, MoveSheet, RenameSheet, HideSheet, UnhideSheet, SheetColor, GridLines, Name, NameUpdate, NameDelete, Undo, Redo, Sync, Show, Width, Height, HideRows, ShowRows, HideColumns, ShowColumns, FreezeRows, FreezeColumns}
+use Rattle.script_lines.specs.declared.command.Command.TheVariants.{Set, Get, Array, Link, Unlink, Merge, Unmerge, InsertRows, InsertColumns, DeleteRows, DeleteColumns, MoveRows, MoveColumns, NewSheet, DuplicateSheet, DeleteSheet, MoveSheet, RenameSheet, HideSheet, UnhideSheet, SheetColor, GridLines, Name, NameUpdate, NameDelete, Undo, Redo, Sync, Show, Width, Height, HideRows, ShowRows, HideColumns, ShowColumns, FreezeRows, FreezeColumns, FillRows, FillColumns}
 
 -- a row and a column that letters and digits can name
 pub record IsNamed (row column : ℤ) : Type 0 where
@@ -53,6 +54,9 @@ SpanFits span = (span.sheet < 2 ^ 32) × FitsSigned w32 span.first × FitsSigned
 
 abbrev pub SizeFits : NamedSize → Type 0
 SizeFits named = (named.sheet < 2 ^ 32) × FitsSigned w32 named.first × FitsSigned w32 named.last × FitsSigned w32 named.size
+
+abbrev pub FillFits : NamedFill → Type 0
+FillFits named = (named.sheet < 2 ^ 32) × IsNamedArea named.area × FitsSigned w32 named.to
 
 abbrev pub CountFits : NamedCount → Type 0
 CountFits named = (named.sheet < 2 ^ 32) × FitsSigned w32 named.count
@@ -104,6 +108,8 @@ CommandFits (HideColumns span) = SpanFits span
 CommandFits (ShowColumns span) = SpanFits span
 CommandFits (FreezeRows named) = CountFits named
 CommandFits (FreezeColumns named) = CountFits named
+CommandFits (FillRows named) = FillFits named
+CommandFits (FillColumns named) = FillFits named
 CommandFits NewSheet = Unit {0}
 CommandFits (DuplicateSheet sheet) = SheetFits sheet
 CommandFits (DeleteSheet sheet) = SheetFits sheet

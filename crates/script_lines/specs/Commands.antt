@@ -16,6 +16,7 @@ use Rattle.script_lines.specs.declared.command.NamedLines.{NamedLines}
 use Rattle.script_lines.specs.declared.command.NamedMove.{NamedMove}
 use Rattle.script_lines.specs.declared.command.NamedSpan.{NamedSpan}
 use Rattle.script_lines.specs.declared.command.NamedSize.{NamedSize}
+use Rattle.script_lines.specs.declared.command.NamedFill.{NamedFill}
 use Rattle.script_lines.specs.declared.command.NamedCount.{NamedCount}
 use Rattle.script_lines.specs.declared.command.NamedSheetMove.{NamedSheetMove}
 use Rattle.script_lines.specs.declared.command.NamedColor.{NamedColor}
@@ -23,7 +24,7 @@ use Rattle.script_lines.specs.declared.command.NamedGrid.{NamedGrid}
 use Rattle.script_lines.specs.declared.command.NamedName.{NamedName}
 use Rattle.script_lines.specs.declared.command.NamedUpdate.{NamedUpdate}
 use Rattle.script_lines.specs.declared.command.Command.{Command}
-use Rattle.script_lines.specs.declared.command.Command.TheVariants.{Set, Get, Array, Link, Unlink, Merge, Unmerge, InsertRows, InsertColumns, DeleteRows, DeleteColumns, MoveRows, MoveColumns, NewSheet, DuplicateSheet, DeleteSheet, MoveSheet, RenameSheet, HideSheet, UnhideSheet, SheetColor, GridLines, Name, NameUpdate, NameDelete, Undo, Redo, Sync, Show, Width, Height, HideRows, ShowRows, HideColumns, ShowColumns, FreezeRows, FreezeColumns}
+use Rattle.script_lines.specs.declared.command.Command.TheVariants.{Set, Get, Array, Link, Unlink, Merge, Unmerge, InsertRows, InsertColumns, DeleteRows, DeleteColumns, MoveRows, MoveColumns, NewSheet, DuplicateSheet, DeleteSheet, MoveSheet, RenameSheet, HideSheet, UnhideSheet, SheetColor, GridLines, Name, NameUpdate, NameDelete, Undo, Redo, Sync, Show, Width, Height, HideRows, ShowRows, HideColumns, ShowColumns, FreezeRows, FreezeColumns, FillRows, FillColumns}
 
 -- the next step, if this one has a value
 infixl 10 ◌>>=◌
@@ -80,6 +81,13 @@ span_of lines = record { sheet = lines.sheet; first = lines.first; last = lines.
 
 abbrev pub size_of : NamedMove → NamedSize
 size_of move = record { sheet = move.sheet; first = move.first; last = move.count; size = move.delta }
+
+-- `S AREA N`: a rectangle, and the line to which it is filled
+abbrev pub fill_words : Reader NamedFill
+fill_words words = do
+  named ← area_words words
+  to ← word signed_number named.1
+  Some (record { sheet = named.0.sheet; area = named.0.area; to = to.0 }, to.1)
 
 -- `S N`: how many
 abbrev pub count_words : Reader NamedCount
@@ -184,6 +192,8 @@ commands =
     ∷ (codes "show-columns", exactly lines_words (λ lines. ShowColumns (span_of lines)))
     ∷ (codes "freeze-rows", exactly count_words FreezeRows)
     ∷ (codes "freeze-columns", exactly count_words FreezeColumns)
+    ∷ (codes "fill-rows", exactly fill_words FillRows)
+    ∷ (codes "fill-columns", exactly fill_words FillColumns)
     ∷ (codes "new-sheet", alone NewSheet)
     ∷ (codes "duplicate-sheet", exactly sheet_word DuplicateSheet)
     ∷ (codes "delete-sheet", exactly sheet_word DeleteSheet)

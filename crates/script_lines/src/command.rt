@@ -118,6 +118,24 @@ impl Exact for NamedSize {
     ghost equals = { named_size_equals };
 }
 
+/// A rectangle that a line names, and the row or the column to which it is to be filled.
+#[derive(Clone, Copy, Debug, PartialEq, Eq)]
+pub struct NamedFill {
+    /// The index of its sheet.
+    pub sheet: u32,
+    pub area: MergedCell,
+    pub to: i32,
+}
+
+impl Exact for NamedFill {
+    ghost use Rattle.std.proofs.Common.{rules};
+    ghost use Rattle.script_lines.specs.laws.NamedEquals.{named_fill_equals};
+
+    ghost copies = { λ a b h. Prim.search rules };
+
+    ghost equals = { named_fill_equals };
+}
+
 /// How many lines of a sheet that a line names are to be frozen.
 #[derive(Clone, Copy, Debug, PartialEq, Eq)]
 pub struct NamedCount {
@@ -266,6 +284,10 @@ pub enum Command {
     FreezeRows(NamedCount),
     /// `freeze-columns S N`: freeze columns at the left of a sheet.
     FreezeColumns(NamedCount),
+    /// `fill-rows S AREA N`: fill the rows from a rectangle to a row.
+    FillRows(NamedFill),
+    /// `fill-columns S AREA N`: fill the columns from a rectangle to a column.
+    FillColumns(NamedFill),
     /// `new-sheet`: put an empty sheet behind the last one.
     NewSheet,
     /// `duplicate-sheet S`: put a copy of a sheet behind it.

@@ -8,8 +8,8 @@ ghost use Rattle.script_lines.specs.Commands as spec;
 
 use crate::color::color_of;
 use crate::command::{
-    Command, NamedArea, NamedCell, NamedColor, NamedCount, NamedGrid, NamedLines, NamedMove,
-    NamedName, NamedSheetMove, NamedSize, NamedSpan, NamedUpdate,
+    Command, NamedArea, NamedCell, NamedColor, NamedCount, NamedFill, NamedGrid, NamedLines,
+    NamedMove, NamedName, NamedSheetMove, NamedSize, NamedSpan, NamedUpdate,
 };
 use crate::escape::unescape;
 use crate::number::{read_i32, read_u32};
@@ -123,6 +123,20 @@ fn size_of(moved: NamedMove) -> NamedSize
         last: moved.count,
         size: moved.delta,
     }
+}
+
+/// `S AREA N`, and the words behind it.
+fn fill_words(words: Option<&str>) -> Option<(NamedFill, Option<&str>)>
+    ensures { option_map (λ found. (found.0, parts_after 32 (option_copied found.1))) result ≡ spec.fill_words (parts_after 32 (option_copied words.entry)) }
+{
+    let (named, words) = area_words(words)?;
+    let (to, words) = number_word(words)?;
+    let fill = NamedFill {
+        sheet: named.sheet,
+        area: named.area,
+        to,
+    };
+    Some((fill, words))
 }
 
 /// `S N`, and the words behind it.
@@ -326,6 +340,8 @@ fn read_words(alloc: Global, word: &str, words: Option<&str>) -> Result<Option<C
         )))),
         "freeze-rows" => Ok(ended(count_words(words)).map(Command::FreezeRows)),
         "freeze-columns" => Ok(ended(count_words(words)).map(Command::FreezeColumns)),
+        "fill-rows" => Ok(ended(fill_words(words)).map(Command::FillRows)),
+        "fill-columns" => Ok(ended(fill_words(words)).map(Command::FillColumns)),
         "new-sheet" => Ok(alone(Command::NewSheet, words)),
         "duplicate-sheet" => Ok(ended(sheet_word(words)).map(Command::DuplicateSheet)),
         "delete-sheet" => Ok(ended(sheet_word(words)).map(Command::DeleteSheet)),

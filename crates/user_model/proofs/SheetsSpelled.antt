@@ -41,7 +41,7 @@ use Rattle.sheet_history.specs.laws.Entries.{entry_holds}
 use Rattle.sheet_wire.specs.QueueBytes.{IsKnownDiff}
 use Rattle.sheet_wire.specs.laws.Fitting.{known_diff}
 use Rattle.edit_plans.specs.Edits.{Edit, is_of_sheets, record_of}
-use Rattle.edit_plans.specs.Edits.Edit.{Input, ArrayInput, SetLink, Merge, Unmerge, Lines, MoveLines, AddSheet, CopySheet, DeleteSheet, MoveSheet, RenameSheet, ChangeNames, SetField, SetSize, SetHidden}
+use Rattle.edit_plans.specs.Edits.Edit.{Input, ArrayInput, SetLink, Merge, Unmerge, Lines, MoveLines, AddSheet, CopySheet, DeleteSheet, MoveSheet, RenameSheet, ChangeNames, SetField, SetSize, SetHidden, Fill}
 use Rattle.name_edits.specs.declared.NameChange.{NameChange}
 use Rattle.name_edits.specs.NameChanges.{trees_lost}
 use Rattle.name_edits.specs.NameEdits.{NameEdit, name_change}
@@ -203,3 +203,4 @@ module _ (w : Book) (rules : IsWellFormed w) where
   sheets_spellable (SetField index value) is later numbers = absurd (let never : false ≡ true = is in cc)
   sheets_spellable (SetSize index axis first last size) is later numbers = absurd (let never : false ≡ true = is in cc)
   sheets_spellable (SetHidden index axis first last hidden) is later numbers = absurd (let never : false ≡ true = is in cc)
+  sheets_spellable (Fill index axis source to language) is later numbers = absurd (let never : false ≡ true = is in cc)

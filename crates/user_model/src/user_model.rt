@@ -24,6 +24,7 @@ ghost use Rattle.user_model.specs.Stands.{StandsFor, IsReached, IsAnyPlan, IsPla
 ghost use Rattle.user_model.specs.Values.{IsMade, LeavesMade, Makes, is_none_left};
 
 mod attributes;
+mod fills;
 mod lines;
 mod names;
 mod sheets;

@@ -40,7 +40,7 @@ use Rattle.book_laws.specs.laws.SheetDiffLaws.{found_at}
 use Rattle.sheet_history.specs.declared.Diff.{Diff}
 use Rattle.sheet_history.specs.Diffs.{step_forward, step_back, by_rule, tested, book_after, book_before}
 use Rattle.edit_plans.specs.Edits.{Edit, changed, is_of_sheets, record_of}
-use Rattle.edit_plans.specs.Edits.Edit.{Input, ArrayInput, SetLink, Merge, Unmerge, Lines, MoveLines, AddSheet, CopySheet, DeleteSheet, MoveSheet, RenameSheet, ChangeNames, SetField, SetSize, SetHidden}
+use Rattle.edit_plans.specs.Edits.Edit.{Input, ArrayInput, SetLink, Merge, Unmerge, Lines, MoveLines, AddSheet, CopySheet, DeleteSheet, MoveSheet, RenameSheet, ChangeNames, SetField, SetSize, SetHidden, Fill}
 use Rattle.edit_plans.specs.Plans.{GoesBothWays}
 use Rattle.edit_plans.specs.SheetEdits.{with_new_sheet, sheet_added, with_copy, sheet_copied, sheet_deleted, sheet_taken, with_name, sheet_named, new_diff, copy_diff, deletion_diff, move_diff, rename_diff, one_diff}
 
@@ -288,3 +288,4 @@ goes_both_ways (MoveLines index axis first count delta) earlier later is rules h
 goes_both_ways (SetField index value) earlier later is rules how = absurd (let never : false ≡ true = is in cc)
 goes_both_ways (SetSize index axis first last size) earlier later is rules how = absurd (let never : false ≡ true = is in cc)
 goes_both_ways (SetHidden index axis first last hidden) earlier later is rules how = absurd (let never : false ≡ true = is in cc)
+goes_both_ways (Fill index axis source to language) earlier later is rules how = absurd (let never : false ≡ true = is in cc)

@@ -19,6 +19,8 @@ use Rattle.script_lines.specs.declared.command.NamedSpan.{NamedSpan}
 use Rattle.script_lines.specs.contracts.command.NamedSpanPartialEq.TheImpl as named_span
 use Rattle.script_lines.specs.declared.command.NamedSize.{NamedSize}
 use Rattle.script_lines.specs.contracts.command.NamedSizePartialEq.TheImpl as named_size
+use Rattle.script_lines.specs.declared.command.NamedFill.{NamedFill}
+use Rattle.script_lines.specs.contracts.command.NamedFillPartialEq.TheImpl as named_fill
 use Rattle.script_lines.specs.declared.command.NamedCount.{NamedCount}
 use Rattle.script_lines.specs.contracts.command.NamedCountPartialEq.TheImpl as named_count
 use Rattle.script_lines.specs.declared.command.NamedSheetMove.{NamedSheetMove}
@@ -61,6 +63,11 @@ pub named_size_equals : (a b : NamedSize) → Decides (named_size.ghosts.eq a b)
 named_size_equals a b =
     Decides-like _ (λ p i. record { sheet = p.0 i; first = p.1.0 i; last = p.1.1.0 i; size = p.1.1.1 i }) (λ e. (ap (λ x. x.sheet) e, (ap (λ x. x.first) e, (ap (λ x. x.last) e, ap (λ x. x.size) e))))
     (Decides-and _ _ (unsigned_Decides _ _) (Decides-and _ _ (signed_Decides _ _) (Decides-and _ _ (signed_Decides _ _) (signed_Decides _ _))))
+
+pub named_fill_equals : (a b : NamedFill) → Decides (named_fill.ghosts.eq a b) (a ≡ b)
+named_fill_equals a b =
+    Decides-like _ (λ p i. record { sheet = p.0 i; area = p.1.0 i; to = p.1.1 i }) (λ e. (ap (λ x. x.sheet) e, (ap (λ x. x.area) e, ap (λ x. x.to) e)))
+    (Decides-and _ _ (unsigned_Decides _ _) (Decides-and _ _ (merged_equals _ _) (signed_Decides _ _)))
 
 pub named_count_equals : (a b : NamedCount) → Decides (named_count.ghosts.eq a b) (a ≡ b)
 named_count_equals a b =

@@ -1,7 +1,7 @@
 use base_styles::Color;
 use base_values::Position;
 use script_lines::{
-    Command, NamedArea, NamedCell, NamedColor, NamedCount, NamedLines, NamedMove, NamedName,
+    Command, NamedArea, NamedCell, NamedColor, NamedCount, NamedFill, NamedLines, NamedMove, NamedName,
     NamedSize, NamedSpan, push_escaped, push_reference, read_command,
 };
 use std::alloc::{AllocError, Global};
@@ -39,6 +39,8 @@ fn other_in_words(alloc: Global, command: Command) -> Result<String, AllocError>
         Command::ShowColumns(span) => span_in_words(alloc, "show columns", span),
         Command::FreezeRows(named) => count_in_words(alloc, "freeze rows", named),
         Command::FreezeColumns(named) => count_in_words(alloc, "freeze columns", named),
+        Command::FillRows(named) => fill_in_words(alloc, "fill rows", named),
+        Command::FillColumns(named) => fill_in_words(alloc, "fill columns", named),
         Command::NewSheet => format!(in alloc; "new sheet"),
         Command::DuplicateSheet(sheet) => format!(in alloc; "duplicate: sheet {sheet}"),
         Command::DeleteSheet(sheet) => format!(in alloc; "delete: sheet {sheet}"),
@@ -131,6 +133,12 @@ fn size_in_words(alloc: Global, word: &str, named: NamedSize) -> Result<String, 
     format!(in alloc; "{word}: sheet {sheet} first {first} last {last} size {size}")
 }
 
+fn fill_in_words(alloc: Global, word: &str, named: NamedFill) -> Result<String, AllocError> {
+    let (sheet, row, column, to) = (named.sheet, named.area.row, named.area.column, named.to);
+    let (width, height) = (named.area.width, named.area.height);
+    format!(in alloc; "{word}: sheet {sheet} row {row} column {column} {width}x{height} to {to}")
+}
+
 fn count_in_words(alloc: Global, word: &str, named: NamedCount) -> Result<String, AllocError> {
     let (sheet, count) = (named.sheet, named.count);
     format!(in alloc; "{word}: sheet {sheet} count {count}")
@@ -206,6 +214,14 @@ const COMMANDS: [(&[u8], &str); 70] = [
         "height: sheet 7 first 0 last 1 size -1",
     ),
     (b"hide-rows 0 2 2", "hide rows: sheet 0 first 2 last 2"),
+    (
+        b"fill-rows 0 B2:A1 -5",
+        "fill rows: sheet 0 row 1 column 1 2x2 to -5",
+    ),
+    (
+        b"fill-columns 3 C4 007",
+        "fill columns: sheet 3 row 4 column 3 1x1 to 7",
+    ),
     (b"show-rows 0 2 1", "show rows: sheet 0 first 2 last 1"),
     (
         b"hide-columns 0 4 4",
@@ -301,6 +317,9 @@ const BAD_LINES: [&[u8]; 94] = [
     b"width 0 2 3",
     b"height 0 1 1 2147483648",
     b"hide-rows 0 1",
+    b"fill-rows 0 A1:A2",
+    b"fill-rows 0 A1:A2 3 ",
+    b"fill-columns 0 3 4",
     b"hide-columns 0 1 2 3",
     b"freeze-rows 0",
     b"array 0 C3 \\q",

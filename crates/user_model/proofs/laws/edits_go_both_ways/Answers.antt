@@ -3,7 +3,7 @@ use Rattle.sheet_grid.specs.Book.{Book}
 use Rattle.sheet_rules.specs.WellFormed.{IsWellFormed}
 use Rattle.edit_plans.specs.Plans.{HasRecord}
 use Rattle.edit_plans.specs.Edits.{Edit, IsGiven, changed, is_of_entries}
-use Rattle.edit_plans.specs.Edits.Edit.{Input, ArrayInput, SetLink, Merge, Unmerge, Lines, MoveLines, AddSheet, CopySheet, DeleteSheet, MoveSheet, RenameSheet, ChangeNames, SetField, SetSize, SetHidden}
+use Rattle.edit_plans.specs.Edits.Edit.{Input, ArrayInput, SetLink, Merge, Unmerge, Lines, MoveLines, AddSheet, CopySheet, DeleteSheet, MoveSheet, RenameSheet, ChangeNames, SetField, SetSize, SetHidden, Fill}
 use Rattle.user_model.specs.BothWays.{GoesBothWays}
 use Rattle.user_model.proofs.EntrySteps.{of_entries, entries_both}
 use Rattle.user_model.proofs.LineSteps.{lines_go_both_ways}
@@ -39,3 +39,4 @@ returns c = go
     go (SetField index value) earlier later rules given how = by_law (SetField index value) earlier later refl rules given how
     go (SetSize index axis first last size) earlier later rules given how = by_law (SetSize index axis first last size) earlier later refl rules given how
     go (SetHidden index axis first last hidden) earlier later rules given how = by_law (SetHidden index axis first last hidden) earlier later refl rules given how
+    go (Fill index axis source to language) earlier later rules given how = by_law (Fill index axis source to language) earlier later refl rules given how

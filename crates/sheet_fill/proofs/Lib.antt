@@ -1,0 +1,6 @@
+mod LineCounts
+mod RepeatedLines
+mod Tiling
+mod NamedPlaces
+mod Planned
+mod CoveredPlaces

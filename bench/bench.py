@@ -25,6 +25,7 @@ AIM = 25
 LINE_ROUNDS = 5
 RECORDED_ROUNDS = 20
 LINE_AIM = 30
+CLEARINGS = ("clear", "clear-contents", "clear-formatting")
 LINE_EDITS = ("insert-rows", "insert-columns", "move-rows", "move-columns")
 
 
@@ -73,6 +74,32 @@ def all_and_back(count):
 
 def synced_each(count):
     return [line for edit in sets(count) for line in (edit, "sync")]
+
+
+def last_place(count):
+    """The last of as many cells that fill a rectangle from A1 on."""
+    return f"{COLUMNS[99]}{count // 100}"
+
+
+def styled(count):
+    """Changes the styles of as many empty cells."""
+    return [f"style 0 A1:{last_place(count)} font.b true"]
+
+
+def styled_and_cleared(count):
+    """Sets as many cells, changes the styles of their columns, and takes contents and styles away."""
+    columns = f"0 A1:{COLUMNS[99]}1048576"
+    return sets(count) + [f"style {columns} font.i true", f"clear-contents 0 A1:{last_place(count)}", f"clear-formatting {columns}"]
+
+
+def cleared(count):
+    """Sets as many cells, and clears a small rectangle as often in each way."""
+    return sets(count) + [f"{edit} 0 A1:B2" for edit in CLEARINGS] * count
+
+
+def filled(count):
+    """Goes on from two numbers in as many cells below them."""
+    return ["set 0 A1 1", "set 0 A2 3", f"fill-rows 0 A1:A2 {count + 2}"]
 
 
 def printed_call(count):
@@ -160,6 +187,14 @@ def shares(formula_seconds):
         print(f"  {name}: {seconds / asked * 100:.0f} % of a set and a get")
 
 
+RANGES = (
+    ("styles of a rectangle", styled),
+    ("cells set, and columns styled and cleared", styled_and_cleared),
+    ("cells set, and a small rectangle cleared as often", cleared),
+    ("a fill", filled),
+)
+
+
 def main():
     if not os.path.exists(EDITOR):
         sys.exit("bench: build the program first, by ./run examples/first.script")
@@ -176,6 +211,7 @@ def main():
     seconds, _, memory, fast_set = pair("sets of a formula", formulas)
     print(f"  {seconds / LARGE * 1e9:.0f} ns an edit, at most {memory / LARGE:.0f} bytes a set cell in all")
     shares(seconds)
+    fast_ranges = [pair(name, script)[3] for name, script in RANGES]
     _, _, _, fast_read = pair(f"bytes of a formula, read {READS} times", long_formula)
     _, _, _, fast_print = pair("arguments printed in five forms", printed_call, PRINTER, (FEW, MANY))
     _, _, _, fast_names = pair("bound names printed for Excel", printed_names, PRINTER, (FEW, MANY))
@@ -184,7 +220,7 @@ def main():
     fast_records = line_edits(recorded_times, RECORDED_ROUNDS, "through the user model", AIM)
     scripts = [fast, fast_back, fast_sync, fast_set, fast_read, fast_records]
     programs = [fast_print, fast_names, fast_lines]
-    sys.exit(0 if all(scripts + programs) else 1)
+    sys.exit(0 if all(scripts + programs + fast_ranges) else 1)
 
 
 if __name__ == "__main__":

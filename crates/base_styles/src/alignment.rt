@@ -13,6 +13,39 @@ pub enum HorizontalAlignment {
     Distributed,
 }
 
+impl HorizontalAlignment {
+    ghost use Rattle.std.specs.Prelude.{◌≡◌};
+    ghost use Rattle.base_styles.specs.Alignments.{horizontal_name};
+
+    /// All horizontal alignments, in the order of their codes.
+    pub const ALL: [HorizontalAlignment; 8] = [
+        HorizontalAlignment::General,
+        HorizontalAlignment::Left,
+        HorizontalAlignment::Center,
+        HorizontalAlignment::Right,
+        HorizontalAlignment::Fill,
+        HorizontalAlignment::Justify,
+        HorizontalAlignment::CenterContinuous,
+        HorizontalAlignment::Distributed,
+    ];
+
+    /// The name of the alignment.
+    pub fn name(self) -> &'static str
+        ensures { result.now ≡ horizontal_name self }
+    {
+        match self {
+            HorizontalAlignment::General => "general",
+            HorizontalAlignment::Left => "left",
+            HorizontalAlignment::Center => "center",
+            HorizontalAlignment::Right => "right",
+            HorizontalAlignment::Fill => "fill",
+            HorizontalAlignment::Justify => "justify",
+            HorizontalAlignment::CenterContinuous => "centerContinuous",
+            HorizontalAlignment::Distributed => "distributed",
+        }
+    }
+}
+
 impl Exact for HorizontalAlignment {
     ghost use Rattle.std.proofs.Common.{rules};
     ghost use Rattle.base_styles.specs.laws.AlignmentEquals.{horizontal_equals};
@@ -30,6 +63,33 @@ pub enum VerticalAlignment {
     Distributed,
     Justify,
     Top,
+}
+
+impl VerticalAlignment {
+    ghost use Rattle.std.specs.Prelude.{◌≡◌};
+    ghost use Rattle.base_styles.specs.Alignments.{vertical_name};
+
+    /// All vertical alignments, in the order of their codes.
+    pub const ALL: [VerticalAlignment; 5] = [
+        VerticalAlignment::Bottom,
+        VerticalAlignment::Center,
+        VerticalAlignment::Distributed,
+        VerticalAlignment::Justify,
+        VerticalAlignment::Top,
+    ];
+
+    /// The name of the alignment.
+    pub fn name(self) -> &'static str
+        ensures { result.now ≡ vertical_name self }
+    {
+        match self {
+            VerticalAlignment::Bottom => "bottom",
+            VerticalAlignment::Center => "center",
+            VerticalAlignment::Distributed => "distributed",
+            VerticalAlignment::Justify => "justify",
+            VerticalAlignment::Top => "top",
+        }
+    }
 }
 
 impl Exact for VerticalAlignment {
@@ -56,4 +116,20 @@ impl Exact for Alignment {
     ghost copies = { λ a b h. Prim.search rules };
 
     ghost equals = { alignment_equals };
+}
+
+impl Default for Alignment {
+    ghost use Rattle.std.specs.Prelude.{◌≡◌};
+    ghost use Rattle.base_styles.specs.Alignments.{default_alignment};
+
+    ghost is_default = { λ alignment. alignment ≡ default_alignment };
+
+    /// The alignment of a cell that was given none: general, bottom, without wrapping.
+    fn default() -> Alignment {
+        Alignment {
+            horizontal: HorizontalAlignment::General,
+            vertical: VerticalAlignment::Bottom,
+            wrap_text: false,
+        }
+    }
 }

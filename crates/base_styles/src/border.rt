@@ -15,6 +15,28 @@ pub enum BorderStyle {
     Double,
 }
 
+impl BorderStyle {
+    ghost use Rattle.std.specs.Prelude.{◌≡◌};
+    ghost use Rattle.base_styles.specs.Borders.{weight};
+
+    /// How heavy the line is, from 1 for the lightest to 9 for the heaviest.
+    pub fn weight(self) -> u8
+        ensures { result ≡ weight self }
+    {
+        match self {
+            BorderStyle::Dotted => 1,
+            BorderStyle::Thin => 2,
+            BorderStyle::MediumDashDotDot => 3,
+            BorderStyle::MediumDashDot => 4,
+            BorderStyle::SlantDashDot => 5,
+            BorderStyle::MediumDashed => 6,
+            BorderStyle::Medium => 7,
+            BorderStyle::Thick => 8,
+            BorderStyle::Double => 9,
+        }
+    }
+}
+
 impl Exact for BorderStyle {
     ghost use Rattle.std.proofs.Common.{rules};
     ghost use Rattle.base_styles.specs.laws.BorderEquals.{border_style_equals};

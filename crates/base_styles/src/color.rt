@@ -17,6 +17,47 @@ pub enum ThemeColor {
     FollowedHyperlink,
 }
 
+impl ThemeColor {
+    ghost use Rattle.std.specs.Prelude.{◌≡◌};
+    ghost use Rattle.base_styles.specs.Colors.{theme_color_name};
+
+    /// All colours of a theme, in its order.
+    pub const ALL: [ThemeColor; 12] = [
+        ThemeColor::Light1,
+        ThemeColor::Dark1,
+        ThemeColor::Light2,
+        ThemeColor::Dark2,
+        ThemeColor::Accent1,
+        ThemeColor::Accent2,
+        ThemeColor::Accent3,
+        ThemeColor::Accent4,
+        ThemeColor::Accent5,
+        ThemeColor::Accent6,
+        ThemeColor::Hyperlink,
+        ThemeColor::FollowedHyperlink,
+    ];
+
+    /// The colour in words: `theme:` and its number, from 0 to 11.
+    pub fn name(self) -> &'static str
+        ensures { result.now ≡ theme_color_name self }
+    {
+        match self {
+            ThemeColor::Light1 => "theme:0",
+            ThemeColor::Dark1 => "theme:1",
+            ThemeColor::Light2 => "theme:2",
+            ThemeColor::Dark2 => "theme:3",
+            ThemeColor::Accent1 => "theme:4",
+            ThemeColor::Accent2 => "theme:5",
+            ThemeColor::Accent3 => "theme:6",
+            ThemeColor::Accent4 => "theme:7",
+            ThemeColor::Accent5 => "theme:8",
+            ThemeColor::Accent6 => "theme:9",
+            ThemeColor::Hyperlink => "theme:10",
+            ThemeColor::FollowedHyperlink => "theme:11",
+        }
+    }
+}
+
 impl Exact for ThemeColor {
     ghost use Rattle.std.proofs.Common.{rules};
     ghost use Rattle.base_styles.specs.laws.ColorEquals.{theme_color_equals};

@@ -41,7 +41,8 @@ pub fn later_workbooks_are_well_formed()
         → IsWellFormed (with_sheet_at index (new_sheet id name) w.names w) }
     ensures copy { (id index from : ℕ) (name : List ℕ) (source : Sheet) (w : Book) → IsWellFormed w → slice_get w.worksheets from ≡ Some source
         → index_of w id ≡ None → is_sheet_name name ≡ true
-        → list_any (same_folded name) (names_of w.worksheets) ≡ false → IsWellFormed (with_sheet_at index (sheet_as id name source) (names_copied source.id id w.names) w) }
+        → list_any (same_folded name) (names_of w.worksheets) ≡ false
+        → IsWellFormed (with_sheet_at index (sheet_as id name source) (names_copied source.id id w.names) w) }
     ensures deletion { (index : ℕ) (sheet : Sheet) (w : Book) → IsWellFormed w → slice_get w.worksheets index ≡ Some sheet → 1 < length w.worksheets
         → IsWellFormed (without_sheet_at index (names_left sheet.id w.names) w) }
     ensures moved { (from to : ℕ) (w : Book) → IsWellFormed w → IsWellFormed (record w { worksheets = sheets_moved w.worksheets from to }) }

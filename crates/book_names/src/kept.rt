@@ -99,7 +99,8 @@ fn kept_where_reached<T: SheetReach, B: SheetReach>(
     old: &str,
     new: &str,
 ) -> Result<PositionMap<Shared<Node>>, EditError>
-    ensures kept { IfOk result (λ kept. kept ≡ cells_kept (T.reached there.now sheet.now.id) (B.reached back.now sheet.now.id) old.now new.now sheet.now.cells) }
+    ensures kept { IfOk result (λ kept.
+        kept ≡ cells_kept (T.reached there.now sheet.now.id) (B.reached back.now sheet.now.id) old.now new.now sheet.now.cells) }
     ensures numbers { IfOk result AreCanonicalFormulas }
     ensures only { IsOkUnless result NoMemory }
 {

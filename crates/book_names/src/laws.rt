@@ -21,5 +21,6 @@ pub fn renaming_leads_both_ways()
 /// A law about renamed sheets, with no work at run time: a well-formed workbook stays so where a sheet
 /// gets a name that it may get.
 pub fn renamed_workbooks_are_well_formed()
-    ensures { (id : ℕ) (old new : List ℕ) (w : Book) → IsWellFormed w → may_be_named id new w.worksheets ≡ true → IsWellFormed (book_renamed id old new w) }
+    ensures { (id : ℕ) (old new : List ℕ) (w : Book) → IsWellFormed w → may_be_named id new w.worksheets ≡ true
+        → IsWellFormed (book_renamed id old new w) }
 {}

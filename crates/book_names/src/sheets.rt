@@ -65,7 +65,8 @@ pub fn with_formulas_back(
     kept: &KeptTrees,
 ) -> Result<Worksheet, EditError>
     requires { AreCanonicalTrees kept.now }
-    ensures sheet { IfOk result (λ made. made ≡ record sheet.now { cells = cells_back reach old.now new.now (kept_under kept.now sheet.now.id) sheet.now.cells }) }
+    ensures sheet { IfOk result (λ made.
+        made ≡ record sheet.now { cells = cells_back reach old.now new.now (kept_under kept.now sheet.now.id) sheet.now.cells }) }
     ensures only { IsOkUnless result NoMemory }
 {
     let change = Returned {

@@ -1,6 +1,6 @@
 -- An accepted edit by entries has a record.
 use Rattle.std.specs.Prelude.{IfOk, IsTrue}
-use Rattle.std.proofs.Common.{◌≡◌, ℕ, ℤ, true, false, cond, not, List, [], ◌∷◌, Option, Some, None, Result, Ok, Err, refl, ap, sym, subst, ◌∙◌}
+use Rattle.std.proofs.Common.{◌≡◌, ℕ, ℤ, Bool, true, false, cond, not, List, Option, Some, None, Result, Ok, Err, refl, ap, sym, subst, ◌∙◌}
 use Rattle.base_values.specs.declared.EditError.{EditError}
 use Rattle.base_values.specs.declared.EditError.TheVariants.{InvalidArea, MergeOverlap, ArrayCell, NoMerge}
 use Rattle.base_values.specs.declared.Position.{Position}
@@ -21,13 +21,12 @@ use Rattle.sheet_grid.specs.Arrays.{large_arrays_of}
 use Rattle.sheet_rules.specs.Occupied.{is_merge, meets_any}
 use Rattle.sheet_rules.specs.WellFormed.{IsWellFormed}
 use Rattle.sheet_history.specs.declared.Diff.{Diff}
-use Rattle.sheet_history.specs.declared.Diff.TheVariants.{Merges as MergesDiff}
 use Rattle.sheet_history.specs.declared.SheetField.{SheetField}
 use Rattle.sheet_history.specs.Fields.{field_of, with_field}
 use Rattle.sheet_history.specs.Records.{IsRecord}
 use Rattle.edit_plans.specs.Plans.{HasRecord}
 use Rattle.edit_plans.specs.Edits.{Edit, IsGiven, changed, is_of_entries}
-use Rattle.edit_plans.specs.Edits.Edit.{Input, ArrayInput, SetLink, Merge, Unmerge, Lines, MoveLines, AddSheet, CopySheet, DeleteSheet, MoveSheet, RenameSheet, ChangeNames, SetField, SetSize, SetHidden}
+use Rattle.edit_plans.specs.Edits.Edit.{Input, ArrayInput, SetLink, Merge, Unmerge, Lines, MoveLines, AddSheet, CopySheet, DeleteSheet, MoveSheet, RenameSheet, ChangeNames, SetField, SetSize, SetHidden, SetRangeStyle, ClearRange, ClearFormatting, PasteStyles, SetSetting, Fill}
 use Rattle.edit_plans.specs.Inputs.{IsInput, input_place, input_put, with_input}
 use Rattle.edit_plans.specs.Links.{link_set}
 use Rattle.edit_plans.specs.Merging.{merge_diffs, merge_made, merge_undone, merged_in, unmerged_at, unmerged_in, with_merge, without_merge}
@@ -46,8 +45,30 @@ use Rattle.edit_plans.specs.laws.InputLaws.{input_exact, input_well_formed}
 use Rattle.edit_plans.specs.laws.LinkLaws.{link_exact, link_well_formed}
 use Rattle.edit_plans.specs.ArrayInputs.{array_area, array_diffs, array_put, with_array}
 use Rattle.edit_plans.proofs.ArrayPlans.{array_exact, array_is, array_well_formed}
+use Rattle.base_tables.specs.declared.Language.{Language}
+use Rattle.sheet_fill.specs.declared.FillPlan.{FillPlan}
+use Rattle.sheet_fill.specs.Plans.{planned_in as filled_in}
+use Rattle.edit_plans.specs.Fills.{fill_made, fill_record, with_fill}
+use Rattle.edit_plans.specs.laws.FillLaws.{fill_exact, fill_well_formed}
 use Rattle.edit_plans.proofs.Merges.{merge_exact, merge_well_formed, unmerge_exact, unmerge_well_formed}
 use Rattle.edit_plans.proofs.MergePlans.{may_merge}
+use Rattle.base_axis.specs.Rectangles.{IsInside}
+use Rattle.base_styles.specs.declared.Style.{Style}
+use Rattle.base_styles.specs.DefaultStyle.{default_style}
+use Rattle.base_values.specs.declared.EditError.TheVariants.{StylesShape, StyleValue}
+use Rattle.range_styles.specs.declared.AreaKind.TheVariants.{OtherPlaces}
+use Rattle.range_styles.specs.declared.Clearing.{Clearing}
+use Rattle.range_styles.specs.declared.SheetPlan.{SheetPlan}
+use Rattle.range_styles.specs.declared.StyleRange.{StyleRange}
+use Rattle.range_styles.specs.Clearing.{clear_area, clear_plan}
+use Rattle.range_styles.specs.Styled.{Accepts, Made, all_accept, planned_styles, style_plan}
+use Rattle.range_styles.specs.Tiles.{tiles}
+use Rattle.entry_records.specs.SheetPlans.{with_plan}
+use Rattle.entry_records.specs.laws.AtIndex.{keeps}
+use Rattle.entry_records.specs.laws.PlanRules.{PlanKeeps}
+use Rattle.edit_plans.specs.RangeEdits.{cleared_in, formats_cleared, formats_in, inside_area, is_tile, may_update, pasted_in, planned_in, range_cleared, styles_in, styles_pasted, styles_set, update_refusal, updates, whole_range}
+use Rattle.edit_plans.specs.laws.RangeRules.{IsSized, cleared_keeps, styled_keeps}
+use Rattle.edit_plans.proofs.Ranges.{carried_has_record, clear_is, default_sized, inside_is, tiles_keep, updates_sized}
 
 -- what was found by an accepted edit of the sheet at an index
 record IsEdited (w : Book) (index : ℕ) (edit : Sheet → Result Sheet EditError) (later : Book) : Type 0 where
@@ -166,6 +187,91 @@ attrs_has_record index axis first last change w later rules fits how =
     go sheet next at is (Ok count) from (Err error) fits e = absurd (let never : ◌≡◌ {A = Result Sheet EditError} (Err error) (Ok next) = e in cc)
     go sheet next at is (Err error) from made fits e = absurd (let never : ◌≡◌ {A = Result Sheet EditError} (Err error) (Ok next) = e in cc)
 
+-- a plan of a sheet that was carried out, if none was refused
+planned_has_record : (w later : Book) (rules : IsWellFormed w) (index : ℕ) (sheet next : Sheet) (at : sheet_at w index ≡ Ok sheet) → with_sheet w index next ≡ later
+    → (plan : SheetPlan) → PlanKeeps plan sheet → ◌≡◌ {A = Result Sheet EditError} (Ok (with_plan plan sheet)) (Ok next) → HasRecord w later
+planned_has_record w later rules index sheet next at is plan keeping done =
+    let same : with_plan plan sheet ≡ next = cc in carried_has_record w later rules index sheet at plan keeping (ap (with_sheet w index) same ∙ is)
+
+-- styles that are changed in a rectangle
+changed_has_record : (w later : Book) (rules : IsWellFormed w) (index : ℕ) (sheet next : Sheet) (at : sheet_at w index ≡ Ok sheet) → with_sheet w index next ≡ later
+    → (range : StyleRange) → IsInside range.area → (made : Made) → IsSized made → (accepts : Accepts) (refusal : EditError)
+    → planned_in sheet (planned_styles range made accepts refusal sheet) ≡ Ok next → HasRecord w later
+unfolding planned_styles
+changed_has_record w later rules index sheet next at is range inside made sized accepts refusal done = go (all_accept range accepts sheet) done
+  where
+    go : (b : Bool) → planned_in sheet (cond b (Ok (style_plan range made sheet)) (Err refusal)) ≡ Ok next → HasRecord w later
+    go true e = planned_has_record w later rules index sheet next at is (style_plan range made sheet) (styled_keeps range inside made sized sheet (keeps w rules index sheet at)) e
+    go false e = absurd (let never : ◌≡◌ {A = Result Sheet EditError} (Err refusal) (Ok next) = e in cc)
+
+styles_has_record : (index : ℕ) (r : MergedCell) (path value : List ℕ) (w later : Book) → IsWellFormed w → styles_set index r path value w ≡ Ok later → HasRecord w later
+unfolding styles_set
+styles_has_record index r path value w later rules how =
+    let it = edited w index (styles_in r path value) later how in go it.sheet it.next it.at it.later_is (inside_area r) refl it.done
+  where
+    go : (sheet next : Sheet) → sheet_at w index ≡ Ok sheet → with_sheet w index next ≡ later → (a : Result MergedCell EditError) → inside_area r ≡ a
+        → and_then a (λ area. planned_in sheet (planned_styles (whole_range area false) (updates path value) (may_update path value) (update_refusal path value) sheet)) ≡ Ok next
+        → HasRecord w later
+    go sheet next at is (Ok area) from e =
+        changed_has_record w later rules index sheet next at is (whole_range area false) (inside_is r area from) (updates path value) (updates_sized path value)
+        (may_update path value) (update_refusal path value) e
+    go sheet next at is (Err error) from e = absurd (let never : ◌≡◌ {A = Result Sheet EditError} (Err error) (Ok next) = e in cc)
+
+formats_has_record : (index : ℕ) (r : MergedCell) (w later : Book) → IsWellFormed w → formats_cleared index r w ≡ Ok later → HasRecord w later
+unfolding formats_cleared
+formats_has_record index r w later rules how =
+    let it = edited w index (formats_in r) later how in go it.sheet it.next it.at it.later_is (inside_area r) refl it.done
+  where
+    go : (sheet next : Sheet) → sheet_at w index ≡ Ok sheet → with_sheet w index next ≡ later → (a : Result MergedCell EditError) → inside_area r ≡ a
+        → and_then a (λ area. planned_in sheet (planned_styles (whole_range area true) (λ place style. default_style) (λ place style. true) StyleValue sheet)) ≡ Ok next
+        → HasRecord w later
+    go sheet next at is (Ok area) from e =
+        changed_has_record w later rules index sheet next at is (whole_range area true) (inside_is r area from) (λ place style. default_style) default_sized
+        (λ place style. true) StyleValue e
+    go sheet next at is (Err error) from e = absurd (let never : ◌≡◌ {A = Result Sheet EditError} (Err error) (Ok next) = e in cc)
+
+pasted_has_record : (index : ℕ) (r : MergedCell) (styles : List (List Style)) (w later : Book) → IsWellFormed w → styles_pasted index r styles w ≡ Ok later → HasRecord w later
+unfolding styles_pasted
+pasted_has_record index r styles w later rules how = tiled (is_tile styles) how
+  where
+    go : (sheet next : Sheet) → sheet_at w index ≡ Ok sheet → with_sheet w index next ≡ later → (a : Result MergedCell EditError) → inside_area r ≡ a
+        → and_then a (λ area. planned_in sheet (planned_styles (record { area = area; kind = OtherPlaces; clears = false }) (tiles styles (anchor_place r)) (λ place style. true) StyleValue sheet))
+        ≡ Ok next → HasRecord w later
+    go sheet next at is (Ok area) from e =
+        changed_has_record w later rules index sheet next at is (record { area = area; kind = OtherPlaces; clears = false }) (inside_is r area from)
+        (tiles styles (anchor_place r)) (tiles_keep styles r) (λ place style. true) StyleValue e
+    go sheet next at is (Err error) from e = absurd (let never : ◌≡◌ {A = Result Sheet EditError} (Err error) (Ok next) = e in cc)
+
+    tiled : (b : Bool) → cond b (sheet_edit w index (pasted_in r styles)) (Err StylesShape) ≡ Ok later → HasRecord w later
+    tiled true e = let it = edited w index (pasted_in r styles) later e in go it.sheet it.next it.at it.later_is (inside_area r) refl it.done
+    tiled false e = absurd (let never : ◌≡◌ {A = Result Book EditError} (Err StylesShape) (Ok later) = e in cc)
+
+cleared_has_record : (index : ℕ) (clearing : Clearing) (r : MergedCell) (w later : Book) → IsWellFormed w → range_cleared index clearing r w ≡ Ok later → HasRecord w later
+unfolding range_cleared
+cleared_has_record index clearing r w later rules how =
+    let it = edited w index (cleared_in clearing r) later how in go it.sheet it.next it.at it.later_is (clear_area r it.sheet) refl it.done
+  where
+    go : (sheet next : Sheet) → sheet_at w index ≡ Ok sheet → with_sheet w index next ≡ later → (a : Result MergedCell EditError) → clear_area r sheet ≡ a
+        → map_ok (λ area. with_plan (clear_plan clearing area sheet) sheet) a ≡ Ok next → HasRecord w later
+    go sheet next at is (Ok area) from e =
+        planned_has_record w later rules index sheet next at is (clear_plan clearing area sheet)
+        (cleared_keeps clearing area (clear_is r area sheet from) sheet (keeps w rules index sheet at)) e
+    go sheet next at is (Err error) from e = absurd (let never : ◌≡◌ {A = Result Sheet EditError} (Err error) (Ok next) = e in cc)
+
+fill_has_record : (index : ℕ) (axis : LineAxis) (source : MergedCell) (to : ℤ) (language : Language) (w later : Book) → IsWellFormed w
+    → fill_made index axis source to language w ≡ Ok later → HasRecord w later
+unfolding fill_made
+fill_has_record index axis source to language w later rules how =
+    let it = edited w index (λ s. map_ok (with_fill s) (filled_in (along_of axis) source to w.locale language s)) later how in
+    go it.sheet it.next it.at it.later_is (filled_in (along_of axis) source to w.locale language it.sheet) refl it.done
+  where
+    go : (sheet next : Sheet) → sheet_at w index ≡ Ok sheet → with_sheet w index next ≡ later → (r : Result FillPlan EditError)
+        → filled_in (along_of axis) source to w.locale language sheet ≡ r → map_ok (with_fill sheet) r ≡ Ok next → HasRecord w later
+    go sheet next at is (Ok plan) planned e =
+        has_record w index next (with_fill sheet plan) later (fill_record sheet plan) e is
+        (fill_exact w rules index sheet at axis source to language plan planned) (fill_well_formed w rules index sheet at axis source to language plan planned)
+    go sheet next at is (Err error) planned e = absurd (let never : ◌≡◌ {A = Result Sheet EditError} (Err error) (Ok next) = e in cc)
+
 pub accepted : (edit : Edit) (earlier later : Book) → IsTrue (is_of_entries edit) → IsGiven edit → IsWellFormed earlier → changed edit earlier ≡ Ok later → HasRecord earlier later
 accepted (Input index row column content feeds) earlier later is given rules how = input_has_record index row column content feeds earlier later rules given how
 accepted (ArrayInput index r tree) earlier later is given rules how = array_has_record index r tree earlier later rules given how
@@ -179,7 +285,13 @@ accepted (CopySheet index) earlier later is given rules how = absurd (let never 
 accepted (DeleteSheet index) earlier later is given rules how = absurd (let never : false ≡ true = is in cc)
 accepted (MoveSheet from to) earlier later is given rules how = absurd (let never : false ≡ true = is in cc)
 accepted (RenameSheet index name) earlier later is given rules how = absurd (let never : false ≡ true = is in cc)
+accepted (SetSetting setting) earlier later is given rules how = absurd (let never : false ≡ true = is in cc)
 accepted (ChangeNames edit) earlier later is given rules how = absurd (let never : false ≡ true = is in cc)
 accepted (SetField index value) earlier later is given rules how = field_has_record index value earlier later rules how
 accepted (SetSize index axis first last size) earlier later is given rules how = attrs_has_record index axis first last (size_change axis size) earlier later rules (size_fits axis size) how
 accepted (SetHidden index axis first last hidden) earlier later is given rules how = attrs_has_record index axis first last (Ok (Hidden hidden)) earlier later rules (hidden_fits axis hidden) how
+accepted (SetRangeStyle index r path value) earlier later is given rules how = styles_has_record index r path value earlier later rules how
+accepted (ClearRange index clearing r) earlier later is given rules how = cleared_has_record index clearing r earlier later rules how
+accepted (ClearFormatting index r) earlier later is given rules how = formats_has_record index r earlier later rules how
+accepted (PasteStyles index r styles) earlier later is given rules how = pasted_has_record index r styles earlier later rules how
+accepted (Fill index axis source to language) earlier later is given rules how = fill_has_record index axis source to language earlier later rules how

@@ -2,7 +2,9 @@ mod LineCounts
 mod Counting
 mod Widened
 pub mod ArrayPlans
-mod Accepted
 pub mod Blanks
 pub mod MergePlans
 pub mod Merges
+pub mod Pasting
+pub mod Ranges
+mod Accepted

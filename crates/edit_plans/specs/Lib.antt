@@ -6,8 +6,11 @@ pub mod Blanked
 pub mod Merging
 pub mod ArrayInputs
 pub mod HiddenLines
+pub mod RangeEdits
 pub mod SheetEdits
+pub mod Fills
 pub mod Edits
 pub mod ViewSteps
 pub mod laws
 pub mod NamedEdits
+pub mod SettingEdits

@@ -28,7 +28,7 @@ pub record Plans (result : Result (List Diff) EditError) (book : Book) (expected
   pub refused : IfErr result (λ error. error ≢ NoMemory → expected ≡ Err error)
   pub memory : IfErr result (λ error. error ≡ NoMemory → IsOk expected)
 
--- ---- edits of the list of the sheets
+-- ---- edits of the list of the sheets, of the defined names and of settings
 
 -- a list is the record of an edit of the list of the sheets, which leads to the later workbook, and that one is well-formed
 pub record IsSheetPlan (edit : Edit) (earlier : Book) (list : List Diff) (later : Book) : Type 0 where

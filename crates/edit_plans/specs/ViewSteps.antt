@@ -2,6 +2,7 @@
 use Rattle.std.specs.Prelude.{ℕ, ◌+◌, ◌==◌, ℤ, pos, Bool, true, false, List, length, Result, Ok, Err, if◌then◌else◌}
 use Rattle.base_values.specs.declared.EditError.{EditError}
 use Rattle.std.specs.Option.{unwrap_or}
+use Rattle.base_axis.specs.Rectangles.{last_column, last_row}
 use Rattle.sheet_grid.specs.declared.SheetState.TheVariants.{Hidden}
 use Rattle.line_sizes.specs.ShownLines.{next_shown}
 use Rattle.sheet_grid.specs.Sheet.{Sheet}
@@ -16,7 +17,7 @@ use Rattle.sheet_history.specs.LineDiffs.{along_of}
 use Rattle.entry_records.specs.LineRecords.{lines_of}
 use Rattle.sheet_history.specs.declared.SheetField.TheVariants.{State}
 use Rattle.edit_plans.specs.Edits.{Edit}
-use Rattle.edit_plans.specs.Edits.Edit.{AddSheet, CopySheet, DeleteSheet, MoveSheet, SetField, SetHidden}
+use Rattle.edit_plans.specs.Edits.Edit.{AddSheet, CopySheet, DeleteSheet, MoveSheet, SetField, SetHidden, PasteStyles}
 
 -- the index of the sheet that an edit of a workbook selects, where another one was selected before: a new sheet, a copy, the sheet before
 -- the last one where that is deleted, the next visible sheet behind one that is hidden, whichever was selected, and the same sheet where
@@ -40,14 +41,17 @@ abbrev pub line_shown : LineAxis → ℤ → ℤ → Result Sheet EditError → 
 line_shown axis first last (Ok sheet) range = whole_line axis (next_shown (along_of axis).last (lines_of axis sheet) first last)
 line_shown axis first last (Err error) range = range
 
--- the rectangle that an edit of a workbook selects of the sheet that was viewed: another one only where lines of that sheet are hidden
+-- the rectangle that an edit of a workbook selects of the sheet that was viewed: another one only where lines of that sheet are hidden, or styles
+-- are pasted in it
 abbrev pub range_by : Edit → Book → View → List ℤ
 range_by (SetHidden index axis first last true) book view = if index == view.sheet then line_shown axis first last (sheet_at book index) view.range else view.range
+range_by (PasteStyles index r styles) book view = if index == view.sheet then range_from r.row r.column (last_row r) (last_column r) else view.range
 range_by edit book view = view.range
 
 -- an edit that selects no other rectangle
 abbrev pub keeps_range : Edit → Bool
 keeps_range (SetHidden index axis first last true) = false
+keeps_range (PasteStyles index r styles) = false
 keeps_range edit = true
 
 -- the view of an earlier workbook with that rectangle

@@ -1,8 +1,6 @@
-pub mod Appended
 pub mod ArrayPut
 pub mod ArrayRecords
 pub mod ArrayRules
-pub mod AtIndex
 pub mod BlankedLaws
 pub mod BlankRecord
 pub mod Fonts
@@ -14,7 +12,14 @@ pub mod MergeRecords
 pub mod PlanLaws
 pub mod ViewLaws
 pub mod SheetRecords
+pub mod SettingStays
 pub mod SheetEditLaws
 pub mod SheetPlans
 pub mod FieldPlans
 pub mod NamedPlans
+pub mod RangePlans
+pub mod RangeRules
+pub mod UpdateLaws
+pub mod FilledContents
+pub mod FillRules
+pub mod FillLaws

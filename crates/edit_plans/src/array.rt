@@ -14,12 +14,12 @@ ghost use Rattle.edit_plans.specs.Plans.{Plans};
 
 use crate::blanked::push_blank_diffs;
 use crate::input::cell_change;
-use crate::list::{list_of, push_diff};
 use crate::merge::{meets_array, meets_merge};
 use base_axis::MergedCell;
 use base_shared::Shared;
 use base_values::{EditError, Items, place_of};
 use cell_content::Content;
+use entry_records::{list_of, push_diff};
 use formula_tree::Node;
 use sheet_grid::{DefaultStyle, Workbook, Worksheet};
 use sheet_history::DiffList;

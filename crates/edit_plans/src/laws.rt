@@ -11,7 +11,7 @@ pub fn edits_have_records()
         changed edit earlier ≡ Ok later → HasRecord earlier later }
 {}
 
-/// A law about accepted edits of the list of the sheets, or of the defined names, of a well-formed
+/// A law about accepted edits of the list of the sheets, of the defined names or of a setting of a well-formed
 /// workbook, with no work at run time: the later workbook is well-formed, and the record of the edit leads to it and back.
 pub fn sheet_edits_go_both_ways()
     ensures { (edit : Edit) (earlier later : Book) → IsTrue (is_of_sheets edit) → IsWellFormed earlier → changed edit earlier ≡ Ok later →

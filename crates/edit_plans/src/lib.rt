@@ -4,21 +4,27 @@
 
 mod array;
 mod blanked;
+mod clear;
 mod field;
+mod fill;
 mod hidden;
 mod input;
 mod laws;
 mod lines;
 mod link;
-mod list;
 mod merge;
 mod names;
+mod paste;
+mod settings;
 mod sheets;
+mod styles;
 mod unmerge;
 mod view;
 
 pub use array::{free_area, plan_array};
+pub use clear::plan_clear;
 pub use field::plan_field;
+pub use fill::plan_auto_fill;
 pub use hidden::grown_delta;
 pub use input::{free_place, plan_input};
 pub use laws::{edits_have_records, sheet_edits_go_both_ways};
@@ -26,9 +32,12 @@ pub use lines::{plan_hidden, plan_size};
 pub use link::plan_link;
 pub use merge::plan_merge;
 pub use names::{plan_changed_name, plan_new_name, plan_removed_name};
+pub use paste::{pasted_area, plan_pasted, test_tile};
+pub use settings::{plan_setting, plan_title};
 pub use sheets::{
     plan_copied_sheet, plan_deleted_sheet, plan_moved_sheet, plan_new_sheet, plan_renamed_sheet,
 };
+pub use styles::{plan_clear_formatting, plan_styles};
 pub use unmerge::plan_unmerge;
 pub use view::{
     range_by_hiding, selected_by_copy, selected_by_deletion, selected_by_field, selected_by_move,

@@ -9,8 +9,8 @@ ghost use Rattle.sheet_history.specs.Diffs.{IsCanonicalDiff, IsCanonicalList};
 ghost use Rattle.edit_plans.specs.Plans.{Plans};
 ghost use Rattle.edit_plans.specs.Links.{link_set, link_change};
 
-use crate::list::{link_diff, list_of_two};
 use base_values::{EditError, Position, place_of};
+use entry_records::{link_diff, list_of_two};
 use sheet_grid::{Link, Workbook, Worksheet};
 use sheet_history::{Diff, DiffList};
 use std::alloc::Global;

@@ -14,9 +14,9 @@ ghost use Rattle.edit_plans.specs.Merging.{merge_diffs, merge_made, merged_in, w
 ghost use Rattle.edit_plans.specs.Plans.{Plans};
 
 use crate::blanked::push_blank_diffs;
-use crate::list::{list_of, merges_diff, push_diff};
 use base_axis::{MergeList, MergedCell};
 use base_values::{EditError, Items, Position, copy_of};
+use entry_records::{list_of, merges_diff, push_diff};
 use sheet_grid::{Workbook, Worksheet};
 use sheet_history::DiffList;
 use std::alloc::Global;

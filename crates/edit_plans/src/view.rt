@@ -91,17 +91,11 @@ fn next_line(sheet: &Worksheet, axis: LineAxis, first: i32, last: i32) -> i32
 /// The rectangle that is selected of a sheet, which is viewed, where its rows or columns from a first to a
 /// last are hidden: as a whole, the next one that is shown behind them, else the nearest one before them,
 /// else the first one. It takes no memory.
-pub fn range_by_hiding(
-    sheet: &Worksheet,
-    axis: LineAxis,
-    first: i32,
-    last: i32,
-    _range: [i32; 4],
-) -> [i32; 4]
+pub fn range_by_hiding(sheet: &Worksheet, axis: LineAxis, first: i32, last: i32) -> [i32; 4]
     requires low { pos 1 ≤ℤ first }
     requires order { first ≤ℤ last }
     requires high { last ≤ℤ (along_of axis).last }
-    ensures { result ≡ line_shown axis first last (Ok sheet.now) _range }
+    ensures { result ≡ whole_line axis (next_shown (along_of axis).last (lines_of axis sheet.now) first last) }
 {
     whole_line(axis, next_line(sheet, axis, first, last))
 }

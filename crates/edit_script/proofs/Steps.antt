@@ -1,15 +1,21 @@
 -- A step of the model, which the machine makes or refuses.
-use Rattle.std.proofs.Common.{◌≡◌, ◌≢◌, ◌++◌, Bool, true, false, List, [], ◌∷◌, Some, Result, Ok, Err, refl, ap, sym, subst, ◌∙◌}
+use Rattle.std.proofs.Common.{◌≡◌, ◌≢◌, ◌++◌, Bool, true, false, ℕ, List, [], ◌∷◌, Some, Result, Ok, Err, refl, ap, sym, subst, ◌∙◌}
 use Rattle.std.specs.Prelude.{OnOk, OnErr, IfErr, IsOkUnless, if◌then◌else◌}
 use Rattle.base_values.specs.declared.EditError.{EditError}
 use Rattle.base_values.specs.declared.EditError.TheVariants.{NoMemory}
-use Rattle.base_values.specs.Answers.{map_ok}
+use Rattle.base_values.specs.Answers.{and_then, map_ok}
 use Rattle.sheet_grid.specs.Book.{Book}
 use Rattle.sheet_history.specs.declared.Diff.{Diff}
 use Rattle.sheet_history.specs.declared.DiffType.TheVariants.{Undo, Redo}
 use Rattle.sheet_history.specs.Diffs.{book_before, book_after}
 use Rattle.edit_plans.specs.Edits.{Edit, changed, is_silent}
-use Rattle.user_model.specs.Machine.{Step, State, edited, edit_of, moved, redo_from, redo_list, redo_of, redo_stale, seen_along, undo_from, undo_list, undo_of, undo_stale}
+use Rattle.user_model.specs.Machine.{Step, State, edited, edit_of, moved, redo_from, redo_list, redo_of, redo_stale, seen_along, speaking_in, undo_from, undo_list, undo_of, undo_stale}
+use Rattle.base_tables.specs.declared.Language.{Language}
+use Rattle.base_tables.specs.declared.Locale.{Locale}
+use Rattle.base_tables.specs.declared.Zone.{Zone}
+use Rattle.sheet_history.specs.declared.Setting.TheVariants as setting
+use Rattle.edit_plans.specs.Edits.Edit.{SetSetting}
+use Rattle.user_model.specs.Settings.{language_named, language_set, locale_given, locale_named, locale_set, zone_given, zone_named, zone_set}
 use Rattle.user_model.specs.Document.{Document}
 use Rattle.user_model.specs.Stands.{StandsFor, Moves, Turns}
 use Rattle.user_model.specs.Values.{Session as Opened}
@@ -31,6 +37,27 @@ edit_keeps edit s = chosen (is_silent edit s.present)
     chosen : (silent : Bool) → KeepsSync (if silent then Ok s else map_ok (edited edit s) (changed edit s.present)) s
     chosen true = refl
     chosen false = made_keeps (edited edit s) s (λ book. refl) (changed edit s.present)
+
+pub locale_keeps : (name : List ℕ) (s : State) → KeepsSync (locale_set name s) s
+locale_keeps name s = go (locale_named name)
+  where
+    go : (found : Result Locale EditError) → KeepsSync (and_then found (λ locale. locale_given locale s)) s
+    go (Ok locale) = edit_keeps (SetSetting (setting.Locale locale)) s
+    go (Err error) = refl
+
+pub zone_keeps : (name : List ℕ) (s : State) → KeepsSync (zone_set name s) s
+zone_keeps name s = go (zone_named name)
+  where
+    go : (found : Result Zone EditError) → KeepsSync (and_then found (λ zone. zone_given zone s)) s
+    go (Ok zone) = edit_keeps (SetSetting (setting.Zone zone)) s
+    go (Err error) = refl
+
+pub language_keeps : (name : List ℕ) (s : State) → KeepsSync (language_set name s) s
+language_keeps name s = go (language_named name)
+  where
+    go : (found : Result Language EditError) → KeepsSync (speaking_in found s) s
+    go (Ok language) = refl
+    go (Err error) = refl
 
 pub undo_keeps : (s : State) → KeepsSync (undo_of s) s
 undo_keeps s = steps s.past

@@ -13,6 +13,7 @@ use Rattle.sheet_grid.specs.Book.{new_book}
 use Rattle.sheet_history.specs.declared.LineAxis.TheVariants.{Rows, Columns}
 use Rattle.sheet_history.specs.declared.SheetField.TheVariants.{State as StateField, Color as ColorField, GridLines as GridField}
 use Rattle.sheet_history.specs.declared.SheetField.TheVariants.{FrozenRows as FrozenRowsField, FrozenColumns as FrozenColumnsField}
+use Rattle.sheet_history.specs.declared.Setting.TheVariants as setting
 use Rattle.line_sizes.specs.Heights.{line_feeds}
 use Rattle.script_lines.specs.Parts.{parts_at, without_return}
 use Rattle.script_lines.specs.Escapes.{escaped}
@@ -23,9 +24,11 @@ use Rattle.script_dump.specs.Text.{line, hex}
 use Rattle.script_dump.specs.Dump.{dump}
 use Rattle.name_edits.specs.NameEdits.NameEdit.{Add, Remove, Update}
 use Rattle.edit_plans.specs.Edits.{Edit}
-use Rattle.edit_plans.specs.Edits.Edit.{Input, ArrayInput, SetLink, Merge, Unmerge, Lines, MoveLines, AddSheet, CopySheet, DeleteSheet, MoveSheet, RenameSheet, ChangeNames, SetField, SetSize, SetHidden}
+use Rattle.edit_plans.specs.Edits.Edit.{Input, ArrayInput, SetLink, Merge, Unmerge, Lines, MoveLines, AddSheet, CopySheet, DeleteSheet, MoveSheet, RenameSheet, ChangeNames, SetField, SetSize, SetHidden, SetRangeStyle, ClearRange, ClearFormatting, SetSetting, Fill}
+use Rattle.range_styles.specs.declared.Clearing.TheVariants.{Contents, Cells}
 use Rattle.user_model.specs.Machine.{State, begun, edit_of, undo_of, redo_of, synced_of, sync_bytes}
 use Rattle.user_model.specs.Reading.{content_text, formula_typed, link_to, typed}
+use Rattle.user_model.specs.Settings.{language_set, locale_set, zone_set}
 
 -- the state that a script begins with
 abbrev pub start : State
@@ -70,6 +73,8 @@ edit_for (command.HideColumns span) s = Some (SetHidden span.sheet Columns span.
 edit_for (command.ShowColumns span) s = Some (SetHidden span.sheet Columns span.first span.last false)
 edit_for (command.FreezeRows named) s = Some (SetField named.sheet (FrozenRowsField named.count))
 edit_for (command.FreezeColumns named) s = Some (SetField named.sheet (FrozenColumnsField named.count))
+edit_for (command.FillRows named) s = Some (Fill named.sheet Rows named.area named.to s.language)
+edit_for (command.FillColumns named) s = Some (Fill named.sheet Columns named.area named.to s.language)
 edit_for command.NewSheet s = Some AddSheet
 edit_for (command.DuplicateSheet sheet) s = Some (CopySheet sheet)
 edit_for (command.DeleteSheet sheet) s = Some (DeleteSheet sheet)
@@ -83,6 +88,12 @@ edit_for (command.HideSheet sheet) s = Some (SetField sheet (StateField Hidden))
 edit_for (command.UnhideSheet sheet) s = Some (SetField sheet (StateField Visible))
 edit_for (command.SheetColor named) s = Some (SetField named.sheet (ColorField named.color))
 edit_for (command.GridLines named) s = Some (SetField named.sheet (GridField named.show))
+edit_for (command.Style named text) s = Some (SetRangeStyle named.area.sheet named.area.area named.path text)
+edit_for (command.Clear named) s = Some (ClearRange named.sheet Cells named.area)
+edit_for (command.ClearContents named) s = Some (ClearRange named.sheet Contents named.area)
+edit_for (command.ClearFormatting named) s = Some (ClearFormatting named.sheet named.area)
+edit_for (command.Title text) s = Some (SetSetting (setting.Name text))
+edit_for (command.ThemeColors theme) s = Some (SetSetting (setting.Theme theme))
 edit_for other s = None
 
 -- a refused edit leaves all as it was
@@ -96,6 +107,9 @@ state_after (Err error) s = s
 abbrev pub step_for : Command → State → Option (Result State EditError)
 step_for command.Undo s = Some (undo_of s)
 step_for command.Redo s = Some (redo_of s)
+step_for (command.Locale name) s = Some (locale_set name s)
+step_for (command.Zone name) s = Some (zone_set name s)
+step_for (command.Language name) s = Some (language_set name s)
 step_for asked s = option_map (λ edit. edit_of edit s) (edit_for asked s)
 
 -- the answer to a command that is never refused

@@ -7,11 +7,13 @@ ghost use Rattle.user_model.specs.Reading.{rectangle_of};
 ghost use Rattle.user_model.specs.Stands.{StandsFor};
 
 use base_axis::Area;
+use base_styles::Theme;
 use base_values::EditError;
 use script_dump::{push_dump, push_hex, push_line};
 use script_lines::{
-    Command, NamedArea, NamedCell, NamedColor, NamedCount, NamedGrid, NamedLines, NamedMove,
-    NamedSheetMove, NamedSize, NamedSpan, push_escaped, read_command, split_first, without_return,
+    Command, NamedArea, NamedCell, NamedColor, NamedCount, NamedFill, NamedGrid, NamedLines,
+    NamedMove, NamedSheetMove, NamedSize, NamedSpan, push_escaped, read_command, split_first,
+    without_return,
 };
 use std::alloc::Global;
 use user_model::{ClearAll, UserModel};
@@ -99,6 +101,17 @@ fn area_of(named: NamedArea) -> Area
         width: named.area.width,
         height: named.area.height,
     }
+}
+
+/// The area that a line fills from.
+fn fill_source(named: NamedFill) -> Area
+    ensures sheet { result.sheet ≡ named.sheet }
+    ensures rectangle { rectangle_of result ≡ named.area }
+{
+    area_of(NamedArea {
+        sheet: named.sheet,
+        area: named.area,
+    })
 }
 
 /// A new workbook.
@@ -267,6 +280,22 @@ impl Session {
         push_outcome(&mut self.out, done)
     }
 
+    fn fill_rows(&mut self, named: NamedFill) -> Result<(), EditError>
+        ensures { RunsCommand (command.FillRows named) result self.old self.new }
+    {
+        let source = fill_source(named);
+        let done = self.model.auto_fill_rows(&source, named.to);
+        push_outcome(&mut self.out, done)
+    }
+
+    fn fill_columns(&mut self, named: NamedFill) -> Result<(), EditError>
+        ensures { RunsCommand (command.FillColumns named) result self.old self.new }
+    {
+        let source = fill_source(named);
+        let done = self.model.auto_fill_columns(&source, named.to);
+        push_outcome(&mut self.out, done)
+    }
+
     fn hide_rows(&mut self, span: NamedSpan) -> Result<(), EditError>
         ensures { RunsCommand (command.HideRows span) result self.old self.new }
     {
@@ -415,6 +444,41 @@ impl Session {
         push_outcome(&mut self.out, done)
     }
 
+    fn title(&mut self, name: &str) -> Result<(), EditError>
+        ensures { RunsCommand (command.Title name.now) result self.old self.new }
+    {
+        let done = self.model.set_name(name);
+        push_outcome(&mut self.out, done)
+    }
+
+    fn theme(&mut self, theme: Theme) -> Result<(), EditError>
+        ensures { RunsCommand (command.ThemeColors theme) result self.old self.new }
+    {
+        let done = self.model.set_theme(&theme);
+        push_outcome(&mut self.out, done)
+    }
+
+    fn locale(&mut self, name: &str) -> Result<(), EditError>
+        ensures { RunsCommand (command.Locale name.now) result self.old self.new }
+    {
+        let done = self.model.set_locale(name);
+        push_outcome(&mut self.out, done)
+    }
+
+    fn zone(&mut self, name: &str) -> Result<(), EditError>
+        ensures { RunsCommand (command.Zone name.now) result self.old self.new }
+    {
+        let done = self.model.set_timezone(name);
+        push_outcome(&mut self.out, done)
+    }
+
+    fn language(&mut self, name: &str) -> Result<(), EditError>
+        ensures { RunsCommand (command.Language name.now) result self.old self.new }
+    {
+        let done = self.model.set_language(name);
+        push_outcome(&mut self.out, done)
+    }
+
     fn undo(&mut self) -> Result<(), EditError>
         ensures { RunsCommand command.Undo result self.old self.new }
     {
@@ -444,6 +508,34 @@ impl Session {
         push_dump(self.alloc, &mut self.out, self.model.get_model())
     }
 
+    fn style(&mut self, named: NamedArea, path: &str, value: &str) -> Result<(), EditError>
+        ensures { RunsCommand (command.Style (record { area = named; path = path.now }) value.now) result self.old self.new }
+    {
+        let done = self.model.update_range_style(&area_of(named), path, value);
+        push_outcome(&mut self.out, done)
+    }
+
+    fn clear(&mut self, named: NamedArea) -> Result<(), EditError>
+        ensures { RunsCommand (command.Clear named) result self.old self.new }
+    {
+        let done = self.model.range_clear_all(&area_of(named));
+        push_outcome(&mut self.out, done)
+    }
+
+    fn clear_contents(&mut self, named: NamedArea) -> Result<(), EditError>
+        ensures { RunsCommand (command.ClearContents named) result self.old self.new }
+    {
+        let done = self.model.range_clear_contents(&area_of(named));
+        push_outcome(&mut self.out, done)
+    }
+
+    fn clear_formatting(&mut self, named: NamedArea) -> Result<(), EditError>
+        ensures { RunsCommand (command.ClearFormatting named) result self.old self.new }
+    {
+        let done = self.model.range_clear_formatting(&area_of(named));
+        push_outcome(&mut self.out, done)
+    }
+
     fn run_command(&mut self, command: Command) -> Result<(), EditError>
         ensures { RunsCommand command result self.old self.new }
     {
@@ -469,6 +561,8 @@ impl Session {
             Command::ShowColumns(span) => self.show_columns(span),
             Command::FreezeRows(named) => self.freeze_rows(named),
             Command::FreezeColumns(named) => self.freeze_columns(named),
+            Command::FillRows(named) => self.fill_rows(named),
+            Command::FillColumns(named) => self.fill_columns(named),
             Command::NewSheet => self.new_sheet(),
             Command::DuplicateSheet(sheet) => self.duplicate_sheet(sheet),
             Command::DeleteSheet(sheet) => self.delete_sheet(sheet),
@@ -489,10 +583,21 @@ impl Session {
             Command::UnhideSheet(sheet) => self.unhide_sheet(sheet),
             Command::SheetColor(named) => self.color(named),
             Command::GridLines(named) => self.grid(named),
+            Command::Title(text) => self.title(text.as_str()),
+            Command::ThemeColors(theme) => self.theme(theme),
+            Command::Locale(name) => self.locale(name.as_str()),
+            Command::Zone(name) => self.zone(name.as_str()),
+            Command::Language(name) => self.language(name.as_str()),
             Command::Undo => self.undo(),
             Command::Redo => self.redo(),
             Command::Sync => self.sync(),
             Command::Show => self.show(),
+            Command::Style(named, text) => {
+                self.style(named.area, named.path.as_str(), text.as_str())
+            }
+            Command::Clear(named) => self.clear(named),
+            Command::ClearContents(named) => self.clear_contents(named),
+            Command::ClearFormatting(named) => self.clear_formatting(named),
         }
     }
 

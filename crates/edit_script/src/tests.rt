@@ -5,6 +5,11 @@ use script_ends::{
 use std::alloc::Global;
 use std::test::Fail;
 
+mod fills;
+mod settings;
+mod sheets;
+mod styles;
+
 /// What a new workbook prints.
 const NEW_BOOK: &str = "book en UTC workbook\nsheet 1 visible 1 0 0 - Sheet1\nend\n";
 
@@ -49,18 +54,6 @@ const ONE_MERGE: &str = concat!(
     "07000000010102",
     "000000030000000100000001",
     "0000000000000000000000000000000000000000000000000000000000000000000000000000000000",
-);
-
-/// The queue of one new name, `X`, which stands for 1.
-const ONE_NAME: &str =
-    "494351310000000000000001010000000000000001160000000000000000000100000000000000015800010000000000000000000000000000000100000000000000000000000000000000000000000000000000";
-
-/// The bytes of a sync after `new-sheet` alone.
-const ONE_SHEET: &str = concat!(
-    "494351310000000000000001",
-    "010000000000000001",
-    "080000000200000001",
-    "0000000000000006536865657432",
 );
 
 /// The outcome of a script whose listed reads and writes fail, and what was written.
@@ -263,178 +256,6 @@ const AREAS: [(&str, &str); 11] = [
     ),
 ];
 
-/// Scripts that size, hide and freeze rows and columns, each with its answers.
-const LINE_SIZES: [(&str, &str); 10] = [
-    (
-        "height 0 1 1 10\nset 0 B1 x\nshow\nundo\nshow",
-        "ok\nok\nbook en UTC workbook\nsheet 1 visible 1 0 0 - Sheet1\nrow 1 42 0 -\ncell B1 - value x\nend\nok\nbook en UTC workbook\nsheet 1 visible 1 0 0 - Sheet1\nrow 1 10 0 -\nend\n",
-    ),
-    (
-        "freeze-rows 0 1048576\nfreeze-rows 0 1048575\nfreeze-rows 1 -1\nfreeze-columns 0 16384\nfreeze-columns 0 -1\nfreeze-columns 0 16383\nshow",
-        "error FrozenCount\nok\nerror InvalidSheet\nerror FrozenCount\nerror FrozenCount\nok\nbook en UTC workbook\nsheet 1 visible 1 1048575 16383 - Sheet1\nend\n",
-    ),
-    (
-        "freeze-rows 0 2\nfreeze-columns 0 1\nundo\nundo\nredo\nshow",
-        "ok\nok\nok\nok\nok\nbook en UTC workbook\nsheet 1 visible 1 2 0 - Sheet1\nend\n",
-    ),
-    (
-        "width 0 1 1 -1\nwidth 0 3 2 10\nwidth 1 3 2 -1\nheight 0 0 1 -1\nheight 0 1 1048577 5\nheight 0 1 1 -1",
-        "error NegativeSize\nerror InvalidArea\nerror InvalidSheet\nerror InvalidArea\nerror InvalidArea\nerror NegativeSize\n",
-    ),
-    (
-        "hide-columns 0 16384 16385\nhide-rows 0 2 1\nshow-rows 1 1 1\nhide-columns 0 16384 16384\nhide-rows 0 1048576 1048576\nshow",
-        "error InvalidArea\nerror InvalidArea\nerror InvalidSheet\nok\nok\nbook en UTC workbook\nsheet 1 visible 1 0 0 - Sheet1\nrow 1048576 - 1 -\ncolumn 16384 - 1 -\nend\n",
-    ),
-    (
-        "set 0 A1 a\\nb\nshow",
-        "ok\nbook en UTC workbook\nsheet 1 visible 1 0 0 - Sheet1\nrow 1 81 0 -\ncell A1 - value a\\nb\nend\n",
-    ),
-    (
-        "height 0 1 1 80\nhide-rows 0 1 1\nset 0 A1 a\\nb\nheight 0 2 2 82\nset 0 A2 a\\nb\nshow\nundo\nundo\nundo\nshow",
-        "ok\nok\nok\nok\nok\nbook en UTC workbook\nsheet 1 visible 1 0 0 - Sheet1\nrow 1 81 1 -\nrow 2 82 0 -\ncell A1 - value a\\nb\ncell A2 - value a\\nb\nend\nok\nok\nok\nbook en UTC workbook\nsheet 1 visible 1 0 0 - Sheet1\nrow 1 80 1 -\nend\n",
-    ),
-    (
-        "hide-columns 0 4 4\nset 0 B1 x\nmove-columns 0 2 1 1\nget 0 D1",
-        "ok\nok\nok\nvalue x\n",
-    ),
-    (
-        "width 0 2 3 300\ninsert-columns 0 3 1\nshow",
-        "ok\nok\nbook en UTC workbook\nsheet 1 visible 1 0 0 - Sheet1\ncolumn 2 300 0 -\ncolumn 3 300 0 -\ncolumn 4 300 0 -\nend\n",
-    ),
-    (
-        "width 0 1 2 300\nwidth 0 1 1 250\nheight 0 1 1 56\nhide-columns 0 2 2\nshow-columns 0 1 2\nshow\nwidth 0 2 2 250\nundo\nundo\nundo\nundo\nshow",
-        "ok\nok\nok\nok\nok\nbook en UTC workbook\nsheet 1 visible 1 0 0 - Sheet1\nrow 1 56 0 -\ncolumn 2 300 0 -\nend\nok\nok\nok\nok\nok\nbook en UTC workbook\nsheet 1 visible 1 0 0 - Sheet1\ncolumn 2 300 0 -\nend\n",
-    ),
-];
-
-/// Scripts that edit the list of the sheets and the fields of sheets, each with its answers.
-const SHEETS: [(&str, &str); 13] = [
-    (
-        "move-sheet 0 1\nmove-sheet 1 0\nmove-sheet 1 1",
-        "error InvalidSheet\nerror InvalidSheet\nerror InvalidSheet\n",
-    ),
-    (
-        "delete-sheet 1\ndelete-sheet 0\nduplicate-sheet 1",
-        "error InvalidSheet\nerror OnlySheet\nerror InvalidSheet\n",
-    ),
-    (
-        "color 1 -\ngrid 1 0\nhide-sheet 1\nunhide-sheet 1\nnew-sheet 1",
-        "error InvalidSheet\nerror InvalidSheet\nerror InvalidSheet\nerror InvalidSheet\nerror BadLine\n",
-    ),
-    (
-        "duplicate-sheet 0\nshow",
-        "ok\nbook en UTC workbook\nsheet 1 visible 1 0 0 - Sheet1\nsheet 2 visible 1 0 0 - Sheet1 (2)\nend\n",
-    ),
-    (
-        "new-sheet\nset 0 A1 =SUM(Sheet2!A1:B2)\ndelete-rows 1 1 1\nget 0 A1",
-        "ok\nok\nok\nvalue =SUM(#REF!:Sheet2!B1)\n",
-    ),
-    (
-        "set 0 A1 1\nundo\nmove-sheet 0 0\nredo\nget 0 A1",
-        "ok\nok\nok\nok\nvalue 1\n",
-    ),
-    (
-        "set 0 A1 1\nundo\ngrid 0 1\nredo\nget 0 A1",
-        "ok\nok\nok\nok\nvalue \n",
-    ),
-    (
-        "hide-sheet 0\nshow",
-        "ok\nbook en UTC workbook\nsheet 1 hidden 1 0 0 - Sheet1\nend\n",
-    ),
-    (
-        "color 0 #0aF\ngrid 0 0\nshow\nundo\nundo\nshow",
-        "ok\nok\nbook en UTC workbook\nsheet 1 visible 0 0 0 #00AAFF Sheet1\nend\nok\nok\nbook en UTC workbook\nsheet 1 visible 1 0 0 - Sheet1\nend\n",
-    ),
-    (
-        "new-sheet\nnew-sheet\nmove-sheet 0 2\nshow\nundo\nset 0 A1 a\nget 0 A1",
-        "ok\nok\nok\nbook en UTC workbook\nsheet 2 visible 1 0 0 - Sheet2\nsheet 3 visible 1 0 0 - Sheet3\nsheet 1 visible 1 0 0 - Sheet1\nend\nok\nok\nvalue a\n",
-    ),
-    (
-        "set 0 A1 a\nnew-sheet\ndelete-sheet 0\nget 0 A1\nundo\nget 0 A1\nredo\nshow",
-        "ok\nok\nok\nvalue \nok\nvalue a\nok\nbook en UTC workbook\nsheet 2 visible 1 0 0 - Sheet2\nend\n",
-    ),
-    (
-        "set 0 A1 a\nduplicate-sheet 0\nset 1 A1 b\nget 0 A1\nget 1 A1\nundo\nget 1 A1",
-        "ok\nok\nok\nvalue a\nvalue b\nok\nvalue a\n",
-    ),
-    (
-        "new-sheet\ndelete-sheet 0\nnew-sheet\nshow",
-        "ok\nok\nok\nbook en UTC workbook\nsheet 2 visible 1 0 0 - Sheet2\nsheet 3 visible 1 0 0 - Sheet1\nend\n",
-    ),
-];
-
-/// Scripts that rename sheets, each with its answers.
-const RENAMINGS: [(&str, &str); 8] = [
-    (
-        "set 0 A1 =Data!B1\nset 0 A2 =Sheet1!B1\nrename-sheet 0 Data\nget 0 A2\nundo\nget 0 A1\nget 0 A2",
-        "ok\nok\nok\nvalue =Data!B1\nok\nvalue =Data!B1\nvalue =Sheet1!B1\n",
-    ),
-    (
-        "new-sheet\nrename-sheet 1 sheet1\nrename-sheet 2 a\nrename-sheet 0 SHEET1\nshow",
-        "ok\nerror SheetName\nerror InvalidSheet\nok\nbook en UTC workbook\nsheet 1 visible 1 0 0 - SHEET1\nsheet 2 visible 1 0 0 - Sheet2\nend\n",
-    ),
-    (
-        "set 0 A1 1\nundo\nrename-sheet 0 Sheet1\nredo\nget 0 A1",
-        "ok\nok\nok\nok\nvalue 1\n",
-    ),
-    (
-        "rename-sheet 0 Sheet1\nundo\nshow",
-        "ok\nok\nbook en UTC workbook\nsheet 1 visible 1 0 0 - Sheet1\nend\n",
-    ),
-    (
-        "rename-sheet 0\nrename-sheet 0 'a\nrename-sheet 0 a'\nrename-sheet 0 a:b\nrename-sheet 0 a/b\nrename-sheet 0 0123456789012345678901234567890x",
-        "error SheetName\nerror SheetName\nerror SheetName\nerror SheetName\nerror SheetName\nerror SheetName\n",
-    ),
-    (
-        "new-sheet\nset 1 A1 =SHEET1!A1+Sheet2!A1\nrename-sheet 0 a b\nget 1 A1\nundo\nget 1 A1\nredo\nget 1 A1",
-        "ok\nok\nok\nvalue ='a b'!A1+Sheet2!A1\nok\nvalue =SHEET1!A1+Sheet2!A1\nok\nvalue ='a b'!A1+Sheet2!A1\n",
-    ),
-    (
-        "set 0 A1 =DATA!B1\nrename-sheet 0 Data\nrename-sheet 0 Other\nget 0 A1\nundo\nget 0 A1\nundo\nget 0 A1",
-        "ok\nok\nok\nvalue =Other!B1\nok\nvalue =DATA!B1\nok\nvalue =DATA!B1\n",
-    ),
-    (
-        "rename-sheet 0 a\nset 0 A1 =a!B1\nundo\nundo\nnew-sheet\nshow",
-        "ok\nok\nok\nok\nok\nbook en UTC workbook\nsheet 1 visible 1 0 0 - Sheet1\nsheet 2 visible 1 0 0 - Sheet2\nend\n",
-    ),
-];
-
-/// Scripts that define, change and delete names, each with its answers.
-const NAMES: [(&str, &str); 8] = [
-    (
-        "name - Rate =$A$1\nname - rate =1\nname - B2 =1\nname - X =1+\nname-delete 0 Rate",
-        "ok\nerror NameTaken\nerror BadName\nerror BadFormula\nerror UnknownName\n",
-    ),
-    (
-        "set 0 A1 =rate+1\nset 0 A2 =other\nname - Rate =5\nname-update - rate - Interest =6\nget 0 A1\nget 0 A2\nundo\nget 0 A1\nredo\nget 0 A1\nshow",
-        "ok\nok\nok\nok\nvalue =Interest+1\nvalue =other\nok\nvalue =rate+1\nok\nvalue =Interest+1\nbook en UTC workbook\nname - Interest =6\nsheet 1 visible 1 0 0 - Sheet1\ncell A1 - formula =Interest+1\ncell A2 - formula =other\nend\n",
-    ),
-    (
-        "new-sheet\nset 0 A1 =Rate\nset 1 A1 =Rate\nname - Rate =1\nname 1 Rate =2\nname-update - Rate - Tax 1\nget 0 A1\nget 1 A1\nname-update 1 Rate - Vat =2\nget 1 A1",
-        "ok\nok\nok\nok\nok\nok\nvalue =Tax\nvalue =Rate\nok\nvalue =Vat\n",
-    ),
-    (
-        "new-sheet\nname 1 Rate =2\nname - Rate =1\nname-delete 1 RATE\nundo\nshow",
-        "ok\nok\nok\nok\nok\nbook en UTC workbook\nname 2 Rate =2\nname - Rate =1\nsheet 1 visible 1 0 0 - Sheet1\nsheet 2 visible 1 0 0 - Sheet2\nend\n",
-    ),
-    (
-        "name 5 X =1\nname-update - No 9 X =1\nname-update - No - X =1\nname - R2C2 =1\nname - WAHR =1\nname - 1a =1\nname - X\nname-delete 1 X",
-        "error InvalidSheet\nerror InvalidSheet\nerror UnknownName\nerror BadName\nerror BadName\nerror BadName\nerror BadFormula\nerror InvalidSheet\n",
-    ),
-    (
-        "name - A_ =1\nname - B_ =2\nname-update - A_ - b_ =1\nname-update - A_ - a_ =3\nname-update - A_ - R1C1 =3\nname-update - A_ - C_ )\nshow",
-        "ok\nok\nerror NameTaken\nok\nerror BadName\nerror BadFormula\nbook en UTC workbook\nname - a_ =3\nname - B_ =2\nsheet 1 visible 1 0 0 - Sheet1\nend\n",
-    ),
-    (
-        "name - Rate =1\nname - Twice =Rate*2\nname - Far =A5\nname-update - Rate - Tax =1\ninsert-rows 0 1 1\nshow",
-        "ok\nok\nok\nok\nok\nbook en UTC workbook\nname - Tax =1\nname - Twice =Rate*2\nname - Far =A5\nsheet 1 visible 1 0 0 - Sheet1\nend\n",
-    ),
-    (
-        "name -  =1\nname x X =1\nname-delete 0\nname-delete - X y\nname-update - X 0\nname",
-        "error BadLine\nerror BadLine\nerror BadLine\nerror BadLine\nerror BadLine\nerror BadLine\n",
-    ),
-];
-
 /// Whether a script writes these answers, and then the second copy, which had nothing.
 fn is_answered(alloc: Global, script: &str, answers: &str) -> Result<bool, Fail> {
     let (outcome, output) = run_failing(alloc, script, &[], &[])?;
@@ -476,51 +297,6 @@ fn columns_are_edited_and_lines_moved(rt: HostRuntime) -> Result<(), Fail> {
 #[test]
 fn arrays_merges_and_links(rt: HostRuntime) -> Result<(), Fail> {
     assert_eq!(rt; first_wrong(rt.alloc(), &AREAS)?, None);
-    Ok(())
-}
-
-#[test]
-fn sheets_are_edited(rt: HostRuntime) -> Result<(), Fail> {
-    assert_eq!(rt; first_wrong(rt.alloc(), &SHEETS)?, None);
-    assert_eq!(rt; first_wrong(rt.alloc(), &RENAMINGS)?, None);
-    Ok(())
-}
-
-#[test]
-fn names_are_edited(rt: HostRuntime) -> Result<(), Fail> {
-    assert_eq!(rt; first_wrong(rt.alloc(), &NAMES)?, None);
-    Ok(())
-}
-
-/// A name is sent, and the second copy has it.
-#[test]
-fn a_name_is_sent(rt: HostRuntime) -> Result<(), Fail> {
-    let alloc = rt.alloc();
-    let (outcome, output) = run_failing(alloc, "name - X =1\nsync", &[], &[])?;
-    assert_eq!(rt; outcome, Ok(()));
-    let expected = format!(in alloc;
-        "ok\nsync {ONE_NAME}\ncopy\nbook en UTC workbook\nname - X =1\nsheet 1 visible 1 0 0 - Sheet1\nend\n"
-    )?;
-    assert_eq!(rt; output.bytes(), expected.as_bytes());
-    Ok(())
-}
-
-#[test]
-fn lines_are_sized_and_hidden(rt: HostRuntime) -> Result<(), Fail> {
-    assert_eq!(rt; first_wrong(rt.alloc(), &LINE_SIZES)?, None);
-    Ok(())
-}
-
-/// A sheet is sent, and the second copy has it.
-#[test]
-fn a_sheet_is_sent(rt: HostRuntime) -> Result<(), Fail> {
-    let alloc = rt.alloc();
-    let (outcome, output) = run_failing(alloc, "new-sheet\nsync", &[], &[])?;
-    assert_eq!(rt; outcome, Ok(()));
-    let expected = format!(in alloc;
-        "ok\nsync {ONE_SHEET}\ncopy\nbook en UTC workbook\nsheet 1 visible 1 0 0 - Sheet1\nsheet 2 visible 1 0 0 - Sheet2\nend\n"
-    )?;
-    assert_eq!(rt; output.bytes(), expected.as_bytes());
     Ok(())
 }
 

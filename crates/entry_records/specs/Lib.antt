@@ -1,2 +1,3 @@
 pub mod LineRecords
+pub mod SheetPlans
 pub mod laws

@@ -49,4 +49,5 @@ attr_record id axis line old new = entry_record (AttrKey id axis line) (AttrValu
 abbrev pub line_diffs : ℕ → LineAxis → LineChange → FinMap int_cmp LineAttr → ℤ → ℕ → List Diff
 line_diffs id axis change lines first zero = []
 line_diffs id axis change lines first (suc more) =
-    line_diffs id axis change lines first more ++ attr_record id axis (first +ℤ pos more) (get lines (first +ℤ pos more)) (changed_entry change (get lines (first +ℤ pos more)))
+    line_diffs id axis change lines first more ++ attr_record id axis (first +ℤ pos more) (get lines (first +ℤ pos more))
+    (changed_entry change (get lines (first +ℤ pos more)))

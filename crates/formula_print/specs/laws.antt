@@ -1,2 +1,3 @@
 pub mod PrintEquations
 pub mod ScopeEquations
+pub mod DialectEquals

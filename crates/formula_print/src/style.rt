@@ -1,5 +1,5 @@
 use base_tables::{Language, Locale};
-use base_values::Position;
+use base_values::{Exact, Position};
 
 /// How a form writes what other forms write differently.
 #[derive(Clone, Copy)]
@@ -28,4 +28,13 @@ pub enum Dialect {
     Plain,
     /// With `_xlfn.`, and `#` and `@` as calls.
     Excel,
+}
+
+impl Exact for Dialect {
+    ghost use Rattle.std.proofs.Common.{rules};
+    ghost use Rattle.formula_print.specs.laws.DialectEquals.{dialect_equals};
+
+    ghost copies = { λ a b h. Prim.search rules };
+
+    ghost equals = { dialect_equals };
 }

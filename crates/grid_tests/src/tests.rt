@@ -1,6 +1,9 @@
+mod fills;
 mod names;
 mod naming;
 mod navigation;
 mod progress;
+mod ranges;
 mod rules;
+mod styles;
 mod views;

@@ -1,1 +1,2 @@
 pub mod ChangedLines
+pub mod ChangeEquals

@@ -7,7 +7,7 @@ ghost use Rattle.base_values.specs.declared.EditError.TheVariants.{NoMemory};
 ghost use Rattle.sheet_grid.specs.Lines.{attr_of, kept_line, own_width, size_of};
 ghost use Rattle.line_sizes.specs.LineChanges.{after_change, changed_entry, has_lines, height_change, width_change, line_count, lines_from};
 
-use base_values::{EditError, copy_of};
+use base_values::{EditError, Exact, copy_of};
 use sheet_grid::{LineAttr, USUAL_WIDTH};
 
 /// A change of what a line has of its own.
@@ -17,6 +17,15 @@ pub enum LineChange {
     Size(Option<i32>),
     /// The line is hidden, or shown.
     Hidden(bool),
+}
+
+impl Exact for LineChange {
+    ghost use Rattle.std.proofs.Common.{rules};
+    ghost use Rattle.line_sizes.specs.laws.ChangeEquals.{line_change_equals};
+
+    ghost copies = { λ a b h. Prim.search rules };
+
+    ghost equals = { line_change_equals };
 }
 
 #[tactic(auto, unfolding(sheet_grid::specs::Lines::size_of))]

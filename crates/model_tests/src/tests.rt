@@ -1,7 +1,7 @@
 // A user model as its users call it. What stands where was worked out by hand from docs/MODEL.md.
 use base_axis::Area;
 use base_shared::Shared;
-use base_styles::{Color, Style};
+use base_styles::{BorderItem, BorderStyle, Color, RgbColor, Style, Theme, ThemeColor};
 use base_tables::{Locale, Zone};
 use base_values::EditError;
 use formula_tree::{Node, has_canonical_numbers};
@@ -11,14 +11,17 @@ use std::alloc::Global;
 use std::cell::Cell;
 use std::process::Abort;
 use std::test::Fail;
-use user_model::{CellArrayStructure, ClearAll, Recalc, UserModel, View};
+use user_model::{CellArrayStructure, CellType, ClearAll, Recalc, UserModel, View};
 
 mod copies;
+mod fills;
 mod lines;
 mod names;
 mod places;
+mod settings;
 mod sheets;
 mod sizes;
+mod styles;
 mod values;
 
 fn new_model(alloc: Global) -> Result<UserModel<ClearAll>, EditError> {

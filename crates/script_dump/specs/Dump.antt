@@ -13,6 +13,11 @@ use Rattle.base_styles.specs.declared.Color.TheVariants.{None as NoColor, Rgb, T
 use Rattle.base_styles.specs.declared.Style.{Style}
 use Rattle.base_styles.specs.contracts.style.StylePartialEq.TheImpl as style_eq
 use Rattle.base_styles.specs.DefaultStyle.{default_style}
+use Rattle.base_styles.specs.RgbTexts.{rgb_text}
+use Rattle.base_styles.specs.Themes.{default_theme, rgb}
+use Rattle.base_styles.specs.contracts.theme.ThemePartialEq.TheImpl as theme_eq
+use Rattle.base_styles.specs.declared.RgbColor.{RgbColor}
+use Rattle.base_styles.specs.declared.Theme.{Theme as ThemeColors}
 use Rattle.defined_names.specs.declared.DefinedName.{DefinedName}
 use Rattle.sheet_grid.specs.Book.{Book}
 use Rattle.sheet_grid.specs.Sheet.{Sheet}
@@ -28,7 +33,7 @@ use Rattle.script_lines.specs.Escapes.{escaped}
 use Rattle.script_lines.specs.References.{reference_text}
 use Rattle.cell_input.specs.Inputs.{input_text}
 use Rattle.script_dump.specs.English.{english}
-use Rattle.script_dump.specs.Text.{line, words, hex, capital_hex}
+use Rattle.script_dump.specs.Text.{line, words, hex}
 
 -- ---- words
 
@@ -43,7 +48,7 @@ state_text VeryHidden = codes "very-hidden"
 
 abbrev pub color_text : Color → List ℕ
 color_text NoColor = codes "-"
-color_text (Rgb red green blue) = codes "#" ++ capital_hex (red ∷ green ∷ blue ∷ [])
+color_text (Rgb red green blue) = rgb_text (rgb red green blue)
 color_text (Theme theme) = codes "theme:" ++ decimal (theme_code theme)
 
 -- whether two styles are equal
@@ -91,6 +96,27 @@ area_text area =
 
 abbrev pub book_line : Book → List ℕ
 book_line book = line (words (codes "book" ∷ locale_name book.locale ∷ zone_name book.zone ∷ escaped book.name ∷ []))
+
+-- the colours of a theme, in the order of its line
+abbrev pub theme_colors : ThemeColors → List RgbColor
+theme_colors theme =
+    theme.light1 ∷ theme.dark1 ∷ theme.light2 ∷ theme.dark2 ∷ theme.accent1 ∷ theme.accent2 ∷ theme.accent3 ∷ theme.accent4 ∷ theme.accent5 ∷ theme.accent6
+    ∷ theme.hyperlink ∷ theme.followed_hyperlink ∷ []
+
+-- a colour as `#RRGGBB` behind a space
+abbrev pub rgb_word : RgbColor → List ℕ
+rgb_word color = 32 ∷ rgb_text color
+
+abbrev pub theme_line : ThemeColors → List ℕ
+theme_line theme = line (codes "theme" ++ flat_map rgb_word (theme_colors theme))
+
+-- whether two themes are equal
+abbrev pub same_theme : ThemeColors → ThemeColors → Bool
+same_theme = theme_eq.ghosts.eq
+
+-- the line of a theme that is not the default one
+abbrev pub theme_lines : ThemeColors → List ℕ
+theme_lines theme = if same_theme theme default_theme then [] else theme_line theme
 
 -- the id of the sheet where alone a name is known, and a dash where that is the whole workbook
 abbrev pub scope_text : Option ℕ → List ℕ
@@ -140,6 +166,10 @@ sheet_lines sheet =
     ++ (flat_map cell_line (fin.entries sheet.cells)
     ++ flat_map link_line (fin.entries sheet.links)))))
 
--- a workbook, then its defined names and its sheets, each in their order
-abbrev pub dump : Book → List ℕ
-dump book = book_line book ++ (flat_map name_line book.names ++ (flat_map sheet_lines book.worksheets ++ line (codes "end")))
+-- a workbook, its theme, then its defined names in their order
+abbrev pub head_lines : Book → List ℕ
+head_lines book = book_line book ++ (theme_lines book.theme ++ flat_map name_line book.names)
+
+-- the sheets are behind that, in their order
+unfoldable pub dump : Book → List ℕ
+dump book = head_lines book ++ (flat_map sheet_lines book.worksheets ++ line (codes "end"))

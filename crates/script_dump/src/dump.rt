@@ -8,15 +8,16 @@ ghost use Rattle.base_styles.specs.DefaultStyle.{default_style};
 ghost use Rattle.cell_wire.specs.StyleBytes.{spell_style};
 ghost use Rattle.script_lines.specs.Escapes.{escaped};
 ghost use Rattle.script_dump.specs.Text.{hex};
-ghost use Rattle.script_dump.specs.Dump.{flag_text, state_text, color_text, same_style, sides_text, style_text, content_word, content_text, book_line, sheet_line, cell_line, sheet_lines, dump};
+ghost use Rattle.script_dump.specs.Dump.{flag_text, state_text, color_text, same_style, sides_text, style_text, content_word, content_text, book_line, sheet_line, cell_line, sheet_lines, head_lines, dump};
 
 use crate::english::push_english;
 use crate::lines::{push_columns, push_links, push_rows};
 use crate::merges::push_merges;
 use crate::names::push_names;
-use crate::text::{push_capital_hex, push_hex, push_line, push_signed, push_unsigned, push_word};
+use crate::text::{push_hex, push_line, push_signed, push_unsigned, push_word};
+use crate::theme::push_theme;
 use base_shared::Shared;
-use base_styles::{Color, Style};
+use base_styles::{Color, RgbColor, Style};
 use base_values::{EditError, Position};
 use cell_wire::{encode_style, theme_code};
 use script_lines::{push_escaped, push_reference};
@@ -45,8 +46,8 @@ fn push_color(alloc: Global, out: &mut Vec<u8>, color: Color) -> Result<(), Allo
     match color {
         Color::None => out.extend_from_slice(b"-"),
         Color::Rgb { red, green, blue } => {
-            out.extend_from_slice(b"#")?;
-            push_capital_hex(out, red, green, blue)
+            let text = RgbColor::new(red, green, blue).text(alloc)?;
+            out.extend_from_slice(text.as_bytes())
         }
         Color::Theme(theme) => {
             out.extend_from_slice(b"theme:")?;
@@ -252,19 +253,28 @@ fn push_book_line(out: &mut Vec<u8>, workbook: &Workbook) -> Result<(), AllocErr
     Ok(())
 }
 
-/// Writes the printed form of a workbook at the end: a line for the workbook, a line for each defined
-/// name, for each sheet a line and lines for its rows, columns, merges, cells and links, and last a
-/// line `end`. Texts are escaped,
-/// contents are printed in English, and styles are their bytes in hexadecimal. docs/SCRIPT.md has
-/// the lines.
+/// Writes the lines of a workbook, of its theme and of its defined names.
+fn push_head(alloc: Global, out: &mut Vec<u8>, workbook: &Workbook) -> Result<(), EditError>
+    ensures text { OnOk result (out.new.items ≡ out.old.items ++ head_lines workbook.now) }
+    ensures memory { IsOkUnless result NoMemory }
+{
+    push_book_line(out, workbook)?;
+    push_theme(alloc, out, workbook.theme())?;
+    push_names(alloc, out, workbook)
+}
+
+/// Writes the printed form of a workbook at the end: a line for the workbook, one for its theme where that is
+/// not the default one, a line for each defined name, for each sheet a line and lines for its rows, columns,
+/// merges, cells and links, and last a line `end`. Texts are escaped, contents are printed in English, and
+/// styles are their bytes in hexadecimal. docs/SCRIPT.md has the lines.
 ///
 /// `NoMemory` alone is an error. A front of the form may then have been written.
+#[tactic(auto, unfolding(crate::specs::Dump::dump))]
 pub fn push_dump(alloc: Global, out: &mut Vec<u8>, workbook: &Workbook) -> Result<(), EditError>
     ensures text { OnOk result (out.new.items ≡ out.old.items ++ dump workbook.now) }
     ensures memory { IsOkUnless result NoMemory }
 {
-    push_book_line(out, workbook)?;
-    push_names(alloc, out, workbook)?;
+    push_head(alloc, out, workbook)?;
     for sheet in workbook.worksheets() {
         push_sheet(alloc, out, sheet)?;
     }

@@ -12,6 +12,7 @@ mod lines;
 mod merges;
 mod names;
 mod text;
+mod theme;
 
 pub use dump::push_dump;
 pub use english::{english_formula, english_input, push_english};

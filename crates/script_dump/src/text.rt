@@ -1,6 +1,6 @@
-ghost use Rattle.std.specs.Prelude.{◌≡◌, ◌++◌, ◌∷◌, ◌<◌, ◌≤◌, [], decimal, OnOk};
+ghost use Rattle.std.specs.Prelude.{◌≡◌, ◌++◌, ◌∷◌, ◌<◌, [], decimal, OnOk};
 ghost use Rattle.std.specs.Fmt.{signed_decimal};
-ghost use Rattle.script_dump.specs.Text.{line, hex_digit, hex_byte, hex, capital_hex};
+ghost use Rattle.script_dump.specs.Text.{line, hex_digit, hex_byte, hex};
 
 use std::alloc::{AllocError, Global};
 
@@ -37,24 +37,22 @@ pub(crate) fn push_signed(alloc: Global, out: &mut Vec<u8>, number: i32) -> Resu
     out.extend_from_slice(text.as_bytes())
 }
 
-fn hex_digit(ten: u8, number: u8) -> u8
-    requires low { number < 16 }
-    requires letters { ten ≤ 97 }
-    ensures { result ≡ hex_digit ten number }
+fn hex_digit(number: u8) -> u8
+    requires { number < 16 }
+    ensures { result ≡ hex_digit number }
 {
     if number < 10 {
         b'0' + number
     } else {
-        ten + (number - 10)
+        b'a' + (number - 10)
     }
 }
 
-fn push_hex_byte(out: &mut Vec<u8>, ten: u8, byte: u8) -> Result<(), AllocError>
-    requires { ten ≤ 97 }
-    ensures { OnOk result (out.new.items ≡ out.old.items ++ hex_byte ten byte) }
+fn push_hex_byte(out: &mut Vec<u8>, byte: u8) -> Result<(), AllocError>
+    ensures { OnOk result (out.new.items ≡ out.old.items ++ hex_byte byte) }
 {
-    out.push(hex_digit(ten, byte / 16))?;
-    out.push(hex_digit(ten, byte % 16))?;
+    out.push(hex_digit(byte / 16))?;
+    out.push(hex_digit(byte % 16))?;
     Ok(())
 }
 
@@ -64,21 +62,7 @@ pub fn push_hex(out: &mut Vec<u8>, bytes: &[u8]) -> Result<(), AllocError>
     ensures { OnOk result (out.new.items ≡ out.old.items ++ hex bytes.now) }
 {
     for byte in bytes {
-        push_hex_byte(out, b'a', *byte)?;
+        push_hex_byte(out, *byte)?;
     }
     Ok(())
-}
-
-/// Writes three bytes at the end in hexadecimal, with capital letters.
-pub(crate) fn push_capital_hex(
-    out: &mut Vec<u8>,
-    first: u8,
-    second: u8,
-    third: u8,
-) -> Result<(), AllocError>
-    ensures { OnOk result (out.new.items ≡ out.old.items ++ capital_hex (first ∷ second ∷ third ∷ [])) }
-{
-    push_hex_byte(out, b'A', first)?;
-    push_hex_byte(out, b'A', second)?;
-    push_hex_byte(out, b'A', third)
 }

@@ -16,15 +16,15 @@ use Rattle.script_lines.specs.Number.{are_digits, value_of, value_below, number_
 use Rattle.script_lines.specs.References.{is_between, is_letter, letter_value, letters_value, read_column, read_row, letters_of, digits_of, reference_of, first_between, count_between, area_between, area_of_parts, area_of}
 use Rattle.script_lines.proofs.ReferenceBounds.{read_row-lt}
 use Rattle.script_lines.proofs.Letters.{all_letters}
-use Rattle.script_lines.specs.Colors.{named_colors, named_color, digit_value, pair_value, color_of_pairs, color_of_digits, digit_color, color_of}
+use Rattle.script_lines.specs.Colors.{named_colors, named_color, digit_value, pair_value, color_of_pairs, color_of_digits, digit_color, color_of, parts_of_pairs, parts_of_digits, parts_of}
 use Rattle.script_lines.specs.Escapes.{unescaped}
 use Rattle.script_lines.proofs.EscapeLaws.{unescaped-IsUtf8}
-use Rattle.script_lines.specs.Commands.{Reader, word, sheet_word, cell_words, area_words, lines_words, move_words, sheet_move_words, color_words, grid_words, bit_of, scope_of, name_of, name_words, update_words, ended, with_text, alone, exactly, and_text, commands, from_words, command_of, count_words, span_of, size_of}
+use Rattle.script_lines.specs.Commands.{Reader, word, sheet_word, cell_words, area_words, lines_words, move_words, sheet_move_words, color_words, grid_words, bit_of, scope_of, name_of, name_words, path_words, update_words, ended, with_text, alone, exactly, and_text, commands, from_words, command_of, count_words, span_of, size_of, only_text, theme_words, fill_words}
 use Rattle.script_lines.specs.declared.reference.Reference.{Reference}
 use Rattle.script_lines.specs.declared.command.NamedCell.{NamedCell}
 use Rattle.script_lines.specs.declared.command.Command.{Command}
-use Rattle.script_lines.specs.declared.command.Command.TheVariants.{Set, Get, Array, Link, Unlink, Merge, Unmerge, InsertRows, InsertColumns, DeleteRows, DeleteColumns, MoveRows, MoveColumns, NewSheet, DuplicateSheet, DeleteSheet, MoveSheet, RenameSheet, HideSheet, UnhideSheet, SheetColor, GridLines, Name, NameUpdate, NameDelete, Undo, Redo, Sync, Show, Width, Height, HideRows, ShowRows, HideColumns, ShowColumns, FreezeRows, FreezeColumns}
-use Rattle.script_lines.specs.CommandFits.{IsNamed, IsNamedArea, CellFits, AreaFits, LinesFit, MoveFits, SheetFits, SheetMoveFits, IsNamedColor, ColorFits, GridFits, NameFits, UpdateFits, CommandFits, SpanFits, SizeFits, CountFits}
+use Rattle.script_lines.specs.declared.command.Command.TheVariants.{Set, Get, Array, Link, Unlink, Merge, Unmerge, InsertRows, InsertColumns, DeleteRows, DeleteColumns, MoveRows, MoveColumns, NewSheet, DuplicateSheet, DeleteSheet, MoveSheet, RenameSheet, HideSheet, UnhideSheet, SheetColor, GridLines, Name, NameUpdate, NameDelete, Undo, Redo, Sync, Show, Width, Height, HideRows, ShowRows, HideColumns, ShowColumns, FreezeRows, FreezeColumns, Style, Clear, ClearContents, ClearFormatting, Title, ThemeColors, Locale, Zone, Language, FillRows, FillColumns}
+use Rattle.script_lines.specs.CommandFits.{IsNamed, IsNamedArea, CellFits, AreaFits, LinesFit, MoveFits, SheetFits, SheetMoveFits, IsNamedColor, ColorFits, GridFits, NameFits, PathFits, UpdateFits, CommandFits, SpanFits, SizeFits, CountFits, PartsFit, ThemeFits, FillFits}
 
 -- ---- lists
 
@@ -204,6 +204,24 @@ either_fits P (Some a) y p q = p
 color_fits : (bytes : List ℕ) → IfSome (color_of bytes) IsNamedColor
 color_fits bytes = either_fits IsNamedColor (named_color bytes) (digit_color bytes) (named_color_fits bytes) (digit_color_fits bytes)
 
+-- ---- parts of colours
+
+parts_pairs_fit : (red green blue : Option ℕ) → IfSome red (λ v. v < 2 ^ 8) → IfSome green (λ v. v < 2 ^ 8) → IfSome blue (λ v. v < 2 ^ 8)
+    → IfSome (parts_of_pairs red green blue) PartsFit
+unfolding parts_of_pairs
+parts_pairs_fit None green blue p q r = tt
+parts_pairs_fit (Some red) None blue p q r = tt
+parts_pairs_fit (Some red) (Some green) None p q r = tt
+parts_pairs_fit (Some red) (Some green) (Some blue) p q r = (p, q, r)
+
+parts_digits_fit : (digits : List ℕ) → IfSome (parts_of_digits digits) PartsFit
+parts_digits_fit (r ∷ s ∷ g ∷ h ∷ b ∷ c ∷ []) = parts_pairs_fit _ _ _ (pair_fits r s) (pair_fits g h) (pair_fits b c)
+parts_digits_fit _ = tt
+
+parts_fit : (bytes : List ℕ) → IfSome (parts_of bytes) PartsFit
+parts_fit [] = tt
+parts_fit (sign ∷ digits) = either PartsFit (sign == 35) (parts_of_digits digits) None (parts_digits_fit digits) tt
+
 -- ---- texts
 
 behind_space : (word rest : List ℕ) → IsUtf8 (word ++ 32 ∷ rest) → IsUtf8 rest
@@ -262,6 +280,11 @@ move_fits words t =
     (λ lines l. step (Fit (FitsSigned w32)) (Fit MoveFits) (word signed_number lines.1) _ (signed_word_fits lines.1 l.1)
     (λ delta d. ((l.0.0, l.0.1, l.0.2, d.0), d.1)))
 
+fill_words_fit : Reads FillFits fill_words
+fill_words_fit words t =
+    step (Fit AreaFits) (Fit FillFits) (area_words words) _ (area_words_fit words t)
+    (λ named a. step (Fit (FitsSigned w32)) (Fit FillFits) (word signed_number named.1) _ (signed_word_fits named.1 a.1) (λ to n. ((a.0.0, a.0.1, n.0), n.1)))
+
 count_fits : Reads CountFits count_words
 count_fits words t =
     step (Fit SheetFits) (Fit CountFits) (sheet_word words) _ (sheet_fits words t)
@@ -318,6 +341,57 @@ update_words_fit words t =
     step (Fit NameFits) (Fit UpdateFits) (name_words words) _ (name_words_fit words t)
     (λ old o. step (Fit NameFits) (Fit UpdateFits) (name_words old.1) _ (name_words_fit old.1 o.1) (λ new n. ((o.0, n.0), n.1)))
 
+path_words_fit : Reads PathFits path_words
+path_words_fit words t =
+    step (Fit AreaFits) (Fit PathFits) (area_words words) _ (area_words_fit words t)
+    (λ area a. step (Fit IsUtf8) (Fit PathFits) (word name_of area.1) _ (name_word_fits area.1 a.1) (λ path p. ((a.0, p.0), p.1)))
+
+parts_word_fits : Reads PartsFit (word parts_of)
+parts_word_fits words t = word_fits PartsFit parts_of parts_fit words t
+
+theme_words_fit : Reads ThemeFits theme_words
+theme_words_fit words t =
+    step (Fit PartsFit) (Fit ThemeFits) (word parts_of words) _ (parts_word_fits words t)
+    (λ light1 light1_fits.
+    step (Fit PartsFit) (Fit ThemeFits) (word parts_of light1.1) _ (parts_word_fits light1.1 light1_fits.1)
+    (λ dark1 dark1_fits.
+    step (Fit PartsFit) (Fit ThemeFits) (word parts_of dark1.1) _ (parts_word_fits dark1.1 dark1_fits.1)
+    (λ light2 light2_fits.
+    step (Fit PartsFit) (Fit ThemeFits) (word parts_of light2.1) _ (parts_word_fits light2.1 light2_fits.1)
+    (λ dark2 dark2_fits.
+    step (Fit PartsFit) (Fit ThemeFits) (word parts_of dark2.1) _ (parts_word_fits dark2.1 dark2_fits.1)
+    (λ accent1 accent1_fits.
+    step (Fit PartsFit) (Fit ThemeFits) (word parts_of accent1.1) _ (parts_word_fits accent1.1 accent1_fits.1)
+    (λ accent2 accent2_fits.
+    step (Fit PartsFit) (Fit ThemeFits) (word parts_of accent2.1) _ (parts_word_fits accent2.1 accent2_fits.1)
+    (λ accent3 accent3_fits.
+    step (Fit PartsFit) (Fit ThemeFits) (word parts_of accent3.1) _ (parts_word_fits accent3.1 accent3_fits.1)
+    (λ accent4 accent4_fits.
+    step (Fit PartsFit) (Fit ThemeFits) (word parts_of accent4.1) _ (parts_word_fits accent4.1 accent4_fits.1)
+    (λ accent5 accent5_fits.
+    step (Fit PartsFit) (Fit ThemeFits) (word parts_of accent5.1) _ (parts_word_fits accent5.1 accent5_fits.1)
+    (λ accent6 accent6_fits.
+    step (Fit PartsFit) (Fit ThemeFits) (word parts_of accent6.1) _ (parts_word_fits accent6.1 accent6_fits.1)
+    (λ hyperlink hyperlink_fits.
+    step (Fit PartsFit) (Fit ThemeFits) (word parts_of hyperlink.1) _ (parts_word_fits hyperlink.1 hyperlink_fits.1)
+    (λ followed_hyperlink followed_hyperlink_fits. (
+      record {
+        light1 = light1_fits.0;
+        dark1 = dark1_fits.0;
+        light2 = light2_fits.0;
+        dark2 = dark2_fits.0;
+        accent1 = accent1_fits.0;
+        accent2 = accent2_fits.0;
+        accent3 = accent3_fits.0;
+        accent4 = accent4_fits.0;
+        accent5 = accent5_fits.0;
+        accent6 = accent6_fits.0;
+        hyperlink = hyperlink_fits.0;
+        followed_hyperlink = followed_hyperlink_fits.0;
+      },
+      followed_hyperlink_fits.1,
+    )))))))))))))
+
 -- ---- commands
 
 -- what the words behind a command are read as fits
@@ -343,6 +417,10 @@ and_text_fits : {A : Type 0} (P : A → Type 0) (read : Reader A) (command : A �
 and_text_fits P read command h k words t =
     step (λ found. P found.0 × IsUtf8 found.1) CommandFits (option_and_then with_text (read words)) (λ found. command found.0 found.1)
     (step (Fit P) (λ found. P found.0 × IsUtf8 found.1) (read words) with_text (h words t) (text_fits P)) (λ found q. k found.0 found.1 q.0 q.1)
+
+only_text_fits : (command : List ℕ → Command) → ((text : List ℕ) → IsUtf8 text → CommandFits (command text))
+    → (words : List (List ℕ)) → IsUtf8 (text_of words) → IfSome (only_text command words) CommandFits
+only_text_fits command k words t = mapped IsUtf8 CommandFits (unescaped (text_of words)) command (unescaped-IsUtf8 (text_of words) t) k
 
 alone_fits : (command : Command) → CommandFits command → (words : List (List ℕ)) → IsUtf8 (text_of words) → IfSome (alone command words) CommandFits
 alone_fits command h [] t = h
@@ -371,6 +449,8 @@ each_fits =
     ▸ exactly_fits LinesFit lines_words (λ lines. ShowColumns (span_of lines)) lines_fit (λ lines l. l)
     ▸ exactly_fits CountFits count_words FreezeRows count_fits (λ named c. c)
     ▸ exactly_fits CountFits count_words FreezeColumns count_fits (λ named c. c)
+    ▸ exactly_fits FillFits fill_words FillRows fill_words_fit (λ named f. f)
+    ▸ exactly_fits FillFits fill_words FillColumns fill_words_fit (λ named f. f)
     ▸ alone_fits NewSheet tt
     ▸ exactly_fits SheetFits sheet_word DuplicateSheet sheet_fits (λ sheet s. s)
     ▸ exactly_fits SheetFits sheet_word DeleteSheet sheet_fits (λ sheet s. s)
@@ -383,10 +463,19 @@ each_fits =
     ▸ and_text_fits NameFits name_words (λ name text. Some (Name name text)) name_words_fit (λ name text n t. (n, t))
     ▸ and_text_fits UpdateFits update_words (λ update text. Some (NameUpdate update text)) update_words_fit (λ update text u t. (u, t))
     ▸ exactly_fits NameFits name_words NameDelete name_words_fit (λ name n. n)
+    ▸ only_text_fits Title (λ text t. t)
+    ▸ exactly_fits ThemeFits theme_words ThemeColors theme_words_fit (λ theme p. p)
+    ▸ exactly_fits IsUtf8 (word name_of) Locale name_word_fits (λ name n. n)
+    ▸ exactly_fits IsUtf8 (word name_of) Zone name_word_fits (λ name n. n)
+    ▸ exactly_fits IsUtf8 (word name_of) Language name_word_fits (λ name n. n)
     ▸ alone_fits Undo tt
     ▸ alone_fits Redo tt
     ▸ alone_fits Sync tt
     ▸ alone_fits Show tt
+    ▸ and_text_fits PathFits path_words (λ named text. Some (Style named text)) path_words_fit (λ named text n t. (n, t))
+    ▸ exactly_fits AreaFits area_words Clear area_words_fit (λ area a. a)
+    ▸ exactly_fits AreaFits area_words ClearContents area_words_fit (λ area a. a)
+    ▸ exactly_fits AreaFits area_words ClearFormatting area_words_fit (λ area a. a)
     ▸ tt
 
 from_words_fit : (words : List (List ℕ)) → IsUtf8 (text_of words) → IfSome (from_words words) CommandFits

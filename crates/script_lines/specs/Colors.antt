@@ -7,6 +7,7 @@ use Rattle.std.specs.declared.option.Option.{Option}
 use Rattle.std.specs.declared.option.Option.TheVariants.{Some, None}
 use Rattle.base_styles.specs.declared.Color.{Color}
 use Rattle.base_styles.specs.declared.Color.TheVariants.{None as NoColor, Rgb, Theme}
+use Rattle.base_styles.specs.declared.RgbColor.{RgbColor}
 use Rattle.base_styles.specs.declared.ThemeColor.TheVariants.{Light1, Dark1, Light2, Dark2, Accent1, Accent2, Accent3, Accent4, Accent5, Accent6, Hyperlink, FollowedHyperlink}
 use Rattle.script_lines.specs.References.{is_between}
 
@@ -60,3 +61,21 @@ digit_color (sign ∷ digits) = if sign == 35 then color_of_digits digits else N
 -- the colour that the bytes name
 abbrev pub color_of : List ℕ → Option Color
 color_of bytes = option_or (named_color bytes) (digit_color bytes)
+
+-- ---- parts of a colour: `#RRGGBB`
+
+abbrev pub parts_made : ℕ → ℕ → ℕ → RgbColor
+parts_made red green blue = record { red = red; green = green; blue = blue }
+
+unfoldable pub parts_of_pairs : Option ℕ → Option ℕ → Option ℕ → Option RgbColor
+parts_of_pairs red green blue = option_and_then (λ r. option_and_then (λ g. option_map (λ b. parts_made r g b) blue) green) red
+
+-- of six digits
+abbrev pub parts_of_digits : List ℕ → Option RgbColor
+parts_of_digits (r ∷ s ∷ g ∷ h ∷ b ∷ c ∷ []) = parts_of_pairs (pair_value r s) (pair_value g h) (pair_value b c)
+parts_of_digits digits = None
+
+-- behind a number sign
+abbrev pub parts_of : List ℕ → Option RgbColor
+parts_of [] = None
+parts_of (sign ∷ digits) = if sign == 35 then parts_of_digits digits else None

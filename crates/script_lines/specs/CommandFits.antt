@@ -9,16 +9,20 @@ use Rattle.script_lines.specs.declared.command.NamedLines.{NamedLines}
 use Rattle.script_lines.specs.declared.command.NamedMove.{NamedMove}
 use Rattle.base_styles.specs.declared.Color.{Color}
 use Rattle.base_styles.specs.declared.Color.TheVariants.{Rgb}
+use Rattle.base_styles.specs.declared.RgbColor.{RgbColor}
+use Rattle.base_styles.specs.declared.Theme.{Theme}
 use Rattle.script_lines.specs.declared.command.NamedSheetMove.{NamedSheetMove}
 use Rattle.script_lines.specs.declared.command.NamedColor.{NamedColor}
 use Rattle.script_lines.specs.declared.command.NamedGrid.{NamedGrid}
 use Rattle.script_lines.specs.declared.command.NamedName.{NamedName}
+use Rattle.script_lines.specs.declared.command.NamedPath.{NamedPath}
 use Rattle.script_lines.specs.declared.command.NamedUpdate.{NamedUpdate}
 use Rattle.script_lines.specs.declared.command.NamedSpan.{NamedSpan}
 use Rattle.script_lines.specs.declared.command.NamedSize.{NamedSize}
+use Rattle.script_lines.specs.declared.command.NamedFill.{NamedFill}
 use Rattle.script_lines.specs.declared.command.NamedCount.{NamedCount}
 use Rattle.script_lines.specs.declared.command.Command.{Command}
-use Rattle.script_lines.specs.declared.command.Command.TheVariants.{Set, Get, Array, Link, Unlink, Merge, Unmerge, InsertRows, InsertColumns, DeleteRows, DeleteColumns, MoveRows, MoveColumns, NewSheet, DuplicateSheet, DeleteSheet, MoveSheet, RenameSheet, HideSheet, UnhideSheet, SheetColor, GridLines, Name, NameUpdate, NameDelete, Undo, Redo, Sync, Show, Width, Height, HideRows, ShowRows, HideColumns, ShowColumns, FreezeRows, FreezeColumns}
+use Rattle.script_lines.specs.declared.command.Command.TheVariants.{Set, Get, Array, Link, Unlink, Merge, Unmerge, InsertRows, InsertColumns, DeleteRows, DeleteColumns, MoveRows, MoveColumns, NewSheet, DuplicateSheet, DeleteSheet, MoveSheet, RenameSheet, HideSheet, UnhideSheet, SheetColor, GridLines, Name, NameUpdate, NameDelete, Undo, Redo, Sync, Show, Width, Height, HideRows, ShowRows, HideColumns, ShowColumns, FreezeRows, FreezeColumns, Style, Clear, ClearContents, ClearFormatting, Title, ThemeColors, Locale, Zone, Language, FillRows, FillColumns}
 
 -- a row and a column that letters and digits can name
 pub record IsNamed (row column : ℤ) : Type 0 where
@@ -54,6 +58,9 @@ SpanFits span = (span.sheet < 2 ^ 32) × FitsSigned w32 span.first × FitsSigned
 abbrev pub SizeFits : NamedSize → Type 0
 SizeFits named = (named.sheet < 2 ^ 32) × FitsSigned w32 named.first × FitsSigned w32 named.last × FitsSigned w32 named.size
 
+abbrev pub FillFits : NamedFill → Type 0
+FillFits named = (named.sheet < 2 ^ 32) × IsNamedArea named.area × FitsSigned w32 named.to
+
 abbrev pub CountFits : NamedCount → Type 0
 CountFits named = (named.sheet < 2 ^ 32) × FitsSigned w32 named.count
 
@@ -78,8 +85,31 @@ GridFits named = SheetFits named.sheet
 abbrev pub NameFits : NamedName → Type 0
 NameFits name = IfSome name.scope SheetFits × IsUtf8 name.name
 
+-- a rectangle whose numbers 32 bits hold, and a path in UTF-8
+abbrev pub PathFits : NamedPath → Type 0
+PathFits named = AreaFits named.area × IsUtf8 named.path
+
 abbrev pub UpdateFits : NamedUpdate → Type 0
 UpdateFits update = NameFits update.old × NameFits update.new
+
+-- parts that are bytes
+abbrev pub PartsFit : RgbColor → Type 0
+PartsFit color = (color.red < 2 ^ 8) × (color.green < 2 ^ 8) × (color.blue < 2 ^ 8)
+
+-- a theme whose colours have such parts
+pub record ThemeFits (theme : Theme) : Type 0 where
+  pub light1 : PartsFit theme.light1
+  pub dark1 : PartsFit theme.dark1
+  pub light2 : PartsFit theme.light2
+  pub dark2 : PartsFit theme.dark2
+  pub accent1 : PartsFit theme.accent1
+  pub accent2 : PartsFit theme.accent2
+  pub accent3 : PartsFit theme.accent3
+  pub accent4 : PartsFit theme.accent4
+  pub accent5 : PartsFit theme.accent5
+  pub accent6 : PartsFit theme.accent6
+  pub hyperlink : PartsFit theme.hyperlink
+  pub followed_hyperlink : PartsFit theme.followed_hyperlink
 
 -- a command with such numbers, and with texts in UTF-8
 abbrev pub CommandFits : Command → Type 0
@@ -104,6 +134,8 @@ CommandFits (HideColumns span) = SpanFits span
 CommandFits (ShowColumns span) = SpanFits span
 CommandFits (FreezeRows named) = CountFits named
 CommandFits (FreezeColumns named) = CountFits named
+CommandFits (FillRows named) = FillFits named
+CommandFits (FillColumns named) = FillFits named
 CommandFits NewSheet = Unit {0}
 CommandFits (DuplicateSheet sheet) = SheetFits sheet
 CommandFits (DeleteSheet sheet) = SheetFits sheet
@@ -116,7 +148,16 @@ CommandFits (GridLines named) = GridFits named
 CommandFits (Name name text) = NameFits name × IsUtf8 text
 CommandFits (NameUpdate update text) = UpdateFits update × IsUtf8 text
 CommandFits (NameDelete name) = NameFits name
+CommandFits (Title text) = IsUtf8 text
+CommandFits (ThemeColors theme) = ThemeFits theme
+CommandFits (Locale text) = IsUtf8 text
+CommandFits (Zone text) = IsUtf8 text
+CommandFits (Language text) = IsUtf8 text
 CommandFits Undo = Unit {0}
 CommandFits Redo = Unit {0}
 CommandFits Sync = Unit {0}
 CommandFits Show = Unit {0}
+CommandFits (Style named text) = PathFits named × IsUtf8 text
+CommandFits (Clear area) = AreaFits area
+CommandFits (ClearContents area) = AreaFits area
+CommandFits (ClearFormatting area) = AreaFits area

@@ -8,7 +8,8 @@ use Rattle.std.specs.declared.option.Option.TheVariants.{Some, None}
 use Rattle.script_lines.specs.Parts.{parts_at, text_of}
 use Rattle.script_lines.specs.Number.{number_below, signed_number}
 use Rattle.script_lines.specs.References.{reference_of, area_of}
-use Rattle.script_lines.specs.Colors.{color_of}
+use Rattle.base_styles.specs.declared.Theme.{Theme}
+use Rattle.script_lines.specs.Colors.{color_of, parts_of}
 use Rattle.script_lines.specs.Escapes.{unescaped}
 use Rattle.script_lines.specs.declared.command.NamedCell.{NamedCell}
 use Rattle.script_lines.specs.declared.command.NamedArea.{NamedArea}
@@ -16,14 +17,16 @@ use Rattle.script_lines.specs.declared.command.NamedLines.{NamedLines}
 use Rattle.script_lines.specs.declared.command.NamedMove.{NamedMove}
 use Rattle.script_lines.specs.declared.command.NamedSpan.{NamedSpan}
 use Rattle.script_lines.specs.declared.command.NamedSize.{NamedSize}
+use Rattle.script_lines.specs.declared.command.NamedFill.{NamedFill}
 use Rattle.script_lines.specs.declared.command.NamedCount.{NamedCount}
 use Rattle.script_lines.specs.declared.command.NamedSheetMove.{NamedSheetMove}
 use Rattle.script_lines.specs.declared.command.NamedColor.{NamedColor}
 use Rattle.script_lines.specs.declared.command.NamedGrid.{NamedGrid}
 use Rattle.script_lines.specs.declared.command.NamedName.{NamedName}
+use Rattle.script_lines.specs.declared.command.NamedPath.{NamedPath}
 use Rattle.script_lines.specs.declared.command.NamedUpdate.{NamedUpdate}
 use Rattle.script_lines.specs.declared.command.Command.{Command}
-use Rattle.script_lines.specs.declared.command.Command.TheVariants.{Set, Get, Array, Link, Unlink, Merge, Unmerge, InsertRows, InsertColumns, DeleteRows, DeleteColumns, MoveRows, MoveColumns, NewSheet, DuplicateSheet, DeleteSheet, MoveSheet, RenameSheet, HideSheet, UnhideSheet, SheetColor, GridLines, Name, NameUpdate, NameDelete, Undo, Redo, Sync, Show, Width, Height, HideRows, ShowRows, HideColumns, ShowColumns, FreezeRows, FreezeColumns}
+use Rattle.script_lines.specs.declared.command.Command.TheVariants.{Set, Get, Array, Link, Unlink, Merge, Unmerge, InsertRows, InsertColumns, DeleteRows, DeleteColumns, MoveRows, MoveColumns, NewSheet, DuplicateSheet, DeleteSheet, MoveSheet, RenameSheet, HideSheet, UnhideSheet, SheetColor, GridLines, Name, NameUpdate, NameDelete, Undo, Redo, Sync, Show, Width, Height, HideRows, ShowRows, HideColumns, ShowColumns, FreezeRows, FreezeColumns, Style, Clear, ClearContents, ClearFormatting, Title, ThemeColors, Locale, Zone, Language, FillRows, FillColumns}
 
 -- the next step, if this one has a value
 infixl 10 ◌>>=◌
@@ -81,6 +84,13 @@ span_of lines = record { sheet = lines.sheet; first = lines.first; last = lines.
 abbrev pub size_of : NamedMove → NamedSize
 size_of move = record { sheet = move.sheet; first = move.first; last = move.count; size = move.delta }
 
+-- `S AREA N`: a rectangle, and the line to which it is filled
+abbrev pub fill_words : Reader NamedFill
+fill_words words = do
+  named ← area_words words
+  to ← word signed_number named.1
+  Some (record { sheet = named.0.sheet; area = named.0.area; to = to.0 }, to.1)
+
 -- `S N`: how many
 abbrev pub count_words : Reader NamedCount
 count_words words = do
@@ -118,7 +128,7 @@ grid_words words = do
 abbrev pub scope_of : List ℕ → Option (Option ℕ)
 scope_of bytes = if bytes_eq bytes (codes "-") then Some None else option_map Some (number_below (2 ^ 32) bytes)
 
--- NAME: a word that is not empty
+-- NAME and WORD: a word that is not empty
 abbrev pub name_of : List ℕ → Option (List ℕ)
 name_of [] = None
 name_of (b ∷ bytes) = Some (b ∷ bytes)
@@ -137,6 +147,46 @@ update_words words = do
   new ← name_words old.1
   Some (record { old = old.0; new = new.0 }, new.1)
 
+-- `S AREA PATH`
+abbrev pub path_words : Reader NamedPath
+path_words words = do
+  area ← area_words words
+  path ← word name_of area.1
+  Some (record { area = area.0; path = path.0 }, path.1)
+
+-- twelve `#RRGGBB`
+abbrev pub theme_words : Reader Theme
+theme_words words = do
+  light1 ← word parts_of words
+  dark1 ← word parts_of light1.1
+  light2 ← word parts_of dark1.1
+  dark2 ← word parts_of light2.1
+  accent1 ← word parts_of dark2.1
+  accent2 ← word parts_of accent1.1
+  accent3 ← word parts_of accent2.1
+  accent4 ← word parts_of accent3.1
+  accent5 ← word parts_of accent4.1
+  accent6 ← word parts_of accent5.1
+  hyperlink ← word parts_of accent6.1
+  followed_hyperlink ← word parts_of hyperlink.1
+  Some (
+    record {
+      light1 = light1.0;
+      dark1 = dark1.0;
+      light2 = light2.0;
+      dark2 = dark2.0;
+      accent1 = accent1.0;
+      accent2 = accent2.0;
+      accent3 = accent3.0;
+      accent4 = accent4.0;
+      accent5 = accent5.0;
+      accent6 = accent6.0;
+      hyperlink = hyperlink.0;
+      followed_hyperlink = followed_hyperlink.0;
+    },
+    followed_hyperlink.1,
+  )
+
 -- no word is left
 abbrev pub ended : {A : Type 0} → A × List (List ℕ) → Option A
 ended (value, []) = Some value
@@ -153,6 +203,10 @@ alone command words = ended (command, words)
 -- a command with these words and no others
 abbrev pub exactly : {A : Type 0} → Reader A → (A → Command) → List (List ℕ) → Option Command
 exactly read command words = option_map command (option_and_then ended (read words))
+
+-- a command whose words are a text
+abbrev pub only_text : (List ℕ → Command) → List (List ℕ) → Option Command
+only_text command words = option_map command (unescaped (text_of words))
 
 -- a command with these words and then a text
 abbrev pub and_text : {A : Type 0} → Reader A → (A → List ℕ → Option Command) → List (List ℕ) → Option Command
@@ -184,6 +238,8 @@ commands =
     ∷ (codes "show-columns", exactly lines_words (λ lines. ShowColumns (span_of lines)))
     ∷ (codes "freeze-rows", exactly count_words FreezeRows)
     ∷ (codes "freeze-columns", exactly count_words FreezeColumns)
+    ∷ (codes "fill-rows", exactly fill_words FillRows)
+    ∷ (codes "fill-columns", exactly fill_words FillColumns)
     ∷ (codes "new-sheet", alone NewSheet)
     ∷ (codes "duplicate-sheet", exactly sheet_word DuplicateSheet)
     ∷ (codes "delete-sheet", exactly sheet_word DeleteSheet)
@@ -196,10 +252,19 @@ commands =
     ∷ (codes "name", and_text name_words (λ name text. Some (Name name text)))
     ∷ (codes "name-update", and_text update_words (λ update text. Some (NameUpdate update text)))
     ∷ (codes "name-delete", exactly name_words NameDelete)
+    ∷ (codes "title", only_text Title)
+    ∷ (codes "theme", exactly theme_words ThemeColors)
+    ∷ (codes "locale", exactly (word name_of) Locale)
+    ∷ (codes "zone", exactly (word name_of) Zone)
+    ∷ (codes "language", exactly (word name_of) Language)
     ∷ (codes "undo", alone Undo)
     ∷ (codes "redo", alone Redo)
     ∷ (codes "sync", alone Sync)
     ∷ (codes "show", alone Show)
+    ∷ (codes "style", and_text path_words (λ named text. Some (Style named text)))
+    ∷ (codes "clear", exactly area_words Clear)
+    ∷ (codes "clear-contents", exactly area_words ClearContents)
+    ∷ (codes "clear-formatting", exactly area_words ClearFormatting)
     ∷ []
 
 -- ---- lines

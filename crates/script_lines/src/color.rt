@@ -1,7 +1,7 @@
 ghost use Rattle.std.specs.Prelude.{◌≡◌, ◌<◌, IfSome};
 ghost use Rattle.script_lines.specs.Colors as spec;
 
-use base_styles::{Color, ThemeColor};
+use base_styles::{Color, RgbColor, ThemeColor};
 
 /// The colour of a word without digits of its own.
 fn named_color(text: &str) -> Option<Color>
@@ -90,5 +90,39 @@ pub(crate) fn color_of(text: &str) -> Option<Color>
     match named_color(text) {
         Some(color) => Some(color),
         None => digit_color(text.as_bytes()),
+    }
+}
+
+/// The parts of two digits each.
+#[tactic(auto, unfolding(crate::specs::Colors::parts_of_pairs))]
+fn parts_of_pairs(red: Option<u8>, green: Option<u8>, blue: Option<u8>) -> Option<RgbColor>
+    ensures { result ≡ spec.parts_of_pairs red green blue }
+{
+    Some(RgbColor {
+        red: red?,
+        green: green?,
+        blue: blue?,
+    })
+}
+
+/// The parts of six digits.
+fn parts_of_digits(digits: &[u8]) -> Option<RgbColor>
+    ensures { result ≡ spec.parts_of_digits digits.now }
+{
+    match digits {
+        [r, s, g, h, b, c] => {
+            parts_of_pairs(pair_value(*r, *s), pair_value(*g, *h), pair_value(*b, *c))
+        }
+        _ => None,
+    }
+}
+
+/// The parts of a colour that `#RRGGBB` names.
+pub(crate) fn parts_of(bytes: &[u8]) -> Option<RgbColor>
+    ensures { result ≡ spec.parts_of bytes.now }
+{
+    match bytes {
+        [b'#', digits @ ..] => parts_of_digits(digits),
+        _ => None,
     }
 }

@@ -1,5 +1,5 @@
 use base_axis::MergedCell;
-use base_styles::Color;
+use base_styles::{Color, Theme};
 use base_values::{Exact, Text};
 
 /// A cell that a line names.
@@ -118,6 +118,24 @@ impl Exact for NamedSize {
     ghost equals = { named_size_equals };
 }
 
+/// A rectangle that a line names, and the row or the column to which it is to be filled.
+#[derive(Clone, Copy, Debug, PartialEq, Eq)]
+pub struct NamedFill {
+    /// The index of its sheet.
+    pub sheet: u32,
+    pub area: MergedCell,
+    pub to: i32,
+}
+
+impl Exact for NamedFill {
+    ghost use Rattle.std.proofs.Common.{rules};
+    ghost use Rattle.script_lines.specs.laws.NamedEquals.{named_fill_equals};
+
+    ghost copies = { λ a b h. Prim.search rules };
+
+    ghost equals = { named_fill_equals };
+}
+
 /// How many lines of a sheet that a line names are to be frozen.
 #[derive(Clone, Copy, Debug, PartialEq, Eq)]
 pub struct NamedCount {
@@ -220,6 +238,22 @@ impl Exact for NamedUpdate {
     ghost equals = { named_update_equals };
 }
 
+/// A rectangle that a line names, and the path of an attribute of styles.
+#[derive(Clone, Debug, PartialEq, Eq, Drop)]
+pub struct NamedPath {
+    pub area: NamedArea,
+    pub path: Text,
+}
+
+impl Exact for NamedPath {
+    ghost use Rattle.std.proofs.Common.{rules};
+    ghost use Rattle.script_lines.specs.laws.NamedEquals.{named_path_equals};
+
+    ghost copies = { λ a b h. Prim.search rules };
+
+    ghost equals = { named_path_equals };
+}
+
 /// What a line of a script asks for. Rows, columns and counts are those that the line names, and may lie
 /// outside every sheet.
 #[derive(Debug, Drop)]
@@ -266,6 +300,10 @@ pub enum Command {
     FreezeRows(NamedCount),
     /// `freeze-columns S N`: freeze columns at the left of a sheet.
     FreezeColumns(NamedCount),
+    /// `fill-rows S AREA N`: fill the rows from a rectangle to a row.
+    FillRows(NamedFill),
+    /// `fill-columns S AREA N`: fill the columns from a rectangle to a column.
+    FillColumns(NamedFill),
     /// `new-sheet`: put an empty sheet behind the last one.
     NewSheet,
     /// `duplicate-sheet S`: put a copy of a sheet behind it.
@@ -290,6 +328,16 @@ pub enum Command {
     NameUpdate(NamedUpdate, Text),
     /// `name-delete SCOPE NAME`: take a defined name away.
     NameDelete(NamedName),
+    /// `title TEXT`: name the workbook.
+    Title(Text),
+    /// `theme` and twelve `#RRGGBB`: give the workbook other theme colours.
+    ThemeColors(Theme),
+    /// `locale WORD`: give the workbook another locale.
+    Locale(Text),
+    /// `zone WORD`: give the workbook another time zone.
+    Zone(Text),
+    /// `language WORD`: show the workbook in another language.
+    Language(Text),
     /// `undo`: take back the last edit.
     Undo,
     /// `redo`: do again what was taken back last.
@@ -298,4 +346,12 @@ pub enum Command {
     Sync,
     /// `show`: print the workbook.
     Show,
+    /// `style S AREA PATH TEXT`: give an attribute of styles a value.
+    Style(NamedPath, Text),
+    /// `clear S AREA`: take cells and links away.
+    Clear(NamedArea),
+    /// `clear-contents S AREA`: take contents and links away.
+    ClearContents(NamedArea),
+    /// `clear-formatting S AREA`: take styles away.
+    ClearFormatting(NamedArea),
 }

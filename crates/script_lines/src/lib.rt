@@ -15,8 +15,8 @@ mod parts;
 mod reference;
 
 pub use command::{
-    Command, NamedArea, NamedCell, NamedColor, NamedCount, NamedGrid, NamedLines, NamedMove,
-    NamedName, NamedSheetMove, NamedSize, NamedSpan, NamedUpdate,
+    Command, NamedArea, NamedCell, NamedColor, NamedCount, NamedFill, NamedGrid, NamedLines,
+    NamedMove, NamedName, NamedPath, NamedSheetMove, NamedSize, NamedSpan, NamedUpdate,
 };
 pub use escape::{escapes_read_back, push_escaped};
 pub use parse::read_command;

@@ -4,17 +4,19 @@ ghost use Rattle.base_values.specs.declared.error.EditError.TheVariants.{NoMemor
 ghost use Rattle.script_lines.specs.Parts.{parts_at, parts_after};
 ghost use Rattle.script_lines.specs.Number.{signed_number};
 ghost use Rattle.script_lines.specs.CommandFits.{CommandFits};
+ghost use Rattle.script_lines.specs.Colors.{parts_of};
 ghost use Rattle.script_lines.specs.Commands as spec;
 
-use crate::color::color_of;
+use crate::color::{color_of, parts_of};
 use crate::command::{
-    Command, NamedArea, NamedCell, NamedColor, NamedCount, NamedGrid, NamedLines, NamedMove,
-    NamedName, NamedSheetMove, NamedSize, NamedSpan, NamedUpdate,
+    Command, NamedArea, NamedCell, NamedColor, NamedCount, NamedFill, NamedGrid, NamedLines,
+    NamedMove, NamedName, NamedPath, NamedSheetMove, NamedSize, NamedSpan, NamedUpdate,
 };
 use crate::escape::unescape;
 use crate::number::{read_i32, read_u32};
 use crate::parts::{split_word, text_of};
 use crate::reference::{read_area, read_reference};
+use base_styles::{RgbColor, Theme};
 use base_values::{EditError, Text};
 use std::alloc::Global;
 use std::str;
@@ -123,6 +125,20 @@ fn size_of(moved: NamedMove) -> NamedSize
         last: moved.count,
         size: moved.delta,
     }
+}
+
+/// `S AREA N`, and the words behind it.
+fn fill_words(words: Option<&str>) -> Option<(NamedFill, Option<&str>)>
+    ensures { option_map (λ found. (found.0, parts_after 32 (option_copied found.1))) result ≡ spec.fill_words (parts_after 32 (option_copied words.entry)) }
+{
+    let (named, words) = area_words(words)?;
+    let (to, words) = number_word(words)?;
+    let fill = NamedFill {
+        sheet: named.sheet,
+        area: named.area,
+        to,
+    };
+    Some((fill, words))
 }
 
 /// `S N`, and the words behind it.
@@ -247,6 +263,83 @@ fn update_words(
     Ok(Some((NamedUpdate { old, new }, words)))
 }
 
+/// `S AREA PATH`, and the words behind it.
+fn path_words(
+    alloc: Global,
+    words: Option<&str>,
+) -> Result<Option<(NamedPath, Option<&str>)>, EditError>
+    ensures value { IfOk result (λ found. option_map (λ found. (found.0, parts_after 32 (option_copied found.1))) found ≡ spec.path_words (parts_after 32 (option_copied words.entry))) }
+    ensures err { IsOkUnless result NoMemory }
+{
+    let Some((area, words)) = area_words(words) else {
+        return Ok(None);
+    };
+    let Some((path, words)) = name_word(words) else {
+        return Ok(None);
+    };
+    let path = Text::new(String::from_str(alloc, path)?);
+    Ok(Some((NamedPath { area, path }, words)))
+}
+
+/// WORD, and the words behind it.
+fn text_word(alloc: Global, words: Option<&str>) -> Result<Option<(Text, Option<&str>)>, EditError>
+    ensures value { IfOk result (λ found. option_map (λ found. (found.0, parts_after 32 (option_copied found.1))) found ≡ spec.word spec.name_of (parts_after 32 (option_copied words.entry))) }
+    ensures err { IsOkUnless result NoMemory }
+{
+    let Some((word, words)) = name_word(words) else {
+        return Ok(None);
+    };
+    let word = Text::new(String::from_str(alloc, word)?);
+    Ok(Some((word, words)))
+}
+
+/// `#RRGGBB`, and the words behind it.
+fn parts_word(words: Option<&str>) -> Option<(RgbColor, Option<&str>)>
+    ensures { option_map (λ found. (found.0, parts_after 32 (option_copied found.1))) result ≡ spec.word parts_of (parts_after 32 (option_copied words.entry)) }
+{
+    let Some(words) = words else {
+        return None;
+    };
+    let (word, words) = split_word(words);
+    match parts_of(word.as_bytes()) {
+        Some(parts) => Some((parts, words)),
+        None => None,
+    }
+}
+
+/// Twelve `#RRGGBB`, and the words behind them.
+fn theme_words(words: Option<&str>) -> Option<(Theme, Option<&str>)>
+    ensures { option_map (λ found. (found.0, parts_after 32 (option_copied found.1))) result ≡ spec.theme_words (parts_after 32 (option_copied words.entry)) }
+{
+    let (light1, words) = parts_word(words)?;
+    let (dark1, words) = parts_word(words)?;
+    let (light2, words) = parts_word(words)?;
+    let (dark2, words) = parts_word(words)?;
+    let (accent1, words) = parts_word(words)?;
+    let (accent2, words) = parts_word(words)?;
+    let (accent3, words) = parts_word(words)?;
+    let (accent4, words) = parts_word(words)?;
+    let (accent5, words) = parts_word(words)?;
+    let (accent6, words) = parts_word(words)?;
+    let (hyperlink, words) = parts_word(words)?;
+    let (followed_hyperlink, words) = parts_word(words)?;
+    let theme = Theme {
+        light1,
+        dark1,
+        light2,
+        dark2,
+        accent1,
+        accent2,
+        accent3,
+        accent4,
+        accent5,
+        accent6,
+        hyperlink,
+        followed_hyperlink,
+    };
+    Some((theme, words))
+}
+
 /// What was found, where no word is behind it.
 #[tactic(auto, using(crate::proofs::Words::never_ended))]
 fn ended<T: Drop>(found: Option<(T, Option<&str>)>) -> Option<T>
@@ -326,6 +419,8 @@ fn read_words(alloc: Global, word: &str, words: Option<&str>) -> Result<Option<C
         )))),
         "freeze-rows" => Ok(ended(count_words(words)).map(Command::FreezeRows)),
         "freeze-columns" => Ok(ended(count_words(words)).map(Command::FreezeColumns)),
+        "fill-rows" => Ok(ended(fill_words(words)).map(Command::FillRows)),
+        "fill-columns" => Ok(ended(fill_words(words)).map(Command::FillColumns)),
         "new-sheet" => Ok(alone(Command::NewSheet, words)),
         "duplicate-sheet" => Ok(ended(sheet_word(words)).map(Command::DuplicateSheet)),
         "delete-sheet" => Ok(ended(sheet_word(words)).map(Command::DeleteSheet)),
@@ -344,10 +439,21 @@ fn read_words(alloc: Global, word: &str, words: Option<&str>) -> Result<Option<C
             Command::NameUpdate(update, text)
         })),
         "name-delete" => Ok(ended(name_words(alloc, words)?).map(Command::NameDelete)),
+        "title" => Ok(unescape(alloc, text_of(words))?.map(Command::Title)),
+        "theme" => Ok(ended(theme_words(words)).map(Command::ThemeColors)),
+        "locale" => Ok(ended(text_word(alloc, words)?).map(Command::Locale)),
+        "zone" => Ok(ended(text_word(alloc, words)?).map(Command::Zone)),
+        "language" => Ok(ended(text_word(alloc, words)?).map(Command::Language)),
         "undo" => Ok(alone(Command::Undo, words)),
         "redo" => Ok(alone(Command::Redo, words)),
         "sync" => Ok(alone(Command::Sync, words)),
         "show" => Ok(alone(Command::Show, words)),
+        "style" => Ok(with_text(alloc, path_words(alloc, words)?)?.map(|(named, text)| {
+            Command::Style(named, text)
+        })),
+        "clear" => Ok(ended(area_words(words)).map(Command::Clear)),
+        "clear-contents" => Ok(ended(area_words(words)).map(Command::ClearContents)),
+        "clear-formatting" => Ok(ended(area_words(words)).map(Command::ClearFormatting)),
         _ => Ok(None),
     }
 }

@@ -1,7 +1,7 @@
 //! The base of the spreadsheet layers in one crate: values, styles, decimals and tables.
 //!
-//! It passes on what `base_values`, `base_shared`, `base_axis`, `base_maps`, `base_styles`, `base_decimal`
-//! and `base_tables` hold; their contracts stand there.
+//! It passes on what `base_values`, `base_shared`, `base_axis`, `base_maps`, `base_styles`, `base_decimal`,
+//! `base_tables` and `style_edits` hold; their contracts stand there.
 #![tactic(auto)]
 
 pub use base_axis::{Area, Axis, AxisMap, ColumnAxis, MergeList, MergedCell, RowAxis};
@@ -9,8 +9,8 @@ pub use base_decimal::Decimal;
 pub use base_maps::{IndexMap, NumberMap, PositionMap, SheetPlace, SheetPlaceMap};
 pub use base_shared::Shared;
 pub use base_styles::{
-    Alignment, Border, BorderItem, BorderStyle, Color, Font, HorizontalAlignment, Style,
-    ThemeColor, VerticalAlignment,
+    Alignment, Border, BorderArea, BorderItem, BorderStyle, BorderType, Color, Font,
+    HorizontalAlignment, RgbColor, Style, Theme, ThemeColor, VerticalAlignment,
 };
 pub use base_tables::{
     Error, Function, Language, Locale, Zone, column_to_number, function_by_name, get_language,
@@ -21,6 +21,7 @@ pub use base_values::{
     Boxed, EditError, Exact, Items, LAST_COLUMN, LAST_ROW, PlaceMap, Position, Text, copy_of,
     line_of, place_of, same,
 };
+pub use style_edits::{is_max_border, read_color, test_update, update_style};
 
 #[cfg(test)]
 mod tests;

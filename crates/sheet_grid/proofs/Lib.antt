@@ -2,5 +2,6 @@ mod BookLemmas
 mod Indexes
 mod Canonicals
 mod LineLemmas
+mod LineStyles
 mod Moving
 mod Rectangles

@@ -8,6 +8,8 @@ use Rattle.base_values.specs.declared.EditError.TheVariants.{InvalidSheet}
 use Rattle.base_values.specs.Answers.{ok_or, map_ok, and_then}
 use Rattle.base_tables.specs.declared.Locale.{Locale}
 use Rattle.base_tables.specs.declared.Zone.{Zone}
+use Rattle.base_styles.specs.declared.Theme.{Theme}
+use Rattle.base_styles.specs.Themes.{default_theme}
 use Rattle.defined_names.specs.declared.DefinedName.{DefinedName}
 use Rattle.sheet_grid.specs.Sheet.{Sheet, new_sheet}
 
@@ -15,12 +17,13 @@ pub record Book : Type 0 where
   pub name : List ℕ
   pub locale : Locale
   pub zone : Zone
+  pub theme : Theme
   pub names : List DefinedName
   pub worksheets : List Sheet
 
--- a workbook with one empty sheet, `Sheet1`, of id 1
+-- a workbook of the default theme with one empty sheet, `Sheet1`, of id 1
 abbrev pub new_book : List ℕ → Locale → Zone → Book
-new_book name locale zone = record { name = name; locale = locale; zone = zone; names = []; worksheets = new_sheet 1 (codes "Sheet1") ∷ [] }
+new_book name locale zone = record { name = name; locale = locale; zone = zone; theme = default_theme; names = []; worksheets = new_sheet 1 (codes "Sheet1") ∷ [] }
 
 -- the ids of sheets, and their names
 abbrev pub ids_of : List Sheet → List ℕ

@@ -7,7 +7,7 @@ use Rattle.base_values.specs.declared.EditError.{EditError}
 use Rattle.base_values.specs.declared.EditError.TheVariants.{NegativeSize}
 use Rattle.base_values.specs.Answers.{map_ok, and_then}
 use Rattle.base_values.specs.KeyMap.{with_entry}
-use Rattle.base_values.specs.Places.{line_of}
+use Rattle.base_values.specs.Places.{is_line, line_of}
 use Rattle.base_styles.specs.declared.Style.{Style}
 use Rattle.sheet_grid.specs.declared.line_attr.LineAttr.{LineAttr}
 use Rattle.sheet_grid.specs.declared.row_attr.RowAttr.{RowAttr}
@@ -90,6 +90,13 @@ width_set width = map_ok (λ size. with_size (own_width size)) (size_of width)
 abbrev pub hidden_set : Bool → Result (LineAttr → LineAttr) EditError
 hidden_set hidden = Ok (with_hidden hidden)
 
+abbrev pub with_style : Option Style → LineAttr → LineAttr
+with_style style attr = record attr { style = style }
+
+-- the change of a line to have a style of its own, or none
+abbrev pub style_set : Option Style → Result (LineAttr → LineAttr) EditError
+style_set style = Ok (with_style style)
+
 -- the lines of which one has what a change makes of its own; one left plain has no entry
 abbrev pub with_change : FinMap int_cmp LineAttr → ℤ → (LineAttr → LineAttr) → FinMap int_cmp LineAttr
 with_change lines line change = with_entry lines line (kept_line (Some (change (attr_of (get lines line)))))
@@ -101,3 +108,7 @@ line_changed last refusal lines line change = and_then (line_of last line refusa
 -- every line but one has what it had
 abbrev pub SameBut : ℤ → FinMap int_cmp LineAttr → FinMap int_cmp LineAttr → Type 0
 SameBut line old new = (other : ℤ) → other ≢ line → get new other ≡ get old other
+
+-- every line of an axis has this style, and otherwise what it had
+abbrev pub AllStyled : ℤ → Style → FinMap int_cmp LineAttr → FinMap int_cmp LineAttr → Type 0
+AllStyled last style old new = (line : ℤ) → get new line ≡ (if is_line last line then Some (with_style (Some style) (attr_of (get old line))) else get old line)

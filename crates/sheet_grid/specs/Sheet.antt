@@ -93,6 +93,16 @@ shown_style sheet place = unwrap_or (own_style sheet place) default_style
 abbrev pub style_at : Sheet → ℤ → ℤ → Result Style EditError
 style_at sheet row column = map_ok (shown_style sheet) (place_of row column)
 
+-- the content that a place holds
+abbrev pub content_of : Option Cell → Content
+content_of None = Empty
+content_of (Some cell) = cell.content
+
+-- the cell of a place has this style; a place without a cell gets an empty one
+abbrev pub cell_styled : Sheet → ℤ → ℤ → Style → Result Sheet EditError
+cell_styled sheet row column style =
+    map_ok (λ place. with_cell sheet place (Some (record { content = content_of (fin.get sheet.cells place); style = style }))) (place_of row column)
+
 -- the content of a place goes, and the style that it shows stays
 abbrev pub content_cleared : Sheet → ℤ → ℤ → Result Sheet EditError
 content_cleared sheet row column =

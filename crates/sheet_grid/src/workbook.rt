@@ -9,11 +9,13 @@ ghost use Rattle.sheet_grid.specs.Sheet.{cell_put};
 ghost use Rattle.sheet_grid.specs.contracts.workbook.Workbook.{the_row};
 ghost use Rattle.sheet_grid.specs.contracts.worksheet.Worksheet.{the_row as sheet_row};
 
+mod settings;
 mod sheets;
 
 use crate::cell::Cell;
 use crate::worksheet::Worksheet;
 use base_shared::Shared;
+use base_styles::Theme;
 use base_tables::{Locale, Zone};
 use base_values::{EditError, Exact, Items, Text, copy_of};
 use defined_names::{DefinedName, NameList};
@@ -26,6 +28,7 @@ pub struct Workbook {
     name: Text,
     locale: Locale,
     zone: Zone,
+    theme: Theme,
     names: NameList,
     worksheets: Items<Worksheet>,
 }
@@ -44,6 +47,7 @@ impl Model for Workbook {
       name = w.name;
       locale = w.locale;
       zone = w.zone;
+      theme = w.theme;
       names = w.names;
       worksheets = w.worksheets;
     } };
@@ -52,13 +56,15 @@ impl Model for Workbook {
       name = w.name;
       locale = w.locale;
       zone = w.zone;
+      theme = w.theme;
       names = w.names;
       worksheets = w.worksheets;
     } };
 }
 
 impl Workbook {
-    /// A workbook with one empty sheet, `Sheet1`, of id 1. `NoMemory` alone is an error.
+    /// A workbook of the default theme with one empty sheet, `Sheet1`, of id 1. `NoMemory` alone is an
+    /// error.
     pub fn new_empty(
         alloc: Global,
         name: &str,
@@ -74,6 +80,7 @@ impl Workbook {
             name: Text::new(String::from_str(alloc, name)?),
             locale,
             zone,
+            theme: Theme::default(),
             names: NameList::empty(alloc),
             worksheets,
         })
@@ -148,6 +155,7 @@ impl Workbook {
             name: copy_of(&self.name)?,
             locale: self.locale(),
             zone: self.zone,
+            theme: self.theme,
             names: copy_of(&self.names)?,
             worksheets,
         })
@@ -289,6 +297,7 @@ impl Clone for Workbook {
             name: self.name.clone()?,
             locale: self.locale,
             zone: self.zone,
+            theme: self.theme,
             names: self.names.clone()?,
             worksheets: self.worksheets.clone()?,
         })

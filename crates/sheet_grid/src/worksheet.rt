@@ -14,6 +14,7 @@ ghost use Rattle.cell_content.specs.declared.Content.TheVariants.{Empty, Number,
 
 mod entries;
 mod fields;
+mod line_styles;
 mod lines;
 mod merges;
 mod sizes;

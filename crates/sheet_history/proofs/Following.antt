@@ -3,7 +3,7 @@ use Rattle.std.proofs.Common.{◌≡◌, ◌∙◌, ◌||◌, ℕ, Bool, false, 
 use Rattle.std.specs.List.{list_any}
 use Rattle.std.proofs.lemmas.Grind.{reverse_onto}
 use Rattle.sheet_history.specs.declared.diff.Diff.{Diff}
-use Rattle.sheet_history.specs.declared.diff.Diff.TheVariants.{Cell as CellDiff, Link as LinkDiff, Merges as MergesDiff, Field as FieldDiff, Lines as LinesDiff, NewSheet as NewDiff, DuplicateSheet as CopyDiff, DeleteSheet as DeletionDiff, MoveSheet as MoveDiff, RenameSheet as RenameDiff, ChangeName as NameDiff, Attributes as AttrDiff}
+use Rattle.sheet_history.specs.declared.diff.Diff.TheVariants.{Cell as CellDiff, Link as LinkDiff, Merges as MergesDiff, Field as FieldDiff, Lines as LinesDiff, NewSheet as NewDiff, DuplicateSheet as CopyDiff, DeleteSheet as DeletionDiff, MoveSheet as MoveDiff, RenameSheet as RenameDiff, ChangeName as NameDiff, Attributes as AttrDiff, Setting as SettingDiff}
 use Rattle.sheet_history.specs.declared.diff.DiffType.{DiffType}
 use Rattle.sheet_history.specs.declared.diff.DiffType.TheVariants.{Undo, Redo}
 use Rattle.sheet_history.specs.declared.selection.ListStep.{ListStep}
@@ -22,6 +22,7 @@ forward_stays (CopyDiff _ _ _ _) ids selected stays = refl
 forward_stays (DeletionDiff _ _) ids selected stays = refl
 forward_stays (RenameDiff _ _ _ _) ids selected stays = refl
 forward_stays (NameDiff _ _) ids selected stays = refl
+forward_stays (SettingDiff _) ids selected stays = refl
 forward_stays (MoveDiff _ _ _) ids selected stays = absurd (let never : true ≡ false = stays in cc)
 
 back_stays : (diff : Diff) (ids : List ℕ) (selected : ℕ) → is_move diff ≡ false → selected_after (back_step diff) ids selected ≡ selected
@@ -36,6 +37,7 @@ back_stays (CopyDiff _ _ _ _) ids selected stays = refl
 back_stays (DeletionDiff _ _) ids selected stays = refl
 back_stays (RenameDiff _ _ _ _) ids selected stays = refl
 back_stays (NameDiff _ _) ids selected stays = refl
+back_stays (SettingDiff _) ids selected stays = refl
 back_stays (MoveDiff _ _ _) ids selected stays = absurd (let never : true ≡ false = stays in cc)
 
 neither : (a b : Bool) → (a || b) ≡ false → (a ≡ false) × (b ≡ false)

@@ -33,6 +33,9 @@ use Rattle.sheet_history.specs.Diffs.{put_in}
 use Rattle.sheet_history.specs.laws.EntryLaws.{decide}
 use Rattle.sheet_history.specs.laws.SoundEntries.{sheet_merges_inside}
 use Rattle.sheet_history.specs.laws.TestedLaws.{put_in-done}
+use Rattle.sheet_history.specs.declared.setting.Setting.{Setting}
+use Rattle.sheet_history.specs.declared.setting.Setting.TheVariants as setting
+use Rattle.sheet_history.specs.Settings.{with_setting}
 
 placed_sheet : (sheet : Sheet) → have_trees sheet ≡ true → have_merges sheet ≡ true → IsPlacedSheet sheet
 placed_sheet sheet trees merges = record {
@@ -102,3 +105,18 @@ put_in-placed at book k v next all is =
 pub edit_placed : (at : ℕ) (book : Book) (k : EntryKey) (v : EntryValue) (next : Book) (result : Result (Unit {0}) EditError) → IsPlacedBook book → Edits result book next (put_in at book k v) → OnOk result (IsPlacedBook next)
 edit_placed at book k v next (Ok done) all edits = put_in-placed at book k v next all edits.done
 edit_placed at book k v next (Err error) all edits = tt
+
+-- a workbook with another setting has the same sheets
+setting_sheets : (setting : Setting) (book : Book) → (with_setting setting book).worksheets ≡ book.worksheets
+setting_sheets (setting.Theme theme) book = refl
+setting_sheets (setting.Name name) book = refl
+setting_sheets (setting.Locale locale) book = refl
+setting_sheets (setting.Zone zone) book = refl
+
+-- so it is after a call that makes one
+pub setting_placed : (one : Setting) (book next : Book) (result : Result (Unit {0}) EditError) → IsPlacedBook book → Edits result book next (Ok (with_setting one book))
+    → OnOk result (IsPlacedBook next)
+setting_placed one book next (Ok done) all edits =
+    let same : with_setting one book ≡ next = (let is : ◌≡◌ {A = Result Book EditError} (Ok (with_setting one book)) (Ok next) = edits.done in cc) in
+    subst IsPlacedBook same (subst (AllByRecursion IsPlacedSheet) (sym (setting_sheets one book)) all)
+setting_placed one book next (Err error) all edits = tt

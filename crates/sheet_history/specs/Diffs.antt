@@ -15,7 +15,7 @@ use Rattle.book_names.specs.RenameDiffs.{rename_forward, rename_back}
 use Rattle.name_edits.specs.NameChanges.{IsCanonicalChange}
 use Rattle.name_edits.specs.NameDiffs.{name_forward, name_back}
 use Rattle.sheet_history.specs.declared.diff.Diff.{Diff}
-use Rattle.sheet_history.specs.declared.diff.Diff.TheVariants.{Cell as CellDiff, Link as LinkDiff, Merges as MergesDiff, Field as FieldDiff, Lines as LinesDiff, NewSheet as NewDiff, DuplicateSheet as CopyDiff, DeleteSheet as DeletionDiff, MoveSheet as MoveDiff, RenameSheet as RenameDiff, ChangeName as NameDiff, Attributes as AttrDiff}
+use Rattle.sheet_history.specs.declared.diff.Diff.TheVariants.{Cell as CellDiff, Link as LinkDiff, Merges as MergesDiff, Field as FieldDiff, Lines as LinesDiff, NewSheet as NewDiff, DuplicateSheet as CopyDiff, DeleteSheet as DeletionDiff, MoveSheet as MoveDiff, RenameSheet as RenameDiff, ChangeName as NameDiff, Attributes as AttrDiff, Setting as SettingDiff}
 use Rattle.sheet_history.specs.declared.diff.DiffType.{DiffType}
 use Rattle.sheet_history.specs.declared.diff.DiffType.TheVariants.{Undo, Redo}
 use Rattle.sheet_history.specs.declared.diff.QueueDiffs.{QueueDiffs}
@@ -24,6 +24,7 @@ use Rattle.sheet_history.specs.Entries.EntryKey.{CellKey, LinkKey, MergesKey, Fi
 use Rattle.sheet_history.specs.Entries.EntryValue.{CellValue, LinkValue, MergesValue, FieldValue, AttrValue}
 use Rattle.sheet_history.specs.Fields.{old_of, new_of, changed_field}
 use Rattle.sheet_history.specs.LineDiffs.{along_of, lines_forward, lines_back}
+use Rattle.sheet_history.specs.Settings.{with_setting, new_setting, old_setting}
 
 -- the sheet with a value at a key. Where it may not stand there, the diff of that number is refused
 abbrev pub sheet_put : ℕ → EntryKey → EntryValue → Sheet → Result Sheet EditError
@@ -33,7 +34,8 @@ sheet_put at key value sheet = if value_fits key value then Ok (with_sheet_entry
 unfoldable pub put_in : ℕ → Book → EntryKey → EntryValue → Result Book EditError
 put_in at book key value = if accepts book key value then Ok (put_entry book key value) else Err (DiffRefused 0 at)
 
--- forward puts the new value, edits the lines, makes the change of the list of sheets or of the defined names, or renames a sheet
+-- forward puts the new value, edits the lines, makes the change of the list of sheets or of the defined names, renames a sheet, or makes a
+-- setting
 abbrev pub step_forward : ℕ → Book → Diff → Result Book EditError
 step_forward at book (CellDiff sheet place old new) = put_in at book (CellKey sheet place) (CellValue new)
 step_forward at book (LinkDiff sheet place old new) = put_in at book (LinkKey sheet place) (LinkValue new)
@@ -47,8 +49,10 @@ step_forward at book (DeletionDiff index kept) = deletion_forward at kept book
 step_forward at book (MoveDiff sheet from to) = sheet_moves at sheet from to book
 step_forward at book (RenameDiff sheet old new kept) = rename_forward at sheet old new kept book
 step_forward at book (NameDiff change kept) = name_forward at change kept book
+step_forward at book (SettingDiff change) = Ok (with_setting (new_setting change) book)
 
--- back puts the old value, takes the lines back, or the change of the list of sheets or of the defined names, or gives a sheet its old name back
+-- back puts the old value, takes the lines back, or the change of the list of sheets or of the defined names, or gives a sheet its old name or
+-- the workbook its old setting back
 abbrev pub step_back : ℕ → Book → Diff → Result Book EditError
 step_back at book (CellDiff sheet place old new) = put_in at book (CellKey sheet place) (CellValue old)
 step_back at book (LinkDiff sheet place old new) = put_in at book (LinkKey sheet place) (LinkValue old)
@@ -62,6 +66,7 @@ step_back at book (DeletionDiff index kept) = deletion_back at index kept book
 step_back at book (MoveDiff sheet from to) = sheet_moves at sheet to from book
 step_back at book (RenameDiff sheet old new kept) = rename_back at sheet old new kept book
 step_back at book (NameDiff change kept) = name_back at change kept book
+step_back at book (SettingDiff change) = Ok (with_setting (old_setting change) book)
 
 -- the diffs in order, where the first has the number at
 abbrev pub forward_from : ℕ → Book → List Diff → Result Book EditError
@@ -135,6 +140,7 @@ IsCanonicalDiff (DeletionDiff index kept) = IsCanonicalSheet kept
 IsCanonicalDiff (MoveDiff sheet from to) = Unit {0}
 IsCanonicalDiff (RenameDiff sheet old new kept) = AreCanonicalTrees kept
 IsCanonicalDiff (NameDiff change kept) = IsCanonicalChange change × AreCanonicalTrees kept
+IsCanonicalDiff (SettingDiff change) = Unit {0}
 
 abbrev pub IsCanonicalList : List Diff → Type 0
 IsCanonicalList diffs = All IsCanonicalDiff diffs

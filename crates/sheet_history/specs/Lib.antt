@@ -1,6 +1,7 @@
 pub mod Entries
 pub mod Fields
 pub mod LineDiffs
+pub mod Settings
 pub mod Diffs
 pub mod Untested
 pub mod Stacks

@@ -24,7 +24,7 @@ use Rattle.sheet_history.specs.declared.field.SheetField.{SheetField}
 use Rattle.sheet_history.specs.declared.field.SheetField.TheVariants as field_value
 use Rattle.sheet_history.specs.declared.field.FieldChange.TheVariants as field_change
 use Rattle.sheet_history.specs.contracts.field.SheetFieldPartialEq.TheImpl as sheet_field
-use Rattle.sheet_history.specs.declared.diff.Diff.TheVariants.{Cell as CellDiff, Link as LinkDiff, Merges as MergesDiff, Field as FieldDiff, Lines as LinesDiff, NewSheet as NewDiff, DuplicateSheet as CopyDiff, DeleteSheet as DeletionDiff, MoveSheet as MoveDiff, RenameSheet as RenameDiff, ChangeName as NameDiff, Attributes as AttrDiff}
+use Rattle.sheet_history.specs.declared.diff.Diff.TheVariants.{Cell as CellDiff, Link as LinkDiff, Merges as MergesDiff, Field as FieldDiff, Lines as LinesDiff, NewSheet as NewDiff, DuplicateSheet as CopyDiff, DeleteSheet as DeletionDiff, MoveSheet as MoveDiff, RenameSheet as RenameDiff, ChangeName as NameDiff, Attributes as AttrDiff, Setting as SettingDiff}
 use Rattle.sheet_history.specs.declared.diff.LineAxis.TheVariants.{Rows, Columns}
 use Rattle.sheet_history.specs.Entries.{EntryKey, EntryValue, key_cmp, entry_at, frame_of}
 use Rattle.sheet_history.specs.Entries.EntryKey.{CellKey, LinkKey, MergesKey, FieldKey, AttrKey}
@@ -64,6 +64,7 @@ change_of (DeletionDiff index kept) = None
 change_of (MoveDiff sheet from to) = None
 change_of (RenameDiff sheet old new kept) = None
 change_of (NameDiff change kept) = None
+change_of (SettingDiff change) = None
 
 -- a list has, in the order of their keys, exactly the entries in which the later workbook differs from the earlier one, which
 -- differ in nothing else

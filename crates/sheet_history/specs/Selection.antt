@@ -3,7 +3,7 @@ use Rattle.std.specs.Prelude.{ℕ, ◌==◌, Bool, true, false, List, [], ◌∷
 use Rattle.std.specs.List.{insert, list_any, remove}
 use Rattle.sheet_views.specs.Moved.{selected_sheet_after_move}
 use Rattle.sheet_history.specs.declared.diff.Diff.{Diff}
-use Rattle.sheet_history.specs.declared.diff.Diff.TheVariants.{Cell as CellDiff, Link as LinkDiff, Merges as MergesDiff, Field as FieldDiff, Lines as LinesDiff, NewSheet as NewDiff, DuplicateSheet as CopyDiff, DeleteSheet as DeletionDiff, MoveSheet as MoveDiff, RenameSheet as RenameDiff, ChangeName as NameDiff, Attributes as AttrDiff}
+use Rattle.sheet_history.specs.declared.diff.Diff.TheVariants.{Cell as CellDiff, Link as LinkDiff, Merges as MergesDiff, Field as FieldDiff, Lines as LinesDiff, NewSheet as NewDiff, DuplicateSheet as CopyDiff, DeleteSheet as DeletionDiff, MoveSheet as MoveDiff, RenameSheet as RenameDiff, ChangeName as NameDiff, Attributes as AttrDiff, Setting as SettingDiff}
 use Rattle.sheet_history.specs.declared.diff.DiffType.{DiffType}
 use Rattle.sheet_history.specs.declared.diff.DiffType.TheVariants.{Undo, Redo}
 use Rattle.sheet_history.specs.declared.selection.ListStep.{ListStep}
@@ -25,6 +25,7 @@ forward_step (DeletionDiff index kept) = Goes kept.sheet.id
 forward_step (MoveDiff sheet from to) = Moves sheet to
 forward_step (RenameDiff sheet old new kept) = Stays
 forward_step (NameDiff change kept) = Stays
+forward_step (SettingDiff change) = Stays
 
 -- back it goes, comes or is taken to its earlier index
 abbrev pub back_step : Diff → ListStep
@@ -40,6 +41,7 @@ back_step (DeletionDiff index kept) = Comes kept.sheet.id index
 back_step (MoveDiff sheet from to) = Moves sheet from
 back_step (RenameDiff sheet old new kept) = Stays
 back_step (NameDiff change kept) = Stays
+back_step (SettingDiff change) = Stays
 
 -- the steps of a list that is followed: undone it is followed from its end
 abbrev pub steps_of : DiffType → List Diff → List ListStep
@@ -102,6 +104,7 @@ is_move (DeletionDiff index kept) = false
 is_move (MoveDiff sheet from to) = true
 is_move (RenameDiff sheet old new kept) = false
 is_move (NameDiff change kept) = false
+is_move (SettingDiff change) = false
 
 -- whether a list moves a sheet
 abbrev pub has_move : List Diff → Bool

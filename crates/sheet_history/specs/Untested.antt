@@ -1,4 +1,4 @@
--- Lists whose results need no test: nothing, one link, or one field of a sheet or one cell that cannot break a rule.
+-- Lists whose results need no test: nothing, one link, one setting, or one field of a sheet or one cell that cannot break a rule.
 use Rattle.std.proofs.Common.{Bool, true, false, ◌&&◌, List, [], ◌∷◌, Option, Some, None}
 use Rattle.std.specs.Prelude.{is_none}
 use Rattle.base_values.specs.declared.Position.{Position}
@@ -12,7 +12,7 @@ use Rattle.sheet_lines.specs.Sheets.{sheet_of}
 use Rattle.sheet_history.specs.declared.diff.DiffType.{DiffType}
 use Rattle.sheet_history.specs.declared.diff.DiffType.TheVariants.{Undo, Redo}
 use Rattle.sheet_history.specs.declared.diff.Diff.{Diff}
-use Rattle.sheet_history.specs.declared.diff.Diff.TheVariants.{Cell as CellDiff, Link as LinkDiff, Merges as MergesDiff, Field as FieldDiff, Lines as LinesDiff, NewSheet as NewDiff, DuplicateSheet as CopyDiff, DeleteSheet as DeletionDiff, MoveSheet as MoveDiff, RenameSheet as RenameDiff, ChangeName as NameDiff, Attributes as AttrDiff}
+use Rattle.sheet_history.specs.declared.diff.Diff.TheVariants.{Cell as CellDiff, Link as LinkDiff, Merges as MergesDiff, Field as FieldDiff, Lines as LinesDiff, NewSheet as NewDiff, DuplicateSheet as CopyDiff, DeleteSheet as DeletionDiff, MoveSheet as MoveDiff, RenameSheet as RenameDiff, ChangeName as NameDiff, Attributes as AttrDiff, Setting as SettingDiff}
 use Rattle.sheet_history.specs.declared.field.FieldChange.{FieldChange}
 use Rattle.sheet_history.specs.declared.field.SheetField.{SheetField}
 use Rattle.sheet_history.specs.Fields.{may_have, new_of, old_of}
@@ -60,6 +60,7 @@ diff_keeps_rules kind book (DeletionDiff index kept) = false
 diff_keeps_rules kind book (MoveDiff id from to) = false
 diff_keeps_rules kind book (RenameDiff id old new kept) = false
 diff_keeps_rules kind book (NameDiff change kept) = false
+diff_keeps_rules kind book (SettingDiff change) = true
 
 -- a list that does: it is empty, or has one such diff
 abbrev pub keeps_rules : DiffType → Book → List Diff → Bool

@@ -1,4 +1,5 @@
 pub mod Depth
+pub mod SettingEquals
 pub mod DiffEquals
 pub mod FieldEquals
 pub mod FieldLaws
@@ -15,6 +16,7 @@ pub mod BothWays
 pub mod OneEntry
 pub mod ReplayLaws
 pub mod RuleLaws
+pub mod SettingLaws
 pub mod TestedLaws
 pub mod SoundEntries
 pub mod HistoryEquals

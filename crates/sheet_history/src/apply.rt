@@ -11,6 +11,7 @@ ghost use Rattle.sheet_history.specs.Diffs.{IsCanonicalDiff, IsCanonicalList, bo
 use crate::diff::{Diff, DiffList, LineAxis};
 use crate::line_diffs::{lines_back, lines_forward};
 use crate::put::{put_attr, put_cell, put_field, put_link, put_merges};
+use crate::setting::{setting_back, setting_forward};
 use base_axis::{ColumnAxis, RowAxis};
 use base_values::{EditError, copy_of};
 use book_names::{rename_back, rename_forward};
@@ -138,6 +139,7 @@ fn make(alloc: Global, workbook: &mut Workbook, diff: &Diff, at: u64) -> Result<
             at,
         ),
         Diff::ChangeName { change, kept } => name_forward(alloc, workbook, change, kept.get(), at),
+        Diff::Setting { change } => setting_forward(workbook, change),
     }
 }
 
@@ -195,6 +197,7 @@ fn take_back(alloc: Global, workbook: &mut Workbook, diff: &Diff, at: u64) -> Re
             at,
         ),
         Diff::ChangeName { change, kept } => name_back(alloc, workbook, change, kept.get(), at),
+        Diff::Setting { change } => setting_back(workbook, change),
     }
 }
 

@@ -1,4 +1,5 @@
 use crate::field::FieldChange;
+use crate::setting::SettingChange;
 use base_axis::MergeList;
 use base_shared::Shared;
 use base_values::{Exact, Items, Position, Text};
@@ -96,6 +97,10 @@ pub enum Diff {
     ChangeName {
         change: NameChange,
         kept: Shared<KeptTrees>,
+    },
+    /// A setting of the workbook.
+    Setting {
+        change: SettingChange,
     },
 }
 

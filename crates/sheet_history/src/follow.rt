@@ -108,6 +108,7 @@ fn diff_keeps_rules(workbook: &Workbook, kind: DiffType, diff: &Diff) -> bool
         },
         Diff::Link { .. } => true,
         Diff::Field { sheet: _, change } => field_keeps_rules(kind, *change),
+        Diff::Setting { .. } => true,
         _ => false,
     }
 }
@@ -153,8 +154,8 @@ fn follow_back(alloc: Global, workbook: &mut Workbook, list: &DiffList) -> Resul
 /// Follows a list in its direction, in the well-formed workbook itself, and leaves a well-formed one.
 ///
 /// `DiffRefused` as `forward` and `back` answer it; it and `NoMemory` leave the workbook. Where a test
-/// of the result has to be made the list is followed on a copy. A list of one link or of one field of a
-/// sheet whose value may stand in a well-formed workbook needs none, and neither does one of one cell
+/// of the result has to be made the list is followed on a copy. A list of one link, of one setting, or of one
+/// field of a sheet whose value may stand in a well-formed workbook needs none, and neither does one of one cell
 /// that has a font, is no array, and has no content or stands at no hidden place. For such a cell the merges and the arrays of more than one cell of its
 /// sheet are looked at, and no other cell.
 pub fn follow_in_place(

@@ -13,6 +13,7 @@ mod laws;
 mod line_diffs;
 mod put;
 mod selection;
+mod setting;
 
 pub use apply::{back, back_in_place, forward, forward_in_place};
 pub use diff::{Diff, DiffList, DiffType, LineAxis, QueueDiffs};
@@ -23,3 +24,4 @@ pub use laws::{
     line_records_go_both_ways, records_are_computed, records_are_unique, records_go_both_ways,
 };
 pub use selection::selection_followed;
+pub use setting::{Setting, SettingChange};

@@ -70,6 +70,7 @@ fn forward_step(diff: &Diff) -> ListStep
         },
         Diff::RenameSheet { .. } => ListStep::Stays,
         Diff::ChangeName { .. } => ListStep::Stays,
+        Diff::Setting { .. } => ListStep::Stays,
     }
 }
 
@@ -96,6 +97,7 @@ fn back_step(diff: &Diff) -> ListStep
         },
         Diff::RenameSheet { .. } => ListStep::Stays,
         Diff::ChangeName { .. } => ListStep::Stays,
+        Diff::Setting { .. } => ListStep::Stays,
     }
 }
 

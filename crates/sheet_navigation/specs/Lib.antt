@@ -1,3 +1,4 @@
 pub mod Walk
 pub mod Navigated
+pub mod Searches
 pub mod laws

@@ -1,3 +1,4 @@
 pub mod Chosen
 pub mod Moved
 pub mod Views
+pub mod laws

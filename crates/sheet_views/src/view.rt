@@ -1,7 +1,7 @@
 ghost use Rattle.std.specs.Prelude.{◌≡◌};
 ghost use Rattle.sheet_views.specs.Views.{first_view, are_lines, is_range, range_chosen};
 
-use base_values::{EditError, LAST_COLUMN, LAST_ROW};
+use base_values::{EditError, Exact, LAST_COLUMN, LAST_ROW};
 
 /// What a user has selected of a workbook.
 #[derive(Clone, Copy, Debug, PartialEq, Eq)]
@@ -10,6 +10,15 @@ pub struct View {
     pub sheet: u32,
     /// The first row, the first column, the last row and the last column of the rectangle.
     pub range: [i32; 4],
+}
+
+impl Exact for View {
+    ghost use Rattle.std.proofs.Common.{rules};
+    ghost use Rattle.sheet_views.specs.laws.ViewEquals.{view_equals};
+
+    ghost copies = { λ a b h. Prim.search rules };
+
+    ghost equals = { view_equals };
 }
 
 /// Whether two lines are of an axis, the second one not before the first.

@@ -10,13 +10,17 @@ use Rattle.sheet_grid.specs.declared.LineAttr.{LineAttr}
 use Rattle.sheet_grid.specs.declared.Link.{Link}
 use Rattle.sheet_lines.specs.declared.KeptLines.{KeptLines}
 use Rattle.base_styles.specs.declared.Color.{Color}
+use Rattle.base_styles.specs.declared.Theme.{Theme}
+use Rattle.base_tables.specs.declared.Locale.{Locale}
+use Rattle.base_tables.specs.declared.Zone.{Zone}
 use Rattle.sheet_grid.specs.declared.SheetState.{SheetState}
 use Rattle.book_sheets.specs.declared.KeptSheet.{KeptSheet}
 use Rattle.defined_names.specs.declared.DefinedName.{DefinedName}
 use Rattle.book_names.specs.declared.KeptTrees.{KeptTrees}
 use Rattle.sheet_history.specs.declared.FieldChange.TheVariants as change
+use Rattle.sheet_history.specs.declared.SettingChange.TheVariants as setting
 use Rattle.sheet_history.specs.declared.Diff.{Diff}
-use Rattle.sheet_history.specs.declared.Diff.TheVariants.{Cell as CellDiff, Link as LinkDiff, Merges as MergesDiff, Field as FieldDiff, Lines as LinesDiff, NewSheet as NewDiff, DuplicateSheet as CopyDiff, DeleteSheet as DeletionDiff, MoveSheet as MoveDiff, RenameSheet as RenameDiff, ChangeName as NameDiff, Attributes as AttrDiff}
+use Rattle.sheet_history.specs.declared.Diff.TheVariants.{Cell as CellDiff, Link as LinkDiff, Merges as MergesDiff, Field as FieldDiff, Lines as LinesDiff, NewSheet as NewDiff, DuplicateSheet as CopyDiff, DeleteSheet as DeletionDiff, MoveSheet as MoveDiff, RenameSheet as RenameDiff, ChangeName as NameDiff, Attributes as AttrDiff, Setting as SettingDiff}
 use Rattle.sheet_history.specs.declared.LineAxis.{LineAxis}
 use Rattle.sheet_history.specs.declared.LineAxis.TheVariants.{Rows, Columns}
 use Rattle.sheet_history.specs.Entries.{line_tag}
@@ -25,8 +29,10 @@ use Rattle.sheet_history.specs.declared.DiffType.TheVariants.{Undo, Redo}
 use Rattle.sheet_history.specs.declared.QueueDiffs.{QueueDiffs}
 use Rattle.base_wire.specs.Parts.{boolean_at}
 use Rattle.std.specs.Int.{w32}
-use Rattle.base_wire.specs.Reading.{Reader, refused, map_at, ◌⊗◌, tagged_at, code_at, list_at, signed_at, after, whole}
-use Rattle.base_wire.specs.Spelling.{spell_code, spell_list, FitsItems}
+use Rattle.base_wire.specs.Reading.{Reader, refused, map_at, ◌⊗◌, tagged_at, code_at, list_at, signed_at, text_at, after, whole}
+use Rattle.base_wire.specs.Spelling.{spell_code, spell_list, spell_text, FitsItems}
+use Rattle.setting_wire.specs.TableBytes.{spell_locale, locale_at, spell_zone, zone_at}
+use Rattle.setting_wire.specs.ThemeBytes.{spell_theme, theme_at}
 use Rattle.cell_wire.specs.CellBytes.{spell_cell, cell_at, FitsCell, IsKnownCell}
 use Rattle.cell_wire.specs.StyleBytes.{color_at}
 use Rattle.cell_wire.specs.LinkBytes.{spell_link, link_at, FitsLink}
@@ -36,6 +42,7 @@ use Rattle.lines_wire.specs.KeptBytes.{IsKnownKept}
 use Rattle.sheet_wire.specs.AttrBytes.{spell_attr_change, attr_parts_at, FitsAttrChange}
 use Rattle.sheet_wire.specs.ChangeBytes.{spell_change, change_at, FitsChange, spell_sheet_change, sheet_change_at, FitsSheetChange}
 use Rattle.sheet_wire.specs.LinesBytes.{spell_lines, lines_parts_at, FitsLines}
+use Rattle.sheet_wire.specs.SettingBytes.{spell_twice, twice_at, FitsSetting}
 use Rattle.sheet_wire.specs.SheetsBytes.{spell_color_change, spell_state_change, spell_grid_change, spell_count_change, state_at, FitsField, spell_new, new_parts_at, FitsNew, spell_copy, copy_parts_at, FitsCopy}
 use Rattle.sheet_wire.specs.TreesBytes.{spell_rename, rename_parts_at, FitsRename, AreKnownTrees, spell_name_change, name_parts_at, FitsNameChange, IsKnownChange}
 use Rattle.sheet_wire.specs.SheetsBytes.{spell_deletion, deletion_parts_at, FitsDeletion, IsKnownKeptSheet, spell_move, move_parts_at, FitsMove}
@@ -57,6 +64,10 @@ spell_diff (MoveDiff sheet from to) = 12 ∷ spell_move sheet from to
 spell_diff (FieldDiff sheet (change.Color old new)) = 13 ∷ spell_color_change sheet old new
 spell_diff (FieldDiff sheet (change.State old new)) = 14 ∷ spell_state_change sheet old new
 spell_diff (FieldDiff sheet (change.GridLines old new)) = 15 ∷ spell_grid_change sheet old new
+spell_diff (SettingDiff (setting.Theme old new)) = 18 ∷ spell_twice spell_theme old new
+spell_diff (SettingDiff (setting.Name old new)) = 19 ∷ spell_twice spell_text old new
+spell_diff (SettingDiff (setting.Locale old new)) = 20 ∷ spell_twice spell_locale old new
+spell_diff (SettingDiff (setting.Zone old new)) = 21 ∷ spell_twice spell_zone old new
 spell_diff (NameDiff change kept) = 22 ∷ spell_name_change change kept
 spell_diff (FieldDiff sheet (change.FrozenRows old new)) = 16 ∷ spell_count_change sheet old new
 spell_diff (FieldDiff sheet (change.FrozenColumns old new)) = 17 ∷ spell_count_change sheet old new
@@ -157,6 +168,30 @@ frozen_columns_diff_made x = FieldDiff x.0 (change.FrozenColumns x.1.0 x.1.1)
 unfoldable pub frozen_columns_diff_at : Reader Diff
 frozen_columns_diff_at = map_at frozen_columns_diff_made (sheet_change_at (signed_at w32))
 
+abbrev pub theme_diff_made : Theme × Theme → Diff
+theme_diff_made x = SettingDiff (setting.Theme x.0 x.1)
+
+unfoldable pub theme_diff_at : Reader Diff
+theme_diff_at = map_at theme_diff_made (twice_at theme_at)
+
+abbrev pub title_diff_made : List ℕ × List ℕ → Diff
+title_diff_made x = SettingDiff (setting.Name x.0 x.1)
+
+unfoldable pub title_diff_at : Reader Diff
+title_diff_at = map_at title_diff_made (twice_at text_at)
+
+abbrev pub locale_diff_made : Locale × Locale → Diff
+locale_diff_made x = SettingDiff (setting.Locale x.0 x.1)
+
+unfoldable pub locale_diff_at : Reader Diff
+locale_diff_at = map_at locale_diff_made (twice_at locale_at)
+
+abbrev pub zone_diff_made : Zone × Zone → Diff
+zone_diff_made x = SettingDiff (setting.Zone x.0 x.1)
+
+unfoldable pub zone_diff_at : Reader Diff
+zone_diff_at = map_at zone_diff_made (twice_at zone_at)
+
 -- what follows each tag
 abbrev pub diff_of : ℕ → Reader Diff
 diff_of tag =
@@ -176,6 +211,10 @@ diff_of tag =
     else if tag == 15 then grid_diff_at
     else if tag == 16 then frozen_rows_diff_at
     else if tag == 17 then frozen_columns_diff_at
+    else if tag == 18 then theme_diff_at
+    else if tag == 19 then title_diff_at
+    else if tag == 20 then locale_diff_at
+    else if tag == 21 then zone_diff_at
     else if tag == 22 then name_diff_at
     else refused
 
@@ -196,6 +235,7 @@ FitsDiff (DeletionDiff index kept) = FitsDeletion index kept
 FitsDiff (MoveDiff sheet from to) = FitsMove sheet from to
 FitsDiff (RenameDiff sheet old new kept) = FitsRename sheet old new kept
 FitsDiff (NameDiff change kept) = FitsNameChange change kept
+FitsDiff (SettingDiff change) = FitsSetting change
 
 -- what encoding asks of a diff: its numbers are canonical, its formulas are at most 64 deep, and each line has something of its own
 abbrev pub IsKnownDiff : Diff → Type 0
@@ -211,6 +251,7 @@ IsKnownDiff (DeletionDiff index kept) = IsKnownKeptSheet kept
 IsKnownDiff (MoveDiff sheet from to) = Unit {0}
 IsKnownDiff (RenameDiff sheet old new kept) = AreKnownTrees kept
 IsKnownDiff (NameDiff change kept) = IsKnownChange change kept
+IsKnownDiff (SettingDiff change) = Unit {0}
 
 -- a list of diffs that bytes can carry
 abbrev pub FitsList : List Diff → Type 0

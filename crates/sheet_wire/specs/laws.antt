@@ -2,5 +2,6 @@ pub mod QueueLaws
 pub mod QueueFormats
 pub mod AttrFormats
 pub mod SheetsFormats
+pub mod SettingFormats
 pub mod TreesFormats
 pub mod Fitting

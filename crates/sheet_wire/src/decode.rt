@@ -18,6 +18,7 @@ use crate::decode_sheets::{
     state_diff_at,
 };
 use crate::parts::{DiffPart, EntryPart};
+use crate::settings::{locale_diff_at, theme_diff_at, title_diff_at, zone_diff_at};
 use base_shared::Shared;
 use base_styles::Style;
 use base_values::{EditError, Items, Position};
@@ -142,6 +143,10 @@ pub(crate) fn diff_at<'a>(
         15 => grid_diff_at(alloc, rest),
         16 => frozen_rows_diff_at(alloc, rest),
         17 => frozen_columns_diff_at(alloc, rest),
+        18 => theme_diff_at(alloc, rest),
+        19 => title_diff_at(alloc, rest),
+        20 => locale_diff_at(alloc, rest),
+        21 => zone_diff_at(alloc, rest),
         22 => name_diff_at(alloc, rest),
         _ => Err(EditError::ParseDiffs),
     }

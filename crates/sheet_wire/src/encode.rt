@@ -14,6 +14,7 @@ use crate::encode_sheets::{
     put_sheet_change,
 };
 use crate::parts::{DiffPart, EntryPart};
+use crate::settings::put_setting;
 use base_shared::Shared;
 use base_values::{EditError, Items, Position};
 use base_wire::{Part, put_items};
@@ -87,6 +88,7 @@ pub(crate) fn put_diff(out: &mut Vec<u8>, diff: &Diff) -> Result<(), AllocError>
             put_sheet_change::<MergeListPart>(out, *sheet, old, new)?;
         }
         Diff::Field { sheet, change } => put_field(out, *sheet, *change)?,
+        Diff::Setting { change } => put_setting(out, change)?,
         Diff::Attributes {
             sheet,
             axis,

@@ -13,6 +13,7 @@ mod decode_sheets;
 mod encode;
 mod encode_sheets;
 mod parts;
+mod settings;
 mod sheets;
 mod trees;
 

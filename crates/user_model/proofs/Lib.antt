@@ -7,6 +7,7 @@ mod LineSteps
 mod Lists
 mod MoveSteps
 mod Moving
+mod SettingSteps
 mod Named
 mod Planned
 mod Recording
@@ -21,3 +22,4 @@ mod Tested
 mod Typed
 mod NamesTyped
 mod HiddenLines
+mod PastedStyles

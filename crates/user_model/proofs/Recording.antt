@@ -15,7 +15,7 @@ use Rattle.sheet_history.specs.declared.QueueDiffs.{QueueDiffs}
 use Rattle.sheet_history.specs.Diffs.{book_before, book_after, untested_after, untested_before, follow, in_entry, of_entry}
 use Rattle.sheet_history.specs.Stacks.{Stacks, undone_from, redone_from}
 use Rattle.sheet_history.specs.Stacks as stacks
-use Rattle.user_model.specs.Document.{Document, document, document_undo, undo_at, document_redo, redo_at, beside, sending, can_undo_step, can_redo_step, stale_after}
+use Rattle.user_model.specs.Document.{Document, document_undo, undo_at, document_redo, redo_at, beside, sending, can_undo_step, can_redo_step, stale_after}
 use Rattle.user_model.specs.Machine.{State, Step, step_record}
 use Rattle.user_model.specs.Sound.{Leads, Follows}
 use Rattle.user_model.specs.Stands.{IsReached}

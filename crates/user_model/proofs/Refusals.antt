@@ -27,7 +27,7 @@ use Rattle.name_edits.specs.NameChanges.{name_made, name_unmade}
 use Rattle.name_edits.specs.NameDiffs.{name_forward, name_back}
 use Rattle.name_edits.specs.NameDiffs.{goes_forward as may_change, goes_back as may_change_back}
 use Rattle.sheet_history.specs.declared.Diff.{Diff}
-use Rattle.sheet_history.specs.declared.Diff.TheVariants.{Cell as CellDiff, Link as LinkDiff, Merges as MergesDiff, Field as FieldDiff, Lines as LinesDiff, NewSheet as NewDiff, DuplicateSheet as CopyDiff, DeleteSheet as DeletionDiff, MoveSheet as MoveDiff, RenameSheet as RenameDiff, ChangeName as NameDiff, Attributes as AttrDiff}
+use Rattle.sheet_history.specs.declared.Diff.TheVariants.{Cell as CellDiff, Link as LinkDiff, Merges as MergesDiff, Field as FieldDiff, Lines as LinesDiff, NewSheet as NewDiff, DuplicateSheet as CopyDiff, DeleteSheet as DeletionDiff, MoveSheet as MoveDiff, RenameSheet as RenameDiff, ChangeName as NameDiff, Attributes as AttrDiff, Setting as SettingDiff}
 use Rattle.sheet_history.specs.declared.DiffType.{DiffType}
 use Rattle.sheet_history.specs.declared.DiffType.TheVariants.{Undo, Redo}
 use Rattle.sheet_history.specs.declared.QueueDiffs.{QueueDiffs}
@@ -152,6 +152,7 @@ step_only at book (DeletionDiff index kept) = deletion_only at kept book
 step_only at book (MoveDiff sheet from to) = moves_only at sheet from to book
 step_only at book (RenameDiff sheet old new kept) = rename_only at sheet old new kept book
 step_only at book (NameDiff change kept) = name_only at change kept book
+step_only at book (SettingDiff change) = tt
 
 step_back_only : (at : ℕ) (book : Book) (diff : Diff) → Only (step_back at book diff)
 step_back_only at book (CellDiff sheet place old new) = put_only at book (CellKey sheet place) (CellValue old)
@@ -166,6 +167,7 @@ step_back_only at book (DeletionDiff index kept) = deletion_back_only at index k
 step_back_only at book (MoveDiff sheet from to) = moves_only at sheet to from book
 step_back_only at book (RenameDiff sheet old new kept) = rename_back_only at sheet old new kept book
 step_back_only at book (NameDiff change kept) = name_back_only at change kept book
+step_back_only at book (SettingDiff change) = tt
 
 made_only : (at : ℕ) (book : Book) (diffs : List Diff) → Only (forward_from at book diffs)
 made_only at book [] = tt

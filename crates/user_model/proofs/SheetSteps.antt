@@ -13,7 +13,7 @@ use Rattle.sheet_naming.specs.NextIds.{next_id}
 use Rattle.sheet_history.specs.declared.Diff.{Diff}
 use Rattle.sheet_history.specs.Diffs.{IsCanonicalList}
 use Rattle.edit_plans.specs.Edits.{Edit, changed, is_of_sheets, is_silent, record_of}
-use Rattle.edit_plans.specs.Edits.Edit.{Input, ArrayInput, SetLink, Merge, Unmerge, Lines, MoveLines, AddSheet, CopySheet, DeleteSheet, MoveSheet, RenameSheet, ChangeNames, SetField, SetSize, SetHidden}
+use Rattle.edit_plans.specs.Edits.Edit.{Input, ArrayInput, SetLink, Merge, Unmerge, Lines, MoveLines, AddSheet, CopySheet, DeleteSheet, MoveSheet, RenameSheet, ChangeNames, SetField, SetSize, SetHidden, SetRangeStyle, ClearRange, ClearFormatting, PasteStyles, SetSetting, Fill}
 use Rattle.edit_plans.specs.Plans.{IsSheetPlan, PlansSheets}
 use Rattle.edit_plans.specs.Plans.{GoesBothWays as SheetsGoBothWays}
 use Rattle.name_edits.specs.declared.NameChange.{NameChange}
@@ -121,6 +121,7 @@ module _ (earlier later : Book) where
   exact (MoveSheet from to) is how = taken_exact from to how
   exact (RenameSheet index name) is how = named_exact index name how
   exact (ChangeNames edit) is how = names_exact edit how
+  exact (SetSetting setting) is how = refl
   exact (Input index row column content feeds) is how = absurd (let never : false ≡ true = is in cc)
   exact (ArrayInput index r tree) is how = absurd (let never : false ≡ true = is in cc)
   exact (SetLink index row column link) is how = absurd (let never : false ≡ true = is in cc)
@@ -131,6 +132,11 @@ module _ (earlier later : Book) where
   exact (SetField index value) is how = absurd (let never : false ≡ true = is in cc)
   exact (SetSize index axis first last size) is how = absurd (let never : false ≡ true = is in cc)
   exact (SetHidden index axis first last hidden) is how = absurd (let never : false ≡ true = is in cc)
+  exact (SetRangeStyle index r path value) is how = absurd (let never : false ≡ true = is in cc)
+  exact (ClearRange index clearing r) is how = absurd (let never : false ≡ true = is in cc)
+  exact (ClearFormatting index r) is how = absurd (let never : false ≡ true = is in cc)
+  exact (PasteStyles index r styles) is how = absurd (let never : false ≡ true = is in cc)
+  exact (Fill index axis source to language) is how = absurd (let never : false ≡ true = is in cc)
 
 -- ---- what the law says of a step
 

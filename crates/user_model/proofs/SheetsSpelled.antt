@@ -1,5 +1,5 @@
 -- The record of an edit of the list of the sheets, or of the defined names, can be spelled.
-use Rattle.std.proofs.Common.{◌≡◌, ℕ, true, false, Bool, cond, length, Option, Some, None, Result, Ok, Err, List, refl, sym, subst}
+use Rattle.std.proofs.Common.{◌≡◌, ℕ, true, false, Bool, cond, length, Option, Some, None, Result, Ok, Err, List, [], ◌∷◌, refl, sym, subst}
 use Rattle.std.specs.Prelude.{slice_get, IfSome, IsTrue}
 use Rattle.std.specs.Cmp.{nat_cmp_total}
 use Rattle.std.specs.Option.{option_map_or}
@@ -34,14 +34,17 @@ use Rattle.book_names.specs.Renaming.{everywhere, trees_kept}
 use Rattle.book_names.specs.laws.Stands.{kept_of_name, kept_tree_fits}
 use Rattle.book_laws.specs.laws.BothWays.{deletion_both_ways}
 use Rattle.book_laws.specs.laws.SheetDiffLaws.{found_at}
-use Rattle.sheet_history.specs.declared.Diff.TheVariants.{DeleteSheet as DeletionDiff, RenameSheet as RenameDiff, ChangeName as NameDiff}
+use Rattle.sheet_history.specs.declared.Diff.TheVariants.{DeleteSheet as DeletionDiff, RenameSheet as RenameDiff, ChangeName as NameDiff, Setting as SettingDiff}
+use Rattle.sheet_history.specs.declared.Setting.{Setting}
+use Rattle.sheet_history.specs.Settings.{change_to}
+use Rattle.edit_plans.specs.SettingEdits.{has_setting, setting_record}
 use Rattle.sheet_history.specs.laws.Depth.{AreShallowTrees, IsShallowSheet}
 use Rattle.sheet_history.specs.Diffs.{IsCanonicalDiff, IsCanonicalList}
 use Rattle.sheet_history.specs.laws.Entries.{entry_holds}
 use Rattle.sheet_wire.specs.QueueBytes.{IsKnownDiff}
 use Rattle.sheet_wire.specs.laws.Fitting.{known_diff}
 use Rattle.edit_plans.specs.Edits.{Edit, is_of_sheets, record_of}
-use Rattle.edit_plans.specs.Edits.Edit.{Input, ArrayInput, SetLink, Merge, Unmerge, Lines, MoveLines, AddSheet, CopySheet, DeleteSheet, MoveSheet, RenameSheet, ChangeNames, SetField, SetSize, SetHidden}
+use Rattle.edit_plans.specs.Edits.Edit.{Input, ArrayInput, SetLink, Merge, Unmerge, Lines, MoveLines, AddSheet, CopySheet, DeleteSheet, MoveSheet, RenameSheet, ChangeNames, SetField, SetSize, SetHidden, SetRangeStyle, ClearRange, ClearFormatting, PasteStyles, SetSetting, Fill}
 use Rattle.name_edits.specs.declared.NameChange.{NameChange}
 use Rattle.name_edits.specs.NameChanges.{trees_lost}
 use Rattle.name_edits.specs.NameEdits.{NameEdit, name_change}
@@ -186,6 +189,13 @@ module _ (w : Book) (rules : IsWellFormed w) where
   names_spellable edit (Ok change) found numbers =
       (name_known change w rules (edited w rules edit change found).made (recursion_from_All IsCanonicalDiff (one_diff (Ok (name_diff w change))) numbers).0, tt)
 
+  setting_spellable : (setting : Setting) → AreSpellable (setting_record setting w)
+  setting_spellable setting = go (has_setting setting w)
+    where
+      go : (b : Bool) → AreSpellable (cond b [] (SettingDiff (change_to setting w) ∷ []))
+      go true = tt
+      go false = (tt, tt)
+
   pub sheets_spellable : (edit : Edit) → IsTrue (is_of_sheets edit) → (later : Book) → IsCanonicalList (record_of edit w later) → AreSpellable (record_of edit w later)
   sheets_spellable AddSheet is later numbers = new_spellable (next_id (ids_of w.worksheets))
   sheets_spellable (CopySheet index) is later numbers = copy_spellable index (sheet_at w index)
@@ -193,6 +203,7 @@ module _ (w : Book) (rules : IsWellFormed w) where
   sheets_spellable (MoveSheet from to) is later numbers = move_spellable from to (sheet_at w from)
   sheets_spellable (RenameSheet index name) is later numbers = rename_spellable index name (slice_get w.worksheets index) refl numbers
   sheets_spellable (ChangeNames edit) is later numbers = names_spellable edit (name_change edit w) refl numbers
+  sheets_spellable (SetSetting setting) is later numbers = setting_spellable setting
   sheets_spellable (Input index row column content feeds) is later numbers = absurd (let never : false ≡ true = is in cc)
   sheets_spellable (ArrayInput index r tree) is later numbers = absurd (let never : false ≡ true = is in cc)
   sheets_spellable (SetLink index row column link) is later numbers = absurd (let never : false ≡ true = is in cc)
@@ -203,3 +214,8 @@ module _ (w : Book) (rules : IsWellFormed w) where
   sheets_spellable (SetField index value) is later numbers = absurd (let never : false ≡ true = is in cc)
   sheets_spellable (SetSize index axis first last size) is later numbers = absurd (let never : false ≡ true = is in cc)
   sheets_spellable (SetHidden index axis first last hidden) is later numbers = absurd (let never : false ≡ true = is in cc)
+  sheets_spellable (SetRangeStyle index r path value) is later numbers = absurd (let never : false ≡ true = is in cc)
+  sheets_spellable (ClearRange index clearing r) is later numbers = absurd (let never : false ≡ true = is in cc)
+  sheets_spellable (ClearFormatting index r) is later numbers = absurd (let never : false ≡ true = is in cc)
+  sheets_spellable (PasteStyles index r styles) is later numbers = absurd (let never : false ≡ true = is in cc)
+  sheets_spellable (Fill index axis source to language) is later numbers = absurd (let never : false ≡ true = is in cc)

@@ -15,4 +15,7 @@ pub mod Places
 pub mod Reading
 pub mod Typing
 pub mod Structure
+pub mod CellTypes
+pub mod CellStyles
+pub mod Settings
 pub mod laws

@@ -16,6 +16,9 @@ use Rattle.sheet_wire.specs.QueueBytes.{spell_queue}
 use Rattle.edit_plans.specs.Edits.{Edit, changed, is_silent, record_of}
 use Rattle.edit_plans.specs.ViewSteps.{view_after}
 use Rattle.user_model.specs.Views.{sheet_chosen, view_followed}
+use Rattle.base_styles.specs.declared.Style.{Style}
+use Rattle.edit_plans.specs.Edits.Edit.{PasteStyles}
+use Rattle.edit_plans.specs.RangeEdits.{pasted_by}
 
 -- an accepted edit, with the whole workbook before it and the whole workbook after it
 pub record Step : Type 0 where
@@ -94,6 +97,10 @@ edited edit s later =
 abbrev pub edit_of : Edit → State → Result State EditError
 edit_of edit s = if is_silent edit s.present then Ok s else map_ok (edited edit s) (changed edit s.present)
 
+-- styles are pasted over the rectangle that is viewed, grown to their size
+abbrev pub pasted_edit : List (List Style) → State → Result State EditError
+pasted_edit styles s = edit_of (PasteStyles s.view.sheet (pasted_by styles s.view.range) styles) s
+
 -- what is seen of a workbook to which a list was followed from the present one
 abbrev pub seen_along : DiffType → List Diff → Book → State → View
 seen_along kind list later s = view_followed kind list s.present later s.view
@@ -131,6 +138,10 @@ redo_of s = redo_from s.undone s
 -- with another view, or with the refusal of one
 abbrev pub looking : Result View EditError → State → Result State EditError
 looking view s = map_ok (λ seen. record s { view = seen }) view
+
+-- shown in another language, or with the refusal of one
+abbrev pub speaking_in : Result Language EditError → State → Result State EditError
+speaking_in language s = map_ok (λ spoken. record s { language = spoken }) language
 
 -- the sheet at an index is selected
 abbrev pub sheet_selected : ℕ → State → Result State EditError

@@ -1,10 +1,11 @@
 -- What is listed of each sheet, and asked of one.
-use Rattle.std.proofs.Common.{ℕ, ℤ, Bool, List, map, Result}
+use Rattle.std.proofs.Common.{ℕ, ℤ, Bool, List, map, Option, Result}
 use Rattle.base_values.specs.declared.EditError.{EditError}
 use Rattle.base_values.specs.Answers.{and_then, map_ok}
 use Rattle.sheet_grid.specs.Lines.{shown_size, usual_height, usual_width}
 use Rattle.sheet_grid.specs.Sheet.{Sheet, of_column, of_row}
 use Rattle.sheet_grid.specs.Book.{Book, sheet_at}
+use Rattle.sheet_navigation.specs.Searches.{first_filled_after, last_filled_before}
 use Rattle.user_model.specs.declared.properties.SheetProperties.{SheetProperties}
 
 abbrev pub properties_of : Sheet → SheetProperties
@@ -17,6 +18,14 @@ all_properties book = map properties_of book.worksheets
 -- whether grid lines are drawn in the sheet at an index, or the refusal where there is none
 abbrev pub draws_grid_lines : ℕ → Book → Result Bool EditError
 draws_grid_lines index book = map_ok (λ sheet. sheet.show_grid_lines) (sheet_at book index)
+
+-- the greatest column below one, in a row of the sheet at an index, whose cell has a content. The first refusal is that there is no such sheet
+abbrev pub last_filled : ℕ → ℤ → ℤ → Book → Result (Option ℤ) EditError
+last_filled index row column book = and_then (sheet_at book index) (λ sheet. last_filled_before sheet row column)
+
+-- the least column above it
+abbrev pub first_filled : ℕ → ℤ → ℤ → Book → Result (Option ℤ) EditError
+first_filled index row column book = and_then (sheet_at book index) (λ sheet. first_filled_after sheet row column)
 
 -- the height that a row of the sheet at an index shows. The first refusal is that there is no such sheet
 abbrev pub row_height : ℕ → ℤ → Book → Result ℤ EditError

@@ -8,8 +8,9 @@ use Rattle.defined_names.specs.declared.DefinedName.{DefinedName}
 use Rattle.sheet_grid.specs.Book.{Book}
 use Rattle.name_edits.specs.NameEdits.{valid_name}
 use Rattle.name_edits.specs.NameEdits.NameEdit.{Add, Update}
-use Rattle.edit_plans.specs.Edits.Edit.{Input, ArrayInput, ChangeNames}
+use Rattle.edit_plans.specs.Edits.Edit.{Input, ArrayInput, ChangeNames, Fill}
 use Rattle.line_sizes.specs.Heights.{line_feeds}
+use Rattle.sheet_history.specs.declared.LineAxis.{LineAxis}
 use Rattle.user_model.specs.Machine.{State, edit_of}
 use Rattle.user_model.specs.Reading.{typed, formula_typed}
 
@@ -32,3 +33,7 @@ update_typed scope name new_scope new_name text s = edit_of (ChangeNames (Update
 -- the scope of such a new name of a workbook, or why there is none
 abbrev pub name_tested : Option ℕ → List ℕ → List ℕ → Book → Language → Result (Option ℕ) EditError
 name_tested scope name text book language = map_ok (λ (made : DefinedName). made.scope) (valid_name scope name (formula_typed book language (pos 1) (pos 1) text) book)
+
+-- a fill of rows or of columns from a rectangle to a line: texts that go on are read in the language of the state
+abbrev pub fill_asked : ℕ → LineAxis → MergedCell → ℤ → State → Result State EditError
+fill_asked sheet axis source to s = edit_of (Fill sheet axis source to s.language) s

@@ -4,6 +4,7 @@ use Rattle.base_values.specs.declared.EditError.{EditError}
 use Rattle.base_values.specs.declared.EditError.TheVariants.{DiffRefused}
 use Rattle.sheet_grid.specs.Book.{Book}
 use Rattle.sheet_grid.specs.Computed.{Values, no_values}
+use Rattle.base_tables.specs.declared.Language.{Language}
 use Rattle.sheet_views.specs.declared.View.{View}
 use Rattle.sheet_history.specs.declared.QueueDiffs.{QueueDiffs}
 use Rattle.user_model.specs.Document.{Document}
@@ -17,6 +18,10 @@ pub record Session : Type 0 where
 -- the same where something else is seen of the workbook
 abbrev pub seeing : Session → View → Session
 seeing session view = record session { document = record session.document { view = view } }
+
+-- the same shown in another language
+abbrev pub speaking : Session → Language → Session
+speaking session language = record session { document = record session.document { language = language } }
 
 -- values that were just made fit the workbook. While they wait there are none
 abbrev pub AreMade : (Book → Values → Type 0) → Bool → Book → Values → Type 0

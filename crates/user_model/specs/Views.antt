@@ -2,10 +2,13 @@
 use Rattle.std.proofs.Common.{ℕ, ℤ, Bool, List, Result}
 use Rattle.std.specs.Prelude.{◌==◌, ◌&&◌, if◌then◌else◌}
 use Rattle.line_sizes.specs.LineChanges.{has_lines}
+use Rattle.base_axis.specs.declared.MergedCell.{MergedCell}
+use Rattle.base_axis.specs.Rectangles.{is_inside, last_column, last_row}
 use Rattle.base_values.specs.declared.EditError.{EditError}
 use Rattle.base_values.specs.Answers.{map_ok}
 use Rattle.sheet_grid.specs.Book.{Book, ids_of, sheet_at}
 use Rattle.sheet_views.specs.declared.View.{View}
+use Rattle.sheet_views.specs.Views.{range_from}
 use Rattle.sheet_views.specs.Chosen.{id_at, viewed}
 use Rattle.sheet_history.specs.declared.Diff.{Diff}
 use Rattle.sheet_history.specs.declared.DiffType.{DiffType}
@@ -33,3 +36,7 @@ seen_by index axis first last hidden book view =
     if hidden && (index == view.sheet) && has_lines (along_of axis).last first last
     then record view { range = line_shown axis first last (sheet_at book index) view.range }
     else view
+
+-- the view that is asked for where styles are pasted over a rectangle of the viewed sheet, if that lies in the sheet
+abbrev pub seen_by_pasting : MergedCell → View → View
+seen_by_pasting r view = if is_inside r then record view { range = range_from r.row r.column (last_row r) (last_column r) } else view

@@ -1,1 +1,3 @@
 pub mod StructureEquals
+pub mod CellTypeEquals
+pub mod PropertiesEquals

@@ -5,6 +5,8 @@
 //! each call takes every state of the machine that the model stands for to the machine's next one.
 #![tactic(auto)]
 
+mod cell_style;
+mod cell_type;
 mod install;
 mod laws;
 mod open_book;
@@ -15,6 +17,8 @@ mod structure;
 mod user_model;
 mod view_steps;
 
+pub use base_styles::{BorderArea, BorderType};
+pub use cell_type::CellType;
 pub use laws::edits_go_both_ways;
 pub use name_lists::ScopedName;
 pub use properties::SheetProperties;

@@ -1,11 +1,15 @@
 ghost use Rattle.std.specs.Prelude.{◌≡◌, map, Ok, IfOk, IsOkUnless};
 ghost use Rattle.base_values.specs.Answers.{Returns};
 ghost use Rattle.base_values.specs.declared.EditError.TheVariants.{NoMemory};
-ghost use Rattle.user_model.specs.Properties.{all_properties, column_width, draws_grid_lines, frozen_columns, frozen_rows, properties_of, row_height};
+ghost use Rattle.std.specs.Prelude.{string_bytes};
+ghost use Rattle.base_values.specs.Answers.{map_ok};
+ghost use Rattle.user_model.specs.Properties.{all_properties, column_width, draws_grid_lines, first_filled, frozen_columns, frozen_rows, last_filled, properties_of, row_height};
+ghost use Rattle.user_model.specs.Settings.{resolved_text};
 
-use base_styles::Color;
-use base_values::{EditError, Items, Text};
+use base_styles::{Color, Theme};
+use base_values::{EditError, Exact, Items, Text};
 use sheet_grid::{SheetState, Workbook, Worksheet};
+use sheet_navigation::RowSearch;
 use std::alloc::Global;
 
 /// What is listed of a sheet.
@@ -24,6 +28,15 @@ pub struct SheetProperties {
     pub sheet_id: u32,
     /// The colour of its tab.
     pub color: Color,
+}
+
+impl Exact for SheetProperties {
+    ghost use Rattle.std.proofs.Common.{rules};
+    ghost use Rattle.user_model.specs.laws.PropertiesEquals.{properties_equals};
+
+    ghost copies = { λ a b h. Prim.search rules };
+
+    ghost equals = { properties_equals };
 }
 
 /// What is listed of a sheet. `NoMemory` alone is an error.
@@ -67,6 +80,42 @@ pub(crate) fn draws_grid_lines(workbook: &Workbook, sheet: u32) -> Result<bool, 
     ensures { result ≡ draws_grid_lines sheet workbook.now }
 {
     Ok(workbook.worksheet(sheet)?.show_grid_lines())
+}
+
+/// The greatest column below one, in a row of the sheet at an index, whose cell has a content. It takes no
+/// memory.
+pub(crate) fn last_filled(
+    workbook: &Workbook,
+    sheet: u32,
+    row: i32,
+    column: i32,
+) -> Result<Option<i32>, EditError>
+    ensures { result ≡ last_filled sheet row column workbook.now }
+{
+    workbook.worksheet(sheet)?.last_filled_before(row, column)
+}
+
+/// The least column above one, in a row of the sheet at an index, whose cell has a content. It takes no
+/// memory.
+pub(crate) fn first_filled(
+    workbook: &Workbook,
+    sheet: u32,
+    row: i32,
+    column: i32,
+) -> Result<Option<i32>, EditError>
+    ensures { result ≡ first_filled sheet row column workbook.now }
+{
+    workbook.worksheet(sheet)?.first_filled_after(row, column)
+}
+
+/// A colour as `#RRGGBB`, as a theme has it, or the empty text where it is none.
+pub(crate) fn resolved_text(alloc: Global, theme: Theme, color: Color) -> Result<String, EditError>
+    ensures { Returns (map_ok string_bytes result) (Ok (resolved_text theme color)) }
+{
+    match theme.resolve(color) {
+        Some(parts) => Ok(parts.text(alloc)?),
+        None => Ok(String::new(alloc)),
+    }
 }
 
 /// The height of a row of the sheet at an index, 0 where it is hidden. It takes no memory.

@@ -24,8 +24,12 @@ ghost use Rattle.user_model.specs.Stands.{StandsFor, IsReached, IsAnyPlan, IsPla
 ghost use Rattle.user_model.specs.Values.{IsMade, LeavesMade, Makes, is_none_left};
 
 mod attributes;
+mod cells;
+mod fills;
 mod lines;
 mod names;
+mod ranges;
+mod settings;
 mod sheets;
 mod views;
 

@@ -1,15 +1,19 @@
 //! What is selected of a workbook after a step, also where the step is refused.
 
-ghost use Rattle.std.specs.Prelude.{◌≡◌, ◌≢◌, ◌<◌, ◌≤ℤ◌, length, nat_lt, pos, Err};
+ghost use Rattle.std.specs.Prelude.{◌≡◌, ◌≢◌, ◌<◌, ◌≤ℤ◌, length, map, nat_lt, pos, true, Err};
+ghost use Rattle.base_axis.specs.Rectangles.{is_inside};
 ghost use Rattle.base_values.specs.declared.EditError.TheVariants.{NoMemory};
 ghost use Rattle.sheet_grid.specs.Book.{sheet_at};
 ghost use Rattle.sheet_history.specs.LineDiffs.{along_of};
 ghost use Rattle.edit_plans.specs.Edits.Edit.{DeleteSheet, SetField};
+ghost use Rattle.edit_plans.specs.RangeEdits.{pasted_by};
 ghost use Rattle.edit_plans.specs.ViewSteps.{line_shown, selected_by};
-ghost use Rattle.user_model.specs.Views.{seen_by, sheet_chosen};
+ghost use Rattle.user_model.specs.Views.{seen_by, seen_by_pasting, sheet_chosen};
 
+use base_axis::{ColumnAxis, MergedCell, RowAxis};
+use base_styles::Style;
 use base_values::EditError;
-use edit_plans::{range_by_hiding, selected_by_deletion, selected_by_field};
+use edit_plans::{pasted_area, range_by_hiding, selected_by_deletion, selected_by_field};
 use entry_records::axis_end;
 use line_sizes::has_lines;
 use sheet_grid::Workbook;
@@ -77,7 +81,7 @@ fn range_hidden(
     ensures { result ≡ line_shown axis first last (sheet_at workbook.now sheet) range }
 {
     match workbook.worksheet(sheet) {
-        Ok(found) => range_by_hiding(found, axis, first, last, range),
+        Ok(found) => range_by_hiding(found, axis, first, last),
         Err(_) => range,
     }
 }
@@ -102,5 +106,41 @@ pub(crate) fn seen_by_hiding(
         }
     } else {
         view
+    }
+}
+
+/// A rectangle that is none.
+const NOWHERE: MergedCell = MergedCell {
+    row: 0,
+    column: 0,
+    width: 0,
+    height: 0,
+};
+
+/// The rectangle that pasted styles get, or one that lies outside the sheet as well, where no sheet is as
+/// large as that.
+pub(crate) fn pasted_rectangle(styles: &[Vec<Style>], range: [i32; 4]) -> MergedCell
+    ensures inside { is_inside result ≡ is_inside (pasted_by (map (λ row. row.items) styles.now) range) }
+    ensures area { is_inside result ≡ true → result ≡ pasted_by (map (λ row. row.items) styles.now) range }
+{
+    match pasted_area(styles, range) {
+        Some(area) => area,
+        None => NOWHERE,
+    }
+}
+
+/// The view that is asked for where styles are pasted over a rectangle of the viewed sheet, if it lies in
+/// the sheet: that rectangle.
+pub(crate) fn seen_by_pasting(area: MergedCell, view: View) -> View
+    ensures { result ≡ seen_by_pasting area view }
+{
+    if !area.is_inside() {
+        return view;
+    }
+    let (first_row, last_row) = area.lines::<RowAxis>();
+    let (first_column, last_column) = area.lines::<ColumnAxis>();
+    View {
+        sheet: view.sheet,
+        range: [first_row, first_column, last_row, last_column],
     }
 }

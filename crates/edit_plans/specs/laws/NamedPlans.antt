@@ -1,5 +1,5 @@
 -- What plans of edits of the defined names return.
-use Rattle.std.proofs.Common.{◌≡◌, ◌≢◌, List, [], ◌∷◌, length, true, Result, Ok, Err, refl, ap, ◌∙◌}
+use Rattle.std.proofs.Common.{◌≡◌, List, [], ◌∷◌, length, true, Result, Ok, Err, refl, ap}
 use Rattle.std.specs.Prelude.{IfOk, IsOk, IsOkUnless}
 use Rattle.base_values.specs.declared.EditError.{EditError}
 use Rattle.base_values.specs.declared.EditError.TheVariants.{NoMemory}

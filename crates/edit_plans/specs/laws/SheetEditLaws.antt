@@ -1,5 +1,5 @@
 -- An edit of the list of the sheets leaves a well-formed workbook, and its record leads there and back.
-use Rattle.std.proofs.Common.{◌≡◌, ◌≢◌, ℕ, zero, suc, ◌+◌, ◌^◌, ◌≤◌, ◌<◌, ◌==◌, Bool, true, false, cond, List, [], ◌∷◌, length, get_or, Option, Some, None, Result, Ok, Err, refl, ap, sym, subst, ◌∙◌, arith}
+use Rattle.std.proofs.Common.{◌≡◌, ℕ, zero, suc, ◌+◌, ◌^◌, ◌≤◌, ◌<◌, ◌==◌, Bool, true, false, cond, List, [], ◌∷◌, length, get_or, Option, Some, None, Result, Ok, Err, refl, ap, sym, subst, ◌∙◌, arith}
 use Rattle.std.specs.Prelude.{◌&&◌, nat_lt, slice_get, IsTrue}
 use Rattle.std.specs.List.{AllByRecursion, list_all}
 use Rattle.std.proofs.lemmas.Bool.{and_parts}
@@ -39,8 +39,15 @@ use Rattle.book_laws.specs.laws.LaterRules.{free_above, new_well_formed, copy_we
 use Rattle.book_laws.specs.laws.SheetDiffLaws.{found_at}
 use Rattle.sheet_history.specs.declared.Diff.{Diff}
 use Rattle.sheet_history.specs.Diffs.{step_forward, step_back, by_rule, tested, book_after, book_before}
+use Rattle.sheet_history.specs.declared.Diff.TheVariants.{Setting as SettingDiff}
+use Rattle.sheet_history.specs.declared.Setting.{Setting}
+use Rattle.sheet_history.specs.Settings.{with_setting, change_to}
+use Rattle.sheet_history.specs.laws.SettingLaws.{change_goes, change_returns, setting_well_formed}
+use Rattle.sheet_history.specs.laws.TestedLaws.{by_rule-kept}
+use Rattle.edit_plans.specs.SettingEdits.{has_setting, setting_record}
+use Rattle.edit_plans.specs.laws.SettingStays.{setting_stays}
 use Rattle.edit_plans.specs.Edits.{Edit, changed, is_of_sheets, record_of}
-use Rattle.edit_plans.specs.Edits.Edit.{Input, ArrayInput, SetLink, Merge, Unmerge, Lines, MoveLines, AddSheet, CopySheet, DeleteSheet, MoveSheet, RenameSheet, ChangeNames, SetField, SetSize, SetHidden}
+use Rattle.edit_plans.specs.Edits.Edit.{Input, ArrayInput, SetLink, Merge, Unmerge, Lines, MoveLines, AddSheet, CopySheet, DeleteSheet, MoveSheet, RenameSheet, ChangeNames, SetField, SetSize, SetHidden, SetRangeStyle, ClearRange, ClearFormatting, PasteStyles, SetSetting, Fill}
 use Rattle.edit_plans.specs.Plans.{GoesBothWays}
 use Rattle.edit_plans.specs.SheetEdits.{with_new_sheet, sheet_added, with_copy, sheet_copied, sheet_deleted, sheet_taken, with_name, sheet_named, new_diff, copy_diff, deletion_diff, move_diff, rename_diff, one_diff}
 
@@ -269,7 +276,40 @@ module _ (w : Book) (rules : IsWellFormed w) where
           (ap (λ r. one_diff (map_ok (name_diff w) r)) found) (name_both_ways change.index w change.old change.new it.made 0))
       go (Err error) found e = absurd (let never : ◌≡◌ {A = Result Book EditError} (Err error) (Ok later) = e in cc)
 
--- an accepted edit of the list of the sheets, or of the defined names, of a well-formed workbook
+module _ (setting : Setting) (w : Book) (rules : IsWellFormed w) where
+  abbrev with_it : Book
+  with_it = with_setting setting w
+
+  -- the workbook has the setting already
+  setting_kept : has_setting setting w ≡ true → GoesBothWays (SetSetting setting) w with_it
+  setting_kept has =
+      let none : setting_record setting w ≡ [] = ap (λ b. cond b [] (SettingDiff (change_to setting w) ∷ [])) has in
+      let same : with_it ≡ w = setting_stays setting w has in
+      let kept : IsWellFormed with_it = setting_well_formed setting w rules in
+      record {
+        rules = kept;
+        forth = ap (book_after w) none ∙ by_rule-kept 0 w rules ∙ ap Ok (sym same);
+        back = ap (book_before with_it) none ∙ by_rule-kept 0 with_it kept ∙ ap Ok same;
+      }
+
+  -- or gets it
+  setting_changed : has_setting setting w ≡ false → GoesBothWays (SetSetting setting) w with_it
+  setting_changed has_not =
+      one_both_ways (SetSetting setting) (SettingDiff (change_to setting w)) w with_it rules (setting_well_formed setting w rules)
+      (ap (λ b. cond b [] (SettingDiff (change_to setting w) ∷ [])) has_not)
+      (record { forth = ap Ok (change_goes setting w); back = ap Ok (change_returns setting w) })
+
+  setting_goes : GoesBothWays (SetSetting setting) w with_it
+  setting_goes = go (has_setting setting w) refl
+    where
+      go : (b : Bool) → has_setting setting w ≡ b → GoesBothWays (SetSetting setting) w with_it
+      go true is = setting_kept is
+      go false is = setting_changed is
+
+  set_goes : (later : Book) → ◌≡◌ {A = Result Book EditError} (Ok with_it) (Ok later) → GoesBothWays (SetSetting setting) w later
+  set_goes later how = subst (GoesBothWays (SetSetting setting) w) (let same : with_it ≡ later = cc in same) setting_goes
+
+-- an accepted edit of the list of the sheets, of the defined names or of a setting of a well-formed workbook
 pub goes_both_ways : (edit : Edit) (earlier later : Book) → IsTrue (is_of_sheets edit) → IsWellFormed earlier → changed edit earlier ≡ Ok later
     → GoesBothWays edit earlier later
 goes_both_ways AddSheet earlier later is rules how = added_goes earlier rules later how
@@ -278,6 +318,7 @@ goes_both_ways (DeleteSheet index) earlier later is rules how = deleted_goes ear
 goes_both_ways (MoveSheet from to) earlier later is rules how = taken_goes earlier rules from to later how
 goes_both_ways (RenameSheet index name) earlier later is rules how = named_goes earlier rules index name later how
 goes_both_ways (ChangeNames edit) earlier later is rules how = names_go earlier rules edit later how
+goes_both_ways (SetSetting setting) earlier later is rules how = set_goes setting earlier rules later how
 goes_both_ways (Input index row column content feeds) earlier later is rules how = absurd (let never : false ≡ true = is in cc)
 goes_both_ways (ArrayInput index r tree) earlier later is rules how = absurd (let never : false ≡ true = is in cc)
 goes_both_ways (SetLink index row column link) earlier later is rules how = absurd (let never : false ≡ true = is in cc)
@@ -288,3 +329,8 @@ goes_both_ways (MoveLines index axis first count delta) earlier later is rules h
 goes_both_ways (SetField index value) earlier later is rules how = absurd (let never : false ≡ true = is in cc)
 goes_both_ways (SetSize index axis first last size) earlier later is rules how = absurd (let never : false ≡ true = is in cc)
 goes_both_ways (SetHidden index axis first last hidden) earlier later is rules how = absurd (let never : false ≡ true = is in cc)
+goes_both_ways (SetRangeStyle index r path value) earlier later is rules how = absurd (let never : false ≡ true = is in cc)
+goes_both_ways (ClearRange index clearing r) earlier later is rules how = absurd (let never : false ≡ true = is in cc)
+goes_both_ways (ClearFormatting index r) earlier later is rules how = absurd (let never : false ≡ true = is in cc)
+goes_both_ways (PasteStyles index r styles) earlier later is rules how = absurd (let never : false ≡ true = is in cc)
+goes_both_ways (Fill index axis source to language) earlier later is rules how = absurd (let never : false ≡ true = is in cc)

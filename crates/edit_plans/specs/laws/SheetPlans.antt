@@ -16,7 +16,10 @@ use Rattle.book_names.specs.RenameDiffs.{may_be_named}
 use Rattle.sheet_history.specs.declared.Diff.{Diff}
 use Rattle.sheet_history.specs.Diffs.{book_after, IsCanonicalList}
 use Rattle.edit_plans.specs.Edits.{Edit, changed, is_of_sheets, record_of}
-use Rattle.edit_plans.specs.Edits.Edit.{AddSheet, CopySheet, DeleteSheet, MoveSheet, RenameSheet}
+use Rattle.edit_plans.specs.Edits.Edit.{AddSheet, CopySheet, DeleteSheet, MoveSheet, RenameSheet, SetSetting}
+use Rattle.sheet_history.specs.declared.Setting.{Setting}
+use Rattle.sheet_history.specs.Settings.{with_setting}
+use Rattle.edit_plans.specs.SettingEdits.{setting_record}
 use Rattle.edit_plans.specs.Plans.{IsSheetPlan, PlansSheets}
 use Rattle.edit_plans.specs.SheetEdits.{with_new_sheet, sheet_added, with_copy, sheet_copied, sheet_deleted, sheet_taken, with_name, sheet_named, new_diff, copy_diff, deletion_diff, move_diff, rename_diff, one_diff}
 use Rattle.edit_plans.specs.laws.PlanLaws.{sheet_sure}
@@ -47,6 +50,13 @@ one_planned edit book later diff of_sheets rules how is (Ok list) only made kept
     sheets_planned edit book later (Ok list) of_sheets rules how only (made ∙ sym is) kept
 one_planned edit book later diff of_sheets rules how is (Err error) only made kept =
     sheets_planned edit book later (Err error) of_sheets rules how only tt tt
+
+-- the record of a setting is that record
+pub setting_planned : (setting : Setting) (book : Book) → IsWellFormed book
+    → (result : Result (List Diff) EditError) → IsOkUnless result NoMemory → IfOk result (λ list. list ≡ setting_record setting book)
+    → IfOk result IsCanonicalList → PlansSheets (SetSetting setting) result book
+setting_planned setting book rules result only made kept =
+    sheets_planned (SetSetting setting) book (with_setting setting book) result refl rules refl only made kept
 
 -- no id is missing for lack of memory
 no_id : (ids : List ℕ) (error : EditError) → next_id ids ≡ Err error → error ≢ NoMemory

@@ -53,7 +53,8 @@ own_entry axis (Some attr) = own_attr axis attr
 -- what a line may have is something
 pub own_kept : (axis : LineAxis) (entry : Option LineAttr) → own_entry axis entry ≡ true → is_kept entry ≡ true
 own_kept axis None own = refl
-own_kept axis (Some attr) own = (both (not (is_plain attr)) (own_size axis attr.size) (both (not (is_plain attr) && own_size axis attr.size) (own_style axis attr.style) own).0).0
+own_kept axis (Some attr) own =
+    (both (not (is_plain attr)) (own_size axis attr.size) (both (not (is_plain attr) && own_size axis attr.size) (own_style axis attr.style) own).0).0
 
 no_size : (axis : LineAxis) → own_size axis None ≡ true
 no_size Rows = refl
@@ -64,11 +65,12 @@ no_style Rows = refl
 no_style Columns = refl
 
 -- the size and the style of an entry that a line may have
-entry_size : (axis : LineAxis) (entry : Option LineAttr) → own_entry axis entry ≡ true → own_size axis (attr_of entry).size ≡ true
+pub entry_size : (axis : LineAxis) (entry : Option LineAttr) → own_entry axis entry ≡ true → own_size axis (attr_of entry).size ≡ true
 entry_size axis None own = no_size axis
-entry_size axis (Some attr) own = (both (not (is_plain attr)) (own_size axis attr.size) (both (not (is_plain attr) && own_size axis attr.size) (own_style axis attr.style) own).0).1
+entry_size axis (Some attr) own =
+    (both (not (is_plain attr)) (own_size axis attr.size) (both (not (is_plain attr) && own_size axis attr.size) (own_style axis attr.style) own).0).1
 
-entry_style : (axis : LineAxis) (entry : Option LineAttr) → own_entry axis entry ≡ true → own_style axis (attr_of entry).style ≡ true
+pub entry_style : (axis : LineAxis) (entry : Option LineAttr) → own_entry axis entry ≡ true → own_style axis (attr_of entry).style ≡ true
 entry_style axis None own = no_style axis
 entry_style axis (Some attr) own = (both (not (is_plain attr) && own_size axis attr.size) (own_style axis attr.style) own).1
 
@@ -81,7 +83,8 @@ changed_size Columns (Size size) entry fits own = fits
 changed_size Rows (Hidden hidden) entry fits own = entry_size Rows entry own
 changed_size Columns (Hidden hidden) entry fits own = entry_size Columns entry own
 
-changed_style : (axis : LineAxis) (change : LineChange) (entry : Option LineAttr) → own_entry axis entry ≡ true → own_style axis (after_change change (attr_of entry)).style ≡ true
+changed_style : (axis : LineAxis) (change : LineChange) (entry : Option LineAttr) → own_entry axis entry ≡ true
+    → own_style axis (after_change change (attr_of entry)).style ≡ true
 changed_style axis (Size size) entry own = entry_style axis entry own
 changed_style axis (Hidden hidden) entry own = entry_style axis entry own
 
@@ -104,7 +107,8 @@ row_own s h line = go (get s.rows line) refl
   where
     go : (o : Option LineAttr) → get s.rows line ≡ o → own_entry Rows o ≡ true
     go None found = refl
-    go (Some attr) found = entry_holds int_cmp int_cmp_total exact_signed (λ (e : ℤ × LineAttr). is_row e.1) s.rows (both _ _ (both _ _ h.attributes).0).0 line attr found
+    go (Some attr) found =
+        entry_holds int_cmp int_cmp_total exact_signed (λ (e : ℤ × LineAttr). is_row e.1) s.rows (both _ _ (both _ _ h.attributes).0).0 line attr found
 
 pub column_own : (s : Sheet) → KeepsSheetRules s → (line : ℤ) → own_entry Columns (get s.columns line) ≡ true
 unfolding have_attributes
@@ -112,7 +116,8 @@ column_own s h line = go (get s.columns line) refl
   where
     go : (o : Option LineAttr) → get s.columns line ≡ o → own_entry Columns o ≡ true
     go None found = refl
-    go (Some attr) found = entry_holds int_cmp int_cmp_total exact_signed (λ (e : ℤ × LineAttr). is_column e.1) s.columns (both _ _ (both _ _ h.attributes).0).1 line attr found
+    go (Some attr) found =
+        entry_holds int_cmp int_cmp_total exact_signed (λ (e : ℤ × LineAttr). is_column e.1) s.columns (both _ _ (both _ _ h.attributes).0).1 line attr found
 
 pub line_own : (axis : LineAxis) (s : Sheet) → KeepsSheetRules s → (line : ℤ) → own_entry axis (get (lines_of axis s) line) ≡ true
 line_own Rows s h line = row_own s h line
@@ -124,7 +129,8 @@ own_of : (axis : LineAxis) (entry : Option LineAttr) (attr : LineAttr) → own_e
 own_of axis entry attr own is = sym (ap (own_entry axis) is) ∙ own
 
 -- what a line may have, put in a line of a sheet that keeps its rules, leaves one
-pub attr-put : (s : Sheet) (id : ℕ) (axis : LineAxis) (line : ℤ) (entry : Option LineAttr) → is_line (along_of axis).last line ≡ true → own_entry axis entry ≡ true
+pub attr-put : (s : Sheet) (id : ℕ) (axis : LineAxis) (line : ℤ) (entry : Option LineAttr) → is_line (along_of axis).last line ≡ true → own_entry axis entry
+    ≡ true
     → KeepsSheetRules s → KeepsSheetRules (with_sheet_entry (AttrKey id axis line) (AttrValue entry) s)
 unfolding stands_inside have_arrays have_merges are_hidden_blank have_trees have_attributes
 attr-put s id Rows line entry inside own h =
@@ -132,8 +138,10 @@ attr-put s id Rows line entry inside own h =
     let middle = both _ _ outer.0 in
     let kept = both _ _ h.attributes in
     let lines = both _ _ kept.0 in
-    let rows = all_with_entry int_cmp int_cmp_total exact_signed (λ (e : ℤ × LineAttr). is_line (pos 1048576) e.0) s.rows line entry (λ attr is. inside) middle.1 in
-    let attributes = all_with_entry int_cmp int_cmp_total exact_signed (λ (e : ℤ × LineAttr). is_row e.1) s.rows line entry (λ attr is. own_of Rows entry attr own is) lines.0 in
+    let rows = all_with_entry int_cmp int_cmp_total exact_signed (λ (e : ℤ × LineAttr). is_line (pos 1048576) e.0) s.rows line entry (λ attr is. inside)
+    middle.1 in
+    let attributes = all_with_entry int_cmp int_cmp_total exact_signed (λ (e : ℤ × LineAttr). is_row e.1) s.rows line entry
+    (λ attr is. own_of Rows entry attr own is) lines.0 in
     record {
       inside = λ i. middle.0 i && rows i && outer.1 i;
       arrays = h.arrays;
@@ -147,8 +155,10 @@ attr-put s id Columns line entry inside own h =
     let outer = both _ _ h.inside in
     let kept = both _ _ h.attributes in
     let lines = both _ _ kept.0 in
-    let columns = all_with_entry int_cmp int_cmp_total exact_signed (λ (e : ℤ × LineAttr). is_line (pos 16384) e.0) s.columns line entry (λ attr is. inside) outer.1 in
-    let attributes = all_with_entry int_cmp int_cmp_total exact_signed (λ (e : ℤ × LineAttr). is_column e.1) s.columns line entry (λ attr is. own_of Columns entry attr own is) lines.1 in
+    let columns = all_with_entry int_cmp int_cmp_total exact_signed (λ (e : ℤ × LineAttr). is_line (pos 16384) e.0) s.columns line entry (λ attr is. inside)
+    outer.1 in
+    let attributes = all_with_entry int_cmp int_cmp_total exact_signed (λ (e : ℤ × LineAttr). is_column e.1) s.columns line entry
+    (λ attr is. own_of Columns entry attr own is) lines.1 in
     record {
       inside = λ i. outer.0 i && columns i;
       arrays = h.arrays;
@@ -170,7 +180,8 @@ pub needed_size : (feeds : ℕ) (size : ℤ) → is_size (Some (needed_height fe
 needed_size feeds size = not_negative _
 
 -- what a row has where a text asks for a height it may have
-pub raised_own : (needed : ℤ) (entry : Option LineAttr) → is_size (Some needed) ≡ true → own_entry Rows entry ≡ true → own_entry Rows (raised_entry needed entry) ≡ true
+pub raised_own : (needed : ℤ) (entry : Option LineAttr) → is_size (Some needed) ≡ true → own_entry Rows entry ≡ true
+    → own_entry Rows (raised_entry needed entry) ≡ true
 raised_own needed entry size own = go (int_lt (actual_size usual_height entry) needed)
   where
     go : (b : Bool) → own_entry Rows (cond b (changed_entry (Size (Some needed)) entry) entry) ≡ true

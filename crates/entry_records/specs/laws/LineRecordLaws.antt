@@ -1,16 +1,13 @@
 -- Lines that are changed leave a well-formed workbook, and their changes are the record.
-use Rattle.std.proofs.Common.{◌≡◌, ◌≢◌, ℕ, zero, suc, ◌+◌, ◌<◌, ◌≤◌, ℤ, pos, ◌+ℤ◌, ◌-ℤ◌, ◌≤ℤ◌, Bool, true, false, cond, ◌&&◌, List, [], ◌∷◌, ◌++◌, Option, Some, None, Result, Ok, Err, refl, ap, sym, subst, ◌∙◌, arith}
+use Rattle.std.proofs.Common.{◌≡◌, ℕ, zero, suc, ◌<◌, ◌≤◌, ℤ, pos, ◌+ℤ◌, ◌-ℤ◌, ◌≤ℤ◌, Bool, true, false, cond, ◌&&◌, List, [], ◌∷◌, ◌++◌, Option, Some, Result, Ok, Err, refl, ap, sym, subst, ◌∙◌, arith}
 use Rattle.std.specs.Ordering.{int_cmp, is_lt, ordering_then}
 use Rattle.std.specs.declared.cmp.Ordering.{Ordering}
 use Rattle.std.specs.declared.cmp.Ordering.TheVariants.{Less, Equal, Greater}
-use Rattle.std.specs.Cmp.{int_cmp_total, nat_cmp_total, tied_itself}
+use Rattle.std.specs.Cmp.{nat_cmp_total, tied_itself}
 use Rattle.std.specs.FinMap.{FinMap, get}
 use Rattle.std.proofs.lemmas.Int.{ints}
-use Rattle.std.proofs.lemmas.Map.Lookups.{exact_signed}
 use Rattle.base_values.specs.KeyMap.{with_entry}
 use Rattle.base_values.specs.Places.{is_line}
-use Rattle.base_values.specs.laws.KeyMap.{get-with_entry}
-use Rattle.base_maps.specs.laws.Keys.{apart_keys}
 use Rattle.sheet_grid.specs.declared.LineAttr.{LineAttr}
 use Rattle.sheet_grid.specs.Sheet.{Sheet}
 use Rattle.sheet_grid.specs.Book.{Book, sheet_at, with_sheet}
@@ -80,7 +77,8 @@ pub lines_inside : (end first last : ℤ) (count : ℕ) → lines_from end first
 unfolding lines_from
 lines_inside end first last count from k more = go (has_lines end first last) refl from
   where
-    go : (b : Bool) → has_lines end first last ≡ b → ◌≡◌ {A = Result ℕ EditError} (cond b (Ok (line_count first last)) (Err InvalidArea)) (Ok count) → is_line end (first +ℤ pos k) ≡ true
+    go : (b : Bool) → has_lines end first last ≡ b → ◌≡◌ {A = Result ℕ EditError} (cond b (Ok (line_count first last)) (Err InvalidArea)) (Ok count)
+        → is_line end (first +ℤ pos k) ≡ true
     go true all it = let same : line_count first last ≡ count = cc in between_lines end first last k all (subst (λ n. k < n) (sym same) more)
     go false all it = absurd (let never : ◌≡◌ {A = Result ℕ EditError} (Err InvalidArea) (Ok count) = it in cc)
 
@@ -128,7 +126,8 @@ value_at change lines first k = AttrValue (changed_entry change (get lines (firs
 -- a sheet, and a workbook, in which what some lines get is put one after another
 abbrev put_lines : ℕ → LineAxis → LineChange → FinMap int_cmp LineAttr → ℤ → ℕ → Sheet → Sheet
 put_lines id axis change lines first zero s = s
-put_lines id axis change lines first (suc k) s = with_sheet_entry (key_at id axis first k) (value_at change lines first k) (put_lines id axis change lines first k s)
+put_lines id axis change lines first (suc k) s =
+    with_sheet_entry (key_at id axis first k) (value_at change lines first k) (put_lines id axis change lines first k s)
 
 abbrev put_books : ℕ → LineAxis → LineChange → FinMap int_cmp LineAttr → ℤ → ℕ → Book → Book
 put_books id axis change lines first zero w = w
@@ -175,7 +174,10 @@ module _ (w : Book) (rules : IsWellFormed w) (index : ℕ) (sheet : Sheet) (at :
       let put : Sheet → Sheet = with_sheet_entry (key_at sheet.id axis first k) (value_at change lines first k) in
       put_changed (book_with k) (key_at sheet.id axis first k) (value_at change lines first k)
       ∙ ap (λ (b : Book). record b { worksheets = with_changed sheet.id put b.worksheets }) (book_is k)
-      ∙ (λ i. record w { worksheets = changed_twice sheet.id (sheet_with k) put (λ s. ap (λ (t : Sheet). t.id) (bare_put sheet.id axis change lines first k s)) w.worksheets i })
+      ∙ (λ i. record w {
+        worksheets =
+            changed_twice sheet.id (sheet_with k) put (λ s. ap (λ (t : Sheet). t.id) (bare_put sheet.id axis change lines first k s)) w.worksheets i;
+      })
 
   -- before it is changed a line has what it had
   entry_before : (k : ℕ) → sheet_entry (key_at sheet.id axis first k) (sheet_with k sheet) ≡ AttrValue (get lines (first +ℤ pos k))
@@ -193,7 +195,8 @@ module _ (w : Book) (rules : IsWellFormed w) (index : ℕ) (sheet : Sheet) (at :
   record_with (suc k) low =
       let xs : List Diff = line_diffs sheet.id axis change lines first k in
       subst (λ old. IsRecord w (book_with (suc k)) (xs ++ entry_record (key_at sheet.id axis first k) old (value_at change lines first k))) (entry_before k)
-      (put_after w (book_with k) xs (record_with k (omega arith)) (key_at sheet.id axis first k) (value_at change lines first k) (sheet_with k sheet) (there_with k)
+      (put_after w (book_with k) xs (record_with k (omega arith)) (key_at sheet.id axis first k) (value_at change lines first k) (sheet_with k sheet)
+      (there_with k)
       (value_fits_at k (omega arith)) (all_before sheet.id axis change lines first k k (omega arith)))
 
   keeps_with : (k : ℕ) → k ≤ count → (s : Sheet) → KeepsSheetRules s → KeepsSheetRules (sheet_with k s)
@@ -207,10 +210,12 @@ module _ (w : Book) (rules : IsWellFormed w) (index : ℕ) (sheet : Sheet) (at :
 
   -- the changes of the lines are the record
   pub attrs_exact : IsRecord w after (line_diffs sheet.id axis change lines first count)
-  attrs_exact = subst (λ later. IsRecord w later (line_diffs sheet.id axis change lines first count)) (book_is count ∙ later_is) (record_with count (omega arith))
+  attrs_exact = subst (λ later. IsRecord w later (line_diffs sheet.id axis change lines first count)) (book_is count ∙ later_is)
+      (record_with count (omega arith))
 
   -- and the later workbook keeps the rules
   pub attrs_well_formed : IsWellFormed after
   attrs_well_formed =
       subst IsWellFormed later_is
-      (well_formed-changed w rules sheet.id (sheet_with count) (bare_put sheet.id axis change lines first count) (λ s found h. keeps_with count (omega arith) s h))
+      (well_formed-changed w rules sheet.id (sheet_with count) (bare_put sheet.id axis change lines first count)
+      (λ s found h. keeps_with count (omega arith) s h))

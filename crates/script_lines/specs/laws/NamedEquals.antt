@@ -19,6 +19,8 @@ use Rattle.script_lines.specs.declared.command.NamedSpan.{NamedSpan}
 use Rattle.script_lines.specs.contracts.command.NamedSpanPartialEq.TheImpl as named_span
 use Rattle.script_lines.specs.declared.command.NamedSize.{NamedSize}
 use Rattle.script_lines.specs.contracts.command.NamedSizePartialEq.TheImpl as named_size
+use Rattle.script_lines.specs.declared.command.NamedFill.{NamedFill}
+use Rattle.script_lines.specs.contracts.command.NamedFillPartialEq.TheImpl as named_fill
 use Rattle.script_lines.specs.declared.command.NamedCount.{NamedCount}
 use Rattle.script_lines.specs.contracts.command.NamedCountPartialEq.TheImpl as named_count
 use Rattle.script_lines.specs.declared.command.NamedSheetMove.{NamedSheetMove}
@@ -29,6 +31,8 @@ use Rattle.script_lines.specs.declared.command.NamedGrid.{NamedGrid}
 use Rattle.script_lines.specs.contracts.command.NamedGridPartialEq.TheImpl as named_grid
 use Rattle.script_lines.specs.declared.command.NamedName.{NamedName}
 use Rattle.script_lines.specs.contracts.command.NamedNamePartialEq.TheImpl as named_name
+use Rattle.script_lines.specs.declared.command.NamedPath.{NamedPath}
+use Rattle.script_lines.specs.contracts.command.NamedPathPartialEq.TheImpl as named_path
 use Rattle.script_lines.specs.declared.command.NamedUpdate.{NamedUpdate}
 use Rattle.script_lines.specs.contracts.command.NamedUpdatePartialEq.TheImpl as named_update
 
@@ -62,6 +66,11 @@ named_size_equals a b =
     Decides-like _ (λ p i. record { sheet = p.0 i; first = p.1.0 i; last = p.1.1.0 i; size = p.1.1.1 i }) (λ e. (ap (λ x. x.sheet) e, (ap (λ x. x.first) e, (ap (λ x. x.last) e, ap (λ x. x.size) e))))
     (Decides-and _ _ (unsigned_Decides _ _) (Decides-and _ _ (signed_Decides _ _) (Decides-and _ _ (signed_Decides _ _) (signed_Decides _ _))))
 
+pub named_fill_equals : (a b : NamedFill) → Decides (named_fill.ghosts.eq a b) (a ≡ b)
+named_fill_equals a b =
+    Decides-like _ (λ p i. record { sheet = p.0 i; area = p.1.0 i; to = p.1.1 i }) (λ e. (ap (λ x. x.sheet) e, (ap (λ x. x.area) e, ap (λ x. x.to) e)))
+    (Decides-and _ _ (unsigned_Decides _ _) (Decides-and _ _ (merged_equals _ _) (signed_Decides _ _)))
+
 pub named_count_equals : (a b : NamedCount) → Decides (named_count.ghosts.eq a b) (a ≡ b)
 named_count_equals a b =
     Decides-like _ (λ p i. record { sheet = p.0 i; count = p.1 i }) (λ e. (ap (λ x. x.sheet) e, ap (λ x. x.count) e))
@@ -91,3 +100,8 @@ pub named_update_equals : (a b : NamedUpdate) → Decides (named_update.ghosts.e
 named_update_equals a b =
     Decides-like _ (λ p i. record { old = p.0 i; new = p.1 i }) (λ e. (ap (λ x. x.old) e, ap (λ x. x.new) e))
     (Decides-and _ _ (named_name_equals _ _) (named_name_equals _ _))
+
+pub named_path_equals : (a b : NamedPath) → Decides (named_path.ghosts.eq a b) (a ≡ b)
+named_path_equals a b =
+    Decides-like _ (λ p i. record { area = p.0 i; path = p.1 i }) (λ e. (ap (λ x. x.area) e, ap (λ x. x.path) e))
+    (Decides-and _ _ (named_area_equals _ _) (bytes_decides _ _))

@@ -1,8 +1,8 @@
-use base_styles::Color;
-use base_values::Position;
+use base_styles::{Color, Theme};
+use base_values::{Position, Text};
 use script_lines::{
-    Command, NamedArea, NamedCell, NamedColor, NamedCount, NamedLines, NamedMove, NamedName,
-    NamedSize, NamedSpan, push_escaped, push_reference, read_command,
+    Command, NamedArea, NamedCell, NamedColor, NamedCount, NamedFill, NamedLines, NamedMove,
+    NamedName, NamedSize, NamedSpan, push_escaped, push_reference, read_command,
 };
 use std::alloc::{AllocError, Global};
 use std::test::Fail;
@@ -39,6 +39,8 @@ fn other_in_words(alloc: Global, command: Command) -> Result<String, AllocError>
         Command::ShowColumns(span) => span_in_words(alloc, "show columns", span),
         Command::FreezeRows(named) => count_in_words(alloc, "freeze rows", named),
         Command::FreezeColumns(named) => count_in_words(alloc, "freeze columns", named),
+        Command::FillRows(named) => fill_in_words(alloc, "fill rows", named),
+        Command::FillColumns(named) => fill_in_words(alloc, "fill columns", named),
         Command::NewSheet => format!(in alloc; "new sheet"),
         Command::DuplicateSheet(sheet) => format!(in alloc; "duplicate: sheet {sheet}"),
         Command::DeleteSheet(sheet) => format!(in alloc; "delete: sheet {sheet}"),
@@ -67,8 +69,27 @@ fn other_in_words(alloc: Global, command: Command) -> Result<String, AllocError>
         Command::Redo => format!(in alloc; "redo"),
         Command::Sync => format!(in alloc; "sync"),
         Command::Show => format!(in alloc; "show"),
+        Command::Title(text) => word_in_words(alloc, "title", &text),
+        Command::ThemeColors(theme) => theme_in_words(alloc, theme),
+        Command::Locale(text) => word_in_words(alloc, "locale", &text),
+        Command::Zone(text) => word_in_words(alloc, "zone", &text),
+        Command::Language(text) => word_in_words(alloc, "language", &text),
         _ => format!(in alloc; "cells or lines"),
     }
+}
+
+fn word_in_words(alloc: Global, word: &str, text: &Text) -> Result<String, AllocError> {
+    let text = text.as_str();
+    format!(in alloc; "{word} |{text}|")
+}
+
+/// The first and the last colour of a theme, in words.
+fn theme_in_words(alloc: Global, theme: Theme) -> Result<String, AllocError> {
+    let first = theme.light1;
+    let last = theme.followed_hyperlink;
+    let (red, green, blue) = (first.red, first.green, first.blue);
+    let end = last.blue;
+    format!(in alloc; "theme: from {red} {green} {blue} to {end}")
 }
 
 fn name_in_words(
@@ -131,6 +152,12 @@ fn size_in_words(alloc: Global, word: &str, named: NamedSize) -> Result<String, 
     format!(in alloc; "{word}: sheet {sheet} first {first} last {last} size {size}")
 }
 
+fn fill_in_words(alloc: Global, word: &str, named: NamedFill) -> Result<String, AllocError> {
+    let (sheet, row, column, to) = (named.sheet, named.area.row, named.area.column, named.to);
+    let (width, height) = (named.area.width, named.area.height);
+    format!(in alloc; "{word}: sheet {sheet} row {row} column {column} {width}x{height} to {to}")
+}
+
 fn count_in_words(alloc: Global, word: &str, named: NamedCount) -> Result<String, AllocError> {
     let (sheet, count) = (named.sheet, named.count);
     format!(in alloc; "{word}: sheet {sheet} count {count}")
@@ -142,7 +169,7 @@ fn move_in_words(alloc: Global, word: &str, moved: NamedMove) -> Result<String, 
 }
 
 /// Lines, and the commands that they are.
-const COMMANDS: [(&[u8], &str); 70] = [
+const COMMANDS: [(&[u8], &str); 78] = [
     (b"set 0 A1 12", "set: sheet 0 row 1 column 1 |12|"),
     (b"set 0 A1", "set: sheet 0 row 1 column 1 ||"),
     (b"set 0 A1 ", "set: sheet 0 row 1 column 1 ||"),
@@ -206,6 +233,14 @@ const COMMANDS: [(&[u8], &str); 70] = [
         "height: sheet 7 first 0 last 1 size -1",
     ),
     (b"hide-rows 0 2 2", "hide rows: sheet 0 first 2 last 2"),
+    (
+        b"fill-rows 0 B2:A1 -5",
+        "fill rows: sheet 0 row 1 column 1 2x2 to -5",
+    ),
+    (
+        b"fill-columns 3 C4 007",
+        "fill columns: sheet 3 row 4 column 3 1x1 to 7",
+    ),
     (b"show-rows 0 2 1", "show rows: sheet 0 first 2 last 1"),
     (
         b"hide-columns 0 4 4",
@@ -245,6 +280,15 @@ const COMMANDS: [(&[u8], &str); 70] = [
     (b"link 0 A1 a\\nb", "link: sheet 0 row 1 column 1 |a\nb|"),
     (b"unlink 0 AB1", "unlink: sheet 0 row 1 column 28 ||"),
     (b"new-sheet", "new sheet"),
+    (b"title a b\\n", "title |a b\n|"),
+    (b"title", "title ||"),
+    (
+        b"theme #0aFf10 #000000 #000000 #000000 #000000 #000000 #000000 #000000 #000000 #000000 #000000 #00007f",
+        "theme: from 10 255 16 to 127",
+    ),
+    (b"locale de", "locale |de|"),
+    (b"zone Europe/Paris", "zone |Europe/Paris|"),
+    (b"language -", "language |-|"),
     (b"duplicate-sheet 0", "duplicate: sheet 0"),
     (b"delete-sheet 4294967295", "delete: sheet 4294967295"),
     (b"move-sheet 007 0", "move sheet: from 7 to 0"),
@@ -276,7 +320,7 @@ const COMMANDS: [(&[u8], &str); 70] = [
 ];
 
 /// Lines that are no commands.
-const BAD_LINES: [&[u8]; 94] = [
+const BAD_LINES: [&[u8]; 106] = [
     b"insert-rows",
     b"insert-rows 0",
     b"insert-rows 0 1",
@@ -301,6 +345,9 @@ const BAD_LINES: [&[u8]; 94] = [
     b"width 0 2 3",
     b"height 0 1 1 2147483648",
     b"hide-rows 0 1",
+    b"fill-rows 0 A1:A2",
+    b"fill-rows 0 A1:A2 3 ",
+    b"fill-columns 0 3 4",
     b"hide-columns 0 1 2 3",
     b"freeze-rows 0",
     b"array 0 C3 \\q",
@@ -316,6 +363,15 @@ const BAD_LINES: [&[u8]; 94] = [
     b"unmerge 0 A1:B1",
     b"unlink 0 A1 x",
     b"new-sheet 0",
+    b"title a\\",
+    b"theme",
+    b"theme #000 #000000 #000000 #000000 #000000 #000000 #000000 #000000 #000000 #000000 #000000 #000000",
+    b"theme #000000 #000000 #000000 #000000 #000000 #000000 #000000 #000000 #000000 #000000 #000000",
+    b"theme #000000 #000000 #000000 #000000 #000000 #000000 #000000 #000000 #000000 #000000 #000000 #000000 #000000",
+    b"locale",
+    b"locale ",
+    b"zone a b",
+    b"language en ",
     b"new-sheet ",
     b"duplicate-sheet",
     b"duplicate-sheet -1",

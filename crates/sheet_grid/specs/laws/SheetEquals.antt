@@ -8,6 +8,7 @@ use Rattle.base_values.specs.laws.PositionEquals.{position_equals}
 use Rattle.base_values.specs.laws.KeyMap.{same_entries_decides}
 use Rattle.base_axis.specs.laws.MergedEquals.{merged_equals}
 use Rattle.base_styles.specs.laws.ColorEquals.{color_equals}
+use Rattle.base_styles.specs.laws.ThemeEquals.{theme_equals}
 use Rattle.base_tables.specs.laws.LocaleEquals.{locale_equals}
 use Rattle.base_tables.specs.laws.ZoneEquals.{zone_equals}
 use Rattle.defined_names.specs.laws.NameEquals.{defined_name_equals}
@@ -40,10 +41,11 @@ worksheet_equals a b =
 pub workbook_equals : (a b : Book) → Decides (workbook.ghosts.eq a b) (a ≡ b)
 workbook_equals a b =
     Decides-like _
-    (λ p i. record { name = p.0 i; locale = p.1.0 i; zone = p.1.1.0 i; names = p.1.1.1.0 i; worksheets = p.1.1.1.1 i })
-    (λ e. (ap (λ x. x.name) e, (ap (λ x. x.locale) e, (ap (λ x. x.zone) e, (ap (λ x. x.names) e, ap (λ x. x.worksheets) e)))))
+    (λ p i. record { name = p.0 i; locale = p.1.0 i; zone = p.1.1.0 i; theme = p.1.1.1.0 i; names = p.1.1.1.1.0 i; worksheets = p.1.1.1.1.1 i })
+    (λ e. (ap (λ x. x.name) e, (ap (λ x. x.locale) e, (ap (λ x. x.zone) e, (ap (λ x. x.theme) e, (ap (λ x. x.names) e, ap (λ x. x.worksheets) e))))))
     (Decides-and _ _ (bytes_decides _ _)
     (Decides-and _ _ (locale_equals _ _)
     (Decides-and _ _ (zone_equals _ _)
+    (Decides-and _ _ (theme_equals _ _)
     (Decides-and _ _ (pointwise_decides defined_name_equals _ _)
-    (pointwise_decides worksheet_equals _ _)))))
+    (pointwise_decides worksheet_equals _ _))))))

@@ -65,7 +65,10 @@ fn own_width(width: i32) -> Option<i32>
 }
 
 /// A copy of what a line has of its own, also where that is nothing.
-fn attr_of<A: Axis>(lines: &AxisMap<A, LineAttr>, line: i32) -> Result<LineAttr, EditError>
+pub(super) fn attr_of<A: Axis>(
+    lines: &AxisMap<A, LineAttr>,
+    line: i32,
+) -> Result<LineAttr, EditError>
     ensures { Returns result (Ok (attr_of (fin.get lines.now line))) }
 {
     match lines.get(line) {

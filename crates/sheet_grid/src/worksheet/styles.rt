@@ -14,7 +14,7 @@ use base_shared::Shared;
 use base_styles::Style;
 use base_values::{EditError, Position, copy_of, place_of};
 
-fn own_line_style(own: Option<&LineAttr>) -> Option<&Shared<Style>>
+pub(super) fn own_line_style(own: Option<&LineAttr>) -> Option<&Shared<Style>>
     ensures { option_copied result ≡ own_line_style (option_copied own.entry) }
 {
     match own {

@@ -13,7 +13,7 @@ use Rattle.sheet_grid.specs.Book.{Book}
 use Rattle.sheet_rules.specs.laws.EntryLaws.{both}
 use Rattle.sheet_lines.specs.Sheets.{HasDistinctIds}
 use Rattle.sheet_history.specs.declared.diff.Diff.{Diff}
-use Rattle.sheet_history.specs.declared.diff.Diff.TheVariants.{Cell as CellDiff, Link as LinkDiff, Merges as MergesDiff, Field as FieldDiff, Lines as LinesDiff, NewSheet as NewDiff, DuplicateSheet as CopyDiff, DeleteSheet as DeletionDiff, MoveSheet as MoveDiff, RenameSheet as RenameDiff, ChangeName as NameDiff, Attributes as AttrDiff}
+use Rattle.sheet_history.specs.declared.diff.Diff.TheVariants.{Cell as CellDiff, Link as LinkDiff, Merges as MergesDiff, Field as FieldDiff, Lines as LinesDiff, NewSheet as NewDiff, DuplicateSheet as CopyDiff, DeleteSheet as DeletionDiff, MoveSheet as MoveDiff, RenameSheet as RenameDiff, ChangeName as NameDiff, Attributes as AttrDiff, Setting as SettingDiff}
 use Rattle.sheet_history.specs.Entries.{EntryKey, EntryValue, key_cmp, entry_at, put_entry, accepts, frame_of}
 use Rattle.sheet_history.specs.Entries.EntryKey.{CellKey, LinkKey, MergesKey, FieldKey, AttrKey}
 use Rattle.sheet_history.specs.Entries.EntryValue.{CellValue, LinkValue, MergesValue, FieldValue, AttrValue}
@@ -95,6 +95,7 @@ step_by_new at w (DeletionDiff _ _) c h = absurd (cc)
 step_by_new at w (MoveDiff _ _ _) c h = absurd (cc)
 step_by_new at w (RenameDiff _ _ _ _) c h = absurd (cc)
 step_by_new at w (NameDiff _ _) c h = absurd (cc)
+step_by_new at w (SettingDiff _) c h = absurd (cc)
 
 step_by_old : (at : ℕ) (w : Book) (d : Diff) (c : Change) → change_of d ≡ Some c → step_back at w d ≡ put_in at w c.0 c.1.0
 step_by_old at w (CellDiff sheet place old new) c h =
@@ -114,6 +115,7 @@ step_by_old at w (DeletionDiff _ _) c h = absurd (cc)
 step_by_old at w (MoveDiff _ _ _) c h = absurd (cc)
 step_by_old at w (RenameDiff _ _ _ _) c h = absurd (cc)
 step_by_old at w (NameDiff _ _) c h = absurd (cc)
+step_by_old at w (SettingDiff _) c h = absurd (cc)
 
 forward_done : (at : ℕ) (w0 w : Book) (ds : List Diff) (cs : List Change) → map change_of ds ≡ map Some cs → frame_of w0 ≡ frame_of w → AllFit w0 cs → forward_from at w ds ≡ Ok (put_news w cs)
 forward_done at w0 w [] [] is e h = refl

@@ -10,7 +10,7 @@ use Rattle.book_sheets.specs.declared.KeptSheet.{KeptSheet}
 use Rattle.book_names.specs.declared.KeptTrees.{KeptTrees}
 use Rattle.name_edits.specs.declared.NameChange.{NameChange}
 use Rattle.sheet_history.specs.declared.diff.Diff.{Diff}
-use Rattle.sheet_history.specs.declared.diff.Diff.TheVariants.{Cell as CellDiff, Link as LinkDiff, Merges as MergesDiff, Field as FieldDiff, Lines as LinesDiff, NewSheet as NewDiff, DuplicateSheet as CopyDiff, DeleteSheet as DeletionDiff, MoveSheet as MoveDiff, RenameSheet as RenameDiff, ChangeName as NameDiff, Attributes as AttrDiff}
+use Rattle.sheet_history.specs.declared.diff.Diff.TheVariants.{Cell as CellDiff, Link as LinkDiff, Merges as MergesDiff, Field as FieldDiff, Lines as LinesDiff, NewSheet as NewDiff, DuplicateSheet as CopyDiff, DeleteSheet as DeletionDiff, MoveSheet as MoveDiff, RenameSheet as RenameDiff, ChangeName as NameDiff, Attributes as AttrDiff, Setting as SettingDiff}
 
 -- so is each kept formula
 pub record AreShallowLines (kept : KeptLines) : Type 0 where
@@ -46,3 +46,4 @@ IsShallowDiff (DeletionDiff index kept) = IsShallowSheet kept
 IsShallowDiff (MoveDiff sheet from to) = Unit {0}
 IsShallowDiff (RenameDiff sheet old new kept) = AreShallowTrees kept
 IsShallowDiff (NameDiff change kept) = IsShallowChange change × AreShallowTrees kept
+IsShallowDiff (SettingDiff change) = Unit {0}

@@ -15,8 +15,9 @@ use Rattle.book_sheets.specs.laws.KeptSheetEquals.{kept_sheet_equals}
 use Rattle.book_names.specs.laws.KeptTreesEquals.{kept_trees_equals}
 use Rattle.name_edits.specs.laws.ChangeEquals.{name_change_equals}
 use Rattle.sheet_history.specs.laws.FieldEquals.{field_change_equals}
+use Rattle.sheet_history.specs.laws.SettingEquals.{setting_change_equals}
 use Rattle.sheet_history.specs.declared.diff.Diff.{Diff}
-use Rattle.sheet_history.specs.declared.diff.Diff.TheVariants.{Cell as CellDiff, Link as LinkDiff, Merges as MergesDiff, Field as FieldDiff, Lines as LinesDiff, NewSheet as NewDiff, DuplicateSheet as CopyDiff, DeleteSheet as DeletionDiff, MoveSheet as MoveDiff, RenameSheet as RenameDiff, ChangeName as NameDiff, Attributes as AttrDiff}
+use Rattle.sheet_history.specs.declared.diff.Diff.TheVariants.{Cell as CellDiff, Link as LinkDiff, Merges as MergesDiff, Field as FieldDiff, Lines as LinesDiff, NewSheet as NewDiff, DuplicateSheet as CopyDiff, DeleteSheet as DeletionDiff, MoveSheet as MoveDiff, RenameSheet as RenameDiff, ChangeName as NameDiff, Attributes as AttrDiff, Setting as SettingDiff}
 use Rattle.sheet_history.specs.declared.diff.DiffType.{DiffType}
 use Rattle.sheet_history.specs.declared.diff.DiffType.TheVariants.{Undo, Redo}
 use Rattle.sheet_history.specs.declared.diff.QueueDiffs.{QueueDiffs}
@@ -187,6 +188,7 @@ diff_equals (NameDiff c k) (NameDiff d l) =
 
     kept_of : NameDiff c k ≡ NameDiff d l → k ≡ l
     kept_of e = cc
+diff_equals (SettingDiff c) (SettingDiff d) = Decides-like _ (ap SettingDiff) (λ e. cc) (setting_change_equals c d)
 diff_equals _ _ = (λ e. cc, λ e. cc)
 
 pub diff_type_equals : (a b : DiffType) → Decides (diff_type.ghosts.eq a b) (a ≡ b)

@@ -14,9 +14,12 @@ use Rattle.sheet_history.specs.Entries.{EntryKey, EntryValue, sheet_id_of, value
 use Rattle.sheet_history.specs.Entries.EntryKey.{CellKey, LinkKey, FieldKey}
 use Rattle.sheet_history.specs.Entries.EntryValue.{CellValue, LinkValue, FieldValue}
 use Rattle.sheet_history.specs.Untested.{cell_keeps_rules, entry_has_font, may_stand_on, keeps_rules}
+use Rattle.sheet_history.specs.declared.setting.Setting.{Setting}
+use Rattle.sheet_history.specs.Settings.{with_setting, new_setting, old_setting}
+use Rattle.sheet_history.specs.laws.SettingLaws.{setting_well_formed}
 use Rattle.sheet_history.specs.laws.RuleLaws.{well_formed-cell, well_formed-link, well_formed-field}
 use Rattle.sheet_history.specs.declared.diff.Diff.{Diff}
-use Rattle.sheet_history.specs.declared.diff.Diff.TheVariants.{Cell as CellDiff, Link as LinkDiff, Merges as MergesDiff, Field as FieldDiff, Lines as LinesDiff, NewSheet as NewDiff, DuplicateSheet as CopyDiff, DeleteSheet as DeletionDiff, MoveSheet as MoveDiff, RenameSheet as RenameDiff, ChangeName as NameDiff, Attributes as AttrDiff}
+use Rattle.sheet_history.specs.declared.diff.Diff.TheVariants.{Cell as CellDiff, Link as LinkDiff, Merges as MergesDiff, Field as FieldDiff, Lines as LinesDiff, NewSheet as NewDiff, DuplicateSheet as CopyDiff, DeleteSheet as DeletionDiff, MoveSheet as MoveDiff, RenameSheet as RenameDiff, ChangeName as NameDiff, Attributes as AttrDiff, Setting as SettingDiff}
 use Rattle.sheet_history.specs.declared.diff.DiffType.{DiffType}
 use Rattle.sheet_history.specs.declared.diff.DiffType.TheVariants.{Undo, Redo}
 use Rattle.sheet_history.specs.declared.field.SheetField.{SheetField}
@@ -81,6 +84,10 @@ tested_same at (Err error) rules = refl
 same_of : (book next : Book) → ◌≡◌ {A = Result Book EditError} (Ok book) (Ok next) → book ≡ next
 same_of book next is = cc
 
+-- a setting
+setting_rules : (book : Book) (setting : Setting) (next : Book) → IsWellFormed book → ◌≡◌ {A = Result Book EditError} (Ok (with_setting setting book)) (Ok next) → IsWellFormed next
+setting_rules book setting next rules is = subst IsWellFormed (same_of (with_setting setting book) next is) (setting_well_formed setting book rules)
+
 made_rules : (book : Book) (diffs : List Diff) → keeps_rules Redo book diffs ≡ true → IsWellFormed book → (next : Book) → untested_after book diffs ≡ Ok next → IsWellFormed next
 made_rules book [] keeps rules next is = subst IsWellFormed (same_of book next is) rules
 made_rules book (CellDiff id place old new ∷ []) keeps rules next is = cell_rules 0 book id place new next keeps rules (sym (and_then-Ok _) ∙ is)
@@ -95,6 +102,7 @@ made_rules book (DeletionDiff index kept ∷ []) keeps rules next is = absurd (c
 made_rules book (MoveDiff id from to ∷ []) keeps rules next is = absurd (cc)
 made_rules book (RenameDiff id old new kept ∷ []) keeps rules next is = absurd (cc)
 made_rules book (NameDiff change kept ∷ []) keeps rules next is = absurd (cc)
+made_rules book (SettingDiff change ∷ []) keeps rules next is = setting_rules book (new_setting change) next rules is
 made_rules book (first ∷ second ∷ rest) keeps rules next is = absurd (cc)
 
 taken_back_rules : (book : Book) (diffs : List Diff) → keeps_rules Undo book diffs ≡ true → IsWellFormed book → (next : Book) → untested_before book diffs ≡ Ok next → IsWellFormed next
@@ -111,6 +119,7 @@ taken_back_rules book (DeletionDiff index kept ∷ []) keeps rules next is = abs
 taken_back_rules book (MoveDiff id from to ∷ []) keeps rules next is = absurd (cc)
 taken_back_rules book (RenameDiff id old new kept ∷ []) keeps rules next is = absurd (cc)
 taken_back_rules book (NameDiff change kept ∷ []) keeps rules next is = absurd (cc)
+taken_back_rules book (SettingDiff change ∷ []) keeps rules next is = setting_rules book (old_setting change) next rules is
 taken_back_rules book (first ∷ second ∷ rest) keeps rules next is = absurd (cc)
 
 -- the result of such a list needs no test

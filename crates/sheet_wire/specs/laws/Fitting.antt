@@ -15,7 +15,7 @@ use Rattle.sheet_grid.specs.CanonicalCell.{IsCanonicalCell}
 use Rattle.sheet_grid.specs.Lines.{is_plain}
 use Rattle.sheet_lines.specs.declared.KeptLines.{KeptLines}
 use Rattle.sheet_history.specs.declared.Diff.{Diff}
-use Rattle.sheet_history.specs.declared.Diff.TheVariants.{Cell as CellDiff, Link as LinkDiff, Merges as MergesDiff, Field as FieldDiff, Lines as LinesDiff, NewSheet as NewDiff, DuplicateSheet as CopyDiff, DeleteSheet as DeletionDiff, MoveSheet as MoveDiff, RenameSheet as RenameDiff, ChangeName as NameDiff, Attributes as AttrDiff}
+use Rattle.sheet_history.specs.declared.Diff.TheVariants.{Cell as CellDiff, Link as LinkDiff, Merges as MergesDiff, Field as FieldDiff, Lines as LinesDiff, NewSheet as NewDiff, DuplicateSheet as CopyDiff, DeleteSheet as DeletionDiff, MoveSheet as MoveDiff, RenameSheet as RenameDiff, ChangeName as NameDiff, Attributes as AttrDiff, Setting as SettingDiff}
 use Rattle.sheet_history.specs.declared.QueueDiffs.{QueueDiffs}
 use Rattle.book_sheets.specs.declared.KeptSheet.{KeptSheet}
 use Rattle.book_sheets.specs.SheetDiffs.{IsCanonicalSheet}
@@ -60,6 +60,7 @@ IsKeptOfDiff (DeletionDiff index kept) = HasOwnLines kept
 IsKeptOfDiff (MoveDiff sheet from to) = Unit {0}
 IsKeptOfDiff (RenameDiff sheet old new kept) = Unit {0}
 IsKeptOfDiff (NameDiff change kept) = Unit {0}
+IsKeptOfDiff (SettingDiff change) = Unit {0}
 
 -- ---- the numbers of what fits are canonical
 
@@ -96,6 +97,7 @@ canonical_diff_from_fits (CopyDiff source sheet index name) fits = tt
 canonical_diff_from_fits (DeletionDiff index kept) fits = kept_sheet_from_fits kept fits.kept
 canonical_diff_from_fits (MoveDiff sheet from to) fits = tt
 canonical_diff_from_fits (RenameDiff sheet old new kept) fits = kept_trees_from_fits kept fits.kept
+canonical_diff_from_fits (SettingDiff change) fits = tt
 canonical_diff_from_fits (NameDiff change kept) fits =
     (record { old = kept_name change.old fits.old; new = kept_name change.new fits.new }, kept_trees_from_fits kept fits.kept)
 
@@ -157,6 +159,7 @@ known_diff (CopyDiff source sheet index name) kept shallow of_lines = tt
 known_diff (DeletionDiff index part) kept shallow of_lines = known_sheet part kept shallow of_lines
 known_diff (MoveDiff sheet from to) kept shallow of_lines = tt
 known_diff (RenameDiff sheet old new trees) kept shallow of_lines = known_trees trees kept shallow
+known_diff (SettingDiff change) kept shallow of_lines = tt
 known_diff (NameDiff change trees) kept shallow of_lines = record {
   old = known_name change.old kept.0.old shallow.0.old;
   new = known_name change.new kept.0.new shallow.0.new;

@@ -4,19 +4,20 @@ use Rattle.std.specs.Prelude.{IfSome}
 use Rattle.std.specs.Int.{w32, to_be_bytes}
 use Rattle.base_values.specs.declared.Position.{Position}
 use Rattle.sheet_history.specs.declared.Diff.{Diff}
-use Rattle.sheet_history.specs.declared.Diff.TheVariants.{Cell as CellDiff, Link as LinkDiff, Merges as MergesDiff, Field as FieldDiff, Lines as LinesDiff, NewSheet as NewDiff, DuplicateSheet as CopyDiff, DeleteSheet as DeletionDiff, MoveSheet as MoveDiff, RenameSheet as RenameDiff, ChangeName as NameDiff, Attributes as AttrDiff}
+use Rattle.sheet_history.specs.declared.Diff.TheVariants.{Cell as CellDiff, Link as LinkDiff, Merges as MergesDiff, Field as FieldDiff, Lines as LinesDiff, NewSheet as NewDiff, DuplicateSheet as CopyDiff, DeleteSheet as DeletionDiff, MoveSheet as MoveDiff, RenameSheet as RenameDiff, ChangeName as NameDiff, Attributes as AttrDiff, Setting as SettingDiff}
 use Rattle.sheet_history.specs.declared.FieldChange.TheVariants as change
+use Rattle.sheet_history.specs.declared.SettingChange.TheVariants as setting
 use Rattle.sheet_history.specs.declared.DiffType.{DiffType}
 use Rattle.sheet_history.specs.declared.DiffType.TheVariants.{Undo, Redo}
 use Rattle.sheet_history.specs.declared.LineAxis.{LineAxis}
 use Rattle.sheet_history.specs.declared.LineAxis.TheVariants.{Rows, Columns}
-use Rattle.base_wire.specs.Reading.{Reader, map_at, after, code_at, decoded, list_at, signed_at}
-use Rattle.base_wire.specs.Spelling.{Any, Both, spell_both, spell_code, spell_list, spell_option}
+use Rattle.base_wire.specs.Reading.{Reader, map_at, after, code_at, decoded, list_at, signed_at, text_at}
+use Rattle.base_wire.specs.Spelling.{Any, Both, spell_both, spell_code, spell_list, spell_option, spell_text}
 use Rattle.base_wire.specs.laws.Again.{ReadsAgain, code_again}
 use Rattle.base_wire.specs.laws.Format.{Format, list_format, option_format}
 use Rattle.base_wire.specs.laws.Formats.{both_format, after_format, made_format}
 use Rattle.base_wire.specs.Parts.{boolean_at}
-use Rattle.base_wire.specs.laws.Parts.{boolean_format, short_format, signed_format}
+use Rattle.base_wire.specs.laws.Parts.{boolean_format, short_format, signed_format, text_format}
 use Rattle.cell_wire.specs.StyleBytes.{color_at}
 use Rattle.base_wire.specs.laws.Refusals.{IsPlain, code_plain, if_plain, map_plain, refused_plain, tagged_plain}
 use Rattle.base_wire.specs.laws.Spelled.{ReadsSpelled, code_spelled, tag_if, tag_map, tag_refused, tagged_spelled}
@@ -38,6 +39,12 @@ use Rattle.sheet_wire.specs.AttrBytes.{spell_attr_change, attr_parts_at}
 use Rattle.sheet_wire.specs.laws.AttrFormats.{attr_parts_format}
 use Rattle.sheet_wire.specs.laws.SheetsFormats.{sheet_change_format, sheet_state_format, new_parts_format, copy_parts_format, deletion_parts_format, move_parts_format}
 use Rattle.sheet_wire.specs.QueueBytes.{rename_diff_made, rename_diff_at, name_diff_made, name_diff_at, move_diff_made, move_diff_at, color_diff_made, color_diff_at, state_diff_made, state_diff_at, grid_diff_made, grid_diff_at, attr_diff_made, attr_diff_at, frozen_rows_diff_made, frozen_rows_diff_at, frozen_columns_diff_made, frozen_columns_diff_at}
+use Rattle.setting_wire.specs.TableBytes.{spell_locale, locale_at, spell_zone, zone_at}
+use Rattle.setting_wire.specs.ThemeBytes.{spell_theme, theme_at}
+use Rattle.setting_wire.specs.laws.Formats.{locale_format, theme_format, zone_format}
+use Rattle.sheet_wire.specs.SettingBytes.{spell_twice, twice_at}
+use Rattle.sheet_wire.specs.laws.SettingFormats.{twice_format}
+use Rattle.sheet_wire.specs.QueueBytes.{theme_diff_made, theme_diff_at, title_diff_made, title_diff_at, locale_diff_made, locale_diff_at, zone_diff_made, zone_diff_at}
 use Rattle.sheet_wire.specs.QueueBytes.{spell_diff, cell_diff_made, cell_diff_at, link_diff_made, link_diff_at, merges_diff_made, merges_diff_at, lines_diff_made, lines_diff_at, new_diff_made, new_diff_at, copy_diff_made, copy_diff_at, deletion_diff_made, deletion_diff_at, diff_of, diff_at, FitsDiff, FitsList, direction_code, directions, spell_entry, entry_made, list_of_diffs_at, entry_at, FitsEntry, magic, FitsQueue}
 
 -- ---- diffs
@@ -67,7 +74,7 @@ map_reads : {A B : Type 0} (f : A → B) (r : Reader A) (bytes : List ℕ) (x : 
 map_reads f r bytes x rest h = rw h refl
 
 diff_again : ReadsAgain FitsDiff spell_diff diff_at
-unfolding spell_sheet_change spell_new spell_copy spell_deletion spell_rename spell_name_change spell_move diff_at cell_diff_at link_diff_at merges_diff_at lines_diff_at new_diff_at copy_diff_at deletion_diff_at rename_diff_at move_diff_at color_diff_at state_diff_at grid_diff_at name_diff_at attr_diff_at frozen_rows_diff_at frozen_columns_diff_at
+unfolding spell_sheet_change spell_new spell_copy spell_deletion spell_rename spell_name_change spell_move diff_at cell_diff_at link_diff_at merges_diff_at lines_diff_at new_diff_at copy_diff_at deletion_diff_at rename_diff_at move_diff_at color_diff_at state_diff_at grid_diff_at name_diff_at attr_diff_at frozen_rows_diff_at frozen_columns_diff_at theme_diff_at title_diff_at locale_diff_at zone_diff_at
 diff_again = record { again = one }
   where
     one : (x : Diff) (rest : List ℕ) → FitsDiff x → diff_at (spell_diff x ++ rest) ≡ Ok (x, rest)
@@ -116,6 +123,18 @@ diff_again = record { again = one }
     one (FieldDiff sheet (change.FrozenColumns old new)) rest fits =
         map_reads frozen_columns_diff_made (sheet_change_at (signed_at w32)) (spell_count_change sheet old new ++ rest) (sheet, (old, new)) rest
         ((sheet_change_format signed_format).again.again (sheet, (old, new)) rest (fits.sheet, (fits.old, fits.new)))
+    one (SettingDiff (setting.Theme old new)) rest fits =
+        map_reads theme_diff_made (twice_at theme_at) (spell_twice spell_theme old new ++ rest) (old, new) rest
+        ((twice_format theme_format).again.again (old, new) rest (fits.0, fits.1))
+    one (SettingDiff (setting.Name old new)) rest fits =
+        map_reads title_diff_made (twice_at text_at) (spell_twice spell_text old new ++ rest) (old, new) rest
+        ((twice_format text_format).again.again (old, new) rest (fits.0, fits.1))
+    one (SettingDiff (setting.Locale old new)) rest fits =
+        map_reads locale_diff_made (twice_at locale_at) (spell_twice spell_locale old new ++ rest) (old, new) rest
+        ((twice_format locale_format).again.again (old, new) rest (tt, tt))
+    one (SettingDiff (setting.Zone old new)) rest fits =
+        map_reads zone_diff_made (twice_at zone_at) (spell_twice spell_zone old new ++ rest) (old, new) rest
+        ((twice_format zone_format).again.again (old, new) rest (tt, tt))
     one (AttrDiff sheet Columns line old new) rest fits =
         map_reads (attr_diff_made Columns) attr_parts_at (spell_attr_change sheet line old new ++ rest) (sheet, (line, (old, new))) rest
         (attr_parts_format.again.again (sheet, (line, (old, new))) rest (fits.sheet, (fits.line, (fits.old, fits.new))))
@@ -124,7 +143,7 @@ diff_again = record { again = one }
         (attr_parts_format.again.again (sheet, (line, (old, new))) rest (fits.sheet, (fits.line, (fits.old, fits.new))))
 
 diff_spelled : ReadsSpelled FitsDiff spell_diff diff_at
-unfolding spell_sheet_change spell_new spell_copy spell_deletion spell_rename spell_name_change spell_move diff_at cell_diff_at link_diff_at merges_diff_at lines_diff_at new_diff_at copy_diff_at deletion_diff_at rename_diff_at move_diff_at color_diff_at state_diff_at grid_diff_at name_diff_at attr_diff_at frozen_rows_diff_at frozen_columns_diff_at
+unfolding spell_sheet_change spell_new spell_copy spell_deletion spell_rename spell_name_change spell_move diff_at cell_diff_at link_diff_at merges_diff_at lines_diff_at new_diff_at copy_diff_at deletion_diff_at rename_diff_at move_diff_at color_diff_at state_diff_at grid_diff_at name_diff_at attr_diff_at frozen_rows_diff_at frozen_columns_diff_at theme_diff_at title_diff_at locale_diff_at zone_diff_at
 diff_spelled =
     tagged_spelled diff_of (λ tag.
     tag_if tag 1 (tag_map (change_format cell_format).spelled cell_diff_made FitsDiff spell_diff 1 (λ x. refl) (λ x fits. record { sheet = fits.0; place = fits.1.0; old = fits.1.1.0; new = fits.1.1.1 }))
@@ -143,11 +162,15 @@ diff_spelled =
     (tag_if tag 15 (tag_map (sheet_change_format boolean_format).spelled grid_diff_made FitsDiff spell_diff 15 (λ x. refl) (λ x fits. record { sheet = fits.0; old = tt; new = tt }))
     (tag_if tag 16 (tag_map (sheet_change_format signed_format).spelled frozen_rows_diff_made FitsDiff spell_diff 16 (λ x. refl) (λ x fits. record { sheet = fits.0; old = fits.1.0; new = fits.1.1 }))
     (tag_if tag 17 (tag_map (sheet_change_format signed_format).spelled frozen_columns_diff_made FitsDiff spell_diff 17 (λ x. refl) (λ x fits. record { sheet = fits.0; old = fits.1.0; new = fits.1.1 }))
+    (tag_if tag 18 (tag_map (twice_format theme_format).spelled theme_diff_made FitsDiff spell_diff 18 (λ x. refl) (λ x fits. (fits.0, fits.1)))
+    (tag_if tag 19 (tag_map (twice_format text_format).spelled title_diff_made FitsDiff spell_diff 19 (λ x. refl) (λ x fits. (fits.0, fits.1)))
+    (tag_if tag 20 (tag_map (twice_format locale_format).spelled locale_diff_made FitsDiff spell_diff 20 (λ x. refl) (λ x fits. tt))
+    (tag_if tag 21 (tag_map (twice_format zone_format).spelled zone_diff_made FitsDiff spell_diff 21 (λ x. refl) (λ x fits. tt))
     (tag_if tag 22 (tag_map name_parts_format.spelled name_diff_made FitsDiff spell_diff 22 (λ x. refl) (λ x fits. record { index = fits.0; old = fits.1.0; new = fits.1.1.0; kept = fits.1.1.1 }))
-    (tag_refused FitsDiff spell_diff tag))))))))))))))))))
+    (tag_refused FitsDiff spell_diff tag))))))))))))))))))))))
 
 diff_plain : IsPlain diff_at
-unfolding diff_at cell_diff_at link_diff_at merges_diff_at lines_diff_at new_diff_at copy_diff_at deletion_diff_at rename_diff_at move_diff_at color_diff_at state_diff_at grid_diff_at name_diff_at attr_diff_at frozen_rows_diff_at frozen_columns_diff_at
+unfolding diff_at cell_diff_at link_diff_at merges_diff_at lines_diff_at new_diff_at copy_diff_at deletion_diff_at rename_diff_at move_diff_at color_diff_at state_diff_at grid_diff_at name_diff_at attr_diff_at frozen_rows_diff_at frozen_columns_diff_at theme_diff_at title_diff_at locale_diff_at zone_diff_at
 diff_plain =
     tagged_plain diff_of (λ tag.
     if_plain (eqb tag 1) (map_plain cell_diff_made (change_format cell_format).plain)
@@ -166,7 +189,11 @@ diff_plain =
     (if_plain (eqb tag 15) (map_plain grid_diff_made (sheet_change_format boolean_format).plain)
     (if_plain (eqb tag 16) (map_plain frozen_rows_diff_made (sheet_change_format signed_format).plain)
     (if_plain (eqb tag 17) (map_plain frozen_columns_diff_made (sheet_change_format signed_format).plain)
-    (if_plain (eqb tag 22) (map_plain name_diff_made name_parts_format.plain) refused_plain)))))))))))))))))
+    (if_plain (eqb tag 18) (map_plain theme_diff_made (twice_format theme_format).plain)
+    (if_plain (eqb tag 19) (map_plain title_diff_made (twice_format text_format).plain)
+    (if_plain (eqb tag 20) (map_plain locale_diff_made (twice_format locale_format).plain)
+    (if_plain (eqb tag 21) (map_plain zone_diff_made (twice_format zone_format).plain)
+    (if_plain (eqb tag 22) (map_plain name_diff_made name_parts_format.plain) refused_plain)))))))))))))))))))))
 
 pub diff_format : Format FitsDiff spell_diff diff_at
 diff_format = record { again = diff_again; spelled = diff_spelled; plain = diff_plain }
@@ -188,6 +215,10 @@ diff_some (FieldDiff sheet (change.GridLines old new)) = omega arith
 diff_some (FieldDiff sheet (change.FrozenRows old new)) = omega arith
 diff_some (FieldDiff sheet (change.FrozenColumns old new)) = omega arith
 diff_some (AttrDiff sheet axis line old new) = omega arith
+diff_some (SettingDiff (setting.Theme old new)) = omega arith
+diff_some (SettingDiff (setting.Name old new)) = omega arith
+diff_some (SettingDiff (setting.Locale old new)) = omega arith
+diff_some (SettingDiff (setting.Zone old new)) = omega arith
 
 -- ---- entries and queues
 

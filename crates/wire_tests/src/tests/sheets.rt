@@ -97,6 +97,25 @@ const SIZES: [&[u8]; 4] = [
     &[17, 0, 0, 0, 1, 0, 0, 0, 1, 255, 255, 255, 255],
 ];
 
+/// A theme, a name, a locale and a time zone that change.
+const SETTINGS: [&[u8]; 4] = [
+    &[18; 73],
+    &[
+        19, 0, 0, 0, 0, 0, 0, 0, 1, 97, 0, 0, 0, 0, 0, 0, 0, 2, 195, 169,
+    ],
+    &[20, 0, 3],
+    &[21, 5, 0],
+];
+
+/// Diffs that are none: a theme that is cut, a name that is no UTF-8, a locale and a time zone that don't
+/// exist.
+const NO_SETTINGS: [&[u8]; 4] = [
+    &[18; 72],
+    &[19, 0, 0, 0, 0, 0, 0, 0, 1, 97, 0, 0, 0, 0, 0, 0, 0, 1, 195],
+    &[20, 0, 4],
+    &[21, 6, 0],
+];
+
 /// Diffs that are none: a column that has nothing of its own, hiding that is neither false nor true, and
 /// a count that is cut.
 const NO_SIZES: [&[u8]; 3] = [
@@ -276,6 +295,23 @@ fn diffs_of_sizes_are_read_and_written(rt: HostRuntime) -> Result<(), Fail> {
     }
     let plain = plain_style(rt)?;
     for bytes in NO_SIZES {
+        assert!(rt;
+            matches!(
+                DiffPart::take(rt.alloc(), &plain, bytes),
+                Err(EditError::ParseDiffs)
+            )
+        );
+    }
+    Ok(())
+}
+
+#[test]
+fn settings_are_read_and_written(rt: HostRuntime) -> Result<(), Fail> {
+    for bytes in SETTINGS {
+        assert!(rt; is_read_and_written(rt, bytes)?);
+    }
+    let plain = plain_style(rt)?;
+    for bytes in NO_SETTINGS {
         assert!(rt;
             matches!(
                 DiffPart::take(rt.alloc(), &plain, bytes),

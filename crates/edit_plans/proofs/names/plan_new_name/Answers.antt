@@ -1,4 +1,3 @@
-use Rattle.std.proofs.Common.{◌≡◌}
 use Rattle.std.proofs.lemmas.Result.{err_from_is_err_and}
 use Rattle.name_edits.specs.NameEdits.NameEdit.{Add}
 use Rattle.edit_plans.specs.laws.NamedPlans.{change_placed, change_planned, change_refused}

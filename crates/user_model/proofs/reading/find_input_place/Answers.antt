@@ -1,4 +1,4 @@
-use Rattle.std.proofs.Common.{sym, ◌∙◌, w32, SFits}
+use Rattle.std.proofs.Common.{sym, w32, SFits}
 use Rattle.std.proofs.lemmas.Int.{to_z-of_z}
 use Rattle.sheet_grid.specs.laws.FittingLaws.{place_is}
 use Rattle.user_model.proofs.Inputs.{if_ok_along}

@@ -1,4 +1,4 @@
-use Rattle.std.proofs.Common.{◌≡◌, ◌<◌, length, get_or, vec_len, vec_capacity, ap, sym, subst, ◌∙◌, arith}
+use Rattle.std.proofs.Common.{◌≡◌, ◌<◌, length, get_or, vec_len, vec_capacity, ap, sym, ◌∙◌, arith}
 use Rattle.std.specs.List.{insert, remove}
 use Rattle.sheet_grid.proofs.Moving.{gone_well, moved_is}
 use Rattle.sheet_grid.proofs.workbook.sheets.move_item.Goals as goal

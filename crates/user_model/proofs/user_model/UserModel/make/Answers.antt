@@ -1,5 +1,4 @@
 use Rattle.std.proofs.Common.{sym, subst}
-use Rattle.sheet_views.specs.declared.View.{View}
 use Rattle.user_model.specs.Stands.{IsAnySeenPlan, IsSeenPlan}
 use Rattle.user_model.specs.Values.{Session}
 use Rattle.user_model.proofs.user_model.UserModel.make.Goals as goal

@@ -1,0 +1,2 @@
+pub mod PlannedLaws
+pub mod WalkLaws

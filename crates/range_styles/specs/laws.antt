@@ -1,0 +1,7 @@
+pub mod CanonicalLaws
+pub mod ClearLaws
+pub mod DefaultTest
+pub mod KeptLaws
+pub mod RangeLaws
+pub mod TileLaws
+pub mod WalkedPlaces

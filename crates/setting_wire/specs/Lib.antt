@@ -1,0 +1,3 @@
+pub mod ThemeBytes
+pub mod TableBytes
+pub mod laws

@@ -1,0 +1,162 @@
+//! Colours of themes, themes, locales and time zones as parts of formats.
+
+use crate::reading::{locale_at, rgb_at, theme_at, zone_at};
+use crate::writing::{put_rgb, put_theme};
+use base_styles::{RgbColor, Theme};
+use base_tables::{Locale, Zone};
+use base_values::EditError;
+use base_wire::Part;
+use std::alloc::{AllocError, Global};
+
+/// The red, green and blue parts of a colour.
+pub(crate) struct RgbPart;
+
+impl Part for RgbPart {
+    ghost use Rattle.std.proofs.Common.{arith};
+    ghost use Rattle.base_wire.specs.Spelling.{Any};
+    ghost use Rattle.setting_wire.specs.ThemeBytes.{rgb_at, spell_rgb, FitsRgb};
+    ghost use Rattle.setting_wire.specs.laws.Formats.{rgb_format};
+
+    type Value = RgbColor;
+
+    type Context = ();
+
+    ghost Known = { Any };
+
+    ghost Fits = { FitsRgb };
+
+    ghost spelling = { spell_rgb };
+
+    ghost reading = { rgb_at };
+
+    fn put(out: &mut Vec<u8>, value: &RgbColor) -> Result<(), AllocError> {
+        put_rgb(out, *value)
+    }
+
+    fn take<'a>(
+        alloc: Global,
+        _context: &(),
+        bytes: &'a [u8],
+    ) -> Result<(RgbColor, &'a [u8]), EditError> {
+        rgb_at(alloc, bytes)
+    }
+
+    ghost format = { rgb_format };
+
+    ghost some = { λ x. Prim.omega arith };
+}
+
+/// A theme: its twelve colours in their order, three bytes each (docs/FORMATS.md, "Bytes").
+pub struct ThemePart;
+
+impl Part for ThemePart {
+    ghost use Rattle.base_wire.specs.Spelling.{Any};
+    ghost use Rattle.setting_wire.specs.ThemeBytes.{theme_at, spell_theme, FitsTheme};
+    ghost use Rattle.setting_wire.specs.laws.Formats.{theme_format, theme_some};
+
+    type Value = Theme;
+
+    type Context = ();
+
+    ghost Known = { Any };
+
+    ghost Fits = { FitsTheme };
+
+    ghost spelling = { spell_theme };
+
+    ghost reading = { theme_at };
+
+    fn put(out: &mut Vec<u8>, value: &Theme) -> Result<(), AllocError> {
+        put_theme(out, value)
+    }
+
+    fn take<'a>(
+        alloc: Global,
+        _context: &(),
+        bytes: &'a [u8],
+    ) -> Result<(Theme, &'a [u8]), EditError> {
+        theme_at(alloc, bytes)
+    }
+
+    ghost format = { theme_format };
+
+    ghost some = { theme_some };
+}
+
+/// A locale: its code.
+pub struct LocalePart;
+
+impl Part for LocalePart {
+    ghost use Rattle.std.proofs.Common.{arith};
+    ghost use Rattle.base_wire.specs.Spelling.{Any};
+    ghost use Rattle.setting_wire.specs.TableBytes.{locale_at, spell_locale};
+    ghost use Rattle.setting_wire.specs.laws.Formats.{locale_format};
+
+    type Value = Locale;
+
+    type Context = ();
+
+    ghost Known = { Any };
+
+    ghost Fits = { Any };
+
+    ghost spelling = { spell_locale };
+
+    ghost reading = { locale_at };
+
+    fn put(out: &mut Vec<u8>, value: &Locale) -> Result<(), AllocError> {
+        out.push(value.code())?;
+        Ok(())
+    }
+
+    fn take<'a>(
+        alloc: Global,
+        _context: &(),
+        bytes: &'a [u8],
+    ) -> Result<(Locale, &'a [u8]), EditError> {
+        locale_at(alloc, bytes)
+    }
+
+    ghost format = { locale_format };
+
+    ghost some = { λ x. Prim.omega arith };
+}
+
+/// A time zone: its code.
+pub struct ZonePart;
+
+impl Part for ZonePart {
+    ghost use Rattle.std.proofs.Common.{arith};
+    ghost use Rattle.base_wire.specs.Spelling.{Any};
+    ghost use Rattle.setting_wire.specs.TableBytes.{zone_at, spell_zone};
+    ghost use Rattle.setting_wire.specs.laws.Formats.{zone_format};
+
+    type Value = Zone;
+
+    type Context = ();
+
+    ghost Known = { Any };
+
+    ghost Fits = { Any };
+
+    ghost spelling = { spell_zone };
+
+    ghost reading = { zone_at };
+
+    fn put(out: &mut Vec<u8>, value: &Zone) -> Result<(), AllocError> {
+        out.push(value.code())?;
+        Ok(())
+    }
+
+    fn take<'a>(
+        alloc: Global,
+        _context: &(),
+        bytes: &'a [u8],
+    ) -> Result<(Zone, &'a [u8]), EditError> {
+        zone_at(alloc, bytes)
+    }
+
+    ghost format = { zone_format };
+
+    ghost some = { λ x. Prim.omega arith };
+}

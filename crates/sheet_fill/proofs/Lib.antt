@@ -1,0 +1,6 @@
+mod RepeatedLines
+mod Tiling
+mod NamedPlaces
+mod Planned
+mod CoveredPlaces
+mod CanonicalFills

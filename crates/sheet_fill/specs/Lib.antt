@@ -1,0 +1,6 @@
+pub mod FillRanges
+pub mod Tiles
+pub mod Targets
+pub mod FillWalks
+pub mod Plans
+pub mod laws

@@ -1,0 +1,7 @@
+pub mod Colors
+pub mod Values
+pub mod Paths
+pub mod Changes
+pub mod Updates
+pub mod BorderOrder
+pub mod laws

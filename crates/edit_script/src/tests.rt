@@ -6,6 +6,7 @@ use std::alloc::Global;
 use std::test::Fail;
 
 mod fills;
+mod rules;
 mod settings;
 mod sheets;
 mod styles;

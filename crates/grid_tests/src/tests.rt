@@ -1,4 +1,5 @@
 mod fills;
+mod formattings;
 mod names;
 mod naming;
 mod navigation;

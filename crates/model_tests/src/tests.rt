@@ -18,6 +18,7 @@ mod fills;
 mod lines;
 mod names;
 mod places;
+mod rules;
 mod settings;
 mod sheets;
 mod sizes;

@@ -14,6 +14,7 @@ use crate::english::push_english;
 use crate::lines::{push_columns, push_links, push_rows};
 use crate::merges::push_merges;
 use crate::names::push_names;
+use crate::rules::push_rules;
 use crate::text::{push_hex, push_line, push_signed, push_unsigned, push_word};
 use crate::theme::push_theme;
 use base_shared::Shared;
@@ -239,7 +240,8 @@ fn push_sheet(alloc: Global, out: &mut Vec<u8>, sheet: &Worksheet) -> Result<(),
     push_columns(alloc, out, sheet)?;
     push_merges(alloc, out, sheet)?;
     push_cells(alloc, out, sheet)?;
-    push_links(alloc, out, sheet)
+    push_links(alloc, out, sheet)?;
+    push_rules(alloc, out, sheet)
 }
 
 fn push_book_line(out: &mut Vec<u8>, workbook: &Workbook) -> Result<(), AllocError>
@@ -265,8 +267,8 @@ fn push_head(alloc: Global, out: &mut Vec<u8>, workbook: &Workbook) -> Result<()
 
 /// Writes the printed form of a workbook at the end: a line for the workbook, one for its theme where that is
 /// not the default one, a line for each defined name, for each sheet a line and lines for its rows, columns,
-/// merges, cells and links, and last a line `end`. Texts are escaped, contents are printed in English, and
-/// styles are their bytes in hexadecimal. docs/SCRIPT.md has the lines.
+/// merges, cells, links and conditional rules, and last a line `end`. Texts are escaped, contents are printed
+/// in English, and styles and rules are their bytes in hexadecimal. docs/SCRIPT.md has the lines.
 ///
 /// `NoMemory` alone is an error. A front of the form may then have been written.
 #[tactic(auto, unfolding(crate::specs::Dump::dump))]

@@ -1,5 +1,6 @@
 mod grid;
 mod lines;
 mod maps;
+mod rules;
 mod sheets;
 mod values;

@@ -1,9 +1,12 @@
+ghost use Rattle.format_rules.specs.Canonical.{IsCanonicalFormatting};
+
 use base_axis::MergedCell;
 use base_shared::Shared;
 use base_styles::{Color, Style, ThemeColor};
 use base_tables::{Locale, Zone};
 use base_values::{EditError, Items, Position, Text};
 use defined_names::{DefinedName, NameList};
+use format_rules::{CfRule, ConditionalFormatting, RuleList};
 use formula_tree::{Node, has_canonical_numbers};
 use script_dump::{english_formula, english_input, push_dump};
 use sheet_grid::{Cell, ColumnAttr, Link, RowAttr, SheetState, Workbook, Worksheet};
@@ -255,6 +258,61 @@ name - Rate =0.5
 name 7 Ende =Sheet1!B2+1
 sheet 1 visible 1 0 0 - Sheet1
 sheet 7 very-hidden 0 2 0 theme:0 a b
+end
+"
+            .as_slice()
+    );
+    Ok(())
+}
+
+/// A rule that holds everywhere, on the rectangles of `MERGES`.
+fn rule_on_merges(alloc: Global) -> Result<ConditionalFormatting, EditError> {
+    let rule = CfRule::Formula {
+        formula: Shared::new(alloc, Node::Boolean(true))?,
+        style: Shared::new(alloc, Style::new(alloc)?)?,
+        stop_if_true: true,
+    };
+    Ok(ConditionalFormatting {
+        parts: Items::new(Vec::from_slice(alloc, &MERGES)?),
+        rule,
+        priority: 4_294_967_295,
+    })
+}
+
+/// The list of one rule.
+fn alone(alloc: Global, formatting: ConditionalFormatting) -> Result<RuleList, EditError>
+    requires { IsCanonicalFormatting formatting }
+{
+    let mut items = Items::empty(alloc);
+    items.push(formatting)?;
+    Ok(RuleList::new(items))
+}
+
+/// Its tree has canonical numbers, which putting it in asks.
+fn put_rule(sheet: &mut Worksheet, alloc: Global) -> Result<(), EditError> {
+    let formatting = rule_on_merges(alloc)?;
+    if format_rules::has_canonical_numbers(&formatting.rule) {
+        sheet.set_conditional_formatting(alone(alloc, formatting)?);
+    }
+    Ok(())
+}
+
+/// Rules behind the links, each with its priority, its parts and its bytes.
+#[test]
+fn rules_are_printed(rt: HostRuntime) -> Result<(), Fail> {
+    let alloc = rt.alloc();
+    let mut workbook = Workbook::new_empty(alloc, "w", Locale::En, Zone::Utc)?;
+    let sheet = workbook.worksheet_mut(0)?;
+    put_link(sheet, alloc)?;
+    put_rule(sheet, alloc)?;
+    let mut out = Vec::new(alloc);
+    push_dump(alloc, &mut out, &workbook)?;
+    assert_eq!(rt;
+        out.as_slice(),
+        b"book en UTC w
+sheet 1 visible 1 0 0 - Sheet1
+link B3 C:\\\\x
+rule 4294967295 Z2:AA3,A1,#REF! 000001000000000000000d000000000000000000000000000767656e6572616c0001
 end
 "
             .as_slice()

@@ -2,7 +2,8 @@ use base_styles::{Color, Theme};
 use base_values::{Position, Text};
 use script_lines::{
     Command, NamedArea, NamedCell, NamedColor, NamedCount, NamedFill, NamedLines, NamedMove,
-    NamedName, NamedSize, NamedSpan, push_escaped, push_reference, read_command,
+    NamedName, NamedRule, NamedSize, NamedSpan, NamedSwap, push_escaped, push_reference,
+    read_command,
 };
 use std::alloc::{AllocError, Global};
 use std::test::Fail;
@@ -17,6 +18,7 @@ fn in_words(alloc: Global, command: Option<Command>) -> Result<String, AllocErro
         Some(Command::Unlink(cell)) => cell_in_words(alloc, "unlink", cell, ""),
         Some(Command::Merge(area)) => area_in_words(alloc, "merge", area, ""),
         Some(Command::Unmerge(cell)) => cell_in_words(alloc, "unmerge", cell, ""),
+        Some(Command::Rule(area, text)) => area_in_words(alloc, "rule", area, text.as_str()),
         Some(Command::InsertRows(lines)) => lines_in_words(alloc, "insert rows", lines),
         Some(Command::InsertColumns(lines)) => lines_in_words(alloc, "insert columns", lines),
         Some(Command::DeleteRows(lines)) => lines_in_words(alloc, "delete rows", lines),
@@ -65,6 +67,8 @@ fn other_in_words(alloc: Global, command: Command) -> Result<String, AllocError>
             name_in_words(alloc, "update", &named.old, new.as_str())
         }
         Command::NameDelete(named) => name_in_words(alloc, "delete", &named, ""),
+        Command::RuleDelete(named) => rule_in_words(alloc, named),
+        Command::RuleSwap(named) => swap_in_words(alloc, named),
         Command::Undo => format!(in alloc; "undo"),
         Command::Redo => format!(in alloc; "redo"),
         Command::Sync => format!(in alloc; "sync"),
@@ -103,6 +107,16 @@ fn name_in_words(
         Some(sheet) => format!(in alloc; "{word}: {name} of sheet {sheet} |{text}|"),
         None => format!(in alloc; "{word}: {name} of the workbook |{text}|"),
     }
+}
+
+fn rule_in_words(alloc: Global, named: NamedRule) -> Result<String, AllocError> {
+    let (sheet, index) = (named.sheet, named.index);
+    format!(in alloc; "delete: rule {index} of sheet {sheet}")
+}
+
+fn swap_in_words(alloc: Global, named: NamedSwap) -> Result<String, AllocError> {
+    let (sheet, first, second) = (named.sheet, named.index_a, named.index_b);
+    format!(in alloc; "swap: rules {first} and {second} of sheet {sheet}")
 }
 
 fn color_in_words(alloc: Global, named: NamedColor) -> Result<String, AllocError> {
@@ -169,7 +183,7 @@ fn move_in_words(alloc: Global, word: &str, moved: NamedMove) -> Result<String, 
 }
 
 /// Lines, and the commands that they are.
-const COMMANDS: [(&[u8], &str); 78] = [
+const COMMANDS: [(&[u8], &str); 85] = [
     (b"set 0 A1 12", "set: sheet 0 row 1 column 1 |12|"),
     (b"set 0 A1", "set: sheet 0 row 1 column 1 ||"),
     (b"set 0 A1 ", "set: sheet 0 row 1 column 1 ||"),
@@ -313,6 +327,22 @@ const COMMANDS: [(&[u8], &str); 78] = [
         "update: X of the workbook |to: Y of sheet 1 |=1 + 2||",
     ),
     (b"name-delete 0 Rate", "delete: Rate of sheet 0 ||"),
+    (
+        b"rule 0 B4:B2 =B2>1",
+        "rule: sheet 0 row 2 column 2 1x3 |=B2>1|",
+    ),
+    (b"rule 007 a1", "rule: sheet 7 row 1 column 1 1x1 ||"),
+    (
+        b"rule 0 A1 a\\nb ",
+        "rule: sheet 0 row 1 column 1 1x1 |a\nb |",
+    ),
+    (b"rule-delete 1 0", "delete: rule 0 of sheet 1"),
+    (
+        b"rule-delete 0 4294967295",
+        "delete: rule 4294967295 of sheet 0",
+    ),
+    (b"rule-swap 2 007 1", "swap: rules 7 and 1 of sheet 2"),
+    (b"rule-swap 0 3 3", "swap: rules 3 and 3 of sheet 0"),
     (b"undo", "undo"),
     (b"redo", "redo"),
     (b"sync", "sync"),
@@ -320,7 +350,7 @@ const COMMANDS: [(&[u8], &str); 78] = [
 ];
 
 /// Lines that are no commands.
-const BAD_LINES: [&[u8]; 106] = [
+const BAD_LINES: [&[u8]; 122] = [
     b"insert-rows",
     b"insert-rows 0",
     b"insert-rows 0 1",
@@ -398,6 +428,22 @@ const BAD_LINES: [&[u8]; 106] = [
     b"name-update - X 0",
     b"name-delete - X y",
     b"name-delete 4294967296 X",
+    b"rule",
+    b"rule 0",
+    b"rule 0 1 TRUE",
+    b"rule 0 A1:B2:C3 TRUE",
+    b"rule 0 A1 \\q",
+    b"rule 4294967296 A1 TRUE",
+    b"rule-delete",
+    b"rule-delete 0",
+    b"rule-delete 0 -1",
+    b"rule-delete 0 4294967296",
+    b"rule-delete 0 0 ",
+    b"rule-swap 0 0",
+    b"rule-swap 0 0 1 2",
+    b"rule-swap 0 -1 2",
+    b"rule-swap  1 1",
+    b"rule-swa-p 0 0 1",
     b"",
     b" ",
     b" undo",

@@ -32,7 +32,7 @@ const DAMAGES: [(usize, u8); 6] = [
     (34, 1),
     // A line that has nothing of its own.
     (30, 0),
-    // A list of merges in place of its absence, no option, and a rule.
+    // A list of merges in place of its absence, no option, and a rule that is cut.
     (46, 1),
     (46, 2),
     (54, 1),

@@ -340,7 +340,7 @@ fn damaged_diffs_of_sheets_are_refused(rt: HostRuntime) -> Result<(), Fail> {
     Ok(())
 }
 
-/// A renaming and a change of a name that are cut anywhere, and a renaming that keeps a rule.
+/// A renaming and a change of a name that are cut anywhere, and a renaming that keeps a cut rule.
 #[test]
 fn damaged_renamings_are_refused(rt: HostRuntime) -> Result<(), Fail> {
     let plain = plain_style(rt)?;

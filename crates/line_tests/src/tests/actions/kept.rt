@@ -2,7 +2,7 @@
 use super::{below, empty_book, put_formula};
 use crate::tests::actions::lines::inserted;
 use base_axis::RowAxis;
-use base_maps::{NumberMap, PositionMap, SheetPlace, SheetPlaceMap};
+use base_maps::{IndexMap, NumberMap, PositionMap, SheetPlace, SheetPlaceMap};
 use base_shared::Shared;
 use base_tables::Function;
 use base_values::{EditError, Items, Position, copy_of, same};
@@ -59,6 +59,7 @@ fn record_of(alloc: Global, row: i32, formula: Option<Node>) -> Result<KeptLines
         lines: NumberMap::new(alloc),
         formulas,
         merges: None,
+        formattings: IndexMap::new(alloc),
     })
 }
 

@@ -4,7 +4,7 @@ ghost use Rattle.sheet_lines.specs.CanonicalNumbers.{AreCanonicalLines};
 ghost use Rattle.sheet_history.specs.Diffs.{IsCanonicalDiff, IsCanonicalList};
 
 use base_axis::{Axis, ColumnAxis, MergeList, MergedCell, RowAxis};
-use base_maps::{NumberMap, PositionMap, SheetPlaceMap};
+use base_maps::{IndexMap, NumberMap, PositionMap, SheetPlaceMap};
 use base_shared::Shared;
 use base_styles::Style;
 use base_tables::{Locale, Zone};
@@ -43,6 +43,7 @@ fn kept_with(alloc: Global, lines: NumberMap<LineAttr>) -> KeptLines
         lines,
         formulas: SheetPlaceMap::new(alloc),
         merges: None,
+        formattings: IndexMap::new(alloc),
     }
 }
 
@@ -57,7 +58,7 @@ fn only(alloc: Global, diff: Diff) -> Result<DiffList, EditError>
 }
 
 /// A workbook of one empty sheet.
-fn empty_book(alloc: Global) -> Result<Workbook, EditError>
+pub(super) fn empty_book(alloc: Global) -> Result<Workbook, EditError>
     ensures { IfOk result IsWellFormed }
 {
     let book = Workbook::new_empty(alloc, "book", Locale::En, Zone::Utc)?;
@@ -75,7 +76,7 @@ fn with_cell(alloc: Global, size: i32) -> Result<Workbook, EditError> {
 }
 
 /// The record of an edit of the lines of the sheet of id 1.
-fn record_of<A: Axis>(
+pub(super) fn record_of<A: Axis>(
     alloc: Global,
     start: &Workbook,
     axis: LineAxis,

@@ -13,6 +13,10 @@ use Rattle.base_tables.specs.Folding.{same_folded}
 use Rattle.formula_tree.specs.declared.Node.{Node}
 use Rattle.cell_content.specs.Fitting.{tree_fits_at}
 use Rattle.cell_content.specs.Lens.{tree_of}
+use Rattle.format_rules.specs.declared.ConditionalFormatting.{ConditionalFormatting}
+use Rattle.format_rules.specs.Fitting.{has_fitting_trees, has_parts}
+use Rattle.index_maps.specs.declared.SheetIndex.{SheetIndex}
+use Rattle.index_maps.specs.SheetIndexes.{sheet_index_cmp}
 use Rattle.sheet_grid.specs.declared.Cell.{Cell}
 use Rattle.sheet_grid.specs.Sheet.{Sheet}
 use Rattle.sheet_grid.specs.Book.{Book}
@@ -26,6 +30,14 @@ use Rattle.book_names.specs.Renaming.{book_renamed, book_back}
 -- each kept tree of a cell stands at a place of a sheet
 unfoldable pub stand_on_places : FinMap sheet_place_cmp Node → Bool
 stand_on_places formulas = list_all (λ (entry : SheetPlace × Node). is_place entry.0.place) (entries formulas)
+
+-- each kept conditional rule has a part, and its parts lie inside the sheet
+unfoldable pub stand_on_parts : FinMap sheet_index_cmp ConditionalFormatting → Bool
+stand_on_parts formattings = list_all (λ (entry : SheetIndex × ConditionalFormatting). has_parts entry.1) (entries formattings)
+
+-- what is kept lies inside its sheets
+abbrev pub lie_in_sheets : KeptTrees → Bool
+lie_in_sheets kept = stand_on_places kept.formulas && stand_on_parts kept.formattings
 
 -- whether a cell is there, and its content is a formula
 abbrev pub is_formula : Option Cell → Bool
@@ -45,13 +57,23 @@ formulas_stand formulas book = list_all (λ (entry : SheetPlace × Node). tree_s
 unfoldable pub names_stand : FinMap nat_cmp Node → ℕ → Bool
 names_stand names count = list_all (λ (entry : ℕ × Node). nat_lt entry.0 count && tree_fits_at first_place entry.1) (entries names)
 
+-- a kept conditional rule stands on parts of the sheet and its trees fit there, the sheet is there, and its place is one of the sheet's list
+unfoldable pub formatting_stands : Option Sheet → ℕ → ConditionalFormatting → Bool
+formatting_stands None index formatting = false
+formatting_stands (Some sheet) index formatting = nat_lt index (length sheet.formattings) && has_parts formatting && has_fitting_trees formatting
+
+-- so does each kept conditional rule
+unfoldable pub formattings_stand : FinMap sheet_index_cmp ConditionalFormatting → Book → Bool
+formattings_stand formattings book =
+    list_all (λ (entry : SheetIndex × ConditionalFormatting). formatting_stands (sheet_of book entry.0.sheet) entry.0.index entry.1) (entries formattings)
+
 -- whether what is kept may stand where it stood
 abbrev pub may_stand : KeptTrees → Book → Bool
-may_stand kept book = formulas_stand kept.formulas book && names_stand kept.names (length book.names)
+may_stand kept book = formulas_stand kept.formulas book && names_stand kept.names (length book.names) && formattings_stand kept.formattings book
 
 -- whether the sheet of an id can be renamed
 abbrev pub goes_forward : ℕ → KeptTrees → Book → Bool
-goes_forward id kept book = is_some (sheet_of book id) && stand_on_places kept.formulas
+goes_forward id kept book = is_some (sheet_of book id) && lie_in_sheets kept
 
 -- whether it can get its old name back
 abbrev pub goes_back : ℕ → KeptTrees → Book → Bool

@@ -1,6 +1,7 @@
 pub mod KeptTreesEquals
 pub mod Entries
 pub mod Cells
+pub mod Formattings
 pub mod Names
 pub mod Numbers
 pub mod Sheets

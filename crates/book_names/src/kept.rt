@@ -7,6 +7,7 @@ ghost use Rattle.base_maps.specs.laws.Gathering.{with_made};
 ghost use Rattle.sheet_lines.specs.CanonicalNumbers.{AreCanonicalFormulas};
 ghost use Rattle.book_names.specs.Renaming.{AreCanonicalTrees, cell_kept, cells_kept, formulas_kept, trees_kept};
 
+use crate::kept_rules::kept_formattings;
 use crate::kept_trees::KeptTrees;
 use crate::names::kept_names;
 use crate::reaching::{Everywhere, SheetReach};
@@ -138,8 +139,8 @@ pub fn kept_formulas<T: SheetReach, B: SheetReach>(
 }
 
 impl KeptTrees {
-    /// The trees of a workbook that do not come back where the sheet `old` is renamed to `new` and then
-    /// `new` to `old`. `NoMemory` alone is an error.
+    /// The trees and the conditional rules of a workbook that do not come back where the sheet `old` is
+    /// renamed to `new` and then `new` to `old`. `NoMemory` alone is an error.
     pub fn of(
         alloc: Global,
         workbook: &Workbook,
@@ -153,6 +154,11 @@ impl KeptTrees {
         let sheets = workbook.worksheets();
         let formulas = kept_formulas(alloc, sheets, &Everywhere, &Everywhere, old, new)?;
         let names = kept_names(alloc, workbook.defined_names(), old, new)?;
-        Ok(KeptTrees { formulas, names })
+        let formattings = kept_formattings(alloc, sheets, &Everywhere, &Everywhere, old, new)?;
+        Ok(KeptTrees {
+            formulas,
+            names,
+            formattings,
+        })
     }
 }

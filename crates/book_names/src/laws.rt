@@ -8,7 +8,7 @@ ghost use Rattle.book_names.specs.RenameDiffs.{rename_forward, rename_back, may_
 
 /// A law about renamed sheets, with no work at run time: the diff leads from a well-formed workbook to
 /// the one that has the new name everywhere, and back with what was kept; and going back with that gives
-/// each tree of the workbook, also where no sheet had the name that it names.
+/// each tree and each conditional rule of the workbook, also where no sheet had the name that it names.
 pub fn renaming_leads_both_ways()
     ensures forth { (at id : ℕ) (new : List ℕ) (sheet : Sheet) (w : Book) → IsWellFormed w → sheet_of w id ≡ Some sheet
         → rename_forward at id sheet.name new (trees_kept sheet.name new w) w ≡ Ok (book_renamed id sheet.name new w) }

@@ -21,7 +21,7 @@ use formula_tree::Node;
 use std::alloc::Global;
 
 /// A tree that is renamed. One that stays the same is shared.
-fn renamed_tree(
+pub(crate) fn renamed_tree(
     alloc: Global,
     tree: &Shared<Node>,
     reach: Reach,

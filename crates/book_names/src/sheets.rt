@@ -6,22 +6,29 @@ ghost use Rattle.base_values.specs.declared.EditError.TheVariants.{NoMemory};
 ghost use Rattle.sheet_grid.specs.CanonicalCell.{CanonicalCells};
 ghost use Rattle.sheet_lines.specs.Sheets.{IsPlacedBook};
 ghost use Rattle.book_names.specs.Renaming.{AreCanonicalTrees, ArePlacedTrees, cells_renamed, cells_back, kept_under};
+ghost use Rattle.book_names.specs.Renaming.{formattings_renamed, formattings_back, formattings_under};
 ghost use Rattle.book_names.specs.Renaming.{sheet_renamed, sheet_back, book_renamed, book_back};
 
 use crate::cells::{Renamed, Returned, changed_cells};
+use crate::formattings::{renamed_rules, rules_back};
 use crate::kept_trees::KeptTrees;
 use crate::names::{list_back, renamed_list};
 use base_shared::Shared;
 use base_values::{EditError, Items, PlaceMap, Text, copy_of};
 use defined_names::NameList;
+use format_rules::RuleList;
 use formula_names::Reach;
 use sheet_grid::{Cell, Workbook, Worksheet};
 use std::alloc::Global;
 
-/// A copy of a sheet that holds these cells in place of its own.
-fn with_cells(sheet: &Worksheet, cells: PlaceMap<Shared<Cell>>) -> Result<Worksheet, EditError>
+/// A copy of a sheet that holds these cells and these conditional rules in place of its own.
+fn with_formulas(
+    sheet: &Worksheet,
+    cells: PlaceMap<Shared<Cell>>,
+    rules: RuleList,
+) -> Result<Worksheet, EditError>
     requires { CanonicalCells cells }
-    ensures sheet { IfOk result (λ made. made ≡ record sheet.now { cells = cells }) }
+    ensures sheet { IfOk result (λ made. made ≡ record sheet.now { cells = cells; formattings = rules }) }
     ensures only { IsOkUnless result NoMemory }
 {
     sheet.with_entries(
@@ -30,11 +37,12 @@ fn with_cells(sheet: &Worksheet, cells: PlaceMap<Shared<Cell>>) -> Result<Worksh
         copy_of(sheet.row_map())?,
         copy_of(sheet.column_map())?,
         copy_of(sheet.merge_list())?,
+        rules,
     )
 }
 
-/// A copy of a sheet whose formulas are renamed, as far as the renaming reaches. `NoMemory` alone is an
-/// error.
+/// A copy of a sheet whose formulas are renamed, those of its conditional rules too, as far as the
+/// renaming reaches. `NoMemory` alone is an error.
 pub fn with_formulas_renamed(
     alloc: Global,
     sheet: &Worksheet,
@@ -42,7 +50,10 @@ pub fn with_formulas_renamed(
     old: &str,
     new: &Shared<Text>,
 ) -> Result<Worksheet, EditError>
-    ensures sheet { IfOk result (λ made. made ≡ record sheet.now { cells = cells_renamed reach old.now new.now sheet.now.cells }) }
+    ensures sheet { IfOk result (λ made. made ≡ record sheet.now {
+      cells = cells_renamed reach old.now new.now sheet.now.cells;
+      formattings = formattings_renamed reach old.now new.now sheet.now.formattings;
+    }) }
     ensures only { IsOkUnless result NoMemory }
 {
     let change = Renamed {
@@ -51,11 +62,12 @@ pub fn with_formulas_renamed(
         after: new,
     };
     let cells = changed_cells(alloc, &change, sheet.cell_map())?;
-    with_cells(sheet, cells)
+    let rules = renamed_rules(alloc, sheet.conditional_formatting(), reach, old, new)?;
+    with_formulas(sheet, cells, rules)
 }
 
-/// A copy of a sheet whose formulas are the kept ones, or renamed back without one, as far as the
-/// renaming reaches. `NoMemory` alone is an error.
+/// A copy of a sheet whose formulas and conditional rules are the kept ones, or renamed back without
+/// one, as far as the renaming reaches. `NoMemory` alone is an error.
 pub fn with_formulas_back(
     alloc: Global,
     sheet: &Worksheet,
@@ -65,8 +77,10 @@ pub fn with_formulas_back(
     kept: &KeptTrees,
 ) -> Result<Worksheet, EditError>
     requires { AreCanonicalTrees kept.now }
-    ensures sheet { IfOk result (λ made.
-        made ≡ record sheet.now { cells = cells_back reach old.now new.now (kept_under kept.now sheet.now.id) sheet.now.cells }) }
+    ensures sheet { IfOk result (λ made. made ≡ record sheet.now {
+      cells = cells_back reach old.now new.now (kept_under kept.now sheet.now.id) sheet.now.cells;
+      formattings = formattings_back reach old.now new.now (formattings_under kept.now sheet.now.id) sheet.now.formattings;
+    }) }
     ensures only { IsOkUnless result NoMemory }
 {
     let change = Returned {
@@ -77,7 +91,8 @@ pub fn with_formulas_back(
         id: sheet.get_sheet_id(),
     };
     let cells = changed_cells(alloc, &change, sheet.cell_map())?;
-    with_cells(sheet, cells)
+    let rules = rules_back(alloc, sheet.conditional_formatting(), &change)?;
+    with_formulas(sheet, cells, rules)
 }
 
 /// A sheet that has that name where its id is that one.
@@ -183,8 +198,8 @@ pub fn with_lists(
     Ok(made)
 }
 
-/// The workbook whose sheet of an id is renamed: each tree of its sheets and of its defined names that
-/// names `old` names `new`. `NoMemory` alone is an error.
+/// The workbook whose sheet of an id is renamed: each tree of its sheets, of their conditional rules and
+/// of its defined names that names `old` names `new`. `NoMemory` alone is an error.
 pub(crate) fn book_renamed(
     alloc: Global,
     workbook: &Workbook,
@@ -203,8 +218,8 @@ pub(crate) fn book_renamed(
     with_lists(workbook, sheets, names)
 }
 
-/// The workbook whose sheet of an id gets its old name back: each tree is the kept one, or renamed back
-/// without one. `NoMemory` alone is an error.
+/// The workbook whose sheet of an id gets its old name back: each tree and each conditional rule is the
+/// kept one, or renamed back without one. `NoMemory` alone is an error.
 pub(crate) fn book_back(
     alloc: Global,
     workbook: &Workbook,

@@ -13,6 +13,8 @@ use Rattle.base_axis.specs.Rectangles.{is_inside}
 use Rattle.cell_content.specs.Fitting.{fits_at, tree_fits_at}
 use Rattle.defined_names.specs.declared.DefinedName.{DefinedName}
 use Rattle.defined_names.specs.Names.{AreCanonicalPlaced, kept_names, names_left, names_restored, names_copied}
+use Rattle.format_rules.specs.Canonical.{AreCanonicalRules}
+use Rattle.format_rules.specs.Fitting.{has_parts, has_fitting_trees}
 use Rattle.sheet_grid.specs.Arrays.{array_at}
 use Rattle.sheet_grid.specs.declared.Cell.{Cell}
 use Rattle.sheet_grid.specs.CanonicalCell.{CanonicalCells}
@@ -82,19 +84,22 @@ copy_back at id book = sheet_goes at id (names_left id book.names) book
 abbrev pub kept_of : Sheet → List DefinedName → KeptSheet
 kept_of sheet names = record { sheet = sheet; names = kept_names sheet.id names }
 
--- every number of a kept sheet and of the trees of its names is canonical
+-- every number of a kept sheet, of its conditional rules and of the trees of its names is canonical
 pub record IsCanonicalSheet (kept : KeptSheet) : Type 0 where
   pub cells : CanonicalCells kept.sheet.cells
   pub names : AreCanonicalPlaced kept.names
+  pub formattings : AreCanonicalRules kept.sheet.formattings
 
 -- a rectangle, if there is one, lies inside the sheet
 abbrev pub lies_inside : Option MergedCell → Bool
 lies_inside None = true
 lies_inside (Some r) = is_inside r
 
--- each array and each merge of a sheet lies inside
+-- each array and each merge of a sheet lies inside, and each of its conditional rules stands on parts inside
 unfoldable pub sheet_lies_inside : Sheet → Bool
-sheet_lies_inside sheet = list_all (λ (entry : Position × Cell). lies_inside (array_at entry.0 entry.1.content)) (entries sheet.cells) && list_all is_inside sheet.merges
+sheet_lies_inside sheet =
+    list_all (λ (entry : Position × Cell). lies_inside (array_at entry.0 entry.1.content)) (entries sheet.cells) && list_all is_inside sheet.merges
+    && list_all has_parts sheet.formattings
 
 -- the formula of each cell fits its place
 unfoldable pub cells_fit : FinMap position_cmp Cell → Bool
@@ -110,7 +115,9 @@ names_fit names = list_all (λ (entry : ℕ × DefinedName). tree_fits_at first_
 
 -- what is kept may come back among so many names
 unfoldable pub may_come_back : ℕ → KeptSheet → Bool
-may_come_back count kept = sheet_lies_inside kept.sheet && cells_fit kept.sheet.cells && (are_places count kept.names && names_fit kept.names)
+may_come_back count kept =
+    sheet_lies_inside kept.sheet && cells_fit kept.sheet.cells && list_all has_fitting_trees kept.sheet.formattings
+    && (are_places count kept.names && names_fit kept.names)
 
 -- ---- a deleted sheet
 

@@ -90,10 +90,10 @@ pub fn copy_forward(
 
 /// A deleted sheet comes back, and so do the names that went with it.
 ///
-/// `DiffRefused` with the number `at` of its diff where an array or a merge of the kept sheet lies
-/// outside; where a formula does not fit its place; where a name has no place in the list, or its
-/// formula does not fit A1; where a sheet has the id; or where the index is above the number of the
-/// sheets.
+/// `DiffRefused` with the number `at` of its diff where an array, a merge or a part of a conditional
+/// rule of the kept sheet lies outside, or a rule has no part; where a formula does not fit its place;
+/// where a name has no place in the list, or its formula does not fit A1; where a sheet has the id; or
+/// where the index is above the number of the sheets.
 #[tactic(auto, unfolding(crate::specs::SheetDiffs::deletion_back))]
 pub fn deletion_back(
     workbook: &mut Workbook,

@@ -76,8 +76,8 @@ pub fn copy_back(alloc: Global, workbook: &mut Workbook, id: u32, at: u64) -> Re
 
 /// A sheet goes, with the names that are known in it alone.
 ///
-/// `DiffRefused` with the number `at` of its diff where an array or a merge of the kept sheet lies
-/// outside, or where no sheet has its id.
+/// `DiffRefused` with the number `at` of its diff where an array, a merge or a part of a conditional
+/// rule of the kept sheet lies outside, where a rule has no part, or where no sheet has its id.
 #[tactic(auto, unfolding(crate::specs::SheetDiffs::deletion_forward))]
 pub fn deletion_forward(
     alloc: Global,

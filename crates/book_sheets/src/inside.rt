@@ -1,10 +1,12 @@
-//! Whether arrays and merges lie inside the sheet, and formulas fit their places.
+//! Whether arrays, merges and the parts of conditional rules lie inside the sheet, and formulas fit
+//! their places.
 
 ghost use Rattle.std.specs.Prelude.{◌≡◌};
 ghost use Rattle.std.specs.List.{list_all};
 ghost use Rattle.std.specs.FinMap.{entries};
 ghost use Rattle.base_axis.specs.Rectangles.{is_inside};
 ghost use Rattle.base_values.specs.declared.Position.{Position};
+ghost use Rattle.format_rules.specs.Fitting.{has_parts, has_fitting_trees};
 ghost use Rattle.sheet_grid.specs.Arrays.{array_at};
 ghost use Rattle.sheet_grid.specs.declared.Cell.{Cell};
 ghost use Rattle.book_sheets.specs.SheetDiffs.{lies_inside, sheet_lies_inside, cells_fit};
@@ -13,6 +15,7 @@ use base_axis::{MergeList, MergedCell};
 use base_shared::Shared;
 use base_values::{PlaceMap, Position};
 use cell_content::fits_at;
+use format_rules::{RuleList, has_fitting_trees, has_parts};
 use sheet_grid::{Cell, Worksheet, array_at};
 
 fn lies_inside(rectangle: Option<MergedCell>) -> bool
@@ -46,12 +49,25 @@ fn arrays_lie_inside(sheet: &Worksheet) -> bool
         .all(|(place, cell)| array_lies_inside(*place, cell.get()))
 }
 
-/// Whether each array and each merge of a sheet lies inside.
+/// Whether each conditional rule stands on a part at least, and its parts lie inside the sheet.
+fn rules_have_parts(rules: &RuleList) -> bool
+    ensures { result ≡ list_all has_parts rules.now }
+{
+    rules
+        .as_slice()
+        .iter()
+        .all(|formatting| has_parts(formatting))
+}
+
+/// Whether each array and each merge of a sheet lies inside, and so do the parts of each of its
+/// conditional rules, at least one.
 #[tactic(auto, unfolding(crate::specs::SheetDiffs::sheet_lies_inside))]
 pub(crate) fn sheet_lies_inside(sheet: &Worksheet) -> bool
     ensures { result ≡ sheet_lies_inside sheet.now }
 {
-    arrays_lie_inside(sheet) && merges_lie_inside(sheet.merge_list())
+    arrays_lie_inside(sheet)
+        && merges_lie_inside(sheet.merge_list())
+        && rules_have_parts(sheet.conditional_formatting())
 }
 
 /// Whether the formula of each cell fits its place.
@@ -62,4 +78,14 @@ pub(crate) fn cells_fit(cells: &PlaceMap<Shared<Cell>>) -> bool
     cells
         .iter()
         .all(|(place, cell)| fits_at(*place, &cell.get().content))
+}
+
+/// Whether the formulas of each conditional rule fit the rule's place.
+pub(crate) fn rules_fit(rules: &RuleList) -> bool
+    ensures { result ≡ list_all has_fitting_trees rules.now }
+{
+    rules
+        .as_slice()
+        .iter()
+        .all(|formatting| has_fitting_trees(formatting))
 }

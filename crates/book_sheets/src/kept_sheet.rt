@@ -4,7 +4,7 @@ ghost use Rattle.std.specs.Prelude.{◌≡◌, ◌<◌, ◌^◌, IfOk, IsOkUnles
 ghost use Rattle.base_values.specs.declared.EditError.TheVariants.{NoMemory};
 ghost use Rattle.book_sheets.specs.SheetDiffs.{kept_of, IsCanonicalSheet, are_places, names_fit, may_come_back};
 
-use crate::inside::{cells_fit, sheet_lies_inside};
+use crate::inside::{cells_fit, rules_fit, sheet_lies_inside};
 use base_maps::IndexMap;
 use base_values::{EditError, Exact, Position, copy_of};
 use cell_content::tree_fits_at;
@@ -39,7 +39,9 @@ impl KeptSheet {
     {
         let names = names.of_sheet(alloc, sheet.get_sheet_id())?;
         let sheet = copy_of(sheet)?;
-        let _ = sheet.cell_map(); // For the proof alone.
+        // For the proof alone.
+        let _ = sheet.cell_map();
+        let _ = sheet.conditional_formatting().as_slice();
         Ok(KeptSheet { sheet, names })
     }
 }
@@ -71,5 +73,6 @@ pub(crate) fn may_come_back(count: usize, kept: &KeptSheet) -> bool
 {
     sheet_lies_inside(&kept.sheet)
         && cells_fit(kept.sheet.cell_map())
+        && rules_fit(kept.sheet.conditional_formatting())
         && (are_places(count, &kept.names) && names_fit(&kept.names))
 }

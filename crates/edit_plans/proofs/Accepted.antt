@@ -26,7 +26,7 @@ use Rattle.sheet_history.specs.Fields.{field_of, with_field}
 use Rattle.sheet_history.specs.Records.{IsRecord}
 use Rattle.edit_plans.specs.Plans.{HasRecord}
 use Rattle.edit_plans.specs.Edits.{Edit, IsGiven, changed, is_of_entries}
-use Rattle.edit_plans.specs.Edits.Edit.{Input, ArrayInput, SetLink, Merge, Unmerge, Lines, MoveLines, AddSheet, CopySheet, DeleteSheet, MoveSheet, RenameSheet, ChangeNames, SetField, SetSize, SetHidden, SetRangeStyle, ClearRange, ClearFormatting, PasteStyles, SetSetting, Fill}
+use Rattle.edit_plans.specs.Edits.Edit.{Input, ArrayInput, SetLink, Merge, Unmerge, Lines, MoveLines, AddSheet, CopySheet, DeleteSheet, MoveSheet, RenameSheet, ChangeNames, EditRules, SetField, SetSize, SetHidden, SetRangeStyle, ClearRange, ClearFormatting, PasteStyles, SetSetting, Fill}
 use Rattle.edit_plans.specs.Inputs.{IsInput, input_place, input_put, with_input}
 use Rattle.edit_plans.specs.Links.{link_set}
 use Rattle.edit_plans.specs.Merging.{merge_diffs, merge_made, merge_undone, merged_in, unmerged_at, unmerged_in, with_merge, without_merge}
@@ -287,6 +287,7 @@ accepted (MoveSheet from to) earlier later is given rules how = absurd (let neve
 accepted (RenameSheet index name) earlier later is given rules how = absurd (let never : false ≡ true = is in cc)
 accepted (SetSetting setting) earlier later is given rules how = absurd (let never : false ≡ true = is in cc)
 accepted (ChangeNames edit) earlier later is given rules how = absurd (let never : false ≡ true = is in cc)
+accepted (EditRules edit) earlier later is given rules how = absurd (let never : false ≡ true = is in cc)
 accepted (SetField index value) earlier later is given rules how = field_has_record index value earlier later rules how
 accepted (SetSize index axis first last size) earlier later is given rules how = attrs_has_record index axis first last (size_change axis size) earlier later rules (size_fits axis size) how
 accepted (SetHidden index axis first last hidden) earlier later is given rules how = attrs_has_record index axis first last (Ok (Hidden hidden)) earlier later rules (hidden_fits axis hidden) how

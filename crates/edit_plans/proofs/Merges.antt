@@ -126,8 +126,10 @@ module _ (r : MergedCell) (sheet : Sheet) (is : is_merge r ≡ true) (free : mee
           arrays = hidden.arrays;
         });
         trees = bare.trees;
+        rule_trees = bare.rule_trees;
         attributes = bare.attributes;
         frozen = bare.frozen;
+        rule_parts = bare.rule_parts;
       }
 
 unmerge_rules : (sheet : Sheet) (place : Position) → KeepsSheetRules sheet → KeepsSheetRules (without_merge sheet place)
@@ -149,8 +151,10 @@ unmerge_rules sheet place h =
         arrays = hidden.arrays;
       });
       trees = h.trees;
+      rule_trees = h.rule_trees;
       attributes = h.attributes;
       frozen = h.frozen;
+      rule_parts = h.rule_parts;
     }
 
 -- ---- the record of the workbook

@@ -39,10 +39,13 @@ use Rattle.range_styles.specs.declared.Clearing.{Clearing}
 use Rattle.edit_plans.specs.RangeEdits.{formats_cleared, range_cleared, styles_pasted, styles_set}
 use Rattle.name_edits.specs.NameEdits.{NameEdit}
 use Rattle.edit_plans.specs.NamedEdits.{names_edited, names_record}
+use Rattle.rule_edits.specs.RuleEdits.{RuleEdit}
+use Rattle.edit_plans.specs.RuleEdits.{rules_edited, rules_record}
 use Rattle.edit_plans.specs.SettingEdits.{is_own_name, setting_record}
 use Rattle.edit_plans.specs.SheetEdits.{sheet_added, sheet_copied, sheet_deleted, sheet_taken, sheet_named, stays_there, is_named, field_set, added_record, copied_record, deleted_record, taken_record, named_record}
 
--- an edit with its arguments. The first is the index of its sheet, but for a new sheet, for defined names and for settings of the workbook
+-- an edit with its arguments. The first is the index of its sheet, but for a new sheet, for defined names, for conditional rules and for
+-- settings of the workbook
 pub data Edit : Type 0 where
   -- the content that goes to a row and a column, and how many line feeds its text has
   Input : ℕ → ℤ → ℤ → Content → ℕ → Edit
@@ -70,6 +73,8 @@ pub data Edit : Type 0 where
   RenameSheet : ℕ → List ℕ → Edit
   -- what changes of the defined names
   ChangeNames : NameEdit → Edit
+  -- what changes of the conditional rules of a sheet
+  EditRules : RuleEdit → Edit
   -- what a field of a sheet becomes
   SetField : ℕ → SheetField → Edit
   -- the first and the last of the rows or columns that get a size, and the size
@@ -89,8 +94,8 @@ pub data Edit : Type 0 where
   -- the rectangle that is filled from, the row or the column to which, and the language in which texts that go on are read
   Fill : ℕ → LineAxis → MergedCell → ℤ → Language → Edit
 
--- whether an edit is one of the list of the sheets, of the defined names or of the settings of the workbook, whose record is one diff, or none
--- where a setting stays
+-- whether an edit is one of the list of the sheets, of the defined names, of the conditional rules of a sheet or of the settings of the
+-- workbook. Its record is one diff, or none where a setting stays, or one for each of the conditional rules that it changes
 abbrev pub is_of_sheets : Edit → Bool
 is_of_sheets AddSheet = true
 is_of_sheets (CopySheet index) = true
@@ -98,10 +103,11 @@ is_of_sheets (DeleteSheet index) = true
 is_of_sheets (MoveSheet from to) = true
 is_of_sheets (RenameSheet index name) = true
 is_of_sheets (ChangeNames edit) = true
+is_of_sheets (EditRules edit) = true
 is_of_sheets (SetSetting setting) = true
 is_of_sheets edit = false
 
--- whether an edit is one of entries, not of lines, of the list of the sheets, of the defined names or of settings
+-- whether an edit is one of entries, not of lines, of the list of the sheets, of the defined names, of conditional rules or of settings
 abbrev pub is_of_entries : Edit → Bool
 is_of_entries (Lines index axis kind) = false
 is_of_entries (MoveLines index axis first count delta) = false
@@ -111,6 +117,7 @@ is_of_entries (DeleteSheet index) = false
 is_of_entries (MoveSheet from to) = false
 is_of_entries (RenameSheet index name) = false
 is_of_entries (ChangeNames edit) = false
+is_of_entries (EditRules edit) = false
 is_of_entries (SetSetting setting) = false
 is_of_entries edit = true
 
@@ -149,6 +156,7 @@ changed (DeleteSheet index) book = sheet_deleted index book
 changed (MoveSheet from to) book = sheet_taken from to book
 changed (RenameSheet index name) book = sheet_named index name book
 changed (ChangeNames edit) book = names_edited edit book
+changed (EditRules edit) book = rules_edited edit book
 changed (SetField index value) book = field_set index value book
 changed (SetSize index axis first last size) book = attrs_set index axis first last (size_change axis size) book
 changed (SetHidden index axis first last hidden) book = attrs_set index axis first last (Ok (Hidden hidden)) book
@@ -165,7 +173,8 @@ lines_record axis kind book (Ok sheet) = line_record axis (kind sheet) sheet.id 
 lines_record axis kind book (Err error) = []
 
 -- the record of an edit that led from one workbook to another: the edit of lines with what taking it back does not give, the one diff of
--- an edit of the list of the sheets or of the defined names, the change of a setting, if it is one, else the entries that differ
+-- an edit of the list of the sheets or of the defined names, the changes of conditional rules, the change of a setting, if it is one, else the
+-- entries that differ
 abbrev pub record_of : Edit → Book → Book → List Diff
 record_of (Lines index axis kind) earlier later = lines_record axis (λ sheet. kind) earlier (sheet_at earlier index)
 record_of (MoveLines index axis first count delta) earlier later = lines_record axis (grown_move (along_of axis) first count delta) earlier (sheet_at earlier index)
@@ -175,5 +184,6 @@ record_of (DeleteSheet index) earlier later = deleted_record index earlier
 record_of (MoveSheet from to) earlier later = taken_record from to earlier
 record_of (RenameSheet index name) earlier later = named_record index name earlier
 record_of (ChangeNames edit) earlier later = names_record edit earlier
+record_of (EditRules edit) earlier later = rules_record edit earlier
 record_of (SetSetting setting) earlier later = setting_record setting earlier
 record_of edit earlier later = record_between earlier later

@@ -13,4 +13,6 @@ pub mod Edits
 pub mod ViewSteps
 pub mod laws
 pub mod NamedEdits
+pub mod RuleEdits
+pub mod RuleRecords
 pub mod SettingEdits

@@ -17,6 +17,9 @@ pub mod SheetEditLaws
 pub mod SheetPlans
 pub mod FieldPlans
 pub mod NamedPlans
+pub mod RulePlans
+pub mod RuleSteps
+pub mod RuleRecordLaws
 pub mod RangePlans
 pub mod RangeRules
 pub mod UpdateLaws

@@ -15,6 +15,7 @@ mod link;
 mod merge;
 mod names;
 mod paste;
+mod rules;
 mod settings;
 mod sheets;
 mod styles;
@@ -27,12 +28,13 @@ pub use field::plan_field;
 pub use fill::plan_auto_fill;
 pub use hidden::grown_delta;
 pub use input::{free_place, plan_input};
-pub use laws::{edits_have_records, sheet_edits_go_both_ways};
+pub use laws::{edits_have_records, rule_changes_are_exact, sheet_edits_go_both_ways};
 pub use lines::{plan_hidden, plan_size};
 pub use link::plan_link;
 pub use merge::plan_merge;
 pub use names::{plan_changed_name, plan_new_name, plan_removed_name};
 pub use paste::{pasted_area, plan_pasted, test_tile};
+pub use rules::{plan_changed_rule, plan_new_rule, plan_removed_rule, plan_swapped_rules};
 pub use settings::{plan_setting, plan_title};
 pub use sheets::{
     plan_copied_sheet, plan_deleted_sheet, plan_moved_sheet, plan_new_sheet, plan_renamed_sheet,

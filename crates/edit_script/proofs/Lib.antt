@@ -1,5 +1,6 @@
 mod Ends
 mod Lines
+mod Rules
 mod Runs
 mod Starts
 mod Steps

@@ -4,9 +4,13 @@ use Rattle.std.specs.Prelude.{codes}
 use Rattle.std.specs.Option.{option_map, option_map_or}
 use Rattle.base_values.specs.declared.EditError.{EditError}
 use Rattle.base_values.specs.ErrorNames.{name_of}
+use Rattle.base_styles.specs.DefaultStyle.{default_style}
 use Rattle.base_tables.specs.declared.Language.TheVariants.{En as English}
 use Rattle.base_tables.specs.declared.Locale.TheVariants.{En}
 use Rattle.base_tables.specs.declared.Zone.TheVariants.{Utc}
+use Rattle.formula_tree.specs.declared.Node.{Node}
+use Rattle.format_rules.specs.declared.CfRule.{CfRule}
+use Rattle.format_rules.specs.declared.CfRule.TheVariants.{Formula as FormulaRule}
 use Rattle.line_edits.specs.declared.EditKind.TheVariants.{Insert, Delete}
 use Rattle.sheet_grid.specs.declared.SheetState.TheVariants.{Visible, Hidden}
 use Rattle.sheet_grid.specs.Book.{new_book}
@@ -19,12 +23,14 @@ use Rattle.script_lines.specs.Parts.{parts_at, without_return}
 use Rattle.script_lines.specs.Escapes.{escaped}
 use Rattle.script_lines.specs.Commands.{command_of}
 use Rattle.script_lines.specs.declared.Command.{Command}
+use Rattle.script_lines.specs.declared.NamedArea.{NamedArea}
 use Rattle.script_lines.specs.declared.Command.TheVariants as command
 use Rattle.script_dump.specs.Text.{line, hex}
 use Rattle.script_dump.specs.Dump.{dump}
 use Rattle.name_edits.specs.NameEdits.NameEdit.{Add, Remove, Update}
+use Rattle.rule_edits.specs.RuleEdits.RuleEdit.{Add as AddRule, Delete as DeleteRule, Swap as SwapRules}
 use Rattle.edit_plans.specs.Edits.{Edit}
-use Rattle.edit_plans.specs.Edits.Edit.{Input, ArrayInput, SetLink, Merge, Unmerge, Lines, MoveLines, AddSheet, CopySheet, DeleteSheet, MoveSheet, RenameSheet, ChangeNames, SetField, SetSize, SetHidden, SetRangeStyle, ClearRange, ClearFormatting, SetSetting, Fill}
+use Rattle.edit_plans.specs.Edits.Edit.{Input, ArrayInput, SetLink, Merge, Unmerge, Lines, MoveLines, AddSheet, CopySheet, DeleteSheet, MoveSheet, RenameSheet, ChangeNames, EditRules, SetField, SetSize, SetHidden, SetRangeStyle, ClearRange, ClearFormatting, SetSetting, Fill}
 use Rattle.range_styles.specs.declared.Clearing.TheVariants.{Contents, Cells}
 use Rattle.user_model.specs.Machine.{State, begun, edit_of, undo_of, redo_of, synced_of, sync_bytes}
 use Rattle.user_model.specs.Reading.{content_text, formula_typed, link_to, typed}
@@ -50,6 +56,14 @@ value_line (Ok text) = line (codes "value " ++ escaped text)
 value_line (Err error) = refusal error
 
 -- ---- edits
+
+-- a rule that shows the default style where a formula holds, and stops no other rule
+abbrev pub plain_rule : Node → CfRule
+plain_rule formula = FormulaRule formula default_style false
+
+-- a rule on one rectangle, whose formula is what the text is read as at its first cell
+abbrev pub rule_asked : NamedArea → List ℕ → State → Edit
+rule_asked named text s = EditRules (AddRule named.sheet (named.area ∷ []) (plain_rule (formula_typed s.present s.language named.area.row named.area.column text)))
 
 -- the edit that a command asks for, if it asks for one
 abbrev pub edit_for : Command → State → Option Edit
@@ -92,9 +106,16 @@ edit_for (command.Style named text) s = Some (SetRangeStyle named.area.sheet nam
 edit_for (command.Clear named) s = Some (ClearRange named.sheet Cells named.area)
 edit_for (command.ClearContents named) s = Some (ClearRange named.sheet Contents named.area)
 edit_for (command.ClearFormatting named) s = Some (ClearFormatting named.sheet named.area)
+edit_for (command.Rule named text) s = Some (rule_asked named text s)
+edit_for (command.RuleDelete named) s = Some (EditRules (DeleteRule named.sheet named.index))
+edit_for (command.RuleSwap named) s = Some (EditRules (SwapRules named.sheet named.index_a named.index_b))
 edit_for (command.Title text) s = Some (SetSetting (setting.Name text))
 edit_for (command.ThemeColors theme) s = Some (SetSetting (setting.Theme theme))
 edit_for other s = None
+
+-- that rule is added
+abbrev pub rule_typed : NamedArea → List ℕ → State → Result State EditError
+rule_typed named text s = edit_of (rule_asked named text s) s
 
 -- a refused edit leaves all as it was
 abbrev pub state_after : Result State EditError → State → State

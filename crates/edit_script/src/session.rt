@@ -1,19 +1,24 @@
-ghost use Rattle.std.specs.Prelude.{◌≡◌, ◌≢◌, ◌++◌, [], codes, string_bytes, OnOk, IfOk, IfErr, IsOkUnless};
+ghost use Rattle.std.specs.Prelude.{◌≡◌, ◌≢◌, ◌++◌, [], true, codes, string_bytes, OnOk, OnErr, IfOk, IfErr, IsOkUnless};
 ghost use Rattle.base_values.specs.Answers.{map_ok};
 ghost use Rattle.base_values.specs.declared.EditError.TheVariants.{NoMemory};
+ghost use Rattle.formula_tree.specs.Numbers as tree;
+ghost use Rattle.format_rules.specs.Canonical.{has_canonical_numbers};
 ghost use Rattle.script_dump.specs.Text.{line, hex};
-ghost use Rattle.edit_script.specs.Script.{refusal, outcome, value_line, start};
+ghost use Rattle.edit_script.specs.Script.{refusal, outcome, plain_rule, rule_typed, value_line, start};
 ghost use Rattle.user_model.specs.Reading.{rectangle_of};
-ghost use Rattle.user_model.specs.Stands.{StandsFor};
+ghost use Rattle.user_model.specs.Stands.{OnStates, StandsFor, Turns};
 
 use base_axis::Area;
-use base_styles::Theme;
+use base_shared::Shared;
+use base_styles::{Style, Theme};
 use base_values::EditError;
+use format_rules::CfRule;
+use formula_tree::Node;
 use script_dump::{push_dump, push_hex, push_line};
 use script_lines::{
     Command, NamedArea, NamedCell, NamedColor, NamedCount, NamedFill, NamedGrid, NamedLines,
-    NamedMove, NamedSheetMove, NamedSize, NamedSpan, push_escaped, read_command, split_first,
-    without_return,
+    NamedMove, NamedRule, NamedSheetMove, NamedSize, NamedSpan, NamedSwap, push_escaped,
+    read_command, split_first, without_return,
 };
 use std::alloc::Global;
 use user_model::{ClearAll, UserModel};
@@ -112,6 +117,36 @@ fn fill_source(named: NamedFill) -> Area
         sheet: named.sheet,
         area: named.area,
     })
+}
+
+/// A rule that shows the default style where a formula holds, and stops no other rule.
+fn plain_rule(alloc: Global, formula: Shared<Node>) -> Result<CfRule, EditError>
+    requires { tree.has_canonical_numbers formula ≡ true }
+    ensures made { IfOk result (λ rule. rule ≡ plain_rule formula) }
+    ensures canonical { IfOk result (λ rule. has_canonical_numbers rule ≡ true) }
+    ensures only { IsOkUnless result NoMemory }
+{
+    let style = Shared::new(alloc, Style::new(alloc)?)?;
+    Ok(CfRule::Formula {
+        formula,
+        style,
+        stop_if_true: false,
+    })
+}
+
+/// Adds a rule of the formula that a text is read as, on the rectangle that a line names.
+fn add_rule(
+    alloc: Global,
+    model: &mut UserModel<ClearAll>,
+    named: NamedArea,
+    text: &str,
+) -> Result<(), EditError>
+    ensures next { OnStates model.old.document (λ state. Turns result model.new.document (rule_typed named text.now state)) }
+    ensures err { OnErr result (model.new ≡ model.old) }
+{
+    let formula = model.read_rule_formula(named.sheet, named.area, text)?;
+    let rule = plain_rule(alloc, formula)?;
+    model.add_conditional_formatting(named.sheet, &[named.area], &rule)
 }
 
 /// A new workbook.
@@ -536,6 +571,35 @@ impl Session {
         push_outcome(&mut self.out, done)
     }
 
+    fn rule(&mut self, named: NamedArea, text: &str) -> Result<(), EditError>
+        ensures { RunsCommand (command.Rule named text.now) result self.old self.new }
+    {
+        let done = add_rule(self.alloc, &mut self.model, named, text);
+        push_outcome(&mut self.out, done)
+    }
+
+    fn rule_delete(&mut self, named: NamedRule) -> Result<(), EditError>
+        ensures { RunsCommand (command.RuleDelete named) result self.old self.new }
+    {
+        let done = self
+            .model
+            .delete_conditional_formatting(named.sheet, named.index as u64);
+        push_outcome(&mut self.out, done)
+    }
+
+    fn rule_swap(&mut self, named: NamedSwap) -> Result<(), EditError>
+        ensures { RunsCommand (command.RuleSwap named) result self.old self.new }
+    {
+        let done = self
+            .model
+            .swap_conditional_formatting_priority(
+                named.sheet,
+                named.index_a as u64,
+                named.index_b as u64,
+            );
+        push_outcome(&mut self.out, done)
+    }
+
     fn run_command(&mut self, command: Command) -> Result<(), EditError>
         ensures { RunsCommand command result self.old self.new }
     {
@@ -598,6 +662,9 @@ impl Session {
             Command::Clear(named) => self.clear(named),
             Command::ClearContents(named) => self.clear_contents(named),
             Command::ClearFormatting(named) => self.clear_formatting(named),
+            Command::Rule(named, text) => self.rule(named, text.as_str()),
+            Command::RuleDelete(named) => self.rule_delete(named),
+            Command::RuleSwap(named) => self.rule_swap(named),
         }
     }
 

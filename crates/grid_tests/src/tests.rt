@@ -1,9 +1,10 @@
-mod fills;
+mod formattings;
 mod names;
 mod naming;
 mod navigation;
 mod progress;
 mod ranges;
+mod rule_trees;
 mod rules;
 mod styles;
 mod views;

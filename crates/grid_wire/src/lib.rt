@@ -2,7 +2,7 @@
 //!
 //! The layers above see of each a spelling, which is a function of the value: what bytes can carry is
 //! read again from its spelling whatever follows, what is read was spelled so, and all else is refused
-//! with `ParseDiffs`. The keys of a sheet's maps lie inside the sheet, and its list of rules is empty.
+//! with `ParseDiffs`. The keys of a sheet's maps lie inside the sheet.
 #![tactic(auto)]
 
 mod keys;

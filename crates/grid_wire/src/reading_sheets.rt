@@ -13,7 +13,8 @@ use base_shared::Shared;
 use base_styles::Style;
 use base_values::{EditError, PlaceMap, Text};
 use cell_wire::{CellPart, ColorPart, LinkPart, MergeListPart};
-use map_wire::{after_no_items, read};
+use map_wire::read;
+use rule_wire::RuleListPart;
 use sheet_grid::{Cell, Worksheet};
 use std::alloc::Global;
 
@@ -76,7 +77,7 @@ pub(crate) fn sheet_at<'a>(
     let (cells, rest) = kept_cells_at(alloc, plain, rest)?;
     let (links, rest) = place_map_at::<LinkPart>(alloc, &(), rest)?;
     let (merges, rest) = read::<MergeListPart>(alloc, &(), rest)?;
-    let rest = after_no_items(rest)?;
-    let sheet = bare.with_entries(cells, links, rows, columns, merges)?;
+    let (formattings, rest) = read::<RuleListPart>(alloc, plain, rest)?;
+    let sheet = bare.with_entries(cells, links, rows, columns, merges, formattings)?;
     Ok((sheet, rest))
 }

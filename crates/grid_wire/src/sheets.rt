@@ -10,12 +10,12 @@ use sheet_grid::Worksheet;
 use std::alloc::{AllocError, Global};
 
 /// A whole sheet: its id, its name, its state, its colour, whether grid lines are drawn, the counts of
-/// its frozen rows and columns, its rows, columns, cells, links and merges, and an empty list of rules
+/// its frozen rows and columns, its rows, columns, cells, links, merges and conditional rules
 /// (docs/FORMATS.md, "Bytes").
 ///
-/// Bytes spell none where a key lies outside the sheet, where a map's keys don't rise strictly, where a
-/// row or a column has nothing of its own, or where there are rules. Each style that is read and equal
-/// to that of the context shares it.
+/// Bytes spell none where a key lies outside the sheet, where a map's keys don't rise strictly, or where
+/// a row or a column has nothing of its own. Each style that is read and equal to that of the context
+/// shares it.
 pub struct SheetPart;
 
 impl Part for SheetPart {

@@ -13,6 +13,7 @@ use crate::states::StatePart;
 use base_axis::{ColumnAxis, RowAxis};
 use base_wire::{Part, boolean_code};
 use cell_wire::{CellPart, ColorPart, LinkPart, MergeListPart};
+use rule_wire::RuleListPart;
 use sheet_grid::Worksheet;
 use std::alloc::AllocError;
 
@@ -60,7 +61,7 @@ fn put_fields(out: &mut Vec<u8>, sheet: &Worksheet) -> Result<(), AllocError>
     Ok(())
 }
 
-/// Adds rows, columns, cells, links, merges, and no rules.
+/// Adds rows, columns, cells, links, merges and conditional rules.
 #[tactic(auto, using(map_wire::specs::laws::MapFits::any_option), unfolding(crate::specs::SheetBytes::spell_entries))]
 fn put_entries(out: &mut Vec<u8>, sheet: &Worksheet) -> Result<(), AllocError>
     ensures spelled { OnOk result (out.new.items ≡ out.old.items ++ spell_entries sheet.now) }
@@ -71,7 +72,7 @@ fn put_entries(out: &mut Vec<u8>, sheet: &Worksheet) -> Result<(), AllocError>
     put_place_map::<CellPart>(out, sheet.cell_map())?;
     put_place_map::<LinkPart>(out, sheet.link_map())?;
     MergeListPart::put(out, sheet.merge_list())?;
-    out.extend_from_slice(&[0; 8])?;
+    RuleListPart::put(out, sheet.conditional_formatting())?;
     Ok(())
 }
 

@@ -1,4 +1,5 @@
-//! Tests of line edits, actions and histories, whose own checks are long.
+//! Tests of maps on lines, and of sheets, models and refused diffs, whose own checks are long. What edits of lines
+//! make of a workbook is in the scripts of `edit_script`.
 #![tactic(auto)]
 
 pub use sheet_history::DiffList;

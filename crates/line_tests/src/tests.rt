@@ -1,3 +1,4 @@
 mod actions;
 mod edits;
 mod history;
+mod rules;

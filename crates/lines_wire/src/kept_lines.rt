@@ -8,16 +8,18 @@ ghost use Rattle.lines_wire.specs.KeptBytes.{kept_at, spell_kept, FitsKept, IsKn
 
 use crate::values::SheetPlacePart;
 use base_axis::MergeList;
-use base_maps::{NumberMap, PositionMap, SheetPlaceMap};
+use base_maps::{IndexMap, NumberMap, PositionMap, SheetPlaceMap};
 use base_shared::Shared;
 use base_styles::Style;
 use base_values::EditError;
 use base_wire::Part;
 use cell_wire::{CellPart, LinkPart, MergeListPart, PositionPart};
+use format_rules::ConditionalFormatting;
 use formula_tree::Node;
 use formula_wire::NodePart;
 use grid_wire::LinePart;
-use map_wire::{MapPart, after_no_items, read};
+use map_wire::{MapPart, read};
+use rule_wire::FormattingPart;
 use sheet_grid::{Cell, LineAttr, Link};
 use sheet_lines::KeptLines;
 use std::alloc::{AllocError, Global};
@@ -27,6 +29,8 @@ type CellsPart = MapPart<PositionMap<Shared<Cell>>, PositionPart, CellPart>;
 type LinksPart = MapPart<PositionMap<Link>, PositionPart, LinkPart>;
 
 type LinesPart = MapPart<NumberMap<LineAttr>, i32, LinePart>;
+
+type RulesPart = MapPart<IndexMap<ConditionalFormatting>, u64, FormattingPart>;
 
 /// The trees of formulas, by the ids of their sheets and their positions.
 pub type FormulasPart = MapPart<SheetPlaceMap<Shared<Node>>, SheetPlacePart, Shared<NodePart>>;
@@ -49,11 +53,11 @@ fn put_kept(out: &mut Vec<u8>, kept: &KeptLines) -> Result<(), AllocError>
     LinesPart::put(out, &kept.lines)?;
     FormulasPart::put(out, &kept.formulas)?;
     put_kept_merges(out, &kept.merges)?;
-    out.extend_from_slice(&[0; 8])?;
+    RulesPart::put(out, &kept.formattings)?;
     Ok(())
 }
 
-#[tactic(auto, unfolding(crate::specs::KeptBytes::kept_at, crate::specs::KeptBytes::cells_at, crate::specs::KeptBytes::links_at, crate::specs::KeptBytes::lines_at, crate::specs::KeptBytes::formulas_at, crate::specs::KeptBytes::kept_merges_at))]
+#[tactic(auto, unfolding(crate::specs::KeptBytes::kept_at, crate::specs::KeptBytes::cells_at, crate::specs::KeptBytes::links_at, crate::specs::KeptBytes::lines_at, crate::specs::KeptBytes::formulas_at, crate::specs::KeptBytes::kept_merges_at, crate::specs::KeptBytes::kept_rules_at))]
 fn kept_at<'a>(
     alloc: Global,
     plain: &Shared<Style>,
@@ -66,18 +70,20 @@ fn kept_at<'a>(
     let (lines, rest) = read::<LinesPart>(alloc, plain, rest)?;
     let (formulas, rest) = read::<FormulasPart>(alloc, &(), rest)?;
     let (merges, rest) = read::<Option<MergeListPart>>(alloc, &(), rest)?;
-    let rest = after_no_items(rest)?;
+    let (formattings, rest) = read::<RulesPart>(alloc, plain, rest)?;
     let kept = KeptLines {
         cells,
         links,
         lines,
         formulas,
         merges,
+        formattings,
     };
     Ok((kept, rest))
 }
 
-/// What a line edit keeps: its cells, links, lines, trees and merges (docs/FORMATS.md, "What line edits keep").
+/// What a line edit keeps: its cells, links, lines, trees, merges and conditional rules (docs/FORMATS.md,
+/// "What line edits keep").
 ///
 /// Bytes spell none where a map's keys don't rise strictly, where a line has nothing of its own, or
 /// where a part is none. Each style that is read and equal to that of the context shares it.

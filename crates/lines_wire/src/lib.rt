@@ -11,4 +11,4 @@ mod values;
 
 pub use edits::EditPart;
 pub use kept_lines::{FormulasPart, KeptLinesPart};
-pub use values::SheetPlacePart;
+pub use values::{SheetIndexPart, SheetPlacePart};

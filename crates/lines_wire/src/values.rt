@@ -1,12 +1,13 @@
-//! Places of a workbook as parts of formats.
+//! Places of a workbook, and indexes of lists of its sheets, as parts of formats.
 
 ghost use Rattle.base_values.specs.Answers.{Answers, map_ok};
-ghost use Rattle.lines_wire.specs.PartBytes.{sheet_place_at};
+ghost use Rattle.lines_wire.specs.PartBytes.{sheet_index_at, sheet_place_at};
 
 use base_maps::SheetPlace;
 use base_values::EditError;
 use base_wire::Part;
 use cell_wire::PositionPart;
+use index_maps::SheetIndex;
 use map_wire::read;
 use std::alloc::{AllocError, Global};
 
@@ -56,4 +57,51 @@ impl Part for SheetPlacePart {
     ghost format = { sheet_place_format };
 
     ghost some = { sheet_place_some };
+}
+
+#[tactic(auto, unfolding(crate::specs::PartBytes::sheet_index_at))]
+fn sheet_index_at(alloc: Global, bytes: &[u8]) -> Result<(SheetIndex, &[u8]), EditError>
+    ensures { Answers (map_ok (λ x. (x.0, x.1.now)) result) (sheet_index_at bytes.now) }
+{
+    let (sheet, rest) = read::<u32>(alloc, &(), bytes)?;
+    let (index, rest) = read::<u64>(alloc, &(), rest)?;
+    Ok((SheetIndex { sheet, index }, rest))
+}
+
+/// The id of a sheet, and an index of its list of rules, of a rule or not.
+pub struct SheetIndexPart;
+
+impl Part for SheetIndexPart {
+    ghost use Rattle.base_wire.specs.Spelling.{Any};
+    ghost use Rattle.lines_wire.specs.PartBytes.{spell_sheet_index, sheet_index_at, FitsSheetIndex};
+    ghost use Rattle.lines_wire.specs.laws.PartLaws.{sheet_index_format, sheet_index_some};
+
+    type Value = SheetIndex;
+
+    type Context = ();
+
+    ghost Known = { Any };
+
+    ghost Fits = { FitsSheetIndex };
+
+    ghost spelling = { spell_sheet_index };
+
+    ghost reading = { sheet_index_at };
+
+    fn put(out: &mut Vec<u8>, value: &SheetIndex) -> Result<(), AllocError> {
+        out.extend_from_slice(&value.sheet.to_be_bytes())?;
+        out.extend_from_slice(&value.index.to_be_bytes())
+    }
+
+    fn take<'a>(
+        alloc: Global,
+        _context: &(),
+        bytes: &'a [u8],
+    ) -> Result<(SheetIndex, &'a [u8]), EditError> {
+        sheet_index_at(alloc, bytes)
+    }
+
+    ghost format = { sheet_index_format };
+
+    ghost some = { sheet_index_some };
 }

@@ -1,6 +1,5 @@
 -- The bytes of maps: how many entries they have, and the entries in the order of their keys.
 use Rattle.std.specs.Prelude.{List, ℕ, IfSome}
-use Rattle.std.specs.Int.{w64, to_be_bytes}
 use Rattle.std.specs.FinMap.{FinMap, entries, from_entries, get, is_sorted}
 use Rattle.std.specs.declared.cmp.Ordering.{Ordering}
 use Rattle.base_wire.specs.Reading.{Reader, map_at, ◌⊗◌, check_at, list_at}
@@ -34,7 +33,3 @@ module _ {K X : Type 0} {order : K → K → Ordering} where
 -- the map that such entries make, as a value of its type
 abbrev pub map_of_at : {K X M : Type 0} (order : K → K → Ordering) → (FinMap order X → M) → Reader K → Reader X → Reader M
 map_of_at order made key value = map_at (λ es. made (from_entries es)) (entries_at order key value)
-
--- the bytes of a list without an item
-abbrev pub no_items : List ℕ
-no_items = to_be_bytes w64 0

@@ -10,6 +10,7 @@ ghost use Rattle.base_values.specs.declared.EditError.TheVariants.{NoMemory};
 
 use base_maps::{IndexMap, NumberMap, PositionMap, SheetPlace, SheetPlaceMap};
 use base_values::{EditError, Position};
+use index_maps::{SheetIndex, SheetIndexMap};
 use std::alloc::Global;
 use std::collections::btree_map::Iter;
 
@@ -189,6 +190,42 @@ impl<V: Drop> Keyed<SheetPlace, V> for SheetPlaceMap<V> {
     ghost total = { sheet_place_total };
 
     ghost exact = { exact_sheet_places };
+
+    ghost seen_made = { λ m. refl };
+
+    ghost made_seen = { λ map. refl };
+}
+
+impl<V: Drop> Keyed<SheetIndex, V> for SheetIndexMap<V> {
+    ghost use Rattle.std.specs.Prelude.{refl};
+    ghost use Rattle.index_maps.specs.SheetIndexes.{sheet_index_cmp};
+    ghost use Rattle.index_maps.specs.laws.SheetIndexes.{sheet_index_total, exact_sheet_indexes};
+
+    ghost order = { sheet_index_cmp };
+
+    ghost seen = { λ map. map };
+
+    ghost made = { λ m. m };
+
+    fn empty(alloc: Global) -> SheetIndexMap<V> {
+        SheetIndexMap::new(alloc)
+    }
+
+    fn add(&mut self, key: SheetIndex, value: V) -> Result<(), EditError> {
+        self.put(key, Some(value))
+    }
+
+    fn entries(&self) -> Iter<'_, SheetIndex, V> {
+        self.iter()
+    }
+
+    fn is_below(key: &SheetIndex, other: &SheetIndex) -> bool {
+        key < other
+    }
+
+    ghost total = { sheet_index_total };
+
+    ghost exact = { exact_sheet_indexes };
 
     ghost seen_made = { λ m. refl };
 

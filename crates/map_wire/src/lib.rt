@@ -13,5 +13,5 @@ mod writing;
 
 pub use keyed::Keyed;
 pub use maps::MapPart;
-pub use reading::{after_no_items, entries_at, read};
+pub use reading::{entries_at, read};
 pub use writing::put_entries;

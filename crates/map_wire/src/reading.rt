@@ -6,9 +6,8 @@ ghost use Rattle.std.specs.FinMap.{from_entries, is_sorted};
 ghost use Rattle.std.specs.List.{AllByRecursion};
 ghost use Rattle.base_values.specs.Answers.{Answers, map_ok};
 ghost use Rattle.base_values.specs.declared.EditError.TheVariants.{NoMemory};
-ghost use Rattle.base_wire.specs.Reading.{rest_after};
 ghost use Rattle.base_wire.specs.Spelling.{Both};
-ghost use Rattle.map_wire.specs.MapBytes.{entries_at, map_of_at, no_items};
+ghost use Rattle.map_wire.specs.MapBytes.{entries_at, map_of_at};
 
 use crate::entries::EntryPart;
 use crate::keyed::Keyed;
@@ -71,16 +70,6 @@ pub fn entries_at<'a, M: Keyed<K::Value, P::Value>, K: Part<Context = ()>, P: Pa
     ensures sorted { IfOk result (λ x. IsTrue (is_sorted M.order x.0)) }
 {
     sorted_entries_at::<M, K, P>(alloc, context, bytes)
-}
-
-/// What stands after the bytes of a list without an item. Refuses all other bytes with `ParseDiffs`.
-pub fn after_no_items(bytes: &[u8]) -> Result<&[u8], EditError>
-    ensures { Answers (map_ok (λ x. x.now) result) (rest_after no_items bytes.now) }
-{
-    match bytes.strip_prefix([0; 8].as_slice()) {
-        Some(rest) => Ok(rest),
-        None => Err(EditError::ParseDiffs),
-    }
 }
 
 /// The map that entries in order make. Refuses with `NoMemory` alone.

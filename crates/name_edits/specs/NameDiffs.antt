@@ -10,7 +10,7 @@ use Rattle.defined_names.specs.declared.DefinedName.{DefinedName}
 use Rattle.sheet_grid.specs.Book.{Book}
 use Rattle.sheet_rules.specs.Names.{first_place}
 use Rattle.book_names.specs.declared.KeptTrees.{KeptTrees}
-use Rattle.book_names.specs.RenameDiffs.{may_stand, stand_on_places}
+use Rattle.book_names.specs.RenameDiffs.{lie_in_sheets, may_stand}
 use Rattle.name_edits.specs.declared.name_change.NameChange.{NameChange}
 use Rattle.name_edits.specs.NameChanges.{name_made, name_unmade, opposite}
 
@@ -30,14 +30,14 @@ has_place change count = if is_some change.old then nat_lt change.index count el
 abbrev pub comes_fitting : NameChange → Bool
 comes_fitting change = option_map_or (λ (name : DefinedName). tree_fits_at first_place name.formula) change.new true
 
--- no tree is kept
+-- no tree is kept, and no conditional rule
 abbrev pub keeps_nothing : KeptTrees → Bool
-keeps_nothing kept = (len kept.formulas == 0) && (len kept.names == 0)
+keeps_nothing kept = (len kept.formulas == 0) && (len kept.names == 0) && (len kept.formattings == 0)
 
--- whether a change can be made. Trees are kept of a replacement alone, and stand at places of sheets
+-- whether a change can be made. Trees and conditional rules are kept of a replacement alone, and lie inside their sheets
 unfoldable pub goes_forward : NameChange → KeptTrees → Book → Bool
 goes_forward change kept book =
-    is_change change && has_place change (length book.names) && comes_fitting change && (is_replacement change || keeps_nothing kept) && stand_on_places kept.formulas
+    is_change change && has_place change (length book.names) && comes_fitting change && (is_replacement change || keeps_nothing kept) && lie_in_sheets kept
 
 -- whether it can be taken back
 unfoldable pub goes_back : NameChange → KeptTrees → Book → Bool

@@ -16,7 +16,7 @@ use crate::look_up::Finding;
 use crate::name_change::NameChange;
 use crate::sheets::{returned_sheets, updated_sheets};
 use base_values::{EditError, Position, copy_of};
-use book_names::{KeptTrees, list_back, may_stand, shared_name, stand_on_places, with_lists};
+use book_names::{KeptTrees, lie_in_sheets, list_back, may_stand, shared_name, with_lists};
 use cell_content::tree_fits_at;
 use defined_names::NameList;
 use formula_names::Reach;
@@ -63,7 +63,7 @@ fn comes_fitting(change: &NameChange) -> bool
 fn keeps_nothing(kept: &KeptTrees) -> bool
     ensures { result ≡ keeps_nothing kept.now }
 {
-    kept.formulas.len() == 0 && kept.names.len() == 0
+    kept.formulas.len() == 0 && kept.names.len() == 0 && kept.formattings.len() == 0
 }
 
 /// Whether a change can be made.
@@ -76,7 +76,7 @@ fn goes_forward(workbook: &Workbook, change: &NameChange, kept: &KeptTrees) -> b
         && has_place(change, workbook.defined_names().len())
         && comes_fitting(change)
         && (is_replacement(change) || keeps_nothing(kept))
-        && stand_on_places(&kept.formulas)
+        && lie_in_sheets(kept)
 }
 
 /// The change that takes a change back.
@@ -101,8 +101,8 @@ fn with_names(workbook: &Workbook, names: NameList) -> Result<Workbook, EditErro
     Ok(made)
 }
 
-/// A copy of a workbook that has these names in place of its own, and in whose formulas the name at an
-/// index becomes the new one, where they mean it by the old one.
+/// A copy of a workbook that has these names in place of its own, and in whose formulas, those of its
+/// conditional rules too, the name at an index becomes the new one, where they mean it by the old one.
 fn with_updated_sheets(
     alloc: Global,
     workbook: &Workbook,
@@ -146,9 +146,9 @@ fn name_made(alloc: Global, workbook: &Workbook, change: &NameChange) -> Result<
     with_updated_sheets(alloc, workbook, names, change.index, old, new)
 }
 
-/// A copy of a workbook that has these names in place of its own, and whose trees are the kept ones, or
-/// stay; but in formulas the name at an index becomes the old one again, where they mean it by the new
-/// one.
+/// A copy of a workbook that has these names in place of its own, and whose trees and conditional rules
+/// are the kept ones, or stay; but in formulas the name at an index becomes the old one again, where they
+/// mean it by the new one.
 fn with_returned_sheets(
     alloc: Global,
     workbook: &Workbook,
@@ -217,12 +217,13 @@ fn goes_back(workbook: &Workbook, change: &NameChange, kept: &KeptTrees) -> Resu
 }
 
 /// A defined name comes, goes or stands in the place of another. Where one does, formulas that mean the
-/// old one name the new one afterwards.
+/// old one name the new one afterwards, those of conditional rules too.
 ///
 /// `DiffRefused` with the number `at` of its diff where neither a name goes nor one comes; where its index
 /// is not that of a name, nor that behind the last one where none goes; where the tree of the name that
-/// comes does not fit A1; where a tree is kept and no name stands in the place of another; or where a kept
-/// tree stands at no place of a sheet.
+/// comes does not fit A1; where a tree or a conditional rule is kept and no name stands in the place of
+/// another; where a kept tree stands at no place of a sheet; or where a kept conditional rule has no
+/// part, or one outside the sheet.
 #[tactic(auto, unfolding(crate::specs::NameDiffs::name_forward))]
 pub fn name_forward(
     alloc: Global,
@@ -243,12 +244,13 @@ pub fn name_forward(
     Ok(())
 }
 
-/// A defined name goes, comes back or stands in its place again. Every tree is the kept one; without one,
-/// formulas that mean the new name name the old one.
+/// A defined name goes, comes back or stands in its place again. Every tree and every conditional rule is
+/// the kept one; without one, formulas that mean the new name name the old one.
 ///
 /// `DiffRefused` with the number `at` of its diff where the opposite change cannot be made; where a kept
-/// tree does not fit its place, or its sheet is not there or has no formula at the place; or where the
-/// kept tree of a defined name has no place in the list, or does not fit A1.
+/// tree does not fit its place, or its sheet is not there or has no formula at the place; where the kept
+/// tree of a defined name has no place in the list, or does not fit A1; or where a kept conditional rule
+/// does not fit its parts, or its sheet is not there or has no rule at the place in its list.
 #[tactic(auto, unfolding(crate::specs::NameDiffs::name_back))]
 pub fn name_back(
     alloc: Global,

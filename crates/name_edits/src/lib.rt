@@ -1,7 +1,7 @@
 //! Defined names that come, go and change: which change each edit makes and when it is refused; the
 //! change as a diff, made and taken back; and which name a formula means.
 //!
-//! A changed name is renamed in the formulas that mean it. The layers above see the later workbook, what
+//! A changed name is renamed in the formulas that mean it, those of conditional rules too. The layers above see the later workbook, what
 //! the way back does not give, and that the diff leads both ways. A refusal leaves the workbook as it
 //! was, and so does a call that is out of memory.
 #![tactic(auto)]

@@ -12,7 +12,8 @@ use book_names::{KeptTrees, SheetReach, with_formulas_back, with_formulas_rename
 use sheet_grid::Worksheet;
 use std::alloc::Global;
 
-/// A copy of a sheet, in whose formulas the found name becomes the new one, where they mean it.
+/// A copy of a sheet, in whose formulas, those of its conditional rules too, the found name becomes the
+/// new one, where they mean it.
 fn updated_sheet(
     alloc: Global,
     sheet: &Worksheet,
@@ -43,8 +44,8 @@ pub(crate) fn updated_sheets(
     Ok(made)
 }
 
-/// A copy of a sheet whose trees are the kept ones, or in which the found name becomes the old one, where
-/// formulas mean it.
+/// A copy of a sheet whose trees and conditional rules are the kept ones, or in which the found name
+/// becomes the old one, where formulas mean it.
 fn returned_sheet(
     alloc: Global,
     sheet: &Worksheet,

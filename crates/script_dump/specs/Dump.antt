@@ -29,6 +29,8 @@ use Rattle.cell_content.specs.declared.Content.TheVariants.{Empty, Formula, Dyna
 use Rattle.sheet_grid.specs.declared.SheetState.{SheetState}
 use Rattle.sheet_grid.specs.declared.SheetState.TheVariants.{Visible, Hidden, VeryHidden}
 use Rattle.cell_wire.specs.StyleBytes.{theme_code, spell_style}
+use Rattle.format_rules.specs.declared.ConditionalFormatting.{ConditionalFormatting}
+use Rattle.rule_wire.specs.RuleBytes.{spell_rule}
 use Rattle.script_lines.specs.Escapes.{escaped}
 use Rattle.script_lines.specs.References.{reference_text}
 use Rattle.cell_input.specs.Inputs.{input_text}
@@ -91,6 +93,15 @@ area_text area =
     if not (is_inside area) then codes "#REF!"
     else if has_many area then reference_text (anchor_place area) ++ (codes ":" ++ reference_text (last_place area))
     else reference_text (anchor_place area)
+
+-- a rectangle behind another one
+abbrev pub later_area : MergedCell → List ℕ
+later_area area = codes "," ++ area_text area
+
+-- rectangles parted by commas
+abbrev pub areas_text : List MergedCell → List ℕ
+areas_text [] = []
+areas_text (first ∷ later) = area_text first ++ flat_map later_area later
 
 -- ---- lines
 
@@ -156,7 +167,12 @@ merge_line merge = line (words (codes "merge" ∷ area_text merge ∷ []))
 abbrev pub link_line : Position × Link → List ℕ
 link_line (place, link) = line (words (codes "link" ∷ reference_text place ∷ escaped link.target ∷ []))
 
--- a sheet, then its rows, its columns, its merges in their order, its cells by row and column, and its links
+-- a conditional rule: its priority, its parts in their order, and the bytes of what it shows and where
+abbrev pub rule_line : ConditionalFormatting → List ℕ
+rule_line formatting = line (words (codes "rule" ∷ decimal formatting.priority ∷ areas_text formatting.parts ∷ hex (spell_rule formatting.rule) ∷ []))
+
+-- a sheet, then its rows, its columns, its merges in their order, its cells by row and column, its links, and its conditional rules in their
+-- order
 abbrev pub sheet_lines : Sheet → List ℕ
 sheet_lines sheet =
     sheet_line sheet
@@ -164,7 +180,8 @@ sheet_lines sheet =
     ++ (flat_map (attr_line (codes "column")) (fin.entries sheet.columns)
     ++ (flat_map merge_line sheet.merges
     ++ (flat_map cell_line (fin.entries sheet.cells)
-    ++ flat_map link_line (fin.entries sheet.links)))))
+    ++ (flat_map link_line (fin.entries sheet.links)
+    ++ flat_map rule_line sheet.formattings)))))
 
 -- a workbook, its theme, then its defined names in their order
 abbrev pub head_lines : Book → List ℕ

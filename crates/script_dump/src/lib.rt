@@ -11,6 +11,7 @@ mod english;
 mod lines;
 mod merges;
 mod names;
+mod rules;
 mod text;
 mod theme;
 

@@ -22,7 +22,11 @@ fn last_place(area: MergedCell) -> Position
 }
 
 /// Writes the name of a rectangle of places.
-fn push_area(alloc: Global, out: &mut Vec<u8>, area: MergedCell) -> Result<(), AllocError>
+pub(crate) fn push_area(
+    alloc: Global,
+    out: &mut Vec<u8>,
+    area: MergedCell,
+) -> Result<(), AllocError>
     ensures { OnOk result (out.new.items ≡ out.old.items ++ area_text area) }
 {
     if !area.is_inside() {

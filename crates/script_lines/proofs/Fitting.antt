@@ -19,12 +19,12 @@ use Rattle.script_lines.proofs.Letters.{all_letters}
 use Rattle.script_lines.specs.Colors.{named_colors, named_color, digit_value, pair_value, color_of_pairs, color_of_digits, digit_color, color_of, parts_of_pairs, parts_of_digits, parts_of}
 use Rattle.script_lines.specs.Escapes.{unescaped}
 use Rattle.script_lines.proofs.EscapeLaws.{unescaped-IsUtf8}
-use Rattle.script_lines.specs.Commands.{Reader, word, sheet_word, cell_words, area_words, lines_words, move_words, sheet_move_words, color_words, grid_words, bit_of, scope_of, name_of, name_words, path_words, update_words, ended, with_text, alone, exactly, and_text, commands, from_words, command_of, count_words, span_of, size_of, only_text, theme_words, fill_words}
+use Rattle.script_lines.specs.Commands.{Reader, word, sheet_word, cell_words, area_words, lines_words, move_words, sheet_move_words, rule_words, swap_words, color_words, grid_words, bit_of, scope_of, name_of, name_words, path_words, update_words, ended, with_text, alone, exactly, and_text, Table, by_table, cell_commands, cell_command, line_commands, line_command, sheet_commands, sheet_command, book_commands, book_command, from_words, command_of, count_words, span_of, size_of, only_text, theme_words, fill_words}
 use Rattle.script_lines.specs.declared.reference.Reference.{Reference}
 use Rattle.script_lines.specs.declared.command.NamedCell.{NamedCell}
 use Rattle.script_lines.specs.declared.command.Command.{Command}
-use Rattle.script_lines.specs.declared.command.Command.TheVariants.{Set, Get, Array, Link, Unlink, Merge, Unmerge, InsertRows, InsertColumns, DeleteRows, DeleteColumns, MoveRows, MoveColumns, NewSheet, DuplicateSheet, DeleteSheet, MoveSheet, RenameSheet, HideSheet, UnhideSheet, SheetColor, GridLines, Name, NameUpdate, NameDelete, Undo, Redo, Sync, Show, Width, Height, HideRows, ShowRows, HideColumns, ShowColumns, FreezeRows, FreezeColumns, Style, Clear, ClearContents, ClearFormatting, Title, ThemeColors, Locale, Zone, Language, FillRows, FillColumns}
-use Rattle.script_lines.specs.CommandFits.{IsNamed, IsNamedArea, CellFits, AreaFits, LinesFit, MoveFits, SheetFits, SheetMoveFits, IsNamedColor, ColorFits, GridFits, NameFits, PathFits, UpdateFits, CommandFits, SpanFits, SizeFits, CountFits, PartsFit, ThemeFits, FillFits}
+use Rattle.script_lines.specs.declared.command.Command.TheVariants.{Set, Get, Array, Link, Unlink, Merge, Unmerge, InsertRows, InsertColumns, DeleteRows, DeleteColumns, MoveRows, MoveColumns, NewSheet, DuplicateSheet, DeleteSheet, MoveSheet, RenameSheet, HideSheet, UnhideSheet, SheetColor, GridLines, Name, NameUpdate, NameDelete, Undo, Redo, Sync, Show, Width, Height, HideRows, ShowRows, HideColumns, ShowColumns, FreezeRows, FreezeColumns, Style, Clear, ClearContents, ClearFormatting, Title, ThemeColors, Locale, Zone, Language, FillRows, FillColumns, Rule, RuleDelete, RuleSwap}
+use Rattle.script_lines.specs.CommandFits.{IsNamed, IsNamedArea, CellFits, AreaFits, LinesFit, MoveFits, SheetFits, SheetMoveFits, IsNamedColor, ColorFits, GridFits, NameFits, PathFits, UpdateFits, CommandFits, SpanFits, SizeFits, CountFits, PartsFit, ThemeFits, FillFits, RuleFits, SwapFits}
 
 -- ---- lists
 
@@ -295,6 +295,17 @@ sheet_move_fits words t =
     step (Fit SheetFits) (Fit SheetMoveFits) (sheet_word words) _ (sheet_fits words t)
     (λ from f. step (Fit SheetFits) (Fit SheetMoveFits) (sheet_word from.1) _ (sheet_fits from.1 f.1) (λ to s. ((f.0, s.0), s.1)))
 
+rule_words_fit : Reads RuleFits rule_words
+rule_words_fit words t =
+    step (Fit SheetFits) (Fit RuleFits) (sheet_word words) _ (sheet_fits words t)
+    (λ sheet s. step (Fit SheetFits) (Fit RuleFits) (sheet_word sheet.1) _ (sheet_fits sheet.1 s.1) (λ index i. ((s.0, i.0), i.1)))
+
+swap_words_fit : Reads SwapFits swap_words
+swap_words_fit words t =
+    step (Fit SheetFits) (Fit SwapFits) (sheet_word words) _ (sheet_fits words t)
+    (λ sheet s. step (Fit SheetFits) (Fit SwapFits) (sheet_word sheet.1) _ (sheet_fits sheet.1 s.1)
+    (λ index_a a. step (Fit SheetFits) (Fit SwapFits) (sheet_word index_a.1) _ (sheet_fits index_a.1 a.1) (λ index_b b. ((s.0, a.0, b.0), b.1))))
+
 color_words_fit : Reads ColorFits color_words
 color_words_fit words t =
     step (Fit SheetFits) (Fit ColorFits) (sheet_word words) _ (sheet_fits words t)
@@ -426,8 +437,8 @@ alone_fits : (command : Command) → CommandFits command → (words : List (List
 alone_fits command h [] t = h
 alone_fits command h (next ∷ words) t = tt
 
-each_fits : AllByRecursion Readable commands
-each_fits =
+cell_entries_fit : AllByRecursion Readable cell_commands
+cell_entries_fit =
     and_text_fits CellFits cell_words (λ cell text. Some (Set cell text)) cell_fits (λ cell text c t. (c, t))
     ▸ exactly_fits CellFits cell_words Get cell_fits (λ cell c. c)
     ▸ and_text_fits AreaFits area_words (λ area text. Some (Array area text)) area_words_fit (λ area text a t. (a, t))
@@ -435,7 +446,20 @@ each_fits =
     ▸ exactly_fits CellFits cell_words Unlink cell_fits (λ cell c. c)
     ▸ exactly_fits AreaFits area_words Merge area_words_fit (λ area a. a)
     ▸ exactly_fits CellFits cell_words Unmerge cell_fits (λ cell c. c)
-    ▸ exactly_fits LinesFit lines_words InsertRows lines_fit (λ lines l. l)
+    ▸ and_text_fits PathFits path_words (λ named text. Some (Style named text)) path_words_fit (λ named text n t. (n, t))
+    ▸ exactly_fits AreaFits area_words Clear area_words_fit (λ area a. a)
+    ▸ exactly_fits AreaFits area_words ClearContents area_words_fit (λ area a. a)
+    ▸ exactly_fits AreaFits area_words ClearFormatting area_words_fit (λ area a. a)
+    ▸ exactly_fits FillFits fill_words FillRows fill_words_fit (λ named f. f)
+    ▸ exactly_fits FillFits fill_words FillColumns fill_words_fit (λ named f. f)
+    ▸ and_text_fits AreaFits area_words (λ area text. Some (Rule area text)) area_words_fit (λ area text a t. (a, t))
+    ▸ exactly_fits RuleFits rule_words RuleDelete rule_words_fit (λ named r. r)
+    ▸ exactly_fits SwapFits swap_words RuleSwap swap_words_fit (λ named s. s)
+    ▸ tt
+
+line_entries_fit : AllByRecursion Readable line_commands
+line_entries_fit =
+    exactly_fits LinesFit lines_words InsertRows lines_fit (λ lines l. l)
     ▸ exactly_fits LinesFit lines_words InsertColumns lines_fit (λ lines l. l)
     ▸ exactly_fits LinesFit lines_words DeleteRows lines_fit (λ lines l. l)
     ▸ exactly_fits LinesFit lines_words DeleteColumns lines_fit (λ lines l. l)
@@ -449,9 +473,11 @@ each_fits =
     ▸ exactly_fits LinesFit lines_words (λ lines. ShowColumns (span_of lines)) lines_fit (λ lines l. l)
     ▸ exactly_fits CountFits count_words FreezeRows count_fits (λ named c. c)
     ▸ exactly_fits CountFits count_words FreezeColumns count_fits (λ named c. c)
-    ▸ exactly_fits FillFits fill_words FillRows fill_words_fit (λ named f. f)
-    ▸ exactly_fits FillFits fill_words FillColumns fill_words_fit (λ named f. f)
-    ▸ alone_fits NewSheet tt
+    ▸ tt
+
+sheet_entries_fit : AllByRecursion Readable sheet_commands
+sheet_entries_fit =
+    alone_fits NewSheet tt
     ▸ exactly_fits SheetFits sheet_word DuplicateSheet sheet_fits (λ sheet s. s)
     ▸ exactly_fits SheetFits sheet_word DeleteSheet sheet_fits (λ sheet s. s)
     ▸ exactly_fits SheetMoveFits sheet_move_words MoveSheet sheet_move_fits (λ move m. m)
@@ -460,7 +486,11 @@ each_fits =
     ▸ exactly_fits SheetFits sheet_word UnhideSheet sheet_fits (λ sheet s. s)
     ▸ exactly_fits ColorFits color_words SheetColor color_words_fit (λ named c. c)
     ▸ exactly_fits GridFits grid_words GridLines grid_fits (λ named g. g)
-    ▸ and_text_fits NameFits name_words (λ name text. Some (Name name text)) name_words_fit (λ name text n t. (n, t))
+    ▸ tt
+
+book_entries_fit : AllByRecursion Readable book_commands
+book_entries_fit =
+    and_text_fits NameFits name_words (λ name text. Some (Name name text)) name_words_fit (λ name text n t. (n, t))
     ▸ and_text_fits UpdateFits update_words (λ update text. Some (NameUpdate update text)) update_words_fit (λ update text u t. (u, t))
     ▸ exactly_fits NameFits name_words NameDelete name_words_fit (λ name n. n)
     ▸ only_text_fits Title (λ text t. t)
@@ -472,17 +502,36 @@ each_fits =
     ▸ alone_fits Redo tt
     ▸ alone_fits Sync tt
     ▸ alone_fits Show tt
-    ▸ and_text_fits PathFits path_words (λ named text. Some (Style named text)) path_words_fit (λ named text n t. (n, t))
-    ▸ exactly_fits AreaFits area_words Clear area_words_fit (λ area a. a)
-    ▸ exactly_fits AreaFits area_words ClearContents area_words_fit (λ area a. a)
-    ▸ exactly_fits AreaFits area_words ClearFormatting area_words_fit (λ area a. a)
     ▸ tt
+
+by_table_fits : (table : Table) → AllByRecursion Readable table → (first : List ℕ) (words : List (List ℕ)) → IsUtf8 (text_of words) → IfSome (by_table table first words) CommandFits
+by_table_fits table entries first words t =
+    step Readable CommandFits (find (λ entry. bytes_eq entry.0 first) table) (λ entry. entry.1 words) (found_fits Readable (λ entry. bytes_eq entry.0 first) table entries)
+    (λ entry r. r words t)
+
+cell_command_fits : (first : List ℕ) (words : List (List ℕ)) → IsUtf8 (text_of words) → IfSome (cell_command first words) CommandFits
+unfolding cell_command
+cell_command_fits first words t = by_table_fits cell_commands cell_entries_fit first words t
+
+line_command_fits : (first : List ℕ) (words : List (List ℕ)) → IsUtf8 (text_of words) → IfSome (line_command first words) CommandFits
+unfolding line_command
+line_command_fits first words t = by_table_fits line_commands line_entries_fit first words t
+
+sheet_command_fits : (first : List ℕ) (words : List (List ℕ)) → IsUtf8 (text_of words) → IfSome (sheet_command first words) CommandFits
+unfolding sheet_command
+sheet_command_fits first words t = by_table_fits sheet_commands sheet_entries_fit first words t
+
+book_command_fits : (first : List ℕ) (words : List (List ℕ)) → IsUtf8 (text_of words) → IfSome (book_command first words) CommandFits
+unfolding book_command
+book_command_fits first words t = by_table_fits book_commands book_entries_fit first words t
 
 from_words_fit : (words : List (List ℕ)) → IsUtf8 (text_of words) → IfSome (from_words words) CommandFits
 from_words_fit [] h = tt
 from_words_fit (first ∷ words) h =
-    step Readable CommandFits (find (λ entry. bytes_eq entry.0 first) commands) (λ entry. entry.1 words)
-    (found_fits Readable (λ entry. bytes_eq entry.0 first) commands each_fits) (λ entry r. r words (rest_text first words h))
+    let t = rest_text first words h in
+    either_fits CommandFits (cell_command first words) _ (cell_command_fits first words t)
+    (either_fits CommandFits (line_command first words) _ (line_command_fits first words t)
+    (either_fits CommandFits (sheet_command first words) (book_command first words) (sheet_command_fits first words t) (book_command_fits first words t)))
 
 pub command_fits : (line : List ℕ) → IfSome (command_of line) CommandFits
 command_fits line = go (is_utf8 line) refl

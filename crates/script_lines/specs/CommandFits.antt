@@ -21,8 +21,10 @@ use Rattle.script_lines.specs.declared.command.NamedSpan.{NamedSpan}
 use Rattle.script_lines.specs.declared.command.NamedSize.{NamedSize}
 use Rattle.script_lines.specs.declared.command.NamedFill.{NamedFill}
 use Rattle.script_lines.specs.declared.command.NamedCount.{NamedCount}
+use Rattle.script_lines.specs.declared.command.NamedRule.{NamedRule}
+use Rattle.script_lines.specs.declared.command.NamedSwap.{NamedSwap}
 use Rattle.script_lines.specs.declared.command.Command.{Command}
-use Rattle.script_lines.specs.declared.command.Command.TheVariants.{Set, Get, Array, Link, Unlink, Merge, Unmerge, InsertRows, InsertColumns, DeleteRows, DeleteColumns, MoveRows, MoveColumns, NewSheet, DuplicateSheet, DeleteSheet, MoveSheet, RenameSheet, HideSheet, UnhideSheet, SheetColor, GridLines, Name, NameUpdate, NameDelete, Undo, Redo, Sync, Show, Width, Height, HideRows, ShowRows, HideColumns, ShowColumns, FreezeRows, FreezeColumns, Style, Clear, ClearContents, ClearFormatting, Title, ThemeColors, Locale, Zone, Language, FillRows, FillColumns}
+use Rattle.script_lines.specs.declared.command.Command.TheVariants.{Set, Get, Array, Link, Unlink, Merge, Unmerge, InsertRows, InsertColumns, DeleteRows, DeleteColumns, MoveRows, MoveColumns, NewSheet, DuplicateSheet, DeleteSheet, MoveSheet, RenameSheet, HideSheet, UnhideSheet, SheetColor, GridLines, Name, NameUpdate, NameDelete, Undo, Redo, Sync, Show, Width, Height, HideRows, ShowRows, HideColumns, ShowColumns, FreezeRows, FreezeColumns, Style, Clear, ClearContents, ClearFormatting, Title, ThemeColors, Locale, Zone, Language, FillRows, FillColumns, Rule, RuleDelete, RuleSwap}
 
 -- a row and a column that letters and digits can name
 pub record IsNamed (row column : ℤ) : Type 0 where
@@ -69,6 +71,13 @@ SheetFits sheet = sheet < 2 ^ 32
 
 abbrev pub SheetMoveFits : NamedSheetMove → Type 0
 SheetMoveFits move = SheetFits move.from × SheetFits move.to
+
+-- indexes that 32 bits hold
+abbrev pub RuleFits : NamedRule → Type 0
+RuleFits named = SheetFits named.sheet × (named.index < 2 ^ 32)
+
+abbrev pub SwapFits : NamedSwap → Type 0
+SwapFits named = SheetFits named.sheet × (named.index_a < 2 ^ 32) × (named.index_b < 2 ^ 32)
 
 -- a colour whose parts are bytes
 abbrev pub IsNamedColor : Color → Type 0
@@ -161,3 +170,6 @@ CommandFits (Style named text) = PathFits named × IsUtf8 text
 CommandFits (Clear area) = AreaFits area
 CommandFits (ClearContents area) = AreaFits area
 CommandFits (ClearFormatting area) = AreaFits area
+CommandFits (Rule area text) = AreaFits area × IsUtf8 text
+CommandFits (RuleDelete named) = RuleFits named
+CommandFits (RuleSwap named) = SwapFits named

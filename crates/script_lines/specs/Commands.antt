@@ -1,8 +1,8 @@
--- The table of commands.
+-- The tables of commands.
 use Rattle.std.specs.Prelude.{ℕ, ◌^◌, ◌==◌, Bool, true, false, List, [], ◌∷◌, if◌then◌else◌, codes}
 use Rattle.std.specs.List.{find}
 use Rattle.std.specs.Str.{is_utf8, bytes_eq}
-use Rattle.std.specs.Option.{option_and_then, option_map}
+use Rattle.std.specs.Option.{option_and_then, option_map, option_or}
 use Rattle.std.specs.declared.option.Option.{Option}
 use Rattle.std.specs.declared.option.Option.TheVariants.{Some, None}
 use Rattle.script_lines.specs.Parts.{parts_at, text_of}
@@ -25,8 +25,10 @@ use Rattle.script_lines.specs.declared.command.NamedGrid.{NamedGrid}
 use Rattle.script_lines.specs.declared.command.NamedName.{NamedName}
 use Rattle.script_lines.specs.declared.command.NamedPath.{NamedPath}
 use Rattle.script_lines.specs.declared.command.NamedUpdate.{NamedUpdate}
+use Rattle.script_lines.specs.declared.command.NamedRule.{NamedRule}
+use Rattle.script_lines.specs.declared.command.NamedSwap.{NamedSwap}
 use Rattle.script_lines.specs.declared.command.Command.{Command}
-use Rattle.script_lines.specs.declared.command.Command.TheVariants.{Set, Get, Array, Link, Unlink, Merge, Unmerge, InsertRows, InsertColumns, DeleteRows, DeleteColumns, MoveRows, MoveColumns, NewSheet, DuplicateSheet, DeleteSheet, MoveSheet, RenameSheet, HideSheet, UnhideSheet, SheetColor, GridLines, Name, NameUpdate, NameDelete, Undo, Redo, Sync, Show, Width, Height, HideRows, ShowRows, HideColumns, ShowColumns, FreezeRows, FreezeColumns, Style, Clear, ClearContents, ClearFormatting, Title, ThemeColors, Locale, Zone, Language, FillRows, FillColumns}
+use Rattle.script_lines.specs.declared.command.Command.TheVariants.{Set, Get, Array, Link, Unlink, Merge, Unmerge, InsertRows, InsertColumns, DeleteRows, DeleteColumns, MoveRows, MoveColumns, NewSheet, DuplicateSheet, DeleteSheet, MoveSheet, RenameSheet, HideSheet, UnhideSheet, SheetColor, GridLines, Name, NameUpdate, NameDelete, Undo, Redo, Sync, Show, Width, Height, HideRows, ShowRows, HideColumns, ShowColumns, FreezeRows, FreezeColumns, Style, Clear, ClearContents, ClearFormatting, Title, ThemeColors, Locale, Zone, Language, FillRows, FillColumns, Rule, RuleDelete, RuleSwap}
 
 -- the next step, if this one has a value
 infixl 10 ◌>>=◌
@@ -104,6 +106,21 @@ sheet_move_words words = do
   from ← sheet_word words
   to ← sheet_word from.1
   Some (record { from = from.0; to = to.0 }, to.1)
+
+-- `S INDEX`: a sheet, and the index of a rule of its own, which is read alike
+abbrev pub rule_words : Reader NamedRule
+rule_words words = do
+  sheet ← sheet_word words
+  index ← sheet_word sheet.1
+  Some (record { sheet = sheet.0; index = index.0 }, index.1)
+
+-- `S INDEX INDEX`
+abbrev pub swap_words : Reader NamedSwap
+swap_words words = do
+  sheet ← sheet_word words
+  index_a ← sheet_word sheet.1
+  index_b ← sheet_word index_a.1
+  Some (record { sheet = sheet.0; index_a = index_a.0; index_b = index_b.0 }, index_b.1)
 
 -- `S COLOUR`
 abbrev pub color_words : Reader NamedColor
@@ -212,11 +229,19 @@ only_text command words = option_map command (unescaped (text_of words))
 abbrev pub and_text : {A : Type 0} → Reader A → (A → List ℕ → Option Command) → List (List ℕ) → Option Command
 and_text read command words = option_and_then (λ found. command found.0 found.1) (option_and_then with_text (read words))
 
--- ---- the table
+-- ---- the tables
 
--- the word that each command begins with, and how the words behind it are read
-abbrev pub commands : List (List ℕ × (List (List ℕ) → Option Command))
-commands =
+-- words that commands begin with, and how the words behind each are read
+abbrev pub Table : Type 0
+Table = List (List ℕ × (List (List ℕ) → Option Command))
+
+-- the command that words are by a table: the first is that of an entry, and the others are read as it says
+abbrev pub by_table : Table → List ℕ → List (List ℕ) → Option Command
+by_table table first words = option_and_then (λ entry. entry.1 words) (find (λ entry. bytes_eq entry.0 first) table)
+
+-- on cells, on rectangles and on conditional rules
+abbrev pub cell_commands : Table
+cell_commands =
     (codes "set", and_text cell_words (λ cell text. Some (Set cell text)))
     ∷ (codes "get", exactly cell_words Get)
     ∷ (codes "array", and_text area_words (λ area text. Some (Array area text)))
@@ -224,7 +249,24 @@ commands =
     ∷ (codes "unlink", exactly cell_words Unlink)
     ∷ (codes "merge", exactly area_words Merge)
     ∷ (codes "unmerge", exactly cell_words Unmerge)
-    ∷ (codes "insert-rows", exactly lines_words InsertRows)
+    ∷ (codes "style", and_text path_words (λ named text. Some (Style named text)))
+    ∷ (codes "clear", exactly area_words Clear)
+    ∷ (codes "clear-contents", exactly area_words ClearContents)
+    ∷ (codes "clear-formatting", exactly area_words ClearFormatting)
+    ∷ (codes "fill-rows", exactly fill_words FillRows)
+    ∷ (codes "fill-columns", exactly fill_words FillColumns)
+    ∷ (codes "rule", and_text area_words (λ area text. Some (Rule area text)))
+    ∷ (codes "rule-delete", exactly rule_words RuleDelete)
+    ∷ (codes "rule-swap", exactly swap_words RuleSwap)
+    ∷ []
+
+unfoldable pub cell_command : List ℕ → List (List ℕ) → Option Command
+cell_command first words = by_table cell_commands first words
+
+-- on rows and columns
+abbrev pub line_commands : Table
+line_commands =
+    (codes "insert-rows", exactly lines_words InsertRows)
     ∷ (codes "insert-columns", exactly lines_words InsertColumns)
     ∷ (codes "delete-rows", exactly lines_words DeleteRows)
     ∷ (codes "delete-columns", exactly lines_words DeleteColumns)
@@ -238,9 +280,15 @@ commands =
     ∷ (codes "show-columns", exactly lines_words (λ lines. ShowColumns (span_of lines)))
     ∷ (codes "freeze-rows", exactly count_words FreezeRows)
     ∷ (codes "freeze-columns", exactly count_words FreezeColumns)
-    ∷ (codes "fill-rows", exactly fill_words FillRows)
-    ∷ (codes "fill-columns", exactly fill_words FillColumns)
-    ∷ (codes "new-sheet", alone NewSheet)
+    ∷ []
+
+unfoldable pub line_command : List ℕ → List (List ℕ) → Option Command
+line_command first words = by_table line_commands first words
+
+-- on the list of sheets and on a field of a sheet
+abbrev pub sheet_commands : Table
+sheet_commands =
+    (codes "new-sheet", alone NewSheet)
     ∷ (codes "duplicate-sheet", exactly sheet_word DuplicateSheet)
     ∷ (codes "delete-sheet", exactly sheet_word DeleteSheet)
     ∷ (codes "move-sheet", exactly sheet_move_words MoveSheet)
@@ -249,7 +297,15 @@ commands =
     ∷ (codes "unhide-sheet", exactly sheet_word UnhideSheet)
     ∷ (codes "color", exactly color_words SheetColor)
     ∷ (codes "grid", exactly grid_words GridLines)
-    ∷ (codes "name", and_text name_words (λ name text. Some (Name name text)))
+    ∷ []
+
+unfoldable pub sheet_command : List ℕ → List (List ℕ) → Option Command
+sheet_command first words = by_table sheet_commands first words
+
+-- on defined names, on a setting of the workbook and on the session
+abbrev pub book_commands : Table
+book_commands =
+    (codes "name", and_text name_words (λ name text. Some (Name name text)))
     ∷ (codes "name-update", and_text update_words (λ update text. Some (NameUpdate update text)))
     ∷ (codes "name-delete", exactly name_words NameDelete)
     ∷ (codes "title", only_text Title)
@@ -261,18 +317,17 @@ commands =
     ∷ (codes "redo", alone Redo)
     ∷ (codes "sync", alone Sync)
     ∷ (codes "show", alone Show)
-    ∷ (codes "style", and_text path_words (λ named text. Some (Style named text)))
-    ∷ (codes "clear", exactly area_words Clear)
-    ∷ (codes "clear-contents", exactly area_words ClearContents)
-    ∷ (codes "clear-formatting", exactly area_words ClearFormatting)
     ∷ []
+
+unfoldable pub book_command : List ℕ → List (List ℕ) → Option Command
+book_command first words = by_table book_commands first words
 
 -- ---- lines
 
--- the command that words are: the first is that of a command, and the others are read as it says
+-- the command that words are: that of the one table which has such words
 abbrev pub from_words : List (List ℕ) → Option Command
 from_words [] = None
-from_words (first ∷ words) = option_and_then (λ entry. entry.1 words) (find (λ entry. bytes_eq entry.0 first) commands)
+from_words (first ∷ words) = option_or (cell_command first words) (option_or (line_command first words) (option_or (sheet_command first words) (book_command first words)))
 
 -- the command that a line is: its words are parted by single spaces
 abbrev pub command_of : List ℕ → Option Command

@@ -254,6 +254,44 @@ impl Exact for NamedPath {
     ghost equals = { named_path_equals };
 }
 
+/// A conditional rule that a line names.
+#[derive(Clone, Copy, Debug, PartialEq, Eq)]
+pub struct NamedRule {
+    /// The index of its sheet.
+    pub sheet: u32,
+    /// The index of the rule among those of the sheet.
+    pub index: u32,
+}
+
+impl Exact for NamedRule {
+    ghost use Rattle.std.proofs.Common.{rules};
+    ghost use Rattle.script_lines.specs.laws.NamedEquals.{named_rule_equals};
+
+    ghost copies = { λ a b h. Prim.search rules };
+
+    ghost equals = { named_rule_equals };
+}
+
+/// Two conditional rules of a sheet that a line names.
+#[derive(Clone, Copy, Debug, PartialEq, Eq)]
+pub struct NamedSwap {
+    /// The index of their sheet.
+    pub sheet: u32,
+    /// The index of the one among the rules of the sheet.
+    pub index_a: u32,
+    /// The index of the other, which may be the same.
+    pub index_b: u32,
+}
+
+impl Exact for NamedSwap {
+    ghost use Rattle.std.proofs.Common.{rules};
+    ghost use Rattle.script_lines.specs.laws.NamedEquals.{named_swap_equals};
+
+    ghost copies = { λ a b h. Prim.search rules };
+
+    ghost equals = { named_swap_equals };
+}
+
 /// What a line of a script asks for. Rows, columns and counts are those that the line names, and may lie
 /// outside every sheet.
 #[derive(Debug, Drop)]
@@ -354,4 +392,10 @@ pub enum Command {
     ClearContents(NamedArea),
     /// `clear-formatting S AREA`: take styles away.
     ClearFormatting(NamedArea),
+    /// `rule S AREA TEXT`: add a conditional rule with the text as its formula.
+    Rule(NamedArea, Text),
+    /// `rule-delete S INDEX`: take a conditional rule away.
+    RuleDelete(NamedRule),
+    /// `rule-swap S INDEX INDEX`: exchange the priorities of two conditional rules.
+    RuleSwap(NamedSwap),
 }

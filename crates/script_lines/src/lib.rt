@@ -2,7 +2,7 @@
 //!
 //! The layer above takes a script's lines with `split_first` and `without_return`, reads each with
 //! `read_command`, and writes texts and places as answers print them with `push_escaped` and
-//! `push_reference`. It sees commands by `command_of`, the table of commands, and knows of each that
+//! `push_reference`. It sees commands by `command_of`, the tables of commands, and knows of each that
 //! `CommandFits`.
 #![tactic(auto)]
 
@@ -16,7 +16,8 @@ mod reference;
 
 pub use command::{
     Command, NamedArea, NamedCell, NamedColor, NamedCount, NamedFill, NamedGrid, NamedLines,
-    NamedMove, NamedName, NamedPath, NamedSheetMove, NamedSize, NamedSpan, NamedUpdate,
+    NamedMove, NamedName, NamedPath, NamedRule, NamedSheetMove, NamedSize, NamedSpan, NamedSwap,
+    NamedUpdate,
 };
 pub use escape::{escapes_read_back, push_escaped};
 pub use parse::read_command;

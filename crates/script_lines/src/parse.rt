@@ -10,7 +10,8 @@ ghost use Rattle.script_lines.specs.Commands as spec;
 use crate::color::{color_of, parts_of};
 use crate::command::{
     Command, NamedArea, NamedCell, NamedColor, NamedCount, NamedFill, NamedGrid, NamedLines,
-    NamedMove, NamedName, NamedPath, NamedSheetMove, NamedSize, NamedSpan, NamedUpdate,
+    NamedMove, NamedName, NamedPath, NamedRule, NamedSheetMove, NamedSize, NamedSpan, NamedSwap,
+    NamedUpdate,
 };
 use crate::escape::unescape;
 use crate::number::{read_i32, read_u32};
@@ -157,6 +158,30 @@ fn sheet_move_words(words: Option<&str>) -> Option<(NamedSheetMove, Option<&str>
     let (from, words) = sheet_word(words)?;
     let (to, words) = sheet_word(words)?;
     Some((NamedSheetMove { from, to }, words))
+}
+
+/// `S INDEX`, and the words behind it.
+fn rule_words(words: Option<&str>) -> Option<(NamedRule, Option<&str>)>
+    ensures { option_map (λ found. (found.0, parts_after 32 (option_copied found.1))) result ≡ spec.rule_words (parts_after 32 (option_copied words.entry)) }
+{
+    let (sheet, words) = sheet_word(words)?;
+    let (index, words) = sheet_word(words)?;
+    Some((NamedRule { sheet, index }, words))
+}
+
+/// `S INDEX INDEX`, and the words behind it.
+fn swap_words(words: Option<&str>) -> Option<(NamedSwap, Option<&str>)>
+    ensures { option_map (λ found. (found.0, parts_after 32 (option_copied found.1))) result ≡ spec.swap_words (parts_after 32 (option_copied words.entry)) }
+{
+    let (sheet, words) = sheet_word(words)?;
+    let (index_a, words) = sheet_word(words)?;
+    let (index_b, words) = sheet_word(words)?;
+    let swap = NamedSwap {
+        sheet,
+        index_a,
+        index_b,
+    };
+    Some((swap, words))
 }
 
 /// `S COLOUR`, and the words behind it.
@@ -381,10 +406,16 @@ fn alone(command: Command, words: Option<&str>) -> Option<Command>
     }
 }
 
-/// The command that words are: the first, and the others.
-fn read_words(alloc: Global, word: &str, words: Option<&str>) -> Result<Option<Command>, EditError>
+/// The command on cells, on rectangles or on conditional rules that words are: the first, and the
+/// others.
+#[tactic(auto, unfolding(crate::specs::Commands::cell_command))]
+fn read_cell_words(
+    alloc: Global,
+    word: &str,
+    words: Option<&str>,
+) -> Result<Option<Command>, EditError>
     ensures value { IfOk result
-        (λ found. found ≡ spec.from_words (word.now ∷ parts_after 32 (option_copied words.entry))) }
+        (λ found. found ≡ spec.cell_command word.now (parts_after 32 (option_copied words.entry))) }
     ensures err { IsOkUnless result NoMemory }
 {
     match word {
@@ -401,26 +432,64 @@ fn read_words(alloc: Global, word: &str, words: Option<&str>) -> Result<Option<C
         "unlink" => Ok(ended(cell_words(words)).map(Command::Unlink)),
         "merge" => Ok(ended(area_words(words)).map(Command::Merge)),
         "unmerge" => Ok(ended(cell_words(words)).map(Command::Unmerge)),
-        "insert-rows" => Ok(ended(lines_words(words)).map(Command::InsertRows)),
-        "insert-columns" => Ok(ended(lines_words(words)).map(Command::InsertColumns)),
-        "delete-rows" => Ok(ended(lines_words(words)).map(Command::DeleteRows)),
-        "delete-columns" => Ok(ended(lines_words(words)).map(Command::DeleteColumns)),
-        "move-rows" => Ok(ended(move_words(words)).map(Command::MoveRows)),
-        "move-columns" => Ok(ended(move_words(words)).map(Command::MoveColumns)),
-        "width" => Ok(ended(move_words(words)).map(|moved| Command::Width(size_of(moved)))),
-        "height" => Ok(ended(move_words(words)).map(|moved| Command::Height(size_of(moved)))),
-        "hide-rows" => Ok(ended(lines_words(words)).map(|lines| Command::HideRows(span_of(lines)))),
-        "show-rows" => Ok(ended(lines_words(words)).map(|lines| Command::ShowRows(span_of(lines)))),
-        "hide-columns" => Ok(ended(lines_words(words)).map(|lines| Command::HideColumns(span_of(
-            lines,
-        )))),
-        "show-columns" => Ok(ended(lines_words(words)).map(|lines| Command::ShowColumns(span_of(
-            lines,
-        )))),
-        "freeze-rows" => Ok(ended(count_words(words)).map(Command::FreezeRows)),
-        "freeze-columns" => Ok(ended(count_words(words)).map(Command::FreezeColumns)),
+        "style" => Ok(with_text(alloc, path_words(alloc, words)?)?.map(|(named, text)| {
+            Command::Style(named, text)
+        })),
+        "clear" => Ok(ended(area_words(words)).map(Command::Clear)),
+        "clear-contents" => Ok(ended(area_words(words)).map(Command::ClearContents)),
+        "clear-formatting" => Ok(ended(area_words(words)).map(Command::ClearFormatting)),
         "fill-rows" => Ok(ended(fill_words(words)).map(Command::FillRows)),
         "fill-columns" => Ok(ended(fill_words(words)).map(Command::FillColumns)),
+        "rule" => Ok(with_text(alloc, area_words(words))?.map(|(area, text)| Command::Rule(
+            area, text,
+        ))),
+        "rule-delete" => Ok(ended(rule_words(words)).map(Command::RuleDelete)),
+        "rule-swap" => Ok(ended(swap_words(words)).map(Command::RuleSwap)),
+        _ => Ok(None),
+    }
+}
+
+/// The command on rows or columns that words are: the first, and the others.
+#[tactic(auto, unfolding(crate::specs::Commands::line_command))]
+fn read_line_words(word: &str, words: Option<&str>) -> Option<Command>
+    ensures { result ≡ spec.line_command word.now (parts_after 32 (option_copied words.entry)) }
+{
+    match word {
+        "insert-rows" => ended(lines_words(words)).map(Command::InsertRows),
+        "insert-columns" => ended(lines_words(words)).map(Command::InsertColumns),
+        "delete-rows" => ended(lines_words(words)).map(Command::DeleteRows),
+        "delete-columns" => ended(lines_words(words)).map(Command::DeleteColumns),
+        "move-rows" => ended(move_words(words)).map(Command::MoveRows),
+        "move-columns" => ended(move_words(words)).map(Command::MoveColumns),
+        "width" => ended(move_words(words)).map(|moved| Command::Width(size_of(moved))),
+        "height" => ended(move_words(words)).map(|moved| Command::Height(size_of(moved))),
+        "hide-rows" => ended(lines_words(words)).map(|lines| Command::HideRows(span_of(lines))),
+        "show-rows" => ended(lines_words(words)).map(|lines| Command::ShowRows(span_of(lines))),
+        "hide-columns" => ended(lines_words(words)).map(|lines| Command::HideColumns(span_of(
+            lines,
+        ))),
+        "show-columns" => ended(lines_words(words)).map(|lines| Command::ShowColumns(span_of(
+            lines,
+        ))),
+        "freeze-rows" => ended(count_words(words)).map(Command::FreezeRows),
+        "freeze-columns" => ended(count_words(words)).map(Command::FreezeColumns),
+        _ => None,
+    }
+}
+
+/// The command on the list of sheets or on a field of a sheet that words are: the first, and the
+/// others.
+#[tactic(auto, unfolding(crate::specs::Commands::sheet_command))]
+fn read_sheet_words(
+    alloc: Global,
+    word: &str,
+    words: Option<&str>,
+) -> Result<Option<Command>, EditError>
+    ensures value { IfOk result
+        (λ found. found ≡ spec.sheet_command word.now (parts_after 32 (option_copied words.entry))) }
+    ensures err { IsOkUnless result NoMemory }
+{
+    match word {
         "new-sheet" => Ok(alone(Command::NewSheet, words)),
         "duplicate-sheet" => Ok(ended(sheet_word(words)).map(Command::DuplicateSheet)),
         "delete-sheet" => Ok(ended(sheet_word(words)).map(Command::DeleteSheet)),
@@ -432,6 +501,23 @@ fn read_words(alloc: Global, word: &str, words: Option<&str>) -> Result<Option<C
         "unhide-sheet" => Ok(ended(sheet_word(words)).map(Command::UnhideSheet)),
         "color" => Ok(ended(color_words(words)).map(Command::SheetColor)),
         "grid" => Ok(ended(grid_words(words)).map(Command::GridLines)),
+        _ => Ok(None),
+    }
+}
+
+/// The command on defined names, on a setting of the workbook or on the session that words are: the
+/// first, and the others.
+#[tactic(auto, unfolding(crate::specs::Commands::book_command))]
+fn read_book_words(
+    alloc: Global,
+    word: &str,
+    words: Option<&str>,
+) -> Result<Option<Command>, EditError>
+    ensures value { IfOk result
+        (λ found. found ≡ spec.book_command word.now (parts_after 32 (option_copied words.entry))) }
+    ensures err { IsOkUnless result NoMemory }
+{
+    match word {
         "name" => Ok(with_text(alloc, name_words(alloc, words)?)?.map(|(name, text)| Command::Name(
             name, text,
         ))),
@@ -448,14 +534,26 @@ fn read_words(alloc: Global, word: &str, words: Option<&str>) -> Result<Option<C
         "redo" => Ok(alone(Command::Redo, words)),
         "sync" => Ok(alone(Command::Sync, words)),
         "show" => Ok(alone(Command::Show, words)),
-        "style" => Ok(with_text(alloc, path_words(alloc, words)?)?.map(|(named, text)| {
-            Command::Style(named, text)
-        })),
-        "clear" => Ok(ended(area_words(words)).map(Command::Clear)),
-        "clear-contents" => Ok(ended(area_words(words)).map(Command::ClearContents)),
-        "clear-formatting" => Ok(ended(area_words(words)).map(Command::ClearFormatting)),
         _ => Ok(None),
     }
+}
+
+/// The command that words are: the first, and the others.
+fn read_words(alloc: Global, word: &str, words: Option<&str>) -> Result<Option<Command>, EditError>
+    ensures value { IfOk result
+        (λ found. found ≡ spec.from_words (word.now ∷ parts_after 32 (option_copied words.entry))) }
+    ensures err { IsOkUnless result NoMemory }
+{
+    if let Some(command) = read_cell_words(alloc, word, words)? {
+        return Ok(Some(command));
+    }
+    if let Some(command) = read_line_words(word, words) {
+        return Ok(Some(command));
+    }
+    if let Some(command) = read_sheet_words(alloc, word, words)? {
+        return Ok(Some(command));
+    }
+    read_book_words(alloc, word, words)
 }
 
 fn read_text(alloc: Global, line: &str) -> Result<Option<Command>, EditError>
@@ -466,7 +564,7 @@ fn read_text(alloc: Global, line: &str) -> Result<Option<Command>, EditError>
     read_words(alloc, word, words)
 }
 
-/// The command that a line is, or None where the table of commands has no such line. A line that
+/// The command that a line is, or None where the tables of commands have no such line. A line that
 /// is no UTF-8 is none, whatever else it holds. The only error is `NoMemory`.
 pub fn read_command(alloc: Global, line: &[u8]) -> Result<Option<Command>, EditError>
     ensures value { IfOk result (λ found. found ≡ spec.command_of line.now) }

@@ -8,6 +8,7 @@ pub mod FollowedShapes
 pub mod FollowedEntries
 pub mod FollowedLines
 pub mod FollowedSheets
+pub mod FollowedRules
 pub mod FollowedWellFormed
 pub mod OwnSheets
 pub mod Placed

@@ -85,8 +85,8 @@ impl Model {
     }
 
     /// Inserts `count` empty rows at a row of the sheet at an index. Rows are counted from 1. Its
-    /// cells, links and row attributes go where their rows go, and the formulas of all sheets
-    /// follow.
+    /// cells, links and row attributes go where their rows go, its merges and conditional rules
+    /// follow, and the formulas of all sheets do.
     ///
     /// The errors are those of `plan_insert`, and `NoMemory`. After one the model is as before.
     pub fn insert_rows(&mut self, sheet: u32, row: i32, count: i32) -> Result<(), EditError>
@@ -97,9 +97,9 @@ impl Model {
     }
 
     /// Inserts `count` empty columns at a column of the sheet at an index. Columns are counted from
-    /// 1. Its cells, links and column attributes go where their columns go, and the formulas of all
-    /// sheets follow. The new columns have the attributes of the columns before and behind them
-    /// where these are equal, else none.
+    /// 1. Its cells, links and column attributes go where their columns go, its merges and
+    /// conditional rules follow, and the formulas of all sheets do. The new columns have the
+    /// attributes of the columns before and behind them where these are equal, else none.
     ///
     /// The errors are those of `plan_insert`, and `NoMemory`. After one the model is as before.
     pub fn insert_columns(&mut self, sheet: u32, column: i32, count: i32) -> Result<(), EditError>
@@ -110,7 +110,8 @@ impl Model {
     }
 
     /// Deletes `count` rows from a row on of the sheet at an index. The cells, links and row
-    /// attributes of the rows behind go back, and the formulas of all sheets follow.
+    /// attributes of the rows behind go back, the merges and conditional rules of the sheet follow,
+    /// and the formulas of all sheets do.
     ///
     /// The errors are those of `plan_delete`, and `NoMemory`. After one the model is as before.
     pub fn delete_rows(&mut self, sheet: u32, row: i32, count: i32) -> Result<(), EditError>
@@ -121,7 +122,8 @@ impl Model {
     }
 
     /// Deletes `count` columns from a column on of the sheet at an index. The cells, links and
-    /// column attributes of the columns behind go back, and the formulas of all sheets follow.
+    /// column attributes of the columns behind go back, the merges and conditional rules of the sheet
+    /// follow, and the formulas of all sheets do.
     ///
     /// The errors are those of `plan_delete`, and `NoMemory`. After one the model is as before.
     pub fn delete_columns(&mut self, sheet: u32, column: i32, count: i32) -> Result<(), EditError>
@@ -133,8 +135,9 @@ impl Model {
 
     /// Moves `count` rows from a row on of the sheet at an index on by `delta` rows, or back where
     /// it is below 0. The rows that they pass go by `count` the other way. Cells, links and row
-    /// attributes go where their rows go, and the formulas of all sheets follow. Nothing is done,
-    /// and nothing refused, where `delta` is 0 or `count` is below 1.
+    /// attributes go where their rows go, the merges and conditional rules of the sheet follow, and
+    /// the formulas of all sheets do. Nothing is done, and nothing refused, where `delta` is 0 or
+    /// `count` is below 1.
     ///
     /// The errors are those of `plan_move`, and `NoMemory`. After one the model is as before.
     pub fn move_rows_action(
@@ -151,8 +154,9 @@ impl Model {
 
     /// Moves `count` columns from a column on of the sheet at an index on by `delta` columns, or
     /// back where it is below 0. The columns that they pass go by `count` the other way. Cells,
-    /// links and column attributes go where their columns go, and the formulas of all sheets
-    /// follow. Nothing is done, and nothing refused, where `delta` is 0 or `count` is below 1.
+    /// links and column attributes go where their columns go, the merges and conditional rules of
+    /// the sheet follow, and the formulas of all sheets do. Nothing is done, and nothing refused,
+    /// where `delta` is 0 or `count` is below 1.
     ///
     /// The errors are those of `plan_move`, and `NoMemory`. After one the model is as before.
     pub fn move_columns_action(

@@ -15,6 +15,7 @@ use Rattle.base_styles.specs.declared.Color.{Color}
 use Rattle.base_styles.specs.declared.Color.TheVariants.{None as NoColor}
 use Rattle.base_styles.specs.declared.Style.{Style}
 use Rattle.base_styles.specs.DefaultStyle.{default_style}
+use Rattle.format_rules.specs.declared.ConditionalFormatting.{ConditionalFormatting}
 use Rattle.sheet_grid.specs.declared.state.SheetState.{SheetState}
 use Rattle.sheet_grid.specs.declared.state.SheetState.TheVariants.{Visible}
 use Rattle.cell_content.specs.declared.Content.{Content}
@@ -39,6 +40,7 @@ pub record Sheet : Type 0 where
   pub rows : FinMap int_cmp LineAttr
   pub columns : FinMap int_cmp LineAttr
   pub merges : List MergedCell
+  pub formattings : List ConditionalFormatting
 
 -- a visible sheet with grid lines and nothing else
 abbrev pub new_sheet : ℕ → List ℕ → Sheet
@@ -55,6 +57,7 @@ new_sheet id name = record {
   rows = fin.empty;
   columns = fin.empty;
   merges = [];
+  formattings = [];
 }
 
 -- the cell at a row and a column, or the first of them that is outside

@@ -1,8 +1,8 @@
 //! Sheets and workbooks.
 //!
 //! The layers above see a sheet as a record of its fields, of finite maps of its cells, links, rows
-//! and columns, and of the list of its merges, and a workbook as a record of its fields and of the list of its sheets. A
-//! setter changes the named entry and nothing else.
+//! and columns, and of the lists of its merges and of its conditional rules, and a workbook as a record of its fields and
+//! of the list of its sheets. A setter changes the named entry and nothing else.
 #![tactic(auto)]
 
 mod arrays;

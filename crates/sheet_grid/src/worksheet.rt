@@ -14,6 +14,7 @@ ghost use Rattle.cell_content.specs.declared.Content.TheVariants.{Empty, Number,
 
 mod entries;
 mod fields;
+mod formattings;
 mod line_styles;
 mod lines;
 mod merges;
@@ -33,13 +34,14 @@ use base_styles::{Color, Style};
 use base_tables::Error;
 use base_values::{EditError, Exact, PlaceMap, Position, Text, copy_of, place_of};
 use cell_content::Content;
+use format_rules::RuleList;
 use formula_tree::Node;
 use std::alloc::{AllocError, Global};
 use std::collections::btree_map::Iter;
 use std::marker::Model;
 
-/// One sheet of a workbook. Its numbers, those of its formulas too, have at most 15 digits on each
-/// side of the point, and no zero digit at the end of their places.
+/// One sheet of a workbook. Its numbers, those of its formulas and its conditional rules too, have at
+/// most 15 digits on each side of the point, and no zero digit at the end of their places.
 #[derive(PartialEq, Eq, Drop)]
 pub struct Worksheet {
     id: u32,
@@ -54,6 +56,7 @@ pub struct Worksheet {
     rows: AxisMap<RowAxis, LineAttr>,
     columns: AxisMap<ColumnAxis, LineAttr>,
     merges: MergeList,
+    formattings: RuleList,
 }
 
 impl Model for Worksheet {
@@ -80,6 +83,7 @@ impl Model for Worksheet {
       rows = s.rows;
       columns = s.columns;
       merges = s.merges;
+      formattings = s.formattings;
     } };
 
     ghost inverse = { λ s. record {
@@ -95,6 +99,7 @@ impl Model for Worksheet {
       rows = s.rows;
       columns = s.columns;
       merges = s.merges;
+      formattings = s.formattings;
     } };
 }
 
@@ -123,6 +128,7 @@ impl Worksheet {
             rows: AxisMap::new(alloc),
             columns: AxisMap::new(alloc),
             merges: MergeList::empty(alloc),
+            formattings: RuleList::empty(alloc),
         }
     }
 
@@ -470,6 +476,7 @@ impl Clone for Worksheet {
             rows: self.rows.clone()?,
             columns: self.columns.clone()?,
             merges: self.merges.clone()?,
+            formattings: self.formattings.clone()?,
         })
     }
 }

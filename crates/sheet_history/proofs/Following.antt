@@ -3,7 +3,7 @@ use Rattle.std.proofs.Common.{◌≡◌, ◌∙◌, ◌||◌, ℕ, Bool, false, 
 use Rattle.std.specs.List.{list_any}
 use Rattle.std.proofs.lemmas.Grind.{reverse_onto}
 use Rattle.sheet_history.specs.declared.diff.Diff.{Diff}
-use Rattle.sheet_history.specs.declared.diff.Diff.TheVariants.{Cell as CellDiff, Link as LinkDiff, Merges as MergesDiff, Field as FieldDiff, Lines as LinesDiff, NewSheet as NewDiff, DuplicateSheet as CopyDiff, DeleteSheet as DeletionDiff, MoveSheet as MoveDiff, RenameSheet as RenameDiff, ChangeName as NameDiff, Attributes as AttrDiff, Setting as SettingDiff}
+use Rattle.sheet_history.specs.declared.diff.Diff.TheVariants.{Cell as CellDiff, Link as LinkDiff, Merges as MergesDiff, Field as FieldDiff, Lines as LinesDiff, NewSheet as NewDiff, DuplicateSheet as CopyDiff, DeleteSheet as DeletionDiff, MoveSheet as MoveDiff, RenameSheet as RenameDiff, ChangeName as NameDiff, Rule as RuleDiff, Attributes as AttrDiff, Setting as SettingDiff}
 use Rattle.sheet_history.specs.declared.diff.DiffType.{DiffType}
 use Rattle.sheet_history.specs.declared.diff.DiffType.TheVariants.{Undo, Redo}
 use Rattle.sheet_history.specs.declared.selection.ListStep.{ListStep}
@@ -16,6 +16,7 @@ forward_stays (LinkDiff _ _ _ _) ids selected stays = refl
 forward_stays (MergesDiff _ _ _) ids selected stays = refl
 forward_stays (FieldDiff _ _) ids selected stays = refl
 forward_stays (AttrDiff _ _ _ _ _) ids selected stays = refl
+forward_stays (RuleDiff _ _) ids selected stays = refl
 forward_stays (LinesDiff _ _ _ _) ids selected stays = refl
 forward_stays (NewDiff _ _ _) ids selected stays = refl
 forward_stays (CopyDiff _ _ _ _) ids selected stays = refl
@@ -31,6 +32,7 @@ back_stays (LinkDiff _ _ _ _) ids selected stays = refl
 back_stays (MergesDiff _ _ _) ids selected stays = refl
 back_stays (FieldDiff _ _) ids selected stays = refl
 back_stays (AttrDiff _ _ _ _ _) ids selected stays = refl
+back_stays (RuleDiff _ _) ids selected stays = refl
 back_stays (LinesDiff _ _ _ _) ids selected stays = refl
 back_stays (NewDiff _ _ _) ids selected stays = refl
 back_stays (CopyDiff _ _ _ _) ids selected stays = refl

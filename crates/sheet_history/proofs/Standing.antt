@@ -1,8 +1,11 @@
 -- What the tests of a diff of lines say of what is kept.
 use Rattle.std.proofs.Common.{◌≡◌, ℕ, Bool, true, ◌&&◌, List, [], ◌∷◌, Option, Some, None, refl}
 use Rattle.std.specs.Prelude.{IfSome}
+use Rattle.std.specs.Ordering.{nat_cmp}
+use Rattle.std.specs.Cmp.{nat_cmp_total}
 use Rattle.std.specs.List.{list_all}
-use Rattle.std.specs.FinMap.{entries}
+use Rattle.std.specs.FinMap.{FinMap, entries, get}
+use Rattle.std.proofs.lemmas.Map.Lookups.{exact_unsigned}
 use Rattle.base_values.specs.declared.Position.{Position}
 use Rattle.base_values.specs.Places.{is_line, position_cmp}
 use Rattle.base_values.specs.laws.Places.{position_total, exact_positions}
@@ -13,8 +16,13 @@ use Rattle.base_maps.specs.SheetPlaces.{sheet_place_cmp}
 use Rattle.base_maps.specs.laws.SheetPlaces.{sheet_place_total, exact_sheet_places}
 use Rattle.formula_tree.specs.declared.Node.{Node}
 use Rattle.cell_content.specs.Fitting.{fits_at, tree_fits_at}
+use Rattle.format_rules.specs.declared.ConditionalFormatting.{ConditionalFormatting}
+use Rattle.format_rules.specs.Fitting.{StandsInside, has_parts, has_fitting_trees}
+use Rattle.format_rules.specs.laws.FittingLaws.{stands_inside}
 use Rattle.line_edits.specs.declared.EditKind.{EditKind}
 use Rattle.line_map.specs.Merges.{MergesLie}
+use Rattle.rule_edits.specs.RuleChanges as rule_changes
+use Rattle.rule_lines.specs.Canonical.{KeptLie}
 use Rattle.sheet_grid.specs.declared.Cell.{Cell}
 use Rattle.sheet_grid.specs.Book.{Book}
 use Rattle.sheet_grid.specs.Sheet.{Sheet}
@@ -26,7 +34,7 @@ use Rattle.sheet_lines.specs.Back.{LieInside, ArePlacedLines}
 use Rattle.sheet_lines.specs.Sheets.{sheet_of}
 use Rattle.book_sheets.specs.SheetDiffs.{cells_fit}
 use Rattle.book_sheets.specs.laws.Placed.{placed_cell, placed_tree, merges_lie}
-use Rattle.sheet_history.specs.LineDiffs.{stand_on_lost, merges_inside, lie_inside, tree_stands, formulas_stand}
+use Rattle.sheet_history.specs.LineDiffs.{stand_on_lost, merges_inside, lie_inside, tree_stands, formulas_stand, each_stands}
 use Rattle.sheet_history.specs.laws.Entries.{entry_holds}
 
 first_tests : {X : Type 0} (f g : X → Bool) (xs : List X) → list_all (λ x. f x && g x) xs ≡ true → list_all f xs ≡ true
@@ -46,7 +54,7 @@ inside_of_lost a e kept all inside =
       cells = places_from_test kept.cells (first_tests (λ e. is_place e.0) _ (entries kept.cells) places.0);
       links = places_from_test kept.links (first_tests (λ e. is_place e.0) _ (entries kept.links) places.1);
       lines = lines_from_test a.last kept.lines (first_tests (λ e. is_line a.last e.0) _ (entries kept.lines) (both _ _ (both _ _ all).1).0);
-      merges = kept_merges_lie kept.merges (both _ _ inside).1;
+      merges = kept_merges_lie kept.merges (both _ _ (both _ _ inside).0).1;
     }
 
 tree_fits : (a : Along) (e : EditKind) (id : ℕ) (o : Option Sheet) (place : Position) (tree : Node) → tree_stands a e id o place tree ≡ true → tree_fits_at place tree ≡ true
@@ -54,11 +62,24 @@ unfolding tree_stands
 tree_fits a e id None place tree stands = absurd (cc)
 tree_fits a e id (Some sheet) place tree stands = (both _ _ stands).0
 
+-- kept conditional rules that may stand lie inside the sheet
+pub rules_lie_where_stand : (formattings : FinMap nat_cmp ConditionalFormatting) → each_stands formattings ≡ true → KeptLie formattings
+rules_lie_where_stand formattings all place = go (get formattings place) refl
+  where
+    go : (o : Option ConditionalFormatting) → get formattings place ≡ o → IfSome o StandsInside
+    go None found = tt
+    go (Some formatting) found =
+        let stands = entry_holds nat_cmp nat_cmp_total exact_unsigned (λ (entry : ℕ × ConditionalFormatting). rule_changes.may_stand entry.1) formattings all place formatting found in
+        let parts = both (has_parts formatting) (has_fitting_trees formatting) stands in
+        stands_inside formatting parts.0 parts.1
+
 -- the trees of what may stand are placed
-pub placed_where_stands : (a : Along) (e : EditKind) (id : ℕ) (kept : KeptLines) (book : Book) → cells_fit kept.cells ≡ true → formulas_stand a e id kept.formulas book ≡ true → ArePlacedLines kept
+pub placed_where_stands : (a : Along) (e : EditKind) (id : ℕ) (kept : KeptLines) (book : Book) → cells_fit kept.cells ≡ true → formulas_stand a e id kept.formulas book ≡ true
+    → KeptLie kept.formattings → ArePlacedLines kept
 unfolding cells_fit formulas_stand
-placed_where_stands a e id kept book fit stand = record {
+placed_where_stands a e id kept book fit stand lie = record {
   cells = λ place cell found. placed_cell place cell (entry_holds position_cmp position_total exact_positions (λ (entry : Position × Cell). fits_at entry.0 entry.1.content) kept.cells fit place cell found);
   formulas = λ key tree found. placed_tree key.place tree (tree_fits a e id (sheet_of book key.sheet) key.place tree
       (entry_holds sheet_place_cmp sheet_place_total exact_sheet_places (λ (entry : SheetPlace × Node). tree_stands a e id (sheet_of book entry.0.sheet) entry.0.place entry.1) kept.formulas stand key tree found));
+  formattings = lie;
 }

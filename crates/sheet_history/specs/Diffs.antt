@@ -14,8 +14,9 @@ use Rattle.book_names.specs.Renaming.{AreCanonicalTrees}
 use Rattle.book_names.specs.RenameDiffs.{rename_forward, rename_back}
 use Rattle.name_edits.specs.NameChanges.{IsCanonicalChange}
 use Rattle.name_edits.specs.NameDiffs.{name_forward, name_back}
+use Rattle.rule_edits.specs.RuleChanges as rule_changes
 use Rattle.sheet_history.specs.declared.diff.Diff.{Diff}
-use Rattle.sheet_history.specs.declared.diff.Diff.TheVariants.{Cell as CellDiff, Link as LinkDiff, Merges as MergesDiff, Field as FieldDiff, Lines as LinesDiff, NewSheet as NewDiff, DuplicateSheet as CopyDiff, DeleteSheet as DeletionDiff, MoveSheet as MoveDiff, RenameSheet as RenameDiff, ChangeName as NameDiff, Attributes as AttrDiff, Setting as SettingDiff}
+use Rattle.sheet_history.specs.declared.diff.Diff.TheVariants.{Cell as CellDiff, Link as LinkDiff, Merges as MergesDiff, Field as FieldDiff, Lines as LinesDiff, NewSheet as NewDiff, DuplicateSheet as CopyDiff, DeleteSheet as DeletionDiff, MoveSheet as MoveDiff, RenameSheet as RenameDiff, ChangeName as NameDiff, Rule as RuleDiff, Attributes as AttrDiff, Setting as SettingDiff}
 use Rattle.sheet_history.specs.declared.diff.DiffType.{DiffType}
 use Rattle.sheet_history.specs.declared.diff.DiffType.TheVariants.{Undo, Redo}
 use Rattle.sheet_history.specs.declared.diff.QueueDiffs.{QueueDiffs}
@@ -24,6 +25,7 @@ use Rattle.sheet_history.specs.Entries.EntryKey.{CellKey, LinkKey, MergesKey, Fi
 use Rattle.sheet_history.specs.Entries.EntryValue.{CellValue, LinkValue, MergesValue, FieldValue, AttrValue}
 use Rattle.sheet_history.specs.Fields.{old_of, new_of, changed_field}
 use Rattle.sheet_history.specs.LineDiffs.{along_of, lines_forward, lines_back}
+use Rattle.sheet_history.specs.RuleDiffs.{rule_put}
 use Rattle.sheet_history.specs.Settings.{with_setting, new_setting, old_setting}
 
 -- the sheet with a value at a key. Where it may not stand there, the diff of that number is refused
@@ -34,14 +36,15 @@ sheet_put at key value sheet = if value_fits key value then Ok (with_sheet_entry
 unfoldable pub put_in : ℕ → Book → EntryKey → EntryValue → Result Book EditError
 put_in at book key value = if accepts book key value then Ok (put_entry book key value) else Err (DiffRefused 0 at)
 
--- forward puts the new value, edits the lines, makes the change of the list of sheets or of the defined names, renames a sheet, or makes a
--- setting
+-- forward puts the new value, makes the change of the conditional rules of a sheet, edits the lines, makes the change of the list of sheets or of
+-- the defined names, renames a sheet, or makes a setting
 abbrev pub step_forward : ℕ → Book → Diff → Result Book EditError
 step_forward at book (CellDiff sheet place old new) = put_in at book (CellKey sheet place) (CellValue new)
 step_forward at book (LinkDiff sheet place old new) = put_in at book (LinkKey sheet place) (LinkValue new)
 step_forward at book (MergesDiff sheet old new) = put_in at book (MergesKey sheet) (MergesValue new)
 step_forward at book (FieldDiff sheet change) = put_in at book (FieldKey sheet (changed_field change)) (FieldValue (new_of change))
 step_forward at book (AttrDiff sheet axis line old new) = put_in at book (AttrKey sheet axis line) (AttrValue new)
+step_forward at book (RuleDiff sheet change) = rule_put at sheet change book
 step_forward at book (LinesDiff sheet axis edit kept) = lines_forward at (along_of axis) sheet edit kept book
 step_forward at book (NewDiff sheet index name) = new_forward at sheet index name book
 step_forward at book (CopyDiff source sheet index name) = copy_forward at source sheet index name book
@@ -51,7 +54,7 @@ step_forward at book (RenameDiff sheet old new kept) = rename_forward at sheet o
 step_forward at book (NameDiff change kept) = name_forward at change kept book
 step_forward at book (SettingDiff change) = Ok (with_setting (new_setting change) book)
 
--- back puts the old value, takes the lines back, or the change of the list of sheets or of the defined names, or gives a sheet its old name or
+-- back puts the old value, makes the opposite change of the conditional rules, takes the lines back, or the change of the list of sheets or of the defined names, or gives a sheet its old name or
 -- the workbook its old setting back
 abbrev pub step_back : ℕ → Book → Diff → Result Book EditError
 step_back at book (CellDiff sheet place old new) = put_in at book (CellKey sheet place) (CellValue old)
@@ -59,6 +62,7 @@ step_back at book (LinkDiff sheet place old new) = put_in at book (LinkKey sheet
 step_back at book (MergesDiff sheet old new) = put_in at book (MergesKey sheet) (MergesValue old)
 step_back at book (FieldDiff sheet change) = put_in at book (FieldKey sheet (changed_field change)) (FieldValue (old_of change))
 step_back at book (AttrDiff sheet axis line old new) = put_in at book (AttrKey sheet axis line) (AttrValue old)
+step_back at book (RuleDiff sheet change) = rule_put at sheet (rule_changes.opposite change) book
 step_back at book (LinesDiff sheet axis edit kept) = lines_back at (along_of axis) sheet edit kept book
 step_back at book (NewDiff sheet index name) = new_back at sheet book
 step_back at book (CopyDiff source sheet index name) = copy_back at sheet book
@@ -133,6 +137,7 @@ IsCanonicalDiff (LinkDiff sheet place old new) = Unit {0}
 IsCanonicalDiff (MergesDiff sheet old new) = Unit {0}
 IsCanonicalDiff (FieldDiff sheet change) = Unit {0}
 IsCanonicalDiff (AttrDiff sheet axis line old new) = Unit {0}
+IsCanonicalDiff (RuleDiff sheet change) = rule_changes.IsCanonicalChange change
 IsCanonicalDiff (LinesDiff sheet axis edit kept) = AreCanonicalLines kept
 IsCanonicalDiff (NewDiff sheet index name) = Unit {0}
 IsCanonicalDiff (CopyDiff source sheet index name) = Unit {0}

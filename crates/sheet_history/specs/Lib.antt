@@ -2,6 +2,7 @@ pub mod Entries
 pub mod Fields
 pub mod LineDiffs
 pub mod Settings
+pub mod RuleDiffs
 pub mod Diffs
 pub mod Untested
 pub mod Stacks

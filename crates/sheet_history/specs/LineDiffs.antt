@@ -1,7 +1,8 @@
 -- When a diff of lines is made, and when it is taken back.
 use Rattle.std.proofs.Common.{ℕ, ℤ, ◌+ℤ◌, Bool, true, false, List, Option, Some, None, Result, Ok, Err}
-use Rattle.std.specs.Prelude.{not, ◌&&◌, ◌==◌, is_none, int_le, int_lt, if◌then◌else◌}
+use Rattle.std.specs.Prelude.{not, ◌&&◌, ◌==◌, is_none, int_le, int_lt, length, if◌then◌else◌}
 use Rattle.std.specs.List.{list_all}
+use Rattle.std.specs.Ordering.{nat_cmp}
 use Rattle.std.specs.declared.cmp.Ordering.{Ordering}
 use Rattle.std.specs.FinMap.{FinMap, entries, get}
 use Rattle.base_values.specs.declared.EditError.{EditError}
@@ -15,6 +16,8 @@ use Rattle.base_maps.specs.declared.SheetPlace.{SheetPlace}
 use Rattle.base_maps.specs.SheetPlaces.{sheet_place_cmp}
 use Rattle.formula_tree.specs.declared.Node.{Node}
 use Rattle.cell_content.specs.Fitting.{tree_fits_at}
+use Rattle.format_rules.specs.declared.ConditionalFormatting.{ConditionalFormatting}
+use Rattle.format_rules.specs.Fitting.{has_parts}
 use Rattle.line_edits.specs.declared.EditKind.{EditKind}
 use Rattle.line_edits.specs.declared.EditKind.TheVariants.{Insert, Delete, Move}
 use Rattle.line_edits.specs.Edit.{image_at, is_valid, opposite_of}
@@ -29,6 +32,8 @@ use Rattle.sheet_lines.specs.Sheets.{sheet_of}
 use Rattle.sheet_lines.specs.Followed.{book_followed}
 use Rattle.sheet_lines.specs.Back.{book_back}
 use Rattle.book_sheets.specs.SheetDiffs.{lies_inside, cells_fit}
+use Rattle.rule_edits.specs.RuleChanges as rule_changes
+use Rattle.rule_lines.specs.Rules.{are_there}
 pub use Rattle.book_names.specs.RenameDiffs.{is_formula}
 use Rattle.sheet_history.specs.declared.diff.LineAxis.{LineAxis}
 use Rattle.sheet_history.specs.declared.diff.LineAxis.TheVariants.{Rows, Columns}
@@ -74,9 +79,14 @@ abbrev pub merges_inside : Option (List MergedCell) → Bool
 merges_inside None = true
 merges_inside (Some merges) = list_all is_inside merges
 
--- each kept cell that is an array lies inside the sheet, and so does each kept merge
+-- each kept conditional rule has a part, and its parts lie inside the sheet
+abbrev pub parts_inside : FinMap nat_cmp ConditionalFormatting → Bool
+parts_inside formattings = list_all (λ (entry : ℕ × ConditionalFormatting). has_parts entry.1) (entries formattings)
+
+-- each kept cell that is an array lies inside the sheet, and so do each kept merge and the parts of each kept conditional rule
 unfoldable pub lie_inside : KeptLines → Bool
-lie_inside kept = list_all (λ (entry : Position × Cell). lies_inside (array_at entry.0 entry.1.content)) (entries kept.cells) && merges_inside kept.merges
+lie_inside kept =
+    list_all (λ (entry : Position × Cell). lies_inside (array_at entry.0 entry.1.content)) (entries kept.cells) && merges_inside kept.merges && parts_inside kept.formattings
 
 -- whether a place is there, and at it a formula
 abbrev pub is_formula_at : FinMap position_cmp Cell → Option Position → Bool
@@ -96,6 +106,19 @@ tree_stands a e id (Some sheet) place tree = tree_fits_at place tree && is_formu
 unfoldable pub formulas_stand : Along → EditKind → ℕ → FinMap sheet_place_cmp Node → Book → Bool
 formulas_stand a e id formulas book = list_all (λ (entry : SheetPlace × Node). tree_stands a e id (sheet_of book entry.0.sheet) entry.0.place entry.1) (entries formulas)
 
+-- each kept conditional rule may stand on a sheet
+abbrev pub each_stands : FinMap nat_cmp ConditionalFormatting → Bool
+each_stands formattings = list_all (λ (entry : ℕ × ConditionalFormatting). rule_changes.may_stand entry.1) (entries formattings)
+
+-- the sheet is there, and each has the place of one of its rules
+unfoldable pub formattings_stand : FinMap nat_cmp ConditionalFormatting → Option Sheet → Bool
+formattings_stand formattings None = false
+formattings_stand formattings (Some sheet) = are_there formattings (length sheet.formattings) && each_stands formattings
+
+-- what is kept may stand where it stood
+abbrev pub may_stand : Along → ℕ → EditKind → KeptLines → Book → Bool
+may_stand a id e kept book = cells_fit kept.cells && formulas_stand a e id kept.formulas book && formattings_stand kept.formattings (sheet_of book id)
+
 -- whether an edit of the sheet of an id can be made
 abbrev pub goes_forward : Along → ℕ → EditKind → KeptLines → Book → Bool
 goes_forward a id e kept book = is_valid a.last e && is_there_inside a e (sheet_of book id) && (stand_on_lost a e kept && lie_inside kept)
@@ -103,7 +126,7 @@ goes_forward a id e kept book = is_valid a.last e && is_there_inside a e (sheet_
 -- whether it can be taken back
 abbrev pub goes_back : Along → ℕ → EditKind → KeptLines → Book → Bool
 goes_back a id e kept book =
-    is_valid a.last e && is_there_inside a (opposite_of e) (sheet_of book id) && (stand_on_lost a e kept && lie_inside kept) && (cells_fit kept.cells && formulas_stand a e id kept.formulas book)
+    is_valid a.last e && is_there_inside a (opposite_of e) (sheet_of book id) && (stand_on_lost a e kept && lie_inside kept) && may_stand a id e kept book
 
 -- the workbook with the edit made, or the diff of that number is refused
 unfoldable pub lines_forward : ℕ → Along → ℕ → EditKind → KeptLines → Book → Result Book EditError

@@ -3,7 +3,7 @@ use Rattle.std.specs.Prelude.{ℕ, ◌==◌, Bool, true, false, List, [], ◌∷
 use Rattle.std.specs.List.{insert, list_any, remove}
 use Rattle.sheet_views.specs.Moved.{selected_sheet_after_move}
 use Rattle.sheet_history.specs.declared.diff.Diff.{Diff}
-use Rattle.sheet_history.specs.declared.diff.Diff.TheVariants.{Cell as CellDiff, Link as LinkDiff, Merges as MergesDiff, Field as FieldDiff, Lines as LinesDiff, NewSheet as NewDiff, DuplicateSheet as CopyDiff, DeleteSheet as DeletionDiff, MoveSheet as MoveDiff, RenameSheet as RenameDiff, ChangeName as NameDiff, Attributes as AttrDiff, Setting as SettingDiff}
+use Rattle.sheet_history.specs.declared.diff.Diff.TheVariants.{Cell as CellDiff, Link as LinkDiff, Merges as MergesDiff, Field as FieldDiff, Lines as LinesDiff, NewSheet as NewDiff, DuplicateSheet as CopyDiff, DeleteSheet as DeletionDiff, MoveSheet as MoveDiff, RenameSheet as RenameDiff, ChangeName as NameDiff, Rule as RuleDiff, Attributes as AttrDiff, Setting as SettingDiff}
 use Rattle.sheet_history.specs.declared.diff.DiffType.{DiffType}
 use Rattle.sheet_history.specs.declared.diff.DiffType.TheVariants.{Undo, Redo}
 use Rattle.sheet_history.specs.declared.selection.ListStep.{ListStep}
@@ -18,6 +18,7 @@ forward_step (LinkDiff sheet place old new) = Stays
 forward_step (MergesDiff sheet old new) = Stays
 forward_step (FieldDiff sheet change) = Stays
 forward_step (AttrDiff sheet axis line old new) = Stays
+forward_step (RuleDiff sheet change) = Stays
 forward_step (LinesDiff sheet axis edit kept) = Stays
 forward_step (NewDiff sheet index name) = Comes sheet index
 forward_step (CopyDiff source sheet index name) = Comes sheet index
@@ -34,6 +35,7 @@ back_step (LinkDiff sheet place old new) = Stays
 back_step (MergesDiff sheet old new) = Stays
 back_step (FieldDiff sheet change) = Stays
 back_step (AttrDiff sheet axis line old new) = Stays
+back_step (RuleDiff sheet change) = Stays
 back_step (LinesDiff sheet axis edit kept) = Stays
 back_step (NewDiff sheet index name) = Goes sheet
 back_step (CopyDiff source sheet index name) = Goes sheet
@@ -97,6 +99,7 @@ is_move (LinkDiff sheet place old new) = false
 is_move (MergesDiff sheet old new) = false
 is_move (FieldDiff sheet change) = false
 is_move (AttrDiff sheet axis line old new) = false
+is_move (RuleDiff sheet change) = false
 is_move (LinesDiff sheet axis edit kept) = false
 is_move (NewDiff sheet index name) = false
 is_move (CopyDiff source sheet index name) = false

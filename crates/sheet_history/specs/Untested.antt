@@ -12,7 +12,7 @@ use Rattle.sheet_lines.specs.Sheets.{sheet_of}
 use Rattle.sheet_history.specs.declared.diff.DiffType.{DiffType}
 use Rattle.sheet_history.specs.declared.diff.DiffType.TheVariants.{Undo, Redo}
 use Rattle.sheet_history.specs.declared.diff.Diff.{Diff}
-use Rattle.sheet_history.specs.declared.diff.Diff.TheVariants.{Cell as CellDiff, Link as LinkDiff, Merges as MergesDiff, Field as FieldDiff, Lines as LinesDiff, NewSheet as NewDiff, DuplicateSheet as CopyDiff, DeleteSheet as DeletionDiff, MoveSheet as MoveDiff, RenameSheet as RenameDiff, ChangeName as NameDiff, Attributes as AttrDiff, Setting as SettingDiff}
+use Rattle.sheet_history.specs.declared.diff.Diff.TheVariants.{Cell as CellDiff, Link as LinkDiff, Merges as MergesDiff, Field as FieldDiff, Lines as LinesDiff, NewSheet as NewDiff, DuplicateSheet as CopyDiff, DeleteSheet as DeletionDiff, MoveSheet as MoveDiff, RenameSheet as RenameDiff, ChangeName as NameDiff, Rule as RuleDiff, Attributes as AttrDiff, Setting as SettingDiff}
 use Rattle.sheet_history.specs.declared.field.FieldChange.{FieldChange}
 use Rattle.sheet_history.specs.declared.field.SheetField.{SheetField}
 use Rattle.sheet_history.specs.Fields.{may_have, new_of, old_of}
@@ -53,6 +53,7 @@ diff_keeps_rules kind book (LinkDiff id place old new) = true
 diff_keeps_rules kind book (MergesDiff id old new) = false
 diff_keeps_rules kind book (FieldDiff id change) = may_have (field_put_by kind change)
 diff_keeps_rules kind book (AttrDiff id axis line old new) = false
+diff_keeps_rules kind book (RuleDiff id change) = false
 diff_keeps_rules kind book (LinesDiff id axis edit kept) = false
 diff_keeps_rules kind book (NewDiff id index name) = false
 diff_keeps_rules kind book (CopyDiff source id index name) = false

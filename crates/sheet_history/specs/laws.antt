@@ -16,7 +16,9 @@ pub mod BothWays
 pub mod OneEntry
 pub mod ReplayLaws
 pub mod RuleLaws
+pub mod StandingRules
 pub mod SettingLaws
+pub mod RuleDiffLaws
 pub mod TestedLaws
 pub mod SoundEntries
 pub mod HistoryEquals

@@ -11,6 +11,7 @@ ghost use Rattle.sheet_history.specs.Diffs.{IsCanonicalDiff, IsCanonicalList, bo
 use crate::diff::{Diff, DiffList, LineAxis};
 use crate::line_diffs::{lines_back, lines_forward};
 use crate::put::{put_attr, put_cell, put_field, put_link, put_merges};
+use crate::rule_diffs::{rule_back, rule_forward};
 use crate::setting::{setting_back, setting_forward};
 use base_axis::{ColumnAxis, RowAxis};
 use base_values::{EditError, copy_of};
@@ -107,6 +108,7 @@ fn make(alloc: Global, workbook: &mut Workbook, diff: &Diff, at: u64) -> Result<
             old: _,
             new,
         } => put_attr(workbook, *sheet, *axis, *line, new, at),
+        Diff::Rule { sheet, change } => rule_forward(alloc, workbook, *sheet, change.get(), at),
         Diff::Lines {
             sheet,
             axis,
@@ -172,6 +174,7 @@ fn take_back(alloc: Global, workbook: &mut Workbook, diff: &Diff, at: u64) -> Re
             old,
             new: _,
         } => put_attr(workbook, *sheet, *axis, *line, old, at),
+        Diff::Rule { sheet, change } => rule_back(alloc, workbook, *sheet, change.get(), at),
         Diff::Lines {
             sheet,
             axis,
@@ -245,8 +248,8 @@ fn by_rule(workbook: Workbook, at: u64) -> Result<Workbook, EditError>
 /// `DiffRefused` with entry 0 and the number of the first diff that cannot be made; where each can,
 /// but the result breaks a rule, with the number of diffs. A cell cannot be put where its sheet is
 /// not there, its position is outside, or it may not stand there. docs/MODEL.md says when lines can
-/// be inserted, deleted and moved, when a sheet can come, go, move and be renamed, and when a defined name
-/// can come, go and change.
+/// be inserted, deleted and moved, when a sheet can come, go, move and be renamed, and when a conditional
+/// rule and a defined name can come, go and change.
 pub fn forward(alloc: Global, workbook: &Workbook, list: &DiffList) -> Result<Workbook, EditError>
     requires canonical { IsCanonicalList list.now }
     requires rules { IsWellFormed workbook.now }

@@ -7,6 +7,7 @@ use book_names::KeptTrees;
 use book_sheets::KeptSheet;
 use line_map::EditKind;
 use name_edits::NameChange;
+use rule_edits::RuleChange;
 use sheet_grid::{Cell, LineAttr, Link};
 use sheet_lines::KeptLines;
 
@@ -52,6 +53,11 @@ pub enum Diff {
         line: i32,
         old: Option<LineAttr>,
         new: Option<LineAttr>,
+    },
+    /// A conditional rule of the sheet with that id that came, went or changed.
+    Rule {
+        sheet: u32,
+        change: Shared<RuleChange>,
     },
     /// Lines along an axis that were inserted in the sheet with that id, deleted from it or moved,
     /// and what the opposite edit does not give back.

@@ -12,6 +12,7 @@ mod history;
 mod laws;
 mod line_diffs;
 mod put;
+mod rule_diffs;
 mod selection;
 mod setting;
 

@@ -16,19 +16,22 @@ ghost use Rattle.sheet_lines.specs.Back.{ArePlacedLines, LieInside};
 ghost use Rattle.sheet_lines.specs.CanonicalNumbers.{AreCanonicalLines};
 ghost use Rattle.sheet_lines.specs.Sheets.{IsPlacedBook, sheet_of};
 ghost use Rattle.book_sheets.specs.SheetDiffs.{lies_inside, cells_fit};
+ghost use Rattle.rule_lines.specs.Canonical.{KeptLie};
 ghost use Rattle.sheet_history.specs.LineDiffs.{is_pushed_past, stays_inside, is_there_inside, is_lost_place, is_lost_line, all_keys};
-ghost use Rattle.sheet_history.specs.LineDiffs.{stand_on_lost, lie_inside, merges_inside, is_formula, is_formula_at, goes_on, tree_stands, formulas_stand};
+ghost use Rattle.sheet_history.specs.LineDiffs.{stand_on_lost, lie_inside, merges_inside, parts_inside, is_formula, is_formula_at, goes_on, tree_stands, formulas_stand, each_stands, formattings_stand, may_stand};
 ghost use Rattle.sheet_history.specs.LineDiffs.{goes_forward, goes_back, lines_forward, lines_back};
 
 use base_axis::{Axis, MergeList};
-use base_maps::{NumberMap, PositionMap, SheetPlaceMap};
+use base_maps::{IndexMap, NumberMap, PositionMap, SheetPlaceMap};
 use base_shared::Shared;
 use base_values::{EditError, PlaceMap, Position};
 use book_names::{is_formula, is_line, is_place};
 use book_sheets::{array_lies_inside, merges_lie_inside};
 use cell_content::{fits_at, tree_fits_at};
+use format_rules::{ConditionalFormatting, has_fitting_trees, has_parts};
 use formula_tree::Node;
 use line_map::{EditKind, LineEdit};
+use rule_lines::are_there;
 use sheet_grid::{Cell, Workbook, Worksheet};
 use sheet_lines::{KeptLines, followed_book, line_back, sheet_of};
 use std::alloc::Global;
@@ -141,12 +144,22 @@ fn merges_inside(merges: &Option<MergeList>) -> bool
     }
 }
 
-/// Whether each kept cell that is an array lies inside the sheet, and so does each kept merge.
+/// Whether each kept conditional rule has a part, and its parts lie inside the sheet.
+fn parts_inside(formattings: &IndexMap<ConditionalFormatting>) -> bool
+    ensures { result ≡ parts_inside formattings.now }
+{
+    formattings
+        .iter()
+        .all(|(_place, formatting)| has_parts(formatting))
+}
+
+/// Whether each kept cell that is an array lies inside the sheet, and so do each kept merge and the parts
+/// of each kept conditional rule.
 #[tactic(auto, unfolding(crate::specs::LineDiffs::lie_inside))]
 fn lie_inside(kept: &KeptLines) -> bool
     ensures { result ≡ lie_inside kept.now }
 {
-    arrays_inside(&kept.cells) && merges_inside(&kept.merges)
+    arrays_inside(&kept.cells) && merges_inside(&kept.merges) && parts_inside(&kept.formattings)
 }
 
 /// Both: what is kept lies inside the sheet.
@@ -276,12 +289,42 @@ fn is_there_inside_back<A: Axis>(edit: &LineEdit<A>, workbook: &Workbook, id: u3
     is_there_inside(&edit.opposite(), workbook, id)
 }
 
+/// Whether each kept conditional rule may stand on a sheet.
+fn each_stands(formattings: &IndexMap<ConditionalFormatting>) -> bool
+    ensures { result ≡ each_stands formattings.now }
+{
+    formattings.iter().all(|(_place, formatting)| has_parts(formatting)
+        && has_fitting_trees(formatting))
+}
+
+/// Whether the sheet of an id is there, and each kept conditional rule may stand on it in the place of one
+/// of its rules.
+#[tactic(auto, unfolding(crate::specs::LineDiffs::formattings_stand))]
+fn formattings_stand(
+    formattings: &IndexMap<ConditionalFormatting>,
+    workbook: &Workbook,
+    id: u32,
+) -> bool
+    ensures value { result ≡ formattings_stand formattings.now (sheet_of workbook.now id) }
+    ensures lie { IsTrue result → KeptLie formattings.now }
+{
+    match sheet_of(workbook, id) {
+        Some(sheet) => {
+            let count = sheet.conditional_formatting().as_slice().len() as u64;
+            are_there(formattings, count) && each_stands(formattings)
+        }
+        None => false,
+    }
+}
+
 /// Whether what is kept may stand where it stood.
 fn may_stand<A: Axis>(edit: &LineEdit<A>, id: u32, kept: &KeptLines, workbook: &Workbook) -> bool
-    ensures value { result ≡ (cells_fit kept.now.cells && formulas_stand A.along edit.now.kind id kept.now.formulas workbook.now) }
+    ensures value { result ≡ may_stand A.along id edit.now.kind kept.now workbook.now }
     ensures placed { IsTrue result → ArePlacedLines kept.now }
 {
-    cells_fit(&kept.cells) && formulas_stand(edit, id, &kept.formulas, workbook)
+    cells_fit(&kept.cells)
+        && formulas_stand(edit, id, &kept.formulas, workbook)
+        && formattings_stand(&kept.formattings, workbook, id)
 }
 
 fn goes_back<A: Axis>(edit: &LineEdit<A>, id: u32, kept: &KeptLines, workbook: &Workbook) -> bool

@@ -43,6 +43,7 @@ fn forward_step(diff: &Diff) -> ListStep
         Diff::Merges { .. } => ListStep::Stays,
         Diff::Field { .. } => ListStep::Stays,
         Diff::Attributes { .. } => ListStep::Stays,
+        Diff::Rule { .. } => ListStep::Stays,
         Diff::Lines { .. } => ListStep::Stays,
         Diff::NewSheet {
             sheet,
@@ -84,6 +85,7 @@ fn back_step(diff: &Diff) -> ListStep
         Diff::Merges { .. } => ListStep::Stays,
         Diff::Field { .. } => ListStep::Stays,
         Diff::Attributes { .. } => ListStep::Stays,
+        Diff::Rule { .. } => ListStep::Stays,
         Diff::Lines { .. } => ListStep::Stays,
         Diff::NewSheet { sheet, .. } => ListStep::Goes { sheet: *sheet },
         Diff::DuplicateSheet { sheet, .. } => ListStep::Goes { sheet: *sheet },

@@ -1,17 +1,21 @@
 -- A workbook taken back along a map on the lines of one of its sheets.
 use Rattle.std.specs.Prelude.{◌≡◌, ℕ, true, List, map, Option, Some, None, IfSome, if◌then◌else◌}
+use Rattle.std.specs.Ordering.{nat_cmp}
 use Rattle.std.specs.declared.cmp.Ordering.{Ordering}
 use Rattle.std.specs.FinMap.{FinMap, get}
 use Rattle.base_axis.specs.Along.{Along, rows, columns}
 use Rattle.base_axis.specs.declared.MergedCell.{MergedCell}
 use Rattle.base_maps.specs.Carried.{overlaid, settled}
 use Rattle.base_maps.specs.Tagged.{place_on}
+use Rattle.format_rules.specs.declared.ConditionalFormatting.{ConditionalFormatting}
 use Rattle.line_edits.specs.declared.EditKind.{EditKind}
 use Rattle.line_map.specs.Attributes.{lines_restored, LinesLie}
 use Rattle.line_map.specs.Contents.{cell_carried, cell_restored}
 use Rattle.line_map.specs.Maps.{places_carried, places_restored, KeysInside}
 use Rattle.line_map.specs.Merges.{merges_carried, MergesLie}
 use Rattle.line_map.specs.Way.{Way, back}
+use Rattle.rule_lines.specs.Canonical.{KeptLie}
+use Rattle.rule_lines.specs.Rules.{rules_restored}
 use Rattle.formula_tree.specs.declared.Node.{Node}
 use Rattle.formula_tree.specs.Placed.{is_placed}
 use Rattle.base_maps.specs.declared.SheetPlace.{SheetPlace}
@@ -32,8 +36,12 @@ with_lost w lost m = if w.is_edited then overlaid lost m else m
 abbrev pub merges_back : Way → Option (List MergedCell) → List MergedCell → List MergedCell
 merges_back w kept merges = settled (merges_carried (back w)) (λ _ list. list) (if w.is_edited then kept else None) merges
 
+-- the conditional rules of the edited sheet: each that was kept, and each other one carried back. On another sheet they stay
+abbrev pub formattings_back : Way → FinMap nat_cmp ConditionalFormatting → List ConditionalFormatting → List ConditionalFormatting
+formattings_back w kept rules = if w.is_edited then rules_restored w kept rules else rules
+
 -- a sheet taken back: its cells with the kept trees and the lost cells, its links with the lost ones, its rows and columns with what the
--- lost ones had, and its merges
+-- lost ones had, its merges and its conditional rules
 abbrev pub sheet_back : Way → KeptLines → Sheet → Sheet
 sheet_back w kept sheet = record sheet {
   cells = with_lost w kept.cells (places_restored cell_carried (λ _ cell tree. cell_restored cell tree) w
@@ -42,6 +50,7 @@ sheet_back w kept sheet = record sheet {
   rows = lines_restored rows w sheet.rows kept.lines;
   columns = lines_restored columns w sheet.columns kept.lines;
   merges = merges_back w kept.merges sheet.merges;
+  formattings = formattings_back w kept.formattings sheet.formattings;
 }
 
 -- a workbook taken back along an edit of the lines of the sheet of an id: every sheet is, and all else stays
@@ -61,7 +70,8 @@ pub record LieInside (a : Along) (kept : KeptLines) : Type 0 where
   pub lines : LinesLie a kept.lines
   pub merges : IfSome kept.merges MergesLie
 
--- the trees of what is kept may stand where they stood
+-- the trees of what is kept may stand where they stood, and the conditional rules stand inside the sheet
 pub record ArePlacedLines (kept : KeptLines) : Type 0 where
   pub cells : (place : Position) (cell : Cell) → get kept.cells place ≡ Some cell → IsPlacedCell place cell
   pub formulas : (key : SheetPlace) (tree : Node) → get kept.formulas key ≡ Some tree → is_placed key.place tree ≡ true
+  pub formattings : KeptLie kept.formattings

@@ -4,6 +4,7 @@ use Rattle.std.specs.declared.cmp.Ordering.{Ordering}
 use Rattle.std.specs.FinMap.{FinMap, get}
 use Rattle.formula_tree.specs.declared.Node.{Node}
 use Rattle.formula_tree.specs.Numbers.{has_canonical_numbers}
+use Rattle.rule_lines.specs.Canonical.{AreCanonicalKept}
 use Rattle.sheet_grid.specs.CanonicalCell.{CanonicalCells}
 use Rattle.sheet_lines.specs.declared.kept.KeptLines.{KeptLines}
 
@@ -14,3 +15,4 @@ AreCanonicalFormulas formulas = (place : _) → IfSome (get formulas place) (λ 
 pub record AreCanonicalLines (kept : KeptLines) : Type 0 where
   pub cells : CanonicalCells kept.cells
   pub formulas : AreCanonicalFormulas kept.formulas
+  pub formattings : AreCanonicalKept kept.formattings

@@ -10,6 +10,7 @@ use Rattle.line_map.specs.Maps.{places_carried}
 use Rattle.line_map.specs.Merges.{merges_carried}
 use Rattle.line_edits.specs.Moves.{LineMoves, edit_moves}
 use Rattle.line_map.specs.Way.{Way}
+use Rattle.rule_lines.specs.Rules.{rules_carried}
 use Rattle.sheet_grid.specs.contracts.line_attr.LineAttrPartialEq.TheImpl as attribute
 use Rattle.sheet_grid.specs.Sheet.{Sheet}
 use Rattle.sheet_grid.specs.Book.{Book}
@@ -32,7 +33,7 @@ way_of a m id edited sheet = record {
 abbrev pub way_of_edit : Along → EditKind → ℕ → Book → Sheet → Way
 way_of_edit a e id book sheet = way_of a (edit_moves a.last e) id (name_of (sheet_of book id)) sheet
 
--- a sheet's cells, links, rows, columns and merges, each where it goes
+-- a sheet's cells, links, rows, columns, merges and conditional rules, each where it goes
 abbrev pub sheet_followed : Way → Sheet → Sheet
 sheet_followed w sheet = record sheet {
   cells = places_carried cell_carried w sheet.cells;
@@ -40,6 +41,7 @@ sheet_followed w sheet = record sheet {
   rows = lines_carried rows attribute.ghosts.eq w sheet.rows;
   columns = lines_carried columns attribute.ghosts.eq w sheet.columns;
   merges = merges_carried w sheet.merges;
+  formattings = rules_carried w sheet.formattings;
 }
 
 -- how the map on the lines of an edited sheet meets a sheet

@@ -2,7 +2,7 @@
 use Rattle.std.specs.Prelude.{ℕ, ◌==◌, true, false, List, Option, Some, None, if◌then◌else◌}
 use Rattle.std.specs.List.{find}
 use Rattle.std.specs.Option.{option_map}
-use Rattle.std.specs.Ordering.{int_cmp}
+use Rattle.std.specs.Ordering.{int_cmp, nat_cmp}
 use Rattle.std.specs.declared.cmp.Ordering.{Ordering}
 use Rattle.std.specs.FinMap.{FinMap, empty}
 use Rattle.base_values.specs.Places.{position_cmp}
@@ -12,11 +12,13 @@ use Rattle.base_maps.specs.Carried.{if_there, lost_map}
 use Rattle.base_maps.specs.SheetPlaces.{sheet_place_cmp}
 use Rattle.base_maps.specs.Tagged.{all_under}
 use Rattle.formula_tree.specs.declared.Node.{Node}
+use Rattle.format_rules.specs.declared.ConditionalFormatting.{ConditionalFormatting}
 use Rattle.line_edits.specs.declared.EditKind.{EditKind}
 use Rattle.line_edits.specs.Moves.{LineMoves, edit_moves, place_image}
 use Rattle.line_map.specs.Contents.{cell_part}
 use Rattle.line_map.specs.Maps.{places_parts}
 use Rattle.line_map.specs.Merges.{merges_part}
+use Rattle.rule_lines.specs.Rules.{rules_kept}
 use Rattle.sheet_grid.specs.declared.Cell.{Cell}
 use Rattle.sheet_grid.specs.declared.LineAttr.{LineAttr}
 use Rattle.sheet_grid.specs.Sheet.{Sheet}
@@ -54,8 +56,12 @@ formulas_kept a m id edited sheets = all_under (λ sheet. sheet.id) (trees_kept 
 abbrev pub merges_kept : Along → LineMoves → ℕ → List ℕ → Option Sheet → Option (List MergedCell)
 merges_kept a m id edited found = if_there found (λ sheet. merges_part (way_of a m id edited sheet) sheet.merges)
 
--- the cells, the links and the attributes of the edited sheet's lines that go nowhere; the trees of the other formulas, and the merges,
--- that the way back does not give
+-- the conditional rules of the edited sheet that the way back does not give, whole and under their indexes
+abbrev pub formattings_kept : Along → LineMoves → ℕ → List ℕ → Option Sheet → FinMap nat_cmp ConditionalFormatting
+formattings_kept a m id edited found = of_sheet (λ sheet. rules_kept (way_of a m id edited sheet) sheet.formattings) found
+
+-- the cells, the links and the attributes of the edited sheet's lines that go nowhere; the trees of the other formulas, the merges and the
+-- conditional rules that the way back does not give
 abbrev pub lines_kept : Along → LineMoves → ℕ → Book → KeptLines
 lines_kept a m id book = record {
   cells = of_sheet (cells_lost a m) (sheet_of book id);
@@ -63,6 +69,7 @@ lines_kept a m id book = record {
   lines = of_sheet (λ sheet. lost_map m.to (lines_of a sheet)) (sheet_of book id);
   formulas = formulas_kept a m id (name_of (sheet_of book id)) book.worksheets;
   merges = merges_kept a m id (name_of (sheet_of book id)) (sheet_of book id);
+  formattings = formattings_kept a m id (name_of (sheet_of book id)) (sheet_of book id);
 }
 
 -- what is kept of a workbook at an edit of the lines of the sheet of an id

@@ -6,6 +6,7 @@ use Rattle.base_values.specs.declared.Position.{Position}
 use Rattle.formula_tree.specs.Placed.{is_placed}
 use Rattle.cell_content.specs.Lens.{tree_of}
 use Rattle.line_map.specs.Merges.{MergesLie}
+use Rattle.rule_lines.specs.Rules.{RulesLie}
 use Rattle.sheet_grid.specs.declared.Cell.{Cell}
 use Rattle.sheet_grid.specs.Sheet.{Sheet}
 use Rattle.sheet_grid.specs.Book.{Book}
@@ -27,10 +28,11 @@ HasDistinctIds book = IsDistinct ◌==◌ (map (λ sheet. sheet.id) book.workshe
 abbrev pub IsPlacedCell : Position → Cell → Type 0
 IsPlacedCell place cell = IfSome (tree_of cell.content) (λ tree. is_placed place tree ≡ true)
 
--- so it is for each cell of a sheet, and its merges lie inside
+-- so it is for each cell of a sheet, its merges lie inside, and its conditional rules stand inside
 pub record IsPlacedSheet (sheet : Sheet) : Type 0 where
   pub cells : (place : Position) (cell : Cell) → get sheet.cells place ≡ Some cell → IsPlacedCell place cell
   pub merges : MergesLie sheet.merges
+  pub formattings : RulesLie sheet.formattings
 
 abbrev pub IsPlacedBook : Book → Type 0
 IsPlacedBook book = AllByRecursion IsPlacedSheet book.worksheets

@@ -6,7 +6,9 @@ ghost use Rattle.line_edits.specs.Edit.{IsValid};
 ghost use Rattle.line_map.specs.Maps.{AllLie, KeysInside, PartsFit, places_restored};
 ghost use Rattle.line_map.specs.Merges.{MergesLie};
 ghost use Rattle.line_map.specs.Way.{back, way};
-ghost use Rattle.sheet_lines.specs.Back.{LieInside, ArePlacedLines, with_lost, merges_back, sheet_back, book_back};
+ghost use Rattle.rule_lines.specs.Canonical.{AreCanonicalKept};
+ghost use Rattle.rule_lines.specs.Rules.{RulesLie};
+ghost use Rattle.sheet_lines.specs.Back.{LieInside, ArePlacedLines, with_lost, merges_back, formattings_back, sheet_back, book_back};
 ghost use Rattle.sheet_lines.specs.Followed.{way_on};
 ghost use Rattle.sheet_lines.specs.CanonicalNumbers.{AreCanonicalLines};
 ghost use Rattle.sheet_lines.specs.Sheets.{sheet_of, IsPlacedSheet, IsPlacedBook};
@@ -20,10 +22,12 @@ use base_axis::{Axis, AxisMap, MergeList};
 use base_maps::{PositionMap, SheetPlace, SheetPlaceMap};
 use base_shared::Shared;
 use base_values::{EditError, Exact, Items, PlaceMap, Position, copy_of};
+use format_rules::RuleList;
 use formula_tree::Node;
 use line_map::{
     Follower, LineEdit, LineMap, Nothing, Parts, Route, overlaid_places, restored_places,
 };
+use rule_lines::restored_rules;
 use sheet_grid::{LineAttr, Workbook, Worksheet};
 use std::alloc::Global;
 
@@ -126,6 +130,27 @@ fn merges_back<A: Axis, M: LineMap<A>>(
     merges.carry(alloc, &route.back())
 }
 
+/// The conditional rules of a sheet taken back: on the edited sheet the kept ones, and each other one
+/// carried back.
+fn formattings_back<A: Axis, M: LineMap<A>>(
+    alloc: Global,
+    route: &Route<'_, A, M>,
+    kept: &KeptLines,
+    sheet: &Worksheet,
+) -> Result<RuleList, EditError>
+    requires inside { RulesLie sheet.now.formattings }
+    requires numbers { AreCanonicalKept kept.now.formattings }
+    ensures formattings { IfOk result (λ made. made ≡ formattings_back (way route.now) kept.now.formattings sheet.now.formattings) }
+    ensures only { IsOkUnless result NoMemory }
+{
+    let rules = sheet.conditional_formatting();
+    if route.is_edited {
+        restored_rules(alloc, route, rules, &kept.formattings)
+    } else {
+        copy_of(rules)
+    }
+}
+
 /// A sheet taken back: each part of it is restored.
 fn sheet_back<A: Axis, M: LineMap<A>>(
     alloc: Global,
@@ -156,7 +181,8 @@ fn sheet_back<A: Axis, M: LineMap<A>>(
     let rows = lines_back(alloc, &route, kept, sheet.row_map())?;
     let columns = lines_back(alloc, &route, kept, sheet.column_map())?;
     let merges = merges_back(alloc, &route, kept, sheet)?;
-    sheet.with_entries(cells, links, rows, columns, merges)
+    let formattings = formattings_back(alloc, &route, kept, sheet)?;
+    sheet.with_entries(cells, links, rows, columns, merges, formattings)
 }
 
 fn sheets_back<A: Axis, M: LineMap<A>>(
@@ -179,9 +205,11 @@ fn sheets_back<A: Axis, M: LineMap<A>>(
 }
 
 /// Takes back what `line_edit` did to the lines of the sheet of an id: each place of the sheet goes
-/// back, each formula follows or is the kept one, and the lost cells, links and attributes are put
-/// back. The keys of what is kept, and the corners of the workbook's formulas, lie inside the
-/// sheet. `NoMemory` is the only error. docs/MODEL.md has the rules.
+/// back, each formula and each conditional rule follows or is the kept one, and the lost cells, links
+/// and attributes are put back. The keys of what is kept, and the corners of the workbook's formulas,
+/// lie inside the sheet, and the workbook's merges and conditional rules stand inside. A kept
+/// conditional rule behind the last one of the sheet is left out. `NoMemory` is the only error.
+/// docs/MODEL.md has the rules.
 pub fn line_back<A: Axis>(
     alloc: Global,
     workbook: &Workbook,

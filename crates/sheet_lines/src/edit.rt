@@ -16,6 +16,7 @@ use crate::sheets::{route_on, sheet_of};
 use base_axis::Axis;
 use base_values::EditError;
 use line_map::{Follower, LineEdit, LineMap};
+use rule_lines::kept_rules;
 use sheet_grid::Workbook;
 use std::alloc::Global;
 
@@ -45,22 +46,26 @@ fn kept_lines<A: Axis, M: LineMap<A>>(
     places_inside(sheet.link_map());
     lines_inside(sheet.row_map());
     lines_inside(sheet.column_map());
+    let route = route_on(edited, sheet);
     let links = lost_links(alloc, edited, sheet)?;
     let lines = lost_attributes(alloc, edited, sheet)?;
-    let merges = sheet.merge_list().part(alloc, &route_on(edited, sheet))?;
+    let merges = sheet.merge_list().part(alloc, &route)?;
+    let formattings = kept_rules(alloc, &route, sheet.conditional_formatting())?;
     Ok(KeptLines {
         cells: cells.lost.unwrap(),
         links,
         lines,
         formulas: cells.formulas,
         merges,
+        formattings,
     })
 }
 
-/// Inserts, deletes or moves lines of the sheet of an id. Its cells, links and attributes go where
-/// their lines go, the formulas of all sheets follow, and all else stays. Returns the workbook, and
-/// what taking the lines back does not give (`line_back`). The corners of the workbook's formulas
-/// lie inside the sheet. `NoMemory` is the only error. docs/MODEL.md has the rules.
+/// Inserts, deletes or moves lines of the sheet of an id. Its cells, links, attributes, merges and
+/// conditional rules go where their lines go, the formulas of all sheets follow, and all else stays.
+/// Returns the workbook, and what taking the lines back does not give (`line_back`). The corners of
+/// the workbook's formulas lie inside the sheet, and its merges and conditional rules stand inside.
+/// `NoMemory` is the only error. docs/MODEL.md has the rules.
 pub fn line_edit<A: Axis>(
     alloc: Global,
     workbook: &Workbook,

@@ -22,6 +22,7 @@ use base_shared::Shared;
 use base_values::{EditError, Items, PlaceMap};
 use formula_tree::Node;
 use line_map::{Follower, KeptMap, LineEdit, LineMap, Route, carried_with_kept};
+use rule_lines::carried_rules;
 use sheet_grid::{Cell, Workbook, Worksheet};
 use std::alloc::Global;
 use std::marker::PhantomData;
@@ -36,7 +37,8 @@ pub(crate) struct KeptOfCells {
     pub(crate) formulas: SheetPlaceMap<Shared<Node>>,
 }
 
-/// A sheet with these cells, whose links, rows, columns and merges are carried along.
+/// A sheet with these cells, whose links, rows, columns, merges and conditional rules are carried
+/// along.
 fn followed_with<A: Axis, M: LineMap<A>>(
     alloc: Global,
     route: &Route<'_, A, M>,
@@ -55,7 +57,8 @@ fn followed_with<A: Axis, M: LineMap<A>>(
     let rows = sheet.row_map().carry(alloc, route)?;
     let columns = sheet.column_map().carry(alloc, route)?;
     let merges = sheet.merge_list().carry(alloc, route)?;
-    sheet.with_entries(cells, links, rows, columns, merges)
+    let formattings = carried_rules(alloc, route, sheet.conditional_formatting())?;
+    sheet.with_entries(cells, links, rows, columns, merges, formattings)
 }
 
 /// A sheet along the map: each part of it is carried along.

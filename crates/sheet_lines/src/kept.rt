@@ -1,7 +1,8 @@
 use base_axis::MergeList;
-use base_maps::{NumberMap, PositionMap, SheetPlaceMap};
+use base_maps::{IndexMap, NumberMap, PositionMap, SheetPlaceMap};
 use base_shared::Shared;
 use base_values::Exact;
+use format_rules::ConditionalFormatting;
 use formula_tree::Node;
 use sheet_grid::{Cell, LineAttr, Link};
 
@@ -19,6 +20,9 @@ pub struct KeptLines {
     pub formulas: SheetPlaceMap<Shared<Node>>,
     /// The merges of the edited sheet, where they do not come back.
     pub merges: Option<MergeList>,
+    /// Its conditional rules that do not come back, each whole, by their indexes in the list of the
+    /// sheet's rules.
+    pub formattings: IndexMap<ConditionalFormatting>,
 }
 
 impl Exact for KeptLines {

@@ -1,5 +1,5 @@
 -- When a workbook is well-formed. `Occupied` has the rules of arrays (3), of merges (4) and of the places that they cover (5),
--- `Names` that of defined names (8). There are no conditional rules yet.
+-- `Names` those of defined names (8, and their part of 6).
 use Rattle.std.specs.Prelude.{◌≡◌, ℕ, ℤ, pos, Bool, true, ◌&&◌, ◌==◌, not, nat_lt, List, length, Option, Some, None, int_le, if◌then◌else◌}
 use Rattle.std.specs.List.{list_all}
 use Rattle.std.specs.Ordering.{int_eq}
@@ -12,6 +12,7 @@ use Rattle.base_styles.specs.declared.style.Style.{Style}
 use Rattle.base_styles.specs.contracts.style.Style as style
 use Rattle.base_styles.specs.DefaultStyle.{default_style}
 use Rattle.cell_content.specs.Fitting.{fits_at}
+use Rattle.format_rules.specs.Fitting.{has_fitting_trees, has_parts}
 use Rattle.sheet_grid.specs.declared.Cell.{Cell}
 use Rattle.sheet_grid.specs.declared.LineAttr.{LineAttr}
 use Rattle.sheet_grid.specs.declared.Link.{Link}
@@ -42,6 +43,11 @@ stands_inside sheet =
 -- rule 6 of a sheet: each formula may stand at its place
 unfoldable pub have_trees : Sheet → Bool
 have_trees sheet = list_all (λ (entry : Position × Cell). fits_at entry.0 entry.1.content) (entries sheet.cells)
+
+-- rule 6 of the conditional rules of a sheet: each formula may stand at the first place of its rule's first part. Of a rule without
+-- a part its depth and its number nodes alone are asked
+abbrev pub have_rule_trees : Sheet → Bool
+have_rule_trees sheet = list_all has_fitting_trees sheet.formattings
 
 -- a size that is there is not negative
 abbrev pub is_size : Option ℤ → Bool
@@ -92,6 +98,10 @@ have_attributes sheet =
 abbrev pub are_frozen : Sheet → Bool
 are_frozen sheet = is_count (pos 1048575) sheet.frozen_rows && is_count (pos 16383) sheet.frozen_columns
 
+-- rule 9 of the conditional rules of a sheet: each stands on one part at least, and its parts lie inside the sheet
+abbrev pub have_rule_parts : Sheet → Bool
+have_rule_parts sheet = list_all has_parts sheet.formattings
+
 -- the first rule that a workbook breaks
 abbrev pub broken_rule : Book → Option ℕ
 broken_rule book =
@@ -100,10 +110,10 @@ broken_rule book =
     else if not (list_all have_arrays book.worksheets) then Some 3
     else if not (list_all have_merges book.worksheets) then Some 4
     else if not (list_all are_hidden_blank book.worksheets) then Some 5
-    else if not (list_all have_trees book.worksheets && have_name_trees book.names) then Some 6
+    else if not (list_all have_trees book.worksheets && list_all have_rule_trees book.worksheets && have_name_trees book.names) then Some 6
     else if not (list_all have_attributes book.worksheets) then Some 7
     else if not (are_names (ids_of book.worksheets) book.names) then Some 8
-    else if not (list_all are_frozen book.worksheets) then Some 9
+    else if not (list_all are_frozen book.worksheets && list_all have_rule_parts book.worksheets) then Some 9
     else None
 
 -- a workbook breaks none

@@ -2,6 +2,7 @@ pub mod ArraysIn
 pub mod DefaultPartLaws
 pub mod EntryLaws
 pub mod FollowedLists
+pub mod FormattingLaws
 pub mod HiddenLaws
 pub mod InsideLaws
 pub mod OccupiedLaws

@@ -7,6 +7,7 @@
 mod attributes;
 mod default_style;
 mod defined;
+mod formattings;
 mod ids;
 mod names;
 mod occupied;

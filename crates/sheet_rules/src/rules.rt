@@ -4,10 +4,11 @@ ghost use Rattle.std.specs.FinMap.{entries};
 ghost use Rattle.base_values.specs.Places.{is_line};
 ghost use Rattle.sheet_rules.specs.Names.{have_name_trees};
 ghost use Rattle.sheet_rules.specs.Occupied.{have_arrays, have_merges, are_hidden_blank};
-ghost use Rattle.sheet_rules.specs.WellFormed.{are_sheets, is_place, stands_inside, have_trees, have_attributes, is_count, are_frozen, broken_rule};
+ghost use Rattle.sheet_rules.specs.WellFormed.{are_sheets, is_place, stands_inside, have_trees, have_rule_trees, have_attributes, is_count, are_frozen, have_rule_parts, broken_rule};
 
 use crate::attributes::have_attributes;
 use crate::defined::{are_names, have_name_trees};
+use crate::formattings::{have_rule_parts, have_rule_trees};
 use crate::ids::have_distinct_ids;
 use crate::names::{have_distinct_names, have_names};
 use crate::occupied::{are_hidden_blank, have_arrays, have_merges};
@@ -94,11 +95,21 @@ fn all_have_trees(sheets: &[Worksheet]) -> bool
     sheets.iter().all(have_trees)
 }
 
-/// Rule 6: so it is in each sheet, and each tree of a defined name may stand at A1.
-fn have_all_trees(workbook: &Workbook) -> bool
-    ensures { result ≡ (list_all have_trees workbook.now.worksheets && have_name_trees workbook.now.names) }
+fn all_have_rule_trees(sheets: &[Worksheet]) -> bool
+    ensures { result ≡ list_all have_rule_trees sheets.now }
 {
-    all_have_trees(workbook.worksheets()) && have_name_trees(workbook.defined_names())
+    sheets.iter().all(have_rule_trees)
+}
+
+/// Rule 6: so it is in each sheet, with the formulas of its conditional rules too, and each tree of a
+/// defined name may stand at A1.
+fn have_all_trees(workbook: &Workbook) -> bool
+    ensures { result ≡ (list_all have_trees workbook.now.worksheets && list_all have_rule_trees workbook.now.worksheets && have_name_trees workbook.now.names) }
+{
+    let sheets = workbook.worksheets();
+    all_have_trees(sheets)
+        && all_have_rule_trees(sheets)
+        && have_name_trees(workbook.defined_names())
 }
 
 fn all_have_attributes(sheets: &[Worksheet]) -> bool
@@ -113,7 +124,7 @@ fn is_count(most: i32, count: i32) -> bool
     0 <= count && count <= most
 }
 
-/// Rule 9: fewer lines than the sheet has stay at its top and at its left.
+/// Rule 9 of a sheet: fewer lines than it has stay at its top and at its left.
 fn are_frozen(sheet: &Worksheet) -> bool
     ensures { result ≡ are_frozen sheet.now }
 {
@@ -124,6 +135,19 @@ fn all_are_frozen(sheets: &[Worksheet]) -> bool
     ensures { result ≡ list_all are_frozen sheets.now }
 {
     sheets.iter().all(are_frozen)
+}
+
+fn all_have_rule_parts(sheets: &[Worksheet]) -> bool
+    ensures { result ≡ list_all have_rule_parts sheets.now }
+{
+    sheets.iter().all(have_rule_parts)
+}
+
+/// Rule 9: so it is in each sheet, and each of its conditional rules stands on parts inside it.
+fn have_counts_and_parts(sheets: &[Worksheet]) -> bool
+    ensures { result ≡ (list_all are_frozen sheets.now && list_all have_rule_parts sheets.now) }
+{
+    all_are_frozen(sheets) && all_have_rule_parts(sheets)
 }
 
 /// The number of the first rule that a workbook breaks, or none. It takes no memory.
@@ -148,7 +172,7 @@ pub fn broken_rule(workbook: &Workbook) -> Option<u8>
         Some(7)
     } else if !are_names(sheets, workbook.defined_names()) {
         Some(8)
-    } else if !all_are_frozen(sheets) {
+    } else if !have_counts_and_parts(sheets) {
         Some(9)
     } else {
         None

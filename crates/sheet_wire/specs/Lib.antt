@@ -3,6 +3,7 @@ pub mod LinesBytes
 pub mod SheetsBytes
 pub mod SettingBytes
 pub mod TreesBytes
+pub mod RulesBytes
 pub mod ChangeBytes
 pub mod QueueBytes
 pub mod laws

@@ -20,7 +20,7 @@ use Rattle.book_names.specs.declared.KeptTrees.{KeptTrees}
 use Rattle.sheet_history.specs.declared.FieldChange.TheVariants as change
 use Rattle.sheet_history.specs.declared.SettingChange.TheVariants as setting
 use Rattle.sheet_history.specs.declared.Diff.{Diff}
-use Rattle.sheet_history.specs.declared.Diff.TheVariants.{Cell as CellDiff, Link as LinkDiff, Merges as MergesDiff, Field as FieldDiff, Lines as LinesDiff, NewSheet as NewDiff, DuplicateSheet as CopyDiff, DeleteSheet as DeletionDiff, MoveSheet as MoveDiff, RenameSheet as RenameDiff, ChangeName as NameDiff, Attributes as AttrDiff, Setting as SettingDiff}
+use Rattle.sheet_history.specs.declared.Diff.TheVariants.{Cell as CellDiff, Link as LinkDiff, Merges as MergesDiff, Field as FieldDiff, Lines as LinesDiff, NewSheet as NewDiff, DuplicateSheet as CopyDiff, DeleteSheet as DeletionDiff, MoveSheet as MoveDiff, RenameSheet as RenameDiff, ChangeName as NameDiff, Rule as RuleDiff, Attributes as AttrDiff, Setting as SettingDiff}
 use Rattle.sheet_history.specs.declared.LineAxis.{LineAxis}
 use Rattle.sheet_history.specs.declared.LineAxis.TheVariants.{Rows, Columns}
 use Rattle.sheet_history.specs.Entries.{line_tag}
@@ -44,6 +44,8 @@ use Rattle.sheet_wire.specs.ChangeBytes.{spell_change, change_at, FitsChange, sp
 use Rattle.sheet_wire.specs.LinesBytes.{spell_lines, lines_parts_at, FitsLines}
 use Rattle.sheet_wire.specs.SettingBytes.{spell_twice, twice_at, FitsSetting}
 use Rattle.sheet_wire.specs.SheetsBytes.{spell_color_change, spell_state_change, spell_grid_change, spell_count_change, state_at, FitsField, spell_new, new_parts_at, FitsNew, spell_copy, copy_parts_at, FitsCopy}
+use Rattle.rule_edits.specs.declared.RuleChange.{RuleChange}
+use Rattle.sheet_wire.specs.RulesBytes.{spell_rule, rule_parts_at, FitsRuleDiff, IsKnownRuleChange}
 use Rattle.sheet_wire.specs.TreesBytes.{spell_rename, rename_parts_at, FitsRename, AreKnownTrees, spell_name_change, name_parts_at, FitsNameChange, IsKnownChange}
 use Rattle.sheet_wire.specs.SheetsBytes.{spell_deletion, deletion_parts_at, FitsDeletion, IsKnownKeptSheet, spell_move, move_parts_at, FitsMove}
 
@@ -55,6 +57,7 @@ spell_diff (CellDiff sheet place old new) = 1 ∷ spell_change spell_cell sheet 
 spell_diff (LinkDiff sheet place old new) = 2 ∷ spell_change spell_link sheet place old new
 spell_diff (AttrDiff sheet axis line old new) = line_tag axis ∷ spell_attr_change sheet line old new
 spell_diff (MergesDiff sheet old new) = 5 ∷ spell_sheet_change spell_merges sheet old new
+spell_diff (RuleDiff sheet change) = 6 ∷ spell_rule sheet change
 spell_diff (LinesDiff sheet axis edit kept) = 7 ∷ spell_lines sheet axis edit kept
 spell_diff (NewDiff sheet index name) = 8 ∷ spell_new sheet index name
 spell_diff (CopyDiff source sheet index name) = 9 ∷ spell_copy source sheet index name
@@ -95,6 +98,12 @@ merges_diff_made x = MergesDiff x.0 x.1.0 x.1.1
 
 unfoldable pub merges_diff_at : Reader Diff
 merges_diff_at = map_at merges_diff_made (sheet_change_at merges_at)
+
+abbrev pub rule_diff_made : ℕ × RuleChange → Diff
+rule_diff_made x = RuleDiff x.0 x.1
+
+unfoldable pub rule_diff_at : Reader Diff
+rule_diff_at = map_at rule_diff_made rule_parts_at
 
 abbrev pub lines_diff_made : ℕ × (LineAxis × (EditKind × KeptLines)) → Diff
 lines_diff_made x = LinesDiff x.0 x.1.0 x.1.1.0 x.1.1.1
@@ -200,6 +209,7 @@ diff_of tag =
     else if tag == 3 then attr_diff_at Columns
     else if tag == 4 then attr_diff_at Rows
     else if tag == 5 then merges_diff_at
+    else if tag == 6 then rule_diff_at
     else if tag == 7 then lines_diff_at
     else if tag == 8 then new_diff_at
     else if tag == 9 then copy_diff_at
@@ -228,6 +238,7 @@ FitsDiff (LinkDiff sheet place old new) = FitsChange FitsLink sheet place old ne
 FitsDiff (MergesDiff sheet old new) = FitsSheetChange FitsMerges sheet old new
 FitsDiff (FieldDiff sheet change) = FitsField sheet change
 FitsDiff (AttrDiff sheet axis line old new) = FitsAttrChange sheet line old new
+FitsDiff (RuleDiff sheet change) = FitsRuleDiff sheet change
 FitsDiff (LinesDiff sheet axis edit kept) = FitsLines sheet edit kept
 FitsDiff (NewDiff sheet index name) = FitsNew sheet index name
 FitsDiff (CopyDiff source sheet index name) = FitsCopy source sheet index name
@@ -244,6 +255,7 @@ IsKnownDiff (LinkDiff sheet place old new) = Unit {0}
 IsKnownDiff (MergesDiff sheet old new) = Unit {0}
 IsKnownDiff (FieldDiff sheet change) = Unit {0}
 IsKnownDiff (AttrDiff sheet axis line old new) = IfSome old IsKnownLine × IfSome new IsKnownLine
+IsKnownDiff (RuleDiff sheet change) = IsKnownRuleChange change
 IsKnownDiff (LinesDiff sheet axis edit kept) = IsKnownKept kept
 IsKnownDiff (NewDiff sheet index name) = Unit {0}
 IsKnownDiff (CopyDiff source sheet index name) = Unit {0}

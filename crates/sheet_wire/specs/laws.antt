@@ -4,4 +4,5 @@ pub mod AttrFormats
 pub mod SheetsFormats
 pub mod SettingFormats
 pub mod TreesFormats
+pub mod RulesFormats
 pub mod Fitting

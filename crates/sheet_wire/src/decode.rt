@@ -18,6 +18,7 @@ use crate::decode_sheets::{
     state_diff_at,
 };
 use crate::parts::{DiffPart, EntryPart};
+use crate::rule_changes::rule_diff_at;
 use crate::settings::{locale_diff_at, theme_diff_at, title_diff_at, zone_diff_at};
 use base_shared::Shared;
 use base_styles::Style;
@@ -132,11 +133,12 @@ pub(crate) fn diff_at<'a>(
         3 => attr_diff_at(alloc, plain, LineAxis::Columns, rest),
         4 => attr_diff_at(alloc, plain, LineAxis::Rows, rest),
         5 => merges_diff_at(alloc, rest),
+        6 => rule_diff_at(alloc, plain, rest),
         7 => lines_diff_at(alloc, plain, rest),
         8 => new_diff_at(alloc, rest),
         9 => copy_diff_at(alloc, rest),
         10 => deletion_diff_at(alloc, plain, rest),
-        11 => rename_diff_at(alloc, rest),
+        11 => rename_diff_at(alloc, plain, rest),
         12 => move_diff_at(alloc, rest),
         13 => color_diff_at(alloc, rest),
         14 => state_diff_at(alloc, rest),
@@ -147,7 +149,7 @@ pub(crate) fn diff_at<'a>(
         19 => title_diff_at(alloc, rest),
         20 => locale_diff_at(alloc, rest),
         21 => zone_diff_at(alloc, rest),
-        22 => name_diff_at(alloc, rest),
+        22 => name_diff_at(alloc, plain, rest),
         _ => Err(EditError::ParseDiffs),
     }
 }

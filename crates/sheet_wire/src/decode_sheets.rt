@@ -123,13 +123,17 @@ pub(crate) fn deletion_diff_at<'a>(
 }
 
 #[tactic(auto, unfolding(crate::specs::QueueBytes::rename_diff_at))]
-pub(crate) fn rename_diff_at(alloc: Global, bytes: &[u8]) -> Result<(Diff, &[u8]), EditError>
+pub(crate) fn rename_diff_at<'a>(
+    alloc: Global,
+    plain: &Shared<Style>,
+    bytes: &'a [u8],
+) -> Result<(Diff, &'a [u8]), EditError>
     ensures { Answers (map_ok (λ x. (x.0, x.1.now)) result) (rename_diff_at bytes.now) }
 {
     let (sheet, rest) = read::<u32>(alloc, &(), bytes)?;
     let (old, rest) = read::<Text>(alloc, &(), rest)?;
     let (new, rest) = read::<Text>(alloc, &(), rest)?;
-    let (kept, rest) = read::<Shared<KeptTreesPart>>(alloc, &(), rest)?;
+    let (kept, rest) = read::<Shared<KeptTreesPart>>(alloc, plain, rest)?;
     let diff = Diff::RenameSheet {
         sheet,
         old,
@@ -140,13 +144,17 @@ pub(crate) fn rename_diff_at(alloc: Global, bytes: &[u8]) -> Result<(Diff, &[u8]
 }
 
 #[tactic(auto, unfolding(crate::specs::QueueBytes::name_diff_at, crate::specs::TreesBytes::name_there_at))]
-pub(crate) fn name_diff_at(alloc: Global, bytes: &[u8]) -> Result<(Diff, &[u8]), EditError>
+pub(crate) fn name_diff_at<'a>(
+    alloc: Global,
+    plain: &Shared<Style>,
+    bytes: &'a [u8],
+) -> Result<(Diff, &'a [u8]), EditError>
     ensures { Answers (map_ok (λ x. (x.0, x.1.now)) result) (name_diff_at bytes.now) }
 {
     let (index, rest) = read::<u64>(alloc, &(), bytes)?;
     let (old, rest) = read::<Option<NamePart>>(alloc, &(), rest)?;
     let (new, rest) = read::<Option<NamePart>>(alloc, &(), rest)?;
-    let (kept, rest) = read::<Shared<KeptTreesPart>>(alloc, &(), rest)?;
+    let (kept, rest) = read::<Shared<KeptTreesPart>>(alloc, plain, rest)?;
     let change = NameChange { index, old, new };
     Ok((Diff::ChangeName { change, kept }, rest))
 }

@@ -14,6 +14,7 @@ use crate::encode_sheets::{
     put_sheet_change,
 };
 use crate::parts::{DiffPart, EntryPart};
+use crate::rule_changes::put_rule;
 use crate::settings::put_setting;
 use base_shared::Shared;
 use base_values::{EditError, Items, Position};
@@ -98,6 +99,10 @@ pub(crate) fn put_diff(out: &mut Vec<u8>, diff: &Diff) -> Result<(), AllocError>
         } => {
             out.push(line_tag(*axis))?;
             put_attr_change(out, *sheet, *line, old, new)?;
+        }
+        Diff::Rule { sheet, change } => {
+            out.push(6)?;
+            put_rule(out, *sheet, change)?;
         }
         Diff::Lines {
             sheet,

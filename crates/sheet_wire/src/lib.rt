@@ -13,6 +13,7 @@ mod decode_sheets;
 mod encode;
 mod encode_sheets;
 mod parts;
+mod rule_changes;
 mod settings;
 mod sheets;
 mod trees;

@@ -1,4 +1,4 @@
-//! The trees that a renaming keeps as a part of formats.
+//! The trees and the conditional rules that a renaming keeps as a part of formats.
 
 ghost use Rattle.std.specs.Prelude.{◌≡◌, ◌++◌, OnOk};
 ghost use Rattle.base_values.specs.Answers.{Answers, map_ok};
@@ -6,25 +6,40 @@ ghost use Rattle.sheet_wire.specs.TreesBytes.{spell_trees, trees_at, AreKnownTre
 
 use base_maps::IndexMap;
 use base_shared::Shared;
+use base_styles::Style;
 use base_values::EditError;
 use base_wire::Part;
 use book_names::KeptTrees;
+use format_rules::ConditionalFormatting;
 use formula_tree::Node;
 use formula_wire::NodePart;
-use lines_wire::FormulasPart;
-use map_wire::{MapPart, after_no_items, read};
+use index_maps::SheetIndexMap;
+use lines_wire::{FormulasPart, SheetIndexPart};
+use map_wire::{MapPart, read};
+use rule_wire::FormattingPart;
 use std::alloc::{AllocError, Global};
+
+type RulesPart = MapPart<SheetIndexMap<ConditionalFormatting>, SheetIndexPart, FormattingPart>;
 
 type NameTreesPart = MapPart<IndexMap<Shared<Node>>, u64, Shared<NodePart>>;
 
-#[tactic(auto, unfolding(crate::specs::TreesBytes::trees_at, crate::specs::TreesBytes::name_trees_at, lines_wire::specs::KeptBytes::formulas_at))]
-fn trees_at(alloc: Global, bytes: &[u8]) -> Result<(KeptTrees, &[u8]), EditError>
+#[tactic(auto, unfolding(crate::specs::TreesBytes::trees_at, crate::specs::TreesBytes::name_trees_at, crate::specs::TreesBytes::renamed_rules_at, lines_wire::specs::KeptBytes::formulas_at))]
+fn trees_at<'a>(
+    alloc: Global,
+    plain: &Shared<Style>,
+    bytes: &'a [u8],
+) -> Result<(KeptTrees, &'a [u8]), EditError>
     ensures { Answers (map_ok (λ x. (x.0, x.1.now)) result) (trees_at bytes.now) }
 {
     let (formulas, rest) = read::<FormulasPart>(alloc, &(), bytes)?;
-    let rest = after_no_items(rest)?;
+    let (formattings, rest) = read::<RulesPart>(alloc, plain, rest)?;
     let (names, rest) = read::<NameTreesPart>(alloc, &(), rest)?;
-    Ok((KeptTrees { formulas, names }, rest))
+    let kept = KeptTrees {
+        formulas,
+        names,
+        formattings,
+    };
+    Ok((kept, rest))
 }
 
 #[tactic(auto, unfolding(crate::specs::TreesBytes::spell_trees))]
@@ -33,12 +48,13 @@ fn put_trees(out: &mut Vec<u8>, kept: &KeptTrees) -> Result<(), AllocError>
     ensures fits { OnOk result (AreKnownTrees kept.now → FitsTrees kept.now) }
 {
     FormulasPart::put(out, &kept.formulas)?;
-    out.extend_from_slice(&[0; 8])?;
+    RulesPart::put(out, &kept.formattings)?;
     NameTreesPart::put(out, &kept.names)?;
     Ok(())
 }
 
-/// The trees of cells and of defined names that the opposite renaming does not give back.
+/// The trees of cells and of defined names, and the conditional rules, that the opposite renaming does not
+/// give back. Each style that is read and equal to that of the context shares it.
 pub(crate) struct KeptTreesPart;
 
 impl Part for KeptTreesPart {
@@ -47,7 +63,7 @@ impl Part for KeptTreesPart {
 
     type Value = KeptTrees;
 
-    type Context = ();
+    type Context = Shared<Style>;
 
     ghost Known = { AreKnownTrees };
 
@@ -63,10 +79,10 @@ impl Part for KeptTreesPart {
 
     fn take<'a>(
         alloc: Global,
-        _context: &(),
+        plain: &Shared<Style>,
         bytes: &'a [u8],
     ) -> Result<(KeptTrees, &'a [u8]), EditError> {
-        trees_at(alloc, bytes)
+        trees_at(alloc, plain, bytes)
     }
 
     ghost format = { trees_format };

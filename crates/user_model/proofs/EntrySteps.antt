@@ -10,7 +10,7 @@ use Rattle.sheet_history.specs.Records.{IsRecord, record_between}
 use Rattle.sheet_history.specs.laws.RecordBetween.{record_computed}
 use Rattle.sheet_history.specs.laws.SoundEntries.{entries_forwarded, entries_backed}
 use Rattle.edit_plans.specs.Edits.{Edit, changed, is_of_entries, is_silent, record_of}
-use Rattle.edit_plans.specs.Edits.Edit.{Input, ArrayInput, SetLink, Merge, Unmerge, Lines, MoveLines, AddSheet, CopySheet, DeleteSheet, MoveSheet, RenameSheet, ChangeNames, SetField, SetSize, SetHidden, SetRangeStyle, ClearRange, ClearFormatting, PasteStyles, SetSetting, Fill}
+use Rattle.edit_plans.specs.Edits.Edit.{Input, ArrayInput, SetLink, Merge, Unmerge, Lines, MoveLines, AddSheet, CopySheet, DeleteSheet, MoveSheet, RenameSheet, ChangeNames, EditRules, SetField, SetSize, SetHidden, SetRangeStyle, ClearRange, ClearFormatting, PasteStyles, SetSetting, Fill}
 use Rattle.edit_plans.specs.Plans.{IsPlan, Plans}
 use Rattle.sheet_views.specs.declared.View.{View}
 use Rattle.edit_plans.specs.ViewSteps.{selected_by, view_asked}
@@ -41,6 +41,7 @@ of_entries (DeleteSheet index) is = absurd (let never : false ≡ true = is in c
 of_entries (MoveSheet from to) is = absurd (let never : false ≡ true = is in cc)
 of_entries (RenameSheet index name) is = absurd (let never : false ≡ true = is in cc)
 of_entries (ChangeNames edit) is = absurd (let never : false ≡ true = is in cc)
+of_entries (EditRules edit) is = absurd (let never : false ≡ true = is in cc)
 of_entries (SetSetting setting) is = absurd (let never : false ≡ true = is in cc)
 of_entries (SetField index value) is = record { loud = λ book. refl; records = λ earlier later. refl; exact = λ earlier later list exact. exact }
 of_entries (SetSize index axis first last size) is = record { loud = λ book. refl; records = λ earlier later. refl; exact = λ earlier later list exact. exact }

@@ -21,5 +21,6 @@ mod Spelled
 mod Tested
 mod Typed
 mod NamesTyped
+mod RulesTyped
 mod HiddenLines
 mod PastedStyles

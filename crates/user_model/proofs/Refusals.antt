@@ -26,8 +26,11 @@ use Rattle.name_edits.specs.declared.NameChange.{NameChange}
 use Rattle.name_edits.specs.NameChanges.{name_made, name_unmade}
 use Rattle.name_edits.specs.NameDiffs.{name_forward, name_back}
 use Rattle.name_edits.specs.NameDiffs.{goes_forward as may_change, goes_back as may_change_back}
+use Rattle.rule_edits.specs.declared.RuleChange.{RuleChange}
+use Rattle.rule_edits.specs.RuleChanges.{opposite}
+use Rattle.sheet_history.specs.RuleDiffs.{book_rules_changed, rule_put, takes_change}
 use Rattle.sheet_history.specs.declared.Diff.{Diff}
-use Rattle.sheet_history.specs.declared.Diff.TheVariants.{Cell as CellDiff, Link as LinkDiff, Merges as MergesDiff, Field as FieldDiff, Lines as LinesDiff, NewSheet as NewDiff, DuplicateSheet as CopyDiff, DeleteSheet as DeletionDiff, MoveSheet as MoveDiff, RenameSheet as RenameDiff, ChangeName as NameDiff, Attributes as AttrDiff, Setting as SettingDiff}
+use Rattle.sheet_history.specs.declared.Diff.TheVariants.{Cell as CellDiff, Link as LinkDiff, Merges as MergesDiff, Field as FieldDiff, Lines as LinesDiff, NewSheet as NewDiff, DuplicateSheet as CopyDiff, DeleteSheet as DeletionDiff, MoveSheet as MoveDiff, RenameSheet as RenameDiff, ChangeName as NameDiff, Attributes as AttrDiff, Setting as SettingDiff, Rule as RuleDiff}
 use Rattle.sheet_history.specs.declared.DiffType.{DiffType}
 use Rattle.sheet_history.specs.declared.DiffType.TheVariants.{Undo, Redo}
 use Rattle.sheet_history.specs.declared.QueueDiffs.{QueueDiffs}
@@ -137,6 +140,12 @@ name_back_only : (at : ℕ) (change : NameChange) (kept : KeptTrees) (book : Boo
 unfolding name_back
 name_back_only at change kept book = either_only (may_change_back change kept book) (Ok (name_unmade change kept book)) (Err (DiffRefused 0 at)) tt tt
 
+-- ---- conditional rules
+
+rule_put_only : (at id : ℕ) (change : RuleChange) (book : Book) → Only (rule_put at id change book)
+unfolding rule_put
+rule_put_only at id change book = either_only (takes_change change (sheet_of book id)) (Ok (book_rules_changed id change book)) (Err (DiffRefused 0 at)) tt tt
+
 -- ---- lists
 
 step_only : (at : ℕ) (book : Book) (diff : Diff) → Only (step_forward at book diff)
@@ -152,6 +161,7 @@ step_only at book (DeletionDiff index kept) = deletion_only at kept book
 step_only at book (MoveDiff sheet from to) = moves_only at sheet from to book
 step_only at book (RenameDiff sheet old new kept) = rename_only at sheet old new kept book
 step_only at book (NameDiff change kept) = name_only at change kept book
+step_only at book (RuleDiff sheet change) = rule_put_only at sheet change book
 step_only at book (SettingDiff change) = tt
 
 step_back_only : (at : ℕ) (book : Book) (diff : Diff) → Only (step_back at book diff)
@@ -167,6 +177,7 @@ step_back_only at book (DeletionDiff index kept) = deletion_back_only at index k
 step_back_only at book (MoveDiff sheet from to) = moves_only at sheet to from book
 step_back_only at book (RenameDiff sheet old new kept) = rename_back_only at sheet old new kept book
 step_back_only at book (NameDiff change kept) = name_back_only at change kept book
+step_back_only at book (RuleDiff sheet change) = rule_put_only at sheet (opposite change) book
 step_back_only at book (SettingDiff change) = tt
 
 made_only : (at : ℕ) (book : Book) (diffs : List Diff) → Only (forward_from at book diffs)

@@ -1,4 +1,5 @@
--- An edit of the list of the sheets is a sound step, and its record is its one diff.
+-- An edit of the list of the sheets is a sound step, and its record is its one diff. So is one of conditional rules, with a diff for each rule
+-- that it changes.
 use Rattle.std.proofs.Common.{◌≡◌, ◌⊎◌, inl, inr, ◌<◌, ◌≤◌, ℕ, true, false, cond, List, length, Option, Some, None, Result, Ok, Err, refl, ap, sym, subst, ◌∙◌}
 use Rattle.std.specs.Prelude.{◌&&◌, nat_lt, get_or, slice_get, IfOk, IsOk, IsOkAnd, IsTrue}
 use Rattle.std.proofs.lemmas.Bool.{le-ltb}
@@ -7,19 +8,22 @@ use Rattle.base_values.specs.declared.EditError.{EditError}
 use Rattle.base_values.specs.declared.EditError.TheVariants.{InvalidSheet}
 use Rattle.base_values.specs.Answers.{and_then, map_ok, ok_or}
 use Rattle.sheet_grid.specs.Sheet.{Sheet}
-use Rattle.sheet_grid.specs.Book.{Book, ids_of, sheet_at, sheets_moved}
+use Rattle.sheet_grid.specs.Book.{Book, ids_of, sheet_at, sheets_moved, with_sheet}
 use Rattle.sheet_rules.specs.WellFormed.{IsWellFormed}
 use Rattle.sheet_naming.specs.NextIds.{next_id}
 use Rattle.sheet_history.specs.declared.Diff.{Diff}
 use Rattle.sheet_history.specs.Diffs.{IsCanonicalList}
 use Rattle.edit_plans.specs.Edits.{Edit, changed, is_of_sheets, is_silent, record_of}
-use Rattle.edit_plans.specs.Edits.Edit.{Input, ArrayInput, SetLink, Merge, Unmerge, Lines, MoveLines, AddSheet, CopySheet, DeleteSheet, MoveSheet, RenameSheet, ChangeNames, SetField, SetSize, SetHidden, SetRangeStyle, ClearRange, ClearFormatting, PasteStyles, SetSetting, Fill}
+use Rattle.edit_plans.specs.Edits.Edit.{Input, ArrayInput, SetLink, Merge, Unmerge, Lines, MoveLines, AddSheet, CopySheet, DeleteSheet, MoveSheet, RenameSheet, ChangeNames, EditRules, SetField, SetSize, SetHidden, SetRangeStyle, ClearRange, ClearFormatting, PasteStyles, SetSetting, Fill}
 use Rattle.edit_plans.specs.Plans.{IsSheetPlan, PlansSheets}
 use Rattle.edit_plans.specs.Plans.{GoesBothWays as SheetsGoBothWays}
 use Rattle.name_edits.specs.declared.NameChange.{NameChange}
 use Rattle.name_edits.specs.NameChanges.{name_made}
 use Rattle.name_edits.specs.NameEdits.{NameEdit, name_change}
 use Rattle.edit_plans.specs.NamedEdits.{name_diff, names_edited, names_record}
+use Rattle.rule_edits.specs.declared.RuleChange.{RuleChange}
+use Rattle.rule_edits.specs.RuleEdits.{RuleEdit, rule_changes, sheet_index_of}
+use Rattle.edit_plans.specs.RuleEdits.{all_diffs, diffs_of, rules_edited, rules_in, rules_record, with_changes}
 use Rattle.edit_plans.specs.SheetEdits.{added_record, copied_record, copy_diff, deleted_record, deletion_diff, move_diff, named_record, new_diff, one_diff, rename_diff, sheet_added, sheet_copied, sheet_deleted, sheet_named, sheet_taken, taken_record, with_copy, with_name, with_new_sheet}
 use Rattle.edit_plans.specs.ViewSteps.{selected_by}
 use Rattle.edit_plans.specs.laws.ViewLaws.{sheets_keep_range, view_kept}
@@ -90,6 +94,23 @@ module _ (earlier later : Book) where
       at (Ok change) is = refl
       at (Err error) is = never_accepted error later is
 
+  rules_exact : (edit : RuleEdit) → changed (EditRules edit) earlier ≡ Ok later → IsExact (EditRules edit) earlier later (rules_record edit earlier)
+  unfolding rules_edited
+  rules_exact edit how = at (sheet_at earlier (sheet_index_of edit)) how
+    where
+      of : (sheet : Sheet) (r : Result (List RuleChange) EditError) → map_ok (with_sheet earlier (sheet_index_of edit)) (map_ok (with_changes sheet) r) ≡ Ok later
+          → map_ok (diffs_of sheet) r ≡ Ok (all_diffs (map_ok (diffs_of sheet) r))
+      of sheet (Ok changes) is = refl
+      of sheet (Err error) is = never_accepted error later is
+
+      diffs : Result Sheet EditError → Result (List Diff) EditError
+      diffs s = and_then s (λ sheet. map_ok (diffs_of sheet) (rule_changes edit sheet.formattings))
+
+      at : (s : Result Sheet EditError) → and_then s (λ sheet. map_ok (with_sheet earlier (sheet_index_of edit)) (rules_in edit sheet)) ≡ Ok later
+          → diffs s ≡ Ok (all_diffs (diffs s))
+      at (Ok sheet) is = of sheet (rule_changes edit sheet.formattings) is
+      at (Err error) is = never_accepted error later is
+
   module _ (from to : ℕ) where
     -- a sheet that is not there is not taken away
     never_taken : slice_get earlier.worksheets from ≡ None → changed (MoveSheet from to) earlier ≡ Ok later → ⊥
@@ -121,6 +142,7 @@ module _ (earlier later : Book) where
   exact (MoveSheet from to) is how = taken_exact from to how
   exact (RenameSheet index name) is how = named_exact index name how
   exact (ChangeNames edit) is how = names_exact edit how
+  exact (EditRules edit) is how = rules_exact edit how
   exact (SetSetting setting) is how = refl
   exact (Input index row column content feeds) is how = absurd (let never : false ≡ true = is in cc)
   exact (ArrayInput index r tree) is how = absurd (let never : false ≡ true = is in cc)

@@ -1,7 +1,8 @@
--- The record of an edit of the list of the sheets, or of the defined names, can be spelled.
-use Rattle.std.proofs.Common.{◌≡◌, ℕ, true, false, Bool, cond, length, Option, Some, None, Result, Ok, Err, List, [], ◌∷◌, refl, sym, subst}
+-- The record of an edit of the list of the sheets, of the defined names, or of the conditional rules of a sheet can be spelled.
+use Rattle.std.proofs.Common.{◌≡◌, ℕ, true, false, Bool, cond, length, map, Option, Some, None, Result, Ok, Err, List, [], ◌∷◌, refl, sym, subst}
 use Rattle.std.specs.Prelude.{slice_get, IfSome, IsTrue}
 use Rattle.std.specs.Cmp.{nat_cmp_total}
+use Rattle.std.specs.List.{AllByRecursion, list_all}
 use Rattle.std.specs.Option.{option_map_or}
 use Rattle.std.specs.FinMap.{get, get-empty}
 use Rattle.std.specs.Ordering.{nat_cmp}
@@ -12,9 +13,12 @@ use Rattle.base_values.specs.declared.EditError.TheVariants.{DiffRefused, Invali
 use Rattle.base_values.specs.declared.Position.{Position}
 use Rattle.base_values.specs.Answers.{and_then, map_ok, ok_or}
 use Rattle.base_maps.specs.declared.SheetPlace.{SheetPlace}
+use Rattle.index_maps.specs.declared.SheetIndex.{SheetIndex}
 use Rattle.formula_tree.specs.declared.Node.{Node}
 use Rattle.formula_tree.specs.Depth.{is_within}
 use Rattle.cell_content.specs.Fitting.{tree_fits_at}
+use Rattle.format_rules.specs.declared.ConditionalFormatting.{ConditionalFormatting}
+use Rattle.format_rules.specs.Fitting.{has_fitting_trees, has_parts}
 use Rattle.defined_names.specs.declared.DefinedName.{DefinedName}
 use Rattle.defined_names.specs.Names.{names_left}
 use Rattle.sheet_grid.specs.Sheet.{Sheet}
@@ -31,26 +35,36 @@ use Rattle.book_sheets.specs.SheetDiffs.{deletion_back, kept_of, may_come_back, 
 use Rattle.book_sheets.specs.laws.SheetRules.{rules_at}
 use Rattle.book_names.specs.declared.KeptTrees.{KeptTrees}
 use Rattle.book_names.specs.Renaming.{everywhere, trees_kept}
-use Rattle.book_names.specs.laws.Stands.{kept_of_name, kept_tree_fits}
+use Rattle.book_names.specs.laws.Stands.{kept_of_name, kept_rule_fits, kept_tree_fits}
 use Rattle.book_laws.specs.laws.BothWays.{deletion_both_ways}
+use Rattle.book_laws.specs.laws.ListTests.{passes_at}
 use Rattle.book_laws.specs.laws.SheetDiffLaws.{found_at}
-use Rattle.sheet_history.specs.declared.Diff.TheVariants.{DeleteSheet as DeletionDiff, RenameSheet as RenameDiff, ChangeName as NameDiff, Setting as SettingDiff}
+use Rattle.sheet_history.specs.declared.Diff.{Diff}
+use Rattle.sheet_history.specs.declared.Diff.TheVariants.{DeleteSheet as DeletionDiff, RenameSheet as RenameDiff, ChangeName as NameDiff, Rule as RuleDiff, Setting as SettingDiff}
 use Rattle.sheet_history.specs.declared.Setting.{Setting}
 use Rattle.sheet_history.specs.Settings.{change_to}
 use Rattle.edit_plans.specs.SettingEdits.{has_setting, setting_record}
-use Rattle.sheet_history.specs.laws.Depth.{AreShallowTrees, IsShallowSheet}
+use Rattle.sheet_history.specs.laws.Depth.{AreShallowTrees, IsShallowSheet, is_shallow_rule}
 use Rattle.sheet_history.specs.Diffs.{IsCanonicalDiff, IsCanonicalList}
 use Rattle.sheet_history.specs.laws.Entries.{entry_holds}
+use Rattle.sheet_history.specs.laws.StandingRules.{all_shallow, rule_shallow, sheet_rules_stand}
+use Rattle.entry_records.specs.laws.AtIndex.{there}
 use Rattle.sheet_wire.specs.QueueBytes.{IsKnownDiff}
 use Rattle.sheet_wire.specs.laws.Fitting.{known_diff}
 use Rattle.edit_plans.specs.Edits.{Edit, is_of_sheets, record_of}
-use Rattle.edit_plans.specs.Edits.Edit.{Input, ArrayInput, SetLink, Merge, Unmerge, Lines, MoveLines, AddSheet, CopySheet, DeleteSheet, MoveSheet, RenameSheet, ChangeNames, SetField, SetSize, SetHidden, SetRangeStyle, ClearRange, ClearFormatting, PasteStyles, SetSetting, Fill}
+use Rattle.edit_plans.specs.Edits.Edit.{Input, ArrayInput, SetLink, Merge, Unmerge, Lines, MoveLines, AddSheet, CopySheet, DeleteSheet, MoveSheet, RenameSheet, ChangeNames, EditRules, SetField, SetSize, SetHidden, SetRangeStyle, ClearRange, ClearFormatting, PasteStyles, SetSetting, Fill}
 use Rattle.name_edits.specs.declared.NameChange.{NameChange}
 use Rattle.name_edits.specs.NameChanges.{trees_lost}
 use Rattle.name_edits.specs.NameEdits.{NameEdit, name_change}
-use Rattle.name_edits.specs.laws.BothWays.{IsMade, lost_tree_fits, old_fits}
+use Rattle.name_edits.specs.laws.BothWays.{IsMade, lost_rule_fits, lost_tree_fits, old_fits}
 use Rattle.name_edits.specs.laws.LaterRules.{edited}
 use Rattle.edit_plans.specs.NamedEdits.{name_diff}
+use Rattle.rule_edits.specs.declared.RuleChange.{RuleChange}
+use Rattle.rule_edits.specs.RuleChanges.{may_stand, rules_changed}
+use Rattle.rule_edits.specs.RuleEdits.{RuleEdit, rule_changes, sheet_index_of}
+use Rattle.rule_edits.specs.laws.EditLaws.{ChangesGo, edited_go}
+use Rattle.rule_edits.specs.laws.Lists.{IsAt, later_stand}
+use Rattle.edit_plans.specs.RuleEdits.{all_diffs, diffs_of, rules_record}
 use Rattle.edit_plans.specs.SheetEdits.{copy_diff, deletion_diff, move_diff, new_diff, one_diff, rename_diff}
 use Rattle.user_model.specs.Spellable.{AreSpellable}
 use Rattle.user_model.proofs.KeptLines.{own_lines}
@@ -90,6 +104,8 @@ module _ (index : ℕ) (sheet : Sheet) (w : Book) (rules : IsWellFormed w) (foun
   shallow = record {
     cells = λ place. shallow_entry place (get sheet.cells place) (cells_fit_from_trees sheet (rules_at w rules index sheet found).trees place);
     names = shallow_names;
+    formattings = all_shallow sheet.formattings
+        (sheet_rules_stand w rules sheet.id sheet (found_at index w.worksheets sheet (distinct_ids_from_well_formed w rules) found));
   }
 
   -- what is kept of it can be spelled
@@ -119,8 +135,15 @@ module _ (sheet : Sheet) (name : List ℕ) (w : Book) (rules : IsWellFormed w) (
       go None is = tt
       go (Some tree) is = shallow_tree first_place tree (kept_of_name sheet.name name w.names (well_formed_parts w rules).name_trees place tree is).fits
 
+  shallow_rules : (key : SheetIndex) → IfSome (get trees.formattings key) (λ formatting. IsTrue (is_shallow_rule formatting))
+  shallow_rules key = go (get trees.formattings key) refl
+    where
+      go : (o : Option ConditionalFormatting) → get trees.formattings key ≡ o → IfSome o (λ formatting. IsTrue (is_shallow_rule formatting))
+      go None is = tt
+      go (Some formatting) is = rule_shallow formatting (kept_rule_fits everywhere everywhere sheet.name name w rules key formatting is)
+
   shallow_trees : AreShallowTrees trees
-  shallow_trees = record { formulas = shallow_cells; names = shallow_defined }
+  shallow_trees = record { formulas = shallow_cells; names = shallow_defined; formattings = shallow_rules }
 
   -- what is kept of the trees can be spelled
   rename_known : IsCanonicalDiff (rename_diff name w sheet) → IsKnownDiff (rename_diff name w sheet)
@@ -143,13 +166,47 @@ module _ (change : NameChange) (w : Book) (rules : IsWellFormed w) (made : IsMad
       go None is = tt
       go (Some tree) is = shallow_tree key.place tree (lost_tree_fits change.index w change.old change.new rules key tree is)
 
+  shallow_lost_rules : (key : SheetIndex) → IfSome (get lost.formattings key) (λ formatting. IsTrue (is_shallow_rule formatting))
+  shallow_lost_rules key = go (get lost.formattings key) refl
+    where
+      go : (o : Option ConditionalFormatting) → get lost.formattings key ≡ o → IfSome o (λ formatting. IsTrue (is_shallow_rule formatting))
+      go None is = tt
+      go (Some formatting) is = rule_shallow formatting (lost_rule_fits change.index w change.old change.new rules key formatting is)
+
   -- a change and what is kept of it can be spelled
   name_known : IsCanonicalDiff (name_diff w change) → IsKnownDiff (name_diff w change)
   name_known numbers =
       known_diff (NameDiff change lost) numbers (
         record { old = shallow_name change.old (old_fits change.index w change.old change.new rules made.at); new = shallow_name change.new made.fits },
-        record { formulas = shallow_lost; names = λ place. subst (λ o. IfSome o (λ tree. IsTrue (is_within 64 tree))) (sym (get-empty nat_cmp place)) tt },
+        record {
+          formulas = shallow_lost;
+          names = λ place. subst (λ o. IfSome o (λ tree. IsTrue (is_within 64 tree))) (sym (get-empty nat_cmp place)) tt;
+          formattings = shallow_lost_rules;
+        },
       ) tt
+
+-- ---- changed conditional rules
+
+-- a rule that comes and may stand is not deep
+shallow_coming : (o : Option ConditionalFormatting) → option_map_or may_stand o true ≡ true → IfSome o (λ formatting. IsTrue (is_shallow_rule formatting))
+shallow_coming None fits = tt
+shallow_coming (Some formatting) fits = rule_shallow formatting (both (has_parts formatting) (has_fitting_trees formatting) fits).1
+
+-- nor is one that goes from others that may
+shallow_going : (index : ℕ) (o : Option ConditionalFormatting) (formattings : List ConditionalFormatting) → list_all may_stand formattings ≡ true → IsAt o index formattings
+    → IfSome o (λ formatting. IsTrue (is_shallow_rule formatting))
+shallow_going index None formattings stand at = tt
+shallow_going index (Some formatting) formattings stand at =
+    rule_shallow formatting (both (has_parts formatting) (has_fitting_trees formatting) (passes_at may_stand formattings index formatting stand at)).1
+
+-- changes that can be made one after the other can be spelled
+changes_known : (id : ℕ) (changes : List RuleChange) (formattings : List ConditionalFormatting) → list_all may_stand formattings ≡ true → ChangesGo changes formattings
+    → AllByRecursion IsCanonicalDiff (map (RuleDiff id) changes) → AreSpellable (map (RuleDiff id) changes)
+changes_known id [] formattings stand go numbers = tt
+changes_known id (c ∷ changes) formattings stand go numbers = (
+  known_diff (RuleDiff id c) numbers.0 (record { old = shallow_going c.index c.old formattings stand go.0.at; new = shallow_coming c.new go.0.fits }) tt,
+  changes_known id changes (rules_changed c formattings) (later_stand c.index c.old c.new formattings stand go.0) go.1 numbers.1,
+)
 
 -- ---- records
 
@@ -189,6 +246,24 @@ module _ (w : Book) (rules : IsWellFormed w) where
   names_spellable edit (Ok change) found numbers =
       (name_known change w rules (edited w rules edit change found).made (recursion_from_All IsCanonicalDiff (one_diff (Ok (name_diff w change))) numbers).0, tt)
 
+  rules_spellable : (edit : RuleEdit) → IsCanonicalList (rules_record edit w) → AreSpellable (rules_record edit w)
+  rules_spellable edit numbers = on_sheet (sheet_at w (sheet_index_of edit)) refl numbers
+    where
+      on_changes : (sheet : Sheet) → sheet_at w (sheet_index_of edit) ≡ Ok sheet → (r : Result (List RuleChange) EditError) → rule_changes edit sheet.formattings ≡ r
+          → IsCanonicalList (all_diffs (map_ok (diffs_of sheet) r)) → AreSpellable (all_diffs (map_ok (diffs_of sheet) r))
+      on_changes sheet at (Err error) made numbers = tt
+      on_changes sheet at (Ok changes) made numbers =
+          let stand = sheet_rules_stand w rules sheet.id sheet (there w rules (sheet_index_of edit) sheet at) in
+          changes_known sheet.id changes sheet.formattings stand (edited_go sheet.formattings stand edit changes made)
+          (recursion_from_All IsCanonicalDiff (diffs_of sheet changes) numbers)
+
+      diffs : Result Sheet EditError → List Diff
+      diffs s = all_diffs (and_then s (λ sheet. map_ok (diffs_of sheet) (rule_changes edit sheet.formattings)))
+
+      on_sheet : (s : Result Sheet EditError) → sheet_at w (sheet_index_of edit) ≡ s → IsCanonicalList (diffs s) → AreSpellable (diffs s)
+      on_sheet (Err error) at numbers = tt
+      on_sheet (Ok sheet) at numbers = on_changes sheet at (rule_changes edit sheet.formattings) refl numbers
+
   setting_spellable : (setting : Setting) → AreSpellable (setting_record setting w)
   setting_spellable setting = go (has_setting setting w)
     where
@@ -203,6 +278,7 @@ module _ (w : Book) (rules : IsWellFormed w) where
   sheets_spellable (MoveSheet from to) is later numbers = move_spellable from to (sheet_at w from)
   sheets_spellable (RenameSheet index name) is later numbers = rename_spellable index name (slice_get w.worksheets index) refl numbers
   sheets_spellable (ChangeNames edit) is later numbers = names_spellable edit (name_change edit w) refl numbers
+  sheets_spellable (EditRules edit) is later numbers = rules_spellable edit numbers
   sheets_spellable (SetSetting setting) is later numbers = setting_spellable setting
   sheets_spellable (Input index row column content feeds) is later numbers = absurd (let never : false ≡ true = is in cc)
   sheets_spellable (ArrayInput index r tree) is later numbers = absurd (let never : false ≡ true = is in cc)

@@ -18,7 +18,7 @@ use Rattle.sheet_rules.specs.WellFormed.{is_place, IsWellFormed}
 use Rattle.sheet_rules.specs.laws.EntryLaws.{both}
 use Rattle.sheet_lines.specs.Sheets.{sheet_of}
 use Rattle.sheet_history.specs.declared.Diff.{Diff}
-use Rattle.sheet_history.specs.declared.Diff.TheVariants.{Cell as CellDiff, Link as LinkDiff, Merges as MergesDiff, Field as FieldDiff, Lines as LinesDiff, NewSheet as NewDiff, DuplicateSheet as CopyDiff, DeleteSheet as DeletionDiff, MoveSheet as MoveDiff, RenameSheet as RenameDiff, ChangeName as NameDiff, Attributes as AttrDiff, Setting as SettingDiff}
+use Rattle.sheet_history.specs.declared.Diff.TheVariants.{Cell as CellDiff, Link as LinkDiff, Merges as MergesDiff, Field as FieldDiff, Lines as LinesDiff, NewSheet as NewDiff, DuplicateSheet as CopyDiff, DeleteSheet as DeletionDiff, MoveSheet as MoveDiff, RenameSheet as RenameDiff, ChangeName as NameDiff, Attributes as AttrDiff, Setting as SettingDiff, Rule as RuleDiff}
 use Rattle.sheet_history.specs.declared.LineAxis.{LineAxis}
 use Rattle.sheet_history.specs.LineDiffs.{along_of}
 use Rattle.sheet_history.specs.Diffs.{IsCanonicalDiff, IsCanonicalList}
@@ -72,6 +72,7 @@ module _ (w : Book) where
   known (AttrDiff id axis line old new) c is news olds kept =
       let same : ◌≡◌ {A = Change} (AttrKey id axis line, (AttrValue old, AttrValue new)) c = cc in
       (known_line id axis line old (ap (λ (x : Change). accepts w x.0 x.1.0) same ∙ olds), known_line id axis line new (ap (λ (x : Change). accepts w x.0 x.1.1) same ∙ news))
+  known (RuleDiff id change) c is news olds kept = absurd (cc)
   known (LinesDiff id axis edit lines) c is news olds kept = absurd (cc)
   known (NewDiff id index name) c is news olds kept = absurd (cc)
   known (CopyDiff source id index name) c is news olds kept = absurd (cc)

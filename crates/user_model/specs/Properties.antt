@@ -2,6 +2,7 @@
 use Rattle.std.proofs.Common.{ℕ, ℤ, Bool, List, map, Option, Result}
 use Rattle.base_values.specs.declared.EditError.{EditError}
 use Rattle.base_values.specs.Answers.{and_then, map_ok}
+use Rattle.format_rules.specs.declared.ConditionalFormatting.{ConditionalFormatting}
 use Rattle.sheet_grid.specs.Lines.{shown_size, usual_height, usual_width}
 use Rattle.sheet_grid.specs.Sheet.{Sheet, of_column, of_row}
 use Rattle.sheet_grid.specs.Book.{Book, sheet_at}
@@ -41,3 +42,7 @@ frozen_rows index book = map_ok (λ sheet. sheet.frozen_rows) (sheet_at book ind
 
 abbrev pub frozen_columns : ℕ → Book → Result ℤ EditError
 frozen_columns index book = map_ok (λ sheet. sheet.frozen_columns) (sheet_at book index)
+
+-- the conditional rules of the sheet, in their order
+abbrev pub formattings_in : ℕ → Book → Result (List ConditionalFormatting) EditError
+formattings_in index book = map_ok (λ sheet. sheet.formattings) (sheet_at book index)

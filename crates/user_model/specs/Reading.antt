@@ -36,6 +36,10 @@ without_sign (c ∷ rest) = if c == 61 then rest else c ∷ rest
 abbrev pub formula_typed : Book → Language → ℤ → ℤ → List ℕ → Node
 formula_typed book language row column text = formula_of (profile_at (record { row = row; column = column }) book.locale language) (without_sign text)
 
+-- the formula that a text is read as at a place
+abbrev pub formula_at : Position → List ℕ → Book → Language → Node
+formula_at place text book language = formula_of (profile_at place book.locale language) (without_sign text)
+
 -- a link to a target
 abbrev pub link_to : List ℕ → Link
 link_to target = record { target = target }

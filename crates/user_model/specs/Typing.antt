@@ -4,6 +4,7 @@ use Rattle.base_values.specs.declared.EditError.{EditError}
 use Rattle.base_axis.specs.declared.MergedCell.{MergedCell}
 use Rattle.base_values.specs.Answers.{map_ok}
 use Rattle.base_tables.specs.declared.Language.{Language}
+use Rattle.formula_tree.specs.declared.Node.{Node}
 use Rattle.defined_names.specs.declared.DefinedName.{DefinedName}
 use Rattle.sheet_grid.specs.Book.{Book}
 use Rattle.name_edits.specs.NameEdits.{valid_name}
@@ -12,7 +13,8 @@ use Rattle.edit_plans.specs.Edits.Edit.{Input, ArrayInput, ChangeNames, Fill}
 use Rattle.line_sizes.specs.Heights.{line_feeds}
 use Rattle.sheet_history.specs.declared.LineAxis.{LineAxis}
 use Rattle.user_model.specs.Machine.{State, edit_of}
-use Rattle.user_model.specs.Reading.{typed, formula_typed}
+use Rattle.user_model.specs.Places.{rule_goes}
+use Rattle.user_model.specs.Reading.{typed, formula_at, formula_typed}
 
 -- a text typed into the cell at a row and a column: it is read in the workbook's locale and in the language of the state, and put there
 abbrev pub text_typed : ℕ → ℤ → ℤ → List ℕ → State → Result State EditError
@@ -33,6 +35,10 @@ update_typed scope name new_scope new_name text s = edit_of (ChangeNames (Update
 -- the scope of such a new name of a workbook, or why there is none
 abbrev pub name_tested : Option ℕ → List ℕ → List ℕ → Book → Language → Result (Option ℕ) EditError
 name_tested scope name text book language = map_ok (λ (made : DefinedName). made.scope) (valid_name scope name (formula_typed book language (pos 1) (pos 1) text) book)
+
+-- the formula of a conditional rule that a text is read as, at the first place of a rectangle of the sheet at an index, or why there is none
+abbrev pub rule_formula : ℕ → MergedCell → List ℕ → Book → Language → Result Node EditError
+rule_formula index r text book language = map_ok (λ place. formula_at place text book language) (rule_goes index r book)
 
 -- a fill of rows or of columns from a rectangle to a line: texts that go on are read in the language of the state
 abbrev pub fill_asked : ℕ → LineAxis → MergedCell → ℤ → State → Result State EditError

@@ -23,6 +23,7 @@ pub use laws::edits_go_both_ways;
 pub use name_lists::ScopedName;
 pub use properties::SheetProperties;
 pub use recalc::{ClearAll, Recalc};
+pub use rule_wire::encode_rule;
 pub use sheet_views::{View, selected_sheet_after_move};
 pub use structure::CellArrayStructure;
 pub use user_model::UserModel;

@@ -3,11 +3,12 @@ ghost use Rattle.base_values.specs.Answers.{Returns};
 ghost use Rattle.base_values.specs.declared.EditError.TheVariants.{NoMemory};
 ghost use Rattle.std.specs.Prelude.{string_bytes};
 ghost use Rattle.base_values.specs.Answers.{map_ok};
-ghost use Rattle.user_model.specs.Properties.{all_properties, column_width, draws_grid_lines, first_filled, frozen_columns, frozen_rows, last_filled, properties_of, row_height};
+ghost use Rattle.user_model.specs.Properties.{all_properties, column_width, draws_grid_lines, first_filled, formattings_in, frozen_columns, frozen_rows, last_filled, properties_of, row_height};
 ghost use Rattle.user_model.specs.Settings.{resolved_text};
 
 use base_styles::{Color, Theme};
 use base_values::{EditError, Exact, Items, Text};
+use format_rules::ConditionalFormatting;
 use sheet_grid::{SheetState, Workbook, Worksheet};
 use sheet_navigation::RowSearch;
 use std::alloc::Global;
@@ -144,4 +145,20 @@ pub(crate) fn frozen_columns(workbook: &Workbook, sheet: u32) -> Result<i32, Edi
     ensures { result ≡ frozen_columns sheet workbook.now }
 {
     Ok(workbook.worksheet(sheet)?.frozen_columns())
+}
+
+/// The conditional rules of the sheet at an index, in the order in which they were made. It takes no
+/// memory.
+pub(crate) fn formattings_in(
+    workbook: &Workbook,
+    sheet: u32,
+) -> Result<&[ConditionalFormatting], EditError>
+    ensures { map_ok (λ lent. lent.now) result ≡ formattings_in sheet workbook.now }
+{
+    Ok(
+        workbook
+            .worksheet(sheet)?
+            .conditional_formatting()
+            .as_slice(),
+    )
 }

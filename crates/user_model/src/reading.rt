@@ -9,7 +9,7 @@ ghost use Rattle.formula_tree.specs.Numbers.{has_canonical_numbers};
 ghost use Rattle.cell_content.specs.Fitting.{fits_at, tree_fits_at};
 ghost use Rattle.cell_content.specs.CanonicalContent.{IsCanonicalContent};
 ghost use Rattle.cell_input.specs.Inputs.{input_of};
-ghost use Rattle.user_model.specs.Places.{array_goes, input_goes, link_goes};
+ghost use Rattle.user_model.specs.Places.{array_goes, input_goes, link_goes, rule_goes};
 ghost use Rattle.user_model.specs.Reading.{content_text, link_to, profile_at, rectangle, rectangle_of, without_sign};
 
 use base_axis::{Area, MergedCell};
@@ -159,6 +159,25 @@ pub(crate) fn find_array_place(
     let place = place_of(area.row, area.column)?;
     free_area(found, area)?;
     Ok(place)
+}
+
+/// The first place of a rectangle of the sheet at an index, where the formulas of a conditional rule stand
+/// whose first part that is. It takes no memory.
+pub(crate) fn find_rule_place(
+    workbook: &Workbook,
+    sheet: u32,
+    area: MergedCell,
+) -> Result<Position, EditError>
+    ensures found { result ≡ rule_goes sheet area workbook.now }
+    ensures inside { IfOk result IsPlace }
+    ensures sure { result ≢ Err NoMemory }
+{
+    let _found = workbook.worksheet(sheet)?;
+    if area.is_inside() {
+        Ok(area.anchor_place())
+    } else {
+        Err(EditError::InvalidArea)
+    }
 }
 
 /// A formula's text without a leading equals sign.

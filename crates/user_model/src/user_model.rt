@@ -29,6 +29,7 @@ mod fills;
 mod lines;
 mod names;
 mod ranges;
+mod rules;
 mod settings;
 mod sheets;
 mod views;

@@ -70,13 +70,13 @@ arrays_listed (e ∷ es) =
 merge_inside : (merge : MergedCell) → is_merge merge ≡ true → is_inside merge ≡ true
 merge_inside merge h = (both _ _ h).1
 
--- arrays and merges of a sheet that keeps its rules lie inside
+-- arrays, merges and parts of conditional rules of a sheet that keeps its rules lie inside
 pub lies_inside_by_rules : (s : Sheet) → KeepsSheetRules s → sheet_lies_inside s ≡ true
 unfolding sheet_lies_inside have_arrays
 lies_inside_by_rules s h =
     let arrays = sym (arrays_listed (entries s.cells)) ∙ (both _ _ h.arrays).0 in
     let merges = all_others is_merge is_inside s.merges merge_inside (keeps_merges s h.merges).merges in
-    λ i. arrays i && merges i
+    λ i. arrays i && merges i && h.rule_parts i
 
 cells_fit_by_rules : (s : Sheet) → KeepsSheetRules s → cells_fit s.cells ≡ true
 unfolding cells_fit have_trees
@@ -125,7 +125,7 @@ module _ (sheet : Sheet) (names : List DefinedName) where
   -- what is kept of a sheet may come back among the names that are left
   may_return : KeepsSheetRules sheet → have_name_trees names ≡ true → may_come_back (length (names_left sheet.id names)) (kept_of sheet names) ≡ true
   unfolding may_come_back
-  may_return h trees = λ i. lies_inside_by_rules sheet h i && cells_fit_by_rules sheet h i && (kept_have_places i && kept_fit trees i)
+  may_return h trees = λ i. lies_inside_by_rules sheet h i && cells_fit_by_rules sheet h i && h.rule_trees i && (kept_have_places i && kept_fit trees i)
 
 pub deletion_both_ways : (at index : ℕ) (sheet : Sheet) (w : Book) → IsWellFormed w → slice_get w.worksheets index ≡ Some sheet
     → LeadsBothWays (deletion_forward at (kept_of sheet w.names)) (deletion_back at index (kept_of sheet w.names)) w (without_sheet_at index (names_left sheet.id w.names) w)

@@ -97,7 +97,17 @@ apart_without sheets index h = record {
 
 rules_as : (id : ℕ) (name : List ℕ) (s : Sheet) → KeepsSheetRules s → KeepsSheetRules (sheet_as id name s)
 unfolding stands_inside have_arrays have_merges are_hidden_blank have_trees have_attributes
-rules_as id name s h = record { inside = h.inside; arrays = h.arrays; merges = h.merges; hidden = h.hidden; trees = h.trees; attributes = h.attributes; frozen = h.frozen }
+rules_as id name s h = record {
+  inside = h.inside;
+  arrays = h.arrays;
+  merges = h.merges;
+  hidden = h.hidden;
+  trees = h.trees;
+  rule_trees = h.rule_trees;
+  attributes = h.attributes;
+  frozen = h.frozen;
+  rule_parts = h.rule_parts;
+}
 
 -- a new sheet keeps them as that of a new workbook does
 rules_new : (id : ℕ) (name : List ℕ) (w : Book) → KeepsSheetRules (new_sheet id name)

@@ -15,13 +15,17 @@ use Rattle.base_maps.specs.laws.Inverses.{own_inverse}
 use Rattle.base_maps.specs.laws.Tagged.{get-all_under}
 use Rattle.formula_names.specs.declared.Reach.{Reach}
 use Rattle.formula_names.specs.declared.Reach.TheVariants.{Sheets}
+use Rattle.index_maps.specs.Tagged.{index_on}
+use Rattle.index_maps.specs.laws.Tagged.{get-all_under as get-indexes_under}
 use Rattle.sheet_grid.specs.declared.Cell.{Cell}
 use Rattle.sheet_grid.specs.Sheet.{Sheet}
 use Rattle.sheet_grid.specs.Book.{Book}
 use Rattle.sheet_lines.specs.Sheets.{sheet_of, HasDistinctIds}
 use Rattle.book_names.specs.declared.kept_trees.KeptTrees.{KeptTrees}
 use Rattle.book_names.specs.Renaming.{cells_renamed, sheet_renamed, book_renamed, cell_kept, cells_kept, formulas_kept, everywhere, trees_kept, cells_back, sheet_back, book_back}
+use Rattle.book_names.specs.Renaming.{formattings_renamed, own_formattings_kept, formattings_kept, formattings_back}
 use Rattle.book_names.specs.laws.Cells.{cells_regained}
+use Rattle.book_names.specs.laws.Formattings.{formattings_regained as own_formattings_regained}
 use Rattle.book_names.specs.laws.Names.{names_regained}
 
 -- the trees that are kept under an id and a place: that of the cell there, where the opposite renaming does not give it
@@ -35,6 +39,13 @@ formulas_at there back old new book distinct n p =
     at_sheet None = refl
     at_sheet (Some sheet) =
         get-gathered position_cmp position_total exact_positions Some Some own_inverse (λ _ _ cell. cell_kept (there sheet.id) (back sheet.id) old new cell) sheet.cells p
+
+-- the conditional rule that is kept under an id and a place: that of the sheet's list there, where the opposite renaming does not give it
+pub formattings_at : (there back : ℕ → Reach) (old new : List ℕ) (book : Book) → HasDistinctIds book → (n q : ℕ) →
+    get (formattings_kept there back old new book.worksheets) (index_on n q)
+    ≡ if_there (sheet_of book n) (λ sheet. get (own_formattings_kept (there sheet.id) (back sheet.id) old new sheet.formattings) q)
+formattings_at there back old new book distinct n q =
+    get-indexes_under (λ (sheet : Sheet). sheet.id) (λ (sheet : Sheet). own_formattings_kept (there sheet.id) (back sheet.id) old new sheet.formattings) book.worksheets distinct n q
 
 module _ (there back : ℕ → Reach) (old new : List ℕ) (book : Book) (distinct : HasDistinctIds book) where
   -- what is kept under the id of a sheet is what is kept of its cells
@@ -50,6 +61,21 @@ module _ (there back : ℕ → Reach) (old new : List ℕ) (book : Book) (distin
       → cells_back (back s.id) old new (λ p. get (formulas_kept there back old new book.worksheets) (place_on s.id p)) (cells_renamed (there s.id) old new s.cells) ≡ s.cells
   sheet_cells_regained s found =
       cells_regained (there s.id) (back s.id) old new s.cells (λ p. get (formulas_kept there back old new book.worksheets) (place_on s.id p)) (kept_here s found)
+
+  -- what is kept under the id of a sheet is what is kept of its conditional rules
+  rule_kept_here : (s : Sheet) → sheet_of book s.id ≡ Some s → (q : ℕ)
+      → get (formattings_kept there back old new book.worksheets) (index_on s.id q) ≡ get (own_formattings_kept (there s.id) (back s.id) old new s.formattings) q
+  rule_kept_here s found q =
+      formattings_at there back old new book distinct s.id q
+      ∙ ap (λ o. if_there o (λ (t : Sheet). get (own_formattings_kept (there t.id) (back t.id) old new t.formattings) q)) found
+
+  -- the conditional rules of each sheet come back with what is kept
+  pub sheet_formattings_regained : (s : Sheet) → sheet_of book s.id ≡ Some s
+      → formattings_back (back s.id) old new (λ q. get (formattings_kept there back old new book.worksheets) (index_on s.id q)) (formattings_renamed (there s.id) old new s.formattings)
+      ≡ s.formattings
+  sheet_formattings_regained s found =
+      (λ i. formattings_back (back s.id) old new (λ q. rule_kept_here s found q i) (formattings_renamed (there s.id) old new s.formattings))
+      ∙ own_formattings_regained (there s.id) (back s.id) old new s.formattings
 
 module _ (id : ℕ) (new : List ℕ) (book : Book) (distinct : HasDistinctIds book) (sheet : Sheet) (found : sheet_of book id ≡ Some sheet) where
   abbrev old : List ℕ
@@ -73,6 +99,7 @@ module _ (id : ℕ) (new : List ℕ) (book : Book) (distinct : HasDistinctIds bo
   sheet_regained s there = λ i. record s {
     name = name_regained s there i;
     cells = sheet_cells_regained everywhere everywhere old new book distinct s there i;
+    formattings = sheet_formattings_regained everywhere everywhere old new book distinct s there i;
   }
 
   all_regained : (sheets : List Sheet) → AllByRecursion (λ s. sheet_of book s.id ≡ Some s) sheets → map (sheet_back id old new kept) (map (sheet_renamed id old new) sheets) ≡ sheets

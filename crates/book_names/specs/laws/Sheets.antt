@@ -1,4 +1,4 @@
--- A sheet whose trees are renamed keeps the rules of a sheet, and its formulas stay placed.
+-- A sheet whose trees are renamed keeps the rules of a sheet, its formulas stay placed, and its conditional rules stand inside.
 use Rattle.std.proofs.Common.{◌≡◌, ℕ, ℤ, pos, Bool, true, not, ◌&&◌, ◌||◌, List, [], ◌∷◌, map, Option, Some, None, refl, ap, sym, subst, ◌∙◌}
 use Rattle.std.specs.Prelude.{◌==◌, IfSome, if◌then◌else◌}
 use Rattle.std.specs.List.{AllByRecursion, filter_map, list_all, list_any}
@@ -22,6 +22,8 @@ use Rattle.cell_content.specs.declared.Content.{Content}
 use Rattle.cell_content.specs.Fitting.{fits_at}
 use Rattle.cell_content.specs.Lens.{tree_of, with_tree}
 use Rattle.cell_content.specs.laws.LensLaws.{tree_of-with_tree}
+use Rattle.format_rules.specs.Fitting.{StandsInside}
+use Rattle.index_maps.specs.Tagged.{index_on}
 use Rattle.sheet_grid.specs.Arrays.{array_at, arrays_of, where_large, large_array_at, large_arrays_of}
 use Rattle.sheet_grid.specs.declared.Cell.{Cell}
 use Rattle.sheet_grid.specs.declared.LineAttr.{LineAttr}
@@ -34,15 +36,17 @@ use Rattle.sheet_lines.specs.Sheets.{IsPlacedCell, IsPlacedSheet}
 use Rattle.book_sheets.specs.laws.SheetRules.{KeepsSheetRules}
 use Rattle.book_names.specs.declared.kept_trees.KeptTrees.{KeptTrees}
 use Rattle.book_names.specs.Renaming.{ArePlacedTrees, content_renamed, cell_renamed, cells_renamed, sheet_renamed, kept_under, cell_back, cells_back, sheet_back}
+use Rattle.book_names.specs.Renaming.{formattings_renamed, formattings_under, formattings_back}
 use Rattle.book_names.specs.laws.Cells.{renamed_none, renamed_some, still_array, still_empty, content_fits}
 use Rattle.book_names.specs.laws.Entries.{entries_changed, all_same, gives_same}
+use Rattle.book_names.specs.laws.Formattings.{all_parts_still, all_trees_still, rules_still, rules_back_still}
 
 -- ---- the rules of a sheet
 
 module _ (reach : Reach) (name old new : List ℕ) (sheet : Sheet) where
   -- the sheet under some name, whose trees are renamed
   abbrev pub later : Sheet
-  later = record sheet { name = name; cells = cells_renamed reach old new sheet.cells }
+  later = record sheet { name = name; cells = cells_renamed reach old new sheet.cells; formattings = formattings_renamed reach old new sheet.formattings }
 
   abbrev changed : Position × Cell → Position × Cell
   changed entry = (entry.0, cell_renamed reach old new entry.1)
@@ -105,8 +109,10 @@ module _ (reach : Reach) (name old new : List ℕ) (sheet : Sheet) where
     merges = merges_same ∙ h.merges;
     hidden = hidden_same ∙ h.hidden;
     trees = trees_same ∙ h.trees;
+    rule_trees = all_trees_still reach old new sheet.formattings ∙ h.rule_trees;
     attributes = attributes_same ∙ h.attributes;
     frozen = h.frozen;
+    rule_parts = all_parts_still reach old new sheet.formattings ∙ h.rule_parts;
   }
 
 pub all_rules_stay : (id : ℕ) (old new : List ℕ) (sheets : List Sheet) → AllByRecursion KeepsSheetRules sheets → AllByRecursion KeepsSheetRules (map (sheet_renamed id old new) sheets)
@@ -148,6 +154,7 @@ placed_sheet reach name old new sheet h = record {
       (each_gathered position_cmp position_total exact_positions IsPlacedCell Some Some own_inverse (λ _ _ cell. Some (cell_renamed reach old new cell)) sheet.cells
       (λ p q cell there held. let same : p ≡ q = cc in placed_renamed reach old new q cell (subst (λ k. IsPlacedCell k cell) same (h.cells p cell held))));
   merges = h.merges;
+  formattings = rules_still reach old new sheet.formattings h.formattings;
 }
 
 -- a renamed workbook stays placed
@@ -157,7 +164,11 @@ placed_book id old new (sheet ∷ sheets) all = (placed_sheet Sheets (if sheet.i
 
 -- a sheet is, under any name
 pub sheet_placed_back : (reach : Reach) (name old new : List ℕ) (kept : KeptTrees) → ArePlacedTrees kept → (sheet : Sheet) → IsPlacedSheet sheet
-    → IsPlacedSheet (record sheet { name = name; cells = cells_back reach old new (kept_under kept sheet.id) sheet.cells })
+    → IsPlacedSheet (record sheet {
+      name = name;
+      cells = cells_back reach old new (kept_under kept sheet.id) sheet.cells;
+      formattings = formattings_back reach old new (formattings_under kept sheet.id) sheet.formattings;
+    })
 sheet_placed_back reach name old new kept trees sheet h =
     let parts : Position → Option Node = kept_under kept sheet.id in
     record {
@@ -165,8 +176,10 @@ sheet_placed_back reach name old new kept trees sheet h =
           (each_gathered position_cmp position_total exact_positions IsPlacedCell Some Some own_inverse (λ _ place cell. Some (cell_back reach old new (parts place) cell)) sheet.cells
           (λ p q cell there held.
           let same : p ≡ q = cc in
-          placed_back reach old new q (parts q) cell (holds_of (IsPlacedTree q) (parts q) (λ tree. trees (place_on sheet.id q) tree)) (subst (λ k. IsPlacedCell k cell) same (h.cells p cell held))));
+          placed_back reach old new q (parts q) cell (holds_of (IsPlacedTree q) (parts q) (λ tree. trees.formulas (place_on sheet.id q) tree)) (subst (λ k. IsPlacedCell k cell) same (h.cells p cell held))));
       merges = h.merges;
+      formattings = rules_back_still reach old new (formattings_under kept sheet.id)
+          (λ q. holds_of StandsInside (formattings_under kept sheet.id q) (λ formatting. trees.formattings (index_on sheet.id q) formatting)) sheet.formattings h.formattings;
     }
 
 -- so does one that is taken back, where the kept trees are placed

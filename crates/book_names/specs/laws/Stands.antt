@@ -27,6 +27,11 @@ use Rattle.formula_names.specs.laws.RenamedLaws.{something_kept}
 use Rattle.cell_content.specs.Fitting.{tree_fits_at}
 use Rattle.cell_content.specs.Lens.{tree_of}
 use Rattle.defined_names.specs.declared.DefinedName.{DefinedName}
+use Rattle.format_rules.specs.declared.ConditionalFormatting.{ConditionalFormatting}
+use Rattle.format_rules.specs.Fitting.{has_fitting_trees, has_parts}
+use Rattle.index_maps.specs.declared.SheetIndex.{SheetIndex}
+use Rattle.index_maps.specs.SheetIndexes.{sheet_index_cmp}
+use Rattle.index_maps.specs.laws.SheetIndexes.{sheet_index_total, exact_sheet_indexes}
 use Rattle.sheet_grid.specs.declared.Cell.{Cell}
 use Rattle.sheet_grid.specs.Sheet.{Sheet}
 use Rattle.sheet_grid.specs.Book.{Book}
@@ -39,11 +44,14 @@ use Rattle.sheet_lines.specs.Sheets.{sheet_of}
 use Rattle.book_sheets.specs.laws.SheetRules.{KeepsSheetRules, all_keep}
 use Rattle.book_names.specs.declared.kept_trees.KeptTrees.{KeptTrees}
 use Rattle.book_names.specs.Renaming.{cell_renamed, cells_renamed, defined_renamed, sheet_renamed, book_renamed, cell_kept, formulas_kept, everywhere, names_kept, trees_kept, book_back}
-use Rattle.book_names.specs.RenameDiffs.{stand_on_places, is_formula, tree_stands, formulas_stand, names_stand, goes_forward, goes_back, rename_forward, rename_back}
+use Rattle.book_names.specs.Renaming.{formattings_renamed, own_formattings_kept, formattings_kept}
+use Rattle.book_names.specs.RenameDiffs.{stand_on_places, stand_on_parts, is_formula, tree_stands, formulas_stand, names_stand, formatting_stands, formattings_stand}
+use Rattle.book_names.specs.RenameDiffs.{lie_in_sheets, goes_forward, goes_back, rename_forward, rename_back}
 use Rattle.book_names.specs.laws.Cells.{kept_is, formula_stays}
 use Rattle.book_names.specs.laws.Entries.{all_entries, entry_holds, get_changed}
+use Rattle.book_names.specs.laws.Formattings.{same_count as same_rule_count, own_kept_passes, own_kept_within}
 use Rattle.book_names.specs.laws.Names.{listed}
-use Rattle.book_names.specs.laws.Regained.{formulas_at, book_regained}
+use Rattle.book_names.specs.laws.Regained.{formulas_at, formattings_at, book_regained}
 
 -- ---- defined names
 
@@ -98,7 +106,7 @@ module _ (old new : List ℕ) where
       let count = same_count names in
       λ i. lt-ltb q (length (map (defined_renamed old new) names)) (omega (arith, count, lower)) i && of.fits i)
 
--- ---- cells
+-- ---- cells and conditional rules
 
 -- the sheet of an id in the later workbook
 pub later_found : (id : ℕ) (old new : List ℕ) (n : ℕ) (sheets : List Sheet) (s : Sheet) → find (λ (t : Sheet). t.id == n) sheets ≡ Some s
@@ -114,12 +122,13 @@ later_found id old new n (t ∷ sheets) s h = go (later_found id old new n sheet
     go more true is it = let same : t ≡ s = cc in ap (λ b. cond b (Some (sheet_renamed id old new t)) (find (λ (u : Sheet). u.id == n) rest)) is ∙ ap (λ u. Some (sheet_renamed id old new u)) same
     go more false is it = ap (λ b. cond b (Some (sheet_renamed id old new t)) (find (λ (u : Sheet). u.id == n) rest)) is ∙ more it
 
--- a sheet of a later workbook under an id: its cells are those of an earlier one, renamed
+-- a sheet of a later workbook under an id: its cells and its conditional rules are those of an earlier one, renamed
 pub record HasLater (old new : List ℕ) (later : Book) (n : ℕ) (s : Sheet) : Type 0 where
   pub sheet : Sheet
   pub there : sheet_of later n ≡ Some sheet
   pub reach : Reach
   pub cells : sheet.cells ≡ cells_renamed reach old new s.cells
+  pub formattings : sheet.formattings ≡ formattings_renamed reach old new s.formattings
 
 module _ (there back : ℕ → Reach) (old new : List ℕ) (book : Book) (rules : IsWellFormed book) where
   abbrev formulas : FinMap sheet_place_cmp Node
@@ -167,6 +176,44 @@ module _ (there back : ℕ → Reach) (old new : List ℕ) (book : Book) (rules 
       let it = kept_tree key tree h in
       entry_holds position_cmp position_total exact_positions (λ (entry : Position × Cell). is_place entry.0) it.of.cells (cells_inside it.of (rules_of key.sheet it.of it.found).inside) key.place it.cell it.stands)
 
+  -- ---- conditional rules
+
+  abbrev formattings : FinMap sheet_index_cmp ConditionalFormatting
+  formattings = formattings_kept there back old new book.worksheets
+
+  -- a kept conditional rule is one of those of a sheet
+  pub record IsOfList (key : SheetIndex) (formatting : ConditionalFormatting) : Type 0 where
+    pub of : Sheet
+    pub found : sheet_of book key.sheet ≡ Some of
+    pub kept : get (own_formattings_kept (there of.id) (back of.id) old new of.formattings) key.index ≡ Some formatting
+
+  of_list : (key : SheetIndex) (formatting : ConditionalFormatting) (o : Option Sheet) → sheet_of book key.sheet ≡ o
+      → if_there o (λ (s : Sheet). get (own_formattings_kept (there s.id) (back s.id) old new s.formattings) key.index) ≡ Some formatting → IsOfList key formatting
+  of_list key formatting None none h = absurd (cc)
+  of_list key formatting (Some s) found h = record { of = s; found = found; kept = h }
+
+  kept_formatting : (key : SheetIndex) (formatting : ConditionalFormatting) → get formattings key ≡ Some formatting → IsOfList key formatting
+  kept_formatting key formatting h =
+      of_list key formatting (sheet_of book key.sheet) refl (sym (formattings_at there back old new book (distinct_ids_from_well_formed book rules) key.sheet key.index) ∙ h)
+
+  -- it has parts, which lie inside the sheet
+  kept_has_parts : (key : SheetIndex) (formatting : ConditionalFormatting) → IsOfList key formatting → has_parts formatting ≡ true
+  kept_has_parts key formatting it =
+      own_kept_passes (there it.of.id) (back it.of.id) old new has_parts it.of.formattings (rules_of key.sheet it.of it.found).rule_parts key.index formatting it.kept
+
+  -- and its formulas fit there
+  kept_formatting_fits : (key : SheetIndex) (formatting : ConditionalFormatting) → IsOfList key formatting → has_fitting_trees formatting ≡ true
+  kept_formatting_fits key formatting it =
+      own_kept_passes (there it.of.id) (back it.of.id) old new has_fitting_trees it.of.formattings (rules_of key.sheet it.of it.found).rule_trees key.index formatting it.kept
+
+  pub kept_rule_fits : (key : SheetIndex) (formatting : ConditionalFormatting) → get formattings key ≡ Some formatting → has_fitting_trees formatting ≡ true
+  kept_rule_fits key formatting h = kept_formatting_fits key formatting (kept_formatting key formatting h)
+
+  pub kept_on_parts : stand_on_parts formattings ≡ true
+  unfolding stand_on_parts
+  kept_on_parts = all_entries sheet_index_cmp sheet_index_total exact_sheet_indexes (λ (entry : SheetIndex × ConditionalFormatting). has_parts entry.1) formattings
+      (λ key formatting h. kept_has_parts key formatting (kept_formatting key formatting h))
+
   -- and at its place there is a formula later, where each sheet has its cells renamed
   module _ (later : Book) (laters : (n : ℕ) (s : Sheet) → sheet_of book n ≡ Some s → HasLater old new later n s) where
     formula_there : (key : SheetPlace) (tree : Node) (it : IsOfCell key tree) → is_formula (get (laters key.sheet it.of it.found).sheet.cells key.place) ≡ true
@@ -186,6 +233,27 @@ module _ (there back : ℕ → Reach) (old new : List ℕ) (book : Book) (rules 
     kept_stand_later = all_entries sheet_place_cmp sheet_place_total exact_sheet_places (λ (entry : SheetPlace × Node). tree_stands (sheet_of later entry.0.sheet) entry.0.place entry.1) formulas
         (λ key tree h. stands_later key tree (kept_tree key tree h) (kept_tree_fits key tree h))
 
+    -- and there is a conditional rule, where each has its list renamed
+    rule_there : (key : SheetIndex) (formatting : ConditionalFormatting) (it : IsOfList key formatting)
+        → nat_lt key.index (length (laters key.sheet it.of it.found).sheet.formattings) ≡ true
+    rule_there key formatting it =
+        let last = laters key.sheet it.of it.found in
+        ap (λ list. nat_lt key.index (length list)) last.formattings
+        ∙ ap (nat_lt key.index) (same_rule_count last.reach old new it.of.formattings)
+        ∙ own_kept_within (there it.of.id) (back it.of.id) old new it.of.formattings key.index formatting it.kept
+
+    rule_stands_later : (key : SheetIndex) (formatting : ConditionalFormatting) → IsOfList key formatting → formatting_stands (sheet_of later key.sheet) key.index formatting ≡ true
+    unfolding formatting_stands
+    rule_stands_later key formatting it =
+        ap (λ o. formatting_stands o key.index formatting) (laters key.sheet it.of it.found).there
+        ∙ (λ i. rule_there key formatting it i && kept_has_parts key formatting it i && kept_formatting_fits key formatting it i)
+
+    pub kept_rules_stand_later : formattings_stand formattings later ≡ true
+    unfolding formattings_stand
+    kept_rules_stand_later = all_entries sheet_index_cmp sheet_index_total exact_sheet_indexes
+        (λ (entry : SheetIndex × ConditionalFormatting). formatting_stands (sheet_of later entry.0.sheet) entry.0.index entry.1) formattings
+        (λ key formatting h. rule_stands_later key formatting (kept_formatting key formatting h))
+
 -- ---- a renamed sheet
 
 module _ (id : ℕ) (new : List ℕ) (book : Book) (rules : IsWellFormed book) (sheet : Sheet) (found : sheet_of book id ≡ Some sheet) where
@@ -198,22 +266,29 @@ module _ (id : ℕ) (new : List ℕ) (book : Book) (rules : IsWellFormed book) (
   abbrev later : Book
   later = book_renamed id old new book
 
-  on_places : stand_on_places kept.formulas ≡ true
-  on_places = kept_on_places everywhere everywhere old new book rules
+  in_sheets : lie_in_sheets kept ≡ true
+  in_sheets = λ i. kept_on_places everywhere everywhere old new book rules i && kept_on_parts everywhere everywhere old new book rules i
 
-  formulas_later : formulas_stand kept.formulas later ≡ true
-  formulas_later = kept_stand_later everywhere everywhere old new book rules later (λ n s there. record {
+  laters : (n : ℕ) (s : Sheet) → sheet_of book n ≡ Some s → HasLater old new later n s
+  laters n s there = record {
     sheet = sheet_renamed id old new s;
     there = later_found id old new n book.worksheets s there;
     reach = Sheets;
     cells = refl;
-  })
+    formattings = refl;
+  }
+
+  formulas_later : formulas_stand kept.formulas later ≡ true
+  formulas_later = kept_stand_later everywhere everywhere old new book rules later laters
+
+  formattings_later : formattings_stand kept.formattings later ≡ true
+  formattings_later = kept_rules_stand_later everywhere everywhere old new book rules later laters
 
   -- the sheet is renamed
   pub rename_made : (at : ℕ) → rename_forward at id old new kept book ≡ Ok later
   unfolding rename_forward
   rename_made at =
-      let goes : goes_forward id kept book ≡ true = λ i. is_some (found i) && on_places i in
+      let goes : goes_forward id kept book ≡ true = λ i. is_some (found i) && in_sheets i in
       ap (λ b. if b then Ok later else Err (DiffRefused 0 at)) goes
 
   -- and gets its old name back
@@ -222,5 +297,5 @@ module _ (id : ℕ) (new : List ℕ) (book : Book) (rules : IsWellFormed book) (
   rename_taken_back at =
       let names = kept_names_stand old new book.names (well_formed_parts book rules).name_trees in
       let there = later_found id old new id book.worksheets sheet found in
-      let goes : goes_back id kept later ≡ true = λ i. (is_some (there i) && on_places i) && (formulas_later i && names i) in
+      let goes : goes_back id kept later ≡ true = λ i. (is_some (there i) && in_sheets i) && (formulas_later i && names i && formattings_later i) in
       ap (λ b. if b then Ok (book_back id old new kept later) else Err (DiffRefused 0 at)) goes ∙ ap Ok (book_regained id new book (distinct_ids_from_well_formed book rules) sheet found)

@@ -1,4 +1,5 @@
--- Corners of formulas, and merges, lie inside: of what fits and lies inside, and after sheets came, went and moved.
+-- Corners of formulas, and merges, lie inside, and conditional rules stand inside: of what fits and lies inside, and after sheets came, went
+-- and moved.
 use Rattle.std.proofs.Common.{◌≡◌, ℕ, zero, suc, Bool, true, false, cond, ◌&&◌, List, [], ◌∷◌, Option, Some, None, Result, Ok, Err, refl, ap, sym, subst, ◌∙◌}
 use Rattle.std.specs.Prelude.{IfSome, OnOk, slice_get}
 use Rattle.std.specs.FinMap.{get, get-empty}
@@ -25,6 +26,7 @@ use Rattle.sheet_grid.specs.laws.FittingCells.{entry_fits_at}
 use Rattle.sheet_grid.specs.Sheet.{Sheet, new_sheet}
 use Rattle.sheet_grid.specs.Book.{Book, index_of, sheets_moved}
 use Rattle.sheet_rules.specs.laws.EntryLaws.{both, passes_at_from_all}
+use Rattle.sheet_rules.specs.laws.FormattingLaws.{rules_stand_inside}
 use Rattle.sheet_lines.specs.Sheets.{IsPlacedCell, IsPlacedSheet, IsPlacedBook}
 use Rattle.book_sheets.specs.declared.kept_sheet.KeptSheet.{KeptSheet}
 use Rattle.book_sheets.specs.SheetDiffs.{may_come, with_sheet_at, sheet_comes, without_sheet_at, goes_from, sheet_goes, sheet_as, sheet_lies_inside, cells_fit, may_come_back, moved_from}
@@ -52,27 +54,31 @@ each_inside (merge ∷ merges) all = let parts = both (is_inside merge) (list_al
 pub merges_lie : (merges : List MergedCell) → list_all is_inside merges ≡ true → MergesLie merges
 merges_lie merges all = All-from_recursion IsInside merges (each_inside merges all)
 
--- a new sheet has no formula and no merge
+-- a new sheet has no formula, no merge and no conditional rule
 pub placed_new : (id : ℕ) (name : List ℕ) → IsPlacedSheet (new_sheet id name)
 placed_new id name = record {
   cells = λ place cell found. absurd (let never : ◌≡◌ {A = Option Cell} None (Some cell) = sym (get-empty position_cmp place) ∙ found in cc);
   merges = All-from_recursion IsInside [] tt;
+  formattings = rules_stand_inside (new_sheet id name) refl refl;
 }
 
 -- a copy has those of its source
 pub placed_copy : (id : ℕ) (name : List ℕ) (sheet : Sheet) → IsPlacedSheet sheet → IsPlacedSheet (sheet_as id name sheet)
-placed_copy id name sheet placed = record { cells = placed.cells; merges = placed.merges }
+placed_copy id name sheet placed = record { cells = placed.cells; merges = placed.merges; formattings = placed.formattings }
 
 -- so it is for a kept sheet that may come back
 pub placed_kept : (count : ℕ) (kept : KeptSheet) → may_come_back count kept ≡ true → IsPlacedSheet kept.sheet
 unfolding may_come_back sheet_lies_inside cells_fit
 placed_kept count kept may =
     let first = both _ _ may in
-    let sheet_may = both _ _ first.0 in
+    let trees_may = both _ _ first.0 in
+    let sheet_may = both _ _ trees_may.0 in
+    let lies = both _ _ sheet_may.0 in
     let fits = passes_at_from_all position_cmp position_total exact_positions entry_fits_at (λ _. refl) kept.sheet.cells sheet_may.1 in
     record {
       cells = λ place cell found. placed_cell place cell (sym (ap (entry_fits_at place) found) ∙ fits place);
-      merges = merges_lie kept.sheet.merges (both _ _ sheet_may.0).1;
+      merges = merges_lie kept.sheet.merges (both _ _ lies.0).1;
+      formattings = rules_stand_inside kept.sheet trees_may.1 lies.1;
     }
 
 -- ---- all sheets

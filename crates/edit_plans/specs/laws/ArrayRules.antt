@@ -115,8 +115,10 @@ module _ (r : MergedCell) (sheet : Sheet) (may : MayFill sheet r) (h : KeepsShee
           merges = array-merges (blanked_sheet r sheet) place cell r refl free bare.merges;
           hidden = array-hidden (blanked_sheet r sheet) place cell r refl free bare.hidden;
           trees = have_trees_from_cells_fit (with_cell (blanked_sheet r sheet) place (Some cell)) (cells_fit-put (blanked_sheet r sheet) place (Some cell) fits (cells_fit_from_trees (blanked_sheet r sheet) bare.trees));
+          rule_trees = bare.rule_trees;
           attributes = attributes-put (blanked_sheet r sheet) place (Some cell) (shown_font sheet h.attributes place) bare.attributes;
           frozen = bare.frozen;
+          rule_parts = bare.rule_parts;
         }
 
     pub array_rules : KeepsSheetRules (with_array sheet r tree)

@@ -282,6 +282,8 @@ module _ (r : MergedCell) (sheet : Sheet) where
     merges = merges_stay h.merges;
     hidden = hidden_stay h.hidden;
     trees = trees_stay h.trees;
+    rule_trees = h.rule_trees;
     attributes = attributes_stay h.attributes;
     frozen = h.frozen;
+    rule_parts = h.rule_parts;
   }

@@ -571,8 +571,10 @@ module _ (a : Along) (is : IsAxis a) (f : FillRange) (at : IsBeside a f) (sheet 
     merges = merges_stay;
     hidden = hidden_stay;
     trees = trees_stay;
+    rule_trees = rules.rule_trees;
     attributes = attributes_stay;
     frozen = rules.frozen;
+    rule_parts = rules.rule_parts;
   }
 
   -- each place that is planned may stand in a record

@@ -33,6 +33,7 @@ use Rattle.name_edits.specs.NameEdits.{NameEdit, name_change}
 use Rattle.name_edits.specs.laws.BothWays.{name_both_ways}
 use Rattle.name_edits.specs.laws.LaterRules.{edited, later_well_formed}
 use Rattle.edit_plans.specs.NamedEdits.{names_edited, name_diff}
+use Rattle.edit_plans.specs.laws.RuleSteps.{rules_go}
 use Rattle.book_laws.specs.Ways.{LeadsBothWays}
 use Rattle.book_laws.specs.laws.BothWays.{new_both_ways, copy_both_ways, deletion_both_ways, move_both_ways}
 use Rattle.book_laws.specs.laws.LaterRules.{free_above, new_well_formed, copy_well_formed, deletion_well_formed, move_well_formed}
@@ -47,7 +48,7 @@ use Rattle.sheet_history.specs.laws.TestedLaws.{by_rule-kept}
 use Rattle.edit_plans.specs.SettingEdits.{has_setting, setting_record}
 use Rattle.edit_plans.specs.laws.SettingStays.{setting_stays}
 use Rattle.edit_plans.specs.Edits.{Edit, changed, is_of_sheets, record_of}
-use Rattle.edit_plans.specs.Edits.Edit.{Input, ArrayInput, SetLink, Merge, Unmerge, Lines, MoveLines, AddSheet, CopySheet, DeleteSheet, MoveSheet, RenameSheet, ChangeNames, SetField, SetSize, SetHidden, SetRangeStyle, ClearRange, ClearFormatting, PasteStyles, SetSetting, Fill}
+use Rattle.edit_plans.specs.Edits.Edit.{Input, ArrayInput, SetLink, Merge, Unmerge, Lines, MoveLines, AddSheet, CopySheet, DeleteSheet, MoveSheet, RenameSheet, ChangeNames, EditRules, SetField, SetSize, SetHidden, SetRangeStyle, ClearRange, ClearFormatting, PasteStyles, SetSetting, Fill}
 use Rattle.edit_plans.specs.Plans.{GoesBothWays}
 use Rattle.edit_plans.specs.SheetEdits.{with_new_sheet, sheet_added, with_copy, sheet_copied, sheet_deleted, sheet_taken, with_name, sheet_named, new_diff, copy_diff, deletion_diff, move_diff, rename_diff, one_diff}
 
@@ -309,7 +310,7 @@ module _ (setting : Setting) (w : Book) (rules : IsWellFormed w) where
   set_goes : (later : Book) → ◌≡◌ {A = Result Book EditError} (Ok with_it) (Ok later) → GoesBothWays (SetSetting setting) w later
   set_goes later how = subst (GoesBothWays (SetSetting setting) w) (let same : with_it ≡ later = cc in same) setting_goes
 
--- an accepted edit of the list of the sheets, of the defined names or of a setting of a well-formed workbook
+-- an accepted edit of the list of the sheets, of the defined names, of conditional rules or of a setting of a well-formed workbook
 pub goes_both_ways : (edit : Edit) (earlier later : Book) → IsTrue (is_of_sheets edit) → IsWellFormed earlier → changed edit earlier ≡ Ok later
     → GoesBothWays edit earlier later
 goes_both_ways AddSheet earlier later is rules how = added_goes earlier rules later how
@@ -318,6 +319,7 @@ goes_both_ways (DeleteSheet index) earlier later is rules how = deleted_goes ear
 goes_both_ways (MoveSheet from to) earlier later is rules how = taken_goes earlier rules from to later how
 goes_both_ways (RenameSheet index name) earlier later is rules how = named_goes earlier rules index name later how
 goes_both_ways (ChangeNames edit) earlier later is rules how = names_go earlier rules edit later how
+goes_both_ways (EditRules edit) earlier later is rules how = rules_go earlier rules edit later how
 goes_both_ways (SetSetting setting) earlier later is rules how = set_goes setting earlier rules later how
 goes_both_ways (Input index row column content feeds) earlier later is rules how = absurd (let never : false ≡ true = is in cc)
 goes_both_ways (ArrayInput index r tree) earlier later is rules how = absurd (let never : false ≡ true = is in cc)

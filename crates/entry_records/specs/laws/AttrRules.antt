@@ -148,8 +148,10 @@ attr-put s id Rows line entry inside own h =
       merges = h.merges;
       hidden = h.hidden;
       trees = h.trees;
+      rule_trees = h.rule_trees;
       attributes = λ i. attributes i && lines.1 i && kept.1 i;
       frozen = h.frozen;
+      rule_parts = h.rule_parts;
     }
 attr-put s id Columns line entry inside own h =
     let outer = both _ _ h.inside in
@@ -165,8 +167,10 @@ attr-put s id Columns line entry inside own h =
       merges = h.merges;
       hidden = h.hidden;
       trees = h.trees;
+      rule_trees = h.rule_trees;
       attributes = λ i. lines.0 i && attributes i && kept.1 i;
       frozen = h.frozen;
+      rule_parts = h.rule_parts;
     }
 
 -- ---- heights that texts ask for, sizes and hiding

@@ -255,6 +255,8 @@ module _ (plan : SheetPlan) (sheet : Sheet) (keeps : PlanKeeps plan sheet) (rule
     merges = merges_stay;
     hidden = hidden_stay;
     trees = trees_stay;
+    rule_trees = rules.rule_trees;
     attributes = attributes_stay;
     frozen = rules.frozen;
+    rule_parts = rules.rule_parts;
   }

@@ -9,11 +9,11 @@ use Rattle.base_wire.specs.laws.Format.{Format}
 use Rattle.base_wire.specs.laws.Formats.{both_format, made_format}
 use Rattle.base_wire.specs.laws.Parts.{boolean_format, short_format, signed_format, text_format}
 use Rattle.map_wire.specs.MapBytes.{spell_map, FitsMap}
-use Rattle.map_wire.specs.laws.MapLaws.{no_items_format}
 use Rattle.cell_wire.specs.CellBytes.{spell_position, spell_cell, FitsCell}
 use Rattle.cell_wire.specs.LinkBytes.{spell_link, FitsLink}
 use Rattle.cell_wire.specs.laws.Formats.{color_format, cell_format}
 use Rattle.cell_wire.specs.laws.MergeLaws.{link_format, merges_format}
+use Rattle.rule_wire.specs.laws.FormattingLaws.{formattings_format}
 use Rattle.grid_wire.specs.LineBytes.{spell_line, FitsLine}
 use Rattle.grid_wire.specs.SheetBytes.{Fields, spell_fields, bare_sheet, fields_at, FitsFields, rows_at, columns_at, cells_at, links_at, spell_entries, spell_sheet, sheet_made, sheet_at, FitsSheet}
 use Rattle.grid_wire.specs.laws.StateLaws.{state_format}
@@ -66,14 +66,14 @@ links_format = place_map_format link_format
 pub sheet_format : Format FitsSheet spell_sheet sheet_at
 unfolding spell_fields spell_entries spell_sheet sheet_at
 sheet_format =
-    made_format (both_format fields_format (both_format rows_format (both_format columns_format (both_format cells_format (both_format links_format (both_format merges_format no_items_format))))))
-    sheet_made (λ sheet. (bared sheet, (sheet.rows, (sheet.columns, (sheet.cells, (sheet.links, (sheet.merges, tt)))))))
-    (λ sheet fits. (refl, ((record { id = fits.fields.id; name = fits.fields.name; color = fits.fields.color; frozen_rows = fits.fields.frozen_rows; frozen_columns = fits.fields.frozen_columns }, refl), (fits.entries.rows, (fits.entries.columns, (fits.entries.cells, (fits.entries.links, (fits.entries.merges, tt))))))))
+    made_format (both_format fields_format (both_format rows_format (both_format columns_format (both_format cells_format (both_format links_format (both_format merges_format formattings_format))))))
+    sheet_made (λ sheet. (bared sheet, (sheet.rows, (sheet.columns, (sheet.cells, (sheet.links, (sheet.merges, sheet.formattings)))))))
+    (λ sheet fits. (refl, ((record { id = fits.fields.id; name = fits.fields.name; color = fits.fields.color; frozen_rows = fits.fields.frozen_rows; frozen_columns = fits.fields.frozen_columns }, refl), (fits.entries.rows, (fits.entries.columns, (fits.entries.cells, (fits.entries.links, (fits.entries.merges, fits.entries.formattings))))))))
     (λ x fits. (
       ap (λ (s : Sheet). (s, x.1)) fits.0.1,
       record {
         fields = record { id = fits.0.0.id; name = fits.0.0.name; color = fits.0.0.color; frozen_rows = fits.0.0.frozen_rows; frozen_columns = fits.0.0.frozen_columns };
-        entries = record { rows = fits.1.0; columns = fits.1.1.0; cells = fits.1.1.1.0; links = fits.1.1.1.1.0; merges = fits.1.1.1.1.1.0 };
+        entries = record { rows = fits.1.0; columns = fits.1.1.0; cells = fits.1.1.1.0; links = fits.1.1.1.1.0; merges = fits.1.1.1.1.1.0; formattings = fits.1.1.1.1.1.1 };
       },
     ))
 

@@ -1,10 +1,10 @@
 -- The laws of the bytes of what line edits keep.
-use Rattle.std.proofs.Common.{◌≤◌, length, refl, arith}
+use Rattle.std.proofs.Common.{◌≤◌, ◌<◌, ◌^◌, length, refl, arith}
 use Rattle.std.specs.Prelude.{FitsSigned, IfSome}
-use Rattle.std.specs.Cmp.{int_cmp_total}
-use Rattle.std.specs.Int.{w32}
-use Rattle.std.specs.Ordering.{int_cmp}
-use Rattle.std.proofs.lemmas.Map.Lookups.{exact_signed}
+use Rattle.std.specs.Cmp.{int_cmp_total, nat_cmp_total}
+use Rattle.std.specs.Int.{w32, w64, to_be_bytes}
+use Rattle.std.specs.Ordering.{int_cmp, nat_cmp}
+use Rattle.std.proofs.lemmas.Map.Lookups.{exact_signed, exact_unsigned}
 use Rattle.base_values.specs.Places.{position_cmp}
 use Rattle.base_values.specs.laws.Places.{position_total, exact_positions}
 use Rattle.base_maps.specs.SheetPlaces.{sheet_place_cmp}
@@ -13,7 +13,7 @@ use Rattle.sheet_lines.specs.declared.KeptLines.{KeptLines}
 use Rattle.base_wire.specs.Spelling.{spell_option, spell_signed}
 use Rattle.base_wire.specs.laws.Format.{Format, option_format}
 use Rattle.base_wire.specs.laws.Formats.{both_format, made_format}
-use Rattle.base_wire.specs.laws.Parts.{signed_format}
+use Rattle.base_wire.specs.laws.Parts.{long_format, signed_format}
 use Rattle.formula_wire.specs.NodeBytes.{spell_node}
 use Rattle.formula_wire.specs.Carried.{FitsNode}
 use Rattle.formula_wire.specs.laws.NodeLaws.{node_format}
@@ -25,10 +25,12 @@ use Rattle.cell_wire.specs.laws.MergeLaws.{link_format, merges_format}
 use Rattle.map_wire.specs.MapBytes.{spell_map, FitsMap}
 use Rattle.grid_wire.specs.LineBytes.{spell_line, FitsLine}
 use Rattle.lines_wire.specs.PartBytes.{spell_sheet_place, FitsSheetPlace}
-use Rattle.map_wire.specs.laws.MapLaws.{map_format, no_items_format}
+use Rattle.map_wire.specs.laws.MapLaws.{map_format}
+use Rattle.rule_wire.specs.FormattingBytes.{spell_formatting, FitsFormatting}
+use Rattle.rule_wire.specs.laws.FormattingLaws.{formatting_format}
 use Rattle.grid_wire.specs.laws.LineLaws.{line_format}
 use Rattle.lines_wire.specs.laws.PartLaws.{sheet_place_format, sheet_place_some}
-use Rattle.lines_wire.specs.KeptBytes.{cells_at, links_at, lines_at, formulas_at, kept_merges_at, spell_kept, kept_made, kept_at, FitsKept}
+use Rattle.lines_wire.specs.KeptBytes.{cells_at, links_at, lines_at, formulas_at, kept_merges_at, kept_rules_at, spell_kept, kept_made, kept_at, FitsKept}
 
 -- ---- maps
 
@@ -52,16 +54,20 @@ kept_merges_format : Format (λ merges. IfSome merges FitsMerges) (spell_option 
 unfolding kept_merges_at
 kept_merges_format = option_format merges_format
 
+kept_rules_format : Format (FitsMap {order = nat_cmp} (λ index. index < 2 ^ 64) FitsFormatting) (spell_map (to_be_bytes w64) spell_formatting) kept_rules_at
+unfolding kept_rules_at
+kept_rules_format = map_format nat_cmp_total exact_unsigned long_format formatting_format (λ index. omega arith) (λ m. m) (λ m. m) (λ m. refl) (λ m. refl)
+
 -- ---- what line edits keep
 
 -- what bytes can carry is read again from its spelling, what is read was spelled so, and all else is refused
 pub kept_format : Format FitsKept spell_kept kept_at
 unfolding kept_at spell_kept
 kept_format =
-    made_format (both_format cells_format (both_format links_format (both_format lines_format (both_format formulas_format (both_format kept_merges_format no_items_format)))))
-    kept_made (λ kept. (kept.cells, (kept.links, (kept.lines, (kept.formulas, (kept.merges, tt))))))
-    (λ kept fits. (refl, (fits.cells, (fits.links, (fits.lines, (fits.formulas, (fits.merges, tt)))))))
-    (λ x fits. (refl, record { cells = fits.0; links = fits.1.0; lines = fits.1.1.0; formulas = fits.1.1.1.0; merges = fits.1.1.1.1.0 }))
+    made_format (both_format cells_format (both_format links_format (both_format lines_format (both_format formulas_format (both_format kept_merges_format kept_rules_format)))))
+    kept_made (λ kept. (kept.cells, (kept.links, (kept.lines, (kept.formulas, (kept.merges, kept.formattings))))))
+    (λ kept fits. (refl, (fits.cells, (fits.links, (fits.lines, (fits.formulas, (fits.merges, fits.formattings)))))))
+    (λ x fits. (refl, record { cells = fits.0; links = fits.1.0; lines = fits.1.1.0; formulas = fits.1.1.1.0; merges = fits.1.1.1.1.0; formattings = fits.1.1.1.1.1 }))
 
 pub kept_some : (kept : KeptLines) → 1 ≤ length (spell_kept kept)
 unfolding spell_kept

@@ -1,5 +1,5 @@
 -- The laws of the bytes of maps.
-use Rattle.std.proofs.Common.{◌≡◌, ℕ, ◌≤◌, Bool, true, false, T, List, [], length, refl, ap, sym, subst, ◌∙◌, arith}
+use Rattle.std.proofs.Common.{◌≡◌, ℕ, ◌≤◌, Bool, true, false, T, List, length, refl, ap, sym, subst, ◌∙◌, arith}
 use Rattle.std.proofs.lemmas.List.{length-append}
 use Rattle.std.proofs.lemmas.Map.Lookups.{CmpEqualImpliesEq}
 use Rattle.std.specs.Cmp.{IsTotalOrder}
@@ -7,13 +7,11 @@ use Rattle.std.specs.declared.cmp.Ordering.{Ordering}
 use Rattle.std.specs.FinMap.{FinMap, entries, entries_sorted, from_entries, is_sorted}
 use Rattle.base_maps.specs.laws.Gathering.{own_entries}
 use Rattle.base_maps.specs.laws.Known.{entries_again}
-use Rattle.base_wire.specs.Reading.{Reader, plain, after}
-use Rattle.base_wire.specs.Spelling.{Any, Both, FitsItems, spell_both}
+use Rattle.base_wire.specs.Reading.{Reader}
+use Rattle.base_wire.specs.Spelling.{Both, FitsItems, spell_both}
 use Rattle.base_wire.specs.laws.Format.{Format, list_format}
-use Rattle.base_wire.specs.laws.Formats.{after_format, both_format, check_format, made_format}
-use Rattle.base_wire.specs.laws.Refusals.{plain_plain}
-use Rattle.base_wire.specs.laws.Spelled.{IsSpelled, ok_is}
-use Rattle.map_wire.specs.MapBytes.{spell_entries, spell_map, entries_at, map_of_at, FitsMap, no_items}
+use Rattle.base_wire.specs.laws.Formats.{both_format, check_format, made_format}
+use Rattle.map_wire.specs.MapBytes.{spell_entries, spell_map, entries_at, map_of_at, FitsMap}
 
 holds : (b : Bool) → T b → b ≡ true
 holds true h = refl
@@ -36,19 +34,3 @@ module _ {K X : Type 0} {R : K → K → Ordering} (total : IsTotalOrder R) (exa
         made_format (entries_format key value some) (λ es. made (from_entries es)) (λ map. entries (seen map))
         (λ map fits. (ap made (own_entries R total exact (seen map)) ∙ back map, (fits, holds (is_sorted R (entries (seen map))) (entries_sorted (seen map)))))
         (λ es fits. let same : entries (seen (made (from_entries es))) ≡ es = ap entries (there (from_entries es)) ∙ entries_again R total exact es fits.1 in (same, subst (FitsItems (Both F G)) (sym same) fits.0))
-
--- what takes no bytes
-nothing_format : Format {A = Unit {0}} Any (λ _. []) (plain tt)
-nothing_format = record {
-  again = record { again = λ x rest fits. refl };
-  spelled = record {
-    spelled = λ bytes x small e.
-        let made : Unit {0} × List ℕ = (tt, bytes) in
-        subst (λ (z : Unit {0} × List ℕ). IsSpelled {A = Unit {0}} Any (λ _. []) bytes z.0 z.1) (ok_is made x e) (record { parts = refl; fits = tt; left = small });
-  };
-  plain = plain_plain tt;
-}
-
--- a list without an item, of which nothing is read
-pub no_items_format : Format {A = Unit {0}} Any (λ _. no_items) (after no_items (plain tt))
-no_items_format = after_format nothing_format no_items refl

@@ -9,7 +9,12 @@ use Rattle.base_values.specs.declared.EditError.TheVariants.{DiffRefused}
 use Rattle.base_maps.specs.SheetPlaces.{sheet_place_cmp}
 use Rattle.base_maps.specs.declared.SheetPlace.{SheetPlace}
 use Rattle.base_maps.specs.laws.SheetPlaces.{sheet_place_total, exact_sheet_places}
+use Rattle.format_rules.specs.declared.ConditionalFormatting.{ConditionalFormatting}
+use Rattle.format_rules.specs.Fitting.{has_fitting_trees, has_parts}
 use Rattle.formula_tree.specs.declared.Node.{Node}
+use Rattle.index_maps.specs.declared.SheetIndex.{SheetIndex}
+use Rattle.index_maps.specs.SheetIndexes.{sheet_index_cmp}
+use Rattle.index_maps.specs.laws.SheetIndexes.{sheet_index_total, exact_sheet_indexes}
 use Rattle.cell_content.specs.Fitting.{tree_fits_at}
 use Rattle.defined_names.specs.declared.DefinedName.{DefinedName}
 use Rattle.sheet_grid.specs.Book.{Book}
@@ -19,9 +24,9 @@ use Rattle.sheet_rules.specs.WellFormed.{is_place, IsWellFormed}
 use Rattle.sheet_rules.specs.laws.WellFormedLaws.{well_formed_parts, distinct_ids_from_well_formed}
 use Rattle.sheet_lines.specs.Sheets.{sheet_of}
 use Rattle.book_names.specs.declared.KeptTrees.{KeptTrees}
-use Rattle.book_names.specs.RenameDiffs.{stand_on_places, formulas_stand, names_stand, may_stand, tree_stands}
+use Rattle.book_names.specs.RenameDiffs.{stand_on_places, stand_on_parts, lie_in_sheets, formulas_stand, names_stand, formattings_stand, may_stand, tree_stands, formatting_stands}
 use Rattle.book_names.specs.laws.Entries.{all_entries}
-use Rattle.book_names.specs.laws.Stands.{HasLater, kept_on_places, kept_stand_later, kept_tree_fits}
+use Rattle.book_names.specs.laws.Stands.{HasLater, kept_on_places, kept_on_parts, kept_stand_later, kept_rules_stand_later, kept_tree_fits, kept_rule_fits}
 use Rattle.book_laws.specs.Ways.{LeadsBothWays}
 use Rattle.book_laws.specs.laws.ListTests.{passes_at}
 use Rattle.name_edits.specs.LookUp.{reach_at}
@@ -38,6 +43,12 @@ unfolding stand_on_places
 none_on_places = all_entries sheet_place_cmp sheet_place_total exact_sheet_places (λ (entry : SheetPlace × Node). is_place entry.0.place) empty
     (λ key tree h. absurd (let never : ◌≡◌ {A = Option Node} None (Some tree) = sym (get-empty sheet_place_cmp key) ∙ h in cc))
 
+-- and no conditional rule does
+none_on_parts : stand_on_parts empty ≡ true
+unfolding stand_on_parts
+none_on_parts = all_entries sheet_index_cmp sheet_index_total exact_sheet_indexes (λ (entry : SheetIndex × ConditionalFormatting). has_parts entry.1) empty
+    (λ key formatting h. absurd (let never : ◌≡◌ {A = Option ConditionalFormatting} None (Some formatting) = sym (get-empty sheet_index_cmp key) ∙ h in cc))
+
 none_stand : (book : Book) → formulas_stand empty book ≡ true
 unfolding formulas_stand
 none_stand book = all_entries sheet_place_cmp sheet_place_total exact_sheet_places (λ (entry : SheetPlace × Node). tree_stands (sheet_of book entry.0.sheet) entry.0.place entry.1) empty
@@ -48,12 +59,24 @@ unfolding names_stand
 no_names_stand count = all_entries nat_cmp nat_cmp_total exact_unsigned (λ (entry : ℕ × Node). nat_lt entry.0 count && tree_fits_at first_place entry.1) empty
     (λ place tree h. absurd (let never : ◌≡◌ {A = Option Node} None (Some tree) = sym (get-empty nat_cmp place) ∙ h in cc))
 
-nothing_kept : keeps_nothing (record { formulas = empty; names = empty }) ≡ true
-nothing_kept = λ i. (len-empty sheet_place_cmp Node i == 0) && (len-empty nat_cmp Node i == 0)
+no_rules_stand : (book : Book) → formattings_stand empty book ≡ true
+unfolding formattings_stand
+no_rules_stand book = all_entries sheet_index_cmp sheet_index_total exact_sheet_indexes
+    (λ (entry : SheetIndex × ConditionalFormatting). formatting_stands (sheet_of book entry.0.sheet) entry.0.index entry.1) empty
+    (λ key formatting h. absurd (let never : ◌≡◌ {A = Option ConditionalFormatting} None (Some formatting) = sym (get-empty sheet_index_cmp key) ∙ h in cc))
+
+nothing_kept : keeps_nothing (record { formulas = empty; names = empty; formattings = empty }) ≡ true
+nothing_kept = λ i. (len-empty sheet_place_cmp Node i == 0) && (len-empty nat_cmp Node i == 0) && (len-empty sheet_index_cmp ConditionalFormatting i == 0)
+
+none_in_sheets : lie_in_sheets (record { formulas = empty; names = empty; formattings = empty }) ≡ true
+none_in_sheets = λ i. none_on_places i && none_on_parts i
 
 either : (a b : Bool) → b ≡ true → (a || b) ≡ true
 either true b h = refl
 either false b h = h
+
+nothing_stands : (book : Book) → may_stand (record { formulas = empty; names = empty; formattings = empty }) book ≡ true
+nothing_stands book = λ i. none_stand book i && no_names_stand (length book.names) i && no_rules_stand book i
 
 -- ---- the conditions
 
@@ -65,12 +88,14 @@ pub record IsMade (index : ℕ) (old new : Option DefinedName) (book : Book) : T
   pub fits : comes_fitting (change_at index old new) ≡ true
 
 module _ (index : ℕ) (book : Book) where
-  -- what is kept stands at places of sheets, and is nothing but of a replacement
-  stands_now : (old new : Option DefinedName) → IsWellFormed book → stand_on_places (trees_lost (change_at index old new) book).formulas ≡ true
-  stands_now (Some old) (Some new) rules =
-      kept_on_places (reach_at index old.name book.names) (reach_at index new.name (names_changed (change_at index (Some old) (Some new)) book.names)) old.name new.name book rules
-  stands_now (Some old) None rules = none_on_places
-  stands_now None new rules = none_on_places
+  -- what is kept lies inside its sheets, and is nothing but of a replacement
+  lies_now : (old new : Option DefinedName) → IsWellFormed book → lie_in_sheets (trees_lost (change_at index old new) book) ≡ true
+  lies_now (Some old) (Some new) rules =
+      let there = reach_at index old.name book.names in
+      let back = reach_at index new.name (names_changed (change_at index (Some old) (Some new)) book.names) in
+      λ i. kept_on_places there back old.name new.name book rules i && kept_on_parts there back old.name new.name book rules i
+  lies_now (Some old) None rules = none_in_sheets
+  lies_now None new rules = none_in_sheets
 
   kept_of_replacement : (old new : Option DefinedName) → (is_some old && is_some new) || keeps_nothing (trees_lost (change_at index old new) book) ≡ true
   kept_of_replacement (Some old) (Some new) = refl
@@ -88,16 +113,20 @@ module _ (index : ℕ) (book : Book) where
       → may_stand (trees_lost (change_at index old new) book) (name_made (change_at index old new) book) ≡ true
   stands_later (Some old) (Some new) rules at =
       let c = change_at index (Some old) (Some new) in
-      let formulas = kept_stand_later (reach_at index old.name book.names) (reach_at index new.name (names_changed c book.names)) old.name new.name book rules (name_made c book)
-      (λ n s there. record {
+      let there = reach_at index old.name book.names in
+      let back = reach_at index new.name (names_changed c book.names) in
+      let laters : (n : ℕ) (s : Sheet) → sheet_of book n ≡ Some s → HasLater old.name new.name (name_made c book) n s = λ n s found. record {
         sheet = sheet_updated index old.name new.name book.names s;
-        there = later_found index old.name new.name book.names n book.worksheets s there;
+        there = later_found index old.name new.name book.names n book.worksheets s found;
         reach = reach_at index old.name book.names s.id;
         cells = refl;
-      }) in
-      λ i. formulas i && no_names_stand (length (names_changed c book.names)) i
-  stands_later (Some old) None rules at = λ i. none_stand (name_made (change_at index (Some old) None) book) i && no_names_stand (length (names_changed (change_at index (Some old) None) book.names)) i
-  stands_later None new rules at = λ i. none_stand (name_made (change_at index None new) book) i && no_names_stand (length (names_changed (change_at index None new) book.names)) i
+        formattings = refl;
+      } in
+      λ i.
+      kept_stand_later there back old.name new.name book rules (name_made c book) laters i && no_names_stand (length (names_changed c book.names)) i
+      && kept_rules_stand_later there back old.name new.name book rules (name_made c book) laters i
+  stands_later (Some old) None rules at = nothing_stands (name_made (change_at index (Some old) None) book)
+  stands_later None new rules at = nothing_stands (name_made (change_at index None new) book)
 
   -- the workbook comes back
   pub book_regained : (old new : Option DefinedName) → IsWellFormed book → IsAt old index book.names
@@ -117,6 +146,14 @@ module _ (index : ℕ) (book : Book) where
   lost_tree_fits (Some old) None rules key tree h = absurd (let never : ◌≡◌ {A = Option Node} None (Some tree) = sym (get-empty sheet_place_cmp key) ∙ h in cc)
   lost_tree_fits None new rules key tree h = absurd (let never : ◌≡◌ {A = Option Node} None (Some tree) = sym (get-empty sheet_place_cmp key) ∙ h in cc)
 
+  -- and the formulas of a kept conditional rule fit its parts
+  pub lost_rule_fits : (old new : Option DefinedName) → IsWellFormed book → (key : SheetIndex) (formatting : ConditionalFormatting)
+      → get (trees_lost (change_at index old new) book).formattings key ≡ Some formatting → has_fitting_trees formatting ≡ true
+  lost_rule_fits (Some old) (Some new) rules key formatting h =
+      kept_rule_fits (reach_at index old.name book.names) (reach_at index new.name (names_changed (change_at index (Some old) (Some new)) book.names)) old.name new.name book rules key formatting h
+  lost_rule_fits (Some old) None rules key formatting h = absurd (let never : ◌≡◌ {A = Option ConditionalFormatting} None (Some formatting) = sym (get-empty sheet_index_cmp key) ∙ h in cc)
+  lost_rule_fits None new rules key formatting h = absurd (let never : ◌≡◌ {A = Option ConditionalFormatting} None (Some formatting) = sym (get-empty sheet_index_cmp key) ∙ h in cc)
+
   turned : (a b : Bool) → (a || b) ≡ (b || a)
   turned true true = refl
   turned true false = refl
@@ -133,7 +170,7 @@ module _ (index : ℕ) (book : Book) where
   pub may_go : (old new : Option DefinedName) → IsMade index old new book → goes_forward (change_at index old new) (trees_lost (change_at index old new) book) book ≡ true
   unfolding goes_forward
   may_go old new made = λ i.
-      made.some i && place_before index old new book.names made.at i && made.fits i && kept_of_replacement old new i && stands_now old new made.rules i
+      made.some i && place_before index old new book.names made.at i && made.fits i && kept_of_replacement old new i && lies_now old new made.rules i
 
   -- and taken back
   pub may_go_back : (old new : Option DefinedName) → IsMade index old new book
@@ -143,7 +180,7 @@ module _ (index : ℕ) (book : Book) where
       let kept : KeptTrees = trees_lost (change_at index old new) book in
       λ i.
       (turned (is_some new) (is_some old) ∙ made.some) i && place_later index old new book.names made.at i && old_fits old new made.rules made.at i
-      && (ap (λ b. b || keeps_nothing kept) (both_turned (is_some new) (is_some old)) ∙ kept_of_replacement old new) i && stands_now old new made.rules i
+      && (ap (λ b. b || keeps_nothing kept) (both_turned (is_some new) (is_some old)) ∙ kept_of_replacement old new) i && lies_now old new made.rules i
       && stands_later old new made.rules made.at i
 
   -- the diff leads to the later workbook and back

@@ -19,7 +19,7 @@ use Rattle.book_sheets.specs.laws.SheetRules.{KeepsSheetRules}
 use Rattle.book_names.specs.declared.KeptTrees.{KeptTrees}
 use Rattle.book_names.specs.Renaming.{ArePlacedTrees, defined_back, names_back}
 use Rattle.book_names.specs.laws.Entries.{maps_same}
-use Rattle.book_names.specs.laws.Regained.{sheet_cells_regained}
+use Rattle.book_names.specs.laws.Regained.{sheet_cells_regained, sheet_formattings_regained}
 use Rattle.book_names.specs.laws.Sheets.{placed_sheet, rules_stay, sheet_placed_back}
 use Rattle.name_edits.specs.LookUp.{reach_at}
 use Rattle.name_edits.specs.NameChanges.{names_changed, sheet_updated, sheet_returned, trees_lost}
@@ -95,6 +95,7 @@ module _ (index : ℕ) (old new : DefinedName) (book : Book) (distinct : HasDist
   sheet_regained : (s : Sheet) → sheet_of book s.id ≡ Some s → sheet_returned index old.name new.name later kept (sheet_updated index old.name new.name book.names s) ≡ s
   sheet_regained s there = λ i. record s {
     cells = sheet_cells_regained (reach_at index old.name book.names) (reach_at index new.name later) old.name new.name book distinct s there i;
+    formattings = sheet_formattings_regained (reach_at index old.name book.names) (reach_at index new.name later) old.name new.name book distinct s there i;
   }
 
   all_regained : (sheets : List Sheet) → AllByRecursion (λ s. sheet_of book s.id ≡ Some s) sheets

@@ -33,6 +33,10 @@ use Rattle.script_lines.specs.declared.command.NamedName.{NamedName}
 use Rattle.script_lines.specs.contracts.command.NamedNamePartialEq.TheImpl as named_name
 use Rattle.script_lines.specs.declared.command.NamedPath.{NamedPath}
 use Rattle.script_lines.specs.contracts.command.NamedPathPartialEq.TheImpl as named_path
+use Rattle.script_lines.specs.declared.command.NamedRule.{NamedRule}
+use Rattle.script_lines.specs.contracts.command.NamedRulePartialEq.TheImpl as named_rule
+use Rattle.script_lines.specs.declared.command.NamedSwap.{NamedSwap}
+use Rattle.script_lines.specs.contracts.command.NamedSwapPartialEq.TheImpl as named_swap
 use Rattle.script_lines.specs.declared.command.NamedUpdate.{NamedUpdate}
 use Rattle.script_lines.specs.contracts.command.NamedUpdatePartialEq.TheImpl as named_update
 
@@ -80,6 +84,16 @@ pub named_sheet_move_equals : (a b : NamedSheetMove) → Decides (named_sheet_mo
 named_sheet_move_equals a b =
     Decides-like _ (λ p i. record { from = p.0 i; to = p.1 i }) (λ e. (ap (λ x. x.from) e, ap (λ x. x.to) e))
     (Decides-and _ _ (unsigned_Decides _ _) (unsigned_Decides _ _))
+
+pub named_rule_equals : (a b : NamedRule) → Decides (named_rule.ghosts.eq a b) (a ≡ b)
+named_rule_equals a b =
+    Decides-like _ (λ p i. record { sheet = p.0 i; index = p.1 i }) (λ e. (ap (λ x. x.sheet) e, ap (λ x. x.index) e))
+    (Decides-and _ _ (unsigned_Decides _ _) (unsigned_Decides _ _))
+
+pub named_swap_equals : (a b : NamedSwap) → Decides (named_swap.ghosts.eq a b) (a ≡ b)
+named_swap_equals a b =
+    Decides-like _ (λ p i. record { sheet = p.0 i; index_a = p.1.0 i; index_b = p.1.1 i }) (λ e. (ap (λ x. x.sheet) e, (ap (λ x. x.index_a) e, ap (λ x. x.index_b) e)))
+    (Decides-and _ _ (unsigned_Decides _ _) (Decides-and _ _ (unsigned_Decides _ _) (unsigned_Decides _ _)))
 
 pub named_color_equals : (a b : NamedColor) → Decides (named_color.ghosts.eq a b) (a ≡ b)
 named_color_equals a b =

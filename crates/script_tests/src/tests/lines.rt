@@ -2,80 +2,94 @@ use base_styles::{Color, Theme};
 use base_values::{Position, Text};
 use script_lines::{
     Command, NamedArea, NamedCell, NamedColor, NamedCount, NamedFill, NamedLines, NamedMove,
-    NamedName, NamedSize, NamedSpan, push_escaped, push_reference, read_command,
+    NamedName, NamedRule, NamedSize, NamedSpan, NamedSwap, push_escaped, push_reference,
+    read_command,
 };
 use std::alloc::{AllocError, Global};
 use std::test::Fail;
 
 /// A command in words, with a bar on each side of its text.
-fn in_words(alloc: Global, command: Option<Command>) -> Result<String, AllocError> {
+fn in_words(alloc: Global, command: &Command) -> Result<String, AllocError> {
     match command {
-        Some(Command::Set(cell, text)) => cell_in_words(alloc, "set", cell, text.as_str()),
-        Some(Command::Get(cell)) => cell_in_words(alloc, "get", cell, ""),
-        Some(Command::Array(area, text)) => area_in_words(alloc, "array", area, text.as_str()),
-        Some(Command::Link(cell, text)) => cell_in_words(alloc, "link", cell, text.as_str()),
-        Some(Command::Unlink(cell)) => cell_in_words(alloc, "unlink", cell, ""),
-        Some(Command::Merge(area)) => area_in_words(alloc, "merge", area, ""),
-        Some(Command::Unmerge(cell)) => cell_in_words(alloc, "unmerge", cell, ""),
-        Some(Command::InsertRows(lines)) => lines_in_words(alloc, "insert rows", lines),
-        Some(Command::InsertColumns(lines)) => lines_in_words(alloc, "insert columns", lines),
-        Some(Command::DeleteRows(lines)) => lines_in_words(alloc, "delete rows", lines),
-        Some(Command::DeleteColumns(lines)) => lines_in_words(alloc, "delete columns", lines),
-        Some(Command::MoveRows(moved)) => move_in_words(alloc, "move rows", moved),
-        Some(Command::MoveColumns(moved)) => move_in_words(alloc, "move columns", moved),
-        Some(other) => other_in_words(alloc, other),
-        None => format!(in alloc; "none"),
+        Command::Set(cell, text) => cell_in_words(alloc, "set", *cell, text.as_str()),
+        Command::Get(cell) => cell_in_words(alloc, "get", *cell, ""),
+        Command::Array(area, text) => area_in_words(alloc, "array", *area, text.as_str()),
+        Command::Link(cell, text) => cell_in_words(alloc, "link", *cell, text.as_str()),
+        Command::Unlink(cell) => cell_in_words(alloc, "unlink", *cell, ""),
+        Command::Merge(area) => area_in_words(alloc, "merge", *area, ""),
+        Command::Unmerge(cell) => cell_in_words(alloc, "unmerge", *cell, ""),
+        Command::Rule(area, text) => area_in_words(alloc, "rule", *area, text.as_str()),
+        Command::InsertRows(lines) => lines_in_words(alloc, "insert rows", *lines),
+        Command::InsertColumns(lines) => lines_in_words(alloc, "insert columns", *lines),
+        Command::DeleteRows(lines) => lines_in_words(alloc, "delete rows", *lines),
+        Command::DeleteColumns(lines) => lines_in_words(alloc, "delete columns", *lines),
+        Command::MoveRows(moved) => move_in_words(alloc, "move rows", *moved),
+        Command::MoveColumns(moved) => move_in_words(alloc, "move columns", *moved),
+        other => other_in_words(alloc, other),
     }
 }
 
 /// A command that names no cells, and inserts, deletes or moves no lines, in words.
-fn other_in_words(alloc: Global, command: Command) -> Result<String, AllocError> {
+fn other_in_words(alloc: Global, command: &Command) -> Result<String, AllocError> {
     match command {
-        Command::Width(size) => size_in_words(alloc, "width", size),
-        Command::Height(size) => size_in_words(alloc, "height", size),
-        Command::HideRows(span) => span_in_words(alloc, "hide rows", span),
-        Command::ShowRows(span) => span_in_words(alloc, "show rows", span),
-        Command::HideColumns(span) => span_in_words(alloc, "hide columns", span),
-        Command::ShowColumns(span) => span_in_words(alloc, "show columns", span),
-        Command::FreezeRows(named) => count_in_words(alloc, "freeze rows", named),
-        Command::FreezeColumns(named) => count_in_words(alloc, "freeze columns", named),
-        Command::FillRows(named) => fill_in_words(alloc, "fill rows", named),
-        Command::FillColumns(named) => fill_in_words(alloc, "fill columns", named),
+        Command::Width(size) => size_in_words(alloc, "width", *size),
+        Command::Height(size) => size_in_words(alloc, "height", *size),
+        Command::HideRows(span) => span_in_words(alloc, "hide rows", *span),
+        Command::ShowRows(span) => span_in_words(alloc, "show rows", *span),
+        Command::HideColumns(span) => span_in_words(alloc, "hide columns", *span),
+        Command::ShowColumns(span) => span_in_words(alloc, "show columns", *span),
+        Command::FreezeRows(named) => count_in_words(alloc, "freeze rows", *named),
+        Command::FreezeColumns(named) => count_in_words(alloc, "freeze columns", *named),
+        Command::FillRows(named) => fill_in_words(alloc, "fill rows", *named),
+        Command::FillColumns(named) => fill_in_words(alloc, "fill columns", *named),
         Command::NewSheet => format!(in alloc; "new sheet"),
-        Command::DuplicateSheet(sheet) => format!(in alloc; "duplicate: sheet {sheet}"),
-        Command::DeleteSheet(sheet) => format!(in alloc; "delete: sheet {sheet}"),
+        Command::Undo => format!(in alloc; "undo"),
+        Command::Redo => format!(in alloc; "redo"),
+        Command::Sync => format!(in alloc; "sync"),
+        Command::Show => format!(in alloc; "show"),
+        Command::Title(text) => word_in_words(alloc, "title", text),
+        Command::ThemeColors(theme) => theme_in_words(alloc, *theme),
+        Command::Locale(text) => word_in_words(alloc, "locale", text),
+        Command::Zone(text) => word_in_words(alloc, "zone", text),
+        Command::Language(text) => word_in_words(alloc, "language", text),
+        other => named_in_words(alloc, other),
+    }
+}
+
+/// A command of sheets, of names or of rules, in words.
+fn named_in_words(alloc: Global, command: &Command) -> Result<String, AllocError> {
+    match command {
+        Command::DuplicateSheet(sheet) => sheet_in_words(alloc, "duplicate", *sheet),
+        Command::DeleteSheet(sheet) => sheet_in_words(alloc, "delete", *sheet),
+        Command::HideSheet(sheet) => sheet_in_words(alloc, "hide", *sheet),
+        Command::UnhideSheet(sheet) => sheet_in_words(alloc, "unhide", *sheet),
         Command::MoveSheet(moved) => {
             let (from, to) = (moved.from, moved.to);
             format!(in alloc; "move sheet: from {from} to {to}")
         }
         Command::RenameSheet(sheet, text) => {
-            let name = text.as_str();
+            let (sheet, name) = (*sheet, text.as_str());
             format!(in alloc; "rename: sheet {sheet} |{name}|")
         }
-        Command::HideSheet(sheet) => format!(in alloc; "hide: sheet {sheet}"),
-        Command::UnhideSheet(sheet) => format!(in alloc; "unhide: sheet {sheet}"),
-        Command::SheetColor(named) => color_in_words(alloc, named),
+        Command::SheetColor(named) => color_in_words(alloc, *named),
         Command::GridLines(named) => {
             let (sheet, show) = (named.sheet, named.show);
             format!(in alloc; "grid: sheet {sheet} {show}")
         }
-        Command::Name(named, text) => name_in_words(alloc, "name", &named, text.as_str()),
+        Command::Name(named, text) => name_in_words(alloc, "name", named, text.as_str()),
         Command::NameUpdate(named, text) => {
             let new = name_in_words(alloc, "to", &named.new, text.as_str())?;
             name_in_words(alloc, "update", &named.old, new.as_str())
         }
-        Command::NameDelete(named) => name_in_words(alloc, "delete", &named, ""),
-        Command::Undo => format!(in alloc; "undo"),
-        Command::Redo => format!(in alloc; "redo"),
-        Command::Sync => format!(in alloc; "sync"),
-        Command::Show => format!(in alloc; "show"),
-        Command::Title(text) => word_in_words(alloc, "title", &text),
-        Command::ThemeColors(theme) => theme_in_words(alloc, theme),
-        Command::Locale(text) => word_in_words(alloc, "locale", &text),
-        Command::Zone(text) => word_in_words(alloc, "zone", &text),
-        Command::Language(text) => word_in_words(alloc, "language", &text),
+        Command::NameDelete(named) => name_in_words(alloc, "delete", named, ""),
+        Command::RuleDelete(named) => rule_in_words(alloc, *named),
+        Command::RuleSwap(named) => swap_in_words(alloc, *named),
         _ => format!(in alloc; "cells or lines"),
     }
+}
+
+fn sheet_in_words(alloc: Global, word: &str, sheet: u32) -> Result<String, AllocError> {
+    format!(in alloc; "{word}: sheet {sheet}")
 }
 
 fn word_in_words(alloc: Global, word: &str, text: &Text) -> Result<String, AllocError> {
@@ -103,6 +117,16 @@ fn name_in_words(
         Some(sheet) => format!(in alloc; "{word}: {name} of sheet {sheet} |{text}|"),
         None => format!(in alloc; "{word}: {name} of the workbook |{text}|"),
     }
+}
+
+fn rule_in_words(alloc: Global, named: NamedRule) -> Result<String, AllocError> {
+    let (sheet, index) = (named.sheet, named.index);
+    format!(in alloc; "delete: rule {index} of sheet {sheet}")
+}
+
+fn swap_in_words(alloc: Global, named: NamedSwap) -> Result<String, AllocError> {
+    let (sheet, first, second) = (named.sheet, named.index_a, named.index_b);
+    format!(in alloc; "swap: rules {first} and {second} of sheet {sheet}")
 }
 
 fn color_in_words(alloc: Global, named: NamedColor) -> Result<String, AllocError> {
@@ -169,7 +193,7 @@ fn move_in_words(alloc: Global, word: &str, moved: NamedMove) -> Result<String, 
 }
 
 /// Lines, and the commands that they are.
-const COMMANDS: [(&[u8], &str); 78] = [
+const COMMANDS: [(&[u8], &str); 85] = [
     (b"set 0 A1 12", "set: sheet 0 row 1 column 1 |12|"),
     (b"set 0 A1", "set: sheet 0 row 1 column 1 ||"),
     (b"set 0 A1 ", "set: sheet 0 row 1 column 1 ||"),
@@ -313,6 +337,22 @@ const COMMANDS: [(&[u8], &str); 78] = [
         "update: X of the workbook |to: Y of sheet 1 |=1 + 2||",
     ),
     (b"name-delete 0 Rate", "delete: Rate of sheet 0 ||"),
+    (
+        b"rule 0 B4:B2 =B2>1",
+        "rule: sheet 0 row 2 column 2 1x3 |=B2>1|",
+    ),
+    (b"rule 007 a1", "rule: sheet 7 row 1 column 1 1x1 ||"),
+    (
+        b"rule 0 A1 a\\nb ",
+        "rule: sheet 0 row 1 column 1 1x1 |a\nb |",
+    ),
+    (b"rule-delete 1 0", "delete: rule 0 of sheet 1"),
+    (
+        b"rule-delete 0 4294967295",
+        "delete: rule 4294967295 of sheet 0",
+    ),
+    (b"rule-swap 2 007 1", "swap: rules 7 and 1 of sheet 2"),
+    (b"rule-swap 0 3 3", "swap: rules 3 and 3 of sheet 0"),
     (b"undo", "undo"),
     (b"redo", "redo"),
     (b"sync", "sync"),
@@ -320,7 +360,7 @@ const COMMANDS: [(&[u8], &str); 78] = [
 ];
 
 /// Lines that are no commands.
-const BAD_LINES: [&[u8]; 106] = [
+const BAD_LINES: [&[u8]; 122] = [
     b"insert-rows",
     b"insert-rows 0",
     b"insert-rows 0 1",
@@ -398,6 +438,22 @@ const BAD_LINES: [&[u8]; 106] = [
     b"name-update - X 0",
     b"name-delete - X y",
     b"name-delete 4294967296 X",
+    b"rule",
+    b"rule 0",
+    b"rule 0 1 TRUE",
+    b"rule 0 A1:B2:C3 TRUE",
+    b"rule 0 A1 \\q",
+    b"rule 4294967296 A1 TRUE",
+    b"rule-delete",
+    b"rule-delete 0",
+    b"rule-delete 0 -1",
+    b"rule-delete 0 4294967296",
+    b"rule-delete 0 0 ",
+    b"rule-swap 0 0",
+    b"rule-swap 0 0 1 2",
+    b"rule-swap 0 -1 2",
+    b"rule-swap  1 1",
+    b"rule-swa-p 0 0 1",
     b"",
     b" ",
     b" undo",
@@ -429,14 +485,21 @@ const BAD_LINES: [&[u8]; 106] = [
     b"\xc3undo",
 ];
 
+/// Whether a line is a command that reads so in words.
+fn reads_as(alloc: Global, line: &[u8], words: &str) -> Result<bool, Fail> {
+    match read_command(alloc, line)? {
+        Some(command) => Ok(in_words(alloc, &command)?.as_str() == words),
+        None => Ok(false),
+    }
+}
+
 /// The first line of a table that is another command.
 fn first_misread(
     alloc: Global,
     table: &[(&'static [u8], &'static str)],
 ) -> Result<Option<&'static str>, Fail> {
     for (line, words) in table {
-        let read = in_words(alloc, read_command(alloc, line)?)?;
-        if read.as_str() != *words {
+        if !reads_as(alloc, line, words)? {
             return Ok(Some(*words));
         }
     }
@@ -466,10 +529,7 @@ fn other_lines_are_no_commands(rt: HostRuntime) -> Result<(), Fail> {
     Ok(())
 }
 
-#[test]
-fn texts_and_places_are_printed(rt: HostRuntime) -> Result<(), Fail> {
-    let mut out = Vec::new(rt.alloc());
-    push_escaped(&mut out, b"a\n\\n")?;
+fn push_places(alloc: Global, out: &mut Vec<u8>) -> Result<(), Fail> {
     for (row, column) in [
         (1, 1),
         (10, 26),
@@ -479,8 +539,16 @@ fn texts_and_places_are_printed(rt: HostRuntime) -> Result<(), Fail> {
         (1048576, 16384),
     ] {
         out.push(b' ')?;
-        push_reference(rt.alloc(), &mut out, Position { row, column })?;
+        push_reference(alloc, out, Position { row, column })?;
     }
+    Ok(())
+}
+
+#[test]
+fn texts_and_places_are_printed(rt: HostRuntime) -> Result<(), Fail> {
+    let mut out = Vec::new(rt.alloc());
+    push_escaped(&mut out, b"a\n\\n")?;
+    push_places(rt.alloc(), &mut out)?;
     assert_eq!(rt;
         out.as_slice(),
         b"a\\n\\\\n A1 Z10 AA99 ZZ100 AAA7 XFD1048576".as_slice()

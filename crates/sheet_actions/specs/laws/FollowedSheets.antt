@@ -38,16 +38,16 @@ pub pass : (a b : Bool) → a ≡ true → b ≡ true → a && b ≡ true
 pass a b p q = grind arith
 
 -- a tree that is carried along is as deep as before
-within_carried : (w : Way) (most : ℕ) (tree : Node) → is_within most (tree_carried w tree) ≡ is_within most tree
+pub within_carried : (w : Way) (most : ℕ) (tree : Node) → is_within most (tree_carried w tree) ≡ is_within most tree
 unfolding is_within tree_carried
 within_carried w most tree = ap (λ depth. nat_le depth most) (depth-moved w.to (following w) tree)
 
-numbers_carried : (w : Way) (tree : Node) → has_no_negative_number (tree_carried w tree) ≡ has_no_negative_number tree
+pub numbers_carried : (w : Way) (tree : Node) → has_no_negative_number (tree_carried w tree) ≡ has_no_negative_number tree
 unfolding tree_carried
 numbers_carried w tree = numbers-moved _ w.to (following w) tree
 
 -- and it may stand where it goes
-tree_fits : (w : Way) → IsWay w → (tree : Node) → tree_fits_at w.from tree ≡ true → tree_fits_at w.to (tree_carried w tree) ≡ true
+pub tree_fits : (w : Way) → IsWay w → (tree : Node) → tree_fits_at w.from tree ≡ true → tree_fits_at w.to (tree_carried w tree) ≡ true
 unfolding tree_fits_at
 tree_fits w is tree fits =
     let tests = both (is_placed w.from tree && is_within 64 tree) (has_no_negative_number tree) fits in

@@ -1,5 +1,5 @@
 -- A workbook that follows a line edit stays well-formed.
-use Rattle.std.proofs.Common.{◌≡◌, ℕ, Bool, true, suc, List, [], ◌∷◌, length, map, refl, ap, ◌∙◌}
+use Rattle.std.proofs.Common.{◌≡◌, ℕ, true, suc, List, [], ◌∷◌, length, map, refl, ap, ◌∙◌}
 use Rattle.std.specs.Prelude.{◌&&◌, ◌==◌, nat_lt}
 use Rattle.std.specs.List.{list_all, AllByRecursion}
 use Rattle.base_axis.specs.Along.{Along, IsAxis}
@@ -14,7 +14,7 @@ use Rattle.line_edits.specs.laws.OneToOne.{edit_one_to_one}
 use Rattle.sheet_rules.specs.Names.{are_names}
 use Rattle.sheet_rules.specs.SheetNames.{is_sheet_name}
 use Rattle.sheet_rules.specs.laws.EntryLaws.{both}
-use Rattle.sheet_rules.specs.WellFormed.{are_distinct, ids_of, names_of, are_sheets, stands_inside, have_trees, have_attributes, are_frozen, IsWellFormed}
+use Rattle.sheet_rules.specs.WellFormed.{are_distinct, ids_of, names_of, are_sheets, stands_inside, have_trees, have_rule_trees, have_attributes, are_frozen, have_rule_parts, IsWellFormed}
 use Rattle.sheet_rules.specs.laws.WellFormedLaws.{well_formed_parts, well_formed_from_parts, distinct_ids_from_well_formed}
 use Rattle.sheet_rules.specs.Occupied.{have_arrays, have_merges, are_hidden_blank}
 use Rattle.sheet_lines.specs.Followed.{way_of, sheet_followed, sheets_followed, book_followed}
@@ -22,12 +22,8 @@ use Rattle.sheet_lines.specs.Sheets.{sheet_of, name_of}
 use Rattle.sheet_actions.specs.Whole.{LeavesWhole, IsAllowed}
 use Rattle.sheet_actions.specs.laws.FollowedShapes.{KeepsRectangles, rectangles_stay}
 use Rattle.sheet_actions.specs.laws.OwnSheets.{each_of_id}
+use Rattle.sheet_actions.specs.laws.FollowedRules.{all_follow, rule_trees_stay, rule_parts_stay}
 use Rattle.sheet_actions.specs.laws.FollowedSheets.{pass, inside_stay, trees_stay, attributes_stay}
-
--- a test that each sheet still passes
-all_follow : (P : Sheet → Bool) (f : Sheet → Sheet) → ((sheet : Sheet) → P sheet ≡ true → P (f sheet) ≡ true) → (sheets : List Sheet) → list_all P sheets ≡ true → list_all P (map f sheets) ≡ true
-all_follow P f h [] all = refl
-all_follow P f h (sheet ∷ sheets) all = let parts = both _ _ all in pass _ _ (h sheet parts.0) (all_follow P f h sheets parts.1)
 
 -- the rules of arrays, merges and what these cover, sheet by sheet
 each_keeps : (sheets : List Sheet) → list_all have_arrays sheets ≡ true → list_all have_merges sheets ≡ true → list_all are_hidden_blank sheets ≡ true → AllByRecursion KeepsRectangles sheets
@@ -88,8 +84,10 @@ followed_well_formed a lawful e valid id book h allowed =
       merges = kept.merges;
       hidden = kept.hidden;
       trees = all_follow have_trees f (λ sheet. trees_stay (way_of a m id edited sheet) (is sheet) sheet) book.worksheets rules.trees;
+      rule_trees = all_follow have_rule_trees f (λ sheet. rule_trees_stay (way_of a m id edited sheet) (is sheet) sheet) book.worksheets rules.rule_trees;
       name_trees = rules.name_trees;
       attributes = all_follow have_attributes f (λ sheet. attributes_stay (way_of a m id edited sheet) (is sheet) sheet) book.worksheets rules.attributes;
       names = ap (λ ids. are_names ids book.names) (same_ids a m id edited book.worksheets) ∙ rules.names;
       frozen = all_follow are_frozen f (λ _ frozen. frozen) book.worksheets rules.frozen;
+      rule_parts = all_follow have_rule_parts f (λ sheet. rule_parts_stay (way_of a m id edited sheet) (is sheet) sheet) book.worksheets rules.rule_parts;
     })

@@ -14,6 +14,7 @@ use crate::link::Link;
 use base_axis::{AxisMap, ColumnAxis, MergeList, RowAxis};
 use base_shared::Shared;
 use base_values::{EditError, Items, PlaceMap, Position, copy_of};
+use format_rules::RuleList;
 
 impl Worksheet {
     /// The cells by their places.
@@ -74,8 +75,9 @@ impl Worksheet {
         self.columns.lines(self.name.allocator())
     }
 
-    /// A copy of the sheet that holds these in place of its own cells, links, rows, columns and
-    /// merges. The arrays among the cells are found in one pass. `NoMemory` alone is an error.
+    /// A copy of the sheet that holds these in place of its own cells, links, rows, columns, merges
+    /// and conditional rules. The arrays among the cells are found in one pass. `NoMemory` alone is an
+    /// error.
     pub fn with_entries(
         &self,
         cells: PlaceMap<Shared<Cell>>,
@@ -83,9 +85,10 @@ impl Worksheet {
         rows: AxisMap<RowAxis, LineAttr>,
         columns: AxisMap<ColumnAxis, LineAttr>,
         merges: MergeList,
+        formattings: RuleList,
     ) -> Result<Worksheet, EditError>
         requires { CanonicalCells cells }
-        ensures sheet { IfOk result (λ sheet. sheet ≡ record self.now { cells = cells; links = links; rows = rows; columns = columns; merges = merges }) }
+        ensures sheet { IfOk result (λ sheet. sheet ≡ record self.now { cells = cells; links = links; rows = rows; columns = columns; merges = merges; formattings = formattings }) }
         ensures only { IsOkUnless result NoMemory }
     {
         let alloc = self.name.allocator();
@@ -102,6 +105,7 @@ impl Worksheet {
             rows,
             columns,
             merges,
+            formattings,
         })
     }
 }

@@ -13,7 +13,7 @@ use Rattle.sheet_grid.specs.Book.{Book}
 use Rattle.sheet_rules.specs.laws.EntryLaws.{both}
 use Rattle.sheet_lines.specs.Sheets.{HasDistinctIds}
 use Rattle.sheet_history.specs.declared.diff.Diff.{Diff}
-use Rattle.sheet_history.specs.declared.diff.Diff.TheVariants.{Cell as CellDiff, Link as LinkDiff, Merges as MergesDiff, Field as FieldDiff, Lines as LinesDiff, NewSheet as NewDiff, DuplicateSheet as CopyDiff, DeleteSheet as DeletionDiff, MoveSheet as MoveDiff, RenameSheet as RenameDiff, ChangeName as NameDiff, Attributes as AttrDiff, Setting as SettingDiff}
+use Rattle.sheet_history.specs.declared.diff.Diff.TheVariants.{Cell as CellDiff, Link as LinkDiff, Merges as MergesDiff, Field as FieldDiff, Lines as LinesDiff, NewSheet as NewDiff, DuplicateSheet as CopyDiff, DeleteSheet as DeletionDiff, MoveSheet as MoveDiff, RenameSheet as RenameDiff, ChangeName as NameDiff, Rule as RuleDiff, Attributes as AttrDiff, Setting as SettingDiff}
 use Rattle.sheet_history.specs.Entries.{EntryKey, EntryValue, key_cmp, entry_at, put_entry, accepts, frame_of}
 use Rattle.sheet_history.specs.Entries.EntryKey.{CellKey, LinkKey, MergesKey, FieldKey, AttrKey}
 use Rattle.sheet_history.specs.Entries.EntryValue.{CellValue, LinkValue, MergesValue, FieldValue, AttrValue}
@@ -88,6 +88,7 @@ step_by_new at w (FieldDiff sheet change) c h =
     let same : ◌≡◌ {A = Change} (FieldKey sheet (changed_field change), (FieldValue (old_of change), FieldValue (new_of change))) c = cc in ap (λ (x : Change). put_in at w x.0 x.1.1) same
 step_by_new at w (AttrDiff sheet axis line old new) c h =
     let same : ◌≡◌ {A = Change} (AttrKey sheet axis line, (AttrValue old, AttrValue new)) c = cc in ap (λ (x : Change). put_in at w x.0 x.1.1) same
+step_by_new at w (RuleDiff _ _) c h = absurd (cc)
 step_by_new at w (LinesDiff _ _ _ _) c h = absurd (cc)
 step_by_new at w (NewDiff _ _ _) c h = absurd (cc)
 step_by_new at w (CopyDiff _ _ _ _) c h = absurd (cc)
@@ -108,6 +109,7 @@ step_by_old at w (FieldDiff sheet change) c h =
     let same : ◌≡◌ {A = Change} (FieldKey sheet (changed_field change), (FieldValue (old_of change), FieldValue (new_of change))) c = cc in ap (λ (x : Change). put_in at w x.0 x.1.0) same
 step_by_old at w (AttrDiff sheet axis line old new) c h =
     let same : ◌≡◌ {A = Change} (AttrKey sheet axis line, (AttrValue old, AttrValue new)) c = cc in ap (λ (x : Change). put_in at w x.0 x.1.0) same
+step_by_old at w (RuleDiff _ _) c h = absurd (cc)
 step_by_old at w (LinesDiff _ _ _ _) c h = absurd (cc)
 step_by_old at w (NewDiff _ _ _) c h = absurd (cc)
 step_by_old at w (CopyDiff _ _ _ _) c h = absurd (cc)

@@ -14,10 +14,11 @@ use Rattle.sheet_lines.specs.laws.KeptEquals.{kept_equals}
 use Rattle.book_sheets.specs.laws.KeptSheetEquals.{kept_sheet_equals}
 use Rattle.book_names.specs.laws.KeptTreesEquals.{kept_trees_equals}
 use Rattle.name_edits.specs.laws.ChangeEquals.{name_change_equals}
+use Rattle.rule_edits.specs.laws.ChangeEquals.{rule_change_equals}
 use Rattle.sheet_history.specs.laws.FieldEquals.{field_change_equals}
 use Rattle.sheet_history.specs.laws.SettingEquals.{setting_change_equals}
 use Rattle.sheet_history.specs.declared.diff.Diff.{Diff}
-use Rattle.sheet_history.specs.declared.diff.Diff.TheVariants.{Cell as CellDiff, Link as LinkDiff, Merges as MergesDiff, Field as FieldDiff, Lines as LinesDiff, NewSheet as NewDiff, DuplicateSheet as CopyDiff, DeleteSheet as DeletionDiff, MoveSheet as MoveDiff, RenameSheet as RenameDiff, ChangeName as NameDiff, Attributes as AttrDiff, Setting as SettingDiff}
+use Rattle.sheet_history.specs.declared.diff.Diff.TheVariants.{Cell as CellDiff, Link as LinkDiff, Merges as MergesDiff, Field as FieldDiff, Lines as LinesDiff, NewSheet as NewDiff, DuplicateSheet as CopyDiff, DeleteSheet as DeletionDiff, MoveSheet as MoveDiff, RenameSheet as RenameDiff, ChangeName as NameDiff, Rule as RuleDiff, Attributes as AttrDiff, Setting as SettingDiff}
 use Rattle.sheet_history.specs.declared.diff.DiffType.{DiffType}
 use Rattle.sheet_history.specs.declared.diff.DiffType.TheVariants.{Undo, Redo}
 use Rattle.sheet_history.specs.declared.diff.QueueDiffs.{QueueDiffs}
@@ -180,6 +181,14 @@ diff_equals (RenameDiff s o n k) (RenameDiff t p m l) =
 
     kept_of : RenameDiff s o n k ≡ RenameDiff t p m l → k ≡ l
     kept_of e = cc
+diff_equals (RuleDiff s c) (RuleDiff t d) =
+    Decides-like _ (λ h i. RuleDiff (h.0 i) (h.1 i)) (λ e. (sheet_of e, change_of e)) (Decides-and _ _ (unsigned_Decides _ _) (rule_change_equals _ _))
+  where
+    sheet_of : RuleDiff s c ≡ RuleDiff t d → s ≡ t
+    sheet_of e = cc
+
+    change_of : RuleDiff s c ≡ RuleDiff t d → c ≡ d
+    change_of e = cc
 diff_equals (NameDiff c k) (NameDiff d l) =
     Decides-like _ (λ h i. NameDiff (h.0 i) (h.1 i)) (λ e. (change_of e, kept_of e)) (Decides-and _ _ (name_change_equals _ _) (kept_trees_equals _ _))
   where

@@ -1,13 +1,14 @@
 -- The conditions of a diff of lines hold of what is kept of a workbook: the edit is made, and taken back.
-use Rattle.std.proofs.Common.{◌≡◌, ℕ, ℤ, pos, ◌+ℤ◌, ◌⊎◌, inl, inr, Bool, true, false, cond, List, [], ◌∷◌, map, Option, Some, None, Ok, Err, refl, ap, sym, ◌∙◌, arith}
-use Rattle.std.specs.Prelude.{IsTrue, IfSome, not, ◌&&◌, ◌==◌, is_none, int_le, int_lt, if◌then◌else◌}
-use Rattle.std.specs.List.{list_all, find}
+use Rattle.std.proofs.Common.{◌≡◌, ℕ, ℤ, pos, ◌+ℤ◌, ◌⊎◌, inl, inr, Bool, true, false, cond, List, [], ◌∷◌, map, Option, Some, None, Ok, Err, refl, ap, sym, subst, ◌∙◌, arith}
+use Rattle.std.specs.Prelude.{IsTrue, IfSome, length, not, ◌&&◌, ◌==◌, is_none, int_le, int_lt, nat_lt, if◌then◌else◌}
+use Rattle.std.specs.List.{AllByRecursion, list_all, find}
 use Rattle.std.specs.declared.cmp.Ordering.{Ordering}
-use Rattle.std.specs.Ordering.{int_cmp}
-use Rattle.std.specs.Cmp.{IsTotalOrder, int_cmp_total}
+use Rattle.std.specs.Ordering.{int_cmp, nat_cmp}
+use Rattle.std.specs.Cmp.{IsTotalOrder, int_cmp_total, nat_cmp_total}
 use Rattle.std.specs.FinMap.{FinMap, entries, get, get-empty}
 use Rattle.std.proofs.lemmas.Int.{ints}
-use Rattle.std.proofs.lemmas.Map.Lookups.{CmpEqualImpliesEq, exact_signed}
+use Rattle.std.proofs.lemmas.List.{length-map}
+use Rattle.std.proofs.lemmas.Map.Lookups.{CmpEqualImpliesEq, exact_signed, exact_unsigned}
 use Rattle.base_values.specs.declared.EditError.TheVariants.{DiffRefused}
 use Rattle.base_values.specs.declared.Position.{Position}
 use Rattle.base_values.specs.Places.{is_line, position_cmp}
@@ -25,6 +26,8 @@ use Rattle.formula_tree.specs.Depth.{is_within}
 use Rattle.cell_content.specs.declared.Content.TheVariants.{Formula}
 use Rattle.cell_content.specs.Fitting.{fits_at, tree_fits_at}
 use Rattle.cell_content.specs.laws.FittingLaws.{shallow_where_fits}
+use Rattle.format_rules.specs.declared.ConditionalFormatting.{ConditionalFormatting}
+use Rattle.format_rules.specs.Fitting.{has_parts}
 use Rattle.line_edits.specs.declared.EditKind.{EditKind}
 use Rattle.line_edits.specs.declared.EditKind.TheVariants.{Insert, Delete, Move}
 use Rattle.line_edits.specs.Edit.{image_at, goes_to, within, opposite_of, IsValid}
@@ -38,6 +41,10 @@ use Rattle.line_map.specs.Way.{Way, at, back, place_goes}
 use Rattle.base_maps.specs.laws.Gathering.{get-lost_map}
 use Rattle.base_maps.specs.laws.CarriedLaws.{get-carried_map}
 use Rattle.line_map.specs.laws.WayLaws.{goes_inverse}
+use Rattle.rule_edits.specs.RuleChanges as rule_changes
+use Rattle.rule_lines.specs.Rules.{are_there, formatting_carried, formatting_part, rules_kept}
+use Rattle.rule_lines.specs.laws.ByIndexLaws.{kept_are, kept_within}
+use Rattle.rule_lines.specs.laws.RuleLaws.{formatting_restores}
 use Rattle.sheet_grid.specs.Arrays.{array_at}
 use Rattle.sheet_grid.specs.declared.Cell.{Cell}
 use Rattle.sheet_grid.specs.declared.LineAttr.{LineAttr}
@@ -52,16 +59,17 @@ use Rattle.sheet_rules.specs.laws.WellFormedLaws.{cells_fit_from_trees, distinct
 use Rattle.sheet_lines.specs.declared.KeptLines.{KeptLines}
 use Rattle.sheet_lines.specs.Sheets.{sheet_of, name_of}
 use Rattle.sheet_lines.specs.Followed.{way_of, sheet_followed, book_followed}
-use Rattle.sheet_lines.specs.Kept.{lines_of, of_sheet, merges_kept, kept_lines}
+use Rattle.sheet_lines.specs.Kept.{lines_of, of_sheet, merges_kept, formattings_kept, kept_lines}
 use Rattle.sheet_lines.specs.Back.{book_back}
 use Rattle.sheet_lines.specs.laws.Regained.{book_regained, formulas_at}
 use Rattle.sheet_lines.specs.laws.Stays.{way_is}
-use Rattle.sheet_history.specs.laws.Depth.{AreShallowLines}
-use Rattle.sheet_history.specs.LineDiffs.{is_pushed_past, stays_inside, is_there_inside, is_lost_place, is_lost_line, all_keys, stand_on_lost, merges_inside, lie_inside, tree_stands, formulas_stand, goes_on, goes_forward, goes_back, lines_forward, lines_back}
+use Rattle.sheet_history.specs.laws.Depth.{AreShallowLines, is_shallow_rule}
+use Rattle.sheet_history.specs.LineDiffs.{is_pushed_past, stays_inside, is_there_inside, is_lost_place, is_lost_line, all_keys, stand_on_lost, merges_inside, parts_inside, lie_inside, tree_stands, formulas_stand, each_stands, formattings_stand, goes_on, goes_forward, goes_back, lines_forward, lines_back}
 use Rattle.book_sheets.specs.SheetDiffs.{lies_inside, cells_fit}
 use Rattle.sheet_history.specs.laws.Entries.{all_entries, entry_holds}
 use Rattle.sheet_history.specs.laws.RuleLaws.{KeepsSheetRules, sheet_rules}
 use Rattle.sheet_history.specs.laws.SoundEntries.{array_inside, sheet_merges_inside}
+use Rattle.sheet_history.specs.laws.StandingRules.{all_shallow, have_parts, passing_rules, sheet_rules_stand}
 use Rattle.sheet_history.specs.laws.KeptTrees.{IsTreeThere, tree_there, kept_fits, formula_there}
 
 module _ {K X : Type 0} (R : K → K → Ordering) (total : IsTotalOrder R) (exact : CmpEqualImpliesEq R) (to : K → Option K) (m : FinMap R X) where
@@ -91,6 +99,33 @@ either_inside false merges all = all
 part_inside : (w : Way) (merges : List MergedCell) → list_all is_inside merges ≡ true → merges_inside (merges_part w merges) ≡ true
 unfolding part_by_trial
 part_inside w merges all = either_inside (comes_back equality.ghosts.eq merges_carried w merges) merges all
+
+-- ---- kept conditional rules
+
+-- what is kept of a rule is the rule
+part_known : (P : ConditionalFormatting → Type 0) (w : Way) (formatting : ConditionalFormatting) → P formatting → (o : Option ConditionalFormatting) → formatting_part w formatting ≡ o → IfSome o P
+part_known P w formatting h None is = tt
+part_known P w formatting h (Some part) is = subst P (sym (formatting_restores w formatting part is)) h
+
+-- so what holds of each rule holds of each that is kept
+kept_known : (P : ConditionalFormatting → Type 0) (w : Way) (rules : List ConditionalFormatting) → AllByRecursion P rules → (q : ℕ) → IfSome (get (rules_kept w rules) q) P
+kept_known P w rules all q = kept_are (formatting_part w) P P (λ rule h. part_known P w rule h (formatting_part w rule) refl) rules all q
+
+known_at : (P : ConditionalFormatting → Type 0) (o : Option ConditionalFormatting) (formatting : ConditionalFormatting) → o ≡ Some formatting → IfSome o P → P formatting
+known_at P None formatting is h = absurd (cc)
+known_at P (Some other) formatting is h = let same : other ≡ formatting = cc in subst P same h
+
+module _ (w : Way) (rules : List ConditionalFormatting) where
+  -- a test that each rule passes
+  kept_pass : (test : ConditionalFormatting → Bool) → list_all test rules ≡ true → list_all (λ (entry : ℕ × ConditionalFormatting). test entry.1) (entries (rules_kept w rules)) ≡ true
+  kept_pass test all = all_entries nat_cmp nat_cmp_total exact_unsigned (λ (entry : ℕ × ConditionalFormatting). test entry.1) (rules_kept w rules) (λ q formatting found.
+      known_at (λ f. test f ≡ true) (get (rules_kept w rules) q) formatting found (kept_known (λ f. test f ≡ true) w rules (passing_rules test rules all) q))
+
+  -- each that is kept has the place of a rule
+  kept_there : (count : ℕ) → length rules ≡ count → are_there (rules_kept w rules) count ≡ true
+  unfolding are_there
+  kept_there count same = all_entries nat_cmp nat_cmp_total exact_unsigned (λ (entry : ℕ × ConditionalFormatting). nat_lt entry.0 count) (rules_kept w rules) (λ q formatting found.
+      ap (nat_lt q) (sym same) ∙ kept_within (formatting_part w) rules q formatting found)
 
 -- what a sheet has stands inside it, map by map
 record StandsInside (sheet : Sheet) : Type 0 where
@@ -236,6 +271,7 @@ module _ (a : Along) (l : IsAxis a) (e : EditKind) (valid : IsValid a.last e) (i
     kept_shallow = record {
       cells = λ p. cell_shallow p (sheet_of book id) refl;
       formulas = λ key. tree_shallow key (get kept.formulas key) refl;
+      formattings = λ index. rule_shallow index (sheet_of book id) refl;
     }
       where
         entry_shallow : (s : Sheet) → CellsFit s → (p : Position) (o : Option Cell) → get (lost_map (place_image a (image_at a.last e)) s.cells) p ≡ o → IsTrue (is_shallow_entry o)
@@ -251,6 +287,12 @@ module _ (a : Along) (l : IsAxis a) (e : EditKind) (valid : IsValid a.last e) (i
         tree_shallow : (key : SheetPlace) (o : Option Node) → get kept.formulas key ≡ o → IfSome o (λ tree. IsTrue (is_within 64 tree))
         tree_shallow key None is = tt
         tree_shallow key (Some tree) is = shallow_where_fits key.place (Formula tree) (kept_tree_fits key tree is)
+
+        rule_shallow : (index : ℕ) (o : Option Sheet) → sheet_of book id ≡ o →
+            IfSome (get (formattings_kept a (edit_moves a.last e) id (name_of (sheet_of book id)) o) index) (λ formatting. IsTrue (is_shallow_rule formatting))
+        rule_shallow index None none = subst (λ o. IfSome o (λ formatting. IsTrue (is_shallow_rule formatting))) (sym (get-empty nat_cmp index)) tt
+        rule_shallow index (Some s) there =
+            kept_known (λ formatting. IsTrue (is_shallow_rule formatting)) (way_in s) s.formattings (passing_rules is_shallow_rule s.formattings (all_shallow s.formattings (sheet_rules_stand book rules id s there))) index
 
     module _ (sheet : Sheet) (found : sheet_of book id ≡ Some sheet) where
       -- what is kept of a workbook stands on lost lines
@@ -268,7 +310,7 @@ module _ (a : Along) (l : IsAxis a) (e : EditKind) (valid : IsValid a.last e) (i
       -- kept arrays and merges lie inside
       kept_lie_inside : lie_inside kept ≡ true
       unfolding lie_inside
-      kept_lie_inside = λ i. arrays i && merges i
+      kept_lie_inside = λ i. arrays i && merges i && parts i
         where
           keeps : KeepsSheetRules sheet
           keeps = sheet_rules book rules id sheet found
@@ -279,8 +321,25 @@ module _ (a : Along) (l : IsAxis a) (e : EditKind) (valid : IsValid a.last e) (i
               ∙ all_entries position_cmp position_total exact_positions array_lies (lost_map (place_image a (image_at a.last e)) sheet.cells)
               (λ p cell there. array_inside sheet keeps.arrays p cell (lost_entry position_cmp position_total exact_positions (place_image a (image_at a.last e)) sheet.cells p cell there).0)
 
+          parts : parts_inside kept.formattings ≡ true
+          parts =
+              ap (λ o. parts_inside (formattings_kept a (edit_moves a.last e) id (name_of (sheet_of book id)) o)) found
+              ∙ kept_pass (way_in sheet) sheet.formattings has_parts (have_parts sheet.formattings (sheet_rules_stand book rules id sheet found))
+
           merges : merges_inside kept.merges ≡ true
           merges = ap (λ o. merges_inside (merges_kept a (edit_moves a.last e) id (name_of (sheet_of book id)) o)) found ∙ part_inside (way_in sheet) sheet.merges (sheet_merges_inside sheet keeps.merges)
+
+      -- each kept conditional rule stands in the later workbook
+      kept_rules_stand : formattings_stand kept.formattings (sheet_of later id) ≡ true
+      unfolding formattings_stand
+      kept_rules_stand =
+          let w : Way = way_in sheet in
+          let stand = sheet_rules_stand book rules id sheet found in
+          ap (formattings_stand kept.formattings) (later_found id sheet found)
+          ∙ ap (λ o. are_there (formattings_kept a (edit_moves a.last e) id (name_of (sheet_of book id)) o) (length (sheet_followed w sheet).formattings)
+          && each_stands (formattings_kept a (edit_moves a.last e) id (name_of (sheet_of book id)) o)) found
+          ∙ (λ i. kept_there w sheet.formattings (length (sheet_followed w sheet).formattings) (sym (length-map sheet.formattings (formatting_carried w))) i
+          && kept_pass w sheet.formattings rule_changes.may_stand stand i)
 
       -- the edit is made
       pub lines_made : (at : ℕ) → is_there_inside a e (sheet_of book id) ≡ true → lines_forward at a id e kept book ≡ Ok later
@@ -298,5 +357,5 @@ module _ (a : Along) (l : IsAxis a) (e : EditKind) (valid : IsValid a.last e) (i
           ap (is_there_inside a (opposite_of e)) (later_found id sheet found) ∙ back_inside (name_of (sheet_of book id)) sheet it e refl in
           let fit : cells_fit kept.cells ≡ true =
           ap (λ o. cells_fit (of_sheet (λ (s : Sheet). lost_map (place_image a (image_at a.last e)) s.cells) o)) found ∙ kept_fit sheet (sheet_fits id sheet found) in
-          let goes : goes_back a id e kept later ≡ true = λ i. valid i && inside i && (kept_on_lost i && kept_lie_inside i) && (fit i && kept_formulas_stand i) in
+          let goes : goes_back a id e kept later ≡ true = λ i. valid i && inside i && (kept_on_lost i && kept_lie_inside i) && (fit i && kept_formulas_stand i && kept_rules_stand i) in
           ap (λ b. if b then Ok (book_back a e id kept later) else Err (DiffRefused 0 at)) goes ∙ ap Ok (book_regained a l e valid id book (distinct_ids_from_well_formed book rules))

@@ -7,7 +7,7 @@ use Rattle.std.specs.FinMap.Entries.{same_entries}
 use Rattle.std.proofs.lemmas.Map.Lookups.{CmpEqualImpliesEq, exact_pairs, exact_unsigned, exact_signed}
 use Rattle.sheet_grid.specs.Book.{Book}
 use Rattle.sheet_history.specs.declared.diff.Diff.{Diff}
-use Rattle.sheet_history.specs.declared.diff.Diff.TheVariants.{Cell as CellDiff, Link as LinkDiff, Merges as MergesDiff, Field as FieldDiff, Lines as LinesDiff, NewSheet as NewDiff, DuplicateSheet as CopyDiff, DeleteSheet as DeletionDiff, MoveSheet as MoveDiff, RenameSheet as RenameDiff, ChangeName as NameDiff, Attributes as AttrDiff, Setting as SettingDiff}
+use Rattle.sheet_history.specs.declared.diff.Diff.TheVariants.{Cell as CellDiff, Link as LinkDiff, Merges as MergesDiff, Field as FieldDiff, Lines as LinesDiff, NewSheet as NewDiff, DuplicateSheet as CopyDiff, DeleteSheet as DeletionDiff, MoveSheet as MoveDiff, RenameSheet as RenameDiff, ChangeName as NameDiff, Rule as RuleDiff, Attributes as AttrDiff, Setting as SettingDiff}
 use Rattle.sheet_history.specs.declared.diff.LineAxis.TheVariants.{Rows, Columns}
 use Rattle.sheet_history.specs.Entries.{EntryKey, Rank, rank_of, rank_cmp, key_cmp}
 use Rattle.sheet_history.specs.Entries.EntryKey.{CellKey, LinkKey, MergesKey, FieldKey, AttrKey}
@@ -86,6 +86,7 @@ diff_of-change_of (FieldDiff sheet one) change h =
 diff_of-change_of (AttrDiff sheet axis line old new) change h =
     let same : ◌≡◌ {A = Change} (AttrKey sheet axis line, (AttrValue old, AttrValue new)) change = cc in
     ap (λ (c : Change). diff_of c.0 c.1.0 c.1.1) (sym same)
+diff_of-change_of (RuleDiff _ _) change h = absurd (cc)
 diff_of-change_of (LinesDiff _ _ _ _) change h = absurd (cc)
 diff_of-change_of (NewDiff _ _ _) change h = absurd (cc)
 diff_of-change_of (CopyDiff _ _ _ _) change h = absurd (cc)

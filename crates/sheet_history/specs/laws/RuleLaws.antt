@@ -21,7 +21,7 @@ use Rattle.sheet_rules.specs.laws.PutLaws.{arrays-put, merges-put, hidden-put}
 use Rattle.sheet_rules.specs.Names.{are_names}
 use Rattle.sheet_rules.specs.Occupied.{have_arrays, have_merges, are_hidden_blank, may_stand}
 use Rattle.sheet_rules.specs.SheetNames.{is_sheet_name}
-use Rattle.sheet_rules.specs.WellFormed.{are_distinct, ids_of, names_of, are_sheets, is_place, stands_inside, have_trees, have_attributes, are_frozen, is_row, is_column, IsWellFormed, has_font}
+use Rattle.sheet_rules.specs.WellFormed.{are_distinct, ids_of, names_of, are_sheets, is_place, stands_inside, have_trees, have_rule_trees, have_attributes, are_frozen, have_rule_parts, is_row, is_column, IsWellFormed, has_font}
 use Rattle.sheet_rules.specs.laws.WellFormedLaws.{well_formed_parts, well_formed_from_parts, cells_fit_from_trees, have_trees_from_cells_fit}
 use Rattle.sheet_lines.specs.Sheets.{sheet_of}
 pub use Rattle.book_sheets.specs.laws.SheetRules.{KeepsSheetRules}
@@ -78,8 +78,10 @@ sheet_rules w rules id s found =
       merges = all-found have_merges id w.worksheets s found parts.merges;
       hidden = all-found are_hidden_blank id w.worksheets s found parts.hidden;
       trees = all-found have_trees id w.worksheets s found parts.trees;
+      rule_trees = all-found have_rule_trees id w.worksheets s found parts.rule_trees;
       attributes = all-found have_attributes id w.worksheets s found parts.attributes;
       frozen = all-found are_frozen id w.worksheets s found parts.frozen;
+      rule_parts = all-found have_rule_parts id w.worksheets s found parts.rule_parts;
     }
 
 -- ids and names decide whether the sheets keep their rule
@@ -124,8 +126,10 @@ cell-put s place entry inside fits font stands h = record {
   merges = merges-put s place entry stands h.merges;
   hidden = hidden-put s place entry stands h.hidden;
   trees = have_trees_from_cells_fit (with_cell s place entry) (cells_fit-put s place entry (cell_keeps place entry fits) (cells_fit_from_trees s h.trees));
+  rule_trees = h.rule_trees;
   attributes = attributes-put s place entry font h.attributes;
   frozen = h.frozen;
+  rule_parts = h.rule_parts;
 }
 
 -- so does a link
@@ -142,25 +146,27 @@ link-put s place entry inside h =
       merges = h.merges;
       hidden = h.hidden;
       trees = h.trees;
+      rule_trees = h.rule_trees;
       attributes = h.attributes;
       frozen = h.frozen;
+      rule_parts = h.rule_parts;
     }
 
 -- so does a field that may have its value
 field-put : (s : Sheet) (field : Field) (v : SheetField) → may_have v ≡ true → KeepsSheetRules s → KeepsSheetRules (with_field field v s)
 unfolding stands_inside have_arrays have_merges are_hidden_blank have_trees have_attributes
 field-put s ColorField (value.Color v) may h =
-    record { inside = h.inside; arrays = h.arrays; merges = h.merges; hidden = h.hidden; trees = h.trees; attributes = h.attributes; frozen = h.frozen }
+    record { inside = h.inside; arrays = h.arrays; merges = h.merges; hidden = h.hidden; trees = h.trees; rule_trees = h.rule_trees; attributes = h.attributes; frozen = h.frozen; rule_parts = h.rule_parts }
 field-put s StateField (value.State v) may h =
-    record { inside = h.inside; arrays = h.arrays; merges = h.merges; hidden = h.hidden; trees = h.trees; attributes = h.attributes; frozen = h.frozen }
+    record { inside = h.inside; arrays = h.arrays; merges = h.merges; hidden = h.hidden; trees = h.trees; rule_trees = h.rule_trees; attributes = h.attributes; frozen = h.frozen; rule_parts = h.rule_parts }
 field-put s GridField (value.GridLines v) may h =
-    record { inside = h.inside; arrays = h.arrays; merges = h.merges; hidden = h.hidden; trees = h.trees; attributes = h.attributes; frozen = h.frozen }
+    record { inside = h.inside; arrays = h.arrays; merges = h.merges; hidden = h.hidden; trees = h.trees; rule_trees = h.rule_trees; attributes = h.attributes; frozen = h.frozen; rule_parts = h.rule_parts }
 field-put s FrozenRowsField (value.FrozenRows v) may h =
     let counts = both _ _ h.frozen in
-    record { inside = h.inside; arrays = h.arrays; merges = h.merges; hidden = h.hidden; trees = h.trees; attributes = h.attributes; frozen = λ i. may i && counts.1 i }
+    record { inside = h.inside; arrays = h.arrays; merges = h.merges; hidden = h.hidden; trees = h.trees; rule_trees = h.rule_trees; attributes = h.attributes; frozen = λ i. may i && counts.1 i; rule_parts = h.rule_parts }
 field-put s FrozenColumnsField (value.FrozenColumns v) may h =
     let counts = both _ _ h.frozen in
-    record { inside = h.inside; arrays = h.arrays; merges = h.merges; hidden = h.hidden; trees = h.trees; attributes = h.attributes; frozen = λ i. counts.0 i && may i }
+    record { inside = h.inside; arrays = h.arrays; merges = h.merges; hidden = h.hidden; trees = h.trees; rule_trees = h.rule_trees; attributes = h.attributes; frozen = λ i. counts.0 i && may i; rule_parts = h.rule_parts }
 field-put s _ _ may h = h
 
 -- ---- workbooks
@@ -192,10 +198,12 @@ module _ (w : Book) (rules : IsWellFormed w) (id : ℕ) (change : Sheet → Shee
         merges = all-changed have_merges id change sheets (λ s found. (kept s found).merges) parts.merges;
         hidden = all-changed are_hidden_blank id change sheets (λ s found. (kept s found).hidden) parts.hidden;
         trees = all-changed have_trees id change sheets (λ s found. (kept s found).trees) parts.trees;
+        rule_trees = all-changed have_rule_trees id change sheets (λ s found. (kept s found).rule_trees) parts.rule_trees;
         name_trees = parts.name_trees;
         names = ap (λ ids. are_names ids w.names) (map-changed change keeps_id (λ (s : Sheet). s.id) keeps_id id sheets) ∙ parts.names;
         attributes = all-changed have_attributes id change sheets (λ s found. (kept s found).attributes) parts.attributes;
         frozen = all-changed are_frozen id change sheets (λ s found. (kept s found).frozen) parts.frozen;
+        rule_parts = all-changed have_rule_parts id change sheets (λ s found. (kept s found).rule_parts) parts.rule_parts;
       })
 
 -- an entry that keeps the rules of its sheet keeps those of the workbook

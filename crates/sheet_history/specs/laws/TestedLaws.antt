@@ -19,7 +19,7 @@ use Rattle.sheet_history.specs.Settings.{with_setting, new_setting, old_setting}
 use Rattle.sheet_history.specs.laws.SettingLaws.{setting_well_formed}
 use Rattle.sheet_history.specs.laws.RuleLaws.{well_formed-cell, well_formed-link, well_formed-field}
 use Rattle.sheet_history.specs.declared.diff.Diff.{Diff}
-use Rattle.sheet_history.specs.declared.diff.Diff.TheVariants.{Cell as CellDiff, Link as LinkDiff, Merges as MergesDiff, Field as FieldDiff, Lines as LinesDiff, NewSheet as NewDiff, DuplicateSheet as CopyDiff, DeleteSheet as DeletionDiff, MoveSheet as MoveDiff, RenameSheet as RenameDiff, ChangeName as NameDiff, Attributes as AttrDiff, Setting as SettingDiff}
+use Rattle.sheet_history.specs.declared.diff.Diff.TheVariants.{Cell as CellDiff, Link as LinkDiff, Merges as MergesDiff, Field as FieldDiff, Lines as LinesDiff, NewSheet as NewDiff, DuplicateSheet as CopyDiff, DeleteSheet as DeletionDiff, MoveSheet as MoveDiff, RenameSheet as RenameDiff, ChangeName as NameDiff, Rule as RuleDiff, Attributes as AttrDiff, Setting as SettingDiff}
 use Rattle.sheet_history.specs.declared.diff.DiffType.{DiffType}
 use Rattle.sheet_history.specs.declared.diff.DiffType.TheVariants.{Undo, Redo}
 use Rattle.sheet_history.specs.declared.field.SheetField.{SheetField}
@@ -95,6 +95,7 @@ made_rules book (LinkDiff id place old new ∷ []) keeps rules next is = link_ru
 made_rules book (MergesDiff id old new ∷ []) keeps rules next is = absurd (cc)
 made_rules book (FieldDiff id change ∷ []) keeps rules next is = field_rules 0 book id (changed_field change) (new_of change) next keeps rules (sym (and_then-Ok _) ∙ is)
 made_rules book (AttrDiff id axis line old new ∷ []) keeps rules next is = absurd (cc)
+made_rules book (RuleDiff id change ∷ []) keeps rules next is = absurd (cc)
 made_rules book (LinesDiff id axis edit kept ∷ []) keeps rules next is = absurd (cc)
 made_rules book (NewDiff id index name ∷ []) keeps rules next is = absurd (cc)
 made_rules book (CopyDiff source id index name ∷ []) keeps rules next is = absurd (cc)
@@ -112,6 +113,7 @@ taken_back_rules book (LinkDiff id place old new ∷ []) keeps rules next is = l
 taken_back_rules book (MergesDiff id old new ∷ []) keeps rules next is = absurd (cc)
 taken_back_rules book (FieldDiff id change ∷ []) keeps rules next is = field_rules 0 book id (changed_field change) (old_of change) next keeps rules is
 taken_back_rules book (AttrDiff id axis line old new ∷ []) keeps rules next is = absurd (cc)
+taken_back_rules book (RuleDiff id change ∷ []) keeps rules next is = absurd (cc)
 taken_back_rules book (LinesDiff id axis edit kept ∷ []) keeps rules next is = absurd (cc)
 taken_back_rules book (NewDiff id index name ∷ []) keeps rules next is = absurd (cc)
 taken_back_rules book (CopyDiff source id index name ∷ []) keeps rules next is = absurd (cc)

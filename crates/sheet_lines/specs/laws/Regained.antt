@@ -1,8 +1,8 @@
 -- Going back with what was kept gives the workbook.
-use Rattle.std.proofs.Common.{◌≡◌, ◌⊎◌, inl, inr, ℕ, Bool, true, false, List, [], ◌∷◌, map, Option, Some, None, refl, ap, sym, ◌∙◌}
-use Rattle.std.specs.Prelude.{◌==◌, if◌then◌else◌}
+use Rattle.std.proofs.Common.{◌≡◌, ◌⊎◌, inl, inr, ℕ, Bool, true, false, List, [], ◌∷◌, map, Option, Some, None, refl, ap, sym, subst, ◌∙◌}
+use Rattle.std.specs.Prelude.{◌==◌, IfSome, if◌then◌else◌}
 use Rattle.std.specs.List.{AllByRecursion, filter_map}
-use Rattle.std.specs.Ordering.{int_cmp}
+use Rattle.std.specs.Ordering.{int_cmp, nat_cmp}
 use Rattle.std.specs.Cmp.{unsigned_Decides}
 use Rattle.std.specs.FinMap.{FinMap, empty, get, get-empty, same_map}
 use Rattle.base_values.specs.declared.Position.{Position}
@@ -17,6 +17,8 @@ use Rattle.base_maps.specs.laws.Found.{found_by, all_found}
 use Rattle.base_maps.specs.laws.Gathering.{get-lost_map, nothing_overlaid}
 use Rattle.base_maps.specs.laws.Tagged.{get-all_under}
 use Rattle.formula_tree.specs.declared.Node.{Node}
+use Rattle.format_rules.specs.declared.ConditionalFormatting.{ConditionalFormatting}
+use Rattle.format_rules.specs.laws.RuleEquals.{formatting_equals}
 use Rattle.sheet_grid.specs.declared.Cell.{Cell}
 use Rattle.sheet_grid.specs.declared.LineAttr.{LineAttr}
 use Rattle.sheet_grid.specs.contracts.line_attr.LineAttrPartialEq.TheImpl as attribute
@@ -30,15 +32,20 @@ use Rattle.line_map.specs.Attributes.{line_goes_along, heirs, lines_carried, lin
 use Rattle.line_map.specs.Contents.{cell_carried, cell_part, cell_restored}
 use Rattle.line_map.specs.Maps.{entry_part, places_carried, places_restored}
 use Rattle.line_map.specs.Merges.{merge_carried, merges_carried, merges_part}
+use Rattle.line_map.specs.Trial.{part_by_trial}
 use Rattle.line_map.specs.Way.{Way, IsWay, at, back, place_goes, is_along}
 use Rattle.line_map.specs.laws.AttributeLaws.{both_of, lines_restore}
 use Rattle.line_map.specs.laws.ContentLaws.{cell_comes_back, cell_restores}
 use Rattle.line_map.specs.laws.MergeLaws.{merges_come_back, merges_restore}
 use Rattle.line_map.specs.laws.WayLaws.{goes_inverse}
+use Rattle.rule_lines.specs.Rules.{formatting_moved, formatting_carried, formatting_part, rules_carried, rules_kept, rules_restored}
+use Rattle.rule_lines.specs.laws.ByIndexLaws.{kept_are}
+use Rattle.rule_lines.specs.laws.RuleLaws.{formatting_restores, rules_regained}
 use Rattle.sheet_lines.specs.declared.kept.KeptLines.{KeptLines}
-use Rattle.sheet_lines.specs.Back.{with_lost, merges_back, sheet_back, book_back}
+use Rattle.sheet_lines.specs.Back.{with_lost, merges_back, formattings_back, sheet_back, book_back}
+use Rattle.sheet_lines.specs.Entries.{DoesNotReturn}
 use Rattle.sheet_lines.specs.Followed.{way_of, way_of_edit, sheet_followed, book_followed}
-use Rattle.sheet_lines.specs.Kept.{lines_of, of_sheet, cells_lost, trees_kept, formulas_kept, merges_kept, kept_lines}
+use Rattle.sheet_lines.specs.Kept.{lines_of, of_sheet, cells_lost, trees_kept, formulas_kept, merges_kept, formattings_kept, kept_lines}
 use Rattle.sheet_lines.specs.Sheets.{sheet_of, name_of, HasDistinctIds}
 
 -- ---- a sheet
@@ -108,6 +115,44 @@ merges_regained w merges kept lost = at_sheet w.is_edited refl
     at_sheet true h = at_part kept (sym (lost h))
     at_sheet false h = apart w h merges
 
+-- on another sheet than the edited one conditional rules stay
+rule_apart : (w : Way) → w.is_edited ≡ false → (rule : ConditionalFormatting) → formatting_carried w rule ≡ rule
+unfolding formatting_carried
+rule_apart w h rule = ap (λ b. if b then formatting_moved w rule else rule) h
+
+rules_apart : (w : Way) → w.is_edited ≡ false → (rules : List ConditionalFormatting) → rules_carried w rules ≡ rules
+rules_apart w h [] = refl
+rules_apart w h (rule ∷ rules) = λ i. rule_apart w h rule i ∷ rules_apart w h rules i
+
+formattings_regained : (w : Way) (rules : List ConditionalFormatting) (kept : FinMap nat_cmp ConditionalFormatting) →
+    (w.is_edited ≡ true → kept ≡ rules_kept w rules) → formattings_back w kept (rules_carried w rules) ≡ rules
+formattings_regained w rules kept same = at_sheet w.is_edited refl
+  where
+    at_sheet : (b : Bool) → w.is_edited ≡ b → (if b then rules_restored w kept (rules_carried w rules) else rules_carried w rules) ≡ rules
+    at_sheet true h = ap (λ k. rules_restored w k (rules_carried w rules)) (same h) ∙ rules_regained w rules
+    at_sheet false h = rules_apart w h rules
+
+-- a conditional rule that is kept does not come back by itself
+kept_away : (w : Way) (rule k : ConditionalFormatting) → formatting_part w rule ≡ Some k → DoesNotReturn w rule
+unfolding part_by_trial
+kept_away w rule k h home =
+    let nothing : formatting_part w rule ≡ None =
+    ap (λ b. if b then None else Some rule) ((formatting_equals (formatting_carried (back w) (formatting_carried w rule)) rule).1 home) in
+    let never : ◌≡◌ {A = Option ConditionalFormatting} None (Some k) = sym nothing ∙ h in cc
+
+part_needed : (w : Way) (rule : ConditionalFormatting) (o : Option ConditionalFormatting) → formatting_part w rule ≡ o → IfSome o (DoesNotReturn w)
+part_needed w rule None h = tt
+part_needed w rule (Some k) h = subst (DoesNotReturn w) (sym (formatting_restores w rule k h)) (kept_away w rule k h)
+
+-- so it is of each that is kept
+pub rules_needed : (w : Way) (rules : List ConditionalFormatting) (index : ℕ) → IfSome (get (rules_kept w rules) index) (DoesNotReturn w)
+rules_needed w rules index =
+    kept_are (formatting_part w) (λ _. Unit {0}) (DoesNotReturn w) (λ rule _. part_needed w rule (formatting_part w rule) refl) rules (nothing_asked rules) index
+  where
+    nothing_asked : (xs : List ConditionalFormatting) → AllByRecursion (λ _. Unit {0}) xs
+    nothing_asked [] = tt
+    nothing_asked (x ∷ xs) = (tt, nothing_asked xs)
+
 columns_alone : (a : Along) → IsAxis a → a.of false true ≡ true → a.of true false ≡ false
 columns_alone a l h = by_axis l.one_of
   where
@@ -170,6 +215,8 @@ module _ (a : Along) (l : IsAxis a) (e : EditKind) (valid : IsValid a.last e) (i
             (λ h. let along = both_of w.is_edited (is_along a columns) h in lines along.0
             ∙ ap (λ t. lost_map moves.to (if t then sheet.rows else sheet.columns)) (columns_alone a l along.1)) i;
         merges = merges_regained w sheet.merges kept.merges (λ same. ap (merges_kept a moves id (name_of (sheet_of book id))) (it same)) i;
+        formattings = formattings_regained w sheet.formattings kept.formattings
+            (λ same. ap (formattings_kept a moves id (name_of (sheet_of book id))) (it same)) i;
       }
 
   all_regained : (sheets : List Sheet) → AllByRecursion (λ sheet. sheet_of book sheet.id ≡ Some sheet) sheets →

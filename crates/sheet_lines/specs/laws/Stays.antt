@@ -4,7 +4,7 @@ use Rattle.std.specs.Prelude.{IfSome, IsTrue, if◌then◌else◌}
 use Rattle.std.specs.Option.{option_map}
 use Rattle.std.specs.List.{AllByRecursion}
 use Rattle.std.specs.Cmp.{int_cmp_total}
-use Rattle.std.specs.Ordering.{int_cmp}
+use Rattle.std.specs.Ordering.{int_cmp, nat_cmp}
 use Rattle.std.proofs.lemmas.Map.Lookups.{exact_signed}
 use Rattle.std.specs.FinMap.{FinMap, get}
 use Rattle.base_values.specs.declared.Position.{Position}
@@ -25,6 +25,7 @@ use Rattle.cell_content.specs.declared.Content.{Content}
 use Rattle.cell_content.specs.CanonicalContent.{IsCanonicalContent}
 use Rattle.cell_content.specs.Lens.{tree_of}
 use Rattle.cell_content.specs.laws.LensLaws.{tree_of-with_tree, tree_of-kept, with_tree-kept}
+use Rattle.format_rules.specs.declared.ConditionalFormatting.{ConditionalFormatting}
 use Rattle.sheet_grid.specs.declared.Cell.{Cell}
 use Rattle.sheet_grid.specs.CanonicalCell.{IsCanonicalCell, CanonicalCells}
 use Rattle.sheet_grid.specs.Sheet.{Sheet}
@@ -43,8 +44,11 @@ use Rattle.line_map.specs.laws.ContentLaws.{cell_stays}
 use Rattle.line_map.specs.laws.MergeLaws.{merges_stay}
 use Rattle.line_map.specs.laws.TreeLaws.{tree_restores}
 use Rattle.line_map.specs.laws.WayLaws.{at_is_way, back_is_way, goes_inverse}
+use Rattle.rule_lines.specs.Canonical.{KeptLie}
+use Rattle.rule_lines.specs.Rules.{rules_restored, RulesLie}
+use Rattle.rule_lines.specs.laws.RuleLaws.{restored_lie, rules_stay}
 use Rattle.sheet_lines.specs.declared.kept.KeptLines.{KeptLines}
-use Rattle.sheet_lines.specs.Back.{with_lost, merges_back, sheet_back, book_back, LieInside, ArePlacedLines}
+use Rattle.sheet_lines.specs.Back.{with_lost, merges_back, formattings_back, sheet_back, book_back, LieInside, ArePlacedLines}
 use Rattle.sheet_lines.specs.Followed.{way_of, way_of_edit, sheet_followed, book_followed}
 use Rattle.sheet_lines.specs.Kept.{lines_of}
 use Rattle.sheet_lines.specs.CanonicalNumbers.{AreCanonicalFormulas}
@@ -152,6 +156,12 @@ merges_return w is kept merges h lie = elim w.is_edited as (λ b. MergesLie
     at_kept None i = merges_stay (back w) (back_is_way w is) merges lie
     at_kept (Some list) i = i
 
+-- conditional rules that are taken back stand inside
+formattings_return : (w : Way) → IsWay w → (kept : FinMap nat_cmp ConditionalFormatting) (rules : List ConditionalFormatting) → KeptLie kept → RulesLie rules →
+    RulesLie (formattings_back w kept rules)
+formattings_return w is kept rules h lie = elim w.is_edited as (λ b. RulesLie (if b then rules_restored w kept rules else rules))
+    [ true ↦ restored_lie w is kept h rules lie | false ↦ lie ]
+
 -- ---- workbooks
 
 all_mapped : (P : Sheet → Type 0) (f : Sheet → Sheet) → ((sheet : Sheet) → P sheet → P (f sheet)) → (sheets : List Sheet) → AllByRecursion P sheets →
@@ -178,9 +188,10 @@ module _ (a : Along) (l : IsAxis a) (e : EditKind) (valid : IsValid a.last e) (i
             (followed_are w (is_way_to sheet) IsPlacedCell (λ place tree. is_placed place tree ≡ true) places_stay sheet.cells
             (each_from position_cmp IsPlacedCell sheet.cells h.cells));
         merges = merges_stay w (is_way_to sheet) sheet.merges h.merges;
+        formattings = rules_stay w (is_way_to sheet) sheet.formattings h.formattings;
       }) book.worksheets placed
 
-  -- so does one that is taken back, with cells and trees that may stand where they stood
+  -- so does one that is taken back, with cells, trees and conditional rules that may stand where they stood
   pub back_placed : (kept : KeptLines) → LieInside a kept → ArePlacedLines kept → IsPlacedBook (book_back a e id kept book)
   back_placed kept inside lines = all_mapped IsPlacedSheet (λ sheet. sheet_back (way_to sheet) kept sheet)
       (λ sheet h. let w : Way = way_to sheet in record {
@@ -190,4 +201,5 @@ module _ (a : Along) (l : IsAxis a) (e : EditKind) (valid : IsValid a.last e) (i
             kept.cells (λ place. get kept.formulas (place_on sheet.id place)) (each_from position_cmp IsPlacedCell kept.cells lines.cells)
             (λ p. holds_of (λ tree. is_placed p tree ≡ true) (get kept.formulas (place_on sheet.id p)) (λ tree. lines.formulas (place_on sheet.id p) tree)));
         merges = merges_return w (is_way_to sheet) kept.merges sheet.merges inside.merges h.merges;
+        formattings = formattings_return w (is_way_to sheet) kept.formattings sheet.formattings lines.formattings h.formattings;
       }) book.worksheets placed

@@ -26,7 +26,7 @@ use Rattle.sheet_rules.specs.Occupied.{are_apart, have_arrays, meets_any, have_m
 use Rattle.sheet_rules.specs.SheetNames.{is_sheet_name}
 use Rattle.sheet_rules.specs.laws.EntryLaws.{both, passes_at_from_all, all_from_passes_at}
 use Rattle.sheet_rules.specs.laws.ShownLaws.{not_true}
-use Rattle.sheet_rules.specs.WellFormed.{are_distinct, are_sheets, is_place, stands_inside, have_trees, is_row, is_column, has_font, have_attributes, are_frozen, IsWellFormed, ids_of}
+use Rattle.sheet_rules.specs.WellFormed.{are_distinct, are_sheets, is_place, stands_inside, have_trees, have_rule_trees, is_row, is_column, has_font, have_attributes, are_frozen, have_rule_parts, IsWellFormed, ids_of}
 
 -- the rules of a workbook, each for all of its sheets, and those of its defined names
 pub record KeepsRules (book : Book) : Type 0 where
@@ -36,10 +36,12 @@ pub record KeepsRules (book : Book) : Type 0 where
   pub merges : list_all have_merges book.worksheets ≡ true
   pub hidden : list_all are_hidden_blank book.worksheets ≡ true
   pub trees : list_all have_trees book.worksheets ≡ true
+  pub rule_trees : list_all have_rule_trees book.worksheets ≡ true
   pub name_trees : have_name_trees book.names ≡ true
   pub attributes : list_all have_attributes book.worksheets ≡ true
   pub names : are_names (ids_of book.worksheets) book.names ≡ true
   pub frozen : list_all are_frozen book.worksheets ≡ true
+  pub rule_parts : list_all have_rule_parts book.worksheets ≡ true
 
 abbrev first_of : Bool → Bool → Bool → Bool → Bool → Bool → Bool → Bool → Bool → Option ℕ
 first_of s i a m h t b n f =
@@ -73,25 +75,30 @@ rules_kept false i a m h t b n f none = broken none
 pub well_formed_parts : (book : Book) → IsWellFormed book → KeepsRules book
 well_formed_parts book h =
     let kept = rules_kept (are_sheets book.worksheets) (list_all stands_inside book.worksheets) (list_all have_arrays book.worksheets) (list_all have_merges book.worksheets)
-    (list_all are_hidden_blank book.worksheets) (list_all have_trees book.worksheets && have_name_trees book.names) (list_all have_attributes book.worksheets)
-    (are_names (ids_of book.worksheets) book.names) (list_all are_frozen book.worksheets) h in
+    (list_all are_hidden_blank book.worksheets) (list_all have_trees book.worksheets && list_all have_rule_trees book.worksheets && have_name_trees book.names)
+    (list_all have_attributes book.worksheets) (are_names (ids_of book.worksheets) book.names) (list_all are_frozen book.worksheets && list_all have_rule_parts book.worksheets) h in
+    let all_trees = both (list_all have_trees book.worksheets && list_all have_rule_trees book.worksheets) (have_name_trees book.names) kept.5 in
+    let of_sheets = both (list_all have_trees book.worksheets) (list_all have_rule_trees book.worksheets) all_trees.0 in
+    let ends = both (list_all are_frozen book.worksheets) (list_all have_rule_parts book.worksheets) kept.8 in
     record {
       sheets = kept.0;
       inside = kept.1;
       arrays = kept.2;
       merges = kept.3;
       hidden = kept.4;
-      trees = (both _ _ kept.5).0;
-      name_trees = (both _ _ kept.5).1;
+      trees = of_sheets.0;
+      rule_trees = of_sheets.1;
+      name_trees = all_trees.1;
       attributes = kept.6;
       names = kept.7;
-      frozen = kept.8;
+      frozen = ends.0;
+      rule_parts = ends.1;
     }
 
 -- and one that keeps each rule is well-formed
 pub well_formed_from_parts : (book : Book) → KeepsRules book → IsWellFormed book
 well_formed_from_parts book h =
-    λ i. first_of (h.sheets i) (h.inside i) (h.arrays i) (h.merges i) (h.hidden i) (h.trees i && h.name_trees i) (h.attributes i) (h.names i) (h.frozen i)
+    λ i. first_of (h.sheets i) (h.inside i) (h.arrays i) (h.merges i) (h.hidden i) (h.trees i && h.rule_trees i && h.name_trees i) (h.attributes i) (h.names i) (h.frozen i && h.rule_parts i)
 
 -- the cells of a sheet fit where their trees may stand at their places
 pub cells_fit_from_trees : (sheet : Sheet) → have_trees sheet ≡ true → CellsFit sheet
@@ -200,8 +207,10 @@ well_formed-new name locale zone =
       merges = ap (λ b. b && true) (new_merges (codes "Sheet1"));
       hidden = ap (λ b. b && true) (new_hidden (codes "Sheet1"));
       trees = ap (λ b. b && true) (new_trees (codes "Sheet1"));
+      rule_trees = refl;
       name_trees = no_trees;
       attributes = ap (λ b. b && true) (new_attributes (codes "Sheet1"));
       names = no_names (ids_of (new_sheet 1 (codes "Sheet1") ∷ []));
       frozen = refl;
+      rule_parts = refl;
     })

@@ -1,33 +1,39 @@
 -- The numbers of what fits are canonical, and what encoding asks of diffs.
-use Rattle.std.proofs.Common.{◌≡◌, ℕ, ℤ, false, ◌<◌, ◌^◌, List, [], ◌∷◌, Option, Some, None}
+use Rattle.std.proofs.Common.{◌≡◌, ℕ, ℤ, true, false, ◌<◌, ◌^◌, List, [], ◌∷◌, Option, Some, None}
 use Rattle.std.specs.Prelude.{IfSome, IsTrue}
 use Rattle.std.specs.FinMap.{get}
-use Rattle.std.specs.List.{AllByRecursion}
-use Rattle.std.proofs.lemmas.List.Elements.{All-from_recursion}
+use Rattle.std.specs.List.{AllByRecursion, list_all}
+use Rattle.std.proofs.lemmas.List.Elements.{All-from_recursion, recursion_from_All}
 use Rattle.formula_tree.specs.Depth.{is_within}
 use Rattle.formula_tree.specs.Numbers.{has_canonical_numbers}
 use Rattle.formula_tree.specs.declared.Node.{Node}
+use Rattle.format_rules.specs.declared.ConditionalFormatting.{ConditionalFormatting}
+use Rattle.format_rules.specs.Canonical.{IsCanonicalFormatting, AreCanonicalRules}
 use Rattle.defined_names.specs.Names.{IsCanonicalName}
 use Rattle.defined_names.specs.declared.DefinedName.{DefinedName}
 use Rattle.sheet_grid.specs.declared.Cell.{Cell}
 use Rattle.sheet_grid.specs.laws.FittingCells.{is_shallow_entry}
 use Rattle.sheet_grid.specs.CanonicalCell.{IsCanonicalCell}
 use Rattle.sheet_grid.specs.Lines.{is_plain}
+use Rattle.sheet_rules.specs.laws.EntryLaws.{both}
 use Rattle.sheet_lines.specs.declared.KeptLines.{KeptLines}
 use Rattle.sheet_history.specs.declared.Diff.{Diff}
-use Rattle.sheet_history.specs.declared.Diff.TheVariants.{Cell as CellDiff, Link as LinkDiff, Merges as MergesDiff, Field as FieldDiff, Lines as LinesDiff, NewSheet as NewDiff, DuplicateSheet as CopyDiff, DeleteSheet as DeletionDiff, MoveSheet as MoveDiff, RenameSheet as RenameDiff, ChangeName as NameDiff, Attributes as AttrDiff, Setting as SettingDiff}
+use Rattle.sheet_history.specs.declared.Diff.TheVariants.{Cell as CellDiff, Link as LinkDiff, Merges as MergesDiff, Field as FieldDiff, Lines as LinesDiff, NewSheet as NewDiff, DuplicateSheet as CopyDiff, DeleteSheet as DeletionDiff, MoveSheet as MoveDiff, RenameSheet as RenameDiff, ChangeName as NameDiff, Rule as RuleDiff, Attributes as AttrDiff, Setting as SettingDiff}
 use Rattle.sheet_history.specs.declared.QueueDiffs.{QueueDiffs}
 use Rattle.book_sheets.specs.declared.KeptSheet.{KeptSheet}
 use Rattle.book_sheets.specs.SheetDiffs.{IsCanonicalSheet}
 use Rattle.book_names.specs.declared.KeptTrees.{KeptTrees}
 use Rattle.book_names.specs.Renaming.{AreCanonicalTrees}
-use Rattle.sheet_history.specs.laws.Depth.{AreShallowTrees, IsShallowDiff, IsShallowSheet}
+use Rattle.sheet_history.specs.laws.Depth.{AreShallowTrees, IsShallowDiff, IsShallowSheet, is_shallow_rule}
 use Rattle.sheet_history.specs.Diffs.{IsCanonicalDiff, IsCanonicalList, IsCanonicalQueue}
 use Rattle.formula_wire.specs.Carried.{FitsNode, IsKnownNode}
 use Rattle.formula_wire.specs.laws.CanonicalLaws.{canonical_from_carried}
 use Rattle.cell_wire.specs.CellBytes.{FitsCell, IsKnownCell}
 use Rattle.cell_wire.specs.laws.Fitting.{canonical_cell_from_fits}
-use Rattle.lines_wire.specs.laws.KeptFits.{formulas_from_fits, kept_lines_from_fits}
+use Rattle.rule_wire.specs.FormattingBytes.{FitsFormatting, IsKnownFormatting, AreKnownFormattings}
+use Rattle.rule_wire.specs.laws.KnownLaws.{canonical_rules_from_fit, rule_known}
+use Rattle.lines_wire.specs.PartBytes.{FitsSheetIndex}
+use Rattle.lines_wire.specs.laws.KeptFits.{canonical_formatting_from_fits, formulas_from_fits, kept_lines_from_fits}
 use Rattle.map_wire.specs.laws.MapFits.{values_hold}
 use Rattle.grid_wire.specs.NameBytes.{FitsName, IsKnownName}
 use Rattle.grid_wire.specs.laws.GridFits.{canonical_cells_from_fits, canonical_name_from_fits}
@@ -53,6 +59,7 @@ IsKeptOfDiff (LinkDiff sheet place old new) = Unit {0}
 IsKeptOfDiff (MergesDiff sheet old new) = Unit {0}
 IsKeptOfDiff (FieldDiff sheet change) = Unit {0}
 IsKeptOfDiff (AttrDiff sheet axis line old new) = IfSome old (λ attr. is_plain attr ≡ false) × IfSome new (λ attr. is_plain attr ≡ false)
+IsKeptOfDiff (RuleDiff sheet change) = Unit {0}
 IsKeptOfDiff (LinesDiff sheet axis edit kept) = IsKeptOfLines kept
 IsKeptOfDiff (NewDiff sheet index name) = Unit {0}
 IsKeptOfDiff (CopyDiff source sheet index name) = Unit {0}
@@ -72,17 +79,23 @@ kept_sheet_from_fits : (kept : KeptSheet) → FitsKeptSheet kept → IsCanonical
 kept_sheet_from_fits kept fits = record {
   cells = canonical_cells_from_fits kept.sheet.cells fits.sheet.entries.cells;
   names = values_hold (λ place. place < 2 ^ 64) FitsName _ canonical_name_from_fits kept.names fits.names;
+  formattings = canonical_rules_from_fit kept.sheet.formattings fits.sheet.entries.formattings;
 }
 
 kept_trees_from_fits : (kept : KeptTrees) → FitsTrees kept → AreCanonicalTrees kept
 kept_trees_from_fits kept fits = record {
   formulas = formulas_from_fits kept.formulas fits.formulas;
   names = values_hold (λ place. place < 2 ^ 64) FitsNode _ (λ tree fits. canonical_from_carried tree fits.carried) kept.names fits.names;
+  formattings = values_hold FitsSheetIndex FitsFormatting _ canonical_formatting_from_fits kept.formattings fits.formattings;
 }
 
 kept_name : (name : Option DefinedName) → IfSome name FitsName → IfSome name IsCanonicalName
 kept_name None fits = tt
 kept_name (Some name) fits = canonical_name_from_fits name fits
+
+kept_rule : (rule : Option ConditionalFormatting) → IfSome rule FitsFormatting → IfSome rule IsCanonicalFormatting
+kept_rule None fits = tt
+kept_rule (Some rule) fits = canonical_formatting_from_fits rule fits
 
 pub canonical_diff_from_fits : (diff : Diff) → FitsDiff diff → IsCanonicalDiff diff
 canonical_diff_from_fits (CellDiff sheet place old new) fits =
@@ -91,6 +104,7 @@ canonical_diff_from_fits (LinkDiff sheet place old new) fits = tt
 canonical_diff_from_fits (MergesDiff sheet old new) fits = tt
 canonical_diff_from_fits (FieldDiff sheet change) fits = tt
 canonical_diff_from_fits (AttrDiff sheet axis line old new) fits = tt
+canonical_diff_from_fits (RuleDiff sheet change) fits = record { old = kept_rule change.old fits.change.old; new = kept_rule change.new fits.change.new }
 canonical_diff_from_fits (LinesDiff sheet axis edit kept) fits = kept_lines_from_fits kept fits.kept
 canonical_diff_from_fits (NewDiff sheet index name) fits = tt
 canonical_diff_from_fits (CopyDiff source sheet index name) fits = tt
@@ -131,12 +145,24 @@ known_name : (name : Option DefinedName) → IfSome name IsCanonicalName → IfS
 known_name None kept shallow = tt
 known_name (Some name) kept shallow = record { canonical = kept; depth = shallow }
 
+known_formatting : (rule : Option ConditionalFormatting) → IfSome rule IsCanonicalFormatting → IfSome rule (λ r. IsTrue (is_shallow_rule r)) → IfSome rule IsKnownFormatting
+known_formatting None kept shallow = tt
+known_formatting (Some rule) kept shallow = rule_known rule.rule kept shallow
+
+known_rules : (rules : List ConditionalFormatting) → AreCanonicalRules rules → list_all is_shallow_rule rules ≡ true → AreKnownFormattings rules
+known_rules rules numbers shallow = go rules (recursion_from_All IsCanonicalFormatting rules numbers) shallow
+  where
+    go : (xs : List ConditionalFormatting) → AllByRecursion IsCanonicalFormatting xs → list_all is_shallow_rule xs ≡ true → AreKnownFormattings xs
+    go [] all deep = tt
+    go (x ∷ xs) all deep = let parts = both (is_shallow_rule x) (list_all is_shallow_rule xs) deep in (rule_known x.rule all.0 parts.0, go xs all.1 parts.1)
+
 known_sheet : (kept : KeptSheet) → IsCanonicalSheet kept → IsShallowSheet kept → HasOwnLines kept → IsKnownKeptSheet kept
 known_sheet kept numbers shallow own = record {
   sheet = record {
     rows = own.rows;
     columns = own.columns;
     cells = λ place. known_entry (get kept.sheet.cells place) (numbers.cells place) (shallow.cells place);
+    formattings = known_rules kept.sheet.formattings numbers.formattings shallow.formattings;
   };
   names = λ place. known_name (get kept.names place) (numbers.names place) (shallow.names place);
 }
@@ -145,6 +171,7 @@ known_trees : (trees : KeptTrees) → AreCanonicalTrees trees → AreShallowTree
 known_trees trees kept shallow = record {
   formulas = λ place. known_tree (get trees.formulas place) (kept.formulas place) (shallow.formulas place);
   names = λ place. known_tree (get trees.names place) (kept.names place) (shallow.names place);
+  formattings = λ place. known_formatting (get trees.formattings place) (kept.formattings place) (shallow.formattings place);
 }
 
 -- a diff whose numbers are canonical, and whose formulas are at most 64 deep, can be encoded
@@ -165,8 +192,13 @@ known_diff (NameDiff change trees) kept shallow of_lines = record {
   new = known_name change.new kept.0.new shallow.0.new;
   kept = known_trees trees kept.1 shallow.1;
 }
+known_diff (RuleDiff sheet change) kept shallow of_lines = record {
+  old = known_formatting change.old kept.old shallow.old;
+  new = known_formatting change.new kept.new shallow.new;
+}
 known_diff (LinesDiff sheet axis edit lines) kept shallow of_lines = record {
   cells = λ place. known_entry (get lines.cells place) (kept.cells place) (shallow.cells place);
   lines = of_lines;
   formulas = λ place. known_tree (get lines.formulas place) (kept.formulas place) (shallow.formulas place);
+  formattings = λ index. known_formatting (get lines.formattings index) (kept.formattings index) (shallow.formattings index);
 }

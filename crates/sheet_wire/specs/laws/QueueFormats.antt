@@ -4,7 +4,7 @@ use Rattle.std.specs.Prelude.{IfSome}
 use Rattle.std.specs.Int.{w32, to_be_bytes}
 use Rattle.base_values.specs.declared.Position.{Position}
 use Rattle.sheet_history.specs.declared.Diff.{Diff}
-use Rattle.sheet_history.specs.declared.Diff.TheVariants.{Cell as CellDiff, Link as LinkDiff, Merges as MergesDiff, Field as FieldDiff, Lines as LinesDiff, NewSheet as NewDiff, DuplicateSheet as CopyDiff, DeleteSheet as DeletionDiff, MoveSheet as MoveDiff, RenameSheet as RenameDiff, ChangeName as NameDiff, Attributes as AttrDiff, Setting as SettingDiff}
+use Rattle.sheet_history.specs.declared.Diff.TheVariants.{Cell as CellDiff, Link as LinkDiff, Merges as MergesDiff, Field as FieldDiff, Lines as LinesDiff, NewSheet as NewDiff, DuplicateSheet as CopyDiff, DeleteSheet as DeletionDiff, MoveSheet as MoveDiff, RenameSheet as RenameDiff, ChangeName as NameDiff, Rule as RuleDiff, Attributes as AttrDiff, Setting as SettingDiff}
 use Rattle.sheet_history.specs.declared.FieldChange.TheVariants as change
 use Rattle.sheet_history.specs.declared.SettingChange.TheVariants as setting
 use Rattle.sheet_history.specs.declared.DiffType.{DiffType}
@@ -33,6 +33,8 @@ use Rattle.lines_wire.specs.laws.KeptLaws.{kept_format}
 use Rattle.sheet_wire.specs.ChangeBytes.{spell_change, standing_at, change_at, spell_sheet_change, sheet_change_at}
 use Rattle.sheet_wire.specs.LinesBytes.{axis_code, axes, spell_lines, lines_parts_at}
 use Rattle.sheet_wire.specs.SheetsBytes.{spell_color_change, spell_state_change, spell_grid_change, state_at, spell_new, new_parts_at, spell_copy, copy_parts_at, spell_deletion, deletion_parts_at, spell_move, move_parts_at, spell_count_change}
+use Rattle.sheet_wire.specs.RulesBytes.{spell_rule, rule_parts_at}
+use Rattle.sheet_wire.specs.laws.RulesFormats.{rule_parts_format}
 use Rattle.sheet_wire.specs.TreesBytes.{spell_rename, rename_parts_at, spell_name_change, name_parts_at}
 use Rattle.sheet_wire.specs.laws.TreesFormats.{rename_parts_format, name_parts_format}
 use Rattle.sheet_wire.specs.AttrBytes.{spell_attr_change, attr_parts_at}
@@ -45,7 +47,7 @@ use Rattle.setting_wire.specs.laws.Formats.{locale_format, theme_format, zone_fo
 use Rattle.sheet_wire.specs.SettingBytes.{spell_twice, twice_at}
 use Rattle.sheet_wire.specs.laws.SettingFormats.{twice_format}
 use Rattle.sheet_wire.specs.QueueBytes.{theme_diff_made, theme_diff_at, title_diff_made, title_diff_at, locale_diff_made, locale_diff_at, zone_diff_made, zone_diff_at}
-use Rattle.sheet_wire.specs.QueueBytes.{spell_diff, cell_diff_made, cell_diff_at, link_diff_made, link_diff_at, merges_diff_made, merges_diff_at, lines_diff_made, lines_diff_at, new_diff_made, new_diff_at, copy_diff_made, copy_diff_at, deletion_diff_made, deletion_diff_at, diff_of, diff_at, FitsDiff, FitsList, direction_code, directions, spell_entry, entry_made, list_of_diffs_at, entry_at, FitsEntry, magic, FitsQueue}
+use Rattle.sheet_wire.specs.QueueBytes.{spell_diff, cell_diff_made, cell_diff_at, link_diff_made, link_diff_at, merges_diff_made, merges_diff_at, rule_diff_made, rule_diff_at, lines_diff_made, lines_diff_at, new_diff_made, new_diff_at, copy_diff_made, copy_diff_at, deletion_diff_made, deletion_diff_at, diff_of, diff_at, FitsDiff, FitsList, direction_code, directions, spell_entry, entry_made, list_of_diffs_at, entry_at, FitsEntry, magic, FitsQueue}
 
 -- ---- diffs
 
@@ -74,7 +76,7 @@ map_reads : {A B : Type 0} (f : A → B) (r : Reader A) (bytes : List ℕ) (x : 
 map_reads f r bytes x rest h = rw h refl
 
 diff_again : ReadsAgain FitsDiff spell_diff diff_at
-unfolding spell_sheet_change spell_new spell_copy spell_deletion spell_rename spell_name_change spell_move diff_at cell_diff_at link_diff_at merges_diff_at lines_diff_at new_diff_at copy_diff_at deletion_diff_at rename_diff_at move_diff_at color_diff_at state_diff_at grid_diff_at name_diff_at attr_diff_at frozen_rows_diff_at frozen_columns_diff_at theme_diff_at title_diff_at locale_diff_at zone_diff_at
+unfolding spell_sheet_change spell_new spell_copy spell_deletion spell_rename spell_name_change spell_move spell_rule diff_at cell_diff_at link_diff_at merges_diff_at rule_diff_at lines_diff_at new_diff_at copy_diff_at deletion_diff_at rename_diff_at move_diff_at color_diff_at state_diff_at grid_diff_at name_diff_at attr_diff_at frozen_rows_diff_at frozen_columns_diff_at theme_diff_at title_diff_at locale_diff_at zone_diff_at
 diff_again = record { again = one }
   where
     one : (x : Diff) (rest : List ℕ) → FitsDiff x → diff_at (spell_diff x ++ rest) ≡ Ok (x, rest)
@@ -87,6 +89,9 @@ diff_again = record { again = one }
     one (MergesDiff sheet old new) rest fits =
         map_reads merges_diff_made (sheet_change_at merges_at) (spell_sheet_change spell_merges sheet old new ++ rest) (sheet, (old, new)) rest
         ((sheet_change_format merges_format).again.again (sheet, (old, new)) rest (fits.sheet, (fits.old, fits.new)))
+    one (RuleDiff sheet c) rest fits =
+        map_reads rule_diff_made rule_parts_at (spell_rule sheet c ++ rest) (sheet, c) rest
+        (rule_parts_format.again.again (sheet, c) rest (fits.sheet, fits.change))
     one (LinesDiff sheet axis edit kept) rest fits =
         map_reads lines_diff_made lines_parts_at (spell_lines sheet axis edit kept ++ rest) (sheet, (axis, (edit, kept))) rest
         (lines_parts_format.again.again (sheet, (axis, (edit, kept))) rest (fits.sheet, (tt, (fits.edit, fits.kept))))
@@ -143,7 +148,7 @@ diff_again = record { again = one }
         (attr_parts_format.again.again (sheet, (line, (old, new))) rest (fits.sheet, (fits.line, (fits.old, fits.new))))
 
 diff_spelled : ReadsSpelled FitsDiff spell_diff diff_at
-unfolding spell_sheet_change spell_new spell_copy spell_deletion spell_rename spell_name_change spell_move diff_at cell_diff_at link_diff_at merges_diff_at lines_diff_at new_diff_at copy_diff_at deletion_diff_at rename_diff_at move_diff_at color_diff_at state_diff_at grid_diff_at name_diff_at attr_diff_at frozen_rows_diff_at frozen_columns_diff_at theme_diff_at title_diff_at locale_diff_at zone_diff_at
+unfolding spell_sheet_change spell_new spell_copy spell_deletion spell_rename spell_name_change spell_move spell_rule diff_at cell_diff_at link_diff_at merges_diff_at rule_diff_at lines_diff_at new_diff_at copy_diff_at deletion_diff_at rename_diff_at move_diff_at color_diff_at state_diff_at grid_diff_at name_diff_at attr_diff_at frozen_rows_diff_at frozen_columns_diff_at theme_diff_at title_diff_at locale_diff_at zone_diff_at
 diff_spelled =
     tagged_spelled diff_of (λ tag.
     tag_if tag 1 (tag_map (change_format cell_format).spelled cell_diff_made FitsDiff spell_diff 1 (λ x. refl) (λ x fits. record { sheet = fits.0; place = fits.1.0; old = fits.1.1.0; new = fits.1.1.1 }))
@@ -151,6 +156,7 @@ diff_spelled =
     (tag_if tag 3 (tag_map attr_parts_format.spelled (attr_diff_made Columns) FitsDiff spell_diff 3 (λ x. refl) (λ x fits. record { sheet = fits.0; line = fits.1.0; old = fits.1.1.0; new = fits.1.1.1 }))
     (tag_if tag 4 (tag_map attr_parts_format.spelled (attr_diff_made Rows) FitsDiff spell_diff 4 (λ x. refl) (λ x fits. record { sheet = fits.0; line = fits.1.0; old = fits.1.1.0; new = fits.1.1.1 }))
     (tag_if tag 5 (tag_map (sheet_change_format merges_format).spelled merges_diff_made FitsDiff spell_diff 5 (λ x. refl) (λ x fits. record { sheet = fits.0; old = fits.1.0; new = fits.1.1 }))
+    (tag_if tag 6 (tag_map rule_parts_format.spelled rule_diff_made FitsDiff spell_diff 6 (λ x. refl) (λ x fits. record { sheet = fits.0; change = fits.1 }))
     (tag_if tag 7 (tag_map lines_parts_format.spelled lines_diff_made FitsDiff spell_diff 7 (λ x. refl) (λ x fits. record { sheet = fits.0; edit = fits.1.1.0; kept = fits.1.1.1 }))
     (tag_if tag 8 (tag_map new_parts_format.spelled new_diff_made FitsDiff spell_diff 8 (λ x. refl) (λ x fits. record { sheet = fits.0; index = fits.1.0; name = fits.1.1 }))
     (tag_if tag 9 (tag_map copy_parts_format.spelled copy_diff_made FitsDiff spell_diff 9 (λ x. refl) (λ x fits. record { source = fits.0; copy = record { sheet = fits.1.0; index = fits.1.1.0; name = fits.1.1.1 } }))
@@ -167,10 +173,10 @@ diff_spelled =
     (tag_if tag 20 (tag_map (twice_format locale_format).spelled locale_diff_made FitsDiff spell_diff 20 (λ x. refl) (λ x fits. tt))
     (tag_if tag 21 (tag_map (twice_format zone_format).spelled zone_diff_made FitsDiff spell_diff 21 (λ x. refl) (λ x fits. tt))
     (tag_if tag 22 (tag_map name_parts_format.spelled name_diff_made FitsDiff spell_diff 22 (λ x. refl) (λ x fits. record { index = fits.0; old = fits.1.0; new = fits.1.1.0; kept = fits.1.1.1 }))
-    (tag_refused FitsDiff spell_diff tag))))))))))))))))))))))
+    (tag_refused FitsDiff spell_diff tag)))))))))))))))))))))))
 
 diff_plain : IsPlain diff_at
-unfolding diff_at cell_diff_at link_diff_at merges_diff_at lines_diff_at new_diff_at copy_diff_at deletion_diff_at rename_diff_at move_diff_at color_diff_at state_diff_at grid_diff_at name_diff_at attr_diff_at frozen_rows_diff_at frozen_columns_diff_at theme_diff_at title_diff_at locale_diff_at zone_diff_at
+unfolding diff_at cell_diff_at link_diff_at merges_diff_at rule_diff_at lines_diff_at new_diff_at copy_diff_at deletion_diff_at rename_diff_at move_diff_at color_diff_at state_diff_at grid_diff_at name_diff_at attr_diff_at frozen_rows_diff_at frozen_columns_diff_at theme_diff_at title_diff_at locale_diff_at zone_diff_at
 diff_plain =
     tagged_plain diff_of (λ tag.
     if_plain (eqb tag 1) (map_plain cell_diff_made (change_format cell_format).plain)
@@ -178,6 +184,7 @@ diff_plain =
     (if_plain (eqb tag 3) (map_plain (attr_diff_made Columns) attr_parts_format.plain)
     (if_plain (eqb tag 4) (map_plain (attr_diff_made Rows) attr_parts_format.plain)
     (if_plain (eqb tag 5) (map_plain merges_diff_made (sheet_change_format merges_format).plain)
+    (if_plain (eqb tag 6) (map_plain rule_diff_made rule_parts_format.plain)
     (if_plain (eqb tag 7) (map_plain lines_diff_made lines_parts_format.plain)
     (if_plain (eqb tag 8) (map_plain new_diff_made new_parts_format.plain)
     (if_plain (eqb tag 9) (map_plain copy_diff_made copy_parts_format.plain)
@@ -193,7 +200,7 @@ diff_plain =
     (if_plain (eqb tag 19) (map_plain title_diff_made (twice_format text_format).plain)
     (if_plain (eqb tag 20) (map_plain locale_diff_made (twice_format locale_format).plain)
     (if_plain (eqb tag 21) (map_plain zone_diff_made (twice_format zone_format).plain)
-    (if_plain (eqb tag 22) (map_plain name_diff_made name_parts_format.plain) refused_plain)))))))))))))))))))))
+    (if_plain (eqb tag 22) (map_plain name_diff_made name_parts_format.plain) refused_plain))))))))))))))))))))))
 
 pub diff_format : Format FitsDiff spell_diff diff_at
 diff_format = record { again = diff_again; spelled = diff_spelled; plain = diff_plain }
@@ -202,6 +209,7 @@ pub diff_some : (x : Diff) → 1 ≤ length (spell_diff x)
 diff_some (CellDiff sheet place old new) = omega arith
 diff_some (LinkDiff sheet place old new) = omega arith
 diff_some (MergesDiff sheet old new) = omega arith
+diff_some (RuleDiff sheet c) = omega arith
 diff_some (LinesDiff sheet axis edit kept) = omega arith
 diff_some (NewDiff sheet index name) = omega arith
 diff_some (CopyDiff source sheet index name) = omega arith

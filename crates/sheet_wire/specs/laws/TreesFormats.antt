@@ -6,32 +6,41 @@ use Rattle.std.proofs.lemmas.Map.Lookups.{exact_unsigned}
 use Rattle.std.specs.Cmp.{nat_cmp_total}
 use Rattle.std.specs.Int.{w64, to_be_bytes}
 use Rattle.std.specs.Ordering.{nat_cmp}
+use Rattle.index_maps.specs.SheetIndexes.{sheet_index_cmp}
+use Rattle.index_maps.specs.laws.SheetIndexes.{sheet_index_total, exact_sheet_indexes}
 use Rattle.book_names.specs.declared.KeptTrees.{KeptTrees}
 use Rattle.base_wire.specs.Spelling.{Both, spell_both, spell_option, spell_text, FitsText}
 use Rattle.base_wire.specs.laws.Format.{Format, option_format}
-use Rattle.base_wire.specs.laws.Formats.{after_format, both_format, made_format}
+use Rattle.base_wire.specs.laws.Formats.{both_format, made_format}
 use Rattle.base_wire.specs.laws.Parts.{long_format, short_format, text_format}
 use Rattle.formula_wire.specs.NodeBytes.{spell_node}
 use Rattle.formula_wire.specs.Carried.{FitsNode}
 use Rattle.formula_wire.specs.laws.NodeLaws.{node_format}
-use Rattle.map_wire.specs.MapBytes.{spell_map, no_items, FitsMap}
+use Rattle.map_wire.specs.MapBytes.{spell_map, FitsMap}
 use Rattle.map_wire.specs.laws.MapLaws.{map_format}
 use Rattle.grid_wire.specs.NameBytes.{spell_name, FitsName}
 use Rattle.grid_wire.specs.laws.NameLaws.{name_format}
-use Rattle.lines_wire.specs.PartBytes.{spell_sheet_place}
+use Rattle.rule_wire.specs.FormattingBytes.{spell_formatting, FitsFormatting}
+use Rattle.rule_wire.specs.laws.FormattingLaws.{formatting_format}
+use Rattle.lines_wire.specs.PartBytes.{spell_sheet_place, spell_sheet_index, FitsSheetIndex}
+use Rattle.lines_wire.specs.laws.PartLaws.{sheet_index_format, sheet_index_some}
 use Rattle.lines_wire.specs.laws.KeptLaws.{formulas_format}
-use Rattle.sheet_wire.specs.TreesBytes.{spell_trees, name_trees_at, trees_made, trees_at, FitsTrees, rename_parts_at, name_there_at, name_parts_at}
+use Rattle.sheet_wire.specs.TreesBytes.{spell_trees, name_trees_at, renamed_rules_at, trees_made, trees_at, FitsTrees, rename_parts_at, name_there_at, name_parts_at}
 use Rattle.sheet_wire.specs.laws.SheetsFormats.{IsShort, spell_short}
 
 name_trees_format : Format (FitsMap {order = nat_cmp} (λ place. place < 2 ^ 64) FitsNode) (spell_map (to_be_bytes w64) spell_node) name_trees_at
 unfolding name_trees_at
 name_trees_format = map_format nat_cmp_total exact_unsigned long_format node_format (λ place. omega arith) (λ m. m) (λ m. m) (λ m. refl) (λ m. refl)
 
+renamed_rules_format : Format (FitsMap {order = sheet_index_cmp} FitsSheetIndex FitsFormatting) (spell_map spell_sheet_index spell_formatting) renamed_rules_at
+unfolding renamed_rules_at
+renamed_rules_format = map_format sheet_index_total exact_sheet_indexes sheet_index_format formatting_format sheet_index_some (λ m. m) (λ m. m) (λ m. refl) (λ m. refl)
+
 pub trees_format : Format FitsTrees spell_trees trees_at
 unfolding spell_trees trees_at
 trees_format =
-    made_format (both_format formulas_format (after_format name_trees_format no_items refl)) trees_made (λ kept. (kept.formulas, kept.names))
-    (λ kept fits. (refl, (fits.formulas, fits.names))) (λ x fits. (refl, record { formulas = fits.0; names = fits.1 }))
+    made_format (both_format formulas_format (both_format renamed_rules_format name_trees_format)) trees_made (λ kept. (kept.formulas, (kept.formattings, kept.names)))
+    (λ kept fits. (refl, (fits.formulas, (fits.formattings, fits.names)))) (λ x fits. (refl, record { formulas = fits.0; names = fits.1.1; formattings = fits.1.0 }))
 
 pub trees_some : (kept : KeptTrees) → 1 ≤ length (spell_trees kept)
 unfolding spell_trees

@@ -1,10 +1,12 @@
-use Rattle.std.proofs.Common.{ℤ, subst}
+use Rattle.std.proofs.Common.{ℤ, List, subst}
 use Rattle.std.specs.Prelude.{IfSome}
 use Rattle.std.specs.FinMap.{FinMap, get}
 use Rattle.std.specs.Ordering.{int_cmp}
 use Rattle.base_values.specs.Places.{IsPlace, IsRow, IsColumn, position_cmp}
 use Rattle.base_values.specs.declared.Position.{Position}
 use Rattle.base_wire.specs.Spelling.{Any}
+use Rattle.format_rules.specs.declared.ConditionalFormatting.{ConditionalFormatting}
+use Rattle.rule_wire.specs.FormattingBytes.{FitsFormattings, AreKnownFormattings}
 use Rattle.sheet_grid.specs.declared.Cell.{Cell}
 use Rattle.sheet_grid.specs.declared.LineAttr.{LineAttr}
 use Rattle.sheet_grid.specs.declared.Link.{Link}
@@ -23,4 +25,5 @@ returns-clause-fits c = λ known. record {
   cells = subst (λ (m : FinMap position_cmp Cell). ((place : Position) → IfSome (get m place) IsKnownCell) → FitsMap IsPlace FitsCell m) c.cell_map.ensures.map c.in_ok-put_place_map.ensures.fits known.cells;
   links = subst (λ (m : FinMap position_cmp Link). ((place : Position) → IfSome (get m place) Any) → FitsMap IsPlace FitsLink m) c.link_map.ensures c.in_ok-put_place_map-2.ensures.fits (λ place. any_option _);
   merges = subst FitsMerges c.merge_list.ensures (c.in_ok-put.ensures.fits tt);
+  formattings = subst (λ (rules : List ConditionalFormatting). AreKnownFormattings rules → FitsFormattings rules) c.conditional_formatting.ensures c.in_ok-put-2.ensures.fits known.formattings;
 }

@@ -8,4 +8,5 @@ returns-clause-fits c = λ known. record {
   lines = c.in_ok-put-3.ensures.fits (record { keys = λ key. tt; values = known.lines });
   formulas = c.in_ok-put-4.ensures.fits (record { keys = λ key. tt; values = known.formulas });
   merges = c.in_ok-put_kept_merges.ensures.fits;
+  formattings = c.in_ok-put-5.ensures.fits (record { keys = λ key. tt; values = known.formattings });
 }

@@ -10,4 +10,5 @@ pub returns-clause-numbers : goal.returns-clause-numbers
 returns-clause-numbers c = record {
   formulas = c.in_ok-formulas.ensures.numbers;
   names = subst AreCanonicalFormulas (sym c.new-names.ensures) (no_entry nat_cmp (λ _ tree. IsTrue (has_canonical_numbers tree)));
+  formattings = c.in_ok-formattings.ensures.numbers;
 }

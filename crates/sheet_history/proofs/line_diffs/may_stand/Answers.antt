@@ -1,7 +1,11 @@
-use Rattle.std.proofs.Common.{◌∙◌, sym}
+use Rattle.std.proofs.Common.{◌≡◌, true, rules}
+use Rattle.sheet_history.specs.LineDiffs.{formulas_stand}
+use Rattle.book_sheets.specs.SheetDiffs.{cells_fit}
 use Rattle.sheet_history.proofs.Standing.{placed_where_stands}
 use Rattle.sheet_history.proofs.line_diffs.may_stand.Goals as goal
 
-pub returns-then-cells_fit-clause-placed : goal.returns-then-cells_fit-clause-placed
-returns-then-cells_fit-clause-placed g c = λ all.
-    placed_where_stands g.A.Axis.along c.args.edit.now.kind c.args.id c.args.kept.now c.args.workbook.now (sym c.cells_fit.ensures ∙ c.if-cells_fit.true) (sym c.formulas_stand.ensures ∙ all)
+pub returns-then-formulas_stand-clause-placed : goal.returns-then-formulas_stand-clause-placed
+returns-then-formulas_stand-clause-placed g c = λ all.
+    let fit : cells_fit c.args.kept.now.cells ≡ true = search rules in
+    let stand : formulas_stand g.A.Axis.along c.args.edit.now.kind c.args.id c.args.kept.now.formulas c.args.workbook.now ≡ true = search rules in
+    placed_where_stands g.A.Axis.along c.args.edit.now.kind c.args.id c.args.kept.now c.args.workbook.now fit stand (c.formattings_stand.ensures.lie all)

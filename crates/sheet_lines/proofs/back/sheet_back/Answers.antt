@@ -8,7 +8,7 @@ use Rattle.line_map.specs.Contents.{cell_carried, cell_restored}
 use Rattle.line_map.specs.Maps.{places_carried, places_restored}
 use Rattle.line_map.specs.Way.{back, way}
 use Rattle.sheet_grid.specs.CanonicalCell.{IsCanonicalCell, CanonicalCells}
-use Rattle.sheet_lines.specs.Back.{with_lost, merges_back}
+use Rattle.sheet_lines.specs.Back.{with_lost, merges_back, formattings_back}
 use Rattle.sheet_lines.specs.laws.Stays.{HasCanonicalNumbers, back_are, numbers_stay}
 use Rattle.sheet_lines.proofs.back.sheet_back.Goals as goal
 
@@ -31,4 +31,5 @@ returns-clause-sheet g c =
       rows = (c.in_ok-rows.ensures.lines ∙ (λ j. lines_restored rows (to j) (c.row_map.ensures j) kept.lines)) i;
       columns = (c.in_ok-columns.ensures.lines ∙ (λ j. lines_restored columns (to j) (c.column_map.ensures j) kept.lines)) i;
       merges = (c.in_ok-merges.ensures.merges ∙ (λ j. merges_back (to j) kept.merges c.args.sheet.now.merges)) i;
+      formattings = (c.in_ok-formattings.ensures.formattings ∙ (λ j. formattings_back (to j) kept.formattings c.args.sheet.now.formattings)) i;
     })) c.with_entries.ensures.sheet

@@ -14,18 +14,22 @@ use Rattle.line_edits.specs.Moves.{LineMoves, place_image}
 use Rattle.line_map.specs.Merges.{merges_part, MergesLie}
 use Rattle.line_map.specs.Way.{place_goes, way}
 use Rattle.line_map.specs.laws.MergeLaws.{merges_part_fits}
+use Rattle.rule_lines.specs.Rules.{rules_kept, RulesLie}
 use Rattle.sheet_grid.specs.Book.{Book}
 use Rattle.sheet_grid.specs.declared.Cell.{Cell}
 use Rattle.sheet_grid.specs.Sheet.{Sheet}
 use Rattle.sheet_grid.specs.CanonicalCell.{IsCanonicalCell, CanonicalCells}
 use Rattle.sheet_lines.specs.Followed.{way_of, way_on}
-use Rattle.sheet_lines.specs.Kept.{lines_of, of_sheet, cells_lost, first_lost, formulas_kept, merges_kept}
+use Rattle.sheet_lines.specs.Kept.{lines_of, of_sheet, cells_lost, first_lost, formulas_kept, merges_kept, formattings_kept}
 use Rattle.sheet_lines.specs.Sheets.{sheet_of, name_of, IsPlacedSheet, IsPlacedBook}
 use Rattle.sheet_lines.specs.laws.Stays.{lost_lines_lie, lost_places}
 use Rattle.sheet_lines.proofs.edit.kept_lines.Goals as goal
 
 merges_lie : (book : Book) (id : ℕ) (sheet : Sheet) → IsPlacedBook book → sheet_of book id ≡ Some sheet → MergesLie sheet.merges
 merges_lie book id sheet placed found = (found_holds (λ s. s.id == id) IsPlacedSheet book.worksheets placed sheet found).merges
+
+rules_lie : (book : Book) (id : ℕ) (sheet : Sheet) → IsPlacedBook book → sheet_of book id ≡ Some sheet → RulesLie sheet.formattings
+rules_lie book id sheet placed found = (found_holds (λ s. s.id == id) IsPlacedSheet book.worksheets placed sheet found).formattings
 
 -- the lost cells that were found are those of the sheet that is found
 lost_are : (a : Along) (m : LineMoves) (id : ℕ) (book : Book) (sheet : Sheet) (lost : FinMap position_cmp Cell) → sheet_of book id ≡ Some sheet →
@@ -35,6 +39,11 @@ lost_are a m id book sheet lost found is = let same : Some lost ≡ Some (cells_
 pub part-requires : goal.part-requires
 part-requires g c =
     subst MergesLie (sym c.merge_list.ensures) (merges_lie c.args.workbook.now c.args.edited.now.id c.in-Some.sheet.now c.requires.placed
+    (sym c.sheet_of.ensures ∙ ap option_copied c.in-Some.is))
+
+pub kept_rules-requires : goal.kept_rules-requires
+kept_rules-requires g c =
+    subst RulesLie (sym c.conditional_formatting.ensures) (rules_lie c.args.workbook.now c.args.edited.now.id c.in-Some.sheet.now c.requires.placed
     (sym c.sheet_of.ensures ∙ ap option_copied c.in-Some.is))
 
 pub returns-clause-kept : goal.returns-clause-kept
@@ -54,10 +63,14 @@ returns-clause-kept g c =
           ∙ sym (ap (of_sheet (λ s. lost_map (place_image a moves.to) s.links)) found)) i;
       lines = (c.in_ok-lines.ensures.lines ∙ sym (ap (of_sheet (λ s. lost_map moves.to (lines_of a s))) found)) i;
       merges = (c.in_ok-merges.ensures.part
-          ∙ (λ j. merges_part (c.route_on.ensures.way j) (c.merge_list.ensures j))
+          ∙ (λ j. merges_part (c.route_on-route.ensures.way j) (c.merge_list.ensures j))
           ∙ (λ j. merges_part (way_of a moves edited.id (c.requires.name j) sheet) sheet.merges)
           ∙ sym (ap (merges_kept a moves edited.id (name_of (sheet_of book edited.id))) found)) i;
       formulas = (c.requires.formulas ∙ (λ j. formulas_kept a moves edited.id (c.requires.name j) book.worksheets)) i;
+      formattings = (c.in_ok-formattings.ensures.kept
+          ∙ (λ j. rules_kept (c.route_on-route.ensures.way j) (c.conditional_formatting.ensures j))
+          ∙ (λ j. rules_kept (way_of a moves edited.id (c.requires.name j) sheet) sheet.formattings)
+          ∙ sym (ap (formattings_kept a moves edited.id (name_of (sheet_of book edited.id))) found)) i;
     }
 
 pub returns-clause-numbers : goal.returns-clause-numbers
@@ -71,6 +84,7 @@ returns-clause-numbers g c =
           (each_lost position_cmp position_total exact_positions (λ _. IsCanonicalCell) (place_image a moves.to) sheet.cells
           (subst CanonicalCells c.cell_map.ensures.map c.cell_map.ensures.canonical));
       formulas = c.requires.canonical;
+      formattings = c.in_ok-formattings.ensures.numbers;
     }
 
 pub returns-clause-inside : goal.returns-clause-inside
@@ -91,7 +105,7 @@ returns-clause-inside g c =
           (lost_lines_lie a g.met.A.Axis.lawful sheet (subst (LinesLie rows) c.row_map.ensures c.lines_inside.ensures)
           (subst (LinesLie columns) c.column_map.ensures c.lines_inside-2.ensures) moves.to);
       merges = subst (λ o. IfSome o MergesLie) (sym c.in_ok-merges.ensures.part)
-          (holds_of MergesLie (merges_part (way c.route_on.result) c.merge_list.result.now)
-          (merges_part_fits (way c.route_on.result) c.route_on.ensures.is c.merge_list.result.now
+          (holds_of MergesLie (merges_part (way c.route_on-route.result) c.merge_list.result.now)
+          (merges_part_fits (way c.route_on-route.result) c.route_on-route.ensures.is c.merge_list.result.now
           (subst MergesLie (sym c.merge_list.ensures) (merges_lie book edited.id sheet c.requires.placed found))));
     }

@@ -1,5 +1,5 @@
-use Rattle.std.proofs.Common.{◌≡◌, ℕ, Some, ap, sym, ◌∙◌}
-use Rattle.std.specs.Prelude.{◌==◌}
+use Rattle.std.proofs.Common.{◌≡◌, ℕ, Some, ap, subst, sym, ◌∙◌}
+use Rattle.std.specs.Prelude.{◌==◌, IfSome}
 use Rattle.std.specs.Cmp.{int_cmp_total}
 use Rattle.std.specs.FinMap.{FinMap, get}
 use Rattle.std.specs.Ordering.{int_cmp}
@@ -20,10 +20,11 @@ use Rattle.line_map.specs.Way.{at, back, place_goes}
 use Rattle.line_map.specs.laws.WayLaws.{goes_inverse}
 use Rattle.sheet_grid.specs.Book.{Book}
 use Rattle.sheet_grid.specs.Sheet.{Sheet}
+use Rattle.sheet_lines.specs.Entries.{DoesNotReturn}
 use Rattle.sheet_lines.specs.Followed.{way_of, way_of_edit}
-use Rattle.sheet_lines.specs.Kept.{lines_of, of_sheet, cells_lost, merges_kept}
+use Rattle.sheet_lines.specs.Kept.{lines_of, of_sheet, cells_lost, merges_kept, formattings_kept}
 use Rattle.sheet_lines.specs.Sheets.{sheet_of, name_of}
-use Rattle.sheet_lines.specs.laws.Regained.{formulas_at}
+use Rattle.sheet_lines.specs.laws.Regained.{formulas_at, rules_needed}
 use Rattle.sheet_lines.specs.laws.Stays.{lost_places, way_is}
 use Rattle.sheet_lines.proofs.laws.entries_of_sheets.Goals as goal
 
@@ -67,6 +68,15 @@ returns-clause-lost_lines g c sheet found n =
 pub returns-clause-merges : goal.returns-clause-merges
 returns-clause-merges g c sheet found = ap (merges_kept g.A.Axis.along (edit_moves g.A.Axis.along.last c.args.edit.now.kind) c.args.sheet_id
     (name_of (sheet_of c.args.workbook.now c.args.sheet_id))) found
+
+pub returns-clause-formattings : goal.returns-clause-formattings
+returns-clause-formattings g c sheet found = ap (formattings_kept g.A.Axis.along (edit_moves g.A.Axis.along.last c.args.edit.now.kind) c.args.sheet_id
+    (name_of (sheet_of c.args.workbook.now c.args.sheet_id))) found
+
+pub returns-clause-needed : goal.returns-clause-needed
+returns-clause-needed g c sheet found index =
+    let w = way_of_edit g.A.Axis.along c.args.edit.now.kind c.args.sheet_id c.args.workbook.now sheet in
+    subst (λ kept. IfSome (get kept index) (DoesNotReturn w)) (sym (returns-clause-formattings g c sheet found)) (rules_needed w sheet.formattings index)
 
 pub returns-clause-trees : goal.returns-clause-trees
 returns-clause-trees g c id p =

@@ -4,10 +4,11 @@ use Rattle.sheet_wire.proofs.trees.put_trees.Goals as goal
 
 pub returns-clause-spelled : goal.returns-clause-spelled
 unfolding spell_trees
-returns-clause-spelled c = three_joined _ _ _ _ _ _ _ c.in_ok-put.ensures.spelled c.in_ok-extend_from_slice.ensures.items c.in_ok-put-2.ensures.spelled
+returns-clause-spelled c = three_joined _ _ _ _ _ _ _ c.in_ok-put.ensures.spelled c.in_ok-put-2.ensures.spelled c.in_ok-put-3.ensures.spelled
 
 pub returns-clause-fits : goal.returns-clause-fits
 returns-clause-fits c = λ known. record {
   formulas = c.in_ok-put.ensures.fits (record { keys = λ key. tt; values = known.formulas });
-  names = c.in_ok-put-2.ensures.fits (record { keys = λ key. tt; values = known.names });
+  formattings = c.in_ok-put-2.ensures.fits (record { keys = λ key. tt; values = known.formattings });
+  names = c.in_ok-put-3.ensures.fits (record { keys = λ key. tt; values = known.names });
 }

@@ -3,7 +3,7 @@ use Rattle.sheet_grid.specs.Book.{Book}
 use Rattle.sheet_rules.specs.WellFormed.{IsWellFormed}
 use Rattle.edit_plans.specs.Plans.{HasRecord}
 use Rattle.edit_plans.specs.Edits.{Edit, IsGiven, changed, is_of_entries}
-use Rattle.edit_plans.specs.Edits.Edit.{Input, ArrayInput, SetLink, Merge, Unmerge, Lines, MoveLines, AddSheet, CopySheet, DeleteSheet, MoveSheet, RenameSheet, ChangeNames, SetField, SetSize, SetHidden, SetRangeStyle, ClearRange, ClearFormatting, PasteStyles, SetSetting, Fill}
+use Rattle.edit_plans.specs.Edits.Edit.{Input, ArrayInput, SetLink, Merge, Unmerge, Lines, MoveLines, AddSheet, CopySheet, DeleteSheet, MoveSheet, RenameSheet, ChangeNames, EditRules, SetField, SetSize, SetHidden, SetRangeStyle, ClearRange, ClearFormatting, PasteStyles, SetSetting, Fill}
 use Rattle.user_model.specs.BothWays.{GoesBothWays}
 use Rattle.user_model.proofs.EntrySteps.{of_entries, entries_both}
 use Rattle.user_model.proofs.LineSteps.{lines_go_both_ways}
@@ -36,6 +36,7 @@ returns c = go
     go (MoveSheet from to) earlier later rules given how = sheets_both c.sheet_edits_go_both_ways.ensures (MoveSheet from to) refl earlier later rules how
     go (RenameSheet index name) earlier later rules given how = sheets_both c.sheet_edits_go_both_ways.ensures (RenameSheet index name) refl earlier later rules how
     go (ChangeNames edit) earlier later rules given how = sheets_both c.sheet_edits_go_both_ways.ensures (ChangeNames edit) refl earlier later rules how
+    go (EditRules edit) earlier later rules given how = sheets_both c.sheet_edits_go_both_ways.ensures (EditRules edit) refl earlier later rules how
     go (SetSetting setting) earlier later rules given how = sheets_both c.sheet_edits_go_both_ways.ensures (SetSetting setting) refl earlier later rules how
     go (SetField index value) earlier later rules given how = by_law (SetField index value) earlier later refl rules given how
     go (SetSize index axis first last size) earlier later rules given how = by_law (SetSize index axis first last size) earlier later refl rules given how

@@ -1,0 +1,81 @@
+//! The conditional rules of a workbook that the opposite renaming does not give back.
+
+ghost use Rattle.std.specs.Prelude.{◌≡◌, IfOk, IsOkUnless};
+ghost use Rattle.base_values.specs.declared.EditError.TheVariants.{NoMemory};
+ghost use Rattle.rule_lines.specs.Canonical.{AreCanonicalKept};
+ghost use Rattle.book_names.specs.Renaming.{AreCanonicalFormattings, own_formattings_kept, formattings_kept};
+
+use crate::formattings::{BothWays, kept_of_rules};
+use crate::reaching::SheetReach;
+use crate::sheets::shared_name;
+use base_maps::IndexMap;
+use base_shared::Shared;
+use base_values::{EditError, Text};
+use format_rules::ConditionalFormatting;
+use index_maps::SheetIndexMap;
+use sheet_grid::Worksheet;
+use std::alloc::Global;
+
+/// Those of one sheet, where the two renamings reach what they do in the sheet of its id.
+fn kept_where_reached<T: SheetReach, B: SheetReach>(
+    alloc: Global,
+    sheet: &Worksheet,
+    there: &T,
+    back: &B,
+    old: &Shared<Text>,
+    new: &Shared<Text>,
+) -> Result<IndexMap<ConditionalFormatting>, EditError>
+    ensures kept { IfOk result (λ kept.
+        kept ≡ own_formattings_kept (T.reached there.now sheet.now.id) (B.reached back.now sheet.now.id) old.now new.now sheet.now.formattings) }
+    ensures numbers { IfOk result AreCanonicalKept }
+    ensures only { IsOkUnless result NoMemory }
+{
+    let id = sheet.get_sheet_id();
+    let ways = BothWays {
+        there: there.reach_in(id),
+        back: back.reach_in(id),
+        old,
+        new,
+    };
+    kept_of_rules(alloc, sheet.conditional_formatting(), &ways)
+}
+
+/// Those of each sheet, under its id.
+fn kept_of_sheets<T: SheetReach, B: SheetReach>(
+    alloc: Global,
+    sheets: &[Worksheet],
+    there: &T,
+    back: &B,
+    old: &Shared<Text>,
+    new: &Shared<Text>,
+) -> Result<SheetIndexMap<ConditionalFormatting>, EditError>
+    ensures kept { IfOk result (λ kept. kept ≡ formattings_kept (T.reached there.now) (B.reached back.now) old.now new.now sheets.now) }
+    ensures numbers { IfOk result AreCanonicalFormattings }
+    ensures only { IsOkUnless result NoMemory }
+{
+    let mut kept = SheetIndexMap::new(alloc);
+    for sheet in sheets {
+        let more = kept_where_reached(alloc, sheet, there, back, old, new)?;
+        kept.put_under(sheet.get_sheet_id(), &more)?;
+    }
+    Ok(kept)
+}
+
+/// Those of each sheet, under its id, where a renaming and the opposite one reach what they do there.
+/// `NoMemory` alone is an error.
+pub fn kept_formattings<T: SheetReach, B: SheetReach>(
+    alloc: Global,
+    sheets: &[Worksheet],
+    there: &T,
+    back: &B,
+    old: &str,
+    new: &str,
+) -> Result<SheetIndexMap<ConditionalFormatting>, EditError>
+    ensures kept { IfOk result (λ kept. kept ≡ formattings_kept (T.reached there.now) (B.reached back.now) old.now new.now sheets.now) }
+    ensures numbers { IfOk result AreCanonicalFormattings }
+    ensures only { IsOkUnless result NoMemory }
+{
+    let old = shared_name(alloc, old)?;
+    let new = shared_name(alloc, new)?;
+    kept_of_sheets(alloc, sheets, there, back, &old, &new)
+}

@@ -1,0 +1,28 @@
+use Rattle.std.proofs.Common.{ap, sym}
+use Rattle.std.proofs.lemmas.Result.{err_from_is_err_and}
+use Rattle.base_values.specs.Answers.{map_ok}
+use Rattle.rule_edits.specs.RuleEdits.{maybe_one}
+use Rattle.rule_edits.specs.RuleEdits.RuleEdit.{Update}
+use Rattle.edit_plans.specs.laws.RulePlans.{mapped_refused, rules_no_sheet, rules_planned, rules_refused}
+use Rattle.edit_plans.proofs.rules.plan_changed_rule.Goals as goal
+
+pub returns-in_err-found : goal.returns-in_err-found
+returns-in_err-found c =
+    let p = err_from_is_err_and c.from_residual.result c.from_residual.ensures.1 in
+    let refused = rules_no_sheet (Update c.args.sheet c.args.index c.args.parts.now c.args.rule.now) c.args.workbook.now c.in_err-found.field-0.0 (sym c.in_err-found.ensures) in
+    rw (p.1, p.2) (record { planned = refused })
+
+pub returns-in_err-change : goal.returns-in_err-change
+returns-in_err-change c =
+    let p = err_from_is_err_and c.from_residual-in_err-change.result c.from_residual-in_err-change.ensures.1 in
+    let refused = rules_refused (Update c.args.sheet c.args.index c.args.parts.now c.args.rule.now) c.args.workbook.now c.in_ok-found.found.now (sym (c.in_ok-found.ensures {u = _}))
+    c.in_err-change.field-0.0 (mapped_refused maybe_one _ c.in_err-change.field-0.0 (c.in_err-change.ensures {u = _}).change) in
+    rw (p.1, p.2) (record { planned = refused })
+
+pub returns : goal.returns
+returns c =
+    let made = ap (map_ok maybe_one) (c.in_ok-change.ensures {u = _}).change.done in
+    record {
+      planned = rules_planned (Update c.args.sheet c.args.index c.args.parts.now c.args.rule.now) c.args.workbook.now c.in_ok-found.found.now (sym (c.in_ok-found.ensures {u = _}))
+          (maybe_one c.in_ok-change.change) made c.requires.rules c.list_of_change.result c.list_of_change.ensures.only c.list_of_change.ensures.made c.list_of_change.ensures.canonical;
+    }

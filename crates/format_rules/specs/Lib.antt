@@ -1,0 +1,4 @@
+pub mod RuleTrees
+pub mod Canonical
+pub mod Fitting
+pub mod laws

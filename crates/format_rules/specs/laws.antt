@@ -1,0 +1,4 @@
+pub mod ThresholdEquals
+pub mod RuleEquals
+pub mod RuleTreeLaws
+pub mod FittingLaws

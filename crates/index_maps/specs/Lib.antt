@@ -1,0 +1,3 @@
+pub mod SheetIndexes
+pub mod Tagged
+pub mod laws

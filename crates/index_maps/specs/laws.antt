@@ -1,0 +1,3 @@
+pub mod SheetIndexEquals
+pub mod SheetIndexes
+pub mod Tagged

@@ -1,0 +1,3 @@
+pub mod RuleChanges
+pub mod RuleEdits
+pub mod laws

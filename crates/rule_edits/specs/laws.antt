@@ -1,0 +1,3 @@
+pub mod ChangeEquals
+pub mod Lists
+pub mod EditLaws

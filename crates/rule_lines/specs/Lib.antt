@@ -1,0 +1,6 @@
+pub mod ByIndex
+pub mod Canonical
+pub mod Rules
+pub mod EditedRules
+pub mod Follows
+pub mod laws

@@ -1,0 +1,60 @@
+-- The rules of a sheet, carried along.
+use Rattle.std.specs.Prelude.{ℕ, Bool, nat_lt, List, [], ◌∷◌, map, Option, if◌then◌else◌}
+use Rattle.std.specs.List.{All, list_all}
+use Rattle.std.specs.Ordering.{nat_cmp}
+use Rattle.std.specs.FinMap.{FinMap, entries, get}
+use Rattle.base_axis.specs.declared.MergedCell.{MergedCell}
+use Rattle.base_axis.specs.Rectangles.{anchor_place}
+use Rattle.format_rules.specs.declared.ConditionalFormatting.{ConditionalFormatting}
+use Rattle.format_rules.specs.contracts.formatting.ConditionalFormattingPartialEq.TheImpl as equality
+use Rattle.format_rules.specs.Fitting.{StandsInside}
+use Rattle.format_rules.specs.RuleTrees.{trees_changed}
+use Rattle.line_map.specs.MergedCells.{merged_cell_carried}
+use Rattle.line_map.specs.Trees.{tree_carried}
+use Rattle.line_map.specs.Trial.{part_by_trial}
+use Rattle.line_map.specs.Way.{Way, at, back}
+use Rattle.rule_lines.specs.ByIndex.{kept_by_index, restored_by_index}
+
+-- how the map meets what stands at the first place of a part: it goes with the part, and stays where the part stays
+abbrev pub at_part : Way → MergedCell → Way
+at_part w part = at w (anchor_place part) (anchor_place (merged_cell_carried w part))
+
+-- how it meets the formulas of a rule: they stand at the first place of the rule's first part
+abbrev pub way_of_trees : Way → List MergedCell → Way
+way_of_trees w [] = w
+way_of_trees w (first ∷ others) = at_part w first
+
+-- a rule each of whose parts is carried along by its corners, and each of whose formulas with the first part
+abbrev pub formatting_moved : Way → ConditionalFormatting → ConditionalFormatting
+formatting_moved w formatting = record formatting {
+  parts = map (merged_cell_carried w) formatting.parts;
+  rule = trees_changed (tree_carried (way_of_trees w formatting.parts)) formatting.rule;
+}
+
+-- a rule of the edited sheet is. On another sheet it stays
+unfoldable pub formatting_carried : Way → ConditionalFormatting → ConditionalFormatting
+formatting_carried w formatting = if w.is_edited then formatting_moved w formatting else formatting
+
+-- the whole rule, where the way back does not give it
+abbrev pub formatting_part : Way → ConditionalFormatting → Option ConditionalFormatting
+formatting_part w formatting = part_by_trial equality.ghosts.eq formatting_carried w formatting
+
+-- each rule of a list, in their order
+abbrev pub rules_carried : Way → List ConditionalFormatting → List ConditionalFormatting
+rules_carried w rules = map (formatting_carried w) rules
+
+-- the rules that the way back does not give, under their places in the list
+abbrev pub rules_kept : Way → List ConditionalFormatting → FinMap nat_cmp ConditionalFormatting
+rules_kept w rules = kept_by_index (formatting_part w) rules
+
+-- each rule that was kept, and each other one carried back
+abbrev pub rules_restored : Way → FinMap nat_cmp ConditionalFormatting → List ConditionalFormatting → List ConditionalFormatting
+rules_restored w kept rules = restored_by_index (formatting_carried (back w)) (λ _ own. own) (get kept) rules
+
+-- each rule stands inside the sheet
+abbrev pub RulesLie : List ConditionalFormatting → Type 0
+RulesLie rules = All StandsInside rules
+
+-- each kept rule has the place of one of so many rules
+unfoldable pub are_there : FinMap nat_cmp ConditionalFormatting → ℕ → Bool
+are_there kept count = list_all (λ (entry : ℕ × ConditionalFormatting). nat_lt entry.0 count) (entries kept)

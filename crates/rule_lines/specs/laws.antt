@@ -1,0 +1,5 @@
+pub mod ByIndexLaws
+pub mod RuleLaws
+pub mod FollowLaws
+pub mod EditedEquals
+pub mod EditedLaws

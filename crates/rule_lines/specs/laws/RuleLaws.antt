@@ -1,0 +1,152 @@
+-- The law of followers for rules: what is carried along stands inside the sheet, and comes back with what is kept.
+use Rattle.std.proofs.Common.{◌≡◌, true, false, List, [], ◌∷◌, map, Option, Some, None, refl, sym, subst}
+use Rattle.std.specs.Prelude.{IfSome, IsTrue, if◌then◌else◌}
+use Rattle.std.specs.List.{All, AllByRecursion}
+use Rattle.std.specs.Ordering.{nat_cmp}
+use Rattle.std.specs.FinMap.{FinMap, get}
+use Rattle.std.proofs.lemmas.List.Elements.{recursion_from_All, All-from_recursion, All-map, All-weaker}
+use Rattle.base_values.specs.declared.Position.{Position}
+use Rattle.base_axis.specs.declared.MergedCell.{MergedCell}
+use Rattle.base_axis.specs.Rectangles.{IsInside, anchor_place}
+use Rattle.formula_tree.specs.declared.Node.{Node}
+use Rattle.formula_tree.specs.declared.numbers.NumberRule.TheVariants.{Canonical}
+use Rattle.formula_tree.specs.Numbers as tree
+use Rattle.formula_tree.specs.Placed.{is_placed}
+use Rattle.formula_back.specs.laws.MovedNumbers.{numbers-moved}
+use Rattle.format_rules.specs.declared.CfRule.{CfRule}
+use Rattle.format_rules.specs.declared.ConditionalFormatting.{ConditionalFormatting}
+use Rattle.format_rules.specs.contracts.formatting.ConditionalFormattingPartialEq.TheImpl as equality
+use Rattle.format_rules.specs.Canonical.{IsCanonicalFormatting, AreCanonicalRules}
+use Rattle.format_rules.specs.Fitting.{place_of, StandsOn, StandsInside}
+use Rattle.format_rules.specs.RuleTrees.{HasTrees, trees_changed}
+use Rattle.format_rules.specs.laws.FittingLaws.{canonical_still}
+use Rattle.format_rules.specs.laws.RuleEquals.{formatting_equals}
+use Rattle.format_rules.specs.laws.RuleTreeLaws.{changed_have}
+use Rattle.line_map.specs.MergedCells.{merged_cell_carried}
+use Rattle.line_map.specs.Trees.{TreeLies, following, tree_carried}
+use Rattle.line_map.specs.Way.{Way, IsWay, back}
+use Rattle.line_map.specs.laws.MergedCellLaws.{merged_cell_stays}
+use Rattle.line_map.specs.laws.TreeLaws.{tree_placed}
+use Rattle.line_map.specs.laws.TrialLaws.{trial_comes_back, trial_part}
+use Rattle.line_map.specs.laws.WayLaws.{back_is_way}
+use Rattle.rule_lines.specs.Canonical.{AreCanonicalKept, KeptLie}
+use Rattle.rule_lines.specs.Rules.{at_part, way_of_trees, formatting_moved, formatting_carried, formatting_part, rules_carried, rules_kept, rules_restored, RulesLie}
+use Rattle.rule_lines.specs.laws.ByIndexLaws.{items_regained, kept_are, restored_are}
+
+-- ---- one rule
+
+-- the formulas of a rule lie where the map meets them
+pub trees_lie : (w : Way) (parts : List MergedCell) (rule : CfRule) → StandsOn parts rule → HasTrees (TreeLies (way_of_trees w parts)) rule
+trees_lie w [] rule stands = absurd (none stands.first)
+  where
+    none : place_of [] ≡ Some stands.place → ⊥
+    none h = cc
+trees_lie w (first ∷ others) rule stands =
+    let same : anchor_place first ≡ stands.place = some_same stands.first in
+    let LieAt : Position → Type 0 = λ place. HasTrees (λ n. is_placed place n ≡ true) rule in
+    subst LieAt (sym same) stands.trees
+  where
+    some_same : Some (anchor_place first) ≡ Some stands.place → anchor_place first ≡ stands.place
+    some_same h = cc
+
+parts_stay : (w : Way) → IsWay w → (parts : List MergedCell) → All IsInside parts → All IsInside (map (merged_cell_carried w) parts)
+parts_stay w is parts inside = All-map IsInside (merged_cell_carried w) parts
+    (All-weaker IsInside (λ part. IsInside (merged_cell_carried w part)) (merged_cell_stays w is) parts inside)
+
+moved_stands : (w : Way) → IsWay w → (parts : List MergedCell) (rule : CfRule) → StandsOn parts rule →
+    StandsOn (map (merged_cell_carried w) parts) (trees_changed (tree_carried (way_of_trees w parts)) rule)
+moved_stands w is [] rule stands = absurd (none stands.first)
+  where
+    none : place_of [] ≡ Some stands.place → ⊥
+    none h = cc
+moved_stands w is (first ∷ others) rule stands =
+    let there : Way = at_part w first in
+    record {
+      place = anchor_place (merged_cell_carried w first);
+      first = refl;
+      inside = parts_stay w is (first ∷ others) stands.inside;
+      trees = changed_have (TreeLies there) (λ n. is_placed there.to n ≡ true) (tree_carried there)
+          (λ n lies. tree_placed there (record { axis = is.axis; one_to_one = is.one_to_one }) n) rule (trees_lie w (first ∷ others) rule stands);
+    }
+
+-- a rule that is carried along stands inside the sheet
+pub formatting_stays : (w : Way) → IsWay w → (formatting : ConditionalFormatting) → StandsInside formatting → StandsInside (formatting_carried w formatting)
+unfolding formatting_carried
+formatting_stays w is formatting stands = elim w.is_edited as (λ b. StandsInside (if b then formatting_moved w formatting else formatting))
+    [ true ↦ moved_stands w is formatting.parts formatting.rule stands | false ↦ stands ]
+
+pub formatting_comes_back : (w : Way) (formatting : ConditionalFormatting) → formatting_part w formatting ≡ None → formatting_carried (back w)
+    (formatting_carried w formatting) ≡ formatting
+formatting_comes_back w formatting h = trial_comes_back equality.ghosts.eq formatting_carried formatting_equals w formatting h
+
+pub formatting_restores : (w : Way) (formatting part : ConditionalFormatting) → formatting_part w formatting ≡ Some part → part ≡ formatting
+formatting_restores w formatting part h = trial_part equality.ghosts.eq formatting_carried w formatting part h
+
+same_numbers : (w : Way) (n : Node) → tree.has_canonical_numbers (tree_carried w n) ≡ tree.has_canonical_numbers n
+unfolding tree_carried
+same_numbers w n = numbers-moved Canonical w.to (following w) n
+
+-- its numbers stay
+numbers_at : (w : Way) (formatting : ConditionalFormatting) → IsCanonicalFormatting formatting → IsCanonicalFormatting (formatting_moved w formatting)
+numbers_at w formatting h =
+    let there = way_of_trees w formatting.parts in subst IsTrue (sym (canonical_still (tree_carried there) (same_numbers there) formatting.rule)) h
+
+pub formatting_numbers : (w : Way) (formatting : ConditionalFormatting) → IsCanonicalFormatting formatting → IsCanonicalFormatting
+    (formatting_carried w formatting)
+unfolding formatting_carried
+formatting_numbers w formatting h = elim w.is_edited as (λ b. IsCanonicalFormatting (if b then formatting_moved w formatting else formatting))
+    [ true ↦ numbers_at w formatting h | false ↦ h ]
+
+-- what is kept of a rule is the rule
+part_is : (P : ConditionalFormatting → Type 0) (w : Way) (formatting : ConditionalFormatting) → P formatting → (o : Option ConditionalFormatting) →
+    formatting_part w formatting ≡ o → IfSome o P
+part_is P w formatting h None is = tt
+part_is P w formatting h (Some part) is = subst P (sym (formatting_restores w formatting part is)) h
+
+-- ---- lists of rules
+
+pub rules_stay : (w : Way) → IsWay w → (rules : List ConditionalFormatting) → RulesLie rules → RulesLie (rules_carried w rules)
+rules_stay w is rules lie = All-map StandsInside (formatting_carried w) rules
+    (All-weaker StandsInside (λ rule. StandsInside (formatting_carried w rule)) (formatting_stays w is) rules lie)
+
+pub rules_numbers : (w : Way) (rules : List ConditionalFormatting) → AreCanonicalRules rules → AreCanonicalRules (rules_carried w rules)
+rules_numbers w rules all =
+    All-map IsCanonicalFormatting (formatting_carried w) rules
+    (All-weaker IsCanonicalFormatting (λ rule. IsCanonicalFormatting (formatting_carried w rule)) (formatting_numbers w) rules all)
+
+pub kept_numbers : (w : Way) (rules : List ConditionalFormatting) → AreCanonicalRules rules → AreCanonicalKept (rules_kept w rules)
+kept_numbers w rules all =
+    kept_are (formatting_part w) IsCanonicalFormatting IsCanonicalFormatting
+    (λ rule h. part_is IsCanonicalFormatting w rule h (formatting_part w rule) refl) rules
+    (recursion_from_All IsCanonicalFormatting rules all)
+
+pub kept_lie : (w : Way) (rules : List ConditionalFormatting) → RulesLie rules → KeptLie (rules_kept w rules)
+kept_lie w rules lie =
+    kept_are (formatting_part w) StandsInside StandsInside (λ rule h. part_is StandsInside w rule h (formatting_part w rule) refl) rules
+    (recursion_from_All StandsInside rules lie)
+
+-- the rules that come back have canonical numbers, and stand inside, where those do that were kept
+pub restored_numbers : (w : Way) (kept : FinMap nat_cmp ConditionalFormatting) → AreCanonicalKept kept → (rules : List ConditionalFormatting) →
+    AreCanonicalRules rules →
+    AreCanonicalRules (rules_restored w kept rules)
+restored_numbers w kept numbers rules all =
+    All-from_recursion IsCanonicalFormatting (rules_restored w kept rules)
+    (restored_are (formatting_carried (back w)) (λ _ own. own) IsCanonicalFormatting IsCanonicalFormatting IsCanonicalFormatting (formatting_numbers (back w)) (λ _ own h. h) (get kept) numbers rules
+    (recursion_from_All IsCanonicalFormatting rules all))
+
+pub restored_lie : (w : Way) → IsWay w → (kept : FinMap nat_cmp ConditionalFormatting) → KeptLie kept → (rules : List ConditionalFormatting) →
+    RulesLie rules → RulesLie (rules_restored w kept rules)
+restored_lie w is kept inside rules lie =
+    All-from_recursion StandsInside (rules_restored w kept rules)
+    (restored_are (formatting_carried (back w)) (λ _ own. own) StandsInside StandsInside StandsInside (formatting_stays (back w) (back_is_way w is)) (λ _ own h. h) (get kept) inside rules
+    (recursion_from_All StandsInside rules lie))
+
+-- the law of followers: the rules come back with what is kept of them
+pub rules_regained : (w : Way) (rules : List ConditionalFormatting) → rules_restored w (rules_kept w rules) (rules_carried w rules) ≡ rules
+rules_regained w rules =
+    items_regained (formatting_part w) (formatting_carried w) (formatting_carried (back w)) (λ _ own. own) (λ _. Unit {0})
+    (λ rule _ h. formatting_comes_back w rule h) (λ rule _ part h. formatting_restores w rule part h) rules (nothing_known rules)
+  where
+    nothing_known : (xs : List ConditionalFormatting) → AllByRecursion (λ _. Unit {0}) xs
+    nothing_known [] = tt
+    nothing_known (x ∷ xs) = (tt, nothing_known xs)

@@ -1,0 +1,4 @@
+pub mod ThresholdBytes
+pub mod RuleBytes
+pub mod FormattingBytes
+pub mod laws

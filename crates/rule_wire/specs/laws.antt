@@ -1,0 +1,4 @@
+pub mod ThresholdLaws
+pub mod RuleLaws
+pub mod FormattingLaws
+pub mod KnownLaws

@@ -1,0 +1,108 @@
+// Which formulas fit a place, at the borders of each rule, and what a tree is put into.
+use base_decimal::Decimal;
+use base_shared::Shared;
+use base_values::{EditError, Position};
+use cell_content::{Content, fits_at, with_tree};
+use formula_tree::{Corner, Node, UnaryKind};
+use std::alloc::{AllocError, Global};
+use std::test::Fail;
+
+const C3: Position = Position { row: 3, column: 3 };
+
+fn number(mantissa: i128) -> Node {
+    let places = 0;
+    Node::Number(Decimal { mantissa, places })
+}
+
+fn relative(row: i32, column: i32) -> Corner {
+    Corner {
+        absolute_row: false,
+        row,
+        absolute_column: false,
+        column,
+    }
+}
+
+fn minus(alloc: Global, child: Node) -> Result<Node, AllocError> {
+    Ok(Node::Unary(UnaryKind::Minus, Shared::new(alloc, child)?))
+}
+
+/// So many minus signs before a number.
+fn minus_signs(alloc: Global, count: u64) -> Result<Node, AllocError> {
+    let mut node = number(1);
+    for _ in 0..count {
+        node = minus(alloc, node)?;
+    }
+    Ok(node)
+}
+
+fn tree_fits(alloc: Global, tree: Node) -> Result<bool, AllocError> {
+    Ok(fits_at(C3, &Content::Dynamic(Shared::new(alloc, tree)?)))
+}
+
+fn reference_fits(alloc: Global, corner: Corner) -> Result<bool, AllocError> {
+    tree_fits(alloc, Node::Reference(None, corner))
+}
+
+fn range_fits(alloc: Global, first: Corner, second: Corner) -> Result<bool, AllocError> {
+    tree_fits(alloc, Node::Range(None, first, second))
+}
+
+#[test]
+fn corners_and_numbers(rt: HostRuntime) -> Result<(), Fail> {
+    let alloc = rt.alloc();
+    // in C3, A1 and the column before A, the last row and the one after it
+    assert!(rt; reference_fits(alloc, relative(-2, -2))?);
+    assert!(rt; !reference_fits(alloc, relative(0, -3))?);
+    assert!(rt; reference_fits(alloc, relative(1_048_573, 0))?);
+    assert!(rt; !reference_fits(alloc, relative(1_048_574, 0))?);
+    assert!(rt; range_fits(alloc, relative(0, 0), relative(1, 1))?);
+    assert!(rt; !range_fits(alloc, relative(0, 1), relative(1, 0))?);
+    assert!(rt; tree_fits(alloc, number(0))?);
+    assert!(rt; !tree_fits(alloc, number(-1))?);
+    Ok(())
+}
+
+/// Whether so many minus signs before a number fit.
+fn minus_signs_fit(alloc: Global, count: u64) -> Result<bool, AllocError> {
+    let content = Content::Formula(Shared::new(alloc, minus_signs(alloc, count)?)?);
+    Ok(fits_at(C3, &content))
+}
+
+#[test]
+fn depth(rt: HostRuntime) -> Result<(), Fail> {
+    assert!(rt; minus_signs_fit(rt.alloc(), 63)?);
+    assert!(rt; !minus_signs_fit(rt.alloc(), 64)?);
+    Ok(())
+}
+
+/// What a content is once the number 2 is put in as its tree.
+fn with_two(alloc: Global, content: &Content) -> Result<Content, EditError> {
+    with_tree(content, Shared::new(alloc, number(2))?)
+}
+
+#[test]
+fn trees_are_put_in(rt: HostRuntime) -> Result<(), Fail> {
+    let alloc = rt.alloc();
+    let (one, two) = (
+        Shared::new(alloc, number(1))?,
+        Shared::new(alloc, number(2))?,
+    );
+    assert!(rt; with_two(alloc, &Content::Dynamic(one))? == Content::Dynamic(two));
+    assert!(rt; with_two(alloc, &Content::Boolean(true))? == Content::Boolean(true));
+    let (width, height) = (2, 3);
+    let tree = Shared::new(alloc, number(1))?;
+    let array = Content::Array {
+        tree,
+        width,
+        height,
+    };
+    let tree = Shared::new(alloc, number(2))?;
+    let changed = Content::Array {
+        tree,
+        width,
+        height,
+    };
+    assert!(rt; with_two(alloc, &array)? == changed);
+    Ok(())
+}

@@ -12,6 +12,3 @@ mod lens;
 pub use content::Content;
 pub use fitting::{fits_at, tree_fits_at};
 pub use lens::{tree_of, with_tree};
-
-#[cfg(test)]
-mod tests;

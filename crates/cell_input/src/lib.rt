@@ -11,6 +11,3 @@ mod print;
 
 pub use input::read_input;
 pub use print::{contents_read_again, print_content, push_content};
-
-#[cfg(test)]
-mod tests;

@@ -25,6 +25,3 @@ pub use rule::CfRule;
 pub use rule_list::RuleList;
 pub use testing::{TreeTest, each_tree};
 pub use threshold::{Cfvo, ColorThreshold, IconThreshold};
-
-#[cfg(test)]
-mod tests;

@@ -7,8 +7,6 @@ mod displace_data;
 mod displacement;
 mod images;
 mod lines;
-#[cfg(test)]
-mod tests;
 
 pub use displace::{displace_node, to_string_displaced};
 pub use displace_data::{DisplaceData, equality_is_of_values};

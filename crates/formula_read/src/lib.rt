@@ -5,6 +5,3 @@
 mod read;
 
 pub use read::{read_formula, text_has_one_tree};
-
-#[cfg(test)]
-mod tests;

@@ -5,6 +5,7 @@ mod naming;
 mod navigation;
 mod progress;
 mod ranges;
+mod rule_trees;
 mod rules;
 mod styles;
 mod views;

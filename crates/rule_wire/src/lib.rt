@@ -18,6 +18,3 @@ mod writing;
 pub use encode::encode_rule;
 pub use formattings::{FormattingPart, RuleListPart};
 pub use rules::RulePart;
-
-#[cfg(test)]
-mod tests;

@@ -1,13 +1,13 @@
 // Which rules may stand, at the borders of each test, and the formulas of each kind of rule changed.
-use crate::{
-    CfOperator, CfRule, Cfvo, ColorThreshold, ConditionalFormatting, IconThreshold, TreeChange,
-    change_trees, has_canonical_numbers, has_fitting_trees, has_parts,
-};
 use base_axis::MergedCell;
 use base_decimal::Decimal;
 use base_shared::Shared;
 use base_styles::{Color, Style};
 use base_values::{EditError, Items};
+use format_rules::{
+    CfOperator, CfRule, Cfvo, ColorThreshold, ConditionalFormatting, IconThreshold, TreeChange,
+    change_trees, has_canonical_numbers, has_fitting_trees, has_parts,
+};
 use formula_tree::{Corner, Node};
 use std::alloc::{AllocError, Global};
 use std::test::Fail;

@@ -1,10 +1,10 @@
 ghost use Rattle.base_values.specs.Places.{IsPlace};
 ghost use Rattle.formula_tree.specs.Context.{context_place};
 
-use crate::{print_content, read_input};
 use base_tables::{Language, Locale};
 use base_values::{EditError, Text};
 use cell_content::Content;
+use cell_input::{print_content, read_input};
 use formula_tree::CellReferenceRC;
 use std::alloc::Global;
 use std::test::Fail;

@@ -1,10 +1,10 @@
 // Formulas in C5 of Sheet1. The texts are worked out by hand from the rules.
 ghost use Rattle.std.specs.Prelude.{◌≡◌, IfOk, pos};
 
-use crate::{DisplaceData, displace_node, to_string_displaced};
 use base_shared::Shared;
 use base_tables::{Language, Locale};
 use base_values::{EditError, Text, same};
+use formula_move::{DisplaceData, displace_node, to_string_displaced};
 use formula_tree::{CellReferenceRC, Corner, Node};
 use std::alloc::Global;
 use std::test::Fail;

@@ -1,8 +1,8 @@
 // Which formulas fit a place, at the borders of each rule, and what a tree is put into.
-use crate::{Content, fits_at, with_tree};
 use base_decimal::Decimal;
 use base_shared::Shared;
 use base_values::{EditError, Position};
+use cell_content::{Content, fits_at, with_tree};
 use formula_tree::{Corner, Node, UnaryKind};
 use std::alloc::{AllocError, Global};
 use std::test::Fail;

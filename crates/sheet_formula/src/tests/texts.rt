@@ -2,10 +2,10 @@
 ghost use Rattle.formula_tree.specs.Context.{context_place};
 ghost use Rattle.base_values.specs.Places.{IsPlace};
 
-use crate::read_formula;
 use base_shared::Shared;
 use base_tables::{Function, Language, Locale};
 use base_values::{Items, Text, same};
+use formula_read::read_formula;
 use formula_tree::{CellReferenceRC, Corner, Node, is_parse_error};
 use std::alloc::{AllocError, Global};
 use std::test::Fail;

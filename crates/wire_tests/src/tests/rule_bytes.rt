@@ -1,5 +1,4 @@
 // The bytes of rules as they are sent, and rules of each kind read from them.
-use crate::{RulePart, encode_rule};
 use base_decimal::Decimal;
 use base_shared::Shared;
 use base_styles::Style;
@@ -7,6 +6,7 @@ use base_values::EditError;
 use base_wire::Part;
 use format_rules::CfRule;
 use formula_tree::{CompareKind, Corner, Node};
+use rule_wire::{RulePart, encode_rule};
 use std::alloc::Global;
 use std::test::Fail;
 

@@ -29,7 +29,7 @@ fn with_ample_memory(rt: HostRuntime) -> Result<(), Fail> {
     let mut map: AxisMap<ColumnAxis, bool> = AxisMap::new(alloc);
     assert!(rt; map.insert(2, true)?.is_none());
     map.put(3, Some(false))?;
-    assert_eq!(rt; map.lines(alloc)?.len(), 2);
+    assert_eq!(rt; map.keys(alloc)?.len(), 2);
     assert!(rt; same(&copy_of(&map)?, &map));
     assert_eq!(rt; map.iter().count(), 2);
     map.put(3, None)?;

@@ -23,10 +23,10 @@ fn with_ample_memory(rt: HostRuntime) -> Result<(), Fail> {
     let mut map = PlaceMap::new(alloc);
     assert!(rt; map.insert(place, true)?.is_none());
     map.put(place, Some(false))?;
-    assert_eq!(rt; map.places(alloc)?.len(), 1);
+    assert_eq!(rt; map.keys(alloc)?.len(), 1);
     assert!(rt; same(&copy_of(&map)?, &map));
     map.put(place, None)?;
-    assert_eq!(rt; map.places(alloc)?.len(), 0);
+    assert_eq!(rt; map.keys(alloc)?.len(), 0);
     Ok(())
 }
 

@@ -38,4 +38,7 @@ if not status:
     print("rt: PROVED" + (" (lost: touched)" if kept.lost else ""))
 else:
     print("rt: NOT PROVED", status)
+import resource, json
+_u = resource.getrusage(resource.RUSAGE_CHILDREN)
+with open("/work/cpu.log", "a") as _g: _g.write(json.dumps([name, "tests" if tests else "proof", not status, round((_u.ru_utime + _u.ru_stime) / 60, 2)]) + "\n")
 sys.exit(1 if status else 0)

@@ -1,5 +1,7 @@
 pub mod SheetPlaceEquals
+pub mod SheetIndexEquals
 pub mod SheetPlaces
+pub mod SheetIndexes
 pub mod Inverses
 pub mod Keys
 pub mod Known
@@ -8,6 +10,8 @@ pub mod CarriedLaws
 pub mod Turns
 pub mod Each
 pub mod Found
+pub mod Under
 pub mod Tagged
+pub mod TaggedIndexes
 pub mod Loops
 pub mod Lists

@@ -15,8 +15,8 @@ use Rattle.cell_content.specs.Fitting.{tree_fits_at}
 use Rattle.cell_content.specs.Lens.{tree_of}
 use Rattle.format_rules.specs.declared.ConditionalFormatting.{ConditionalFormatting}
 use Rattle.format_rules.specs.Fitting.{has_fitting_trees, has_parts}
-use Rattle.index_maps.specs.declared.SheetIndex.{SheetIndex}
-use Rattle.index_maps.specs.SheetIndexes.{sheet_index_cmp}
+use Rattle.base_maps.specs.declared.SheetIndex.{SheetIndex}
+use Rattle.base_maps.specs.SheetIndexes.{sheet_index_cmp}
 use Rattle.sheet_grid.specs.declared.Cell.{Cell}
 use Rattle.sheet_grid.specs.Sheet.{Sheet}
 use Rattle.sheet_grid.specs.Book.{Book}

@@ -24,9 +24,9 @@ use Rattle.format_rules.specs.contracts.formatting.ConditionalFormattingPartialE
 use Rattle.format_rules.specs.Canonical.{IsCanonicalFormatting}
 use Rattle.format_rules.specs.Fitting.{StandsInside}
 use Rattle.format_rules.specs.RuleTrees.{trees_changed}
-use Rattle.index_maps.specs.declared.SheetIndex.{SheetIndex}
-use Rattle.index_maps.specs.SheetIndexes.{sheet_index_cmp}
-use Rattle.index_maps.specs.Tagged.{all_under as indexes_under, index_on}
+use Rattle.base_maps.specs.declared.SheetIndex.{SheetIndex}
+use Rattle.base_maps.specs.SheetIndexes.{sheet_index_cmp}
+use Rattle.base_maps.specs.TaggedIndexes.{all_under as indexes_under, index_on}
 use Rattle.line_map.specs.Contents.{with_new_tree, cell_restored}
 use Rattle.sheet_grid.specs.declared.Cell.{Cell}
 use Rattle.sheet_grid.specs.Sheet.{Sheet}

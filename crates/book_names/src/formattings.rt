@@ -12,13 +12,12 @@ ghost use Rattle.book_names.specs.Renaming.{formattings_back, formattings_under}
 
 use crate::cells::Returned;
 use crate::names::renamed_tree;
-use base_maps::IndexMap;
+use base_maps::{IndexMap, SheetIndex};
 use base_shared::Shared;
 use base_values::{EditError, Items, Text, copy_of};
 use format_rules::{ConditionalFormatting, RuleList, TreeChange, change_trees};
 use formula_names::Reach;
 use formula_tree::Node;
-use index_maps::SheetIndex;
 use std::alloc::Global;
 
 /// Formulas that are renamed, as far as the renaming reaches.

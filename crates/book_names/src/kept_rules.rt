@@ -8,11 +8,10 @@ ghost use Rattle.book_names.specs.Renaming.{AreCanonicalFormattings, own_formatt
 use crate::formattings::{BothWays, kept_of_rules};
 use crate::reaching::SheetReach;
 use crate::sheets::shared_name;
-use base_maps::IndexMap;
+use base_maps::{IndexMap, SheetIndexMap};
 use base_shared::Shared;
 use base_values::{EditError, Text};
 use format_rules::ConditionalFormatting;
-use index_maps::SheetIndexMap;
 use sheet_grid::Worksheet;
 use std::alloc::Global;
 

@@ -35,7 +35,7 @@ module _ (index : ℕ) (r : MergedCell) (book : Book) where
   abbrev added : CfRule → Bool → Sheet → Result Book EditError
   added rule inside sheet =
       map_ok (with_sheet book index) (map_ok (with_changes sheet) (map_ok (λ change. change ∷ [])
-      (and_then (cond (inside && true) (cond (each_tree (is_rule_formula (anchor_place r)) rule) (Ok (tt {0})) (Err BadFormula)) (Err InvalidArea))
+      (and_then (cond (inside && true) (cond (each_tree (is_rule_formula (anchor_place r)) rule) (Ok tt) (Err BadFormula)) (Err InvalidArea))
       (λ _. map_ok (come_behind (r ∷ []) rule sheet.formattings) (next_priority sheet.formattings)))))
 
   -- a rule is refused where it goes nowhere

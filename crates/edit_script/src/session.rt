@@ -583,20 +583,18 @@ impl Session {
     {
         let done = self
             .model
-            .delete_conditional_formatting(named.sheet, named.index as u64);
+            .delete_conditional_formatting(named.sheet, u64::from(named.index));
         push_outcome(&mut self.out, done)
     }
 
     fn rule_swap(&mut self, named: NamedSwap) -> Result<(), EditError>
         ensures { RunsCommand (command.RuleSwap named) result self.old self.new }
     {
-        let done = self
-            .model
-            .swap_conditional_formatting_priority(
-                named.sheet,
-                named.index_a as u64,
-                named.index_b as u64,
-            );
+        let done = self.model.swap_conditional_formatting_priority(
+            named.sheet,
+            u64::from(named.index_a),
+            u64::from(named.index_b),
+        );
         push_outcome(&mut self.out, done)
     }
 

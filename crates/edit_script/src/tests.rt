@@ -5,11 +5,7 @@ use script_ends::{
 use std::alloc::Global;
 use std::test::Fail;
 
-mod copies;
 mod fills;
-mod grid;
-mod hidden;
-mod lines;
 mod rules;
 mod settings;
 mod sheets;

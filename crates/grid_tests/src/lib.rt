@@ -1,4 +1,4 @@
-//! Tests of rules, conditional rules, legal names, ids, views, styles of lines, navigation and
+//! Tests of names, rules, conditional rules, views, ranges of styles, fills, navigation and
 //! progressions, by the calls of their crates.
 #![tactic(auto)]
 

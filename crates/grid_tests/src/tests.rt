@@ -1,3 +1,4 @@
+mod fills;
 mod formattings;
 mod names;
 mod naming;

@@ -1,5 +1,4 @@
-//! Tests of maps on lines, and of sheets, models and refused diffs, whose own checks are long. What edits of lines
-//! make of a workbook is in the scripts of `edit_script`.
+//! Tests of line edits, actions and histories, whose own checks are long.
 #![tactic(auto)]
 
 pub use sheet_history::DiffList;

@@ -3,7 +3,7 @@ use Rattle.std.specs.Prelude.{ℕ, ◌<◌, ◌^◌, List, ◌++◌}
 use Rattle.std.specs.Int.{w32, w64, to_be_bytes}
 use Rattle.base_values.specs.declared.Position.{Position}
 use Rattle.base_maps.specs.declared.SheetPlace.{SheetPlace}
-use Rattle.index_maps.specs.declared.SheetIndex.{SheetIndex}
+use Rattle.base_maps.specs.declared.SheetIndex.{SheetIndex}
 use Rattle.base_wire.specs.Reading.{Reader, map_at, ◌⊗◌, number_at}
 use Rattle.cell_wire.specs.CellBytes.{spell_position, position_at, FitsPosition}
 

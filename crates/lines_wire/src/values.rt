@@ -3,11 +3,10 @@
 ghost use Rattle.base_values.specs.Answers.{Answers, map_ok};
 ghost use Rattle.lines_wire.specs.PartBytes.{sheet_index_at, sheet_place_at};
 
-use base_maps::SheetPlace;
+use base_maps::{SheetIndex, SheetPlace};
 use base_values::EditError;
 use base_wire::Part;
 use cell_wire::PositionPart;
-use index_maps::SheetIndex;
 use map_wire::read;
 use std::alloc::{AllocError, Global};
 

@@ -8,9 +8,10 @@ ghost use Rattle.std.specs.declared.cmp.Ordering.{Ordering};
 ghost use Rattle.std.proofs.lemmas.Map.Lookups.{CmpEqualImpliesEq};
 ghost use Rattle.base_values.specs.declared.EditError.TheVariants.{NoMemory};
 
-use base_maps::{IndexMap, NumberMap, PositionMap, SheetPlace, SheetPlaceMap};
+use base_maps::{
+    IndexMap, NumberMap, PositionMap, SheetIndex, SheetIndexMap, SheetPlace, SheetPlaceMap,
+};
 use base_values::{EditError, Position};
-use index_maps::{SheetIndex, SheetIndexMap};
 use std::alloc::Global;
 use std::collections::btree_map::Iter;
 
@@ -198,8 +199,8 @@ impl<V: Drop> Keyed<SheetPlace, V> for SheetPlaceMap<V> {
 
 impl<V: Drop> Keyed<SheetIndex, V> for SheetIndexMap<V> {
     ghost use Rattle.std.specs.Prelude.{refl};
-    ghost use Rattle.index_maps.specs.SheetIndexes.{sheet_index_cmp};
-    ghost use Rattle.index_maps.specs.laws.SheetIndexes.{sheet_index_total, exact_sheet_indexes};
+    ghost use Rattle.base_maps.specs.SheetIndexes.{sheet_index_cmp};
+    ghost use Rattle.base_maps.specs.laws.SheetIndexes.{sheet_index_total, exact_sheet_indexes};
 
     ghost order = { sheet_index_cmp };
 

@@ -8,7 +8,7 @@ use Rattle.formula_tree.specs.declared.Node.{Node}
 use Rattle.formula_names.specs.declared.Reach.TheVariants.{Nothing}
 use Rattle.defined_names.specs.declared.DefinedName.{DefinedName}
 use Rattle.defined_names.specs.Names.{IsCanonicalName}
-use Rattle.index_maps.specs.SheetIndexes.{sheet_index_cmp}
+use Rattle.base_maps.specs.SheetIndexes.{sheet_index_cmp}
 use Rattle.sheet_grid.specs.Sheet.{Sheet}
 use Rattle.sheet_grid.specs.Book.{Book}
 use Rattle.book_names.specs.declared.KeptTrees.{KeptTrees}

@@ -13,9 +13,10 @@ pub struct RuleChange {
 }
 
 impl Exact for RuleChange {
-    ghost use Rattle.rule_edits.specs.laws.ChangeEquals.{rule_change_copies, rule_change_equals};
+    ghost use Rattle.std.proofs.Common.{rules};
+    ghost use Rattle.rule_edits.specs.laws.ChangeEquals.{rule_change_equals};
 
-    ghost copies = { rule_change_copies };
+    ghost copies = { λ a b h. Prim.search rules };
 
     ghost equals = { rule_change_equals };
 }

@@ -58,8 +58,8 @@ fn put_data_bar(
     is_gradient: bool,
     show_value: bool,
 ) -> Result<(), AllocError>
-    ensures spelled { OnOk result (out.new.items ≡ out.old.items ++ spell_data_bar ends.entry.0.now ends.entry.1.now colors.0 colors.1 is_gradient show_value) }
-    ensures fits { OnOk result (IfSome ends.entry.0.now IsKnownCfvo → IfSome ends.entry.1.now IsKnownCfvo → FitsDataBar ends.entry.0.now ends.entry.1.now colors.0 colors.1) }
+    ensures spelled { OnOk result (out.new.items ≡ out.old.items ++ spell_data_bar ends.0.now ends.1.now colors.0 colors.1 is_gradient show_value) }
+    ensures fits { OnOk result (IfSome ends.0.now IsKnownCfvo → IfSome ends.1.now IsKnownCfvo → FitsDataBar ends.0.now ends.1.now colors.0 colors.1) }
 {
     let (min, max) = ends;
     Option::<CfvoPart>::put(out, min)?;

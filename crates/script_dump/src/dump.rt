@@ -8,8 +8,7 @@ ghost use Rattle.base_styles.specs.DefaultStyle.{default_style};
 ghost use Rattle.cell_wire.specs.StyleBytes.{spell_style};
 ghost use Rattle.script_lines.specs.Escapes.{escaped};
 ghost use Rattle.script_dump.specs.Text.{hex};
-ghost use Rattle.script_dump.specs.Dump.{flag_text, state_text, color_text, same_style, sides_text, style_text, content_word, content_text, book_line, sheet_line, sheet_lines, head_lines, dump};
-ghost use Rattle.script_dump.specs.Dump.{attr_line, cell_line, link_line, merge_line, rule_line};
+ghost use Rattle.script_dump.specs.Dump.{flag_text, state_text, color_text, same_style, sides_text, style_text, content_word, content_text, book_line, sheet_line, cell_line, sheet_lines, head_lines, dump};
 
 use crate::english::push_english;
 use crate::lines::{push_columns, push_links, push_rows};
@@ -232,35 +231,17 @@ fn push_cells(alloc: Global, out: &mut Vec<u8>, sheet: &Worksheet) -> Result<(),
     Ok(())
 }
 
-/// Writes the line of a sheet, and those of its rows and columns.
-fn push_axes(alloc: Global, out: &mut Vec<u8>, sheet: &Worksheet) -> Result<(), EditError>
-    ensures text { OnOk result (out.new.items ≡ out.old.items ++ (sheet_line sheet.now
-        ++ (flat_map (attr_line (codes "row")) (fin.entries sheet.now.rows) ++ flat_map (attr_line (codes "column")) (fin.entries sheet.now.columns)))) }
-    ensures memory { IsOkUnless result NoMemory }
-{
-    push_sheet_line(alloc, out, sheet)?;
-    push_rows(alloc, out, sheet)?;
-    push_columns(alloc, out, sheet)
-}
-
-/// Writes the lines of a sheet's merges, cells, links and conditional rules.
-fn push_places(alloc: Global, out: &mut Vec<u8>, sheet: &Worksheet) -> Result<(), EditError>
-    ensures text { OnOk result (out.new.items ≡ out.old.items ++ (flat_map merge_line sheet.now.merges
-        ++ (flat_map cell_line (fin.entries sheet.now.cells) ++ (flat_map link_line (fin.entries sheet.now.links) ++ flat_map rule_line sheet.now.formattings)))) }
-    ensures memory { IsOkUnless result NoMemory }
-{
-    push_merges(alloc, out, sheet)?;
-    push_cells(alloc, out, sheet)?;
-    push_links(alloc, out, sheet)?;
-    push_rules(alloc, out, sheet)
-}
-
 fn push_sheet(alloc: Global, out: &mut Vec<u8>, sheet: &Worksheet) -> Result<(), EditError>
     ensures text { OnOk result (out.new.items ≡ out.old.items ++ sheet_lines sheet.now) }
     ensures memory { IsOkUnless result NoMemory }
 {
-    push_axes(alloc, out, sheet)?;
-    push_places(alloc, out, sheet)
+    push_sheet_line(alloc, out, sheet)?;
+    push_rows(alloc, out, sheet)?;
+    push_columns(alloc, out, sheet)?;
+    push_merges(alloc, out, sheet)?;
+    push_cells(alloc, out, sheet)?;
+    push_links(alloc, out, sheet)?;
+    push_rules(alloc, out, sheet)
 }
 
 fn push_book_line(out: &mut Vec<u8>, workbook: &Workbook) -> Result<(), AllocError>

@@ -1,8 +1,9 @@
 use crate::{
-    EditError, Error, Exact, Function, Language, Locale, Zone, copy_of, function_by_name,
-    get_language, get_locale, get_zone, read_boolean, read_error, same,
+    Decimal, Error, Function, Language, Locale, Zone, function_by_name, get_language, get_locale,
+    get_zone, read_boolean, read_error,
 };
 use std::process::Abort;
+use std::test::Fail;
 
 mod axis;
 mod decimal;
@@ -11,12 +12,6 @@ mod shared;
 mod styles;
 mod tables;
 mod values;
-
-/// Whether a copy is the same as its value.
-fn is_copied<T: Exact + Drop>(value: &T) -> Result<bool, EditError> {
-    let copy = copy_of(value)?;
-    Ok(same(&copy, value))
-}
 
 fn check_function(rt: &impl Abort, function: Function, names: [&str; 4]) {
     for (language, name) in Language::ALL.iter().zip(names.iter()) {
@@ -261,4 +256,37 @@ fn calendars(rt: HostRuntime) {
         assert_eq!(rt; locale.months(), months.as_slice());
         assert_eq!(rt; locale.short_months(), short_months.as_slice());
     }
+}
+
+/// Numbers of the original's tests of progressions, and how they print.
+#[test]
+fn decimals_print(rt: HostRuntime) -> Result<(), Fail> {
+    for (text, printed) in [
+        ("1.5", "1.5"),
+        ("2.0", "2"),
+        ("2.5", "2.5"),
+        ("3.5", "3.5"),
+        ("0.001", "0.001"),
+        ("0.004", "0.004"),
+        ("-1.5", "-1.5"),
+        ("-1.0", "-1"),
+        ("-0.5", "-0.5"),
+        ("10.5", "10.5"),
+        ("10000.4000000007", "10000.4000000007"),
+        ("10000.400000001", "10000.400000001"),
+        ("3000000", "3000000"),
+        ("1000.50", "1000.5"),
+        ("2000.50", "2000.5"),
+        ("3000.5", "3000.5"),
+        ("-100002.5", "-100002.5"),
+        ("100.5.2", "none"),
+        ("1,000", "none"),
+    ] {
+        let text_of = match Decimal::read(text, Locale::En) {
+            Some(number) => number.round15().print(rt.alloc(), Locale::En)?,
+            None => String::from_str(rt.alloc(), "none")?,
+        };
+        assert_eq!(rt; text_of.as_str(), printed, "at {text}");
+    }
+    Ok(())
 }

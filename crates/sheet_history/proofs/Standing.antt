@@ -78,6 +78,7 @@ pub placed_where_stands : (a : Along) (e : EditKind) (id : ℕ) (kept : KeptLine
     → KeptLie kept.formattings → ArePlacedLines kept
 unfolding cells_fit formulas_stand
 placed_where_stands a e id kept book fit stand lie = record {
+  formattings = lie;
   cells = λ place cell found. placed_cell place cell (entry_holds position_cmp position_total exact_positions (λ (entry : Position × Cell). fits_at entry.0 entry.1.content) kept.cells fit place cell found);
   formulas = λ key tree found. placed_tree key.place tree (tree_fits a e id (sheet_of book key.sheet) key.place tree
       (entry_holds sheet_place_cmp sheet_place_total exact_sheet_places (λ (entry : SheetPlace × Node). tree_stands a e id (sheet_of book entry.0.sheet) entry.0.place entry.1) kept.formulas stand key tree found));

@@ -36,8 +36,7 @@ fn put_rule_change(out: &mut Vec<u8>, change: &RuleChange) -> Result<(), AllocEr
 {
     u64::put(out, &change.index)?;
     Option::<FormattingPart>::put(out, &change.old)?;
-    Option::<FormattingPart>::put(out, &change.new)?;
-    Ok(())
+    Option::<FormattingPart>::put(out, &change.new)
 }
 
 /// A change of a conditional rule: its index, and the rule before and after. Each style that is read and

@@ -4,7 +4,7 @@ ghost use Rattle.std.specs.Prelude.{◌≡◌, ◌++◌, OnOk};
 ghost use Rattle.base_values.specs.Answers.{Answers, map_ok};
 ghost use Rattle.sheet_wire.specs.TreesBytes.{spell_trees, trees_at, AreKnownTrees, FitsTrees};
 
-use base_maps::IndexMap;
+use base_maps::{IndexMap, SheetIndexMap};
 use base_shared::Shared;
 use base_styles::Style;
 use base_values::EditError;
@@ -13,7 +13,6 @@ use book_names::KeptTrees;
 use format_rules::ConditionalFormatting;
 use formula_tree::Node;
 use formula_wire::NodePart;
-use index_maps::SheetIndexMap;
 use lines_wire::{FormulasPart, SheetIndexPart};
 use map_wire::{MapPart, read};
 use rule_wire::FormattingPart;

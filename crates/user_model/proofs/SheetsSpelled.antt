@@ -13,7 +13,7 @@ use Rattle.base_values.specs.declared.EditError.TheVariants.{DiffRefused, Invali
 use Rattle.base_values.specs.declared.Position.{Position}
 use Rattle.base_values.specs.Answers.{and_then, map_ok, ok_or}
 use Rattle.base_maps.specs.declared.SheetPlace.{SheetPlace}
-use Rattle.index_maps.specs.declared.SheetIndex.{SheetIndex}
+use Rattle.base_maps.specs.declared.SheetIndex.{SheetIndex}
 use Rattle.formula_tree.specs.declared.Node.{Node}
 use Rattle.formula_tree.specs.Depth.{is_within}
 use Rattle.cell_content.specs.Fitting.{tree_fits_at}

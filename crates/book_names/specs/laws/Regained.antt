@@ -15,8 +15,8 @@ use Rattle.base_maps.specs.laws.Inverses.{own_inverse}
 use Rattle.base_maps.specs.laws.Tagged.{get-all_under}
 use Rattle.formula_names.specs.declared.Reach.{Reach}
 use Rattle.formula_names.specs.declared.Reach.TheVariants.{Sheets}
-use Rattle.index_maps.specs.Tagged.{index_on}
-use Rattle.index_maps.specs.laws.Tagged.{get-all_under as get-indexes_under}
+use Rattle.base_maps.specs.TaggedIndexes.{index_on}
+use Rattle.base_maps.specs.laws.TaggedIndexes.{get-all_under as get-indexes_under}
 use Rattle.sheet_grid.specs.declared.Cell.{Cell}
 use Rattle.sheet_grid.specs.Sheet.{Sheet}
 use Rattle.sheet_grid.specs.Book.{Book}

@@ -23,7 +23,7 @@ use Rattle.cell_content.specs.Fitting.{fits_at}
 use Rattle.cell_content.specs.Lens.{tree_of, with_tree}
 use Rattle.cell_content.specs.laws.LensLaws.{tree_of-with_tree}
 use Rattle.format_rules.specs.Fitting.{StandsInside}
-use Rattle.index_maps.specs.Tagged.{index_on}
+use Rattle.base_maps.specs.TaggedIndexes.{index_on}
 use Rattle.sheet_grid.specs.Arrays.{array_at, arrays_of, where_large, large_array_at, large_arrays_of}
 use Rattle.sheet_grid.specs.declared.Cell.{Cell}
 use Rattle.sheet_grid.specs.declared.LineAttr.{LineAttr}

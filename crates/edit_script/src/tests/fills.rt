@@ -2,7 +2,7 @@
 use super::*;
 
 /// Scripts that fill rows and columns, each with its answers.
-const FILLS: [(&str, &str); 15] = [
+const FILLS: [(&str, &str); 13] = [
     (
         "set 0 A1 1\nset 0 A2 2\nset 0 A3 3\nfill-rows 0 A1:A3 5\nget 0 A4\nget 0 A5\nfill-rows 0 A1:A3 2\nundo\nshow\nredo\nget 0 A5",
         concat!(
@@ -74,14 +74,6 @@ const FILLS: [(&str, &str); 15] = [
             "cell A2 010000000000000d000000000000000000000000000767656e6572616c00 formula =B2\nlink A1 u\n",
             "link A2 u\nend\n"
         ),
-    ),
-    (
-        "set 0 A1 1\nundo\nfill-rows 0 A1:A2 2\nfill-columns 0 A1:A2 16385\nredo\nget 0 A1",
-        "ok\nok\nerror NothingToFill\nerror InvalidColumn\nok\nvalue 1\n",
-    ),
-    (
-        "set 0 A1 1\nfill-rows 0 A1:A2 2\nfill-columns 0 A1:A2 16385\nundo\nget 0 A1",
-        "ok\nerror NothingToFill\nerror InvalidColumn\nok\nvalue \n",
     ),
 ];
 

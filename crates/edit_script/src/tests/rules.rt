@@ -15,7 +15,7 @@ const ONE_RULE: &str = concat!(
 );
 
 /// Scripts that edit conditional rules, each with its answers.
-const RULES: [(&str, &str); 10] = [
+const RULES: [(&str, &str); 8] = [
     (
         "rule 0 B2:B4 B2>1\nshow\ndelete-rows 0 2 1\nshow\nundo\nshow",
         concat!(
@@ -63,30 +63,6 @@ const RULES: [(&str, &str); 10] = [
             "merge B1:C1\ncell A1 - value 1\nlink A1 u\nsheet 2 visible 1 0 0 - Sheet1 (2)\n",
             "merge B1:C1\ncell A1 - value 1\nlink A1 u\nrule 1 A1 000001",
             "000000000000000d000000000000000000000000000767656e6572616c0000\nend\n"
-        ),
-    ),
-    (
-        "rule 0 B2:B4 TRUE\nrule 0 B6 FALSE\nrule-swap 0 1 0\nrule-delete 0 0\nshow\nundo\nshow\nundo\nshow\nundo\nundo\nshow",
-        concat!(
-            "ok\nok\nok\nok\nbook en UTC workbook\nsheet 1 visible 1 0 0 - Sheet1\n",
-            "rule 1 B6 000000000000000000000d000000000000000000000000000767656e6572616c0000\nend\n",
-            "ok\nbook en UTC workbook\nsheet 1 visible 1 0 0 - Sheet1\n",
-            "rule 2 B2:B4 000001000000000000000d000000000000000000000000000767656e6572616c0000\n",
-            "rule 1 B6 000000000000000000000d000000000000000000000000000767656e6572616c0000\nend\n",
-            "ok\nbook en UTC workbook\nsheet 1 visible 1 0 0 - Sheet1\n",
-            "rule 1 B2:B4 000001000000000000000d000000000000000000000000000767656e6572616c0000\n",
-            "rule 2 B6 000000000000000000000d000000000000000000000000000767656e6572616c0000\nend\n",
-            "ok\nok\nbook en UTC workbook\nsheet 1 visible 1 0 0 - Sheet1\nend\n"
-        ),
-    ),
-    (
-        concat!(
-            "set 0 A1 1\nrule 1 A0 1+\nrule 0 A0 1+\nrule 0 A1 1+\nrule-delete 1 0\nrule-delete 0 0\nrule-swap 1 0 0\n",
-            "undo\nget 0 A1\nredo\nget 0 A1"
-        ),
-        concat!(
-            "ok\nerror InvalidSheet\nerror InvalidArea\nerror BadFormula\nerror InvalidSheet\nerror RuleIndex\n",
-            "error InvalidSheet\nok\nvalue \nok\nvalue 1\n"
         ),
     ),
 ];

@@ -2,7 +2,7 @@
 use super::*;
 
 /// Scripts that set what a workbook has as a whole, each with its answers.
-const SETTINGS: [(&str, &str); 9] = [
+const SETTINGS: [(&str, &str); 7] = [
     (
         "zone Mars\nlocale xx\nlanguage xx\nlocale EN\nlocale \nzone\nlanguage de x",
         "error ZoneName\nerror LocaleName\nerror LanguageName\nerror LocaleName\nerror BadLine\nerror BadLine\nerror BadLine\n",
@@ -43,25 +43,6 @@ const SETTINGS: [(&str, &str); 9] = [
     (
         "set 0 A1 TRUE\nlanguage de\nget 0 A1\nset 0 A2 FALSCH\nlanguage en\nget 0 A2",
         "ok\nok\nvalue WAHR\nok\nok\nvalue FALSE\n",
-    ),
-    (
-        "set 0 A1 1\ntitle plan\ntitle plan\nundo\nshow\nundo\nget 0 A1",
-        concat!(
-            "ok\nok\nok\nok\nbook en UTC workbook\nsheet 1 visible 1 0 0 - Sheet1\ncell A1 - value 1\nend\n",
-            "ok\nvalue \n"
-        ),
-    ),
-    (
-        concat!(
-            "locale xx\nzone Mars\nlanguage xx\nset 0 A1 TRUE\nlanguage es\nlocale de\nzone Europe/Madrid\nshow\n",
-            "undo\nshow\nget 0 A1\nundo\nundo\nget 0 A1"
-        ),
-        concat!(
-            "error LocaleName\nerror ZoneName\nerror LanguageName\nok\nok\nok\nok\n",
-            "book de Europe/Madrid workbook\nsheet 1 visible 1 0 0 - Sheet1\ncell A1 - value TRUE\nend\n",
-            "ok\nbook de UTC workbook\nsheet 1 visible 1 0 0 - Sheet1\ncell A1 - value TRUE\nend\n",
-            "value VERDADERO\nok\nok\nvalue \n"
-        ),
     ),
 ];
 

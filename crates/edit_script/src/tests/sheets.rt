@@ -16,7 +16,7 @@ const ONE_SHEET: &str = concat!(
 );
 
 /// Scripts that edit the list of the sheets and the fields of sheets, each with its answers.
-const SHEETS: [(&str, &str); 14] = [
+const SHEETS: [(&str, &str); 13] = [
     (
         "move-sheet 0 1\nmove-sheet 1 0\nmove-sheet 1 1",
         "error InvalidSheet\nerror InvalidSheet\nerror InvalidSheet\n",
@@ -72,17 +72,10 @@ const SHEETS: [(&str, &str); 14] = [
         "new-sheet\ndelete-sheet 0\nnew-sheet\nshow",
         "ok\nok\nok\nbook en UTC workbook\nsheet 2 visible 1 0 0 - Sheet2\nsheet 3 visible 1 0 0 - Sheet1\nend\n",
     ),
-    (
-        "duplicate-sheet 0\ncolor 1 #FF0000\nhide-sheet 0\ngrid 1 0\nshow",
-        concat!(
-            "ok\nok\nok\nok\nbook en UTC workbook\nsheet 1 hidden 1 0 0 - Sheet1\n",
-            "sheet 2 visible 0 0 0 #FF0000 Sheet1 (2)\nend\n"
-        ),
-    ),
 ];
 
 /// Scripts that rename sheets, each with its answers.
-const RENAMINGS: [(&str, &str); 11] = [
+const RENAMINGS: [(&str, &str); 8] = [
     (
         "set 0 A1 =Data!B1\nset 0 A2 =Sheet1!B1\nrename-sheet 0 Data\nget 0 A2\nundo\nget 0 A1\nget 0 A2",
         "ok\nok\nok\nvalue =Data!B1\nok\nvalue =Data!B1\nvalue =Sheet1!B1\n",
@@ -114,24 +107,6 @@ const RENAMINGS: [(&str, &str); 11] = [
     (
         "rename-sheet 0 a\nset 0 A1 =a!B1\nundo\nundo\nnew-sheet\nshow",
         "ok\nok\nok\nok\nok\nbook en UTC workbook\nsheet 1 visible 1 0 0 - Sheet1\nsheet 2 visible 1 0 0 - Sheet2\nend\n",
-    ),
-    (
-        "new-sheet\nrename-sheet 2 a\nrename-sheet 0 SHEET2\nrename-sheet 0\nundo\nrename-sheet 0 Sheet1\nredo\nshow",
-        concat!(
-            "ok\nerror InvalidSheet\nerror SheetName\nerror SheetName\nok\nok\nok\nbook en UTC workbook\n",
-            "sheet 1 visible 1 0 0 - Sheet1\nsheet 2 visible 1 0 0 - Sheet2\nend\n"
-        ),
-    ),
-    (
-        "set 0 A1 1\nrename-sheet 0 Sheet1\nundo\nget 0 A1",
-        "ok\nok\nok\nvalue \n",
-    ),
-    (
-        "set 0 A1 1\nundo\nrename-sheet 0 sheet1\nredo\nshow\nundo\nshow",
-        concat!(
-            "ok\nok\nok\nok\nbook en UTC workbook\nsheet 1 visible 1 0 0 - sheet1\nend\n",
-            "ok\nbook en UTC workbook\nsheet 1 visible 1 0 0 - Sheet1\nend\n"
-        ),
     ),
 ];
 

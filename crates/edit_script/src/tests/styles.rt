@@ -2,7 +2,7 @@
 use super::*;
 
 /// Scripts that size, hide and freeze rows and columns, each with its answers.
-const LINE_SIZES: [(&str, &str); 13] = [
+const LINE_SIZES: [(&str, &str); 10] = [
     (
         "height 0 1 1 10\nset 0 B1 x\nshow\nundo\nshow",
         concat!(
@@ -60,32 +60,10 @@ const LINE_SIZES: [(&str, &str); 13] = [
             "column 2 300 0 -\nend\n"
         ),
     ),
-    (
-        concat!(
-            "height 0 1 2 80\nwidth 0 2 3 300\nhide-rows 0 2 2\nhide-columns 0 3 4\nshow-columns 0 3 3\nshow\nundo\nshow\n",
-            "width 0 1 1 -1\nhide-rows 0 2 1\nredo\nshow"
-        ),
-        concat!(
-            "ok\nok\nok\nok\nok\nbook en UTC workbook\nsheet 1 visible 1 0 0 - Sheet1\nrow 1 80 0 -\nrow 2 80 1 -\n",
-            "column 2 300 0 -\ncolumn 3 300 0 -\ncolumn 4 - 1 -\nend\nok\nbook en UTC workbook\n",
-            "sheet 1 visible 1 0 0 - Sheet1\nrow 1 80 0 -\nrow 2 80 1 -\n",
-            "column 2 300 0 -\ncolumn 3 300 1 -\ncolumn 4 - 1 -\nend\nerror NegativeSize\nerror InvalidArea\nok\n",
-            "book en UTC workbook\nsheet 1 visible 1 0 0 - Sheet1\nrow 1 80 0 -\nrow 2 80 1 -\n",
-            "column 2 300 0 -\ncolumn 3 300 0 -\ncolumn 4 - 1 -\nend\n"
-        ),
-    ),
-    (
-        "set 0 A1 1\nfreeze-rows 0 1048576\nfreeze-columns 0 -1\nundo\nget 0 A1",
-        "ok\nerror FrozenCount\nerror FrozenCount\nok\nvalue \n",
-    ),
-    (
-        "freeze-rows 0 1048575\nfreeze-columns 0 16383\nundo\nshow",
-        "ok\nok\nok\nbook en UTC workbook\nsheet 1 visible 1 1048575 0 - Sheet1\nend\n",
-    ),
 ];
 
 /// Scripts that change styles and clear, each with its answers.
-const STYLES: [(&str, &str); 10] = [
+const STYLES: [(&str, &str); 9] = [
     (
         concat!(
             "style 0 A1 font.x true\nstyle 0 A1 font.size_delta 2147483647\nstyle 0 A0:A1 font.x true\n",
@@ -155,15 +133,6 @@ const STYLES: [(&str, &str); 10] = [
             "row 1 - 0 010000000000000d000000000000000000000000000767656e6572616c00\n",
             "column 1 - 0 000000000000000d000000000000000000000000000767656e6572616c00\n",
             "cell A1 010000000000000d000000000000000000000000000767656e6572616c00 empty\ncell A2 - empty\nend\n"
-        ),
-    ),
-    (
-        "style 0 A1:B1 font.size_delta 2\nstyle 0 A1:C1 font.size_delta -14\nstyle 0 A0 font.x 1\nshow\nundo\nshow",
-        concat!(
-            "ok\nerror StyleValue\nerror InvalidArea\nbook en UTC workbook\nsheet 1 visible 1 0 0 - Sheet1\n",
-            "cell A1 000000000000000f000000000000000000000000000767656e6572616c00 empty\n",
-            "cell B1 000000000000000f000000000000000000000000000767656e6572616c00 empty\nend\n",
-            "ok\nbook en UTC workbook\nsheet 1 visible 1 0 0 - Sheet1\nend\n"
         ),
     ),
 ];

@@ -1,32 +1,27 @@
-// The conditional rules of a sheet.
+// The conditional rules of a sheet, and which of them workbooks may have. What is expected was taken
+// from the rules of docs/MODEL.md.
 ghost use Rattle.format_rules.specs.Canonical.{IsCanonicalFormatting};
 
 use base_axis::MergedCell;
 use base_shared::Shared;
 use base_styles::Style;
+use base_tables::{Locale, Zone};
 use base_values::{EditError, Items, copy_of, same};
 use format_rules::{CfRule, ConditionalFormatting, RuleList, has_canonical_numbers};
 use formula_tree::{Corner, Node};
-use sheet_grid::Worksheet;
+use sheet_grid::{Workbook, Worksheet};
+use sheet_rules::broken_rule;
 use std::alloc::Global;
 use std::test::Fail;
 
-/// Puts the two cells of column B from a row on behind others.
-fn push_part(parts: &mut Items<MergedCell>, row: Option<i32>) -> Result<(), EditError> {
-    if let Some(row) = row {
-        parts.push(MergedCell {
-            row,
-            column: 2,
-            width: 1,
-            height: 2,
-        })?;
+/// The two cells of column B from a row on.
+fn cells_of_b(row: i32) -> MergedCell {
+    MergedCell {
+        row,
+        column: 2,
+        width: 1,
+        height: 2,
     }
-    Ok(())
-}
-
-fn push_parts(parts: &mut Items<MergedCell>, rows: [Option<i32>; 2]) -> Result<(), EditError> {
-    push_part(parts, rows[0])?;
-    push_part(parts, rows[1])
 }
 
 /// A rule of the cell so many columns to the right.
@@ -44,16 +39,18 @@ fn beside(alloc: Global, columns: i32) -> Result<CfRule, EditError> {
     })
 }
 
-/// That rule on the two cells of column B from each of these rows on.
+/// That rule on these parts.
 fn rule_on(
     alloc: Global,
     columns: i32,
-    rows: [Option<i32>; 2],
+    parts: &[MergedCell],
 ) -> Result<ConditionalFormatting, EditError> {
-    let mut parts = Items::empty(alloc);
-    push_parts(&mut parts, rows)?;
+    let mut items = Items::empty(alloc);
+    for part in parts {
+        items.push(*part)?;
+    }
     Ok(ConditionalFormatting {
-        parts,
+        parts: items,
         rule: beside(alloc, columns)?,
         priority: 1,
     })
@@ -68,14 +65,9 @@ fn alone(alloc: Global, formatting: ConditionalFormatting) -> Result<RuleList, E
     Ok(RuleList::new(items))
 }
 
-/// A list of a rule of the cell so many columns to the right, on the two cells of column B from each of
-/// these rows on.
-pub(crate) fn rules_on(
-    alloc: Global,
-    columns: i32,
-    rows: [Option<i32>; 2],
-) -> Result<RuleList, EditError> {
-    let formatting = rule_on(alloc, columns, rows)?;
+/// A list of a rule of the cell so many columns to the right, on these parts.
+fn rules(alloc: Global, columns: i32, parts: &[MergedCell]) -> Result<RuleList, EditError> {
+    let formatting = rule_on(alloc, columns, parts)?;
     if has_canonical_numbers(&formatting.rule) {
         alone(alloc, formatting)
     } else {
@@ -83,30 +75,39 @@ pub(crate) fn rules_on(
     }
 }
 
-/// Whether a sheet has the one rule that was put there, its copy has it too, and a bare sheet differs.
-fn has_rule(bare: &Worksheet, sheet: &Worksheet, put: &RuleList) -> Result<bool, EditError> {
-    let is_there = put.as_slice().len() == 1 && same(sheet.conditional_formatting(), put);
-    let is_copied = same(&copy_of(sheet)?, sheet);
-    Ok(is_there && is_copied && !same(bare, sheet))
-}
-
-/// Whether a copy of a bare sheet has no rule before one is put there, and then that one.
-fn takes_rule(alloc: Global, bare: &Worksheet, sheet: &mut Worksheet) -> Result<bool, EditError> {
-    let has_none = sheet.conditional_formatting().as_slice().is_empty();
-    sheet.set_conditional_formatting(rules_on(alloc, 1, [Some(1), None])?);
-    let put = rules_on(alloc, 1, [Some(1), None])?;
-    let has_one = has_rule(bare, sheet, &put)?;
-    Ok(has_none && has_one)
-}
-
-fn new_sheet_takes_rule(alloc: Global) -> Result<bool, EditError> {
-    let bare = Worksheet::new(alloc, 1, "Sheet1")?;
-    let mut sheet = copy_of(&bare)?;
-    takes_rule(alloc, &bare, &mut sheet)
-}
-
+/// A sheet has no rule before some are put there, and its copy has them too.
 #[test]
 fn a_sheet_has_rules(rt: HostRuntime) -> Result<(), Fail> {
-    assert!(rt; new_sheet_takes_rule(rt.alloc())?);
+    let alloc = rt.alloc();
+    let bare = Worksheet::new(alloc, 1, "Sheet1")?;
+    let mut sheet = copy_of(&bare)?;
+    assert!(rt; sheet.conditional_formatting().as_slice().is_empty());
+    sheet.set_conditional_formatting(rules(alloc, 1, &[cells_of_b(1)])?);
+    let put = rules(alloc, 1, &[cells_of_b(1)])?;
+    assert_eq!(rt; put.as_slice().len(), 1);
+    assert!(rt; same(sheet.conditional_formatting(), &put));
+    assert!(rt; same(&copy_of(&sheet)?, &sheet));
+    assert!(rt; !same(&bare, &sheet));
+    Ok(())
+}
+
+/// The rule that a new workbook breaks whose sheet has that conditional rule.
+fn broken_by(alloc: Global, columns: i32, parts: &[MergedCell]) -> Result<Option<u8>, EditError> {
+    let put = rules(alloc, columns, parts)?;
+    let mut book = Workbook::new_empty(alloc, "book", Locale::En, Zone::Utc)?;
+    book.worksheet_mut(0)?.set_conditional_formatting(put);
+    Ok(broken_rule(&book))
+}
+
+/// Formulas stand at the first place of the first part, and each part lies inside the sheet. Without a
+/// part it is not asked where the formula leads.
+#[test]
+fn formulas_and_parts(rt: HostRuntime) -> Result<(), Fail> {
+    let alloc = rt.alloc();
+    let (first, outside) = (cells_of_b(1), cells_of_b(1_048_576));
+    assert_eq!(rt; broken_by(alloc, -1, &[first])?, None);
+    assert_eq!(rt; broken_by(alloc, -2, &[first])?, Some(6));
+    assert_eq!(rt; broken_by(alloc, -1, &[first, outside])?, Some(9));
+    assert_eq!(rt; broken_by(alloc, -2, &[])?, Some(9));
     Ok(())
 }

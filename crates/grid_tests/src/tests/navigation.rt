@@ -13,8 +13,6 @@ ghost use Rattle.std.specs.Prelude.{IfOk};
 ghost use Rattle.sheet_navigation.specs.Navigated.{MergesLie};
 
 use base_axis::MergedCell;
-use base_shared::Shared;
-use base_styles::Style;
 use base_values::{EditError, Items};
 use sheet_grid::{DefaultStyle, Worksheet};
 use sheet_navigation::{Navigate, NavigationDirection};
@@ -44,24 +42,14 @@ const FILLED: [(i32, i32); 20] = [
     (9, 5),
 ];
 
-fn fill(sheet: &mut Worksheet, style: &Shared<Style>) -> Result<(), EditError> {
-    for (row, column) in FILLED {
-        sheet.set_cell_with_boolean(row, column, true, style)?;
-    }
-    Ok(())
-}
-
-fn filled(alloc: Global) -> Result<Worksheet, EditError> {
-    let style = DefaultStyle::new(alloc)?;
-    let mut sheet = Worksheet::new(alloc, 1, "Sheet1")?;
-    fill(&mut sheet, style.shared())?;
-    Ok(sheet)
-}
-
 fn sheet(alloc: Global) -> Result<Worksheet, EditError>
     ensures { IfOk result MergesLie }
 {
-    let mut sheet = filled(alloc)?;
+    let mut sheet = Worksheet::new(alloc, 1, "Sheet1")?;
+    let style = DefaultStyle::new(alloc)?;
+    for (row, column) in FILLED {
+        sheet.set_cell_with_boolean(row, column, true, style.shared())?;
+    }
     let mut merges = Items::empty(alloc);
     merges.push(MergedCell {
         row: 2,
@@ -108,50 +96,21 @@ fn arrival(start: (i32, i32), down: i32, right: i32) -> (i32, i32) {
     (row, column)
 }
 
-/// The first of the 25 places from which a call arrives elsewhere than a walk.
-fn first_astray(
-    sheet: &Worksheet,
-    direction: NavigationDirection,
-    down: i32,
-    right: i32,
-) -> Result<Option<(i32, i32)>, EditError>
-    requires { MergesLie sheet.now }
-{
-    for at in 0..25 {
-        let (row, column) = (at / 5 + 1, at % 5 + 1);
-        let reached = sheet.navigate_to_edge_in_direction(row, column, direction)?;
-        if reached != arrival((row, column), down, right) {
-            return Ok(Some((row, column)));
-        }
-    }
-    Ok(None)
-}
-
-/// That place in one direction, then in the next one.
-fn astray(sheet: &Worksheet) -> Result<Option<(i32, i32)>, EditError>
-    requires { MergesLie sheet.now }
-{
+#[test]
+fn navigation_arrives_where_a_plain_walk_does(rt: HostRuntime) -> Result<(), Fail> {
+    let sheet = sheet(rt.alloc())?;
     for (direction, down, right) in [
         (NavigationDirection::Left, 0, -1),
         (NavigationDirection::Right, 0, 1),
         (NavigationDirection::Up, -1, 0),
         (NavigationDirection::Down, 1, 0),
     ] {
-        let place = first_astray(sheet, direction, down, right)?;
-        if place.is_some() {
-            return Ok(place);
+        for at in 0..25 {
+            let (row, column) = (at / 5 + 1, at % 5 + 1);
+            let reached = sheet.navigate_to_edge_in_direction(row, column, direction)?;
+            let arrived = arrival((row, column), down, right);
+            assert_eq!(rt; reached, arrived, "row {row}, column {column}");
         }
     }
-    Ok(None)
-}
-
-fn astray_on_sheet(alloc: Global) -> Result<Option<(i32, i32)>, EditError> {
-    let sheet = sheet(alloc)?;
-    astray(&sheet)
-}
-
-#[test]
-fn navigation_arrives_where_a_plain_walk_does(rt: HostRuntime) -> Result<(), Fail> {
-    assert_eq!(rt; astray_on_sheet(rt.alloc())?, None);
     Ok(())
 }

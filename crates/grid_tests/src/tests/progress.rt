@@ -3,26 +3,16 @@ use base_tables::Locale;
 use base_values::EditError;
 use sheet_progress::{
     DateProgressionDetector, NumericProgressionDetector, Progression, SequenceDetector,
-    SuffixedNumberDetector,
+    SuffixedNumberDetector, detect_progression,
 };
 use std::alloc::Global;
 
-fn push_texts(alloc: Global, texts: &mut Vec<String>, parted: &str) -> Result<(), EditError> {
+fn texts(alloc: Global, parted: &str) -> Result<Vec<String>, EditError> {
+    let mut texts = Vec::new(alloc);
     for text in parted.split('|') {
         texts.push(String::from_str(alloc, text)?)?;
     }
-    Ok(())
-}
-
-/// How texts go on.
-fn found<D: SequenceDetector>(
-    alloc: Global,
-    detector: &D,
-    parted: &str,
-) -> Result<Option<Progression>, EditError> {
-    let mut texts = Vec::new(alloc);
-    push_texts(alloc, &mut texts, parted)?;
-    detector.detect(alloc, &texts)
+    Ok(texts)
 }
 
 fn shown(alloc: Global, found: Option<Progression>, index: u8) -> Result<String, EditError> {
@@ -31,6 +21,48 @@ fn shown(alloc: Global, found: Option<Progression>, index: u8) -> Result<String,
         None => Ok(String::from_str(alloc, "none")?),
     }
 }
+
+/// Rows of `detect_progression`: the locale, the seed, the texts, an index and the text there.
+const ROWS: [(Locale, &'static str, &'static str, u8, &'static str); 20] = [
+    (Locale::En, "Mar", "1|2|3", 0, "4"),
+    (Locale::En, "Mar", "1|2|3", 1, "5"),
+    (Locale::En, "Mar", "1|2", 0, "3"),
+    (Locale::En, "Mar", "1|3", 0, "5"),
+    (
+        Locale::En,
+        "Mar",
+        "10000.4000000007|10000.4000000008|10000.4000000009",
+        0,
+        "10000.400000001",
+    ),
+    (Locale::En, "Mar", "-100,000.5|-100,001.5", 0, "-100002.5"),
+    (Locale::En, "Mar", "1,0000,000|2,0000,000", 0, "none"),
+    (Locale::De, "Mar", "1.000,5|2.000,5", 0, "3000,5"),
+    (Locale::En, "Mar", "V1.0|V1.5", 0, "V1.10"),
+    (Locale::Fr, "LUNDI", "JANVIER|FÉVRIER", 0, "MARS"),
+    (Locale::En, "Mar", "A01|A02", 0, "A3"),
+    (Locale::En, "Mar", "A0.1|A0.2", 7, "A0.10"),
+    (Locale::En, "Mar", "X10|X20", 0, "X30"),
+    (Locale::En, "Mar", "Mar|Apr", 0, "May"),
+    (Locale::En, "Saturday", "Saturday|Sunday", 0, "Monday"),
+    (Locale::En, "Saturday", "Saturday|Sunday|Monday", 0, "none"),
+    (Locale::En, "Mar", "1|A|foo", 0, "none"),
+    (
+        Locale::En,
+        "Mar",
+        "123456789012.3456|123456789012.3457",
+        0,
+        "123456789012.3458",
+    ),
+    (
+        Locale::En,
+        "Mar",
+        "999999999999998|999999999999999",
+        0,
+        "1000000000000000",
+    ),
+    (Locale::Fr, "Mar", "1\u{202F}000|2\u{202F}000", 0, "3000"),
+];
 
 /// The locale, the texts, an index and the text there.
 const NUMBERS: [(Locale, &'static str, u8, &'static str); 36] = [
@@ -138,15 +170,50 @@ const NAMES: [(Locale, &'static str, &'static str, &'static str); 32] = [
     (Locale::Es, "Lunes", "Lunes|Martes", "Miércoles"),
 ];
 
-fn detects<D: SequenceDetector>(
-    alloc: Global,
-    detector: &D,
-    parted: &str,
+fn is_next(
+    rt: HostRuntime,
+    found: Option<Progression>,
     index: u8,
     wanted: &str,
 ) -> Result<bool, EditError> {
-    let text = shown(alloc, found(alloc, detector, parted)?, index)?;
+    let text = shown(rt.alloc(), found, index)?;
     Ok(text.as_str() == wanted)
+}
+
+fn goes_on_so(
+    rt: HostRuntime,
+    locale: Locale,
+    seed: &str,
+    values: &str,
+    index: u8,
+    wanted: &str,
+) -> Result<bool, EditError> {
+    let texts = texts(rt.alloc(), values)?;
+    let found = detect_progression(rt.alloc(), &texts, locale, seed)?;
+    is_next(rt, found, index, wanted)
+}
+
+fn detects<D: SequenceDetector>(
+    rt: HostRuntime,
+    detector: &D,
+    values: &str,
+    index: u8,
+    wanted: &str,
+) -> Result<bool, EditError> {
+    let texts = texts(rt.alloc(), values)?;
+    let found = detector.detect(rt.alloc(), &texts)?;
+    is_next(rt, found, index, wanted)
+}
+
+#[test]
+fn goes_on(rt: HostRuntime) -> Result<(), EditError> {
+    for (locale, seed, values, index, wanted) in ROWS {
+        assert!(rt;
+            goes_on_so(rt, locale, seed, values, index, wanted)?,
+            "at {values}"
+        );
+    }
+    Ok(())
 }
 
 #[test]
@@ -154,7 +221,7 @@ fn detects_numbers(rt: HostRuntime) -> Result<(), EditError> {
     for (locale, values, index, wanted) in NUMBERS {
         let detector = NumericProgressionDetector { locale };
         assert!(rt;
-            detects(rt.alloc(), &detector, values, index, wanted)?,
+            detects(rt, &detector, values, index, wanted)?,
             "at {values}"
         );
     }
@@ -166,7 +233,7 @@ fn detects_suffixes(rt: HostRuntime) -> Result<(), EditError> {
     let detector = SuffixedNumberDetector { locale: Locale::En };
     for (values, index, wanted) in SUFFIXES {
         assert!(rt;
-            detects(rt.alloc(), &detector, values, index, wanted)?,
+            detects(rt, &detector, values, index, wanted)?,
             "at {values}"
         );
     }
@@ -177,10 +244,7 @@ fn detects_suffixes(rt: HostRuntime) -> Result<(), EditError> {
 fn detects_names(rt: HostRuntime) -> Result<(), EditError> {
     for (locale, case_seed, values, wanted) in NAMES {
         let detector = DateProgressionDetector { locale, case_seed };
-        assert!(rt;
-            detects(rt.alloc(), &detector, values, 0, wanted)?,
-            "at {values}"
-        );
+        assert!(rt; detects(rt, &detector, values, 0, wanted)?, "at {values}");
     }
     Ok(())
 }

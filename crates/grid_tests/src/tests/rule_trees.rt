@@ -104,11 +104,7 @@ impl TreeChange for Seven {
     ghost change_of = { λ _ _. Number (record { mantissa = pos 7; places = 0 }) };
 
     fn changed(&self, alloc: Global, _tree: &Shared<Node>) -> Result<Shared<Node>, EditError> {
-        let seven = Decimal {
-            mantissa: 7,
-            places: 0,
-        };
-        Ok(Shared::new(alloc, Node::Number(seven))?)
+        Ok(number(alloc, 7)?)
     }
 }
 

@@ -1,97 +1,9 @@
-// Styles of cells, rows and columns, by the calls of a sheet.
 use base_shared::Shared;
 use base_styles::Style;
 use base_values::EditError;
 use sheet_grid::{DefaultStyle, Worksheet};
 use std::alloc::Global;
 use std::test::Fail;
-
-/// What is done to a sheet. A style is the default one in bold where it says so, else in italics.
-#[derive(Clone, Copy)]
-enum Step {
-    /// A value at a row and a column.
-    Value(i32, i32),
-    /// A column of this width.
-    Width(i32, i32),
-    /// All columns get a style.
-    Columns(bool),
-    /// A row gets a style.
-    Row(i32, bool),
-    /// A column gets a style.
-    Column(i32, bool),
-    /// A cell at a row and a column gets a style.
-    Cell(i32, i32, bool),
-    /// A row loses its style.
-    PlainRow(i32),
-    /// A column loses its style.
-    PlainColumn(i32),
-}
-
-/// What is asked of a sheet.
-#[derive(Clone, Copy)]
-enum Sight {
-    /// The text at a row and a column shows in bold, or in italics, as it says.
-    Shows(i32, i32, (bool, bool)),
-    /// A column has a style of its own, in bold or not, or has none.
-    Owns(i32, Option<bool>),
-    /// A column has this width.
-    IsWide(i32, i32),
-    /// The cell at a row and a column has a content, or none.
-    IsEmpty(i32, i32, bool),
-}
-
-/// What is done to a new sheet, and what is seen then.
-const CASES: [(&[Step], &[Sight]); 5] = [
-    (
-        &[Step::Value(1, 2), Step::Width(2, 300), Step::Columns(true)],
-        &[
-            Sight::Shows(9, 1, (true, false)),
-            Sight::Shows(9, 16_384, (true, false)),
-            Sight::Shows(1, 2, (false, false)),
-            Sight::IsWide(2, 300),
-        ],
-    ),
-    (
-        &[Step::Row(2, false), Step::Column(3, true)],
-        &[
-            Sight::Shows(2, 3, (false, true)),
-            Sight::Owns(3, Some(true)),
-        ],
-    ),
-    (
-        &[
-            Step::Row(2, false),
-            Step::Column(3, true),
-            Step::PlainRow(2),
-        ],
-        &[Sight::Shows(2, 3, (true, false))],
-    ),
-    (
-        &[
-            Step::Row(2, false),
-            Step::Column(3, true),
-            Step::PlainRow(2),
-            Step::PlainColumn(3),
-        ],
-        &[Sight::Shows(2, 3, (false, false)), Sight::Owns(3, None)],
-    ),
-    // The style of a cell is changed, and its content stays.
-    (
-        &[
-            Step::Value(1, 2),
-            Step::Width(2, 300),
-            Step::Columns(true),
-            Step::Cell(1, 2, false),
-            Step::Cell(5, 5, false),
-        ],
-        &[
-            Sight::Shows(1, 2, (false, true)),
-            Sight::Shows(5, 5, (false, true)),
-            Sight::IsEmpty(1, 2, false),
-            Sight::IsEmpty(5, 5, true),
-        ],
-    ),
-];
 
 /// The default style in bold, or in italics.
 fn drawn(alloc: Global, is_bold: bool) -> Result<Shared<Style>, EditError> {
@@ -101,78 +13,99 @@ fn drawn(alloc: Global, is_bold: bool) -> Result<Shared<Style>, EditError> {
     Ok(Shared::new(alloc, style)?)
 }
 
-fn put_value(alloc: Global, sheet: &mut Worksheet, row: i32, column: i32) -> Result<(), EditError> {
+/// Whether the text at a row and a column shows in bold, and whether in italics.
+fn shown(sheet: &Worksheet, row: i32, column: i32) -> Result<(bool, bool), EditError> {
+    let style = sheet.get_style(row, column)?;
+    Ok((style.font.b, style.font.i))
+}
+
+/// Puts a value at B1, makes column B 300 half pixels wide, and all columns bold.
+fn draw_columns(alloc: Global, sheet: &mut Worksheet) -> Result<(), EditError> {
     let plain = DefaultStyle::new(alloc)?;
-    sheet.set_cell_with_boolean(row, column, true, plain.shared())
+    sheet.set_cell_with_boolean(1, 2, true, plain.shared())?;
+    sheet.set_column_width(2, 300)?;
+    sheet.set_style(&drawn(alloc, true)?)
 }
 
-fn take(alloc: Global, sheet: &mut Worksheet, step: Step) -> Result<(), EditError> {
-    match step {
-        Step::Value(row, column) => put_value(alloc, sheet, row, column),
-        Step::Width(column, width) => sheet.set_column_width(column, width),
-        Step::Columns(is_bold) => sheet.set_style(&drawn(alloc, is_bold)?),
-        Step::Row(row, is_bold) => sheet.set_row_style(row, &drawn(alloc, is_bold)?),
-        Step::Column(column, is_bold) => sheet.set_column_style(column, &drawn(alloc, is_bold)?),
-        Step::Cell(row, column, is_bold) => {
-            sheet.set_cell_style(row, column, &drawn(alloc, is_bold)?)
-        }
-        Step::PlainRow(row) => sheet.delete_row_style(row),
-        Step::PlainColumn(column) => sheet.delete_column_style(column),
-    }
-}
-
-fn take_all(alloc: Global, sheet: &mut Worksheet, steps: &[Step]) -> Result<(), EditError> {
-    for step in steps {
-        take(alloc, sheet, *step)?;
-    }
-    Ok(())
-}
-
-fn is_seen(sheet: &Worksheet, sight: Sight) -> Result<bool, EditError> {
-    match sight {
-        Sight::Shows(row, column, drawing) => {
-            let style = sheet.get_style(row, column)?;
-            Ok((style.font.b, style.font.i) == drawing)
-        }
-        Sight::Owns(column, own) => {
-            let style = sheet.get_column_style(column)?;
-            Ok(style.map(|style| style.font.b) == own)
-        }
-        Sight::IsWide(column, width) => Ok(sheet.get_column_width(column)? == width),
-        Sight::IsEmpty(row, column, is) => Ok(sheet.is_empty_cell(row, column)? == is),
-    }
-}
-
-/// How many of these a sheet shows from the first one on.
-fn seen_count(sheet: &Worksheet, sights: &[Sight]) -> Result<usize, EditError> {
-    for (at, sight) in sights.iter().enumerate() {
-        if !is_seen(sheet, *sight)? {
-            return Ok(at);
-        }
-    }
-    Ok(sights.len())
-}
-
-fn seen_after(
+/// What shows at A9, at XFD9 and at B1 then, and how wide column B is.
+fn columns_shown(
     alloc: Global,
     sheet: &mut Worksheet,
-    steps: &[Step],
-    sights: &[Sight],
-) -> Result<usize, EditError> {
-    take_all(alloc, sheet, steps)?;
-    seen_count(sheet, sights)
+) -> Result<([(bool, bool); 3], i32), EditError> {
+    draw_columns(alloc, sheet)?;
+    let places = [
+        shown(sheet, 9, 1)?,
+        shown(sheet, 9, 16_384)?,
+        shown(sheet, 1, 2)?,
+    ];
+    Ok((places, sheet.get_column_width(2)?))
 }
 
-fn seen_of_new(alloc: Global, steps: &[Step], sights: &[Sight]) -> Result<usize, EditError> {
+fn styled_columns(alloc: Global) -> Result<([(bool, bool); 3], i32), EditError> {
     let mut sheet = Worksheet::new(alloc, 1, "Sheet1")?;
-    seen_after(alloc, &mut sheet, steps, sights)
+    columns_shown(alloc, &mut sheet)
 }
 
 #[test]
-fn cells_and_lines_get_styles(rt: HostRuntime) -> Result<(), Fail> {
-    for (at, case) in CASES.iter().enumerate() {
-        let count = seen_of_new(rt.alloc(), case.0, case.1)?;
-        assert_eq!(rt; count, case.1.len(), "case {at}");
-    }
+fn all_columns_get_a_style(rt: HostRuntime) -> Result<(), Fail> {
+    let expected = ([(true, false), (true, false), (false, false)], 300);
+    assert_eq!(rt; styled_columns(rt.alloc())?, expected);
+    Ok(())
+}
+
+/// What shows at C2 with a row in italics and a column in bold, then without the row's style, and then
+/// without the column's; and whether that column had a bold style of its own.
+fn lines_shown(
+    alloc: Global,
+    sheet: &mut Worksheet,
+) -> Result<([(bool, bool); 3], Option<bool>), EditError> {
+    sheet.set_row_style(2, &drawn(alloc, false)?)?;
+    sheet.set_column_style(3, &drawn(alloc, true)?)?;
+    let both = shown(sheet, 2, 3)?;
+    let own = sheet.get_column_style(3)?.map(|style| style.font.b);
+    sheet.delete_row_style(2)?;
+    let column = shown(sheet, 2, 3)?;
+    sheet.delete_column_style(3)?;
+    Ok(([both, column, shown(sheet, 2, 3)?], own))
+}
+
+fn styled_lines(alloc: Global) -> Result<([(bool, bool); 3], Option<bool>), EditError> {
+    let mut sheet = Worksheet::new(alloc, 1, "Sheet1")?;
+    lines_shown(alloc, &mut sheet)
+}
+
+#[test]
+fn lines_get_styles_and_lose_them(rt: HostRuntime) -> Result<(), Fail> {
+    let expected = ([(false, true), (true, false), (false, false)], Some(true));
+    assert_eq!(rt; styled_lines(rt.alloc())?, expected);
+    Ok(())
+}
+
+/// What shows at B1, which has a value, and at E5, which has none, where both get a style, and whether they
+/// have no content then.
+fn cells_shown(
+    alloc: Global,
+    sheet: &mut Worksheet,
+) -> Result<([(bool, bool); 2], [bool; 2]), EditError> {
+    draw_columns(alloc, sheet)?;
+    sheet.set_cell_style(1, 2, &drawn(alloc, false)?)?;
+    sheet.set_cell_style(5, 5, &drawn(alloc, false)?)?;
+    let styles = [shown(sheet, 1, 2)?, shown(sheet, 5, 5)?];
+    Ok((
+        styles,
+        [sheet.is_empty_cell(1, 2)?, sheet.is_empty_cell(5, 5)?],
+    ))
+}
+
+fn styled_cells(alloc: Global) -> Result<([(bool, bool); 2], [bool; 2]), EditError> {
+    let mut sheet = Worksheet::new(alloc, 1, "Sheet1")?;
+    cells_shown(alloc, &mut sheet)
+}
+
+/// The style of a cell is changed, and its content stays.
+#[test]
+fn cells_get_styles(rt: HostRuntime) -> Result<(), Fail> {
+    let expected = ([(false, true), (false, true)], [false, true]);
+    assert_eq!(rt; styled_cells(rt.alloc())?, expected);
     Ok(())
 }

@@ -1,11 +1,11 @@
-// Conditional rules of two parts, which no script makes, after edits of rows. What is expected was worked out by
-// hand from docs/MODEL.md.
+// Conditional rules of several parts, after edits of rows. What is expected was worked out by hand from
+// docs/MODEL.md.
 ghost use Rattle.format_rules.specs.Canonical.{IsCanonicalFormatting};
 
 use base_axis::MergedCell;
 use base_shared::Shared;
 use base_styles::Style;
-use base_tables::{Locale, Zone};
+use base_tables::{Error, Locale, Zone};
 use base_values::{EditError, Items};
 use format_rules::{CfRule, ConditionalFormatting, RuleList, has_canonical_numbers};
 use formula_tree::{Corner, Node};
@@ -76,60 +76,54 @@ fn one_rule(alloc: Global, parts: &[MergedCell], formula: Node) -> Result<RuleLi
     }
 }
 
-/// Gives the sheet of a workbook the rule of the cell so many rows below on these parts, and no other.
-fn put_rule(
-    alloc: Global,
-    book: &mut Workbook,
-    parts: &[MergedCell],
-    cell: i32,
-) -> Result<(), EditError> {
-    let sheet = book.worksheet_mut(0)?;
-    sheet.set_conditional_formatting(one_rule(alloc, parts, below(cell))?);
-    Ok(())
-}
-
-/// A model whose sheet has that rule, and nothing else.
-fn model_of(alloc: Global, parts: &[MergedCell], cell: i32) -> Result<Model, EditError> {
+/// A model whose sheet has the rule of a formula on these parts, and nothing else.
+fn model_of(alloc: Global, parts: &[MergedCell], formula: Node) -> Result<Model, EditError> {
+    let rules = one_rule(alloc, parts, formula)?;
     let mut book = Workbook::new_empty(alloc, "book", Locale::En, Zone::Utc)?;
-    put_rule(alloc, &mut book, parts, cell)?;
+    book.worksheet_mut(0)?.set_conditional_formatting(rules);
     Model::from_workbook(alloc, book)
 }
 
-/// Whether the sheet of a model has that rule, and no other, once its row 4 is deleted.
-fn has_rule_later(
+/// Whether the sheet of a model has the rule of a formula on these parts, and no other.
+fn has_rule(
     alloc: Global,
-    model: &mut Model,
+    model: &Model,
     parts: &[MergedCell],
-    cell: i32,
+    formula: Node,
 ) -> Result<bool, EditError> {
-    model.delete_rows(0, 4, 1)?;
-    let expected = one_rule(alloc, parts, below(cell))?;
+    let expected = one_rule(alloc, parts, formula)?;
     Ok(*model.workbook().worksheet(0)?.conditional_formatting() == expected)
 }
 
-/// Whether a rule, by its parts and the cell of its formula, becomes another one where row 4 is deleted.
-fn becomes(
-    alloc: Global,
-    parts: &[MergedCell],
-    cell: i32,
-    later: &[MergedCell],
-    there: i32,
-) -> Result<bool, EditError> {
-    let mut model = model_of(alloc, parts, cell)?;
-    has_rule_later(alloc, &mut model, later, there)
+#[test]
+fn parts_and_formulas_follow(rt: HostRuntime) -> Result<(), Fail> {
+    let alloc = rt.alloc();
+    // B2:B4 and B2, row 2 deleted: the part stays, since its first corner is lost, and so is B2.
+    let mut model = model_of(alloc, &[rows(2, 3)], below(0))?;
+    model.delete_rows(0, 2, 1)?;
+    assert!(rt; has_rule(alloc, &model, &[rows(2, 3)], Node::Error(Error::Ref))?);
+    // B2:B4 and B3, two rows inserted before row 3: the part grows, and B3 is B5.
+    let mut model = model_of(alloc, &[rows(2, 3)], below(1))?;
+    model.insert_rows(0, 3, 2)?;
+    assert!(rt; has_rule(alloc, &model, &[rows(2, 5)], below(3))?);
+    // B2:B4 and B3, row 2 moved behind row 6: B2 is B6, B4 is B3, and B3 is B2, one row above B3.
+    let mut model = model_of(alloc, &[rows(2, 3)], below(1))?;
+    model.move_rows_action(0, 2, 1, 4)?;
+    assert!(rt; has_rule(alloc, &model, &[rows(3, 4)], below(-1))?);
+    Ok(())
 }
 
-/// The formula of a rule stands at its first part, and goes with it.
 #[test]
 fn formulas_follow_at_the_first_part(rt: HostRuntime) -> Result<(), Fail> {
-    for (parts, cell, later, there) in [
-        // B8, then B2:B4, with B9: the first part moves, and the second one stays, since its last corner is
-        // lost.
-        ([rows(8, 1), rows(2, 3)], 1, [rows(7, 1), rows(2, 3)], 1),
-        // The other way round the first part stays: B9 is B8, seen from B2 as before.
-        ([rows(2, 3), rows(8, 1)], 7, [rows(2, 3), rows(7, 1)], 6),
-    ] {
-        assert!(rt; becomes(rt.alloc(), &parts, cell, &later, there)?);
-    }
+    let alloc = rt.alloc();
+    // B8, then B2:B4, with B9, row 4 deleted: the first part moves, and the second one stays, since its
+    // last corner is lost.
+    let mut model = model_of(alloc, &[rows(8, 1), rows(2, 3)], below(1))?;
+    model.delete_rows(0, 4, 1)?;
+    assert!(rt; has_rule(alloc, &model, &[rows(7, 1), rows(2, 3)], below(1))?);
+    // The other way round the first part stays: B9 is B8, seen from B2 as before.
+    let mut model = model_of(alloc, &[rows(2, 3), rows(8, 1)], below(7))?;
+    model.delete_rows(0, 4, 1)?;
+    assert!(rt; has_rule(alloc, &model, &[rows(2, 3), rows(7, 1)], below(6))?);
     Ok(())
 }

@@ -1,7 +1,7 @@
 -- The laws of the bytes of places of a workbook, and of indexes of lists of its sheets.
 use Rattle.std.proofs.Common.{◌≤◌, length, refl, arith}
 use Rattle.base_maps.specs.declared.SheetPlace.{SheetPlace}
-use Rattle.index_maps.specs.declared.SheetIndex.{SheetIndex}
+use Rattle.base_maps.specs.declared.SheetIndex.{SheetIndex}
 use Rattle.base_wire.specs.laws.Format.{Format}
 use Rattle.base_wire.specs.laws.Formats.{both_format, made_format}
 use Rattle.base_wire.specs.laws.Parts.{long_format, short_format}

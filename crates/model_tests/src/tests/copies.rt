@@ -1,5 +1,4 @@
-// How models begin, and how one follows another beside steps of its own.
-use super::senders::{Sender, sent};
+// How models begin, and how one follows another.
 use super::*;
 
 /// How a model with these names is refused.
@@ -23,33 +22,24 @@ fn names_are_refused(rt: HostRuntime) {
     }
 }
 
-pub(super) fn is_new(
-    rt: &impl Abort,
-    alloc: Global,
-    model: &UserModel<ClearAll>,
-) -> Result<(), EditError> {
+/// A new workbook has its name and one sheet, and nothing to take back.
+#[test]
+fn a_new_workbook(rt: HostRuntime) -> Result<(), Fail> {
+    let model = new_model(rt.alloc())?;
     assert_eq!(rt; model.get_name(), "book");
     assert_eq!(rt; model.get_model().worksheet(0)?.get_name(), "Sheet1");
     assert!(rt; model.get_model().worksheet(1).is_err());
     assert!(rt; !model.can_undo() && !model.can_redo());
-    assert_eq!(rt; format!(in alloc; "{model:?}")?.as_str(), "UserModel");
+    assert_eq!(rt; format!(in rt.alloc(); "{model:?}")?.as_str(), "UserModel");
     Ok(())
 }
 
-/// A new workbook has its name and one sheet, and nothing to take back.
-#[test]
-fn a_new_workbook(rt: HostRuntime) -> Result<(), Fail> {
-    Ok(run_on_new(&rt, rt.alloc(), Case::NewWorkbook)?)
-}
-
-/// The texts of the first three rows of the first column, one after another.
-fn column_text(alloc: Global, model: &UserModel<ClearAll>) -> Result<String, EditError> {
-    let mut text = String::new(alloc);
-    for row in 1..=3 {
-        text.push_str(model.get_cell_content(0, row, 1)?.as_str())?;
-        text.push(',')?;
-    }
-    Ok(text)
+/// What the first model does and sends: a text, and a row that is taken back.
+fn sent_bytes(model: &mut UserModel<ClearAll>) -> Result<Vec<u8>, EditError> {
+    model.set_user_input(0, 1, 1, "Rent")?;
+    model.insert_rows(0, 1, 1)?;
+    model.undo()?;
+    model.flush_send_queue()
 }
 
 /// The second model follows bytes beside a step of its own, takes that back and makes it again.
@@ -61,12 +51,12 @@ fn it_follows(
 ) -> Result<(), EditError> {
     model.set_user_input(0, 3, 1, "own")?;
     model.apply_external_diffs(bytes)?;
-    assert_eq!(rt; column_text(alloc, model)?.as_str(), "Rent,,own,");
+    assert_eq!(rt; column_text(alloc, model, 3)?.as_str(), "Rent,,own,");
     model.undo()?;
     assert!(rt; !model.can_undo());
-    assert_eq!(rt; column_text(alloc, model)?.as_str(), "Rent,,,");
+    assert_eq!(rt; column_text(alloc, model, 3)?.as_str(), "Rent,,,");
     model.redo()?;
-    assert_eq!(rt; column_text(alloc, model)?.as_str(), "Rent,,own,");
+    assert_eq!(rt; column_text(alloc, model, 3)?.as_str(), "Rent,,own,");
     assert_eq!(rt;
         model.apply_external_diffs(b"no"),
         Err(EditError::ParseDiffs)
@@ -74,20 +64,22 @@ fn it_follows(
     Ok(())
 }
 
-pub(super) fn a_second_follows(
-    rt: &impl Abort,
-    alloc: Global,
-    model: &mut UserModel<ClearAll>,
-) -> Result<(), EditError> {
-    let bytes = sent(alloc, Sender::TextAndRow)?;
-    it_follows(rt, alloc, model, &bytes)
-}
-
 /// A second model follows the bytes of the first. What came from there is no step of its own, and its
 /// own steps can still be taken back.
 #[test]
 fn a_second_model_follows(rt: HostRuntime) -> Result<(), Fail> {
-    Ok(run_on_new(&rt, rt.alloc(), Case::SecondModel)?)
+    let mut first = new_model(rt.alloc())?;
+    let bytes = sent_bytes(&mut first)?;
+    let mut second = new_model(rt.alloc())?;
+    Ok(it_follows(&rt, rt.alloc(), &mut second, &bytes)?)
+}
+
+/// The bytes of a text in A1 and of a merge that covers B1.
+fn merge_bytes(alloc: Global) -> Result<Vec<u8>, EditError> {
+    let mut model = new_model(alloc)?;
+    model.set_user_input(0, 1, 1, "Rent")?;
+    model.merge_cells(&area(1, 1, 2, 1))?;
+    model.flush_send_queue()
 }
 
 /// Two steps at B1 become stale: it is not there any more that their contents can stand.
@@ -108,22 +100,15 @@ fn stale_steps_are_refused(
     Ok(())
 }
 
-pub(super) fn steps_become_stale(
-    rt: &impl Abort,
-    alloc: Global,
-    model: &mut UserModel<ClearAll>,
-) -> Result<(), EditError> {
-    let bytes = sent(alloc, Sender::TextAndMerge)?;
-    stale_steps_are_refused(rt, model, &bytes)
-}
-
 /// A step that an entry of another copy makes impossible is refused, and stays.
 #[test]
 fn a_stale_step_is_refused(rt: HostRuntime) -> Result<(), Fail> {
-    Ok(run_on_new(&rt, rt.alloc(), Case::StaleSteps)?)
+    let bytes = merge_bytes(rt.alloc())?;
+    let mut model = new_model(rt.alloc())?;
+    Ok(stale_steps_are_refused(&rt, &mut model, &bytes)?)
 }
 
-fn the_merge_is_refused(
+fn an_entry_is_refused(
     rt: &impl Abort,
     model: &mut UserModel<ClearAll>,
     bytes: &[u8],
@@ -136,17 +121,28 @@ fn the_merge_is_refused(
     Ok(())
 }
 
-pub(super) fn an_entry_is_refused(
-    rt: &impl Abort,
-    alloc: Global,
-    model: &mut UserModel<ClearAll>,
-) -> Result<(), EditError> {
-    let bytes = sent(alloc, Sender::TextAndMerge)?;
-    the_merge_is_refused(rt, model, &bytes)
-}
-
 /// Where an entry of another copy is refused, those before it stand.
 #[test]
 fn entries_before_a_refused_one_stand(rt: HostRuntime) -> Result<(), Fail> {
-    Ok(run_on_new(&rt, rt.alloc(), Case::RefusedEntry)?)
+    let bytes = merge_bytes(rt.alloc())?;
+    let mut model = new_model(rt.alloc())?;
+    Ok(an_entry_is_refused(&rt, &mut model, &bytes)?)
+}
+
+fn nothing_is_sent(rt: &impl Abort, model: &mut UserModel<ClearAll>) -> Result<(), EditError> {
+    model.move_rows_action(9, 0, 0, 5)?;
+    model.move_columns_action(9, 0, 1, 0)?;
+    assert!(rt; !model.can_undo());
+    assert_eq!(rt; model.flush_send_queue()?.len(), 12);
+    model.delete_cell_link(0, 1, 1)?;
+    assert!(rt; model.can_undo());
+    assert_eq!(rt; model.flush_send_queue()?.len(), 21);
+    Ok(())
+}
+
+/// An accepted edit that changes nothing is a step and is sent, and a silent one is neither.
+#[test]
+fn edits_that_change_nothing(rt: HostRuntime) -> Result<(), Fail> {
+    let mut model = new_model(rt.alloc())?;
+    Ok(nothing_is_sent(&rt, &mut model)?)
 }

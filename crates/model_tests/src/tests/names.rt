@@ -13,21 +13,26 @@ fn listed(names: &Items<ScopedName>, at: usize) -> (&str, Option<u32>, &str) {
 }
 
 /// A name that may come is told by the id of its sheet, and nothing changes.
-pub(super) fn names_are_tested(
-    rt: &impl Abort,
-    model: &mut UserModel<ClearAll>,
-) -> Result<(), EditError> {
+fn names_are_tested(rt: &impl Abort, model: &mut UserModel<ClearAll>) -> Result<(), EditError> {
     model.new_sheet()?;
     model.new_defined_name("Rate", None, "=$A$1")?;
-    for (name, scope, formula, answer) in [
-        ("Tax", None, "1", Ok(None)),
-        ("Rate", Some(1), "=1", Ok(Some(2))),
-        ("rate", None, "=1", Err(EditError::NameTaken)),
-        ("Falso", None, "=1+", Err(EditError::BadName)),
-        ("Tax", None, "=1+", Err(EditError::BadFormula)),
-    ] {
-        assert_eq!(rt; model.is_valid_defined_name(name, scope, formula), answer);
-    }
+    assert_eq!(rt; model.is_valid_defined_name("Tax", None, "1")?, None);
+    assert_eq!(rt;
+        model.is_valid_defined_name("Rate", Some(1), "=1")?,
+        Some(2)
+    );
+    assert_eq!(rt;
+        model.is_valid_defined_name("rate", None, "=1"),
+        Err(EditError::NameTaken)
+    );
+    assert_eq!(rt;
+        model.is_valid_defined_name("Falso", None, "=1+"),
+        Err(EditError::BadName)
+    );
+    assert_eq!(rt;
+        model.is_valid_defined_name("Tax", None, "=1+"),
+        Err(EditError::BadFormula)
+    );
     model.undo()?;
     assert!(rt; model.can_redo());
     Ok(())
@@ -35,11 +40,12 @@ pub(super) fn names_are_tested(
 
 #[test]
 fn a_name_is_tested(rt: HostRuntime) -> Result<(), Fail> {
-    Ok(run_on_new(&rt, rt.alloc(), Case::TestedNames)?)
+    let mut model = new_model(rt.alloc())?;
+    Ok(names_are_tested(&rt, &mut model)?)
 }
 
 /// Names are listed in the words of the user, and in English by the workbook.
-pub(super) fn names_are_listed(
+fn names_are_listed(
     rt: &impl Abort,
     alloc: Global,
     model: &mut UserModel<ClearAll>,
@@ -61,6 +67,6 @@ pub(super) fn names_are_listed(
 #[test]
 fn a_name_is_listed(rt: HostRuntime) -> Result<(), Fail> {
     let alloc = rt.alloc();
-    let model = UserModel::new_empty(alloc, "book", "de", "UTC", "de", ClearAll)?;
-    Ok(run_on(&rt, alloc, Case::ListedNames, model)?)
+    let mut model = UserModel::new_empty(alloc, "book", "de", "UTC", "de", ClearAll)?;
+    Ok(names_are_listed(&rt, alloc, &mut model)?)
 }

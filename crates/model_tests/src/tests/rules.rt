@@ -1,14 +1,30 @@
-// Conditional rules that are changed, rules of several parts, and priorities that end. How rules are added, deleted
-// and exchanged otherwise, and what they become under other edits, is in the scripts of `edit_script`.
+// Conditional rules that are added, changed, deleted and exchanged. What they become under other edits is in
+// the scripts of `edit_script`.
 ghost use Rattle.format_rules.specs.Canonical.{IsCanonicalFormatting};
 
-use super::values::{Counted, Counting, opened, run_counted};
 use super::*;
 use base_axis::MergedCell;
 use base_values::Items;
 use format_rules::{
     CfRule, ConditionalFormatting, RuleList, has_canonical_numbers as has_canonical_rule,
 };
+
+/// Wants memory for values where it is told to.
+#[derive(Drop)]
+struct Short<'a> {
+    fails: &'a Cell<bool>,
+}
+
+impl<'a> Recalc for Short<'a> {
+    ghost Fits = { λ _ _. Unit {0} };
+
+    fn compute(&mut self, alloc: Global, _workbook: &Workbook) -> Result<Computed, EditError> {
+        if self.fails.get() {
+            return Err(EditError::NoMemory);
+        }
+        Ok(Computed::new(alloc))
+    }
+}
 
 /// Rows of column B.
 fn rows(first: i32, count: i32) -> MergedCell {
@@ -80,8 +96,9 @@ fn shown<R: Recalc + Drop>(
     Ok(all)
 }
 
-/// Two rules are added and one is changed, which is taken back.
-pub(super) fn rules_are_edited(
+/// Two rules are added, one is changed, their priorities are exchanged, and one is deleted. Each step is
+/// taken back.
+fn rules_are_edited(
     rt: &impl Abort,
     alloc: Global,
     model: &mut UserModel<ClearAll>,
@@ -90,19 +107,30 @@ pub(super) fn rules_are_edited(
     add(alloc, model, 0, &[rows(6, 1), rows(8, 1)], "=B2<0")?;
     update(alloc, model, 0, 0, &[rows(4, 1)], "B2>1")?;
     assert!(rt; shown(alloc, model)?.as_slice() == [(4, 1), (6, 2)].as_slice());
+    model.swap_conditional_formatting_priority(0, 1, 0)?;
+    assert!(rt; shown(alloc, model)?.as_slice() == [(4, 2), (6, 1)].as_slice());
+    model.delete_conditional_formatting(0, 0)?;
+    assert!(rt; shown(alloc, model)?.as_slice() == [(6, 1)].as_slice());
+    model.undo()?;
+    model.undo()?;
     model.undo()?;
     assert!(rt; shown(alloc, model)?.as_slice() == [(2, 1), (6, 2)].as_slice());
+    model.undo()?;
+    model.undo()?;
+    assert!(rt; shown(alloc, model)?.is_empty() && !model.can_undo());
     Ok(())
 }
 
 #[test]
 fn a_rule_is_edited(rt: HostRuntime) -> Result<(), Fail> {
-    Ok(run_on_new(&rt, rt.alloc(), Case::EditedRules)?)
+    let alloc = rt.alloc();
+    let mut model = new_model(alloc)?;
+    Ok(rules_are_edited(&rt, alloc, &mut model)?)
 }
 
 /// A sheet that is not there comes before a rule that is not there, that before a part, and that before a
 /// formula.
-pub(super) fn refusals_are_in_order(
+fn refusals_are_in_order(
     rt: &impl Abort,
     alloc: Global,
     model: &mut UserModel<ClearAll>,
@@ -117,16 +145,36 @@ pub(super) fn refusals_are_in_order(
     assert_eq!(rt; add(alloc, model, 0, &[rows(1, 1)], "A1"), no_formula);
     assert_eq!(rt; update(alloc, model, 1, 0, &[], "1+"), no_sheet);
     assert_eq!(rt; update(alloc, model, 0, 0, &[], "1+"), no_rule);
+    assert_eq!(rt; model.delete_conditional_formatting(1, 0), no_sheet);
+    assert_eq!(rt; model.delete_conditional_formatting(0, 0), no_rule);
+    assert_eq!(rt;
+        model.swap_conditional_formatting_priority(1, 0, 0),
+        no_sheet
+    );
     assert!(rt; !model.can_undo());
     add(alloc, model, 0, &[rows(2, 3)], "TRUE")?;
     assert_eq!(rt; update(alloc, model, 0, 0, &outside, "1+"), no_area);
     assert_eq!(rt; update(alloc, model, 0, 0, &[rows(2, 3)], "1+"), no_formula);
+    assert_eq!(rt;
+        model.swap_conditional_formatting_priority(0, 0, 1),
+        no_rule
+    );
+    assert_eq!(rt; model.swap_conditional_formatting_priority(0, 0, 0), Ok(()));
     Ok(())
+}
+
+/// Why a formula is not read above the first row of the sheet at an index.
+fn refusal(model: &UserModel<ClearAll>, sheet: u32) -> Option<EditError> {
+    model.read_rule_formula(sheet, rows(0, 1), "1").err()
 }
 
 #[test]
 fn a_rule_is_refused(rt: HostRuntime) -> Result<(), Fail> {
-    Ok(run_on_new(&rt, rt.alloc(), Case::RefusedRules)?)
+    let alloc = rt.alloc();
+    let mut model = new_model(alloc)?;
+    assert!(rt; refusal(&model, 1) == Some(EditError::InvalidSheet));
+    assert!(rt; refusal(&model, 0) == Some(EditError::InvalidArea));
+    Ok(refusals_are_in_order(&rt, alloc, &mut model)?)
 }
 
 /// A list of one rule.
@@ -166,10 +214,10 @@ fn last_book(alloc: Global) -> Result<PlainModel, EditError> {
 }
 
 /// Where the last priority is taken no rule is added, and others are changed. Without memory nothing is.
-pub(super) fn no_priority_is_left(
+fn no_priority_is_left(
     rt: &impl Abort,
     alloc: Global,
-    model: &mut UserModel<Counting<'_>>,
+    model: &mut UserModel<Short<'_>>,
     fails: &Cell<bool>,
 ) -> Result<(), EditError> {
     let (none, short) = (Err(EditError::RuleNumbers), Err(EditError::NoMemory));
@@ -191,8 +239,8 @@ pub(super) fn no_priority_is_left(
 #[test]
 fn priorities_end(rt: HostRuntime) -> Result<(), Fail> {
     let alloc = rt.alloc();
-    let calls = Cell::new(0);
     let fails = Cell::new(false);
-    let model = opened(alloc, last_book(alloc)?, &calls, &fails)?;
-    Ok(run_counted(&rt, alloc, Counted::LastPriority, model, &calls, &fails)?)
+    let plain = last_book(alloc)?;
+    let mut model = UserModel::from_model(alloc, plain, Short { fails: &fails })?;
+    Ok(no_priority_is_left(&rt, alloc, &mut model, &fails)?)
 }

@@ -1,19 +1,14 @@
-// What is selected of sheets that come, go, move and hide, how sheets are listed, and ids that end. What becomes of
-// the sheets themselves is in the scripts of `edit_script`.
-use super::senders::{Sender, sent};
+// Sheets added, copied, deleted, moved, hidden and listed, and what is selected then.
 use super::*;
 
 /// A view by its sheet and the first row of its rectangle.
-fn seen(model: &UserModel<ClearAll>) -> (u32, i32) {
+fn seen<R: Recalc + Drop>(model: &UserModel<R>) -> (u32, i32) {
     let view = model.get_view();
     (view.sheet, view.range[0])
 }
 
 /// A new model shows its first sheet at A1. What is chosen is no edit, and what cannot be is refused.
-pub(super) fn views_are_chosen(
-    rt: &impl Abort,
-    model: &mut UserModel<ClearAll>,
-) -> Result<(), EditError> {
+fn views_are_chosen(rt: &impl Abort, model: &mut UserModel<ClearAll>) -> Result<(), EditError> {
     assert!(rt;
         model.get_view()
             == View {
@@ -47,7 +42,8 @@ pub(super) fn views_are_chosen(
 
 #[test]
 fn a_view_is_chosen(rt: HostRuntime) -> Result<(), Fail> {
-    Ok(run_on_new(&rt, rt.alloc(), Case::ChosenView)?)
+    let mut model = new_model(rt.alloc())?;
+    Ok(views_are_chosen(&rt, &mut model)?)
 }
 
 /// A new sheet and a copy are selected, at A1.
@@ -84,18 +80,12 @@ fn sheets_go(rt: &impl Abort, model: &mut UserModel<ClearAll>) -> Result<(), Edi
     Ok(())
 }
 
-pub(super) fn sheets_come_and_go(
-    rt: &impl Abort,
-    model: &mut UserModel<ClearAll>,
-) -> Result<(), EditError> {
-    sheets_come(rt, model)?;
-    sheets_return(rt, model)?;
-    sheets_go(rt, model)
-}
-
 #[test]
 fn sheets_that_come_and_go(rt: HostRuntime) -> Result<(), Fail> {
-    Ok(run_on_new(&rt, rt.alloc(), Case::SheetsComeAndGo)?)
+    let mut model = new_model(rt.alloc())?;
+    sheets_come(&rt, &mut model)?;
+    sheets_return(&rt, &mut model)?;
+    Ok(sheets_go(&rt, &mut model)?)
 }
 
 /// The selected sheet stays selected where sheets are moved, also by undo and redo.
@@ -128,24 +118,15 @@ fn sheets_hide(rt: &impl Abort, model: &mut UserModel<ClearAll>) -> Result<(), E
     Ok(())
 }
 
-pub(super) fn sheets_move_and_hide(
-    rt: &impl Abort,
-    model: &mut UserModel<ClearAll>,
-) -> Result<(), EditError> {
-    sheets_move(rt, model)?;
-    sheets_hide(rt, model)
-}
-
 #[test]
 fn sheets_that_move_and_hide(rt: HostRuntime) -> Result<(), Fail> {
-    Ok(run_on_new(&rt, rt.alloc(), Case::SheetsMoveAndHide)?)
+    let mut model = new_model(rt.alloc())?;
+    sheets_move(&rt, &mut model)?;
+    Ok(sheets_hide(&rt, &mut model)?)
 }
 
 /// What is listed of each sheet.
-fn sheets_have_properties(
-    rt: &impl Abort,
-    model: &mut UserModel<ClearAll>,
-) -> Result<(), EditError> {
+fn sheets_are_listed(rt: &impl Abort, model: &mut UserModel<ClearAll>) -> Result<(), EditError> {
     let red = Color::Rgb {
         red: 255,
         green: 0,
@@ -174,17 +155,11 @@ fn grid_lines_go(rt: &impl Abort, model: &mut UserModel<ClearAll>) -> Result<(),
     Ok(())
 }
 
-pub(super) fn sheets_are_listed(
-    rt: &impl Abort,
-    model: &mut UserModel<ClearAll>,
-) -> Result<(), EditError> {
-    sheets_have_properties(rt, model)?;
-    grid_lines_go(rt, model)
-}
-
 #[test]
 fn sheets_in_a_list(rt: HostRuntime) -> Result<(), Fail> {
-    Ok(run_on_new(&rt, rt.alloc(), Case::ListedSheets)?)
+    let mut model = new_model(rt.alloc())?;
+    sheets_are_listed(&rt, &mut model)?;
+    Ok(grid_lines_go(&rt, &mut model)?)
 }
 
 /// A workbook whose sheets have the ids 1 and 4294967295.
@@ -194,10 +169,10 @@ fn last_id(alloc: Global) -> Result<UserModel<ClearAll>, EditError> {
     UserModel::from_model(alloc, PlainModel::from_workbook(alloc, workbook)?, ClearAll)
 }
 
-pub(super) fn no_id_is_left(
-    rt: &impl Abort,
-    model: &mut UserModel<ClearAll>,
-) -> Result<(), EditError> {
+/// No id is left behind the last one.
+#[test]
+fn no_further_id(rt: HostRuntime) -> Result<(), Fail> {
+    let mut model = last_id(rt.alloc())?;
     assert_eq!(rt; model.new_sheet(), Err(EditError::SheetIds));
     assert_eq!(rt; model.duplicate_sheet(2), Err(EditError::InvalidSheet));
     assert_eq!(rt; model.duplicate_sheet(0), Err(EditError::SheetIds));
@@ -210,11 +185,25 @@ pub(super) fn no_id_is_left(
     Ok(())
 }
 
-/// No id is left behind the last one.
-#[test]
-fn no_further_id(rt: HostRuntime) -> Result<(), Fail> {
-    let alloc = rt.alloc();
-    Ok(run_on(&rt, alloc, Case::LastId, last_id(alloc)?)?)
+/// The bytes of a new sheet, and of a move that takes the first one behind it.
+fn moved_bytes(model: &mut UserModel<ClearAll>) -> Result<Vec<u8>, EditError> {
+    model.new_sheet()?;
+    model.move_sheet(0, 1)?;
+    model.flush_send_queue()
+}
+
+/// The bytes of a deletion of the second sheet.
+fn deletion_bytes(model: &mut UserModel<ClearAll>) -> Result<Vec<u8>, EditError> {
+    model.delete_sheet(1)?;
+    model.flush_send_queue()
+}
+
+/// The bytes of both, one after the other.
+fn sheet_bytes(alloc: Global) -> Result<(Vec<u8>, Vec<u8>), EditError> {
+    let mut model = new_model(alloc)?;
+    let moved = moved_bytes(&mut model)?;
+    let deleted = deletion_bytes(&mut model)?;
+    Ok((moved, deleted))
 }
 
 fn a_view_goes_along(
@@ -231,19 +220,77 @@ fn a_view_goes_along(
     Ok(())
 }
 
-pub(super) fn a_view_follows(
-    rt: &impl Abort,
-    alloc: Global,
-    model: &mut UserModel<ClearAll>,
-) -> Result<(), EditError> {
-    let moved = sent(alloc, Sender::MovedSheet)?;
-    let deleted = sent(alloc, Sender::DeletedSheet)?;
-    a_view_goes_along(rt, model, &moved, &deleted)
-}
-
-/// A second model follows a renaming, moves and deletions of sheets. Its view stays where a sheet is renamed, and
-/// goes along where sheets move and go.
+/// A second model follows moves and deletions of sheets, and its view goes along.
 #[test]
 fn a_second_view_follows(rt: HostRuntime) -> Result<(), Fail> {
-    Ok(run_on_new(&rt, rt.alloc(), Case::SecondView)?)
+    let (moved, deleted) = sheet_bytes(rt.alloc())?;
+    let mut model = new_model(rt.alloc())?;
+    Ok(a_view_goes_along(&rt, &mut model, &moved, &deleted)?)
+}
+
+/// The bytes of a sheet's new name, which a formula names in part.
+fn renamed_bytes(model: &mut UserModel<ClearAll>) -> Result<Vec<u8>, EditError> {
+    model.set_user_input(0, 1, 1, "=sheet1!B1+Data!B1")?;
+    model.rename_sheet(0, "Data")?;
+    model.flush_send_queue()
+}
+
+/// The bytes of what is taken back.
+fn undone_bytes(model: &mut UserModel<ClearAll>) -> Result<Vec<u8>, EditError> {
+    model.undo()?;
+    model.flush_send_queue()
+}
+
+/// The bytes of both, one after the other.
+fn renaming_bytes(alloc: Global) -> Result<(Vec<u8>, Vec<u8>), EditError> {
+    let mut model = new_model(alloc)?;
+    let renamed = renamed_bytes(&mut model)?;
+    let undone = undone_bytes(&mut model)?;
+    Ok((renamed, undone))
+}
+
+fn a_formula_follows(
+    rt: &impl Abort,
+    model: &mut UserModel<ClearAll>,
+    renamed: &[u8],
+    undone: &[u8],
+) -> Result<(), EditError> {
+    model.set_selected_range(3, 1, 3, 1)?;
+    model.apply_external_diffs(renamed)?;
+    assert_eq!(rt; seen(model), (0, 3));
+    assert_eq!(rt;
+        model.get_cell_content(0, 1, 1)?.as_str(),
+        "=Data!B1+Data!B1"
+    );
+    model.apply_external_diffs(undone)?;
+    assert_eq!(rt;
+        model.get_cell_content(0, 1, 1)?.as_str(),
+        "=sheet1!B1+Data!B1"
+    );
+    Ok(())
+}
+
+/// A second model follows a renaming and takes it back, with the name that no sheet had, and its view
+/// stays.
+#[test]
+fn a_renaming_is_followed(rt: HostRuntime) -> Result<(), Fail> {
+    let (renamed, undone) = renaming_bytes(rt.alloc())?;
+    let mut model = new_model(rt.alloc())?;
+    Ok(a_formula_follows(&rt, &mut model, &renamed, &undone)?)
+}
+
+/// A name that a sheet has letter by letter is no step, and one that it may not have is refused.
+#[test]
+fn names_are_refused(rt: HostRuntime) -> Result<(), Fail> {
+    let mut model = new_model(rt.alloc())?;
+    model.new_sheet()?;
+    assert_eq!(rt; model.rename_sheet(2, "a"), Err(EditError::InvalidSheet));
+    assert_eq!(rt; model.rename_sheet(0, "SHEET2"), Err(EditError::SheetName));
+    assert_eq!(rt; model.rename_sheet(0, ""), Err(EditError::SheetName));
+    model.undo()?;
+    model.rename_sheet(0, "Sheet1")?;
+    assert!(rt; model.can_redo() && !model.can_undo());
+    model.rename_sheet(0, "sheet1")?;
+    assert!(rt; !model.can_redo() && model.can_undo());
+    Ok(())
 }

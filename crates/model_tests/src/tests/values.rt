@@ -1,11 +1,10 @@
 // When values are computed, and what stands of them.
-use super::senders::{Sender, sent};
 use super::*;
 
 /// Counts how often it is asked, and wants memory where it is told to. The first cell of the first
 /// sheet has a value, as many columns wide as it was asked.
 #[derive(Drop)]
-pub(super) struct Counting<'a> {
+struct Counting<'a> {
     calls: &'a Cell<i32>,
     fails: &'a Cell<bool>,
 }
@@ -27,60 +26,14 @@ impl<'a> Recalc for Counting<'a> {
     }
 }
 
-/// What is tested of a model whose values are counted.
-#[derive(Clone, Copy)]
-pub(super) enum Counted {
-    EachChange,
-    DynamicFormula,
-    LastPriority,
-}
-
-fn run_counted_case(
-    rt: &impl Abort,
-    alloc: Global,
-    case: Counted,
-    model: &mut UserModel<Counting<'_>>,
-    calls: &Cell<i32>,
-    fails: &Cell<bool>,
-) -> Result<(), EditError> {
-    match case {
-        Counted::EachChange => changes_are_counted(rt, alloc, model, calls, fails),
-        Counted::DynamicFormula => values_fill_cells(rt, model),
-        Counted::LastPriority => rules::no_priority_is_left(rt, alloc, model, fails),
-    }
-}
-
-/// Holds a model whose values are counted while a case runs, as `run_on` does.
-pub(super) fn run_counted(
-    rt: &impl Abort,
-    alloc: Global,
-    case: Counted,
-    model: UserModel<Counting<'_>>,
-    calls: &Cell<i32>,
-    fails: &Cell<bool>,
-) -> Result<(), EditError> {
-    let mut model = model;
-    run_counted_case(rt, alloc, case, &mut model, calls, fails)
-}
-
 /// A new workbook whose values are counted.
-fn counted_model<'a>(
+fn counted<'a>(
     alloc: Global,
     calls: &'a Cell<i32>,
     fails: &'a Cell<bool>,
 ) -> Result<UserModel<Counting<'a>>, EditError> {
     let counting = Counting { calls, fails };
     UserModel::new_empty(alloc, "book", "en", "UTC", "en", counting)
-}
-
-/// A workbook whose values are counted.
-pub(super) fn opened<'a>(
-    alloc: Global,
-    plain: PlainModel,
-    calls: &'a Cell<i32>,
-    fails: &'a Cell<bool>,
-) -> Result<UserModel<Counting<'a>>, EditError> {
-    UserModel::from_model(alloc, plain, Counting { calls, fails })
 }
 
 /// Each change asks once, and a refused one does not.
@@ -118,16 +71,6 @@ fn short_memory_changes_nothing(
     Ok(())
 }
 
-/// Memory is short, with the bytes of a link to follow.
-fn memory_is_short(
-    rt: &impl Abort,
-    alloc: Global,
-    model: &mut UserModel<Counting<'_>>,
-) -> Result<(), EditError> {
-    let bytes = sent(alloc, Sender::Link)?;
-    short_memory_changes_nothing(rt, model, &bytes)
-}
-
 /// While values wait nobody is asked, but by `evaluate`.
 fn values_wait(
     rt: &impl Abort,
@@ -149,29 +92,26 @@ fn values_wait(
     Ok(())
 }
 
-fn changes_are_counted(
-    rt: &impl Abort,
-    alloc: Global,
-    model: &mut UserModel<Counting<'_>>,
-    calls: &Cell<i32>,
-    fails: &Cell<bool>,
-) -> Result<(), EditError> {
-    changes_ask(rt, model, calls)?;
-    fails.set(true);
-    memory_is_short(rt, alloc, model)?;
-    fails.set(false);
-    values_wait(rt, model, calls)
+/// The bytes of one link.
+fn some_bytes(alloc: Global) -> Result<Vec<u8>, EditError> {
+    let mut other = new_model(alloc)?;
+    other.set_cell_link(0, 9, 9, "x")?;
+    other.flush_send_queue()
 }
 
 /// Each change asks for values once, a refused one does not, and one that finds no memory for them
 /// changes nothing.
 #[test]
 fn values_are_made_with_each_change(rt: HostRuntime) -> Result<(), Fail> {
-    let alloc = rt.alloc();
+    let bytes = some_bytes(rt.alloc())?;
     let calls = Cell::new(0);
     let fails = Cell::new(false);
-    let model = counted_model(alloc, &calls, &fails)?;
-    Ok(run_counted(&rt, alloc, Counted::EachChange, model, &calls, &fails)?)
+    let mut model = counted(rt.alloc(), &calls, &fails)?;
+    changes_ask(&rt, &mut model, &calls)?;
+    fails.set(true);
+    short_memory_changes_nothing(&rt, &mut model, &bytes)?;
+    fails.set(false);
+    Ok(values_wait(&rt, &mut model, &calls)?)
 }
 
 /// A workbook with a dynamic formula in its first cell.
@@ -212,9 +152,13 @@ fn values_fill_cells(
 /// The values of a dynamic formula fill the cells, and none are left by a change while they wait.
 #[test]
 fn dynamic_formulas_fill_cells(rt: HostRuntime) -> Result<(), Fail> {
-    let alloc = rt.alloc();
     let calls = Cell::new(1);
     let fails = Cell::new(false);
-    let model = opened(alloc, dynamic_book(alloc)?, &calls, &fails)?;
-    Ok(run_counted(&rt, alloc, Counted::DynamicFormula, model, &calls, &fails)?)
+    let plain = dynamic_book(rt.alloc())?;
+    let counting = Counting {
+        calls: &calls,
+        fails: &fails,
+    };
+    let mut model = UserModel::from_model(rt.alloc(), plain, counting)?;
+    Ok(values_fill_cells(&rt, &mut model)?)
 }

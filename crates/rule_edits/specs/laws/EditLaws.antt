@@ -85,10 +85,6 @@ module _ (p q : Node → Bool) (weaker : (tree : Node) → p tree ≡ true → q
 
 -- ---- what a test tells
 
--- a list with a first item has items
-has_items : (n : ℕ) → not (suc n == 0) ≡ true
-has_items n = grind arith
-
 -- a rule that may come on these parts may stand, whatever its priority
 checked_stands : (parts : List MergedCell) (rule : CfRule) (priority : ℕ) → checked_rule parts rule ≡ Ok tt → may_stand (formatting_of parts rule priority) ≡ true
 unfolding has_parts
@@ -102,13 +98,11 @@ checked_stands (first ∷ others) rule priority is = go (list_all is_inside part
     place = anchor_place first
 
     go : (i : Bool) → list_all is_inside parts ≡ i → (f : Bool) → each_tree (is_rule_formula place) rule ≡ f →
-        ◌≡◌ {A = Result (Unit {0}) EditError} (if i then (if f then Ok tt else Err BadFormula) else Err InvalidArea) (Ok tt) →
-        may_stand (formatting_of parts rule priority) ≡ true
+        (if i then (if f then Ok tt else Err BadFormula) else Err InvalidArea) ≡ Ok tt → may_stand (formatting_of parts rule priority) ≡ true
     go false inside f fits h = absurd (let never : ◌≡◌ {A = Result (Unit {0}) EditError} (Err InvalidArea) (Ok tt) = h in cc)
     go true inside false fits h = absurd (let never : ◌≡◌ {A = Result (Unit {0}) EditError} (Err BadFormula) (Ok tt) = h in cc)
     go true inside true fits h =
-        both (has_parts (formatting_of parts rule priority)) (each_tree (tree_fits_at place) rule)
-        (both (not (length parts == 0)) (list_all is_inside parts) (has_items (length others)) inside)
+        both (list_all is_inside parts) (each_tree (tree_fits_at place) rule) inside
         (each_weaker (is_rule_formula place) (tree_fits_at place) (λ tree formula. right (not (is_parse_error tree)) (tree_fits_at place tree) formula) rule fits)
 
 at_index : (index : ℕ) (rules : List ConditionalFormatting) (old : ConditionalFormatting) → rule_at index rules ≡ Ok old → slice_get rules index ≡ Some old

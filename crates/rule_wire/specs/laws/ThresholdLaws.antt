@@ -16,8 +16,7 @@ use Rattle.formula_wire.specs.laws.NodeLaws.{node_again, node_spelled, node_plai
 use Rattle.cell_wire.specs.laws.Formats.{color_format}
 use Rattle.rule_wire.specs.ThresholdBytes.{spell_cfvo, cfvo_of, cfvo_at, FitsCfvo, bound_at, spell_color_threshold, color_threshold_made, color_threshold_at, FitsColorThreshold, spell_colors, colors_at, spell_icon_threshold, icon_threshold_made, icon_threshold_at, FitsIconThreshold, spell_icons, icons_at}
 use Rattle.std.specs.Prelude.{IfSome}
-use Rattle.base_wire.specs.Spelling.{boolean_code, spell_code, spell_option}
-use Rattle.cell_wire.specs.StyleBytes.{spell_color}
+use Rattle.base_wire.specs.Spelling.{spell_option}
 
 cfvo_again : ReadsAgain FitsCfvo spell_cfvo cfvo_at
 unfolding cfvo_at
@@ -76,7 +75,7 @@ color_threshold_format =
     (λ threshold fits. (refl, (fits.cfvo, fits.color))) (λ x fits. (refl, record { cfvo = fits.0; color = fits.1 }))
 
 pub color_threshold_some : (x : ColorThreshold) → 1 ≤ length (spell_color_threshold x)
-color_threshold_some x = omega (arith, cfvo_some x.cfvo, length-append (spell_cfvo x.cfvo) (spell_color x.color))
+color_threshold_some x = omega (arith, cfvo_some x.cfvo, length-append (spell_cfvo x.cfvo) _)
 
 pub colors_format : Format (FitsItems FitsColorThreshold) spell_colors colors_at
 unfolding colors_at
@@ -89,7 +88,7 @@ icon_threshold_format =
     (λ threshold fits. (refl, (fits, tt))) (λ x fits. (refl, fits.0))
 
 pub icon_threshold_some : (x : IconThreshold) → 1 ≤ length (spell_icon_threshold x)
-icon_threshold_some x = omega (arith, cfvo_some x.cfvo, length-append (spell_cfvo x.cfvo) (spell_code boolean_code x.strict))
+icon_threshold_some x = omega (arith, cfvo_some x.cfvo, length-append (spell_cfvo x.cfvo) _)
 
 pub icons_format : Format (FitsItems FitsIconThreshold) spell_icons icons_at
 unfolding icons_at

@@ -1,5 +1,3 @@
-// Printed workbooks.
-ghost use Rattle.base_values.specs.Places.{IsPlace};
 ghost use Rattle.format_rules.specs.Canonical.{IsCanonicalFormatting};
 
 use base_axis::MergedCell;
@@ -15,143 +13,9 @@ use sheet_grid::{Cell, ColumnAttr, Link, RowAttr, SheetState, Workbook, Workshee
 use std::alloc::Global;
 use std::test::Fail;
 
-/// What is put into a new workbook.
-#[derive(Clone, Copy)]
-enum Piece {
-    /// A number at A1, a styled text at AB2 and an empty cell at A3.
-    Cells,
-    /// A link at B3, a styled row, a high one that is hidden, a wide column and an empty cell at C1.
-    Lines,
-    /// An array at B4, and the rectangles of `MERGES` as merges.
-    Areas,
-    /// A formula at C2.
-    Formula,
-    /// A colour of the sheet.
-    Colored(Color),
-    /// Two names, and a sheet with a state, a colour, no grid lines and frozen rows.
-    Named,
-    /// A link at B3, and a rule on the rectangles of `MERGES`.
-    Ruled,
-}
-
-/// What is put, into a workbook of a name, a locale and a time zone, and what is printed of it then.
-const CASES: [(Piece, &str, Locale, Zone, &str); 9] = [
-    (
-        Piece::Cells,
-        "a\nb",
-        Locale::De,
-        Zone::EuropeBerlin,
-        "book de Europe/Berlin a\\nb
-sheet 1 visible 1 0 0 - Sheet1
-cell A1 - value -1.5
-cell AB2 0100000000000014020401ff00ab00000000000000000000000767656e6572616c00 value x\\\\y
-cell A3 - empty
-end
-",
-    ),
-    // Rows, columns, cells and links, in this order.
-    (
-        Piece::Lines,
-        "book",
-        Locale::En,
-        Zone::Utc,
-        "book en UTC book
-sheet 1 visible 1 0 0 - Sheet1
-row 2 - 0 000000000000000d000000000000000000000000000767656e6572616c00
-row 7 30 1 -
-column 16384 129 0 -
-cell C1 - empty
-link B3 C:\\\\x
-end
-",
-    ),
-    (
-        Piece::Areas,
-        "book",
-        Locale::En,
-        Zone::Utc,
-        "book en UTC book
-sheet 1 visible 1 0 0 - Sheet1
-merge Z2:AA3
-merge A1
-merge #REF!
-cell B4 - array 3x2 =TRUE
-end
-",
-    ),
-    (
-        Piece::Formula,
-        "w",
-        Locale::De,
-        Zone::Utc,
-        "book de UTC w
-sheet 1 visible 1 0 0 - Sheet1
-cell C2 - formula =B1+SUM(1.5,$A$2)
-end
-",
-    ),
-    (
-        Piece::Colored(Color::None),
-        "w",
-        Locale::En,
-        Zone::Utc,
-        "book en UTC w\nsheet 1 visible 1 0 0 - Sheet1\nend\n",
-    ),
-    (
-        Piece::Colored(Color::Rgb {
-            red: 9,
-            green: 171,
-            blue: 255,
-        }),
-        "w",
-        Locale::En,
-        Zone::Utc,
-        "book en UTC w\nsheet 1 visible 1 0 0 #09ABFF Sheet1\nend\n",
-    ),
-    (
-        Piece::Colored(Color::Theme(ThemeColor::FollowedHyperlink)),
-        "w",
-        Locale::En,
-        Zone::Utc,
-        "book en UTC w\nsheet 1 visible 1 0 0 theme:11 Sheet1\nend\n",
-    ),
-    // Names in their order behind the workbook, and then each sheet with its state, its grid lines, its
-    // frozen counts and its colour.
-    (
-        Piece::Named,
-        "w",
-        Locale::De,
-        Zone::Utc,
-        "book de UTC w
-name - Rate =0.5
-name 7 Ende =Sheet1!B2+1
-sheet 1 visible 1 0 0 - Sheet1
-sheet 7 very-hidden 0 2 0 theme:0 a b
-end
-",
-    ),
-    // Rules behind the links, each with its priority, its parts and its bytes.
-    (
-        Piece::Ruled,
-        "w",
-        Locale::En,
-        Zone::Utc,
-        "book en UTC w
-sheet 1 visible 1 0 0 - Sheet1
-link B3 C:\\\\x
-rule 4294967295 Z2:AA3,A1,#REF! 000001000000000000000d000000000000000000000000000767656e6572616c0001
-end
-",
-    ),
-];
-
-fn plain_style(alloc: Global) -> Result<Shared<Style>, EditError> {
-    let style = Style::new(alloc)?;
-    Ok(Shared::new(alloc, style)?)
-}
-
-/// A bold style with a size and two colours.
-fn bold_style(alloc: Global) -> Result<Shared<Style>, EditError> {
+#[test]
+fn workbooks_are_printed(rt: HostRuntime) -> Result<(), Fail> {
+    let alloc = rt.alloc();
     let mut bold = Style::new(alloc)?;
     bold.font.b = true;
     bold.font.sz = 20;
@@ -161,47 +25,42 @@ fn bold_style(alloc: Global) -> Result<Shared<Style>, EditError> {
         green: 0,
         blue: 171,
     };
-    Ok(Shared::new(alloc, bold)?)
-}
-
-/// Puts what an English text is read as, in the default style.
-fn put_text(
-    alloc: Global,
-    sheet: &mut Worksheet,
-    place: Position,
-    text: &str,
-) -> Result<(), EditError>
-    requires { IsPlace place }
-{
-    let style = plain_style(alloc)?;
-    let content = english_input(alloc, place, text)?;
-    sheet.put_cell(place.row, place.column, Some(Cell { content, style }))
-}
-
-fn put_bold(alloc: Global, sheet: &mut Worksheet) -> Result<(), EditError> {
-    let bold = bold_style(alloc)?;
-    sheet.set_cell_with_string(2, 28, "x\\y", &bold)
-}
-
-fn put_cells(alloc: Global, sheet: &mut Worksheet) -> Result<(), EditError> {
+    let mut workbook = Workbook::new_empty(alloc, "a\nb", Locale::De, Zone::EuropeBerlin)?;
+    let sheet = workbook.worksheet_mut(0)?;
     sheet.cell_clear_contents(3, 1)?;
-    put_bold(alloc, sheet)?;
-    put_text(alloc, sheet, Position { row: 1, column: 1 }, "-1.50")
+    sheet.set_cell_with_string(2, 28, "x\\y", &Shared::new(alloc, bold)?)?;
+    let content = english_input(alloc, Position { row: 1, column: 1 }, "-1.50")?;
+    let style = Shared::new(alloc, Style::new(alloc)?)?;
+    sheet.put_cell(1, 1, Some(Cell { content, style }))?;
+    let mut out = Vec::new(alloc);
+    push_dump(alloc, &mut out, &workbook)?;
+    assert_eq!(rt;
+        out.as_slice(),
+        b"book de Europe/Berlin a\\nb
+sheet 1 visible 1 0 0 - Sheet1
+cell A1 - value -1.5
+cell AB2 0100000000000014020401ff00ab00000000000000000000000767656e6572616c00 value x\\\\y
+cell A3 - empty
+end
+"
+            .as_slice()
+    );
+    Ok(())
 }
 
-fn put_link(alloc: Global, sheet: &mut Worksheet) -> Result<(), EditError> {
+fn put_link(sheet: &mut Worksheet, alloc: Global) -> Result<(), EditError> {
     let target = Text::new(String::from_str(alloc, "C:\\x")?);
     sheet.put_link(3, 2, Some(Link { target }))
 }
 
-fn put_rows(alloc: Global, sheet: &mut Worksheet) -> Result<(), EditError> {
+fn put_rows(sheet: &mut Worksheet, alloc: Global) -> Result<(), EditError> {
     let high = RowAttr {
         height: Some(30),
         style: None,
         hidden: true,
     };
     sheet.put_row(7, Some(high))?;
-    let style = Some(plain_style(alloc)?);
+    let style = Some(Shared::new(alloc, Style::new(alloc)?)?);
     sheet.put_row(
         2,
         Some(RowAttr {
@@ -212,9 +71,9 @@ fn put_rows(alloc: Global, sheet: &mut Worksheet) -> Result<(), EditError> {
     )
 }
 
-fn put_lines(alloc: Global, sheet: &mut Worksheet) -> Result<(), EditError> {
-    put_link(alloc, sheet)?;
-    put_rows(alloc, sheet)?;
+fn put_lines(sheet: &mut Worksheet, alloc: Global) -> Result<(), EditError> {
+    put_link(sheet, alloc)?;
+    put_rows(sheet, alloc)?;
     sheet.cell_clear_contents(1, 3)?;
     let wide = ColumnAttr {
         width: Some(129),
@@ -224,9 +83,32 @@ fn put_lines(alloc: Global, sheet: &mut Worksheet) -> Result<(), EditError> {
     sheet.put_column(16_384, Some(wide))
 }
 
+/// Rows, columns, cells and links, in this order.
+#[test]
+fn lines_are_printed(rt: HostRuntime) -> Result<(), Fail> {
+    let mut workbook = Workbook::new_empty(rt.alloc(), "book", Locale::En, Zone::Utc)?;
+    put_lines(workbook.worksheet_mut(0)?, rt.alloc())?;
+    let mut out = Vec::new(rt.alloc());
+    push_dump(rt.alloc(), &mut out, &workbook)?;
+    assert_eq!(rt;
+        out.as_slice(),
+        b"book en UTC book
+sheet 1 visible 1 0 0 - Sheet1
+row 2 - 0 000000000000000d000000000000000000000000000767656e6572616c00
+row 7 30 1 -
+column 16384 129 0 -
+cell C1 - empty
+link B3 C:\\\\x
+end
+"
+            .as_slice()
+    );
+    Ok(())
+}
+
 /// Its tree has canonical numbers, which setting it asks.
-fn put_array(alloc: Global, sheet: &mut Worksheet) -> Result<(), EditError> {
-    let style = plain_style(alloc)?;
+fn put_array(sheet: &mut Worksheet, alloc: Global) -> Result<(), EditError> {
+    let style = Shared::new(alloc, Style::new(alloc)?)?;
     let tree = Node::Boolean(true);
     if has_canonical_numbers(&tree) {
         sheet.set_cell_with_array_formula(4, 2, tree, &style, 3, 2)?;
@@ -234,7 +116,7 @@ fn put_array(alloc: Global, sheet: &mut Worksheet) -> Result<(), EditError> {
     Ok(())
 }
 
-/// Rectangles of four places, of one, and one that goes on behind the last row.
+/// Merges of four places, of one, and one that goes on behind the last row.
 const MERGES: [MergedCell; 3] = [
     MergedCell {
         row: 2,
@@ -256,9 +138,74 @@ const MERGES: [MergedCell; 3] = [
     },
 ];
 
-fn put_areas(alloc: Global, sheet: &mut Worksheet) -> Result<(), EditError> {
-    put_array(alloc, sheet)?;
-    sheet.set_merged_cells(Items::new(Vec::from_slice(alloc, &MERGES)?));
+#[test]
+fn merges_and_arrays_are_printed(rt: HostRuntime) -> Result<(), Fail> {
+    let mut workbook = Workbook::new_empty(rt.alloc(), "book", Locale::En, Zone::Utc)?;
+    let sheet = workbook.worksheet_mut(0)?;
+    put_array(sheet, rt.alloc())?;
+    sheet.set_merged_cells(Items::new(Vec::from_slice(rt.alloc(), &MERGES)?));
+    let mut out = Vec::new(rt.alloc());
+    push_dump(rt.alloc(), &mut out, &workbook)?;
+    assert_eq!(rt;
+        out.as_slice(),
+        b"book en UTC book
+sheet 1 visible 1 0 0 - Sheet1
+merge Z2:AA3
+merge A1
+merge #REF!
+cell B4 - array 3x2 =TRUE
+end
+"
+            .as_slice()
+    );
+    Ok(())
+}
+
+#[test]
+fn colors_are_printed(rt: HostRuntime) -> Result<(), Fail> {
+    let mut workbook = Workbook::new_empty(rt.alloc(), "w", Locale::En, Zone::Utc)?;
+    for (color, text) in [
+        (Color::None, "-"),
+        (
+            Color::Rgb {
+                red: 9,
+                green: 171,
+                blue: 255,
+            },
+            "#09ABFF",
+        ),
+        (Color::Theme(ThemeColor::FollowedHyperlink), "theme:11"),
+    ] {
+        workbook.worksheet_mut(0)?.set_color(&color);
+        let mut out = Vec::new(rt.alloc());
+        push_dump(rt.alloc(), &mut out, &workbook)?;
+        let dump = format!(in rt.alloc();
+            "book en UTC w\nsheet 1 visible 1 0 0 {text} Sheet1\nend\n"
+        )?;
+        assert_eq!(rt; out.as_slice(), dump.as_bytes());
+    }
+    Ok(())
+}
+
+#[test]
+fn formulas_are_printed(rt: HostRuntime) -> Result<(), Fail> {
+    let alloc = rt.alloc();
+    let mut workbook = Workbook::new_empty(alloc, "w", Locale::De, Zone::Utc)?;
+    let sheet = workbook.worksheet_mut(0)?;
+    let content = english_input(alloc, Position { row: 2, column: 3 }, "=b1+sum(1.50,$A$2)")?;
+    let style = Shared::new(alloc, Style::new(alloc)?)?;
+    sheet.put_cell(2, 3, Some(Cell { content, style }))?;
+    let mut out = Vec::new(alloc);
+    push_dump(alloc, &mut out, &workbook)?;
+    assert_eq!(rt;
+        out.as_slice(),
+        b"book de UTC w
+sheet 1 visible 1 0 0 - Sheet1
+cell C2 - formula =B1+SUM(1.5,$A$2)
+end
+"
+            .as_slice()
+    );
     Ok(())
 }
 
@@ -278,38 +225,51 @@ fn name_of(
 }
 
 /// Its trees have canonical numbers, which putting them in asks.
-fn push_names(alloc: Global, names: &mut NameList) -> Result<(), EditError> {
+fn put_names(workbook: &mut Workbook, alloc: Global) -> Result<(), EditError> {
+    let mut names = NameList::empty(alloc);
     for (name, scope, text) in [("Rate", None, "0.50"), ("Ende", Some(7), "=Sheet1!B2+1")] {
         let name = name_of(alloc, name, scope, text)?;
         if has_canonical_numbers(name.formula.get()) {
             names.push(name)?;
         }
     }
-    Ok(())
-}
-
-fn put_names(alloc: Global, workbook: &mut Workbook) -> Result<(), EditError> {
-    let mut names = NameList::empty(alloc);
-    push_names(alloc, &mut names)?;
     workbook.set_name_list(names);
     Ok(())
 }
 
-fn put_named(alloc: Global, workbook: &mut Workbook) -> Result<(), EditError> {
-    put_names(alloc, workbook)?;
-    let mut sheet = Worksheet::new(alloc, 7, "a b")?;
+/// Names in their order behind the workbook, and then each sheet with its state, its grid lines, its frozen
+/// counts and its colour.
+#[test]
+fn names_and_sheets_are_printed(rt: HostRuntime) -> Result<(), Fail> {
+    let mut workbook = Workbook::new_empty(rt.alloc(), "w", Locale::De, Zone::Utc)?;
+    put_names(&mut workbook, rt.alloc())?;
+    let mut sheet = Worksheet::new(rt.alloc(), 7, "a b")?;
     sheet.set_state(SheetState::VeryHidden);
     sheet.set_color(&Color::Theme(ThemeColor::Light1));
     sheet.set_show_grid_lines(false);
     sheet.set_frozen_rows(2);
-    workbook.insert_worksheet(1, sheet)
+    workbook.insert_worksheet(1, sheet)?;
+    let mut out = Vec::new(rt.alloc());
+    push_dump(rt.alloc(), &mut out, &workbook)?;
+    assert_eq!(rt;
+        out.as_slice(),
+        b"book de UTC w
+name - Rate =0.5
+name 7 Ende =Sheet1!B2+1
+sheet 1 visible 1 0 0 - Sheet1
+sheet 7 very-hidden 0 2 0 theme:0 a b
+end
+"
+            .as_slice()
+    );
+    Ok(())
 }
 
 /// A rule that holds everywhere, on the rectangles of `MERGES`.
 fn rule_on_merges(alloc: Global) -> Result<ConditionalFormatting, EditError> {
     let rule = CfRule::Formula {
         formula: Shared::new(alloc, Node::Boolean(true))?,
-        style: plain_style(alloc)?,
+        style: Shared::new(alloc, Style::new(alloc)?)?,
         stop_if_true: true,
     };
     Ok(ConditionalFormatting {
@@ -329,7 +289,7 @@ fn alone(alloc: Global, formatting: ConditionalFormatting) -> Result<RuleList, E
 }
 
 /// Its tree has canonical numbers, which putting it in asks.
-fn put_rule(alloc: Global, sheet: &mut Worksheet) -> Result<(), EditError> {
+fn put_rule(sheet: &mut Worksheet, alloc: Global) -> Result<(), EditError> {
     let formatting = rule_on_merges(alloc)?;
     if format_rules::has_canonical_numbers(&formatting.rule) {
         sheet.set_conditional_formatting(alone(alloc, formatting)?);
@@ -337,65 +297,25 @@ fn put_rule(alloc: Global, sheet: &mut Worksheet) -> Result<(), EditError> {
     Ok(())
 }
 
-fn put_ruled(alloc: Global, sheet: &mut Worksheet) -> Result<(), EditError> {
-    put_link(alloc, sheet)?;
-    put_rule(alloc, sheet)
-}
-
-fn put(alloc: Global, workbook: &mut Workbook, piece: Piece) -> Result<(), EditError> {
-    match piece {
-        Piece::Named => put_named(alloc, workbook),
-        other => put_on_sheet(alloc, workbook.worksheet_mut(0)?, other),
-    }
-}
-
-fn put_on_sheet(alloc: Global, sheet: &mut Worksheet, piece: Piece) -> Result<(), EditError> {
-    match piece {
-        Piece::Cells => put_cells(alloc, sheet),
-        Piece::Lines => put_lines(alloc, sheet),
-        Piece::Areas => put_areas(alloc, sheet),
-        Piece::Formula => {
-            let place = Position { row: 2, column: 3 };
-            put_text(alloc, sheet, place, "=b1+sum(1.50,$A$2)")
-        }
-        Piece::Colored(color) => {
-            sheet.set_color(&color);
-            Ok(())
-        }
-        Piece::Ruled => put_ruled(alloc, sheet),
-        Piece::Named => Ok(()),
-    }
-}
-
-/// Whether this is printed of a workbook.
-fn is_printed(alloc: Global, workbook: &Workbook, expected: &str) -> Result<bool, EditError> {
-    let mut out = Vec::new(alloc);
-    push_dump(alloc, &mut out, workbook)?;
-    Ok(out.as_slice() == expected.as_bytes())
-}
-
-fn is_printed_with(
-    alloc: Global,
-    workbook: &mut Workbook,
-    piece: Piece,
-    expected: &str,
-) -> Result<bool, EditError> {
-    put(alloc, workbook, piece)?;
-    is_printed(alloc, workbook, expected)
-}
-
-fn is_printed_of_new(
-    alloc: Global,
-    case: (Piece, &str, Locale, Zone, &str),
-) -> Result<bool, EditError> {
-    let mut workbook = Workbook::new_empty(alloc, case.1, case.2, case.3)?;
-    is_printed_with(alloc, &mut workbook, case.0, case.4)
-}
-
+/// Rules behind the links, each with its priority, its parts and its bytes.
 #[test]
-fn workbooks_are_printed(rt: HostRuntime) -> Result<(), Fail> {
-    for (at, case) in CASES.iter().enumerate() {
-        assert!(rt; is_printed_of_new(rt.alloc(), *case)?, "case {at}");
-    }
+fn rules_are_printed(rt: HostRuntime) -> Result<(), Fail> {
+    let alloc = rt.alloc();
+    let mut workbook = Workbook::new_empty(alloc, "w", Locale::En, Zone::Utc)?;
+    let sheet = workbook.worksheet_mut(0)?;
+    put_link(sheet, alloc)?;
+    put_rule(sheet, alloc)?;
+    let mut out = Vec::new(alloc);
+    push_dump(alloc, &mut out, &workbook)?;
+    assert_eq!(rt;
+        out.as_slice(),
+        b"book en UTC w
+sheet 1 visible 1 0 0 - Sheet1
+link B3 C:\\\\x
+rule 4294967295 Z2:AA3,A1,#REF! 000001000000000000000d000000000000000000000000000767656e6572616c0001
+end
+"
+            .as_slice()
+    );
     Ok(())
 }

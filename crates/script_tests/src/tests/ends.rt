@@ -4,9 +4,7 @@ use script_ends::{
     Failed, MemorySink, MemorySource, RunError, Sink, Source, StdSink, StdSource, SureSink,
     SureSource, read_all, write_all,
 };
-use std::alloc::Global;
 use std::io::{self, ErrorKind, Write};
-use std::process::Abort;
 use std::test::Fail;
 
 /// A writer that takes everything, and of which the first flush fails.
@@ -37,38 +35,19 @@ fn each_write_is_flushed(rt: HostRuntime) -> Result<(), Fail> {
     Ok(())
 }
 
-/// Whether this is all that a source has left.
-fn has_left<S: Source>(alloc: Global, source: &mut S, expected: &[u8]) -> Result<bool, Fail> {
-    let rest = read_all(alloc, source)?;
-    Ok(rest.as_slice() == expected)
-}
-
-fn goes_on_reading(rt: &impl Abort, alloc: Global, source: &mut MemorySource) -> Result<(), Fail> {
-    let mut buffer = [0u8; 4];
-    assert_eq!(rt; source.read(&mut buffer), Ok(4));
-    assert_eq!(rt; buffer, *b"abcd");
-    assert_eq!(rt; read_all(alloc, source).err(), Some(RunError::ReadFault));
-    assert!(rt; has_left(alloc, source, b"ef")?);
-    Ok(())
-}
-
 #[test]
 fn a_source_goes_on_after_a_failing_read(rt: HostRuntime) -> Result<(), Fail> {
     let alloc = rt.alloc();
     let mut source = MemorySource::new(b"abcdef".to_vec(alloc)?, [1u64].to_vec(alloc)?);
-    goes_on_reading(&rt, alloc, &mut source)
-}
-
-fn goes_on_writing(rt: &impl Abort, sink: &mut MemorySink) -> Result<(), Fail> {
-    for (piece, outcome) in [
-        (b"ab".as_slice(), Ok(())),
-        (b"cd".as_slice(), Err(RunError::WriteFault)),
-        (b"ef".as_slice(), Ok(())),
-    ] {
-        sink.reserve(piece.len())?;
-        assert_eq!(rt; write_all(sink, piece), outcome);
-    }
-    assert_eq!(rt; sink.bytes(), b"abef".as_slice());
+    let mut buffer = [0u8; 4];
+    assert_eq!(rt; source.read(&mut buffer), Ok(4));
+    assert_eq!(rt; buffer, *b"abcd");
+    assert_eq!(rt;
+        read_all(alloc, &mut source).err(),
+        Some(RunError::ReadFault)
+    );
+    let rest = read_all(alloc, &mut source)?;
+    assert_eq!(rt; rest.as_slice(), b"ef".as_slice());
     Ok(())
 }
 
@@ -76,7 +55,16 @@ fn goes_on_writing(rt: &impl Abort, sink: &mut MemorySink) -> Result<(), Fail> {
 fn a_sink_goes_on_after_a_failing_write(rt: HostRuntime) -> Result<(), Fail> {
     let alloc = rt.alloc();
     let mut sink = MemorySink::new(Vec::new(alloc), [1u64].to_vec(alloc)?);
-    goes_on_writing(&rt, &mut sink)
+    for (piece, outcome) in [
+        (b"ab".as_slice(), Ok(())),
+        (b"cd".as_slice(), Err(RunError::WriteFault)),
+        (b"ef".as_slice(), Ok(())),
+    ] {
+        sink.reserve(piece.len())?;
+        assert_eq!(rt; write_all(&mut sink, piece), outcome);
+    }
+    assert_eq!(rt; sink.bytes(), b"abef".as_slice());
+    Ok(())
 }
 
 #[test]

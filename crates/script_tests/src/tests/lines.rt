@@ -9,87 +9,77 @@ use std::alloc::{AllocError, Global};
 use std::test::Fail;
 
 /// A command in words, with a bar on each side of its text.
-fn in_words(alloc: Global, command: &Command) -> Result<String, AllocError> {
+fn in_words(alloc: Global, command: Option<Command>) -> Result<String, AllocError> {
     match command {
-        Command::Set(cell, text) => cell_in_words(alloc, "set", *cell, text.as_str()),
-        Command::Get(cell) => cell_in_words(alloc, "get", *cell, ""),
-        Command::Array(area, text) => area_in_words(alloc, "array", *area, text.as_str()),
-        Command::Link(cell, text) => cell_in_words(alloc, "link", *cell, text.as_str()),
-        Command::Unlink(cell) => cell_in_words(alloc, "unlink", *cell, ""),
-        Command::Merge(area) => area_in_words(alloc, "merge", *area, ""),
-        Command::Unmerge(cell) => cell_in_words(alloc, "unmerge", *cell, ""),
-        Command::Rule(area, text) => area_in_words(alloc, "rule", *area, text.as_str()),
-        Command::InsertRows(lines) => lines_in_words(alloc, "insert rows", *lines),
-        Command::InsertColumns(lines) => lines_in_words(alloc, "insert columns", *lines),
-        Command::DeleteRows(lines) => lines_in_words(alloc, "delete rows", *lines),
-        Command::DeleteColumns(lines) => lines_in_words(alloc, "delete columns", *lines),
-        Command::MoveRows(moved) => move_in_words(alloc, "move rows", *moved),
-        Command::MoveColumns(moved) => move_in_words(alloc, "move columns", *moved),
-        other => other_in_words(alloc, other),
+        Some(Command::Set(cell, text)) => cell_in_words(alloc, "set", cell, text.as_str()),
+        Some(Command::Get(cell)) => cell_in_words(alloc, "get", cell, ""),
+        Some(Command::Array(area, text)) => area_in_words(alloc, "array", area, text.as_str()),
+        Some(Command::Link(cell, text)) => cell_in_words(alloc, "link", cell, text.as_str()),
+        Some(Command::Unlink(cell)) => cell_in_words(alloc, "unlink", cell, ""),
+        Some(Command::Merge(area)) => area_in_words(alloc, "merge", area, ""),
+        Some(Command::Unmerge(cell)) => cell_in_words(alloc, "unmerge", cell, ""),
+        Some(Command::Rule(area, text)) => area_in_words(alloc, "rule", area, text.as_str()),
+        Some(Command::InsertRows(lines)) => lines_in_words(alloc, "insert rows", lines),
+        Some(Command::InsertColumns(lines)) => lines_in_words(alloc, "insert columns", lines),
+        Some(Command::DeleteRows(lines)) => lines_in_words(alloc, "delete rows", lines),
+        Some(Command::DeleteColumns(lines)) => lines_in_words(alloc, "delete columns", lines),
+        Some(Command::MoveRows(moved)) => move_in_words(alloc, "move rows", moved),
+        Some(Command::MoveColumns(moved)) => move_in_words(alloc, "move columns", moved),
+        Some(other) => other_in_words(alloc, other),
+        None => format!(in alloc; "none"),
     }
 }
 
 /// A command that names no cells, and inserts, deletes or moves no lines, in words.
-fn other_in_words(alloc: Global, command: &Command) -> Result<String, AllocError> {
+fn other_in_words(alloc: Global, command: Command) -> Result<String, AllocError> {
     match command {
-        Command::Width(size) => size_in_words(alloc, "width", *size),
-        Command::Height(size) => size_in_words(alloc, "height", *size),
-        Command::HideRows(span) => span_in_words(alloc, "hide rows", *span),
-        Command::ShowRows(span) => span_in_words(alloc, "show rows", *span),
-        Command::HideColumns(span) => span_in_words(alloc, "hide columns", *span),
-        Command::ShowColumns(span) => span_in_words(alloc, "show columns", *span),
-        Command::FreezeRows(named) => count_in_words(alloc, "freeze rows", *named),
-        Command::FreezeColumns(named) => count_in_words(alloc, "freeze columns", *named),
-        Command::FillRows(named) => fill_in_words(alloc, "fill rows", *named),
-        Command::FillColumns(named) => fill_in_words(alloc, "fill columns", *named),
+        Command::Width(size) => size_in_words(alloc, "width", size),
+        Command::Height(size) => size_in_words(alloc, "height", size),
+        Command::HideRows(span) => span_in_words(alloc, "hide rows", span),
+        Command::ShowRows(span) => span_in_words(alloc, "show rows", span),
+        Command::HideColumns(span) => span_in_words(alloc, "hide columns", span),
+        Command::ShowColumns(span) => span_in_words(alloc, "show columns", span),
+        Command::FreezeRows(named) => count_in_words(alloc, "freeze rows", named),
+        Command::FreezeColumns(named) => count_in_words(alloc, "freeze columns", named),
+        Command::FillRows(named) => fill_in_words(alloc, "fill rows", named),
+        Command::FillColumns(named) => fill_in_words(alloc, "fill columns", named),
         Command::NewSheet => format!(in alloc; "new sheet"),
-        Command::Undo => format!(in alloc; "undo"),
-        Command::Redo => format!(in alloc; "redo"),
-        Command::Sync => format!(in alloc; "sync"),
-        Command::Show => format!(in alloc; "show"),
-        Command::Title(text) => word_in_words(alloc, "title", text),
-        Command::ThemeColors(theme) => theme_in_words(alloc, *theme),
-        Command::Locale(text) => word_in_words(alloc, "locale", text),
-        Command::Zone(text) => word_in_words(alloc, "zone", text),
-        Command::Language(text) => word_in_words(alloc, "language", text),
-        other => named_in_words(alloc, other),
-    }
-}
-
-/// A command of sheets, of names or of rules, in words.
-fn named_in_words(alloc: Global, command: &Command) -> Result<String, AllocError> {
-    match command {
-        Command::DuplicateSheet(sheet) => sheet_in_words(alloc, "duplicate", *sheet),
-        Command::DeleteSheet(sheet) => sheet_in_words(alloc, "delete", *sheet),
-        Command::HideSheet(sheet) => sheet_in_words(alloc, "hide", *sheet),
-        Command::UnhideSheet(sheet) => sheet_in_words(alloc, "unhide", *sheet),
+        Command::DuplicateSheet(sheet) => format!(in alloc; "duplicate: sheet {sheet}"),
+        Command::DeleteSheet(sheet) => format!(in alloc; "delete: sheet {sheet}"),
         Command::MoveSheet(moved) => {
             let (from, to) = (moved.from, moved.to);
             format!(in alloc; "move sheet: from {from} to {to}")
         }
         Command::RenameSheet(sheet, text) => {
-            let (sheet, name) = (*sheet, text.as_str());
+            let name = text.as_str();
             format!(in alloc; "rename: sheet {sheet} |{name}|")
         }
-        Command::SheetColor(named) => color_in_words(alloc, *named),
+        Command::HideSheet(sheet) => format!(in alloc; "hide: sheet {sheet}"),
+        Command::UnhideSheet(sheet) => format!(in alloc; "unhide: sheet {sheet}"),
+        Command::SheetColor(named) => color_in_words(alloc, named),
         Command::GridLines(named) => {
             let (sheet, show) = (named.sheet, named.show);
             format!(in alloc; "grid: sheet {sheet} {show}")
         }
-        Command::Name(named, text) => name_in_words(alloc, "name", named, text.as_str()),
+        Command::Name(named, text) => name_in_words(alloc, "name", &named, text.as_str()),
         Command::NameUpdate(named, text) => {
             let new = name_in_words(alloc, "to", &named.new, text.as_str())?;
             name_in_words(alloc, "update", &named.old, new.as_str())
         }
-        Command::NameDelete(named) => name_in_words(alloc, "delete", named, ""),
-        Command::RuleDelete(named) => rule_in_words(alloc, *named),
-        Command::RuleSwap(named) => swap_in_words(alloc, *named),
+        Command::NameDelete(named) => name_in_words(alloc, "delete", &named, ""),
+        Command::RuleDelete(named) => rule_in_words(alloc, named),
+        Command::RuleSwap(named) => swap_in_words(alloc, named),
+        Command::Undo => format!(in alloc; "undo"),
+        Command::Redo => format!(in alloc; "redo"),
+        Command::Sync => format!(in alloc; "sync"),
+        Command::Show => format!(in alloc; "show"),
+        Command::Title(text) => word_in_words(alloc, "title", &text),
+        Command::ThemeColors(theme) => theme_in_words(alloc, theme),
+        Command::Locale(text) => word_in_words(alloc, "locale", &text),
+        Command::Zone(text) => word_in_words(alloc, "zone", &text),
+        Command::Language(text) => word_in_words(alloc, "language", &text),
         _ => format!(in alloc; "cells or lines"),
     }
-}
-
-fn sheet_in_words(alloc: Global, word: &str, sheet: u32) -> Result<String, AllocError> {
-    format!(in alloc; "{word}: sheet {sheet}")
 }
 
 fn word_in_words(alloc: Global, word: &str, text: &Text) -> Result<String, AllocError> {
@@ -485,21 +475,14 @@ const BAD_LINES: [&[u8]; 122] = [
     b"\xc3undo",
 ];
 
-/// Whether a line is a command that reads so in words.
-fn reads_as(alloc: Global, line: &[u8], words: &str) -> Result<bool, Fail> {
-    match read_command(alloc, line)? {
-        Some(command) => Ok(in_words(alloc, &command)?.as_str() == words),
-        None => Ok(false),
-    }
-}
-
 /// The first line of a table that is another command.
 fn first_misread(
     alloc: Global,
     table: &[(&'static [u8], &'static str)],
 ) -> Result<Option<&'static str>, Fail> {
     for (line, words) in table {
-        if !reads_as(alloc, line, words)? {
+        let read = in_words(alloc, read_command(alloc, line)?)?;
+        if read.as_str() != *words {
             return Ok(Some(*words));
         }
     }
@@ -529,7 +512,10 @@ fn other_lines_are_no_commands(rt: HostRuntime) -> Result<(), Fail> {
     Ok(())
 }
 
-fn push_places(alloc: Global, out: &mut Vec<u8>) -> Result<(), Fail> {
+#[test]
+fn texts_and_places_are_printed(rt: HostRuntime) -> Result<(), Fail> {
+    let mut out = Vec::new(rt.alloc());
+    push_escaped(&mut out, b"a\n\\n")?;
     for (row, column) in [
         (1, 1),
         (10, 26),
@@ -539,16 +525,8 @@ fn push_places(alloc: Global, out: &mut Vec<u8>) -> Result<(), Fail> {
         (1048576, 16384),
     ] {
         out.push(b' ')?;
-        push_reference(alloc, out, Position { row, column })?;
+        push_reference(rt.alloc(), &mut out, Position { row, column })?;
     }
-    Ok(())
-}
-
-#[test]
-fn texts_and_places_are_printed(rt: HostRuntime) -> Result<(), Fail> {
-    let mut out = Vec::new(rt.alloc());
-    push_escaped(&mut out, b"a\n\\n")?;
-    push_places(rt.alloc(), &mut out)?;
     assert_eq!(rt;
         out.as_slice(),
         b"a\\n\\\\n A1 Z10 AA99 ZZ100 AAA7 XFD1048576".as_slice()

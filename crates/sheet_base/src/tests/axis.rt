@@ -1,8 +1,5 @@
-use super::is_copied;
 use base_axis::{Axis, AxisMap, ColumnAxis, MergeList, MergedCell, RowAxis};
-use base_values::{EditError, Items, Position};
-use std::alloc::Global;
-use std::process::Abort;
+use base_values::{Items, Position, copy_of, same};
 use std::test::Fail;
 
 /// A place of the third row and second column, asked along an axis.
@@ -25,26 +22,19 @@ fn along_both_axes(rt: HostRuntime) -> Result<(), Fail> {
     Ok(())
 }
 
-fn lines_go(
-    rt: &impl Abort,
-    alloc: Global,
-    map: &mut AxisMap<ColumnAxis, bool>,
-) -> Result<(), EditError> {
+/// Each call on a map that may find no memory, once where there is enough.
+#[test]
+fn with_ample_memory(rt: HostRuntime) -> Result<(), Fail> {
+    let alloc = rt.alloc();
+    let mut map: AxisMap<ColumnAxis, bool> = AxisMap::new(alloc);
     assert!(rt; map.insert(2, true)?.is_none());
     map.put(3, Some(false))?;
-    assert_eq!(rt; map.lines(alloc)?.len(), 2);
-    assert!(rt; is_copied(&*map)?);
+    assert_eq!(rt; map.keys(alloc)?.len(), 2);
+    assert!(rt; same(&copy_of(&map)?, &map));
     assert_eq!(rt; map.iter().count(), 2);
     map.put(3, None)?;
     assert!(rt; map.get(3).is_none());
     Ok(())
-}
-
-/// Each call on a map that may find no memory, once where there is enough.
-#[test]
-fn with_ample_memory(rt: HostRuntime) -> Result<(), Fail> {
-    let mut map = AxisMap::new(rt.alloc());
-    Ok(lines_go(&rt, rt.alloc(), &mut map)?)
 }
 
 /// From the second row and third column, four columns wide and five rows high.
@@ -71,23 +61,14 @@ fn rectangles_along_both_axes(rt: HostRuntime) -> Result<(), Fail> {
     Ok(())
 }
 
-fn block_list(alloc: Global) -> Result<MergeList, EditError> {
-    let mut items = Items::empty(alloc);
-    items.push(BLOCK)?;
-    Ok(MergeList::new(items))
-}
-
-/// Whether a list is copied and differs from an empty one.
-fn is_list(alloc: Global, merges: &MergeList) -> Result<bool, EditError> {
-    let is_same = is_copied(merges)?;
-    let empty = MergeList::empty(alloc);
-    Ok(is_same && *merges != empty)
-}
-
 #[test]
 fn lists_of_merges(rt: HostRuntime) -> Result<(), Fail> {
-    let merges = block_list(rt.alloc())?;
-    assert!(rt; is_list(rt.alloc(), &merges)?);
+    let alloc = rt.alloc();
+    let mut items = Items::empty(alloc);
+    items.push(BLOCK)?;
+    let merges = MergeList::new(items);
+    assert!(rt; same(&copy_of(&merges)?, &merges));
+    assert!(rt; merges != MergeList::empty(alloc));
     assert_eq!(rt; merges.into_items().len(), 1);
     Ok(())
 }

@@ -1,11 +1,5 @@
-use base_tables::{column_to_number, number_to_column, quote_name, same_by_folding};
+use base_tables::*;
 use base_values::EditError;
-use std::alloc::Global;
-
-fn is_quoted(alloc: Global, name: &str, printed: &str) -> Result<bool, EditError> {
-    let quoted = quote_name(alloc, name)?;
-    Ok(quoted.as_str() == printed)
-}
 
 #[test]
 fn quotes_names(rt: HostRuntime) -> Result<(), EditError> {
@@ -17,18 +11,13 @@ fn quotes_names(rt: HostRuntime) -> Result<(), EditError> {
         ("R1C16385", "R1C16385"),
         ("Übersicht_1", "Übersicht_1"),
     ] {
-        assert!(rt; is_quoted(rt.alloc(), name, printed)?, "at {name}");
+        assert_eq!(rt;
+            quote_name(rt.alloc(), name)?.as_str(),
+            printed,
+            "at {name}"
+        );
     }
     Ok(())
-}
-
-/// Whether a column has that name, and the name is read as that column.
-fn is_column(alloc: Global, column: i32, name: &str) -> Result<bool, EditError> {
-    let is_read = column_to_number(name) == Some(column);
-    match number_to_column(alloc, column)? {
-        Some(found) => Ok(is_read && found.as_str() == name),
-        None => Ok(false),
-    }
 }
 
 #[test]
@@ -41,9 +30,28 @@ fn names_columns(rt: HostRuntime) -> Result<(), EditError> {
         (703, "AAA"),
         (16_384, "XFD"),
     ] {
-        assert!(rt; is_column(rt.alloc(), column, name)?, "at {column}");
+        let found = number_to_column(rt.alloc(), column)?;
+        assert!(rt;
+            found.is_some_and(|found| found.as_str() == name),
+            "at {column}"
+        );
+        assert_eq!(rt; column_to_number(name), Some(column));
     }
     Ok(())
+}
+
+#[test]
+fn finds_functions(rt: HostRuntime) {
+    for language in Language::ALL {
+        for function in Function::ALL {
+            let name = function.name(language);
+            assert_eq!(rt;
+                function_by_name(name, language),
+                Some(function),
+                "at {name}"
+            );
+        }
+    }
 }
 
 #[test]

@@ -338,7 +338,7 @@ module _ (a : Along) (l : IsAxis a) (e : EditKind) (valid : IsValid a.last e) (i
           ap (formattings_stand kept.formattings) (later_found id sheet found)
           ∙ ap (λ o. are_there (formattings_kept a (edit_moves a.last e) id (name_of (sheet_of book id)) o) (length (sheet_followed w sheet).formattings)
           && each_stands (formattings_kept a (edit_moves a.last e) id (name_of (sheet_of book id)) o)) found
-          ∙ (λ i. kept_there w sheet.formattings (length (sheet_followed w sheet).formattings) (sym (length-map sheet.formattings (formatting_carried w))) i
+          ∙ (λ i. kept_there w sheet.formattings (length (sheet_followed w sheet).formattings) (sym (length-map (formatting_carried w) sheet.formattings)) i
           && kept_pass w sheet.formattings rule_changes.may_stand stand i)
 
       -- the edit is made

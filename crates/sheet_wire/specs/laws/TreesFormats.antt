@@ -6,8 +6,8 @@ use Rattle.std.proofs.lemmas.Map.Lookups.{exact_unsigned}
 use Rattle.std.specs.Cmp.{nat_cmp_total}
 use Rattle.std.specs.Int.{w64, to_be_bytes}
 use Rattle.std.specs.Ordering.{nat_cmp}
-use Rattle.index_maps.specs.SheetIndexes.{sheet_index_cmp}
-use Rattle.index_maps.specs.laws.SheetIndexes.{sheet_index_total, exact_sheet_indexes}
+use Rattle.base_maps.specs.SheetIndexes.{sheet_index_cmp}
+use Rattle.base_maps.specs.laws.SheetIndexes.{sheet_index_total, exact_sheet_indexes}
 use Rattle.book_names.specs.declared.KeptTrees.{KeptTrees}
 use Rattle.base_wire.specs.Spelling.{Both, spell_both, spell_option, spell_text, FitsText}
 use Rattle.base_wire.specs.laws.Format.{Format, option_format}

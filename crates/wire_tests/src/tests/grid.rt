@@ -1,11 +1,9 @@
-use super::{is_part, plain_style, refused_damages, shortest_front};
 use base_shared::Shared;
 use base_styles::Style;
 use base_values::EditError;
 use base_wire::Part;
-use grid_wire::{NamePart, SheetPart};
-use std::alloc::Global;
-use std::test::Fail;
+use grid_wire::*;
+use std::test::*;
 
 /// The hidden sheet `A` of id 2, of a colour, without grid lines, with two frozen rows and a frozen column:
 /// row 3 is 40 high, column 16384 is hidden, `TRUE` stands at row 1 and column 1 in the default style, a
@@ -48,33 +46,58 @@ const BOOK_NAME: [u8; 29] = [
     0, 0, 0, 0, 0, 0, 0, 2, 195, 164, 0, 1, 0, 0, 0, 0, 0, 0, 0, 0, 0, 0, 0, 0, 0, 0, 0, 5, 1,
 ];
 
-/// Whether the bytes are a sheet of that name, with that many frozen rows.
-fn is_sheet(alloc: Global, plain: &Shared<Style>) -> Result<bool, EditError> {
-    let (sheet, _) = SheetPart::take(alloc, plain, &SHEET)?;
-    Ok(sheet.get_name() == "A" && sheet.frozen_rows() == 2)
+fn plain_style(rt: HostRuntime) -> Result<Shared<Style>, Fail> {
+    let style = Style::new(rt.alloc()).ok().ok_or("there is memory")?;
+    Ok(Shared::new(rt.alloc(), style)?)
+}
+
+fn is_refused(rt: HostRuntime, plain: &Shared<Style>, bytes: &[u8]) -> bool {
+    matches!(
+        SheetPart::take(rt.alloc(), plain, bytes),
+        Err(EditError::ParseDiffs)
+    )
 }
 
 #[test]
 fn sheets_are_read_and_written(rt: HostRuntime) -> Result<(), Fail> {
-    let plain = plain_style(rt.alloc())?;
-    assert!(rt; is_sheet(rt.alloc(), &plain)?);
-    assert!(rt; is_part::<SheetPart>(rt.alloc(), &plain, &SHEET)?);
+    let (sheet, rest) = SheetPart::take(rt.alloc(), &plain_style(rt)?, &SHEET)
+        .ok()
+        .ok_or("the bytes are a sheet")?;
+    assert!(rt; rest.is_empty());
+    assert_eq!(rt; sheet.get_name(), "A");
+    assert_eq!(rt; sheet.frozen_rows(), 2);
+    let mut out = Vec::new(rt.alloc());
+    SheetPart::put(&mut out, &sheet)?;
+    assert_eq!(rt; out.as_slice(), SHEET.as_slice());
     Ok(())
 }
 
 #[test]
 fn damaged_sheets_are_refused(rt: HostRuntime) -> Result<(), Fail> {
-    let plain = plain_style(rt.alloc())?;
-    let mut bytes = SHEET;
-    let count = refused_damages::<SheetPart>(rt.alloc(), &plain, &mut bytes, &DAMAGES);
-    let front = shortest_front::<SheetPart>(rt.alloc(), &plain, &SHEET);
-    assert_eq!(rt; (count, front), (DAMAGES.len(), SHEET.len()));
+    let plain = plain_style(rt)?;
+    for (at, byte) in DAMAGES {
+        let mut bytes = SHEET;
+        if let Some(place) = bytes.get_mut(at) {
+            *place = byte;
+        }
+        assert!(rt; is_refused(rt, &plain, &bytes));
+    }
+    for length in 0..SHEET.len() {
+        assert!(rt; is_refused(rt, &plain, &SHEET[..length]));
+    }
     Ok(())
 }
 
 #[test]
 fn names_are_read_and_written(rt: HostRuntime) -> Result<(), Fail> {
-    assert!(rt; is_part::<NamePart>(rt.alloc(), &(), &SCOPED_NAME)?);
-    assert!(rt; is_part::<NamePart>(rt.alloc(), &(), &BOOK_NAME)?);
+    for bytes in [SCOPED_NAME.as_slice(), BOOK_NAME.as_slice()] {
+        let (name, rest) = NamePart::take(rt.alloc(), &(), bytes)
+            .ok()
+            .ok_or("the bytes are a name")?;
+        assert!(rt; rest.is_empty());
+        let mut out = Vec::new(rt.alloc());
+        NamePart::put(&mut out, &name)?;
+        assert_eq!(rt; out.as_slice(), bytes);
+    }
     Ok(())
 }

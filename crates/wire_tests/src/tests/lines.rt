@@ -1,10 +1,10 @@
-use super::{is_part, is_refused, part_count, plain_style, refused_damages, shortest_front};
+use base_shared::Shared;
+use base_styles::Style;
 use base_values::EditError;
 use base_wire::Part;
 use line_map::EditKind;
-use lines_wire::{EditPart, KeptLinesPart};
-use std::alloc::Global;
-use std::test::Fail;
+use lines_wire::*;
+use std::test::*;
 
 /// Each map with one entry: the number 1 in the default style at row 2 and column 3, a link to `a`
 /// there, line 2 of size 40 that is hidden, and on the sheet of id 7 the tree `TRUE` of row 1 and
@@ -38,31 +38,55 @@ const DAMAGES: [(usize, u8); 6] = [
     (54, 1),
 ];
 
+fn is_refused(rt: HostRuntime, plain: &Shared<Style>, bytes: &[u8]) -> bool {
+    matches!(
+        KeptLinesPart::take(rt.alloc(), plain, bytes),
+        Err(EditError::ParseDiffs)
+    )
+}
+
+fn plain_style(rt: HostRuntime) -> Result<Shared<Style>, Fail> {
+    let style = Style::new(rt.alloc()).ok().ok_or("there is memory")?;
+    Ok(Shared::new(rt.alloc(), style)?)
+}
+
 #[test]
 fn damaged_lines_are_refused(rt: HostRuntime) -> Result<(), Fail> {
-    let plain = plain_style(rt.alloc())?;
-    let mut bytes = TWO_LINES;
-    let count = refused_damages::<KeptLinesPart>(rt.alloc(), &plain, &mut bytes, &DAMAGES);
-    let front = shortest_front::<KeptLinesPart>(rt.alloc(), &plain, &TWO_LINES);
-    assert_eq!(rt; (count, front), (DAMAGES.len(), TWO_LINES.len()));
+    let plain = plain_style(rt)?;
+    for (at, byte) in DAMAGES {
+        let mut bytes = TWO_LINES;
+        if let Some(place) = bytes.get_mut(at) {
+            *place = byte;
+        }
+        assert!(rt; is_refused(rt, &plain, &bytes));
+    }
+    for length in 0..TWO_LINES.len() {
+        assert!(rt; is_refused(rt, &plain, &TWO_LINES[..length]));
+    }
     Ok(())
 }
 
 #[test]
 fn kept_lines_are_read_and_written(rt: HostRuntime) -> Result<(), Fail> {
-    let plain = plain_style(rt.alloc())?;
+    let plain = plain_style(rt)?;
     let nothing = [0; 41];
     // A line below 0 is read too: it is refused when its diff is made.
     let mut below = TWO_LINES;
     below[24] = 255;
-    let table = [
+    for bytes in [
         ONE_OF_EACH.as_slice(),
         TWO_LINES.as_slice(),
         below.as_slice(),
         nothing.as_slice(),
-    ];
-    let count = part_count::<KeptLinesPart>(rt.alloc(), &plain, &table)?;
-    assert_eq!(rt; count, 4);
+    ] {
+        let (kept, rest) = KeptLinesPart::take(rt.alloc(), &plain, bytes)
+            .ok()
+            .ok_or("the bytes are a kept part")?;
+        assert!(rt; rest.is_empty());
+        let mut out = Vec::new(rt.alloc());
+        KeptLinesPart::put(&mut out, &kept)?;
+        assert_eq!(rt; out.as_slice(), bytes);
+    }
     Ok(())
 }
 
@@ -86,17 +110,19 @@ const EDITS: [(EditKind, &[u8]); 3] = [
     ),
 ];
 
-/// Whether bytes are read as an edit.
-fn is_edit(alloc: Global, edit: EditKind, bytes: &[u8]) -> Result<bool, EditError> {
-    let (read, _) = EditPart::take(alloc, &(), bytes)?;
-    Ok(read == edit && is_part::<EditPart>(alloc, &(), bytes)?)
-}
-
 #[test]
 fn edits_are_read_and_written(rt: HostRuntime) -> Result<(), Fail> {
     for (edit, bytes) in EDITS {
-        assert!(rt; is_edit(rt.alloc(), edit, bytes)?);
+        let (read, rest) = EditPart::take(rt.alloc(), &(), bytes)
+            .ok()
+            .ok_or("the bytes are an edit")?;
+        assert!(rt; read == edit);
+        assert!(rt; rest.is_empty());
+        let mut out = Vec::new(rt.alloc());
+        EditPart::put(&mut out, &edit)?;
+        assert_eq!(rt; out.as_slice(), bytes);
     }
-    assert!(rt; is_refused::<EditPart>(rt.alloc(), &(), &[3, 0, 0, 0, 3, 0, 0, 0, 2]));
+    let none = EditPart::take(rt.alloc(), &(), &[3, 0, 0, 0, 3, 0, 0, 0, 2]);
+    assert!(rt; matches!(none, Err(EditError::ParseDiffs)));
     Ok(())
 }

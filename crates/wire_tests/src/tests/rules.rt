@@ -1,15 +1,12 @@
-use super::{is_part, is_refused, part_count, plain_style, shortest_front};
 use base_shared::Shared;
 use base_styles::Style;
 use base_values::EditError;
 use base_wire::Part;
 use lines_wire::KeptLinesPart;
-use rule_edits::RuleChange;
 use rule_wire::{RulePart, encode_rule};
 use sheet_history::Diff;
 use sheet_wire::DiffPart;
-use std::alloc::Global;
-use std::test::Fail;
+use std::test::*;
 
 /// Whether a cell is greater than 1, in the default style.
 const ABOVE_ONE: [u8; 64] = [
@@ -61,60 +58,65 @@ const RENAMING: [u8; 151] = [
     0, 0, 0, 7, 103, 101, 110, 101, 114, 97, 108, 0, 0, 0, 0, 0, 1, 0, 0, 0, 0, 0, 0, 0, 0,
 ];
 
+fn plain_style(rt: HostRuntime) -> Result<Shared<Style>, Fail> {
+    let style = Style::new(rt.alloc()).ok().ok_or("there is memory")?;
+    Ok(Shared::new(rt.alloc(), style)?)
+}
+
+/// Whether bytes are read as one part, to their end, and the part is written so.
+fn is_part<P: Part<Context = Shared<Style>>>(rt: HostRuntime, bytes: &[u8]) -> Result<bool, Fail> {
+    let (value, rest) = P::take(rt.alloc(), &plain_style(rt)?, bytes)
+        .ok()
+        .ok_or("the bytes are a part")?;
+    let mut out = Vec::new(rt.alloc());
+    P::put(&mut out, &value)?;
+    Ok(rest.is_empty() && out.as_slice() == bytes)
+}
+
 #[test]
 fn rules_are_read_and_written(rt: HostRuntime) -> Result<(), Fail> {
-    let plain = plain_style(rt.alloc())?;
-    let rules = [ABOVE_ONE.as_slice(), LOST_ABOVE_ONE.as_slice()];
-    let rules = part_count::<RulePart>(rt.alloc(), &plain, &rules)?;
-    let diffs = [
-        NEW_RULE.as_slice(),
-        CHANGED_RULE.as_slice(),
-        RENAMING.as_slice(),
-    ];
-    let diffs = part_count::<DiffPart>(rt.alloc(), &plain, &diffs)?;
-    let is_kept = is_part::<KeptLinesPart>(rt.alloc(), &plain, &KEPT_RULE)?;
-    assert_eq!(rt; (rules, diffs, is_kept), (2, 3, true));
+    assert!(rt; is_part::<RulePart>(rt, &ABOVE_ONE)?);
+    assert!(rt; is_part::<RulePart>(rt, &LOST_ABOVE_ONE)?);
+    assert!(rt; is_part::<DiffPart>(rt, &NEW_RULE)?);
+    assert!(rt; is_part::<DiffPart>(rt, &CHANGED_RULE)?);
+    assert!(rt; is_part::<KeptLinesPart>(rt, &KEPT_RULE)?);
+    assert!(rt; is_part::<DiffPart>(rt, &RENAMING)?);
     Ok(())
 }
 
-/// Whether a change of a rule brings one of priority 1 at index 0, and its bytes alone are those that stand
-/// in the diff.
-fn brings_rule(alloc: Global, change: &RuleChange) -> Result<bool, EditError> {
-    let Some(formatting) = &change.new else {
-        return Ok(false);
-    };
-    let bytes = encode_rule(alloc, &formatting.rule)?;
-    let is_rule = bytes.as_slice() == ABOVE_ONE.as_slice();
-    Ok(change.index == 0 && formatting.priority == 1 && is_rule)
-}
-
-fn is_rule_diff(alloc: Global, diff: &Diff) -> Result<bool, EditError> {
-    match diff {
-        Diff::Rule { sheet, change } => Ok(*sheet == 1 && brings_rule(alloc, change.get())?),
-        _ => Ok(false),
-    }
-}
-
-fn is_rule_encoded(alloc: Global, plain: &Shared<Style>) -> Result<bool, EditError> {
-    let (diff, _) = DiffPart::take(alloc, plain, &NEW_RULE)?;
-    is_rule_diff(alloc, &diff)
-}
-
+/// The bytes of the rule alone are those that stand in its diff.
 #[test]
 fn a_rule_is_encoded(rt: HostRuntime) -> Result<(), Fail> {
-    let plain = plain_style(rt.alloc())?;
-    assert!(rt; is_rule_encoded(rt.alloc(), &plain)?);
+    let (diff, _) = DiffPart::take(rt.alloc(), &plain_style(rt)?, &NEW_RULE)
+        .ok()
+        .ok_or("the bytes are a diff")?;
+    let Diff::Rule { sheet, change } = diff else {
+        return Err("the diff is one of rules".into());
+    };
+    assert_eq!(rt; sheet, 1);
+    assert_eq!(rt; change.get().index, 0);
+    let Some(formatting) = &change.get().new else {
+        return Err("a rule comes".into());
+    };
+    assert_eq!(rt; formatting.priority, 1);
+    let bytes = encode_rule(rt.alloc(), &formatting.rule)
+        .ok()
+        .ok_or("there is memory")?;
+    assert_eq!(rt; bytes.as_slice(), ABOVE_ONE.as_slice());
     Ok(())
 }
 
 /// A change of a rule that is cut anywhere, and one whose rule is of no kind.
 #[test]
 fn damaged_rules_are_refused(rt: HostRuntime) -> Result<(), Fail> {
-    let plain = plain_style(rt.alloc())?;
-    let front = shortest_front::<DiffPart>(rt.alloc(), &plain, &CHANGED_RULE);
+    let plain = plain_style(rt)?;
+    for length in 0..CHANGED_RULE.len() {
+        let cut = DiffPart::take(rt.alloc(), &plain, &CHANGED_RULE[..length]);
+        assert!(rt; matches!(cut, Err(EditError::ParseDiffs)));
+    }
     let mut other = NEW_RULE;
     other[39] = 6;
-    assert_eq!(rt; front, CHANGED_RULE.len());
-    assert!(rt; is_refused::<DiffPart>(rt.alloc(), &plain, &other));
+    let read = DiffPart::take(rt.alloc(), &plain, &other);
+    assert!(rt; matches!(read, Err(EditError::ParseDiffs)));
     Ok(())
 }

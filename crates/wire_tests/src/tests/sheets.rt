@@ -1,4 +1,3 @@
-use super::{exchange, is_refused, part_count, plain_style, refused_count, shortest_front};
 use base_axis::MergedCell;
 use base_shared::Shared;
 use base_styles::Style;
@@ -6,9 +5,8 @@ use base_values::EditError;
 use base_wire::Part;
 use cell_wire::encode_style;
 use sheet_history::Diff;
-use sheet_wire::{DiffPart, decode_queue, encode_queue};
-use std::alloc::Global;
-use std::test::Fail;
+use sheet_wire::*;
+use std::test::*;
 
 /// One entry: a cell diff that puts the number 1 in the default style at row 1 and column 1 of the
 /// sheet of id 1.
@@ -55,6 +53,19 @@ const DELETION: [u8; 203] = [
     0, 0, 0, 0, 0, 0, 0, 0, 0, 0, 0, 0, 1, 120, 1, 0, 0, 0, 2, 0, 1,
 ];
 
+/// A sheet `A` of id 2 came at index 1, and a copy `B` of the sheet of id 1. The sheet of id 1 moved from
+/// index 0 to 1, became of a colour of the theme, very hidden, and lost its grid lines.
+const SHEETS: [&[u8]; 6] = [
+    &[8, 0, 0, 0, 2, 0, 0, 0, 1, 0, 0, 0, 0, 0, 0, 0, 1, 65],
+    &[
+        9, 0, 0, 0, 1, 0, 0, 0, 2, 0, 0, 0, 1, 0, 0, 0, 0, 0, 0, 0, 1, 66,
+    ],
+    &[12, 0, 0, 0, 1, 0, 0, 0, 0, 0, 0, 0, 1],
+    &[13, 0, 0, 0, 1, 0, 2, 11],
+    &[14, 0, 0, 0, 1, 0, 2],
+    &[15, 0, 0, 0, 1, 1, 0],
+];
+
 /// The sheet of id 1 was `A` and is `B`. The tree `TRUE` is kept of the cell at row 2 and column 3 of the
 /// sheet of id 7, and of the defined name at index 4.
 const RENAMING: [u8; 71] = [
@@ -77,25 +88,17 @@ const CHANGED_NAME: [u8; 73] = [
     0, 0, 0, 0, 0, 0, 0, 0, 0, 0, 0,
 ];
 
-/// Short diffs of the sheets, of sizes and of settings.
-const SHORT: [&[u8]; 14] = [
-    // A sheet `A` of id 2 came at index 1, and a copy `B` of the sheet of id 1. That moved from index 0
-    // to 1, became of a colour of the theme, very hidden, and lost its grid lines.
-    &[8, 0, 0, 0, 2, 0, 0, 0, 1, 0, 0, 0, 0, 0, 0, 0, 1, 65],
-    &[
-        9, 0, 0, 0, 1, 0, 0, 0, 2, 0, 0, 0, 1, 0, 0, 0, 0, 0, 0, 0, 1, 66,
-    ],
-    &[12, 0, 0, 0, 1, 0, 0, 0, 0, 0, 0, 0, 1],
-    &[13, 0, 0, 0, 1, 0, 2, 11],
-    &[14, 0, 0, 0, 1, 0, 2],
-    &[15, 0, 0, 0, 1, 1, 0],
-    // Of the sheet of id 1, column 3 became 300 wide and hidden, and row 2 lost its own height of 56. Two
-    // rows were frozen in place of none, and -1 columns in place of one.
+/// Of the sheet of id 1, column 3 became 300 wide and hidden, and row 2 lost its own height of 56. Two rows
+/// were frozen in place of none, and -1 columns in place of one.
+const SIZES: [&[u8]; 4] = [
     &[3, 0, 0, 0, 1, 0, 0, 0, 3, 0, 1, 1, 0, 0, 1, 44, 0, 1],
     &[4, 0, 0, 0, 1, 0, 0, 0, 2, 1, 1, 0, 0, 0, 56, 0, 0, 0],
     &[16, 0, 0, 0, 1, 0, 0, 0, 0, 0, 0, 0, 2],
     &[17, 0, 0, 0, 1, 0, 0, 0, 1, 255, 255, 255, 255],
-    // A theme, a name, a locale and a time zone that change.
+];
+
+/// A theme, a name, a locale and a time zone that change.
+const SETTINGS: [&[u8]; 4] = [
     &[18; 73],
     &[
         19, 0, 0, 0, 0, 0, 0, 0, 1, 97, 0, 0, 0, 0, 0, 0, 0, 2, 195, 169,
@@ -104,38 +107,46 @@ const SHORT: [&[u8]; 14] = [
     &[21, 5, 0],
 ];
 
-/// Bytes that are no diff.
-const NO_DIFFS: [&[u8]; 13] = [
-    // Colours, states and booleans that don't exist, a name that is no UTF-8, and a tag that no diff has.
-    &[13, 0, 0, 0, 1, 0, 2, 12],
-    &[13, 0, 0, 0, 1, 3, 0],
-    &[14, 0, 0, 0, 1, 0, 3],
-    &[15, 0, 0, 0, 1, 1, 2],
-    &[8, 0, 0, 0, 2, 0, 0, 0, 1, 0, 0, 0, 0, 0, 0, 0, 1, 255],
-    &[24, 0, 0, 0, 1, 0, 0, 0, 0, 0, 0, 0, 1],
-    // A column that has nothing of its own, hiding that is neither false nor true, and a count that is cut.
-    &[3, 0, 0, 0, 1, 0, 0, 0, 3, 0, 1, 0, 0, 0],
-    &[4, 0, 0, 0, 1, 0, 0, 0, 2, 0, 1, 0, 0, 2],
-    &[16, 0, 0, 0, 1, 0, 0, 0, 0, 0, 0, 0],
-    // A theme that is cut, a name that is no UTF-8, a locale and a time zone that don't exist.
+/// Diffs that are none: a theme that is cut, a name that is no UTF-8, a locale and a time zone that don't
+/// exist.
+const NO_SETTINGS: [&[u8]; 4] = [
     &[18; 72],
     &[19, 0, 0, 0, 0, 0, 0, 0, 1, 97, 0, 0, 0, 0, 0, 0, 0, 1, 195],
     &[20, 0, 4],
     &[21, 6, 0],
 ];
 
-/// Bytes that are put in the place of those of `LINES`, where they stand.
-const DAMAGED_LINES: [[(usize, u8); 2]; 7] = [
+/// Diffs that are none: a column that has nothing of its own, hiding that is neither false nor true, and
+/// a count that is cut.
+const NO_SIZES: [&[u8]; 3] = [
+    &[3, 0, 0, 0, 1, 0, 0, 0, 3, 0, 1, 0, 0, 0],
+    &[4, 0, 0, 0, 1, 0, 0, 0, 2, 0, 1, 0, 0, 2],
+    &[16, 0, 0, 0, 1, 0, 0, 0, 0, 0, 0, 0],
+];
+
+/// Diffs that are none: colours, states and booleans that don't exist, a name that is no UTF-8, and a
+/// tag that no diff has.
+const NO_SHEETS: [&[u8]; 6] = [
+    &[13, 0, 0, 0, 1, 0, 2, 12],
+    &[13, 0, 0, 0, 1, 3, 0],
+    &[14, 0, 0, 0, 1, 0, 3],
+    &[15, 0, 0, 0, 1, 1, 2],
+    &[8, 0, 0, 0, 2, 0, 0, 0, 1, 0, 0, 0, 0, 0, 0, 0, 1, 255],
+    &[24, 0, 0, 0, 1, 0, 0, 0, 0, 0, 0, 0, 1],
+];
+
+/// A place in `LINES`, and the byte that is put there.
+const DAMAGED_LINES: [(usize, u8); 7] = [
     // Lines that are neither rows nor columns, and an edit that is none.
-    [(26, 2), (26, 2)],
-    [(27, 3), (27, 3)],
+    (26, 2),
+    (27, 3),
     // A kept cell, and a tree, that are not there.
-    [(43, 1), (43, 1)],
-    [(67, 1), (67, 1)],
+    (43, 1),
+    (67, 1),
     // A list of merges in place of its absence, no option, and a rule.
-    [(68, 1), (68, 1)],
-    [(68, 2), (68, 2)],
-    [(76, 1), (76, 1)],
+    (68, 1),
+    (68, 2),
+    (76, 1),
 ];
 
 /// Bytes that are put in the place of those of `ONE_CELL`, where they stand.
@@ -161,167 +172,209 @@ const DAMAGES: [[(usize, u8); 2]; 10] = [
     [(34, 2), (34, 2)],
 ];
 
-fn is_no_queue(alloc: Global, plain: &Shared<Style>, bytes: &[u8]) -> bool {
+fn is_refused(rt: HostRuntime, plain: &Shared<Style>, bytes: &[u8]) -> bool {
     matches!(
-        decode_queue(alloc, plain, bytes),
+        decode_queue(rt.alloc(), plain, bytes),
         Err(EditError::ParseDiffs)
     )
 }
 
-/// How many damages from the first one on are refused.
-fn refused_queues(
-    alloc: Global,
-    plain: &Shared<Style>,
-    bytes: &mut [u8],
-    damages: &[[(usize, u8); 2]],
-) -> usize {
-    for (count, damage) in damages.iter().enumerate() {
-        let [first, second] = *damage;
-        let was = exchange(bytes, first.0, first.1);
-        let other = exchange(bytes, second.0, second.1);
-        if !is_no_queue(alloc, plain, bytes) {
-            return count;
-        }
-        exchange(bytes, second.0, other);
-        exchange(bytes, first.0, was);
-    }
-    damages.len()
+fn plain_style(rt: HostRuntime) -> Result<Shared<Style>, Fail> {
+    let style = Style::new(rt.alloc()).ok().ok_or("there is memory")?;
+    Ok(Shared::new(rt.alloc(), style)?)
 }
 
 #[test]
 fn damaged_queues_are_refused(rt: HostRuntime) -> Result<(), Fail> {
-    let plain = plain_style(rt.alloc())?;
-    let (mut cell, mut lines) = (ONE_CELL, LINES);
-    let cells = refused_queues(rt.alloc(), &plain, &mut cell, &DAMAGES);
-    let lines = refused_queues(rt.alloc(), &plain, &mut lines, &DAMAGED_LINES);
-    assert_eq!(rt; (cells, lines), (DAMAGES.len(), DAMAGED_LINES.len()));
-    Ok(())
-}
-
-/// How many bytes the shortest front of a queue has that is not refused; as many as all bytes where each is.
-fn shortest_queue(alloc: Global, plain: &Shared<Style>, bytes: &[u8]) -> usize {
-    for length in 0..bytes.len() {
-        if !is_no_queue(alloc, plain, &bytes[..length]) {
-            return length;
+    let plain = plain_style(rt)?;
+    for damage in DAMAGES {
+        let mut bytes = ONE_CELL;
+        for (at, byte) in damage {
+            if let Some(place) = bytes.get_mut(at) {
+                *place = byte;
+            }
         }
+        assert!(rt; is_refused(rt, &plain, &bytes));
     }
-    bytes.len()
-}
-
-/// Whether a queue with a further byte is refused.
-fn is_longer_refused(alloc: Global, plain: &Shared<Style>) -> Result<bool, EditError> {
-    let mut longer = Vec::from_slice(alloc, &ONE_CELL)?;
-    longer.push(0)?;
-    Ok(is_no_queue(alloc, plain, &longer))
-}
-
-/// Whether counts that are greater than any list's length are refused.
-fn are_counts_refused(alloc: Global, plain: &Shared<Style>) -> bool {
-    let mut many_entries = ONE_CELL;
-    many_entries[4..12].fill(255);
-    let mut many_diffs = ONE_CELL;
-    many_diffs[13..21].fill(255);
-    is_no_queue(alloc, plain, &many_entries) && is_no_queue(alloc, plain, &many_diffs)
+    Ok(())
 }
 
 #[test]
-fn whole_queues_are_read_and_others_refused(rt: HostRuntime) -> Result<(), Fail> {
-    let plain = plain_style(rt.alloc())?;
-    assert!(rt; decode_queue(rt.alloc(), &plain, &LINES).is_ok());
-    assert!(rt; decode_queue(rt.alloc(), &plain, &ONE_CELL).is_ok());
-    let front = shortest_queue(rt.alloc(), &plain, &ONE_CELL);
-    assert_eq!(rt; front, ONE_CELL.len());
-    assert!(rt; are_counts_refused(rt.alloc(), &plain));
-    assert!(rt; is_longer_refused(rt.alloc(), &plain)?);
+fn damaged_edits_of_lines_are_refused(rt: HostRuntime) -> Result<(), Fail> {
+    let plain = plain_style(rt)?;
+    for (at, byte) in DAMAGED_LINES {
+        let mut bytes = LINES;
+        if let Some(place) = bytes.get_mut(at) {
+            *place = byte;
+        }
+        assert!(rt; is_refused(rt, &plain, &bytes));
+    }
     Ok(())
 }
 
-fn is_empty_queue_written(alloc: Global) -> Result<bool, EditError> {
-    let none = encode_queue(alloc, &[])?;
-    Ok(none.as_slice() == [73, 67, 81, 49, 0, 0, 0, 0, 0, 0, 0, 0].as_slice())
+#[test]
+fn whole_queues_are_read(rt: HostRuntime) -> Result<(), Fail> {
+    let plain = plain_style(rt)?;
+    assert!(rt; decode_queue(rt.alloc(), &plain, &LINES).is_ok());
+    assert!(rt; decode_queue(rt.alloc(), &plain, &ONE_CELL).is_ok());
+    Ok(())
 }
 
-fn is_style_written(alloc: Global, plain: &Shared<Style>) -> Result<bool, EditError> {
-    let style = encode_style(alloc, plain.get())?;
-    Ok(style.as_slice() == &ONE_CELL[54..])
+#[test]
+fn cut_queues_are_refused(rt: HostRuntime) -> Result<(), Fail> {
+    let plain = plain_style(rt)?;
+    for length in 0..ONE_CELL.len() {
+        assert!(rt; is_refused(rt, &plain, &ONE_CELL[..length]));
+    }
+    Ok(())
+}
+
+#[test]
+fn counts_and_ends_are_exact(rt: HostRuntime) -> Result<(), Fail> {
+    let plain = plain_style(rt)?;
+    let mut many_entries = ONE_CELL;
+    many_entries[4..12].fill(255);
+    assert!(rt; is_refused(rt, &plain, &many_entries));
+    let mut many_diffs = ONE_CELL;
+    many_diffs[13..21].fill(255);
+    assert!(rt; is_refused(rt, &plain, &many_diffs));
+    let mut longer = Vec::from_slice(rt.alloc(), &ONE_CELL)?;
+    longer.push(0)?;
+    assert!(rt; is_refused(rt, &plain, &longer));
+    Ok(())
 }
 
 #[test]
 fn queues_and_styles_are_written(rt: HostRuntime) -> Result<(), Fail> {
-    assert!(rt; is_empty_queue_written(rt.alloc())?);
-    let plain = plain_style(rt.alloc())?;
-    assert!(rt; is_style_written(rt.alloc(), &plain)?);
+    let none = encode_queue(rt.alloc(), &[]).ok().ok_or("there is memory")?;
+    assert_eq!(rt;
+        none.as_slice(),
+        [73, 67, 81, 49, 0, 0, 0, 0, 0, 0, 0, 0].as_slice()
+    );
+    let plain = plain_style(rt)?;
+    let style = encode_style(rt.alloc(), plain.get())
+        .ok()
+        .ok_or("there is memory")?;
+    assert_eq!(rt; style.as_slice(), &ONE_CELL[54..]);
     Ok(())
 }
 
 #[test]
 fn diffs_are_read_and_written(rt: HostRuntime) -> Result<(), Fail> {
-    let plain = plain_style(rt.alloc())?;
-    let long = [
-        ARRAY.as_slice(),
-        LINK.as_slice(),
-        MERGES.as_slice(),
-        DELETION.as_slice(),
-        RENAMING.as_slice(),
-        NEW_NAME.as_slice(),
-        CHANGED_NAME.as_slice(),
-    ];
-    let long = part_count::<DiffPart>(rt.alloc(), &plain, &long)?;
-    let short = part_count::<DiffPart>(rt.alloc(), &plain, &SHORT)?;
-    assert_eq!(rt; (long, short), (7, SHORT.len()));
+    for bytes in [ARRAY.as_slice(), LINK.as_slice(), MERGES.as_slice()] {
+        assert!(rt; is_read_and_written(rt, bytes)?);
+    }
     Ok(())
 }
 
-/// Bytes that are no diff, and a renaming that keeps a cut rule.
+fn is_read_and_written(rt: HostRuntime, bytes: &[u8]) -> Result<bool, Fail> {
+    let (diff, rest) = DiffPart::take(rt.alloc(), &plain_style(rt)?, bytes)
+        .ok()
+        .ok_or("the bytes are a diff")?;
+    let mut out = Vec::new(rt.alloc());
+    DiffPart::put(&mut out, &diff)?;
+    Ok(rest.is_empty() && out.as_slice() == bytes)
+}
+
 #[test]
-fn no_diffs_are_refused(rt: HostRuntime) -> Result<(), Fail> {
-    let plain = plain_style(rt.alloc())?;
-    let count = refused_count::<DiffPart>(rt.alloc(), &plain, &NO_DIFFS);
+fn diffs_of_sheets_are_read_and_written(rt: HostRuntime) -> Result<(), Fail> {
+    assert!(rt; is_read_and_written(rt, &DELETION)?);
+    assert!(rt; is_read_and_written(rt, &RENAMING)?);
+    assert!(rt; is_read_and_written(rt, &NEW_NAME)?);
+    assert!(rt; is_read_and_written(rt, &CHANGED_NAME)?);
+    for bytes in SHEETS {
+        assert!(rt; is_read_and_written(rt, bytes)?);
+    }
+    Ok(())
+}
+
+#[test]
+fn diffs_of_sizes_are_read_and_written(rt: HostRuntime) -> Result<(), Fail> {
+    for bytes in SIZES {
+        assert!(rt; is_read_and_written(rt, bytes)?);
+    }
+    let plain = plain_style(rt)?;
+    for bytes in NO_SIZES {
+        assert!(rt;
+            matches!(
+                DiffPart::take(rt.alloc(), &plain, bytes),
+                Err(EditError::ParseDiffs)
+            )
+        );
+    }
+    Ok(())
+}
+
+#[test]
+fn settings_are_read_and_written(rt: HostRuntime) -> Result<(), Fail> {
+    for bytes in SETTINGS {
+        assert!(rt; is_read_and_written(rt, bytes)?);
+    }
+    let plain = plain_style(rt)?;
+    for bytes in NO_SETTINGS {
+        assert!(rt;
+            matches!(
+                DiffPart::take(rt.alloc(), &plain, bytes),
+                Err(EditError::ParseDiffs)
+            )
+        );
+    }
+    Ok(())
+}
+
+#[test]
+fn damaged_diffs_of_sheets_are_refused(rt: HostRuntime) -> Result<(), Fail> {
+    let plain = plain_style(rt)?;
+    for bytes in NO_SHEETS {
+        assert!(rt;
+            matches!(
+                DiffPart::take(rt.alloc(), &plain, bytes),
+                Err(EditError::ParseDiffs)
+            )
+        );
+    }
+    for length in 0..DELETION.len() {
+        let cut = DiffPart::take(rt.alloc(), &plain, &DELETION[..length]);
+        assert!(rt; matches!(cut, Err(EditError::ParseDiffs)));
+    }
+    Ok(())
+}
+
+/// A renaming and a change of a name that are cut anywhere, and a renaming that keeps a cut rule.
+#[test]
+fn damaged_renamings_are_refused(rt: HostRuntime) -> Result<(), Fail> {
+    let plain = plain_style(rt)?;
+    for length in 0..RENAMING.len() {
+        let cut = DiffPart::take(rt.alloc(), &plain, &RENAMING[..length]);
+        assert!(rt; matches!(cut, Err(EditError::ParseDiffs)));
+    }
+    for length in 0..CHANGED_NAME.len() {
+        let cut = DiffPart::take(rt.alloc(), &plain, &CHANGED_NAME[..length]);
+        assert!(rt; matches!(cut, Err(EditError::ParseDiffs)));
+    }
     let mut ruled = RENAMING;
     ruled[52] = 1;
-    let is_cut = is_refused::<DiffPart>(rt.alloc(), &plain, &ruled);
-    assert_eq!(rt; (count, is_cut), (NO_DIFFS.len(), true));
+    let read = DiffPart::take(rt.alloc(), &plain, &ruled);
+    assert!(rt; matches!(read, Err(EditError::ParseDiffs)));
     Ok(())
 }
 
-/// A deletion, a renaming and a change of a name that are cut anywhere.
 #[test]
-fn cut_diffs_are_refused(rt: HostRuntime) -> Result<(), Fail> {
-    let plain = plain_style(rt.alloc())?;
-    let deletion = shortest_front::<DiffPart>(rt.alloc(), &plain, &DELETION);
-    let renaming = shortest_front::<DiffPart>(rt.alloc(), &plain, &RENAMING);
-    let name = shortest_front::<DiffPart>(rt.alloc(), &plain, &CHANGED_NAME);
-    assert_eq!(rt;
-        (deletion, renaming, name),
-        (DELETION.len(), RENAMING.len(), CHANGED_NAME.len())
-    );
-    Ok(())
-}
-
-/// Whether a diff puts the merge of `MERGES` in the place of none.
-fn has_merge(diff: &Diff) -> bool {
+fn merges_are_read(rt: HostRuntime) -> Result<(), Fail> {
+    let (diff, _) = DiffPart::take(rt.alloc(), &plain_style(rt)?, &MERGES)
+        .ok()
+        .ok_or("the bytes are a diff")?;
+    let Diff::Merges { sheet, old, new } = diff else {
+        return Err("the diff is one of merges".into());
+    };
+    assert_eq!(rt; sheet, 1);
+    assert!(rt; old.as_slice().is_empty());
     let merge = MergedCell {
         row: 2,
         column: 3,
         width: 4,
         height: -1,
     };
-    match diff {
-        Diff::Merges { sheet, old, new } => {
-            *sheet == 1 && old.as_slice().is_empty() && new.as_slice() == [merge].as_slice()
-        }
-        _ => false,
-    }
-}
-
-fn is_merge_read(alloc: Global, plain: &Shared<Style>) -> Result<bool, EditError> {
-    let (diff, _) = DiffPart::take(alloc, plain, &MERGES)?;
-    Ok(has_merge(&diff))
-}
-
-#[test]
-fn merges_are_read(rt: HostRuntime) -> Result<(), Fail> {
-    let plain = plain_style(rt.alloc())?;
-    assert!(rt; is_merge_read(rt.alloc(), &plain)?);
+    assert!(rt; new.as_slice() == [merge].as_slice());
     Ok(())
 }

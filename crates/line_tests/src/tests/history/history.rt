@@ -3,16 +3,16 @@ ghost use Rattle.sheet_rules.specs.WellFormed.{IsWellFormed};
 ghost use Rattle.sheet_lines.specs.CanonicalNumbers.{AreCanonicalLines};
 ghost use Rattle.sheet_history.specs.Diffs.{IsCanonicalDiff, IsCanonicalList};
 
-use base_axis::{MergeList, MergedCell};
+use base_axis::{Axis, ColumnAxis, MergeList, MergedCell, RowAxis};
 use base_maps::{IndexMap, NumberMap, PositionMap, SheetPlaceMap};
 use base_shared::Shared;
 use base_styles::Style;
 use base_tables::{Locale, Zone};
 use base_values::{EditError, Items, Position};
-use line_map::EditKind;
+use line_map::{EditKind, LineEdit};
 use sheet_grid::{Cell, Content, LineAttr, Workbook};
 use sheet_history::{Diff, DiffList, LineAxis, back, forward};
-use sheet_lines::KeptLines;
+use sheet_lines::{KeptLines, has_sheet, line_edit};
 use sheet_rules::is_well_formed;
 use std::alloc::Global;
 use std::test::Fail;
@@ -58,7 +58,7 @@ fn only(alloc: Global, diff: Diff) -> Result<DiffList, EditError>
 }
 
 /// A workbook of one empty sheet.
-fn empty_book(alloc: Global) -> Result<Workbook, EditError>
+pub(super) fn empty_book(alloc: Global) -> Result<Workbook, EditError>
     ensures { IfOk result IsWellFormed }
 {
     let book = Workbook::new_empty(alloc, "book", Locale::En, Zone::Utc)?;
@@ -67,6 +67,88 @@ fn empty_book(alloc: Global) -> Result<Workbook, EditError>
     } else {
         Err(EditError::InvalidSheet)
     }
+}
+
+/// A workbook with the cell B2, whose font has that size.
+fn with_cell(alloc: Global, size: i32) -> Result<Workbook, EditError> {
+    let start = empty_book(alloc)?;
+    forward(alloc, &start, &only(alloc, new_cell(alloc, size)?)?)
+}
+
+/// The record of an edit of the lines of the sheet of id 1.
+pub(super) fn record_of<A: Axis>(
+    alloc: Global,
+    start: &Workbook,
+    axis: LineAxis,
+    kind: EditKind,
+) -> Result<DiffList, EditError>
+    requires { IsWellFormed start.now }
+    ensures { IfOk result IsCanonicalList }
+{
+    let edit: LineEdit<A> = LineEdit::new(kind);
+    if !edit.is_valid() || !has_sheet(start, 1) {
+        return Err(EditError::InvalidSheet);
+    }
+    let (_later, kept) = line_edit(alloc, start, 1, &edit)?;
+    let kept = Shared::new(alloc, kept)?;
+    only(
+        alloc,
+        Diff::Lines {
+            sheet: 1,
+            axis,
+            edit: kind,
+            kept,
+        },
+    )
+}
+
+/// Whether the first cell of a workbook stands there, or there is none.
+fn stands_at(book: &Workbook, expected: Option<Position>) -> Result<bool, EditError> {
+    match book.worksheet(0)?.cells().next() {
+        Some((place, _cell)) => Ok(expected == Some(*place)),
+        None => Ok(expected.is_none()),
+    }
+}
+
+/// Whether the record of an edit takes the cell there, and taken back gives the workbook again.
+fn goes_and_returns<A: Axis>(
+    alloc: Global,
+    start: &Workbook,
+    axis: LineAxis,
+    kind: EditKind,
+    expected: Option<Position>,
+) -> Result<bool, EditError>
+    requires { IsWellFormed start.now }
+{
+    let list = record_of::<A>(alloc, start, axis, kind)?;
+    let later = forward(alloc, start, &list)?;
+    if !is_well_formed(&later) || !stands_at(&later, expected)? {
+        return Ok(false);
+    }
+    Ok(back(alloc, &later, &list)? == *start)
+}
+
+/// The same of each kind of edit, where an insertion and a move take the cell to one place.
+fn each_kind_returns<A: Axis>(
+    alloc: Global,
+    start: &Workbook,
+    axis: LineAxis,
+    moved: Position,
+) -> Result<bool, EditError>
+    requires { IsWellFormed start.now }
+{
+    let before = EditKind::Insert { first: 1, count: 1 };
+    let own = EditKind::Delete { first: 2, count: 1 };
+    let on = EditKind::Move {
+        first: 2,
+        count: 1,
+        delta: 1,
+    };
+    Ok(
+        goes_and_returns::<A>(alloc, start, axis, before, Some(moved))?
+            && goes_and_returns::<A>(alloc, start, axis, own, None)?
+            && goes_and_returns::<A>(alloc, start, axis, on, Some(moved))?,
+    )
 }
 
 /// A row that comes before the first one of the sheet of id 1. What it keeps lies outside the
@@ -107,6 +189,32 @@ fn is_refused(made: Result<Workbook, EditError>, diff: u64) -> bool {
     }
 }
 
+/// A cell goes with its row and with its column, and returns.
+#[test]
+fn rows_and_columns_go_and_return(rt: HostRuntime) -> Result<(), Fail> {
+    let alloc = rt.alloc();
+    let start = with_cell(alloc, 13)?;
+    assert!(rt; is_well_formed(&start));
+    let below = Position { row: 3, column: 2 };
+    assert!(rt; each_kind_returns::<RowAxis>(alloc, &start, LineAxis::Rows, below)?);
+    let beside = Position { row: 2, column: 3 };
+    assert!(rt; each_kind_returns::<ColumnAxis>(alloc, &start, LineAxis::Columns, beside)?);
+    Ok(())
+}
+
+/// A font of size 0 breaks a rule, and what is kept outside the sheet is refused by its number,
+/// forward and back.
+#[test]
+fn diffs_are_refused_by_number(rt: HostRuntime) -> Result<(), Fail> {
+    let alloc = rt.alloc();
+    let start = empty_book(alloc)?;
+    assert!(rt; is_refused(with_cell(alloc, 0), 1));
+    let list = cell_and_row(alloc)?;
+    assert!(rt; is_refused(forward(alloc, &start, &list), 1));
+    assert!(rt; is_refused(back(alloc, &start, &list), 1));
+    Ok(())
+}
+
 /// The merges of the sheet of id 1, which had none, and then one that is so many columns wide from
 /// A1 on.
 fn new_merge(alloc: Global, width: i32) -> Result<Diff, EditError>
@@ -126,38 +234,28 @@ fn new_merge(alloc: Global, width: i32) -> Result<Diff, EditError>
     })
 }
 
-/// Whether a diff is refused in an empty workbook, for the diff of that number.
-fn one_is_refused(alloc: Global, change: Diff, diff: u64) -> Result<bool, EditError>
-    requires { IsCanonicalDiff change }
-{
-    let list = only(alloc, change)?;
+/// Whether a merge comes, and goes again.
+fn merge_returns(alloc: Global) -> Result<bool, EditError> {
     let start = empty_book(alloc)?;
+    let list = only(alloc, new_merge(alloc, 16384)?)?;
+    let later = forward(alloc, &start, &list)?;
+    Ok(is_well_formed(&later) && back(alloc, &later, &list)? == start)
+}
+
+/// Whether a merge of that width is refused for the diff of that number.
+fn merge_is_refused(alloc: Global, width: i32, diff: u64) -> Result<bool, EditError> {
+    let start = empty_book(alloc)?;
+    let list = only(alloc, new_merge(alloc, width)?)?;
     Ok(is_refused(forward(alloc, &start, &list), diff))
 }
 
-/// Whether a list is refused, forward and back, for the diff of that number.
-fn is_refused_both_ways(alloc: Global, start: &Workbook, list: &DiffList, diff: u64) -> bool
-    requires rules { IsWellFormed start.now }
-    requires canonical { IsCanonicalList list.now }
-{
-    is_refused(forward(alloc, start, list), diff) && is_refused(back(alloc, start, list), diff)
-}
-
-/// Whether the second of two diffs is refused in an empty workbook, forward and back.
-fn second_is_refused(alloc: Global) -> Result<bool, EditError> {
-    let list = cell_and_row(alloc)?;
-    let start = empty_book(alloc)?;
-    Ok(is_refused_both_ways(alloc, &start, &list, 1))
-}
-
-/// A font of size 0 and a merge of one cell break a rule. A merge that reaches past the last column is
-/// refused by its number, and so is, forward and back, what is kept outside the sheet.
+/// A merge goes and returns; one of one cell breaks a rule, and one that reaches past the last
+/// column is refused by its number.
 #[test]
-fn diffs_are_refused_by_number(rt: HostRuntime) -> Result<(), Fail> {
+fn merges_go_and_return(rt: HostRuntime) -> Result<(), Fail> {
     let alloc = rt.alloc();
-    assert!(rt; one_is_refused(alloc, new_cell(alloc, 0)?, 1)?);
-    assert!(rt; one_is_refused(alloc, new_merge(alloc, 1)?, 1)?);
-    assert!(rt; one_is_refused(alloc, new_merge(alloc, 16_385)?, 0)?);
-    assert!(rt; second_is_refused(alloc)?);
+    assert!(rt; merge_returns(alloc)?);
+    assert!(rt; merge_is_refused(alloc, 1, 1)?);
+    assert!(rt; merge_is_refused(alloc, 16385, 0)?);
     Ok(())
 }

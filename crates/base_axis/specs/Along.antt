@@ -1,5 +1,8 @@
 -- A direction of a sheet, as definitions speak of it.
-use Rattle.std.proofs.Common.{◌≡◌, ◌⊎◌, Bool, ℤ, pos, ◌≤ℤ◌}
+use Rattle.std.proofs.Common.{◌≡◌, ◌⊎◌, Bool, true, false, ℤ, pos, ◌≤ℤ◌}
+use Rattle.std.specs.Prelude.{if◌then◌else◌}
+use Rattle.base_values.specs.declared.EditError.{EditError}
+use Rattle.base_values.specs.declared.EditError.TheVariants.{InvalidColumn, InvalidRow}
 use Rattle.base_values.specs.declared.Position.{Position}
 use Rattle.base_values.specs.Places.{IsLine, IsPlace}
 
@@ -34,6 +37,10 @@ columns = record {
   of = λ row column. column;
   count_of = λ rows columns. columns;
 }
+
+-- the refusal of a line that is not one of the axis
+abbrev pub outside : Along → EditError
+outside a = if a.of true false then InvalidRow else InvalidColumn
 
 -- the laws of an axis: the line put in is the line got, the cross line stays, and putting a place's own line changes nothing
 pub record IsAxis (a : Along) : Type 0 where

@@ -1,7 +1,8 @@
-ghost use Rattle.std.specs.Prelude.{◌≡◌, ℤ};
-ghost use Rattle.base_axis.specs.Along.{Along, IsAxis};
+ghost use Rattle.std.specs.Prelude.{◌≡◌, ◌≢◌, ℤ};
+ghost use Rattle.base_axis.specs.Along.{Along, IsAxis, outside};
+ghost use Rattle.base_values.specs.declared.EditError.TheVariants.{NoMemory};
 
-use base_values::{Exact, LAST_COLUMN, LAST_ROW, Position};
+use base_values::{EditError, Exact, LAST_COLUMN, LAST_ROW, Position};
 
 /// A direction of a sheet: along it each place has a line, and across it another one. Lines are
 /// counted from 1. docs/MODEL.md has the rules.
@@ -127,4 +128,16 @@ impl Axis for ColumnAxis {
     ghost last_is = { refl };
 
     ghost lawful = { columns_lawful };
+}
+
+/// The refusal of a line that is not one of the axis: `InvalidRow` or `InvalidColumn`.
+pub fn outside<A: Axis>() -> EditError
+    ensures line { result ≡ outside A.along }
+    ensures sure { result ≢ NoMemory }
+{
+    if A::of(true, false) {
+        EditError::InvalidRow
+    } else {
+        EditError::InvalidColumn
+    }
 }

@@ -9,7 +9,7 @@ mod merge_list;
 mod merged_cell;
 
 pub use area::Area;
-pub use axis::{Axis, ColumnAxis, RowAxis};
-pub use axis_map::AxisMap;
+pub use axis::{Axis, ColumnAxis, RowAxis, outside};
+pub use axis_map::{AxisMap, LineKeys};
 pub use merge_list::MergeList;
 pub use merged_cell::MergedCell;

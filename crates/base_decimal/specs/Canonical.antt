@@ -1,4 +1,4 @@
--- Which decimals a workbook keeps.
+-- Which decimals are canonical, as those of workbooks are.
 use Rattle.std.specs.Prelude.{◌+◌, ◌%◌, ◌^◌, Bool, not, ◌&&◌, ◌==◌, nat_lt, nat_le, unsigned_abs, IsTrue}
 use Rattle.base_decimal.specs.declared.decimal.Decimal.{Decimal}
 
@@ -10,6 +10,6 @@ is_trimmed d = not (nat_lt 0 d.places && (unsigned_abs d.mantissa % 10 == 0))
 unfoldable pub is_canonical : Decimal → Bool
 is_canonical d = nat_le d.places 15 && nat_lt (unsigned_abs d.mantissa) (10 ^ (15 + d.places)) && is_trimmed d
 
--- a decimal that a workbook keeps
+-- a canonical decimal
 abbrev pub IsCanonical : Decimal → Type 0
 IsCanonical d = IsTrue (is_canonical d)

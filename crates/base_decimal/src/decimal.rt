@@ -14,8 +14,8 @@ use std::alloc::Global;
 
 /// A number: the mantissa over 10 to the power of the places.
 ///
-/// A workbook keeps numbers of at most 15 digits on each side of the point, with no zero digit at
-/// the end of the places.
+/// The numbers of workbooks are canonical: at most 15 digits on each side of the point, and no zero
+/// digit at the end of the places.
 #[derive(Clone, Copy, Debug, PartialEq, Eq)]
 pub struct Decimal {
     pub mantissa: i128,
@@ -75,8 +75,8 @@ impl Decimal {
         Ok(print::print(alloc, self, sign_byte(locale))?)
     }
 
-    /// Whether a workbook keeps the number in this form: at most 15 digits on each side of the
-    /// point, and no zero digit at the end of the places.
+    /// Whether the number is canonical: at most 15 digits on each side of the point, and no zero digit
+    /// at the end of the places.
     #[tactic(auto, unfolding(crate::specs::Canonical::is_canonical))]
     pub fn is_canonical(&self) -> bool
         ensures { IsTrue result ↔ IsCanonical self.now }

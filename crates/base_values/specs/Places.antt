@@ -40,6 +40,10 @@ same_position a b = int_eq a.row b.row && int_eq a.column b.column
 abbrev pub is_line : ℤ → ℤ → Bool
 is_line last line = int_le (pos 1) line && int_le line last
 
+-- whether a position is a place of a sheet
+abbrev pub is_place : Position → Bool
+is_place place = is_line (pos 1048576) place.row && is_line (pos 16384) place.column
+
 -- a line of an axis, or the refusal of one outside
 unfoldable pub line_of : ℤ → ℤ → EditError → Result ℤ EditError
 line_of last line refusal = if is_line last line then Ok line else Err refusal

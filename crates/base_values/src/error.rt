@@ -21,7 +21,7 @@ pub enum EditError {
     InvalidArea,
     #[error("the count of lines is below 1")]
     BadCount,
-    #[error("the last line that is in use would be pushed past the edge of the sheet")]
+    #[error("the last line in use and the count together exceed the last line of the sheet")]
     OverEdge,
     #[error("the lines or their target reach outside the sheet")]
     TargetOutOfBounds,

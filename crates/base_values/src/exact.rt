@@ -35,6 +35,14 @@ impl Exact for i32 {
     ghost equals = { signed_Decides };
 }
 
+impl Exact for u64 {
+    ghost use Rattle.std.specs.Cmp.{unsigned_Decides};
+
+    ghost copies = { λ a b h. h };
+
+    ghost equals = { unsigned_Decides };
+}
+
 impl Exact for bool {
     ghost use Rattle.std.specs.Cmp.{booleans_Decides};
 

@@ -1,6 +1,6 @@
 ghost use Rattle.std.specs.Prelude.{◌≡◌, ◌≢◌, Err, IfOk, IsTrue};
 ghost use Rattle.base_values.specs.declared.error.EditError.TheVariants.{NoMemory};
-ghost use Rattle.base_values.specs.Places.{IsLine, IsPlace, is_line, line_of, place_of};
+ghost use Rattle.base_values.specs.Places.{IsLine, IsPlace, is_line, is_place, line_of, place_of};
 
 use crate::error::EditError;
 use crate::exact::Exact;
@@ -27,11 +27,19 @@ impl Exact for Position {
     ghost equals = { position_equals };
 }
 
-fn is_line(last: i32, line: i32) -> bool
+/// Whether a number is that of a line of an axis that ends at `last`.
+pub fn is_line(last: i32, line: i64) -> bool
     ensures value { result ≡ is_line last line }
     ensures inside { IsTrue result → IsLine last line }
 {
-    1 <= line && line <= last
+    1 <= line && line <= i64::from(last)
+}
+
+/// Whether a position is a place of a sheet.
+pub fn is_place(place: Position) -> bool
+    ensures { result ≡ is_place place }
+{
+    is_line(LAST_ROW, place.row as i64) && is_line(LAST_COLUMN, place.column as i64)
 }
 
 /// A line of an axis that ends at `last`, or the refusal where it lies outside.
@@ -41,7 +49,7 @@ pub fn line_of(last: i32, line: i32, refusal: EditError) -> Result<i32, EditErro
     ensures inside { IfOk result (IsLine last) }
     ensures sure { refusal ≢ NoMemory → result ≢ Err NoMemory }
 {
-    if !is_line(last, line) {
+    if !is_line(last, line as i64) {
         return Err(refusal);
     }
     Ok(line)
@@ -56,10 +64,10 @@ pub fn place_of(row: i32, column: i32) -> Result<Position, EditError>
     ensures inside { IfOk result IsPlace }
     ensures sure { result ≢ Err NoMemory }
 {
-    if !is_line(LAST_ROW, row) {
+    if !is_line(LAST_ROW, row as i64) {
         return Err(EditError::InvalidRow);
     }
-    if !is_line(LAST_COLUMN, column) {
+    if !is_line(LAST_COLUMN, column as i64) {
         return Err(EditError::InvalidColumn);
     }
     Ok(Position { row, column })

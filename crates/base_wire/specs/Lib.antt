@@ -1,5 +1,5 @@
 pub mod Reads
 pub mod Spelling
 pub mod Parts
-pub mod Reading
+pub mod Forms
 pub mod laws

@@ -16,9 +16,6 @@ abbrev pub boolean_code : Bool → ℕ
 boolean_code false = 0
 boolean_code true = 1
 
-abbrev pub booleans : List Bool
-booleans = false ∷ true ∷ []
-
 -- the length of a text in eight bytes, and its UTF-8
 abbrev pub spell_text : List ℕ → List ℕ
 spell_text text = to_be_bytes w64 (length text) ++ text

@@ -1,3 +1,4 @@
+pub mod Reading
 pub mod Again
 pub mod Sixteen
 pub mod Spelled

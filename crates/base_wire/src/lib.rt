@@ -4,7 +4,7 @@
 //! A [`Part`] is a type whose values have a spelling. The layers above see of it the spelling, which is
 //! a function of the value, and what bytes can carry: a value that they can carry is read again from
 //! its spelling, whatever follows, what is read was spelled so, and all else is refused with
-//! `ParseDiffs`. `specs/Reading.antt` has each reader's steps as a function, which serves proofs
+//! `ParseDiffs`. `specs/laws/Reading.antt` has the steps of each reader as a function, which serves proofs
 //! alone; `specs/laws/` ties them to the spellings.
 #![tactic(auto)]
 

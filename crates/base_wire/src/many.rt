@@ -3,7 +3,7 @@
 ghost use Rattle.std.specs.Prelude.{◌≡◌, ◌++◌, OnOk};
 ghost use Rattle.std.specs.List.{AllByRecursion};
 ghost use Rattle.base_values.specs.Answers.{Answers, map_ok};
-ghost use Rattle.base_wire.specs.Reading.{list_at, many_at, option_at};
+ghost use Rattle.base_wire.specs.laws.Reading.{list_at, many_at, option_at};
 ghost use Rattle.base_wire.specs.Spelling.{spell_list, FitsItems};
 
 use crate::part::{Part, read};
@@ -77,7 +77,7 @@ pub fn put_items<P: Part>(out: &mut Vec<u8>, items: &[P::Value]) -> Result<(), A
 
 impl<P: Part> Part for Option<P> {
     ghost use Rattle.std.specs.Prelude.{IfSome};
-    ghost use Rattle.base_wire.specs.Reading.{option_at};
+    ghost use Rattle.base_wire.specs.laws.Reading.{option_at};
     ghost use Rattle.base_wire.specs.Spelling.{spell_option};
     ghost use Rattle.base_wire.specs.laws.Format.{option_format};
     ghost use Rattle.base_wire.specs.laws.Parts.{option_some};
@@ -121,7 +121,7 @@ impl<P: Part> Part for Option<P> {
 impl<P: Part> Part for Items<P> {
     ghost use Rattle.std.proofs.Common.{arith};
     ghost use Rattle.std.specs.List.{AllByRecursion};
-    ghost use Rattle.base_wire.specs.Reading.{list_at};
+    ghost use Rattle.base_wire.specs.laws.Reading.{list_at};
     ghost use Rattle.base_wire.specs.Spelling.{spell_list, FitsItems};
     ghost use Rattle.base_wire.specs.laws.Format.{list_format};
 

@@ -3,7 +3,7 @@
 ghost use Rattle.std.specs.Prelude.{◌≡◌, ◌++◌, ◌≤◌, OnOk, List, ℕ, length};
 ghost use Rattle.base_values.specs.Answers.{Answers, map_ok};
 ghost use Rattle.base_wire.specs.Reads.{Reads};
-ghost use Rattle.base_wire.specs.Reading.{Reader};
+ghost use Rattle.base_wire.specs.laws.Reading.{Reader};
 ghost use Rattle.base_wire.specs.laws.Format.{Format};
 
 use base_values::EditError;

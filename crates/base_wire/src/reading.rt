@@ -7,8 +7,7 @@ ghost use Rattle.base_values.specs.declared.EditError.TheVariants.{ParseDiffs};
 ghost use Rattle.std.specs.Int.{w32, w64, w128};
 ghost use Rattle.std.specs.Str.{is_utf8};
 ghost use Rattle.base_values.specs.Answers.{Answers, map_ok};
-ghost use Rattle.base_wire.specs.Reading.{byte_at, bytes_at, count_at, number_at, signed_at, text_at};
-ghost use Rattle.base_wire.specs.Parts.{boolean_at, decimal_at, error_at};
+ghost use Rattle.base_wire.specs.laws.Reading.{byte_at, bytes_at, count_at, number_at, signed_at, text_at, boolean_at, decimal_at, error_at};
 
 use crate::codes::boolean_of;
 use base_decimal::Decimal;
@@ -113,8 +112,8 @@ pub(crate) fn error_at(bytes: &[u8]) -> Result<(Error, &[u8]), EditError>
     }
 }
 
-/// A decimal that a workbook keeps.
-#[tactic(auto, unfolding(crate::specs::Parts::decimal_at))]
+/// A canonical decimal.
+#[tactic(auto, unfolding(crate::specs::laws::Reading::decimal_at))]
 pub(crate) fn decimal_at(bytes: &[u8]) -> Result<(Decimal, &[u8]), EditError>
     ensures { Answers (map_ok (λ x. (x.0, x.1.now)) result) (decimal_at bytes.now) }
 {
@@ -140,7 +139,7 @@ pub(crate) fn count_at(bytes: &[u8]) -> Result<(u64, &[u8]), EditError>
 }
 
 /// A length, and so many bytes of UTF-8. Also refuses with `NoMemory`.
-#[tactic(auto, unfolding(crate::specs::Reading::text_at))]
+#[tactic(auto, unfolding(crate::specs::laws::Reading::text_at))]
 pub(crate) fn text_at(alloc: Global, bytes: &[u8]) -> Result<(Text, &[u8]), EditError>
     ensures { Answers (map_ok (λ x. (x.0, x.1.now)) result) (text_at bytes.now) }
 {

@@ -13,7 +13,7 @@ impl Part for u8 {
     ghost use Rattle.std.specs.Prelude.{◌<◌, ◌^◌, [], ◌∷◌};
     ghost use Rattle.std.proofs.Common.{arith};
     ghost use Rattle.base_wire.specs.Spelling.{Any};
-    ghost use Rattle.base_wire.specs.Reading.{byte_at};
+    ghost use Rattle.base_wire.specs.laws.Reading.{byte_at};
     ghost use Rattle.base_wire.specs.laws.Parts.{byte_format};
 
     type Value = u8;
@@ -51,7 +51,7 @@ impl Part for u32 {
     ghost use Rattle.std.specs.Int.{w32, to_be_bytes};
     ghost use Rattle.std.proofs.Common.{arith};
     ghost use Rattle.base_wire.specs.Spelling.{Any};
-    ghost use Rattle.base_wire.specs.Reading.{number_at};
+    ghost use Rattle.base_wire.specs.laws.Reading.{number_at};
     ghost use Rattle.base_wire.specs.laws.Parts.{short_format};
 
     type Value = u32;
@@ -88,7 +88,7 @@ impl Part for u64 {
     ghost use Rattle.std.specs.Int.{w64, to_be_bytes};
     ghost use Rattle.std.proofs.Common.{arith};
     ghost use Rattle.base_wire.specs.Spelling.{Any};
-    ghost use Rattle.base_wire.specs.Reading.{number_at};
+    ghost use Rattle.base_wire.specs.laws.Reading.{number_at};
     ghost use Rattle.base_wire.specs.laws.Parts.{long_format};
 
     type Value = u64;
@@ -125,7 +125,7 @@ impl Part for i32 {
     ghost use Rattle.std.specs.Int.{w32};
     ghost use Rattle.std.proofs.Common.{arith};
     ghost use Rattle.base_wire.specs.Spelling.{spell_signed, Any};
-    ghost use Rattle.base_wire.specs.Reading.{signed_at};
+    ghost use Rattle.base_wire.specs.laws.Reading.{signed_at};
     ghost use Rattle.base_wire.specs.laws.Parts.{signed_format};
 
     type Value = i32;
@@ -160,7 +160,7 @@ impl Part for i32 {
 impl Part for bool {
     ghost use Rattle.std.proofs.Common.{arith};
     ghost use Rattle.base_wire.specs.Spelling.{boolean_code, spell_code, Any};
-    ghost use Rattle.base_wire.specs.Parts.{boolean_at};
+    ghost use Rattle.base_wire.specs.laws.Reading.{boolean_at};
     ghost use Rattle.base_wire.specs.laws.Parts.{boolean_format};
 
     type Value = bool;
@@ -197,7 +197,7 @@ impl Part for Error {
     ghost use Rattle.std.proofs.Common.{arith};
     ghost use Rattle.base_tables.specs.Error.{error_code};
     ghost use Rattle.base_wire.specs.Spelling.{spell_code, Any};
-    ghost use Rattle.base_wire.specs.Parts.{error_at};
+    ghost use Rattle.base_wire.specs.laws.Reading.{error_at};
     ghost use Rattle.base_wire.specs.laws.Parts.{error_format};
 
     type Value = Error;
@@ -232,7 +232,8 @@ impl Part for Error {
 
 impl Part for Decimal {
     ghost use Rattle.base_decimal.specs.Canonical.{IsCanonical};
-    ghost use Rattle.base_wire.specs.Parts.{spell_decimal, decimal_at};
+    ghost use Rattle.base_wire.specs.Parts.{spell_decimal};
+    ghost use Rattle.base_wire.specs.laws.Reading.{decimal_at};
     ghost use Rattle.base_wire.specs.laws.Parts.{decimal_format, decimal_some};
 
     type Value = Decimal;
@@ -267,7 +268,7 @@ impl Part for Decimal {
 impl Part for Text {
     ghost use Rattle.std.proofs.Common.{arith};
     ghost use Rattle.base_wire.specs.Spelling.{spell_text, Any, FitsText};
-    ghost use Rattle.base_wire.specs.Reading.{text_at};
+    ghost use Rattle.base_wire.specs.laws.Reading.{text_at};
     ghost use Rattle.base_wire.specs.laws.Parts.{text_format};
 
     type Value = Text;

@@ -15,14 +15,14 @@ use Rattle.cell_content.specs.Fitting.{tree_fits_at}
 use Rattle.cell_content.specs.Lens.{tree_of}
 use Rattle.format_rules.specs.declared.ConditionalFormatting.{ConditionalFormatting}
 use Rattle.format_rules.specs.Fitting.{has_fitting_trees, has_parts}
-use Rattle.index_maps.specs.declared.SheetIndex.{SheetIndex}
-use Rattle.index_maps.specs.SheetIndexes.{sheet_index_cmp}
+use Rattle.base_maps.specs.declared.SheetIndex.{SheetIndex}
+use Rattle.base_maps.specs.SheetIndexes.{sheet_index_cmp}
 use Rattle.sheet_grid.specs.declared.Cell.{Cell}
 use Rattle.sheet_grid.specs.Sheet.{Sheet}
 use Rattle.sheet_grid.specs.Book.{Book}
 use Rattle.sheet_rules.specs.Names.{first_place}
 use Rattle.sheet_rules.specs.SheetNames.{is_sheet_name}
-use Rattle.sheet_rules.specs.WellFormed.{is_place}
+use Rattle.base_values.specs.Places.{is_place}
 use Rattle.sheet_lines.specs.Sheets.{sheet_of}
 use Rattle.book_names.specs.declared.kept_trees.KeptTrees.{KeptTrees}
 use Rattle.book_names.specs.Renaming.{book_renamed, book_back}

@@ -1,10 +1,9 @@
 -- Formulas of a workbook after a renaming, what the opposite renaming does not give back, and the formulas taken back with it; and a
 -- workbook whose sheet was renamed.
 use Rattle.std.specs.Prelude.{◌≡◌, ℕ, ◌==◌, true, List, map, Option, Some, None, IfSome, if◌then◌else◌}
-use Rattle.std.specs.List.{enumerate_from, filter_map}
 use Rattle.std.specs.Option.{option_map}
 use Rattle.std.specs.Ordering.{nat_cmp}
-use Rattle.std.specs.FinMap.{FinMap, from_entries, get}
+use Rattle.std.specs.FinMap.{FinMap, get}
 use Rattle.base_values.specs.declared.Position.{Position}
 use Rattle.base_values.specs.Places.{position_cmp}
 use Rattle.base_maps.specs.Carried.{carried_map, gathered, if_there, settled}
@@ -24,14 +23,14 @@ use Rattle.format_rules.specs.contracts.formatting.ConditionalFormattingPartialE
 use Rattle.format_rules.specs.Canonical.{IsCanonicalFormatting}
 use Rattle.format_rules.specs.Fitting.{StandsInside}
 use Rattle.format_rules.specs.RuleTrees.{trees_changed}
-use Rattle.index_maps.specs.declared.SheetIndex.{SheetIndex}
-use Rattle.index_maps.specs.SheetIndexes.{sheet_index_cmp}
-use Rattle.index_maps.specs.Tagged.{all_under as indexes_under, index_on}
+use Rattle.base_maps.specs.declared.SheetIndex.{SheetIndex}
+use Rattle.base_maps.specs.SheetIndexes.{sheet_index_cmp}
+use Rattle.base_maps.specs.TaggedIndexes.{all_under as indexes_under, index_on}
 use Rattle.line_map.specs.Contents.{with_new_tree, cell_restored}
 use Rattle.sheet_grid.specs.declared.Cell.{Cell}
 use Rattle.sheet_grid.specs.Sheet.{Sheet}
 use Rattle.sheet_grid.specs.Book.{Book}
-use Rattle.rule_lines.specs.ByIndex.{kept_by_index, restored_by_index}
+use Rattle.base_maps.specs.ByIndex.{kept_by_index, restored_by_index}
 use Rattle.sheet_lines.specs.CanonicalNumbers.{AreCanonicalFormulas}
 use Rattle.book_names.specs.declared.kept_trees.KeptTrees.{KeptTrees}
 
@@ -65,13 +64,13 @@ sheet_renamed id old new sheet = record sheet {
   formattings = formattings_renamed Sheets old new sheet.formattings;
 }
 
--- a defined name in whose tree the name of a sheet is renamed
-abbrev pub defined_renamed : List ℕ → List ℕ → DefinedName → DefinedName
-defined_renamed old new name = record name { formula = tree_renamed Sheets old new name.formula }
+-- a defined name whose tree is renamed
+abbrev pub defined_renamed : Reach → List ℕ → List ℕ → DefinedName → DefinedName
+defined_renamed reach old new name = record name { formula = tree_renamed reach old new name.formula }
 
 -- a workbook whose sheet of an id is renamed: the trees of all sheets and of all defined names are, and all else stays
 abbrev pub book_renamed : ℕ → List ℕ → List ℕ → Book → Book
-book_renamed id old new book = record book { names = map (defined_renamed old new) book.names; worksheets = map (sheet_renamed id old new) book.worksheets }
+book_renamed id old new book = record book { names = map (defined_renamed Sheets old new) book.names; worksheets = map (sheet_renamed id old new) book.worksheets }
 
 -- ---- what is kept
 
@@ -91,13 +90,13 @@ formulas_kept there back old new sheets = all_under (λ (sheet : Sheet). sheet.i
 abbrev pub everywhere : ℕ → Reach
 everywhere id = Sheets
 
--- of a defined name at a place of the list
-abbrev pub defined_kept : List ℕ → List ℕ → ℕ × DefinedName → Option (ℕ × Node)
-defined_kept old new entry = option_map (λ tree. (entry.0, tree)) (tree_kept Sheets Sheets old new entry.1.formula)
+-- of a defined name: its tree, where the opposite renaming of a sheet does not give it
+abbrev pub defined_kept : List ℕ → List ℕ → DefinedName → Option Node
+defined_kept old new name = tree_kept Sheets Sheets old new name.formula
 
 -- of the defined names, by their places in the list
 abbrev pub names_kept : List ℕ → List ℕ → List DefinedName → FinMap nat_cmp Node
-names_kept old new names = from_entries (filter_map (defined_kept old new) (enumerate_from 0 names))
+names_kept old new names = kept_by_index (defined_kept old new) names
 
 -- of a conditional rule: the whole rule, where the opposite renaming does not give it
 unfoldable pub formatting_kept : Reach → Reach → List ℕ → List ℕ → ConditionalFormatting → Option ConditionalFormatting
@@ -166,12 +165,13 @@ sheet_back id old new kept sheet = record sheet {
   formattings = formattings_back Sheets old new (formattings_under kept sheet.id) sheet.formattings;
 }
 
--- a defined name at a place of the list, whose tree is the kept one or renamed back
-abbrev pub defined_back : Reach → List ℕ → List ℕ → (ℕ → Option Node) → ℕ × DefinedName → DefinedName
-defined_back reach old new kept entry = record entry.1 { formula = settled (tree_renamed reach new old) (λ _ tree. tree) (kept entry.0) entry.1.formula }
+-- a defined name with the tree that is kept of it
+abbrev pub with_kept_tree : DefinedName → Node → DefinedName
+with_kept_tree name tree = record name { formula = tree }
 
+-- each defined name with the tree that is kept of it, if there is one, else renamed back
 abbrev pub names_back : Reach → List ℕ → List ℕ → (ℕ → Option Node) → List DefinedName → List DefinedName
-names_back reach old new kept names = map (defined_back reach old new kept) (enumerate_from 0 names)
+names_back reach old new kept names = restored_by_index (defined_renamed reach new old) with_kept_tree kept names
 
 -- a workbook whose sheet of an id gets its old name back: every tree is the kept one or renamed back, and all else stays
 abbrev pub book_back : ℕ → List ℕ → List ℕ → KeptTrees → Book → Book

@@ -11,21 +11,20 @@ ghost use Rattle.book_names.specs.Renaming.{AreCanonicalTrees, ArePlacedTrees};
 
 use crate::kept_trees::KeptTrees;
 use crate::sheets::{book_back, book_renamed};
-use crate::standing::{is_formula, is_place};
-use base_maps::{IndexMap, SheetPlaceMap};
+use crate::standing::is_formula;
+use base_maps::{IndexMap, SheetIndexMap, SheetPlaceMap};
 use base_shared::Shared;
-use base_values::{EditError, Position};
+use base_values::{EditError, Position, is_place};
 use cell_content::tree_fits_at;
 use format_rules::{ConditionalFormatting, has_fitting_trees, has_parts};
 use formula_tree::Node;
-use index_maps::SheetIndexMap;
 use sheet_grid::{Workbook, Worksheet};
 use sheet_lines::{has_sheet, sheet_of};
 use std::alloc::Global;
 
 /// Whether each kept tree of a cell stands at a place of a sheet.
 #[tactic(auto, unfolding(crate::specs::RenameDiffs::stand_on_places))]
-fn stand_on_places(formulas: &SheetPlaceMap<Shared<Node>>) -> bool
+pub fn stand_on_places(formulas: &SheetPlaceMap<Shared<Node>>) -> bool
     ensures { result ≡ stand_on_places formulas.now }
 {
     formulas.iter().all(|(key, _tree)| is_place(key.place))

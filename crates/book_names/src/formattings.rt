@@ -5,20 +5,19 @@ ghost use Rattle.std.specs.Option.{option_copied};
 ghost use Rattle.base_values.specs.declared.EditError.TheVariants.{NoMemory};
 ghost use Rattle.base_maps.specs.Carried.{settled};
 ghost use Rattle.base_maps.specs.laws.Gathering.{with_made};
-ghost use Rattle.rule_lines.specs.ByIndex.{kept_at, restored_at};
+ghost use Rattle.base_maps.specs.ByIndex.{kept_at, restored_at};
 ghost use Rattle.rule_lines.specs.Canonical.{AreCanonicalKept};
 ghost use Rattle.book_names.specs.Renaming.{AreCanonicalTrees, formatting_renamed, formattings_renamed, formatting_kept, own_formattings_kept};
 ghost use Rattle.book_names.specs.Renaming.{formattings_back, formattings_under};
 
 use crate::cells::Returned;
 use crate::names::renamed_tree;
-use base_maps::IndexMap;
+use base_maps::{IndexMap, SheetIndex};
 use base_shared::Shared;
 use base_values::{EditError, Items, Text, copy_of};
 use format_rules::{ConditionalFormatting, RuleList, TreeChange, change_trees};
 use formula_names::Reach;
 use formula_tree::Node;
-use index_maps::SheetIndex;
 use std::alloc::Global;
 
 /// Formulas that are renamed, as far as the renaming reaches.

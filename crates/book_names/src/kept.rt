@@ -91,7 +91,7 @@ fn kept_of_sheet(
     kept_of_cells(alloc, sheet.cell_map(), there, back, old, new)
 }
 
-/// Those of one sheet, where the two renamings reach what they do in the sheet of its id.
+/// What is kept of one sheet. The two renamings reach there what `reach_in` gives for its id.
 fn kept_where_reached<T: SheetReach, B: SheetReach>(
     alloc: Global,
     sheet: &Worksheet,
@@ -116,7 +116,7 @@ fn kept_where_reached<T: SheetReach, B: SheetReach>(
     )
 }
 
-/// Those of each sheet, under its id, where a renaming and the opposite one reach what they do there.
+/// The trees of cells that the opposite renaming does not give, by the id of the sheet and the place.
 /// `NoMemory` alone is an error.
 pub fn kept_formulas<T: SheetReach, B: SheetReach>(
     alloc: Global,

@@ -8,15 +8,14 @@ ghost use Rattle.book_names.specs.Renaming.{AreCanonicalFormattings, own_formatt
 use crate::formattings::{BothWays, kept_of_rules};
 use crate::reaching::SheetReach;
 use crate::sheets::shared_name;
-use base_maps::IndexMap;
+use base_maps::{IndexMap, SheetIndexMap};
 use base_shared::Shared;
 use base_values::{EditError, Text};
 use format_rules::ConditionalFormatting;
-use index_maps::SheetIndexMap;
 use sheet_grid::Worksheet;
 use std::alloc::Global;
 
-/// Those of one sheet, where the two renamings reach what they do in the sheet of its id.
+/// What is kept of one sheet. The two renamings reach there what `reach_in` gives for its id.
 fn kept_where_reached<T: SheetReach, B: SheetReach>(
     alloc: Global,
     sheet: &Worksheet,
@@ -40,7 +39,7 @@ fn kept_where_reached<T: SheetReach, B: SheetReach>(
     kept_of_rules(alloc, sheet.conditional_formatting(), &ways)
 }
 
-/// Those of each sheet, under its id.
+/// The same of all sheets, by id.
 fn kept_of_sheets<T: SheetReach, B: SheetReach>(
     alloc: Global,
     sheets: &[Worksheet],
@@ -61,7 +60,7 @@ fn kept_of_sheets<T: SheetReach, B: SheetReach>(
     Ok(kept)
 }
 
-/// Those of each sheet, under its id, where a renaming and the opposite one reach what they do there.
+/// The rules that the opposite renaming does not give back, by the id of the sheet and the index.
 /// `NoMemory` alone is an error.
 pub fn kept_formattings<T: SheetReach, B: SheetReach>(
     alloc: Global,

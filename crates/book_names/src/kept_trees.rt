@@ -1,9 +1,8 @@
-use base_maps::{IndexMap, SheetPlaceMap};
+use base_maps::{IndexMap, SheetIndexMap, SheetPlaceMap};
 use base_shared::Shared;
 use base_values::Exact;
 use format_rules::ConditionalFormatting;
 use formula_tree::Node;
-use index_maps::SheetIndexMap;
 
 /// The trees and the conditional rules of a workbook that the opposite renaming of a sheet does not give
 /// back. docs/MODEL.md has the rules.

@@ -22,7 +22,7 @@ mod reaching;
 mod sheets;
 mod standing;
 
-pub use diffs::{lie_in_sheets, may_stand, rename_back, rename_forward};
+pub use diffs::{lie_in_sheets, may_stand, rename_back, rename_forward, stand_on_places};
 pub use kept::kept_formulas;
 pub use kept_rules::kept_formattings;
 pub use kept_trees::KeptTrees;
@@ -31,4 +31,4 @@ pub use names::list_back;
 pub use naming::may_be_named;
 pub use reaching::SheetReach;
 pub use sheets::{shared_name, with_formulas_back, with_formulas_renamed, with_lists};
-pub use standing::{is_formula, is_line, is_place};
+pub use standing::is_formula;

@@ -1,15 +1,16 @@
 //! The defined names of a workbook, each with its tree renamed, kept or taken back.
 
 ghost use Rattle.std.specs.Prelude.{◌≡◌, map, IfOk, IsOkUnless, OnOk};
-ghost use Rattle.std.specs.List.{enumerate_from};
 ghost use Rattle.std.specs.Option.{option_copied};
 ghost use Rattle.std.specs.FinMap.{get};
 ghost use Rattle.base_values.specs.declared.EditError.TheVariants.{NoMemory};
 ghost use Rattle.base_maps.specs.Carried.{settled};
 ghost use Rattle.base_maps.specs.laws.Gathering.{with_made};
+ghost use Rattle.base_maps.specs.ByIndex.{kept_at, restored_at};
+ghost use Rattle.formula_names.specs.declared.Reach.TheVariants.{Sheets};
 ghost use Rattle.formula_names.specs.Renamed.{tree_renamed};
 ghost use Rattle.sheet_lines.specs.CanonicalNumbers.{AreCanonicalFormulas};
-ghost use Rattle.book_names.specs.Renaming.{defined_renamed, defined_kept, names_kept, defined_back, names_back};
+ghost use Rattle.book_names.specs.Renaming.{defined_renamed, defined_kept, names_kept, with_kept_tree, names_back};
 
 use crate::cells::stays;
 use base_maps::IndexMap;
@@ -53,13 +54,14 @@ fn with_formula(name: &DefinedName, formula: Shared<Node>) -> Result<DefinedName
 fn renamed_name(
     alloc: Global,
     name: &DefinedName,
+    reach: Reach,
     old: &str,
     new: &Shared<Text>,
 ) -> Result<DefinedName, EditError>
-    ensures name { IfOk result (λ made. made ≡ defined_renamed old.now new.now name.now) }
+    ensures name { IfOk result (λ made. made ≡ defined_renamed reach old.now new.now name.now) }
     ensures only { IsOkUnless result NoMemory }
 {
-    let formula = renamed_tree(alloc, &name.formula, Reach::Sheets, old, new)?;
+    let formula = renamed_tree(alloc, &name.formula, reach, old, new)?;
     with_formula(name, formula)
 }
 
@@ -69,37 +71,37 @@ fn names_renamed(
     old: &str,
     new: &Shared<Text>,
 ) -> Result<Items<DefinedName>, EditError>
-    ensures names { IfOk result (λ made. made ≡ map (defined_renamed old.now new.now) names.now) }
+    ensures names { IfOk result (λ made. made ≡ map (defined_renamed Sheets old.now new.now) names.now) }
     ensures only { IsOkUnless result NoMemory }
 {
     let mut made = Items::empty(alloc);
     for name in names {
-        let renamed = renamed_name(alloc, name, old, new)?;
+        let renamed = renamed_name(alloc, name, Reach::Sheets, old, new)?;
         made.push(renamed)?;
     }
     Ok(made)
 }
 
-/// The tree that is kept of a defined name, if there is one, else the name's own renamed back.
-fn tree_back(
+/// A defined name with the tree that is kept of it, if there is one, else renamed back.
+fn name_back(
     alloc: Global,
-    tree: &Shared<Node>,
+    name: &DefinedName,
     kept: Option<&Shared<Node>>,
     reach: Reach,
     old: &Shared<Text>,
     new: &str,
-) -> Result<Shared<Node>, EditError>
-    ensures tree { IfOk result (λ back. back ≡ settled (tree_renamed reach new.now old.now) (λ _ own. own) (option_copied kept.entry) tree.now) }
+) -> Result<DefinedName, EditError>
+    ensures name { IfOk result (λ back. back ≡ settled (defined_renamed reach new.now old.now) with_kept_tree (option_copied kept.entry) name.now) }
     ensures only { IsOkUnless result NoMemory }
 {
     match kept {
-        Some(own) => copy_of(own),
-        None => renamed_tree(alloc, tree, reach, new, old),
+        Some(own) => with_formula(name, copy_of(own)?),
+        None => renamed_name(alloc, name, reach, new, old),
     }
 }
 
-/// A defined name at a place of the list, with the tree that is kept of it, else renamed back.
-fn name_back(
+/// The defined name at a place of the list, with the tree that is kept there, else renamed back.
+fn name_at(
     alloc: Global,
     place: usize,
     name: &DefinedName,
@@ -108,18 +110,10 @@ fn name_back(
     old: &Shared<Text>,
     new: &str,
 ) -> Result<DefinedName, EditError>
-    ensures name { IfOk result (λ made. made ≡ defined_back reach old.now new.now (get kept.now) (place, name.now)) }
+    ensures name { IfOk result (λ made. made ≡ restored_at (defined_renamed reach new.now old.now) with_kept_tree (get kept.now) (place, name.now)) }
     ensures only { IsOkUnless result NoMemory }
 {
-    let formula = tree_back(
-        alloc,
-        &name.formula,
-        kept.get(place as u64),
-        reach,
-        old,
-        new,
-    )?;
-    with_formula(name, formula)
+    name_back(alloc, name, kept.get(place as u64), reach, old, new)
 }
 
 fn names_back(
@@ -135,7 +129,7 @@ fn names_back(
 {
     let mut made = Items::empty(alloc);
     for (place, name) in names.iter().enumerate() {
-        made.push(name_back(alloc, place, name, kept, reach, old, new)?)?;
+        made.push(name_at(alloc, place, name, kept, reach, old, new)?)?;
     }
     Ok(made)
 }
@@ -149,7 +143,7 @@ fn keep_name(
     old: &str,
     new: &str,
 ) -> Result<(), EditError>
-    ensures kept { OnOk result (kept.new ≡ with_made (defined_kept old.now new.now (place, name.now)) kept.old) }
+    ensures kept { OnOk result (kept.new ≡ with_made (kept_at (defined_kept old.now new.now) (place, name.now)) kept.old) }
     ensures only { IsOkUnless result NoMemory }
 {
     if let Some(tree) = kept_tree(&name.formula, Reach::Sheets, Reach::Sheets, old, new)? {
@@ -182,7 +176,7 @@ pub(crate) fn renamed_list(
     old: &str,
     new: &Shared<Text>,
 ) -> Result<NameList, EditError>
-    ensures names { IfOk result (λ made. made ≡ map (defined_renamed old.now new.now) names.now) }
+    ensures names { IfOk result (λ made. made ≡ map (defined_renamed Sheets old.now new.now) names.now) }
     ensures only { IsOkUnless result NoMemory }
 {
     let renamed = names_renamed(alloc, names.as_slice(), old, new)?;

@@ -1,4 +1,4 @@
--- Which contents a workbook keeps.
+-- Which contents have canonical numbers alone, as those of workbooks do.
 use Rattle.std.specs.Prelude.{IsTrue, IfSome}
 use Rattle.base_decimal.specs.Canonical.{IsCanonical}
 use Rattle.formula_tree.specs.Numbers.{has_canonical_numbers}

@@ -120,7 +120,7 @@ pub fn print_content(
 }
 
 /// The law of contents: what is printed of a content without a formula is read as that content, at
-/// any place, in any locale and language. A number is one that a workbook keeps.
+/// any place, in any locale and language. A number is canonical.
 pub fn contents_read_again()
     ensures { IsReadAgain }
 {}

@@ -1,19 +1,12 @@
 -- The bytes of merged cells.
-use Rattle.std.specs.Prelude.{ℕ, ℤ, List, ◌++◌, FitsSigned}
+use Rattle.std.specs.Prelude.{ℕ, List, ◌++◌, FitsSigned}
 use Rattle.std.specs.Int.{w32}
 use Rattle.base_axis.specs.declared.MergedCell.{MergedCell}
-use Rattle.base_wire.specs.Reading.{Reader, map_at, ◌⊗◌, signed_at, list_at}
 use Rattle.base_wire.specs.Spelling.{spell_signed, spell_list, FitsItems}
 
 -- its first row and column, and how many columns wide and rows high it is
 unfoldable pub spell_merge : MergedCell → List ℕ
 spell_merge merge = spell_signed w32 merge.row ++ (spell_signed w32 merge.column ++ (spell_signed w32 merge.width ++ spell_signed w32 merge.height))
-
-abbrev pub merge_made : ℤ × (ℤ × (ℤ × ℤ)) → MergedCell
-merge_made x = record { row = x.0; column = x.1.0; width = x.1.1.0; height = x.1.1.1 }
-
-unfoldable pub merge_at : Reader MergedCell
-merge_at = map_at merge_made (signed_at w32 ⊗ signed_at w32 ⊗ signed_at w32 ⊗ signed_at w32)
 
 -- four numbers of 32 bits, inside the sheet or not
 pub record FitsMerge (merge : MergedCell) : Type 0 where
@@ -25,9 +18,6 @@ pub record FitsMerge (merge : MergedCell) : Type 0 where
 -- the merges of a sheet, in their order
 abbrev pub spell_merges : List MergedCell → List ℕ
 spell_merges = spell_list spell_merge
-
-unfoldable pub merges_at : Reader (List MergedCell)
-merges_at = list_at merge_at
 
 abbrev pub FitsMerges : List MergedCell → Type 0
 FitsMerges = FitsItems FitsMerge

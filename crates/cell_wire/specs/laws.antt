@@ -1,3 +1,4 @@
+pub mod Reading
 pub mod PartsAgain
 pub mod PartsSpelled
 pub mod Refusals

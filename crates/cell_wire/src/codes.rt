@@ -3,8 +3,9 @@
 ghost use Rattle.std.specs.Prelude.{◌≡◌};
 ghost use Rattle.base_values.specs.Answers.{ok_or};
 ghost use Rattle.base_values.specs.declared.EditError.TheVariants.{ParseDiffs};
-ghost use Rattle.base_wire.specs.Reading.{decoded};
-ghost use Rattle.cell_wire.specs.StyleBytes.{border_code, border_styles, horizontal_code, horizontals, theme_code, theme_colors, vertical_code, verticals};
+ghost use Rattle.base_wire.specs.laws.Reading.{decoded};
+ghost use Rattle.cell_wire.specs.StyleBytes.{border_code, horizontal_code, theme_code, vertical_code};
+ghost use Rattle.cell_wire.specs.laws.Reading.{border_styles, horizontals, theme_colors, verticals};
 
 use base_styles::{BorderStyle, HorizontalAlignment, ThemeColor, VerticalAlignment};
 use base_values::EditError;

@@ -2,8 +2,8 @@
 
 ghost use Rattle.std.specs.Prelude.{◌≡◌, ◌++◌, OnOk};
 ghost use Rattle.base_values.specs.Answers.{Answers, map_ok};
-ghost use Rattle.cell_wire.specs.LinkBytes.{link_at};
-ghost use Rattle.cell_wire.specs.MergeBytes.{merge_at, merges_at, spell_merge, spell_merges, FitsMerge, FitsMerges};
+ghost use Rattle.cell_wire.specs.laws.Reading.{link_at, merge_at, merges_at};
+ghost use Rattle.cell_wire.specs.MergeBytes.{spell_merge, spell_merges, FitsMerge, FitsMerges};
 
 use crate::read::read;
 use base_axis::{MergeList, MergedCell};
@@ -12,7 +12,7 @@ use base_wire::{Part, put_items};
 use sheet_grid::Link;
 use std::alloc::{AllocError, Global};
 
-#[tactic(auto, unfolding(crate::specs::LinkBytes::link_at))]
+#[tactic(auto, unfolding(crate::specs::laws::Reading::link_at))]
 fn link_at(alloc: Global, bytes: &[u8]) -> Result<(Link, &[u8]), EditError>
     ensures { Answers (map_ok (λ x. (x.0, x.1.now)) result) (link_at bytes.now) }
 {
@@ -20,7 +20,7 @@ fn link_at(alloc: Global, bytes: &[u8]) -> Result<(Link, &[u8]), EditError>
     Ok((Link { target }, rest))
 }
 
-#[tactic(auto, unfolding(crate::specs::MergeBytes::merge_at))]
+#[tactic(auto, unfolding(crate::specs::laws::Reading::merge_at))]
 fn merge_at(alloc: Global, bytes: &[u8]) -> Result<(MergedCell, &[u8]), EditError>
     ensures { Answers (map_ok (λ x. (x.0, x.1.now)) result) (merge_at bytes.now) }
 {
@@ -37,7 +37,7 @@ fn merge_at(alloc: Global, bytes: &[u8]) -> Result<(MergedCell, &[u8]), EditErro
     Ok((merge, rest))
 }
 
-#[tactic(auto, unfolding(crate::specs::MergeBytes::merges_at))]
+#[tactic(auto, unfolding(crate::specs::laws::Reading::merges_at))]
 fn merges_at(alloc: Global, bytes: &[u8]) -> Result<(MergeList, &[u8]), EditError>
     ensures { Answers (map_ok (λ x. (x.0, x.1.now)) result) (merges_at bytes.now) }
 {
@@ -77,7 +77,8 @@ pub struct MergeListPart;
 impl Part for LinkPart {
     ghost use Rattle.std.proofs.Common.{arith};
     ghost use Rattle.base_wire.specs.Spelling.{Any};
-    ghost use Rattle.cell_wire.specs.LinkBytes.{spell_link, link_at, FitsLink};
+    ghost use Rattle.cell_wire.specs.LinkBytes.{spell_link, FitsLink};
+    ghost use Rattle.cell_wire.specs.laws.Reading.{link_at};
     ghost use Rattle.cell_wire.specs.laws.MergeLaws.{link_format};
 
     type Value = Link;
@@ -111,7 +112,8 @@ impl Part for LinkPart {
 
 impl Part for MergedCellPart {
     ghost use Rattle.base_wire.specs.Spelling.{Any};
-    ghost use Rattle.cell_wire.specs.MergeBytes.{merge_at, spell_merge, FitsMerge};
+    ghost use Rattle.cell_wire.specs.MergeBytes.{spell_merge, FitsMerge};
+    ghost use Rattle.cell_wire.specs.laws.Reading.{merge_at};
     ghost use Rattle.cell_wire.specs.laws.MergeLaws.{merge_format, merge_some};
 
     type Value = MergedCell;
@@ -146,7 +148,8 @@ impl Part for MergedCellPart {
 impl Part for MergeListPart {
     ghost use Rattle.std.proofs.Common.{arith};
     ghost use Rattle.base_wire.specs.Spelling.{Any};
-    ghost use Rattle.cell_wire.specs.MergeBytes.{merges_at, spell_merges, FitsMerges};
+    ghost use Rattle.cell_wire.specs.MergeBytes.{spell_merges, FitsMerges};
+    ghost use Rattle.cell_wire.specs.laws.Reading.{merges_at};
     ghost use Rattle.cell_wire.specs.laws.MergeLaws.{merges_format};
 
     type Value = MergeList;

@@ -18,7 +18,8 @@ pub struct ColorPart;
 
 impl Part for ColorPart {
     ghost use Rattle.base_wire.specs.Spelling.{Any};
-    ghost use Rattle.cell_wire.specs.StyleBytes.{color_at, spell_color, FitsColor};
+    ghost use Rattle.cell_wire.specs.StyleBytes.{spell_color, FitsColor};
+    ghost use Rattle.cell_wire.specs.laws.Reading.{color_at};
     ghost use Rattle.cell_wire.specs.laws.Formats.{color_format, color_some};
 
     type Value = Color;
@@ -56,7 +57,8 @@ pub(crate) struct BorderItemPart;
 impl Part for BorderItemPart {
     ghost use Rattle.std.proofs.Common.{arith};
     ghost use Rattle.base_wire.specs.Spelling.{Any};
-    ghost use Rattle.cell_wire.specs.StyleBytes.{border_item_at, spell_border_item, FitsBorderItem};
+    ghost use Rattle.cell_wire.specs.StyleBytes.{spell_border_item, FitsBorderItem};
+    ghost use Rattle.cell_wire.specs.laws.Reading.{border_item_at};
     ghost use Rattle.cell_wire.specs.laws.Formats.{border_item_format};
 
     type Value = BorderItem;
@@ -94,7 +96,8 @@ pub(crate) struct AlignmentPart;
 impl Part for AlignmentPart {
     ghost use Rattle.std.proofs.Common.{arith};
     ghost use Rattle.base_wire.specs.Spelling.{Any};
-    ghost use Rattle.cell_wire.specs.StyleBytes.{alignment_at, spell_alignment};
+    ghost use Rattle.cell_wire.specs.StyleBytes.{spell_alignment};
+    ghost use Rattle.cell_wire.specs.laws.Reading.{alignment_at};
     ghost use Rattle.cell_wire.specs.laws.Formats.{alignment_format};
 
     type Value = Alignment;
@@ -131,7 +134,8 @@ pub struct PositionPart;
 
 impl Part for PositionPart {
     ghost use Rattle.base_wire.specs.Spelling.{Any};
-    ghost use Rattle.cell_wire.specs.CellBytes.{position_at, spell_position, FitsPosition};
+    ghost use Rattle.cell_wire.specs.CellBytes.{spell_position, FitsPosition};
+    ghost use Rattle.cell_wire.specs.laws.Reading.{position_at};
     ghost use Rattle.cell_wire.specs.laws.Formats.{position_format, position_some};
 
     type Value = Position;
@@ -169,7 +173,8 @@ pub struct StylePart;
 impl Part for StylePart {
     ghost use Rattle.std.proofs.Common.{arith};
     ghost use Rattle.base_wire.specs.Spelling.{Any};
-    ghost use Rattle.cell_wire.specs.StyleBytes.{spell_style, style_at, FitsStyle};
+    ghost use Rattle.cell_wire.specs.StyleBytes.{spell_style, FitsStyle};
+    ghost use Rattle.cell_wire.specs.laws.Reading.{style_at};
     ghost use Rattle.cell_wire.specs.laws.Formats.{style_format};
 
     type Value = Shared<Style>;
@@ -205,7 +210,8 @@ impl Part for StylePart {
 pub struct CellPart;
 
 impl Part for CellPart {
-    ghost use Rattle.cell_wire.specs.CellBytes.{cell_at, spell_cell, FitsCell, IsKnownCell};
+    ghost use Rattle.cell_wire.specs.CellBytes.{spell_cell, FitsCell, IsKnownCell};
+    ghost use Rattle.cell_wire.specs.laws.Reading.{cell_at};
     ghost use Rattle.cell_wire.specs.laws.Formats.{cell_format, cell_some};
 
     type Value = Shared<Cell>;

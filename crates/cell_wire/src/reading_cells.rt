@@ -1,7 +1,7 @@
 //! Positions and cells from the front of bytes.
 
 ghost use Rattle.base_values.specs.Answers.{Answers, map_ok};
-ghost use Rattle.cell_wire.specs.CellBytes.{cell_at, array_at, content_at, position_at};
+ghost use Rattle.cell_wire.specs.laws.Reading.{cell_at, array_at, content_at, position_at};
 
 use crate::read::read;
 use crate::reading_styles::style_at;
@@ -14,7 +14,7 @@ use formula_wire::NodePart;
 use sheet_grid::{Cell, Content};
 use std::alloc::Global;
 
-#[tactic(auto, unfolding(crate::specs::CellBytes::position_at))]
+#[tactic(auto, unfolding(crate::specs::laws::Reading::position_at))]
 pub(crate) fn position_at(alloc: Global, bytes: &[u8]) -> Result<(Position, &[u8]), EditError>
     ensures { Answers (map_ok (λ x. (x.0, x.1.now)) result) (position_at bytes.now) }
 {
@@ -38,7 +38,7 @@ fn array_at(alloc: Global, bytes: &[u8]) -> Result<(Content, &[u8]), EditError>
     Ok((array, rest))
 }
 
-#[tactic(auto, unfolding(crate::specs::CellBytes::content_at))]
+#[tactic(auto, unfolding(crate::specs::laws::Reading::content_at))]
 fn content_at(alloc: Global, bytes: &[u8]) -> Result<(Content, &[u8]), EditError>
     ensures { Answers (map_ok (λ x. (x.0, x.1.now)) result) (content_at bytes.now) }
 {
@@ -74,7 +74,7 @@ fn content_at(alloc: Global, bytes: &[u8]) -> Result<(Content, &[u8]), EditError
     }
 }
 
-#[tactic(auto, unfolding(crate::specs::CellBytes::cell_at))]
+#[tactic(auto, unfolding(crate::specs::laws::Reading::cell_at))]
 pub(crate) fn cell_at<'a>(
     alloc: Global,
     plain: &Shared<Style>,

@@ -3,8 +3,9 @@
 ghost use Rattle.std.specs.Prelude.{◌≡◌, IfOk, IsOkUnless};
 ghost use Rattle.base_values.specs.Answers.{Answers, map_ok};
 ghost use Rattle.base_values.specs.declared.EditError.TheVariants.{NoMemory};
-ghost use Rattle.base_wire.specs.Reading.{code_at};
-ghost use Rattle.cell_wire.specs.StyleBytes.{alignment_at, border_at, border_code, border_item_at, border_styles, color_at, font_at, horizontal_code, horizontals, style_at, theme_code, theme_colors, vertical_code, verticals};
+ghost use Rattle.base_wire.specs.laws.Reading.{code_at};
+ghost use Rattle.cell_wire.specs.StyleBytes.{border_code, horizontal_code, theme_code, vertical_code};
+ghost use Rattle.cell_wire.specs.laws.Reading.{alignment_at, border_at, border_item_at, border_styles, color_at, font_at, horizontals, style_at, theme_colors, verticals};
 
 use crate::codes::{border_style_of, horizontal_of, theme_of, vertical_of};
 use crate::parts::{AlignmentPart, BorderItemPart};
@@ -49,7 +50,7 @@ fn vertical_at(alloc: Global, bytes: &[u8]) -> Result<(VerticalAlignment, &[u8])
     Ok((vertical, rest))
 }
 
-#[tactic(auto, unfolding(crate::specs::StyleBytes::color_at))]
+#[tactic(auto, unfolding(crate::specs::laws::Reading::color_at))]
 pub(crate) fn color_at(alloc: Global, bytes: &[u8]) -> Result<(Color, &[u8]), EditError>
     ensures { Answers (map_ok (λ x. (x.0, x.1.now)) result) (color_at bytes.now) }
 {
@@ -70,7 +71,7 @@ pub(crate) fn color_at(alloc: Global, bytes: &[u8]) -> Result<(Color, &[u8]), Ed
     }
 }
 
-#[tactic(auto, unfolding(crate::specs::StyleBytes::font_at))]
+#[tactic(auto, unfolding(crate::specs::laws::Reading::font_at))]
 fn font_at(alloc: Global, bytes: &[u8]) -> Result<(Font, &[u8]), EditError>
     ensures { Answers (map_ok (λ x. (x.0, x.1.now)) result) (font_at bytes.now) }
 {
@@ -91,7 +92,7 @@ fn font_at(alloc: Global, bytes: &[u8]) -> Result<(Font, &[u8]), EditError>
     Ok((font, rest))
 }
 
-#[tactic(auto, unfolding(crate::specs::StyleBytes::border_item_at))]
+#[tactic(auto, unfolding(crate::specs::laws::Reading::border_item_at))]
 pub(crate) fn border_item_at(alloc: Global, bytes: &[u8]) -> Result<(BorderItem, &[u8]), EditError>
     ensures { Answers (map_ok (λ x. (x.0, x.1.now)) result) (border_item_at bytes.now) }
 {
@@ -100,7 +101,7 @@ pub(crate) fn border_item_at(alloc: Global, bytes: &[u8]) -> Result<(BorderItem,
     Ok((BorderItem { style, color }, rest))
 }
 
-#[tactic(auto, unfolding(crate::specs::StyleBytes::border_at, crate::specs::StyleBytes::side_at))]
+#[tactic(auto, unfolding(crate::specs::laws::Reading::border_at, crate::specs::laws::Reading::side_at))]
 fn border_at(alloc: Global, bytes: &[u8]) -> Result<(Border, &[u8]), EditError>
     ensures { Answers (map_ok (λ x. (x.0, x.1.now)) result) (border_at bytes.now) }
 {
@@ -117,7 +118,7 @@ fn border_at(alloc: Global, bytes: &[u8]) -> Result<(Border, &[u8]), EditError>
     Ok((border, rest))
 }
 
-#[tactic(auto, unfolding(crate::specs::StyleBytes::alignment_at))]
+#[tactic(auto, unfolding(crate::specs::laws::Reading::alignment_at))]
 pub(crate) fn alignment_at(alloc: Global, bytes: &[u8]) -> Result<(Alignment, &[u8]), EditError>
     ensures { Answers (map_ok (λ x. (x.0, x.1.now)) result) (alignment_at bytes.now) }
 {
@@ -132,7 +133,7 @@ pub(crate) fn alignment_at(alloc: Global, bytes: &[u8]) -> Result<(Alignment, &[
     Ok((alignment, rest))
 }
 
-#[tactic(auto, unfolding(crate::specs::StyleBytes::style_at, crate::specs::StyleBytes::alignment_option_at))]
+#[tactic(auto, unfolding(crate::specs::laws::Reading::style_at, crate::specs::laws::Reading::alignment_option_at))]
 fn one_style_at(alloc: Global, bytes: &[u8]) -> Result<(Style, &[u8]), EditError>
     ensures { Answers (map_ok (λ x. (x.0, x.1.now)) result) (style_at bytes.now) }
 {

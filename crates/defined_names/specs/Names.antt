@@ -8,7 +8,7 @@ use Rattle.base_tables.specs.Folding.{same_folded}
 use Rattle.formula_tree.specs.Numbers.{has_canonical_numbers}
 use Rattle.defined_names.specs.declared.defined_name.DefinedName.{DefinedName}
 
--- every number of its tree is one that a workbook keeps
+-- every number of its tree is canonical
 abbrev pub IsCanonicalName : DefinedName → Type 0
 IsCanonicalName name = IsTrue (has_canonical_numbers name.formula)
 
@@ -39,7 +39,7 @@ kept_names id names = from_entries (placed_names id 0 names)
 
 -- ---- where it comes back
 
--- the numbers of their trees are ones that a workbook keeps
+-- the numbers of their trees are canonical
 abbrev pub AreCanonicalPlaced : FinMap nat_cmp DefinedName → Type 0
 AreCanonicalPlaced kept = (place : ℕ) → IfSome (get kept place) IsCanonicalName
 

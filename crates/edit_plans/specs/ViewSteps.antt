@@ -48,12 +48,6 @@ range_by (SetHidden index axis first last true) book view = if index == view.she
 range_by (PasteStyles index r styles) book view = if index == view.sheet then range_from r.row r.column (last_row r) (last_column r) else view.range
 range_by edit book view = view.range
 
--- an edit that selects no other rectangle
-abbrev pub keeps_range : Edit → Bool
-keeps_range (SetHidden index axis first last true) = false
-keeps_range (PasteStyles index r styles) = false
-keeps_range edit = true
-
 -- the view of an earlier workbook with that rectangle
 abbrev pub view_asked : Edit → Book → View → View
 view_asked edit book view = record view { range = range_by edit book view }

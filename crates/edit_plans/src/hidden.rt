@@ -41,10 +41,10 @@ fn hidden_between<A: Axis>(sheet: &Worksheet, first: i64, last: i64) -> i64
     }
 }
 
-/// By how many lines a block of `count` lines from a line on is moved, where it is asked to move on
-/// by `delta` lines, or back where `delta` is below 0. The hidden lines from behind the block to one
-/// line behind where it would end come on top, or those from where it would begin to before the
-/// block. It takes no memory.
+/// By how many lines a block of `count` lines from a line on is moved, where it is asked to move by
+/// `delta` lines, back where it is below 0. Hidden lines that the block passes are added to the
+/// distance: those from behind the block to one line behind its new end, or those from its new
+/// first line to before the block. It takes no memory.
 #[tactic(auto, unfolding(crate::specs::HiddenLines::grown))]
 pub fn grown_delta<A: Axis>(sheet: &Worksheet, first: i32, count: i32, delta: i32) -> i64
     ensures { result ≡ grown A.along sheet.now first count delta }

@@ -192,7 +192,8 @@ fn tile_plan(
     styles: &[Vec<Style>],
 ) -> Result<SheetPlan, EditError>
     requires { IsInside area }
-    ensures plan { Returns result (planned_styles (tiled_range area) (tiles (map (λ row. row.items) styles.now) (anchor_place area)) (λ place style. true) StyleValue found.now) }
+    ensures plan { Returns result (planned_styles (tiled_range area)
+        (tiles (map (λ row. row.items) styles.now) (anchor_place area)) (λ place style. true) StyleValue found.now) }
     ensures canonical { IfOk result (λ plan. CanonicalCellPlan plan.cells) }
 {
     let range = StyleRange {

@@ -207,10 +207,10 @@ pub fn plan_moved_sheet(
     list_of_one(alloc, diff)
 }
 
-/// The record of the sheet at an index, which gets another name. Every reference, range and defined
-/// name that names a sheet, and whose sheet name is equal to the old one by simple case folding, names
-/// the new one afterwards. Nothing is changed. It is a record of one diff too where the name is the
-/// same.
+/// The record of the sheet at an index, which gets another name. Every reference and range, in a
+/// cell, a conditional rule or a defined name, whose sheet name is equal to the old one by simple
+/// case folding, names the new one afterwards. Nothing is changed. It is a record of one diff too
+/// where the name is the same.
 ///
 /// `InvalidSheet` where there is no such sheet, else `SheetName` where it may not have that name. Then
 /// `NoMemory` is possible.

@@ -1,19 +1,8 @@
-//! Runs a script of edits over one workbook, and writes one answer for each line and, last, the
-//! second copy.
-//!
-//! `run_script` is the top call: what it writes is the output of the machine that keeps whole
-//! earlier and later workbooks.
+//! Runs a script of edits from standard input, and writes its output to standard output
+//! (docs/SCRIPT.md). `script_runs` has the call.
 #![tactic(auto)]
 
-mod output;
-mod run;
-mod session;
-
-pub use run::{run_script, run_script_surely};
-pub use script_ends::{
-    Failed, MemorySink, MemorySource, RunError, Sink, Source, StdSink, StdSource, SureSink,
-    SureSource, status_of,
-};
+use script_runs::{StdSink, StdSource, run_script, status_of};
 use std::io;
 use std::process::ExitCode;
 

@@ -1,7 +1,7 @@
-use crate::{run_script, run_script_surely};
 use script_ends::{
     MOST_BYTES, MemorySink, MemorySource, RunError, SureSink, SureSource, status_of,
 };
+use script_runs::{run_script, run_script_surely};
 use std::alloc::Global;
 use std::test::Fail;
 

@@ -1,4 +1,4 @@
--- Which rules a workbook keeps: each number is canonical, in thresholds and in formulas.
+-- Rules of which each number is canonical, in thresholds and in formulas.
 use Rattle.std.specs.Prelude.{Bool, true, ◌&&◌, IsTrue, List}
 use Rattle.std.specs.List.{All}
 use Rattle.base_decimal.specs.Canonical.{is_canonical}

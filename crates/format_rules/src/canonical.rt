@@ -35,8 +35,8 @@ impl TreeTest for CanonicalNumbers {
     }
 }
 
-/// Whether a workbook keeps a rule: each number of its thresholds and of its formulas has at most 15
-/// digits on each side of the point, and no zero digit at the end of its places.
+/// Whether the numbers of a rule are canonical: each one of its thresholds and of its formulas has at
+/// most 15 digits on each side of the point, and no zero digit at the end of its places.
 pub fn has_canonical_numbers(rule: &CfRule) -> bool
     ensures { result ≡ has_canonical_numbers rule.now }
 {

@@ -146,6 +146,6 @@ normal_layer place language (layer.ImplicitIntersection a) = seen other (operand
 unfoldable pub normal_seen : Position → Language → Node → Seen
 normal_seen place language = fold-Node Seen (normal_layer place language)
 
--- a normal tree: at most 64 deep, and each node of it as said above. That its numbers are ones that a workbook keeps is not part of this
+-- a normal tree: at most 64 deep, and each node of it as said above. That its numbers are canonical is not part of this
 unfoldable pub is_normal : Position → Language → Node → Bool
 is_normal place language tree = nat_le (depth_of tree) 64 && operand (normal_seen place language tree)

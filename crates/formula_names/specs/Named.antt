@@ -10,10 +10,6 @@ pub record Naming : Type 0 where
   pub sheet : Option (List ℕ) → Option (List ℕ)
   pub name : List ℕ → List ℕ
 
--- the one, and then the other
-abbrev pub followed : Naming → Naming → Naming
-followed f g = record { sheet = λ sheet. g.sheet (f.sheet sheet); name = λ name. g.name (f.name name) }
-
 -- one node that names something else, whose children do
 abbrev pub named_layer : Naming → Node-F Node → Node
 named_layer f (layer.Reference sheet corner) = node.Reference (f.sheet sheet) corner

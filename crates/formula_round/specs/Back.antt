@@ -12,7 +12,7 @@ use Rattle.formula_print.specs.Forms.{localized_text}
 abbrev pub text_at : Profile → Node → List ℕ
 text_at p tree = localized_text p.place p.locale p.language tree
 
--- a tree that is normal there, and whose numbers a workbook keeps
+-- a tree that is normal there, and whose numbers are canonical
 pub record IsCanonicalNormal (p : Profile) (tree : Node) : Type 0 where
   pub normal : is_normal p.place p.language tree ≡ true
   pub canonical : has_canonical_numbers tree ≡ true

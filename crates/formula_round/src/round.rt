@@ -15,7 +15,7 @@ ghost use Rattle.formula_round.specs.Tokens.{tokens_of};
 use cell_input::contents_read_again;
 use formula_read::text_has_one_tree;
 
-/// The law of formulas: the text that is printed of a normal tree whose numbers a workbook keeps is
+/// The law of formulas: the text that is printed of a normal tree whose numbers are canonical is
 /// a formula with that tree, and is read as it, in the same cell, locale and language. Its tokens are
 /// those of the tree.
 pub fn normal_trees_read_back()
@@ -29,8 +29,7 @@ pub fn normal_trees_read_back()
 }
 
 /// The law of contents: what is printed of a content that is no formula, or a formula with a normal
-/// tree, is read as that content in the same cell, locale and language. Its numbers are those that a
-/// workbook keeps.
+/// tree, is read as that content in the same cell, locale and language. Its numbers are canonical.
 pub fn normal_contents_read_back()
     ensures { (p : AnyProfile) (content : AnyContent) → is_normal_content p content ≡ true → IsCanonicalContent content → input_of p (input_text p content) ≡ content }
 {

@@ -58,7 +58,7 @@ numbers_layer r (layer.ImplicitIntersection a) = a
 unfoldable pub numbers_follow : NumberRule → Node → Bool
 numbers_follow r = fold-Node Bool (numbers_layer r)
 
--- each number of the tree, also in its arrays, is one that a workbook keeps
+-- each number of the tree, also in its arrays, is canonical
 abbrev pub has_canonical_numbers : Node → Bool
 has_canonical_numbers = numbers_follow rule.Canonical
 

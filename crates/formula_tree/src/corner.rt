@@ -1,8 +1,8 @@
 ghost use Rattle.std.specs.Prelude.{◌≡◌, ◌≤ℤ◌, pos, IfSome, if◌then◌else◌};
-ghost use Rattle.base_values.specs.Places.{IsPlace, is_line};
+ghost use Rattle.base_values.specs.Places.{IsPlace};
 ghost use Rattle.formula_tree.specs.Corners.{corner_row, corner_column, is_inside, corner_at, number_at, corner_to, is_whole_rows, is_whole_columns, are_rows_reversed, are_columns_reversed, are_in_order, crossing, lower_corner, higher_corner};
 
-use base_values::{Exact, LAST_COLUMN, LAST_ROW, Position};
+use base_values::{Exact, LAST_COLUMN, LAST_ROW, Position, is_line};
 
 /// A corner of a reference or range. On each axis an absolute number, written with `$`, is a line
 /// of the sheet; a relative one is counted from the line of the formula's place.
@@ -49,19 +49,13 @@ pub fn corner_column(place: Position, corner: Corner) -> i64
     }
 }
 
-fn is_line(last: i64, line: i64) -> bool
-    ensures { result ≡ is_line last line }
-{
-    1 <= line && line <= last
-}
-
 /// Whether a corner of a formula at `place` lies inside the sheet.
 #[tactic(auto, unfolding(crate::specs::Corners::is_inside))]
 pub fn is_inside(place: Position, corner: Corner) -> bool
     ensures { result ≡ is_inside place corner }
 {
-    is_line(LAST_ROW as i64, corner_row(place, corner))
-        && is_line(LAST_COLUMN as i64, corner_column(place, corner))
+    is_line(LAST_ROW, corner_row(place, corner))
+        && is_line(LAST_COLUMN, corner_column(place, corner))
 }
 
 /// Where a corner of a formula at `place` stands. `None` where that is outside the sheet.

@@ -11,14 +11,14 @@ use base_values::Items;
 /// What may be asked of the numbers of a tree.
 #[derive(Clone, Copy, Debug, PartialEq, Eq)]
 pub enum NumberRule {
-    /// Each is one that a workbook keeps, also in arrays.
+    /// Each is canonical, also in arrays.
     Canonical,
     /// None is negative, but for the constants of arrays.
     NotNegative,
 }
 
-/// Whether each number of a tree, also in its arrays, is one that a workbook keeps: at most 15
-/// digits on each side of the point, and no zero digit at the end of the places.
+/// Whether each number of a tree, also in its arrays, is canonical: at most 15 digits on each side of
+/// the point, and no zero digit at the end of the places.
 pub fn has_canonical_numbers(node: &Node) -> bool
     ensures { result ≡ has_canonical_numbers node.now }
 {

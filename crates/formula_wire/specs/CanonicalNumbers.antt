@@ -1,10 +1,10 @@
--- Whether a workbook keeps the numbers in the lines of an array.
+-- Whether the numbers in the lines of an array are canonical.
 use Rattle.std.specs.Prelude.{Bool, true}
 use Rattle.base_decimal.specs.Canonical.{is_canonical}
 use Rattle.formula_tree.specs.declared.ArrayItem.{ArrayItem}
 use Rattle.formula_tree.specs.declared.ArrayItem.TheVariants as item
 
--- a constant is a number that a workbook keeps, or no number
+-- a constant is a canonical number, or no number
 abbrev pub is_canonical_item : ArrayItem → Bool
 is_canonical_item (item.Boolean value) = true
 is_canonical_item (item.Number value) = is_canonical value

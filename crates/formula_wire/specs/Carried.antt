@@ -10,7 +10,7 @@ use Rattle.formula_tree.specs.declared.Node.TheOpen.{Node-F}
 use Rattle.formula_tree.specs.declared.Node.TheOpen as layer
 use Rattle.formula_tree.specs.Depth.{is_within}
 use Rattle.formula_tree.specs.Numbers.{has_canonical_numbers}
-use Rattle.base_wire.specs.laws.Form.{if_passes, is_text, is_list}
+use Rattle.base_wire.specs.Forms.{if_passes, is_text, is_list}
 
 -- a number of 32 bits
 abbrev pub is_signed : ℤ → Bool

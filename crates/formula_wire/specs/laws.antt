@@ -1,3 +1,4 @@
+pub mod Reading
 pub mod NodeLaws
 pub mod PartLaws
 pub mod SpellEquations

@@ -3,8 +3,9 @@
 ghost use Rattle.std.specs.Prelude.{◌≡◌};
 ghost use Rattle.base_values.specs.Answers.{Answers, map_ok, ok_or};
 ghost use Rattle.base_values.specs.declared.EditError.TheVariants.{ParseDiffs};
-ghost use Rattle.base_wire.specs.Reading.{decoded};
-ghost use Rattle.formula_wire.specs.PartBytes.{compare_at, compare_code, comparisons, function_at, product_at, product_code, products, sum_at, sum_code, sums, unaries, unary_at, unary_code};
+ghost use Rattle.base_wire.specs.laws.Reading.{decoded};
+ghost use Rattle.formula_wire.specs.PartBytes.{compare_code, product_code, sum_code, unary_code};
+ghost use Rattle.formula_wire.specs.laws.Reading.{compare_at, comparisons, function_at, product_at, products, sum_at, sums, unaries, unary_at};
 
 use crate::read::read;
 use base_tables::Function;

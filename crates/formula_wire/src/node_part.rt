@@ -27,7 +27,8 @@ pub struct NodePart;
 
 impl Part for NodePart {
     ghost use Rattle.formula_wire.specs.Carried.{FitsNode, IsKnownNode};
-    ghost use Rattle.formula_wire.specs.NodeBytes.{node_at, spell_node};
+    ghost use Rattle.formula_wire.specs.NodeBytes.{spell_node};
+    ghost use Rattle.formula_wire.specs.laws.Reading.{node_at};
     ghost use Rattle.formula_wire.specs.laws.NodeLaws.{node_format, some_byte};
 
     type Value = Node;

@@ -17,7 +17,8 @@ impl Part for ConstantPart {
     ghost use Rattle.base_wire.specs.laws.Form.{Passes};
     ghost use Rattle.formula_wire.specs.Carried.{is_item};
     ghost use Rattle.formula_wire.specs.CanonicalNumbers.{is_canonical_item};
-    ghost use Rattle.formula_wire.specs.PartBytes.{item_at, spell_item};
+    ghost use Rattle.formula_wire.specs.PartBytes.{spell_item};
+    ghost use Rattle.formula_wire.specs.laws.Reading.{item_at};
     ghost use Rattle.formula_wire.specs.laws.PartLaws.{item_form, item_some};
 
     type Value = ArrayItem;
@@ -67,7 +68,8 @@ impl Part for ParameterPart {
     ghost use Rattle.base_wire.specs.Spelling.{Any};
     ghost use Rattle.base_wire.specs.laws.Form.{Passes};
     ghost use Rattle.formula_wire.specs.Carried.{is_parameter};
-    ghost use Rattle.formula_wire.specs.PartBytes.{parameter_at, spell_parameter};
+    ghost use Rattle.formula_wire.specs.PartBytes.{spell_parameter};
+    ghost use Rattle.formula_wire.specs.laws.Reading.{parameter_at};
     ghost use Rattle.formula_wire.specs.laws.PartLaws.{parameter_form};
 
     type Value = Parameter;

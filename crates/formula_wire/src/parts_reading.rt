@@ -1,8 +1,8 @@
 //! Corners, arrays and parameters from the front of bytes.
 
 ghost use Rattle.base_values.specs.Answers.{Answers, map_ok};
-ghost use Rattle.base_wire.specs.Reading.{count_at};
-ghost use Rattle.formula_wire.specs.PartBytes.{corner_at, item_at, parameter_at};
+ghost use Rattle.base_wire.specs.laws.Reading.{count_at};
+ghost use Rattle.formula_wire.specs.laws.Reading.{corner_at, item_at, parameter_at};
 
 use crate::read::read;
 use base_decimal::Decimal;
@@ -23,7 +23,7 @@ pub(crate) fn count_at(alloc: Global, bytes: &[u8]) -> Result<(u64, &[u8]), Edit
     Ok((count, rest))
 }
 
-#[tactic(auto, unfolding(crate::specs::PartBytes::corner_at))]
+#[tactic(auto, unfolding(crate::specs::laws::Reading::corner_at))]
 pub(crate) fn corner_at(alloc: Global, bytes: &[u8]) -> Result<(Corner, &[u8]), EditError>
     ensures { Answers (map_ok (λ x. (x.0, x.1.now)) result) (corner_at bytes.now) }
 {
@@ -40,7 +40,7 @@ pub(crate) fn corner_at(alloc: Global, bytes: &[u8]) -> Result<(Corner, &[u8]), 
     Ok((corner, rest))
 }
 
-#[tactic(auto, unfolding(crate::specs::PartBytes::item_at))]
+#[tactic(auto, unfolding(crate::specs::laws::Reading::item_at))]
 pub(crate) fn item_at(alloc: Global, bytes: &[u8]) -> Result<(ArrayItem, &[u8]), EditError>
     ensures { Answers (map_ok (λ x. (x.0, x.1.now)) result) (item_at bytes.now) }
 {
@@ -66,7 +66,7 @@ pub(crate) fn item_at(alloc: Global, bytes: &[u8]) -> Result<(ArrayItem, &[u8]),
     }
 }
 
-#[tactic(auto, unfolding(crate::specs::PartBytes::parameter_at))]
+#[tactic(auto, unfolding(crate::specs::laws::Reading::parameter_at))]
 pub(crate) fn parameter_at(alloc: Global, bytes: &[u8]) -> Result<(Parameter, &[u8]), EditError>
     ensures { Answers (map_ok (λ x. (x.0, x.1.now)) result) (parameter_at bytes.now) }
 {

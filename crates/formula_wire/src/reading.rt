@@ -3,9 +3,8 @@
 
 ghost use Rattle.std.specs.Prelude.{◌+◌};
 ghost use Rattle.base_values.specs.Answers.{Answers, map_ok};
-ghost use Rattle.base_wire.specs.Reading.{list_at, many_at, map_at, ◌⊗◌};
-ghost use Rattle.formula_wire.specs.PartBytes.{corner_at, sheet_at};
-ghost use Rattle.formula_wire.specs.NodeBytes.{call_of, kinded_of, leaf_of, node_at, node_of, node_within, range_at, range_made, reference_made, text_of};
+ghost use Rattle.base_wire.specs.laws.Reading.{list_at, many_at, map_at, ◌⊗◌};
+ghost use Rattle.formula_wire.specs.laws.Reading.{corner_at, sheet_at, call_of, kinded_of, leaf_of, node_at, node_of, node_within, range_at, range_made, reference_made, text_of};
 
 use crate::codes::{compare_at, function_at, product_at, sum_at, unary_at};
 use crate::parts::{ConstantPart, ParameterPart};
@@ -19,7 +18,7 @@ use formula_tree::{MAX_DEPTH, Node};
 use std::alloc::Global;
 
 /// The tree at the front of bytes, and the bytes after it.
-#[tactic(auto, unfolding(crate::specs::NodeBytes::node_at))]
+#[tactic(auto, unfolding(crate::specs::laws::Reading::node_at))]
 pub(crate) fn read_node(alloc: Global, bytes: &[u8]) -> Result<(Node, &[u8]), EditError>
     ensures { Answers (map_ok (λ x. (x.0, x.1.now)) result) (node_at bytes.now) }
 {
@@ -100,7 +99,7 @@ fn kinded_at(alloc: Global, tag: u8, bytes: &[u8], below: u64) -> Result<(Node, 
 }
 
 #[cycle(nodes)]
-#[tactic(auto, unfolding(crate::specs::PartBytes::parameters_at))]
+#[tactic(auto, unfolding(crate::specs::laws::Reading::parameters_at))]
 fn call_at(alloc: Global, tag: u8, bytes: &[u8], below: u64) -> Result<(Node, &[u8]), EditError>
     ensures { Answers (map_ok (λ x. (x.0, x.1.now)) result) (call_of (node_within below) (leaf_of below) tag bytes.now) }
 {
@@ -189,7 +188,7 @@ fn nodes_of(
 }
 
 /// A tree without children.
-#[tactic(auto, unfolding(crate::specs::PartBytes::lines_at, crate::specs::PartBytes::line_at))]
+#[tactic(auto, unfolding(crate::specs::laws::Reading::lines_at, crate::specs::laws::Reading::line_at))]
 fn leaf_at(alloc: Global, tag: u8, bytes: &[u8], below: u64) -> Result<(Node, &[u8]), EditError>
     ensures { Answers (map_ok (λ x. (x.0, x.1.now)) result) (leaf_of below tag bytes.now) }
 {
@@ -217,7 +216,7 @@ fn leaf_at(alloc: Global, tag: u8, bytes: &[u8], below: u64) -> Result<(Node, &[
     }
 }
 
-#[tactic(auto, unfolding(crate::specs::PartBytes::sheet_at))]
+#[tactic(auto, unfolding(crate::specs::laws::Reading::sheet_at))]
 fn reference_at(alloc: Global, bytes: &[u8]) -> Result<(Node, &[u8]), EditError>
     ensures { Answers (map_ok (λ x. (x.0, x.1.now)) result) (map_at reference_made (sheet_at ⊗ corner_at) bytes.now) }
 {
@@ -227,7 +226,7 @@ fn reference_at(alloc: Global, bytes: &[u8]) -> Result<(Node, &[u8]), EditError>
 }
 
 /// A range, which is 2 deep, so that it must be let reach one deeper than its own place.
-#[tactic(auto, unfolding(crate::specs::PartBytes::sheet_at))]
+#[tactic(auto, unfolding(crate::specs::laws::Reading::sheet_at))]
 fn range_at(alloc: Global, bytes: &[u8], below: u64) -> Result<(Node, &[u8]), EditError>
     ensures { Answers (map_ok (λ x. (x.0, x.1.now)) result) (range_at below bytes.now) }
 {

@@ -1,5 +1,4 @@
 pub mod StateBytes
-pub mod KeyBytes
 pub mod LineBytes
 pub mod NameBytes
 pub mod SheetBytes

@@ -1,25 +1,14 @@
 -- The bytes of defined names.
-use Rattle.std.specs.Prelude.{ℕ, ◌<◌, ◌^◌, List, ◌++◌, Option, IfSome}
+use Rattle.std.specs.Prelude.{ℕ, ◌<◌, ◌^◌, List, ◌++◌, IfSome}
 use Rattle.std.specs.Int.{w32, to_be_bytes}
-use Rattle.formula_tree.specs.declared.Node.{Node}
 use Rattle.defined_names.specs.declared.DefinedName.{DefinedName}
-use Rattle.base_wire.specs.Reading.{Reader, map_at, ◌⊗◌, number_at, text_at, option_at}
 use Rattle.base_wire.specs.Spelling.{spell_text, spell_option, FitsText}
-use Rattle.formula_wire.specs.NodeBytes.{spell_node, node_at}
+use Rattle.formula_wire.specs.NodeBytes.{spell_node}
 use Rattle.formula_wire.specs.Carried.{FitsNode, IsKnownNode}
 
 -- the name, the id of the sheet where it is known, and what it stands for
 unfoldable pub spell_name : DefinedName → List ℕ
 spell_name name = spell_text name.name ++ (spell_option (to_be_bytes w32) name.scope ++ spell_node name.formula)
-
-abbrev pub name_made : List ℕ × (Option ℕ × Node) → DefinedName
-name_made x = record { name = x.0; scope = x.1.0; formula = x.1.1 }
-
-unfoldable pub scope_at : Reader (Option ℕ)
-scope_at = option_at (number_at w32)
-
-unfoldable pub name_at : Reader DefinedName
-name_at = map_at name_made (text_at ⊗ scope_at ⊗ node_at)
 
 -- a text of Rust, an id of 32 bits, and a tree that bytes can carry
 pub record FitsName (one : DefinedName) : Type 0 where

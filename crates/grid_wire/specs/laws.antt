@@ -1,3 +1,4 @@
+pub mod Reading
 pub mod StateLaws
 pub mod GridFits
 pub mod KeyLaws

@@ -4,35 +4,22 @@ ghost use Rattle.std.specs.Prelude.{◌≡◌, ℤ, ◌++◌, OnOk, IfSome};
 ghost use Rattle.std.specs.FinMap.{get};
 ghost use Rattle.std.specs.Int.{w32};
 ghost use Rattle.base_values.specs.Answers.{Answers, map_ok};
-ghost use Rattle.base_values.specs.Places.{IsLine, IsPlace, is_line};
+ghost use Rattle.base_values.specs.Places.{IsLine, IsPlace};
 ghost use Rattle.base_values.specs.declared.Position.{Position};
 ghost use Rattle.base_wire.specs.Spelling.{spell_signed};
 ghost use Rattle.cell_wire.specs.CellBytes.{spell_position};
 ghost use Rattle.map_wire.specs.MapBytes.{spell_map, FitsMap};
-ghost use Rattle.grid_wire.specs.KeyBytes.{axis_line_at, axis_map_at, is_place, place_at, place_map_at};
+ghost use Rattle.grid_wire.specs.laws.Reading.{axis_line_at, axis_map_at, place_at, place_map_at};
 
-use base_axis::{Axis, AxisMap};
-use base_maps::{NumberMap, PositionMap};
-use base_values::{EditError, LAST_COLUMN, LAST_ROW, PlaceMap, Position};
+use base_axis::{Axis, AxisMap, LineKeys};
+use base_values::{EditError, PlaceKeys, PlaceMap, Position, is_line, is_place};
 use base_wire::Part;
 use cell_wire::PositionPart;
 use map_wire::{entries_at, put_entries, read};
 use std::alloc::{AllocError, Global};
 use std::marker::PhantomData;
 
-fn is_line(last: i32, line: i32) -> bool
-    ensures { result ≡ is_line last line }
-{
-    1 <= line && line <= last
-}
-
-fn is_place(place: Position) -> bool
-    ensures { result ≡ is_place place }
-{
-    is_line(LAST_ROW, place.row) && is_line(LAST_COLUMN, place.column)
-}
-
-#[tactic(auto, unfolding(crate::specs::KeyBytes::place_at))]
+#[tactic(auto, unfolding(crate::specs::laws::Reading::place_at))]
 fn place_at(alloc: Global, bytes: &[u8]) -> Result<(Position, &[u8]), EditError>
     ensures { Answers (map_ok (λ x. (x.0, x.1.now)) result) (place_at bytes.now) }
 {
@@ -43,12 +30,12 @@ fn place_at(alloc: Global, bytes: &[u8]) -> Result<(Position, &[u8]), EditError>
     Ok((place, rest))
 }
 
-#[tactic(auto, unfolding(crate::specs::KeyBytes::axis_line_at))]
+#[tactic(auto, unfolding(crate::specs::laws::Reading::axis_line_at))]
 fn axis_line_at<A: Axis>(alloc: Global, bytes: &[u8]) -> Result<(i32, &[u8]), EditError>
     ensures { Answers (map_ok (λ x. (x.0, x.1.now)) result) (axis_line_at A.along.last bytes.now) }
 {
     let (line, rest) = read::<i32>(alloc, &(), bytes)?;
-    if !is_line(A::LAST, line) {
+    if !is_line(A::LAST, line as i64) {
         return Err(EditError::ParseDiffs);
     }
     Ok((line, rest))
@@ -66,7 +53,7 @@ impl Part for PlacePart {
     ghost use Rattle.base_values.specs.Places.{IsPlace};
     ghost use Rattle.cell_wire.specs.CellBytes.{spell_position};
     ghost use Rattle.cell_wire.specs.laws.Formats.{position_some};
-    ghost use Rattle.grid_wire.specs.KeyBytes.{place_at};
+    ghost use Rattle.grid_wire.specs.laws.Reading.{place_at};
     ghost use Rattle.grid_wire.specs.laws.KeyLaws.{place_format};
 
     type Value = Position;
@@ -103,7 +90,7 @@ impl<A: Axis> Part for AxisLinePart<A> {
     ghost use Rattle.std.specs.Int.{w32};
     ghost use Rattle.base_values.specs.Places.{IsLine};
     ghost use Rattle.base_wire.specs.Spelling.{spell_signed};
-    ghost use Rattle.grid_wire.specs.KeyBytes.{axis_line_at};
+    ghost use Rattle.grid_wire.specs.laws.Reading.{axis_line_at};
     ghost use Rattle.grid_wire.specs.laws.KeyLaws.{axis_line_format};
 
     type Value = i32;
@@ -136,7 +123,7 @@ impl<A: Axis> Part for AxisLinePart<A> {
 }
 
 /// A map from positions of the sheet.
-#[tactic(auto, unfolding(crate::specs::KeyBytes::place_map_at))]
+#[tactic(auto, unfolding(crate::specs::laws::Reading::place_map_at))]
 pub(crate) fn place_map_at<'a, P: Part>(
     alloc: Global,
     context: &P::Context,
@@ -144,13 +131,13 @@ pub(crate) fn place_map_at<'a, P: Part>(
 ) -> Result<(PlaceMap<P::Value>, &'a [u8]), EditError>
     ensures { Answers (map_ok (λ x. (x.0, x.1.now)) result) (place_map_at P.reading bytes.now) }
 {
-    let (entries, rest) = entries_at::<PositionMap<P::Value>, PlacePart, P>(alloc, context, bytes)?;
+    let (entries, rest) = entries_at::<PlaceKeys<P::Value>, PlacePart, P>(alloc, context, bytes)?;
     let map = PlaceMap::of_entries(alloc, entries)?;
     Ok((map, rest))
 }
 
 /// A map from lines of an axis.
-#[tactic(auto, unfolding(crate::specs::KeyBytes::axis_map_at))]
+#[tactic(auto, unfolding(crate::specs::laws::Reading::axis_map_at))]
 pub(crate) fn axis_map_at<'a, A: Axis, P: Part>(
     alloc: Global,
     context: &P::Context,
@@ -158,7 +145,7 @@ pub(crate) fn axis_map_at<'a, A: Axis, P: Part>(
 ) -> Result<(AxisMap<A, P::Value>, &'a [u8]), EditError>
     ensures { Answers (map_ok (λ x. (x.0, x.1.now)) result) (axis_map_at A.along.last P.reading bytes.now) }
 {
-    let (entries, rest) = entries_at::<NumberMap<P::Value>, AxisLinePart<A>, P>(
+    let (entries, rest) = entries_at::<LineKeys<A, P::Value>, AxisLinePart<A>, P>(
         alloc, context, bytes,
     )?;
     let map = AxisMap::of_entries(alloc, entries)?;

@@ -1,7 +1,7 @@
 //! What rows and columns have of their own as parts of formats.
 
 ghost use Rattle.base_values.specs.Answers.{Answers, map_ok};
-ghost use Rattle.grid_wire.specs.LineBytes.{line_at};
+ghost use Rattle.grid_wire.specs.laws.Reading.{line_at};
 
 use base_shared::Shared;
 use base_styles::Style;
@@ -13,7 +13,7 @@ use sheet_grid::LineAttr;
 use std::alloc::{AllocError, Global};
 
 /// A line that has something of its own.
-#[tactic(auto, unfolding(crate::specs::LineBytes::line_at, crate::specs::LineBytes::size_at, crate::specs::LineBytes::own_style_at))]
+#[tactic(auto, unfolding(crate::specs::laws::Reading::line_at, crate::specs::laws::Reading::size_at, crate::specs::laws::Reading::own_style_at))]
 fn line_at<'a>(
     alloc: Global,
     plain: &Shared<Style>,
@@ -40,7 +40,8 @@ fn line_at<'a>(
 pub struct LinePart;
 
 impl Part for LinePart {
-    ghost use Rattle.grid_wire.specs.LineBytes.{spell_line, line_at, FitsLine, IsKnownLine};
+    ghost use Rattle.grid_wire.specs.LineBytes.{spell_line, FitsLine, IsKnownLine};
+    ghost use Rattle.grid_wire.specs.laws.Reading.{line_at};
     ghost use Rattle.grid_wire.specs.laws.LineLaws.{line_format, line_some};
 
     type Value = LineAttr;

@@ -1,7 +1,7 @@
 //! Defined names as parts of formats.
 
 ghost use Rattle.base_values.specs.Answers.{Answers, map_ok};
-ghost use Rattle.grid_wire.specs.NameBytes.{name_at};
+ghost use Rattle.grid_wire.specs.laws.Reading.{name_at};
 
 use base_shared::Shared;
 use base_values::{EditError, Text};
@@ -11,7 +11,7 @@ use formula_wire::NodePart;
 use map_wire::read;
 use std::alloc::{AllocError, Global};
 
-#[tactic(auto, unfolding(crate::specs::NameBytes::name_at, crate::specs::NameBytes::scope_at))]
+#[tactic(auto, unfolding(crate::specs::laws::Reading::name_at, crate::specs::laws::Reading::scope_at))]
 fn name_at(alloc: Global, bytes: &[u8]) -> Result<(DefinedName, &[u8]), EditError>
     ensures { Answers (map_ok (λ x. (x.0, x.1.now)) result) (name_at bytes.now) }
 {
@@ -31,7 +31,8 @@ fn name_at(alloc: Global, bytes: &[u8]) -> Result<(DefinedName, &[u8]), EditErro
 pub struct NamePart;
 
 impl Part for NamePart {
-    ghost use Rattle.grid_wire.specs.NameBytes.{spell_name, name_at, FitsName, IsKnownName};
+    ghost use Rattle.grid_wire.specs.NameBytes.{spell_name, FitsName, IsKnownName};
+    ghost use Rattle.grid_wire.specs.laws.Reading.{name_at};
     ghost use Rattle.grid_wire.specs.laws.NameLaws.{name_format, name_some};
 
     type Value = DefinedName;

@@ -19,7 +19,8 @@ use std::alloc::{AllocError, Global};
 pub struct SheetPart;
 
 impl Part for SheetPart {
-    ghost use Rattle.grid_wire.specs.SheetBytes.{sheet_at, spell_sheet, FitsSheet, IsKnownSheet};
+    ghost use Rattle.grid_wire.specs.SheetBytes.{spell_sheet, FitsSheet, IsKnownSheet};
+    ghost use Rattle.grid_wire.specs.laws.Reading.{sheet_at};
     ghost use Rattle.grid_wire.specs.laws.SheetLaws.{sheet_format, sheet_some};
 
     type Value = Worksheet;

@@ -3,8 +3,9 @@
 ghost use Rattle.std.specs.Prelude.{◌≡◌};
 ghost use Rattle.base_values.specs.Answers.{Answers, map_ok, ok_or};
 ghost use Rattle.base_values.specs.declared.EditError.TheVariants.{ParseDiffs};
-ghost use Rattle.base_wire.specs.Reading.{code_at, decoded};
-ghost use Rattle.grid_wire.specs.StateBytes.{state_code, states};
+ghost use Rattle.base_wire.specs.laws.Reading.{code_at, decoded};
+ghost use Rattle.grid_wire.specs.StateBytes.{state_code};
+ghost use Rattle.grid_wire.specs.laws.Reading.{states};
 
 use base_values::EditError;
 use base_wire::Part;
@@ -46,9 +47,10 @@ pub struct StatePart;
 
 impl Part for StatePart {
     ghost use Rattle.std.proofs.Common.{arith};
-    ghost use Rattle.base_wire.specs.Reading.{code_at};
+    ghost use Rattle.base_wire.specs.laws.Reading.{code_at};
     ghost use Rattle.base_wire.specs.Spelling.{Any, spell_code};
-    ghost use Rattle.grid_wire.specs.StateBytes.{state_code, states};
+    ghost use Rattle.grid_wire.specs.StateBytes.{state_code};
+    ghost use Rattle.grid_wire.specs.laws.Reading.{states};
     ghost use Rattle.grid_wire.specs.laws.StateLaws.{state_format};
 
     type Value = SheetState;

@@ -1,6 +1,6 @@
-ghost use Rattle.std.specs.Prelude.{◌≡◌, ◌&&◌, ◌≤ℤ◌, ◌+ℤ◌, ◌-ℤ◌, ℤ, pos, Bool, Some, IfSome, IsTrue, FitsSigned};
+ghost use Rattle.std.specs.Prelude.{◌≡◌, ◌&&◌, ◌≤ℤ◌, ◌+ℤ◌, ◌-ℤ◌, ℤ, pos, Bool, Some, IfSome, FitsSigned};
 ghost use Rattle.std.specs.Int.{w64};
-ghost use Rattle.base_values.specs.Places.{IsLine, is_line};
+ghost use Rattle.base_values.specs.Places.{IsLine};
 ghost use Rattle.line_edits.specs.Edit.{image_at, goes_to, within, is_in_block, opposite_of, is_within, is_valid, IsValid};
 ghost use Rattle.line_edits.specs.Lost.{pushed_from, lost_from, lost_to, beside_lost};
 ghost use Rattle.line_edits.specs.Moves.{inserted_by, edit_moves};
@@ -8,7 +8,7 @@ ghost use Rattle.line_edits.specs.Splits.{splits};
 
 use crate::line_map::LineMap;
 use base_axis::Axis;
-use base_values::{EditError, Exact};
+use base_values::{EditError, Exact, is_line};
 use std::alloc::Global;
 use std::marker::PhantomData;
 
@@ -62,13 +62,6 @@ impl<A: Axis> Exact for LineEdit<A> {
     ghost copies = { λ a b h. Prim.search rules };
 
     ghost equals = { λ a b. Decides-like _ (λ p i. record { kind = p.0 i; axis = a.axis }) (λ e. (ap (λ x. x.kind) e, refl)) (Decides-and _ _ (kind_equals a.kind b.kind) (own_value a.axis)) };
-}
-
-fn is_line(last: i32, line: i64) -> bool
-    ensures value { result ≡ is_line last line }
-    ensures inside { IsTrue result → IsLine last line }
-{
-    1 <= line && line <= i64::from(last)
 }
 
 /// The line, where it is one of the axis.

@@ -1,21 +1,6 @@
--- How an edit meets what stands on the edited sheet by itself.
-use Rattle.std.specs.Prelude.{◌≡◌, pos, true, [], Option, Some, None}
-use Rattle.base_axis.specs.Along.{Along}
-use Rattle.line_edits.specs.declared.EditKind.{EditKind}
-use Rattle.line_edits.specs.Moves.{edit_moves}
-use Rattle.line_map.specs.Way.{Way, back}
-
--- the way of an edit: it names no sheet, and begins and ends at the first place
-abbrev pub edit_way : Along → EditKind → Way
-edit_way a e = record {
-  along = a;
-  moves = edit_moves a.last e;
-  own = [];
-  edited = [];
-  is_edited = true;
-  from = record { row = pos 1; column = pos 1 };
-  to = record { row = pos 1; column = pos 1 };
-}
+-- What an edit carries along by itself is regained from what was kept.
+use Rattle.std.specs.Prelude.{◌≡◌, Option, Some, None}
+use Rattle.line_trees.specs.Way.{Way, back}
 
 module _ {F P : Type 0} where
   -- what was kept restores the value, or the way back gives it

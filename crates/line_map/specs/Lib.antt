@@ -1,13 +1,8 @@
-pub mod Way
-pub mod Trial
-pub mod Trees
-pub mod MustKeep
 pub mod Contents
 pub mod MergedCells
 pub mod Merges
 pub mod Lists
 pub mod Maps
 pub mod Attributes
-pub mod TreeAt
 pub mod Alone
 pub mod laws

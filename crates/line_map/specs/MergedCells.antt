@@ -5,8 +5,8 @@ use Rattle.base_values.specs.declared.Position.{Position}
 use Rattle.base_axis.specs.declared.MergedCell.{MergedCell}
 use Rattle.base_axis.specs.contracts.merged_cell.MergedCellPartialEq.TheImpl as equality
 use Rattle.base_axis.specs.Rectangles.{anchor_place, last_place}
-use Rattle.line_map.specs.Trial.{part_by_trial}
-use Rattle.line_map.specs.Way.{Way, place_goes}
+use Rattle.line_trees.specs.Trial.{part_by_trial}
+use Rattle.line_trees.specs.Way.{Way, place_goes}
 
 abbrev pub lesser : ℤ → ℤ → ℤ
 lesser m n = if int_lt n m then n else m

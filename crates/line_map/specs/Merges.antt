@@ -5,8 +5,8 @@ use Rattle.base_axis.specs.declared.MergedCell.{MergedCell}
 use Rattle.base_axis.specs.contracts.merge_list.MergeListPartialEq.TheImpl as equality
 use Rattle.base_axis.specs.Rectangles.{IsInside, first_line, last_line, across, with_lines}
 use Rattle.base_maps.specs.Carried.{if_there}
-use Rattle.line_map.specs.Trial.{part_by_trial}
-use Rattle.line_map.specs.Way.{Way}
+use Rattle.line_trees.specs.Trial.{part_by_trial}
+use Rattle.line_trees.specs.Way.{Way}
 
 -- a merge on the lines where the map leaves it, across the same cross lines, if it is not dropped
 abbrev pub merge_carried : Way → MergedCell → Option MergedCell

@@ -1,17 +1,14 @@
 ghost use Rattle.std.specs.Prelude.{◌≡◌, IfOk, IsOkUnless};
 ghost use Rattle.base_values.specs.declared.EditError.TheVariants.{NoMemory};
-ghost use Rattle.line_edits.specs.Edit.{IsValid, opposite_of};
-ghost use Rattle.line_map.specs.Alone.{edit_way};
-ghost use Rattle.line_map.specs.Way.{way};
+ghost use Rattle.line_edits.specs.Edit.{IsValid};
 ghost use Rattle.line_edits.specs.declared.EditKind.{EditKind};
 
 use crate::follower::Follower;
-use crate::route::Route;
 use base_axis::Axis;
-use base_values::{EditError, Exact, Position};
+use base_values::{EditError, Exact};
 use line_edits::LineEdit;
+use line_trees::edit_route;
 use std::alloc::Global;
-use std::marker::PhantomData;
 
 /// What line edits along an axis carry along, by itself: it stands on the edited sheet, or names
 /// its own sheet. Each call asks that the edit is valid and that the value lies inside the sheet,
@@ -65,35 +62,13 @@ pub trait Follow<A: Axis>: Exact + Drop {
     ghost regains: { (e : EditKind) → IsValid A.along.last e → (v : Self) → Lies e v → regain_of e (follow_of e v) (kept_of e v) ≡ v };
 }
 
-/// The route of an edit on the edited sheet, whose name is left open.
-pub(crate) fn edit_route<'e, A: Axis>(
-    edit: &'e LineEdit<A>,
-    opposite: &'e LineEdit<A>,
-) -> Route<'e, A, LineEdit<A>>
-    requires valid { IsValid A.along.last edit.now.kind }
-    requires opposite { opposite.now.kind ≡ opposite_of edit.now.kind }
-    ensures { way result ≡ edit_way A.along edit.now.kind }
-{
-    let first = Position { row: 1, column: 1 };
-    Route {
-        map: edit,
-        opposite,
-        brings: true,
-        own: "",
-        edited: "",
-        is_own: true,
-        is_edited: true,
-        from: first,
-        to: first,
-        axis: PhantomData,
-    }
-}
-
 impl<A: Axis, F: Follower<A> + Exact> Follow<A> for F {
     ghost use Rattle.std.specs.Prelude.{IfSome};
-    ghost use Rattle.line_map.specs.Alone.{edit_way, regained, Restores};
-    ghost use Rattle.line_map.specs.Way.{back};
-    ghost use Rattle.line_map.specs.laws.AloneLaws.{edit_is_way, kept_restores, kept_fits};
+    ghost use Rattle.line_map.specs.Alone.{regained, Restores};
+    ghost use Rattle.line_trees.specs.EditWay.{edit_way};
+    ghost use Rattle.line_trees.specs.Way.{back};
+    ghost use Rattle.line_map.specs.laws.AloneLaws.{kept_restores, kept_fits};
+    ghost use Rattle.line_trees.specs.laws.WayLaws.{edit_is_way};
 
     type Kept = Option<F::Part>;
 

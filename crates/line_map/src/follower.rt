@@ -1,11 +1,11 @@
-ghost use Rattle.std.specs.Prelude.{◌≡◌, IfOk, IfSome, IsOkUnless, None, Option, Some, if◌then◌else◌};
+ghost use Rattle.std.specs.Prelude.{◌≡◌, IfOk, IsOkUnless, None, Option, Some};
 ghost use Rattle.base_values.specs.declared.EditError.TheVariants.{NoMemory};
-ghost use Rattle.line_map.specs.Way.{Way, IsWay, back, way};
+ghost use Rattle.line_trees.specs.Way.{Way, IsWay, back, way};
 
-use crate::route::Route;
 use base_axis::Axis;
-use base_values::{EditError, Exact, copy_of};
+use base_values::EditError;
 use line_edits::LineMap;
+use line_trees::Route;
 use std::alloc::Global;
 
 /// What is carried along a map on lines. Each call asks that the value lies inside the sheet, and
@@ -77,7 +77,7 @@ pub trait Follower<A: Axis>: Drop {
     /// What is carried along lies inside.
     ghost stays: { (w : Way) → IsWay w → (v : Self) → Lies w v → Lies (back w) (carry_of w v) };
 
-    /// So does what is kept.
+    /// What is kept lies inside too.
     ghost part_fits: { (w : Way) → IsWay w → (v : Self) → Lies w v → (k : Self.Part) → part_of w v ≡ Some k → Fits w k };
 
     /// Where nothing is kept, the way back gives the value.
@@ -85,16 +85,4 @@ pub trait Follower<A: Axis>: Drop {
 
     /// The law of followers: what was kept restores the value.
     ghost restores: { (w : Way) → IsWay w → (v : Self) → Lies w v → (k : Self.Part) → part_of w v ≡ Some k → restore_of w (carry_of w v) k ≡ v };
-}
-
-/// The value, where it has to be kept.
-pub(crate) fn kept_where<T: Exact>(must_keep: bool, value: &T) -> Result<Option<T>, EditError>
-    ensures part { IfOk result (λ part. part ≡ (if must_keep then Some value.now else None)) }
-    ensures only { IsOkUnless result NoMemory }
-{
-    if must_keep {
-        Ok(Some(copy_of(value)?))
-    } else {
-        Ok(None)
-    }
 }

@@ -9,25 +9,21 @@ mod carried_places;
 mod contents;
 mod follow;
 mod follower;
-mod keeping;
 mod laws;
 mod list;
 mod merge_list;
 mod merged_cell;
 mod place_map;
-mod route;
-mod tree;
-mod tree_at;
-mod ways;
+mod trees;
 
 pub use axis_map::{lost_lines, overlaid_lines};
 pub use carried_places::carried_with_kept;
 pub use contents::Nothing;
 pub use follow::{Follow, there_and_back};
 pub use follower::Follower;
-pub use keeping::must_keep;
-pub use laws::{entries_of_maps, followed_is_placed, kept_by_corners, moves_keep_whole_ranges};
+pub use laws::entries_of_maps;
 pub use line_edits::{Block, EditKind, LineEdit, LineMap, image_of_opposite, move_by_single_lines};
+pub use line_trees::{
+    Route, TreeAt, followed_is_placed, kept_by_corners, moves_keep_whole_ranges, must_keep,
+};
 pub use place_map::{KeptMap, Parts, kept_parts, lost_places, overlaid_places, restored_places};
-pub use route::Route;
-pub use tree_at::TreeAt;

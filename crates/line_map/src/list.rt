@@ -2,13 +2,13 @@ ghost use Rattle.std.specs.Prelude.{◌≡◌, ◌++◌, [], IfOk, IfSome, IsOkU
 ghost use Rattle.std.specs.List.{cons_option};
 ghost use Rattle.base_values.specs.declared.EditError.TheVariants.{NoMemory};
 ghost use Rattle.base_maps.specs.Carried.{settled};
-ghost use Rattle.line_map.specs.Way.{back, way};
+ghost use Rattle.line_trees.specs.Way.{back, way};
 
 use crate::follower::Follower;
-use crate::route::Route;
 use base_axis::Axis;
 use base_values::{EditError, Items};
 use line_edits::LineMap;
+use line_trees::Route;
 use std::alloc::Global;
 
 /// What an item is restored from its part to, if it has one, else what is carried back.
@@ -45,7 +45,7 @@ impl<A: Axis, F: Follower<A>> Follower<A> for Items<F> {
     ghost use Rattle.std.specs.Prelude.{map, Some, IfSome};
     ghost use Rattle.std.specs.List.{All};
     ghost use Rattle.line_map.specs.Lists.{items_restored};
-    ghost use Rattle.line_map.specs.Way.{back};
+    ghost use Rattle.line_trees.specs.Way.{back};
     ghost use Rattle.line_map.specs.laws.ListLaws.{items_stay, parts_fit, items_restore};
 
     /// The part of each item.

@@ -3,14 +3,14 @@ ghost use Rattle.std.specs.List.{filter_map};
 ghost use Rattle.base_axis.specs.Rectangles.{IsInside};
 ghost use Rattle.base_values.specs.declared.EditError.TheVariants.{NoMemory};
 ghost use Rattle.line_map.specs.Merges.{merge_carried, merges_carried, MergesLie};
-ghost use Rattle.line_map.specs.Way.{way};
+ghost use Rattle.line_trees.specs.Way.{way};
 
 use crate::follower::Follower;
 use crate::list::put_last;
-use crate::route::Route;
 use base_axis::{Axis, MergeList, MergedCell};
 use base_values::{EditError, Items, copy_of};
 use line_edits::LineMap;
+use line_trees::Route;
 use std::alloc::Global;
 
 /// A merge on the lines where the map leaves it. `None` where it is dropped.
@@ -91,7 +91,7 @@ impl<A: Axis> Follower<A> for MergeList {
         carried(alloc, route, self)
     }
 
-    #[tactic(auto, unfolding(crate::specs::Trial::part_by_trial))]
+    #[tactic(auto, unfolding(line_trees::specs::Trial::part_by_trial))]
     fn part<M: LineMap<A>>(
         &self,
         alloc: Global,

@@ -2,13 +2,13 @@ ghost use Rattle.std.specs.Prelude.{◌≡◌, pos};
 ghost use Rattle.base_values.specs.Places.{IsLine, IsPlace};
 ghost use Rattle.base_axis.specs.Rectangles.{IsInside, last_place};
 ghost use Rattle.line_map.specs.MergedCells.{lesser, span, between, merged_cell_carried};
-ghost use Rattle.line_map.specs.Way.{way};
+ghost use Rattle.line_trees.specs.Way.{way};
 
 use crate::follower::Follower;
-use crate::route::Route;
 use base_axis::{Axis, ColumnAxis, MergedCell, RowAxis};
 use base_values::{EditError, Position};
 use line_edits::LineMap;
+use line_trees::Route;
 use std::alloc::Global;
 
 fn last_place(cell: MergedCell) -> Position
@@ -96,7 +96,7 @@ impl<A: Axis> Follower<A> for MergedCell {
         Ok(carried(route, *self))
     }
 
-    #[tactic(auto, unfolding(crate::specs::Trial::part_by_trial))]
+    #[tactic(auto, unfolding(line_trees::specs::Trial::part_by_trial))]
     fn part<M: LineMap<A>>(
         &self,
         _alloc: Global,

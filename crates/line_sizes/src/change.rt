@@ -88,7 +88,7 @@ fn attr_of(entry: Option<&LineAttr>) -> Result<LineAttr, EditError>
     }
 }
 
-/// What is kept of a line: nothing where it has nothing of its own.
+/// What a sheet stores of a line: nothing where it has nothing of its own.
 fn kept_line(attr: LineAttr) -> Option<LineAttr>
     ensures { result ≡ kept_line (Some attr) }
 {

@@ -1,9 +1,8 @@
 -- The bytes of what an edit does to lines.
-use Rattle.std.specs.Prelude.{ℤ, List, ◌∷◌, ℕ, ◌==◌, if◌then◌else◌, FitsSigned}
+use Rattle.std.specs.Prelude.{ℤ, List, ◌∷◌, ℕ, FitsSigned}
 use Rattle.std.specs.Int.{w32}
 use Rattle.line_edits.specs.declared.EditKind.{EditKind}
 use Rattle.line_edits.specs.declared.EditKind.TheVariants.{Insert, Delete, Move}
-use Rattle.base_wire.specs.Reading.{Reader, refused, map_at, ◌⊗◌, tagged_at, signed_at}
 use Rattle.base_wire.specs.Spelling.{spell_signed, spell_both}
 
 -- a line, or how many lines
@@ -23,32 +22,6 @@ abbrev pub spell_edit : EditKind → List ℕ
 spell_edit (Insert first count) = 0 ∷ spell_block (first, count)
 spell_edit (Delete first count) = 1 ∷ spell_block (first, count)
 spell_edit (Move first count delta) = 2 ∷ spell_move ((first, count), delta)
-
-abbrev pub insertion : ℤ × ℤ → EditKind
-insertion x = Insert x.0 x.1
-
-abbrev pub deletion : ℤ × ℤ → EditKind
-deletion x = Delete x.0 x.1
-
-abbrev pub move : (ℤ × ℤ) × ℤ → EditKind
-move x = Move x.0.0 x.0.1 x.1
-
-abbrev pub block_at : Reader (ℤ × ℤ)
-block_at = signed_at w32 ⊗ signed_at w32
-
-abbrev pub move_at : Reader ((ℤ × ℤ) × ℤ)
-move_at = block_at ⊗ signed_at w32
-
--- what follows each kind
-abbrev pub edit_of : ℕ → Reader EditKind
-edit_of kind =
-    if kind == 0 then map_at insertion block_at
-    else if kind == 1 then map_at deletion block_at
-    else if kind == 2 then map_at move move_at
-    else refused
-
-unfoldable pub edit_at : Reader EditKind
-edit_at = tagged_at edit_of
 
 -- a line and a count of 32 bits
 pub record FitsBlock (from amount : ℤ) : Type 0 where

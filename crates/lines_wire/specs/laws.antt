@@ -1,3 +1,4 @@
+pub mod Reading
 pub mod EditLaws
 pub mod KeptFits
 pub mod KeptLaws

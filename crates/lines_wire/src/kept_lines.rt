@@ -4,11 +4,12 @@ ghost use Rattle.std.specs.Prelude.{◌≡◌, ◌++◌, IfSome, OnOk};
 ghost use Rattle.base_values.specs.Answers.{Answers, map_ok};
 ghost use Rattle.base_wire.specs.Spelling.{spell_option};
 ghost use Rattle.cell_wire.specs.MergeBytes.{spell_merges, FitsMerges};
-ghost use Rattle.lines_wire.specs.KeptBytes.{kept_at, spell_kept, FitsKept, IsKnownKept};
+ghost use Rattle.lines_wire.specs.KeptBytes.{spell_kept, FitsKept, IsKnownKept};
+ghost use Rattle.lines_wire.specs.laws.Reading.{kept_at};
 
 use crate::values::SheetPlacePart;
 use base_axis::MergeList;
-use base_maps::{IndexMap, NumberMap, PositionMap, SheetPlaceMap};
+use base_maps::{IndexKeys, NumberKeys, PositionKeys, SheetPlaceKeys};
 use base_shared::Shared;
 use base_styles::Style;
 use base_values::EditError;
@@ -24,16 +25,16 @@ use sheet_grid::{Cell, LineAttr, Link};
 use sheet_lines::KeptLines;
 use std::alloc::{AllocError, Global};
 
-type CellsPart = MapPart<PositionMap<Shared<Cell>>, PositionPart, CellPart>;
+type CellsPart = MapPart<PositionKeys<Shared<Cell>>, PositionPart, CellPart>;
 
-type LinksPart = MapPart<PositionMap<Link>, PositionPart, LinkPart>;
+type LinksPart = MapPart<PositionKeys<Link>, PositionPart, LinkPart>;
 
-type LinesPart = MapPart<NumberMap<LineAttr>, i32, LinePart>;
+type LinesPart = MapPart<NumberKeys<LineAttr>, i32, LinePart>;
 
-type RulesPart = MapPart<IndexMap<ConditionalFormatting>, u64, FormattingPart>;
+type RulesPart = MapPart<IndexKeys<ConditionalFormatting>, u64, FormattingPart>;
 
 /// The trees of formulas, by the ids of their sheets and their positions.
-pub type FormulasPart = MapPart<SheetPlaceMap<Shared<Node>>, SheetPlacePart, Shared<NodePart>>;
+pub type FormulasPart = MapPart<SheetPlaceKeys<Shared<Node>>, SheetPlacePart, Shared<NodePart>>;
 
 #[tactic(auto, using(map_wire::specs::laws::MapFits::any_option))]
 fn put_kept_merges(out: &mut Vec<u8>, merges: &Option<MergeList>) -> Result<(), AllocError>
@@ -57,7 +58,7 @@ fn put_kept(out: &mut Vec<u8>, kept: &KeptLines) -> Result<(), AllocError>
     Ok(())
 }
 
-#[tactic(auto, unfolding(crate::specs::KeptBytes::kept_at, crate::specs::KeptBytes::cells_at, crate::specs::KeptBytes::links_at, crate::specs::KeptBytes::lines_at, crate::specs::KeptBytes::formulas_at, crate::specs::KeptBytes::kept_merges_at, crate::specs::KeptBytes::kept_rules_at))]
+#[tactic(auto, unfolding(crate::specs::laws::Reading::kept_at, crate::specs::laws::Reading::cells_at, crate::specs::laws::Reading::links_at, crate::specs::laws::Reading::lines_at, crate::specs::laws::Reading::formulas_at, crate::specs::laws::Reading::kept_merges_at, crate::specs::laws::Reading::kept_rules_at))]
 fn kept_at<'a>(
     alloc: Global,
     plain: &Shared<Style>,
@@ -90,7 +91,8 @@ fn kept_at<'a>(
 pub struct KeptLinesPart;
 
 impl Part for KeptLinesPart {
-    ghost use Rattle.lines_wire.specs.KeptBytes.{kept_at, spell_kept, FitsKept, IsKnownKept};
+    ghost use Rattle.lines_wire.specs.KeptBytes.{spell_kept, FitsKept, IsKnownKept};
+    ghost use Rattle.lines_wire.specs.laws.Reading.{kept_at};
     ghost use Rattle.lines_wire.specs.laws.KeptLaws.{kept_format, kept_some};
 
     type Value = KeptLines;

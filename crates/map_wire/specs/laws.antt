@@ -1,3 +1,5 @@
+pub mod Reading
 pub mod Ascending
+pub mod KeyOrder
 pub mod MapFits
 pub mod MapLaws

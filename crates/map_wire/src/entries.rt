@@ -1,7 +1,7 @@
 //! Entries of maps as parts of formats: a key, and its value.
 
 ghost use Rattle.base_values.specs.Answers.{Answers, map_ok};
-ghost use Rattle.base_wire.specs.Reading.{◌⊗◌};
+ghost use Rattle.base_wire.specs.laws.Reading.{◌⊗◌};
 
 use crate::reading::read;
 use base_values::EditError;
@@ -28,7 +28,7 @@ pub(crate) struct EntryPart<K: Part<Context = ()>, P: Part> {
 }
 
 impl<K: Part<Context = ()>, P: Part> Part for EntryPart<K, P> {
-    ghost use Rattle.base_wire.specs.Reading.{◌⊗◌};
+    ghost use Rattle.base_wire.specs.laws.Reading.{◌⊗◌};
     ghost use Rattle.base_wire.specs.Spelling.{Both, spell_both};
     ghost use Rattle.base_wire.specs.laws.Formats.{both_format};
     ghost use Rattle.map_wire.specs.laws.MapLaws.{entry_some};

@@ -1,40 +1,43 @@
 //! Maps as parts of formats.
 
-use crate::keyed::Keyed;
+use crate::plain_key::PlainKey;
 use crate::reading::map_at;
 use crate::writing::put_entries;
-use base_values::EditError;
+use base_values::{EditError, KeyMap};
 use base_wire::Part;
 use std::alloc::{AllocError, Global};
 use std::marker::PhantomData;
 
 /// A map, whose keys and values are parts: how many entries it has, and its entries in the order of
 /// their keys (docs/FORMATS.md, "Bytes"). Bytes whose keys don't rise strictly spell none.
-pub struct MapPart<M: Keyed<K::Value, P::Value>, K: Part<Context = ()>, P: Part> {
-    map: PhantomData<M>,
+pub struct MapPart<X: PlainKey<P::Value>, K: Part<Value = X::Key, Context = ()>, P: Part> {
+    map: PhantomData<X>,
     key: PhantomData<K>,
     value: PhantomData<P>,
 }
 
-impl<M: Keyed<K::Value, P::Value>, K: Part<Context = ()>, P: Part> Part for MapPart<M, K, P> {
+impl<X: PlainKey<P::Value>, K: Part<Value = X::Key, Context = ()>, P: Part> Part
+    for MapPart<X, K, P> {
     ghost use Rattle.std.proofs.Common.{arith};
-    ghost use Rattle.map_wire.specs.MapBytes.{spell_map, map_of_at, FitsMap, IsKnownMap};
+    ghost use Rattle.map_wire.specs.MapBytes.{spell_map, FitsMap, IsKnownMap};
+    ghost use Rattle.map_wire.specs.laws.Reading.{map_of_at};
+    ghost use Rattle.map_wire.specs.laws.KeyOrder.{order_total, order_exact};
     ghost use Rattle.map_wire.specs.laws.MapLaws.{map_format};
 
-    type Value = M;
+    type Value = KeyMap<X, P::Value>;
 
     type Context = P::Context;
 
-    ghost Known = { λ map. IsKnownMap K.Known P.Known (M.seen map) };
+    ghost Known = { λ map. IsKnownMap K.Known P.Known (X.seen map) };
 
-    ghost Fits = { λ map. FitsMap K.Fits P.Fits (M.seen map) };
+    ghost Fits = { λ map. FitsMap K.Fits P.Fits (X.seen map) };
 
-    ghost spelling = { λ map. spell_map K.spelling P.spelling (M.seen map) };
+    ghost spelling = { λ map. spell_map K.spelling P.spelling (X.seen map) };
 
-    ghost reading = { map_of_at M.order M.made K.reading P.reading };
+    ghost reading = { map_of_at X.order X.made K.reading P.reading };
 
-    fn put(out: &mut Vec<u8>, value: &M) -> Result<(), AllocError> {
-        put_entries::<K, P>(out, value.entries())?;
+    fn put(out: &mut Vec<u8>, value: &KeyMap<X, P::Value>) -> Result<(), AllocError> {
+        put_entries::<K, P>(out, value.iter())?;
         Ok(())
     }
 
@@ -42,11 +45,11 @@ impl<M: Keyed<K::Value, P::Value>, K: Part<Context = ()>, P: Part> Part for MapP
         alloc: Global,
         context: &P::Context,
         bytes: &'a [u8],
-    ) -> Result<(M, &'a [u8]), EditError> {
-        map_at::<M, K, P>(alloc, context, bytes)
+    ) -> Result<(KeyMap<X, P::Value>, &'a [u8]), EditError> {
+        map_at::<X, K, P>(alloc, context, bytes)
     }
 
-    ghost format = { map_format M.total M.exact K.format P.format K.some M.seen M.made M.seen_made M.made_seen };
+    ghost format = { map_format (order_total X.ordered X.Key.total) (order_exact X.ordered X.Key.equals X.Key.matches_eq) K.format P.format K.some X.seen X.made X.seen_made X.made_seen };
 
     ghost some = { λ map. Prim.omega arith };
 }

@@ -1,17 +1,16 @@
 //! Maps from the front of bytes. Each reader answers the value and the bytes after it. It refuses with
 //! `ParseDiffs` bytes that are cut short or spell no such value, and with `NoMemory`.
 
-ghost use Rattle.std.specs.Prelude.{◌≡◌, IfOk, IsOkUnless, IsTrue};
-ghost use Rattle.std.specs.FinMap.{from_entries, is_sorted};
+ghost use Rattle.std.specs.Prelude.{◌≡◌, IfOk, IsTrue};
+ghost use Rattle.std.specs.FinMap.{is_sorted};
 ghost use Rattle.std.specs.List.{AllByRecursion};
 ghost use Rattle.base_values.specs.Answers.{Answers, map_ok};
-ghost use Rattle.base_values.specs.declared.EditError.TheVariants.{NoMemory};
 ghost use Rattle.base_wire.specs.Spelling.{Both};
-ghost use Rattle.map_wire.specs.MapBytes.{entries_at, map_of_at};
+ghost use Rattle.map_wire.specs.laws.Reading.{entries_at, map_of_at};
 
 use crate::entries::EntryPart;
-use crate::keyed::Keyed;
-use base_values::{EditError, Items};
+use crate::plain_key::PlainKey;
+use base_values::{EditError, Items, KeyMap, MapKey};
 use base_wire::Part;
 use std::alloc::Global;
 
@@ -28,11 +27,11 @@ pub fn read<'a, P: Part>(
 }
 
 /// Whether the keys of entries rise strictly.
-fn ascends<M: Keyed<K, V>, K, V>(entries: &[(K, V)]) -> bool
-    ensures { result ≡ is_sorted M.order entries.now }
+fn ascends<X: MapKey<V>, V>(entries: &[(X::Key, V)]) -> bool
+    ensures { result ≡ is_sorted X.order entries.now }
 {
     for i in 1..entries.len() {
-        if !M::is_below(&entries[i - 1].0, &entries[i].0) {
+        if !entries[i - 1].0.cmp(&entries[i].0).is_lt() {
             return false;
         }
     }
@@ -40,16 +39,16 @@ fn ascends<M: Keyed<K, V>, K, V>(entries: &[(K, V)]) -> bool
 }
 
 /// A list of entries, whose keys rise strictly.
-fn sorted_entries_at<'a, M: Keyed<K::Value, P::Value>, K: Part<Context = ()>, P: Part>(
+fn sorted_entries_at<'a, X: MapKey<P::Value>, K: Part<Value = X::Key, Context = ()>, P: Part>(
     alloc: Global,
     context: &P::Context,
     bytes: &'a [u8],
-) -> Result<(Items<(K::Value, P::Value)>, &'a [u8]), EditError>
-    ensures read { Answers (map_ok (λ x. (x.0, x.1.now)) result) (entries_at M.order K.reading P.reading bytes.now) }
-    ensures sorted { IfOk result (λ x. IsTrue (is_sorted M.order x.0)) }
+) -> Result<(Items<(X::Key, P::Value)>, &'a [u8]), EditError>
+    ensures read { Answers (map_ok (λ x. (x.0, x.1.now)) result) (entries_at X.order K.reading P.reading bytes.now) }
+    ensures sorted { IfOk result (λ x. IsTrue (is_sorted X.order x.0)) }
 {
     let (entries, rest) = read::<Items<EntryPart<K, P>>>(alloc, context, bytes)?;
-    if !ascends::<M, K::Value, P::Value>(entries.as_slice()) {
+    if !ascends::<X, P::Value>(entries.as_slice()) {
         return Err(EditError::ParseDiffs);
     }
     Ok((entries, rest))
@@ -60,43 +59,27 @@ fn sorted_entries_at<'a, M: Keyed<K::Value, P::Value>, K: Part<Context = ()>, P:
 ///
 /// Refuses with `ParseDiffs` bytes that are cut short, that spell no such entries or whose keys don't
 /// rise strictly, and with `NoMemory`.
-pub fn entries_at<'a, M: Keyed<K::Value, P::Value>, K: Part<Context = ()>, P: Part>(
+pub fn entries_at<'a, X: MapKey<P::Value>, K: Part<Value = X::Key, Context = ()>, P: Part>(
     alloc: Global,
     context: &P::Context,
     bytes: &'a [u8],
-) -> Result<(Items<(K::Value, P::Value)>, &'a [u8]), EditError>
-    ensures read { Answers (map_ok (λ x. (x.0, x.1.now)) result) (entries_at M.order K.reading P.reading bytes.now) }
+) -> Result<(Items<(X::Key, P::Value)>, &'a [u8]), EditError>
+    ensures read { Answers (map_ok (λ x. (x.0, x.1.now)) result) (entries_at X.order K.reading P.reading bytes.now) }
     ensures fits { IfOk result (λ x. AllByRecursion (Both K.Fits P.Fits) x.0) }
-    ensures sorted { IfOk result (λ x. IsTrue (is_sorted M.order x.0)) }
+    ensures sorted { IfOk result (λ x. IsTrue (is_sorted X.order x.0)) }
 {
-    sorted_entries_at::<M, K, P>(alloc, context, bytes)
-}
-
-/// The map that entries in order make. Refuses with `NoMemory` alone.
-fn map_of<M: Keyed<K, V>, K: Drop, V: Drop>(
-    alloc: Global,
-    entries: Vec<(K, V)>,
-) -> Result<M, EditError>
-    requires sorted { IsTrue (is_sorted M.order entries.items) }
-    ensures map { IfOk result (λ map. M.seen map ≡ from_entries entries.items) }
-    ensures only { IsOkUnless result NoMemory }
-{
-    let mut map = M::empty(alloc);
-    for (key, value) in entries {
-        map.add(key, value)?;
-    }
-    Ok(map)
+    sorted_entries_at::<X, K, P>(alloc, context, bytes)
 }
 
 /// The map at the front of bytes.
-pub(crate) fn map_at<'a, M: Keyed<K::Value, P::Value>, K: Part<Context = ()>, P: Part>(
+pub(crate) fn map_at<'a, X: PlainKey<P::Value>, K: Part<Value = X::Key, Context = ()>, P: Part>(
     alloc: Global,
     context: &P::Context,
     bytes: &'a [u8],
-) -> Result<(M, &'a [u8]), EditError>
-    ensures { Answers (map_ok (λ x. (x.0, x.1.now)) result) (map_of_at M.order M.made K.reading P.reading bytes.now) }
+) -> Result<(KeyMap<X, P::Value>, &'a [u8]), EditError>
+    ensures { Answers (map_ok (λ x. (x.0, x.1.now)) result) (map_of_at X.order X.made K.reading P.reading bytes.now) }
 {
-    let (entries, rest) = sorted_entries_at::<M, K, P>(alloc, context, bytes)?;
-    let map = map_of::<M, K::Value, P::Value>(alloc, entries.into_vec())?;
+    let (entries, rest) = sorted_entries_at::<X, K, P>(alloc, context, bytes)?;
+    let map = KeyMap::of_entries(alloc, entries)?;
     Ok((map, rest))
 }

@@ -8,7 +8,7 @@ use Rattle.formula_tree.specs.declared.Node.{Node}
 use Rattle.formula_names.specs.declared.Reach.TheVariants.{Nothing}
 use Rattle.defined_names.specs.declared.DefinedName.{DefinedName}
 use Rattle.defined_names.specs.Names.{IsCanonicalName}
-use Rattle.index_maps.specs.SheetIndexes.{sheet_index_cmp}
+use Rattle.base_maps.specs.SheetIndexes.{sheet_index_cmp}
 use Rattle.sheet_grid.specs.Sheet.{Sheet}
 use Rattle.sheet_grid.specs.Book.{Book}
 use Rattle.book_names.specs.declared.KeptTrees.{KeptTrees}
@@ -17,7 +17,7 @@ use Rattle.book_names.specs.Renaming.{formattings_renamed, formattings_back, for
 use Rattle.name_edits.specs.declared.name_change.NameChange.{NameChange}
 use Rattle.name_edits.specs.LookUp.{reach_at}
 
--- the numbers of the trees of both names are ones that a workbook keeps
+-- the numbers of the trees of both names are canonical
 pub record IsCanonicalChange (change : NameChange) : Type 0 where
   pub old : IfSome change.old IsCanonicalName
   pub new : IfSome change.new IsCanonicalName

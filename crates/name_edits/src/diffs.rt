@@ -30,14 +30,15 @@ fn is_change(change: &NameChange) -> bool
     change.old.is_some() || change.new.is_some()
 }
 
-/// Whether one does, and another one comes in its place.
+/// Whether one name goes and another comes in its place.
 fn is_replacement(change: &NameChange) -> bool
     ensures { result ≡ is_replacement change.now }
 {
     change.old.is_some() && change.new.is_some()
 }
 
-/// Whether the index of a change is one among so many names, or where none goes also the one behind.
+/// Whether the index of a change is that of a name. Where no name goes, the number of the names is
+/// allowed too.
 fn has_place(change: &NameChange, count: usize) -> bool
     requires { count < 2 ^ 63 }
     ensures { result ≡ has_place change.now count }

@@ -10,13 +10,12 @@ ghost use Rattle.name_edits.specs.NameDiffs.{has_place};
 use crate::list::changed_list;
 use crate::look_up::Finding;
 use crate::name_change::NameChange;
-use base_maps::{IndexMap, SheetPlaceMap};
+use base_maps::{IndexMap, SheetIndexMap, SheetPlaceMap};
 use base_shared::Shared;
 use base_values::EditError;
 use book_names::{KeptTrees, kept_formattings, kept_formulas};
 use format_rules::ConditionalFormatting;
 use formula_tree::Node;
-use index_maps::SheetIndexMap;
 use sheet_grid::Workbook;
 use std::alloc::Global;
 

@@ -17,14 +17,14 @@ fn is_named(name: &DefinedName, scope: Option<u32>, text: &str) -> bool
     scope == name.scope && same_by_folding(text, name.name.as_str())
 }
 
-/// Whether some name is.
+/// Whether the list has a name of that scope and text.
 pub(crate) fn has_name(names: &[DefinedName], scope: Option<u32>, text: &str) -> bool
     ensures { result ≡ list_any (is_named scope text.now) names.now }
 {
     names.iter().any(|name| is_named(name, scope, text))
 }
 
-/// The place of the first name that is.
+/// The index of the first such name.
 #[tactic(auto, unfolding(crate::specs::LookUp::place_of))]
 pub(crate) fn place_of(names: &[DefinedName], scope: Option<u32>, text: &str) -> Option<usize>
     ensures { result ≡ place_of scope text.now names.now }

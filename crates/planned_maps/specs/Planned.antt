@@ -55,7 +55,3 @@ put_if m key (Some x) = insert m key x
 
 abbrev pub put_one : {K X : Type 0} {R : K → K → Ordering} → (K → Option X) → FinMap R X → K → FinMap R X
 put_one make m key = put_if m key (make key)
-
--- and of more keys, one after another
-abbrev pub put_all : {K X : Type 0} {R : K → K → Ordering} → (K → Option X) → FinMap R X → List K → FinMap R X
-put_all make m keys = fold (put_one make) m keys

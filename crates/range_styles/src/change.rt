@@ -24,8 +24,8 @@ pub trait StyleChange {
     fn accepts(&self, place: Position, style: &Style) -> bool
         ensures { result ≡ takes self.now place style.now };
 
-    /// What it makes of a style. One of which it may not be made may stay as it is: no call asks
-    /// for what comes of it. `NoMemory` alone is an error.
+    /// The style after the change. Callers ask only where `accepts` is true; else any style may be
+    /// returned. `NoMemory` alone is an error.
     fn made(&self, place: Position, style: &Shared<Style>) -> Result<Shared<Style>, EditError>
         ensures { Returns result (Ok (made_of self.now place style.now)) };
 

@@ -162,7 +162,7 @@ fn attr_with(entry: Option<&LineAttr>, style: Option<Shared<Style>>) -> LineAttr
     }
 }
 
-/// What is kept of a line: nothing where it has nothing of its own.
+/// What a sheet stores of a line: nothing where it has nothing of its own.
 fn kept_line(attr: LineAttr) -> Option<LineAttr>
     ensures { result ≡ kept_line (Some attr) }
 {

@@ -1,3 +1,4 @@
 pub mod RuleChanges
 pub mod RuleEdits
+pub mod Made
 pub mod laws

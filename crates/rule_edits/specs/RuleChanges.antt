@@ -15,7 +15,7 @@ change_at index old new = record { index = index; old = old; new = new }
 abbrev pub opposite : RuleChange → RuleChange
 opposite change = change_at change.index change.new change.old
 
--- the numbers of both rules are ones that a workbook keeps
+-- the numbers of both rules are canonical
 pub record IsCanonicalChange (change : RuleChange) : Type 0 where
   pub old : IfSome change.old IsCanonicalFormatting
   pub new : IfSome change.new IsCanonicalFormatting

@@ -15,8 +15,6 @@ use Rattle.format_rules.specs.declared.ConditionalFormatting.{ConditionalFormatt
 use Rattle.format_rules.specs.contracts.formatting.ConditionalFormattingPartialEq.TheImpl as equality
 use Rattle.format_rules.specs.Fitting.{place_of}
 use Rattle.format_rules.specs.RuleTrees.{each_tree}
-use Rattle.sheet_grid.specs.Sheet.{Sheet}
-use Rattle.sheet_grid.specs.Book.{Book, sheet_at}
 use Rattle.rule_edits.specs.declared.change.RuleChange.{RuleChange}
 use Rattle.rule_edits.specs.RuleChanges.{change_at, rules_changed}
 
@@ -133,7 +131,3 @@ rule_changes (Swap sheet a b) rules = map_ok maybe_two (rules_swapped a b rules)
 abbrev pub rules_after : List RuleChange → List ConditionalFormatting → List ConditionalFormatting
 rules_after [] rules = rules
 rules_after (change ∷ changes) rules = rules_after changes (rules_changed change rules)
-
--- the changes of an edit of a workbook, or its first refusal: there is no such sheet
-abbrev pub edit_changes : RuleEdit → Book → Result (List RuleChange) EditError
-edit_changes edit book = and_then (sheet_at book (sheet_index_of edit)) (λ (sheet : Sheet). rule_changes edit sheet.formattings)

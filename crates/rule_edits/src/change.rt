@@ -6,9 +6,9 @@ use format_rules::ConditionalFormatting;
 pub struct RuleChange {
     /// Its place in the list of the sheet's rules.
     pub index: u64,
-    /// The rule before. None stands for one that comes.
+    /// The rule before. `None` where the rule is new.
     pub old: Option<ConditionalFormatting>,
-    /// The rule afterwards. None stands for one that goes.
+    /// The rule afterwards. `None` where the rule is removed.
     pub new: Option<ConditionalFormatting>,
 }
 

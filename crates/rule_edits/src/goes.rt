@@ -14,7 +14,7 @@ fn is_change(change: &RuleChange) -> bool
     change.old.is_some() || change.new.is_some()
 }
 
-/// Whether an index is one among so many rules, or where none goes also the one behind.
+/// Whether the index is that of a rule. Where no rule goes, the number of the rules is allowed too.
 fn has_place(index: u64, old: &Option<ConditionalFormatting>, count: usize) -> bool
     requires { count < 2 ^ 63 }
     ensures { result ≡ has_place (change_at index old.now old.now) count }

@@ -2,10 +2,9 @@ ghost use Rattle.std.specs.Prelude.{◌≡◌, List, Ok, true};
 ghost use Rattle.std.specs.List.{list_all};
 ghost use Rattle.format_rules.specs.declared.ConditionalFormatting.{ConditionalFormatting};
 ghost use Rattle.rule_edits.specs.declared.change.RuleChange.{RuleChange};
+ghost use Rattle.rule_edits.specs.Made.{ChangesGo, IsMade};
 ghost use Rattle.rule_edits.specs.RuleChanges.{may_stand, opposite, rules_changed};
 ghost use Rattle.rule_edits.specs.RuleEdits.{RuleEdit, rule_changes, rules_after};
-ghost use Rattle.rule_edits.specs.laws.EditLaws.{ChangesGo};
-ghost use Rattle.rule_edits.specs.laws.Lists.{IsMade};
 
 /// A law about changes of rules, with no work at run time: where a change can be made, its opposite gives
 /// the earlier rules.

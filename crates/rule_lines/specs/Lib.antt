@@ -1,4 +1,3 @@
-pub mod ByIndex
 pub mod Canonical
 pub mod Rules
 pub mod EditedRules

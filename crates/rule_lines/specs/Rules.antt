@@ -1,5 +1,5 @@
 -- The rules of a sheet, carried along.
-use Rattle.std.specs.Prelude.{ℕ, Bool, nat_lt, List, [], ◌∷◌, map, Option, if◌then◌else◌}
+use Rattle.std.specs.Prelude.{◌≢◌, ℕ, Bool, nat_lt, List, [], ◌∷◌, map, Option, if◌then◌else◌}
 use Rattle.std.specs.List.{All, list_all}
 use Rattle.std.specs.Ordering.{nat_cmp}
 use Rattle.std.specs.FinMap.{FinMap, entries, get}
@@ -10,10 +10,10 @@ use Rattle.format_rules.specs.contracts.formatting.ConditionalFormattingPartialE
 use Rattle.format_rules.specs.Fitting.{StandsInside}
 use Rattle.format_rules.specs.RuleTrees.{trees_changed}
 use Rattle.line_map.specs.MergedCells.{merged_cell_carried}
-use Rattle.line_map.specs.Trees.{tree_carried}
-use Rattle.line_map.specs.Trial.{part_by_trial}
-use Rattle.line_map.specs.Way.{Way, at, back}
-use Rattle.rule_lines.specs.ByIndex.{kept_by_index, restored_by_index}
+use Rattle.line_trees.specs.Trees.{tree_carried}
+use Rattle.line_trees.specs.Trial.{part_by_trial}
+use Rattle.line_trees.specs.Way.{Way, at, back}
+use Rattle.base_maps.specs.ByIndex.{kept_by_index, restored_by_index}
 
 -- how the map meets what stands at the first place of a part: it goes with the part, and stays where the part stays
 abbrev pub at_part : Way → MergedCell → Way
@@ -46,6 +46,10 @@ rules_carried w rules = map (formatting_carried w) rules
 -- the rules that the way back does not give, under their places in the list
 abbrev pub rules_kept : Way → List ConditionalFormatting → FinMap nat_cmp ConditionalFormatting
 rules_kept w rules = kept_by_index (formatting_part w) rules
+
+-- a rule that the way back does not give
+abbrev pub DoesNotReturn : Way → ConditionalFormatting → Type 0
+DoesNotReturn w rule = formatting_carried (back w) (formatting_carried w rule) ≢ rule
 
 -- each rule that was kept, and each other one carried back
 abbrev pub rules_restored : Way → FinMap nat_cmp ConditionalFormatting → List ConditionalFormatting → List ConditionalFormatting

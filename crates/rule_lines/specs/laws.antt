@@ -1,4 +1,3 @@
-pub mod ByIndexLaws
 pub mod RuleLaws
 pub mod FollowLaws
 pub mod EditedEquals

@@ -7,8 +7,8 @@ ghost use Rattle.base_maps.specs.Carried.{settled};
 ghost use Rattle.base_maps.specs.laws.Gathering.{with_made};
 ghost use Rattle.base_values.specs.declared.EditError.TheVariants.{NoMemory};
 ghost use Rattle.format_rules.specs.Fitting.{StandsInside};
-ghost use Rattle.line_map.specs.Way.{back, way};
-ghost use Rattle.rule_lines.specs.ByIndex.{kept_at, restored_at};
+ghost use Rattle.line_trees.specs.Way.{back, way};
+ghost use Rattle.base_maps.specs.ByIndex.{kept_at, restored_at};
 ghost use Rattle.rule_lines.specs.Canonical.{AreCanonicalKept};
 ghost use Rattle.rule_lines.specs.Rules.{RulesLie, formatting_carried, formatting_part, rules_carried, rules_kept, rules_restored};
 
@@ -70,7 +70,7 @@ pub(crate) fn kept_items<A: Axis, M: LineMap<A>>(
     Ok(kept)
 }
 
-/// A rule as it was kept, if it was, else carried back.
+/// The kept rule; without one, the rule carried back.
 fn settled_formatting<A: Axis, M: LineMap<A>>(
     alloc: Global,
     route: &Route<'_, A, M>,
@@ -87,7 +87,7 @@ fn settled_formatting<A: Axis, M: LineMap<A>>(
     }
 }
 
-/// The rule at a place of the list, as it was kept there, if it was, else carried back.
+/// The same for the rule at an index of the list.
 fn restored_formatting<A: Axis, M: LineMap<A>>(
     alloc: Global,
     route: &Route<'_, A, M>,

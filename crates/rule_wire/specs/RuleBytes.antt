@@ -1,23 +1,20 @@
 -- The bytes of rules.
-use Rattle.std.specs.Prelude.{ℕ, ◌<◌, ◌^◌, Bool, List, [], ◌∷◌, ◌++◌, Option, IfSome, ◌==◌, if◌then◌else◌}
+use Rattle.std.specs.Prelude.{ℕ, ◌<◌, ◌^◌, Bool, List, [], ◌∷◌, ◌++◌, Option, IfSome}
 use Rattle.std.specs.List.{AllByRecursion}
 use Rattle.base_styles.specs.declared.Color.{Color}
 use Rattle.base_styles.specs.declared.Style.{Style}
 use Rattle.formula_tree.specs.declared.Node.{Node}
 use Rattle.format_rules.specs.declared.Cfvo.{Cfvo}
-use Rattle.format_rules.specs.declared.ColorThreshold.{ColorThreshold}
 use Rattle.format_rules.specs.declared.IconThreshold.{IconThreshold}
 use Rattle.format_rules.specs.declared.CfOperator.{CfOperator}
 use Rattle.format_rules.specs.declared.CfOperator.TheVariants.{Equal, NotEqual, Less, LessOrEqual, Greater, GreaterOrEqual, Between, NotBetween}
 use Rattle.format_rules.specs.declared.CfRule.{CfRule}
 use Rattle.format_rules.specs.declared.CfRule.TheVariants.{Formula, CellIs, ColorScale, DataBar, IconSet, IconRating}
-use Rattle.base_wire.specs.Reading.{Reader, refused, map_at, ◌⊗◌, byte_at, tagged_at, code_at, option_at}
 use Rattle.base_wire.specs.Spelling.{spell_code, boolean_code, spell_option, FitsItems}
-use Rattle.base_wire.specs.Parts.{boolean_at}
-use Rattle.formula_wire.specs.NodeBytes.{spell_node, node_at}
+use Rattle.formula_wire.specs.NodeBytes.{spell_node}
 use Rattle.formula_wire.specs.Carried.{FitsNode, IsKnownNode}
-use Rattle.cell_wire.specs.StyleBytes.{spell_color, color_at, FitsColor, spell_style, style_at, FitsStyle}
-use Rattle.rule_wire.specs.ThresholdBytes.{spell_cfvo, bound_at, FitsCfvo, IsKnownCfvo, spell_colors, colors_at, FitsColorThreshold, IsKnownColorThreshold, spell_icons, icons_at, FitsIconThreshold, IsKnownIconThreshold}
+use Rattle.cell_wire.specs.StyleBytes.{spell_color, FitsColor, spell_style, FitsStyle}
+use Rattle.rule_wire.specs.ThresholdBytes.{spell_cfvo, FitsCfvo, IsKnownCfvo, spell_colors, FitsColorThreshold, IsKnownColorThreshold, spell_icons, FitsIconThreshold, IsKnownIconThreshold}
 
 -- ---- operators
 
@@ -32,39 +29,16 @@ operator_code GreaterOrEqual = 5
 operator_code Between = 6
 operator_code NotBetween = 7
 
--- all of them
-abbrev pub operators : List CfOperator
-operators = Equal ∷ NotEqual ∷ Less ∷ LessOrEqual ∷ Greater ∷ GreaterOrEqual ∷ Between ∷ NotBetween ∷ []
-
-abbrev pub operator_at : Reader CfOperator
-operator_at = code_at operator_code operators
-
 -- ---- what the kinds hold
 
 -- a formula, a style, and whether the rule stops others
 abbrev pub spell_formula : Node → Style → Bool → List ℕ
 spell_formula formula style stop = spell_node formula ++ (spell_style style ++ spell_code boolean_code stop)
 
-abbrev pub formula_made : Node × (Style × Bool) → CfRule
-formula_made x = Formula x.0 x.1.0 x.1.1
-
-abbrev pub formula_at : Reader CfRule
-formula_at = map_at formula_made (node_at ⊗ style_at ⊗ boolean_at)
-
--- a formula that may be missing
-unfoldable pub second_at : Reader (Option Node)
-second_at = option_at node_at
-
 -- an operator, one formula or two, a style, and whether the rule stops others
 abbrev pub spell_cell_is : CfOperator → Node → Option Node → Style → Bool → List ℕ
 spell_cell_is operator formula formula2 style stop =
     spell_code operator_code operator ++ (spell_node formula ++ (spell_option spell_node formula2 ++ (spell_style style ++ spell_code boolean_code stop)))
-
-abbrev pub cell_is_made : CfOperator × (Node × (Option Node × (Style × Bool))) → CfRule
-cell_is_made x = CellIs x.0 x.1.0 x.1.1.0 x.1.1.1.0 x.1.1.1.1
-
-abbrev pub cell_is_at : Reader CfRule
-cell_is_at = map_at cell_is_made (operator_at ⊗ node_at ⊗ second_at ⊗ style_at ⊗ boolean_at)
 
 -- the ends of a bar, its two colours, whether it fades, and whether the value is shown
 abbrev pub spell_data_bar : Option Cfvo → Option Cfvo → Color → Color → Bool → Bool → List ℕ
@@ -72,31 +46,13 @@ spell_data_bar min max positive negative gradient show =
     spell_option spell_cfvo min ++ (spell_option spell_cfvo max ++ (spell_color positive ++ (spell_color negative
     ++ (spell_code boolean_code gradient ++ spell_code boolean_code show))))
 
-abbrev pub data_bar_made : Option Cfvo × (Option Cfvo × (Color × (Color × (Bool × Bool)))) → CfRule
-data_bar_made x = DataBar x.0 x.1.0 x.1.1.0 x.1.1.1.0 x.1.1.1.1.0 x.1.1.1.1.1
-
-abbrev pub data_bar_at : Reader CfRule
-data_bar_at = map_at data_bar_made (bound_at ⊗ bound_at ⊗ color_at ⊗ color_at ⊗ boolean_at ⊗ boolean_at)
-
 -- the number of the set, its thresholds, and whether the value is shown
 abbrev pub spell_icon_set : ℕ → List IconThreshold → Bool → List ℕ
 spell_icon_set icons thresholds show = (icons ∷ []) ++ (spell_icons thresholds ++ spell_code boolean_code show)
 
-abbrev pub icon_set_made : ℕ × (List IconThreshold × Bool) → CfRule
-icon_set_made x = IconSet x.0 x.1.0 x.1.1
-
-abbrev pub icon_set_at : Reader CfRule
-icon_set_at = map_at icon_set_made (byte_at ⊗ icons_at ⊗ boolean_at)
-
 -- the number of the icon, its colour, its thresholds, and whether the value is shown
 abbrev pub spell_icon_rating : ℕ → Color → List IconThreshold → Bool → List ℕ
 spell_icon_rating icon color thresholds show = (icon ∷ []) ++ (spell_color color ++ (spell_icons thresholds ++ spell_code boolean_code show))
-
-abbrev pub icon_rating_made : ℕ × (Color × (List IconThreshold × Bool)) → CfRule
-icon_rating_made x = IconRating x.0 x.1.0 x.1.1.0 x.1.1.1
-
-abbrev pub icon_rating_at : Reader CfRule
-icon_rating_at = map_at icon_rating_made (byte_at ⊗ color_at ⊗ icons_at ⊗ boolean_at)
 
 -- ---- rules
 
@@ -108,20 +64,6 @@ spell_rule (ColorScale thresholds) = 2 ∷ spell_colors thresholds
 spell_rule (DataBar min max positive negative gradient show) = 3 ∷ spell_data_bar min max positive negative gradient show
 spell_rule (IconSet icons thresholds show) = 4 ∷ spell_icon_set icons thresholds show
 spell_rule (IconRating icon color thresholds show) = 5 ∷ spell_icon_rating icon color thresholds show
-
--- what follows each kind
-abbrev pub rule_of : ℕ → Reader CfRule
-rule_of kind =
-    if kind == 0 then formula_at
-    else if kind == 1 then cell_is_at
-    else if kind == 2 then map_at ColorScale colors_at
-    else if kind == 3 then data_bar_at
-    else if kind == 4 then icon_set_at
-    else if kind == 5 then icon_rating_at
-    else refused
-
-unfoldable pub rule_at : Reader CfRule
-rule_at = tagged_at rule_of
 
 -- ---- what bytes can carry
 

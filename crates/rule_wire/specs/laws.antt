@@ -1,3 +1,4 @@
+pub mod Reading
 pub mod ThresholdLaws
 pub mod RuleLaws
 pub mod FormattingLaws

@@ -1,7 +1,7 @@
 //! Parts of rules as parts of formats.
 
 ghost use Rattle.base_values.specs.Answers.{Answers, map_ok};
-ghost use Rattle.cell_wire.specs.MergeBytes.{merge_at};
+ghost use Rattle.cell_wire.specs.laws.Reading.{merge_at};
 
 use base_axis::MergedCell;
 use base_values::EditError;
@@ -9,7 +9,7 @@ use base_wire::Part;
 use map_wire::read;
 use std::alloc::{AllocError, Global};
 
-#[tactic(auto, unfolding(cell_wire::specs::MergeBytes::merge_at))]
+#[tactic(auto, unfolding(cell_wire::specs::laws::Reading::merge_at))]
 fn area_at(alloc: Global, bytes: &[u8]) -> Result<(MergedCell, &[u8]), EditError>
     ensures { Answers (map_ok (λ x. (x.0, x.1.now)) result) (merge_at bytes.now) }
 {
@@ -31,7 +31,8 @@ pub(crate) struct AreaPart;
 
 impl Part for AreaPart {
     ghost use Rattle.base_wire.specs.Spelling.{Any};
-    ghost use Rattle.cell_wire.specs.MergeBytes.{merge_at, spell_merge, FitsMerge};
+    ghost use Rattle.cell_wire.specs.MergeBytes.{spell_merge, FitsMerge};
+    ghost use Rattle.cell_wire.specs.laws.Reading.{merge_at};
     ghost use Rattle.cell_wire.specs.laws.MergeLaws.{merge_format, merge_some};
 
     type Value = MergedCell;

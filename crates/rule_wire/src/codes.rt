@@ -3,8 +3,9 @@
 ghost use Rattle.std.specs.Prelude.{◌≡◌};
 ghost use Rattle.base_values.specs.Answers.{Answers, map_ok, ok_or};
 ghost use Rattle.base_values.specs.declared.EditError.TheVariants.{ParseDiffs};
-ghost use Rattle.base_wire.specs.Reading.{decoded};
-ghost use Rattle.rule_wire.specs.RuleBytes.{operator_at, operator_code, operators};
+ghost use Rattle.base_wire.specs.laws.Reading.{decoded};
+ghost use Rattle.rule_wire.specs.RuleBytes.{operator_code};
+ghost use Rattle.rule_wire.specs.laws.Reading.{operator_at, operators};
 
 use base_values::EditError;
 use format_rules::CfOperator;

@@ -2,7 +2,8 @@
 
 ghost use Rattle.std.specs.Prelude.{◌≡◌, ◌++◌, OnOk};
 ghost use Rattle.base_values.specs.Answers.{Answers, map_ok};
-ghost use Rattle.rule_wire.specs.FormattingBytes.{formatting_at, spell_areas, FitsAreas};
+ghost use Rattle.rule_wire.specs.FormattingBytes.{spell_areas, FitsAreas};
+ghost use Rattle.rule_wire.specs.laws.Reading.{formatting_at};
 
 use crate::areas::AreaPart;
 use crate::rules::RulePart;
@@ -15,7 +16,7 @@ use format_rules::{ConditionalFormatting, RuleList};
 use map_wire::read;
 use std::alloc::{AllocError, Global};
 
-#[tactic(auto, unfolding(crate::specs::FormattingBytes::formatting_at, crate::specs::FormattingBytes::areas_at))]
+#[tactic(auto, unfolding(crate::specs::laws::Reading::formatting_at, crate::specs::laws::Reading::areas_at))]
 fn formatting_at<'a>(
     alloc: Global,
     plain: &Shared<Style>,
@@ -47,7 +48,8 @@ fn put_areas(out: &mut Vec<u8>, areas: &[MergedCell]) -> Result<(), AllocError>
 pub struct FormattingPart;
 
 impl Part for FormattingPart {
-    ghost use Rattle.rule_wire.specs.FormattingBytes.{formatting_at, spell_formatting, FitsFormatting, IsKnownFormatting};
+    ghost use Rattle.rule_wire.specs.FormattingBytes.{spell_formatting, FitsFormatting, IsKnownFormatting};
+    ghost use Rattle.rule_wire.specs.laws.Reading.{formatting_at};
     ghost use Rattle.rule_wire.specs.laws.FormattingLaws.{formatting_format, formatting_some};
 
     type Value = ConditionalFormatting;
@@ -86,7 +88,8 @@ pub struct RuleListPart;
 
 impl Part for RuleListPart {
     ghost use Rattle.std.proofs.Common.{arith};
-    ghost use Rattle.rule_wire.specs.FormattingBytes.{formattings_at, spell_formattings, FitsFormattings, AreKnownFormattings};
+    ghost use Rattle.rule_wire.specs.FormattingBytes.{spell_formattings, FitsFormattings, AreKnownFormattings};
+    ghost use Rattle.rule_wire.specs.laws.Reading.{formattings_at};
     ghost use Rattle.rule_wire.specs.laws.FormattingLaws.{formattings_format};
 
     type Value = RuleList;

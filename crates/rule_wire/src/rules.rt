@@ -12,7 +12,8 @@ use std::alloc::{AllocError, Global};
 pub struct RulePart;
 
 impl Part for RulePart {
-    ghost use Rattle.rule_wire.specs.RuleBytes.{rule_at, spell_rule, FitsRule, IsKnownRule};
+    ghost use Rattle.rule_wire.specs.RuleBytes.{spell_rule, FitsRule, IsKnownRule};
+    ghost use Rattle.rule_wire.specs.laws.Reading.{rule_at};
     ghost use Rattle.rule_wire.specs.laws.RuleLaws.{rule_format, rule_some};
 
     type Value = CfRule;

@@ -2,7 +2,8 @@
 
 ghost use Rattle.std.specs.Prelude.{◌≡◌, ◌++◌, OnOk};
 ghost use Rattle.base_values.specs.Answers.{Answers, map_ok};
-ghost use Rattle.rule_wire.specs.ThresholdBytes.{cfvo_at, color_threshold_at, icon_threshold_at, spell_cfvo, FitsCfvo, IsKnownCfvo};
+ghost use Rattle.rule_wire.specs.ThresholdBytes.{spell_cfvo, FitsCfvo, IsKnownCfvo};
+ghost use Rattle.rule_wire.specs.laws.Reading.{cfvo_at, color_threshold_at, icon_threshold_at};
 
 use base_decimal::Decimal;
 use base_shared::Shared;
@@ -41,7 +42,7 @@ fn put_cfvo(out: &mut Vec<u8>, cfvo: &Cfvo) -> Result<(), AllocError>
     Ok(())
 }
 
-#[tactic(auto, unfolding(crate::specs::ThresholdBytes::cfvo_at))]
+#[tactic(auto, unfolding(crate::specs::laws::Reading::cfvo_at))]
 fn cfvo_at(alloc: Global, bytes: &[u8]) -> Result<(Cfvo, &[u8]), EditError>
     ensures { Answers (map_ok (λ x. (x.0, x.1.now)) result) (cfvo_at bytes.now) }
 {
@@ -69,7 +70,7 @@ fn cfvo_at(alloc: Global, bytes: &[u8]) -> Result<(Cfvo, &[u8]), EditError>
     }
 }
 
-#[tactic(auto, unfolding(crate::specs::ThresholdBytes::color_threshold_at))]
+#[tactic(auto, unfolding(crate::specs::laws::Reading::color_threshold_at))]
 fn color_threshold_at(alloc: Global, bytes: &[u8]) -> Result<(ColorThreshold, &[u8]), EditError>
     ensures { Answers (map_ok (λ x. (x.0, x.1.now)) result) (color_threshold_at bytes.now) }
 {
@@ -78,7 +79,7 @@ fn color_threshold_at(alloc: Global, bytes: &[u8]) -> Result<(ColorThreshold, &[
     Ok((ColorThreshold { cfvo, color }, rest))
 }
 
-#[tactic(auto, unfolding(crate::specs::ThresholdBytes::icon_threshold_at))]
+#[tactic(auto, unfolding(crate::specs::laws::Reading::icon_threshold_at))]
 fn icon_threshold_at(alloc: Global, bytes: &[u8]) -> Result<(IconThreshold, &[u8]), EditError>
     ensures { Answers (map_ok (λ x. (x.0, x.1.now)) result) (icon_threshold_at bytes.now) }
 {
@@ -91,7 +92,8 @@ fn icon_threshold_at(alloc: Global, bytes: &[u8]) -> Result<(IconThreshold, &[u8
 pub(crate) struct CfvoPart;
 
 impl Part for CfvoPart {
-    ghost use Rattle.rule_wire.specs.ThresholdBytes.{cfvo_at, spell_cfvo, FitsCfvo, IsKnownCfvo};
+    ghost use Rattle.rule_wire.specs.ThresholdBytes.{spell_cfvo, FitsCfvo, IsKnownCfvo};
+    ghost use Rattle.rule_wire.specs.laws.Reading.{cfvo_at};
     ghost use Rattle.rule_wire.specs.laws.ThresholdLaws.{cfvo_format, cfvo_some};
 
     type Value = Cfvo;
@@ -127,7 +129,8 @@ impl Part for CfvoPart {
 pub(crate) struct ColorThresholdPart;
 
 impl Part for ColorThresholdPart {
-    ghost use Rattle.rule_wire.specs.ThresholdBytes.{color_threshold_at, spell_color_threshold, FitsColorThreshold, IsKnownColorThreshold};
+    ghost use Rattle.rule_wire.specs.ThresholdBytes.{spell_color_threshold, FitsColorThreshold, IsKnownColorThreshold};
+    ghost use Rattle.rule_wire.specs.laws.Reading.{color_threshold_at};
     ghost use Rattle.rule_wire.specs.laws.ThresholdLaws.{color_threshold_format, color_threshold_some};
 
     type Value = ColorThreshold;
@@ -164,7 +167,8 @@ impl Part for ColorThresholdPart {
 pub(crate) struct IconThresholdPart;
 
 impl Part for IconThresholdPart {
-    ghost use Rattle.rule_wire.specs.ThresholdBytes.{icon_threshold_at, spell_icon_threshold, FitsIconThreshold, IsKnownIconThreshold};
+    ghost use Rattle.rule_wire.specs.ThresholdBytes.{spell_icon_threshold, FitsIconThreshold, IsKnownIconThreshold};
+    ghost use Rattle.rule_wire.specs.laws.Reading.{icon_threshold_at};
     ghost use Rattle.rule_wire.specs.laws.ThresholdLaws.{icon_threshold_format, icon_threshold_some};
 
     type Value = IconThreshold;

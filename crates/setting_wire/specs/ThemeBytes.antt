@@ -2,19 +2,12 @@
 use Rattle.std.specs.Prelude.{ℕ, ◌<◌, ◌^◌, List, [], ◌∷◌, ◌++◌}
 use Rattle.base_styles.specs.declared.RgbColor.{RgbColor}
 use Rattle.base_styles.specs.declared.Theme.{Theme}
-use Rattle.base_wire.specs.Reading.{Reader, map_at, ◌⊗◌, byte_at}
 
 -- ---- the parts of a colour
 
 -- red, green and blue, a byte each
 abbrev pub spell_rgb : RgbColor → List ℕ
 spell_rgb color = color.red ∷ color.green ∷ color.blue ∷ []
-
-abbrev pub rgb_made : ℕ × (ℕ × ℕ) → RgbColor
-rgb_made x = record { red = x.0; green = x.1.0; blue = x.1.1 }
-
-unfoldable pub rgb_at : Reader RgbColor
-rgb_at = map_at rgb_made (byte_at ⊗ byte_at ⊗ byte_at)
 
 -- its parts are bytes
 pub record FitsRgb (color : RgbColor) : Type 0 where
@@ -30,31 +23,6 @@ spell_theme theme =
     spell_rgb theme.light1 ++ (spell_rgb theme.dark1 ++ (spell_rgb theme.light2 ++ (spell_rgb theme.dark2
     ++ (spell_rgb theme.accent1 ++ (spell_rgb theme.accent2 ++ (spell_rgb theme.accent3 ++ (spell_rgb theme.accent4
     ++ (spell_rgb theme.accent5 ++ (spell_rgb theme.accent6 ++ (spell_rgb theme.hyperlink ++ (spell_rgb theme.followed_hyperlink)))))))))))
-
--- its colours as parts that follow each other
-abbrev pub Colors : Type 0
-Colors =
-    RgbColor × (RgbColor × (RgbColor × (RgbColor × (RgbColor × (RgbColor ×
-    (RgbColor × (RgbColor × (RgbColor × (RgbColor × (RgbColor × RgbColor))))))))))
-
-abbrev pub theme_made : Colors → Theme
-theme_made x = record {
-  light1 = x.0;
-  dark1 = x.1.0;
-  light2 = x.1.1.0;
-  dark2 = x.1.1.1.0;
-  accent1 = x.1.1.1.1.0;
-  accent2 = x.1.1.1.1.1.0;
-  accent3 = x.1.1.1.1.1.1.0;
-  accent4 = x.1.1.1.1.1.1.1.0;
-  accent5 = x.1.1.1.1.1.1.1.1.0;
-  accent6 = x.1.1.1.1.1.1.1.1.1.0;
-  hyperlink = x.1.1.1.1.1.1.1.1.1.1.0;
-  followed_hyperlink = x.1.1.1.1.1.1.1.1.1.1.1;
-}
-
-unfoldable pub theme_at : Reader Theme
-theme_at = map_at theme_made (rgb_at ⊗ rgb_at ⊗ rgb_at ⊗ rgb_at ⊗ rgb_at ⊗ rgb_at ⊗ rgb_at ⊗ rgb_at ⊗ rgb_at ⊗ rgb_at ⊗ rgb_at ⊗ rgb_at)
 
 -- the parts of its colours are bytes
 pub record FitsTheme (theme : Theme) : Type 0 where

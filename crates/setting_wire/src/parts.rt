@@ -14,7 +14,8 @@ pub(crate) struct RgbPart;
 impl Part for RgbPart {
     ghost use Rattle.std.proofs.Common.{arith};
     ghost use Rattle.base_wire.specs.Spelling.{Any};
-    ghost use Rattle.setting_wire.specs.ThemeBytes.{rgb_at, spell_rgb, FitsRgb};
+    ghost use Rattle.setting_wire.specs.ThemeBytes.{spell_rgb, FitsRgb};
+    ghost use Rattle.setting_wire.specs.laws.Reading.{rgb_at};
     ghost use Rattle.setting_wire.specs.laws.Formats.{rgb_format};
 
     type Value = RgbColor;
@@ -51,7 +52,8 @@ pub struct ThemePart;
 
 impl Part for ThemePart {
     ghost use Rattle.base_wire.specs.Spelling.{Any};
-    ghost use Rattle.setting_wire.specs.ThemeBytes.{theme_at, spell_theme, FitsTheme};
+    ghost use Rattle.setting_wire.specs.ThemeBytes.{spell_theme, FitsTheme};
+    ghost use Rattle.setting_wire.specs.laws.Reading.{theme_at};
     ghost use Rattle.setting_wire.specs.laws.Formats.{theme_format, theme_some};
 
     type Value = Theme;
@@ -89,7 +91,8 @@ pub struct LocalePart;
 impl Part for LocalePart {
     ghost use Rattle.std.proofs.Common.{arith};
     ghost use Rattle.base_wire.specs.Spelling.{Any};
-    ghost use Rattle.setting_wire.specs.TableBytes.{locale_at, spell_locale};
+    ghost use Rattle.setting_wire.specs.TableBytes.{spell_locale};
+    ghost use Rattle.setting_wire.specs.laws.Reading.{locale_at};
     ghost use Rattle.setting_wire.specs.laws.Formats.{locale_format};
 
     type Value = Locale;
@@ -128,7 +131,8 @@ pub struct ZonePart;
 impl Part for ZonePart {
     ghost use Rattle.std.proofs.Common.{arith};
     ghost use Rattle.base_wire.specs.Spelling.{Any};
-    ghost use Rattle.setting_wire.specs.TableBytes.{zone_at, spell_zone};
+    ghost use Rattle.setting_wire.specs.TableBytes.{spell_zone};
+    ghost use Rattle.setting_wire.specs.laws.Reading.{zone_at};
     ghost use Rattle.setting_wire.specs.laws.Formats.{zone_format};
 
     type Value = Zone;

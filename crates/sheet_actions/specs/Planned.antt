@@ -3,10 +3,10 @@ use Rattle.std.proofs.Common.{ℕ, ℤ, pos, ◌+ℤ◌, Bool, true, false, Opti
 use Rattle.std.specs.Prelude.{int_lt, not, ◌&&◌, if◌then◌else◌}
 use Rattle.std.specs.List.{list_any}
 use Rattle.base_values.specs.declared.EditError.{EditError}
-use Rattle.base_values.specs.declared.EditError.TheVariants.{InvalidRow, InvalidColumn, BadCount, OverEdge, TargetOutOfBounds, SplitsArray, SplitsMerge}
+use Rattle.base_values.specs.declared.EditError.TheVariants.{BadCount, OverEdge, TargetOutOfBounds, SplitsArray, SplitsMerge}
 use Rattle.base_values.specs.Answers.{and_then}
 use Rattle.base_values.specs.Places.{is_line}
-use Rattle.base_axis.specs.Along.{Along}
+use Rattle.base_axis.specs.Along.{Along, outside}
 use Rattle.base_axis.specs.declared.MergedCell.{MergedCell}
 use Rattle.base_axis.specs.Rectangles.{is_inside, first_line, last_line, last_of}
 use Rattle.line_edits.specs.declared.EditKind.{EditKind}
@@ -17,10 +17,6 @@ use Rattle.sheet_grid.specs.Arrays.{arrays_of}
 use Rattle.sheet_grid.specs.Sheet.{Sheet}
 use Rattle.sheet_grid.specs.Book.{Book, sheet_at}
 use Rattle.sheet_actions.specs.GreatestLine.{greatest_line}
-
--- the refusal of a line that is not one of the axis
-abbrev pub outside : Along → EditError
-outside a = if a.of true false then InvalidRow else InvalidColumn
 
 -- whether an edit splits a rectangle that lies inside the sheet
 abbrev pub splits_rectangle : Along → EditKind → MergedCell → Bool

@@ -2,18 +2,17 @@ ghost use Rattle.std.specs.Prelude.{◌≡◌, ◌≢◌, Err, ◌+ℤ◌, int_l
 ghost use Rattle.std.specs.List.{list_any};
 ghost use Rattle.base_values.specs.Answers.{map_ok};
 ghost use Rattle.base_values.specs.declared.EditError.TheVariants.{NoMemory};
-ghost use Rattle.base_values.specs.Places.{is_line};
 ghost use Rattle.base_axis.specs.Rectangles.{last_of};
 ghost use Rattle.line_edits.specs.Edit.{IsValid};
 ghost use Rattle.line_edits.specs.declared.EditKind.TheVariants.{Insert, Delete, Move};
 ghost use Rattle.sheet_rules.specs.WellFormed.{IsWellFormed};
 ghost use Rattle.sheet_lines.specs.Sheets.{sheet_of};
 ghost use Rattle.sheet_actions.specs.GreatestLine.{greatest_line};
-ghost use Rattle.sheet_actions.specs.Planned.{outside, splits_rectangle, splits_array, splits_merge, pushes_past, refusal_of, lines_planned};
+ghost use Rattle.sheet_actions.specs.Planned.{splits_rectangle, splits_array, splits_merge, pushes_past, refusal_of, lines_planned};
 ghost use Rattle.sheet_actions.specs.Whole.{IsAllowed};
 
-use base_axis::{Axis, MergedCell};
-use base_values::{EditError, Position};
+use base_axis::{Axis, MergedCell, outside};
+use base_values::{EditError, Position, is_line};
 use line_edits::{EditKind, LineEdit};
 use sheet_grid::{Workbook, Worksheet, array_at};
 
@@ -62,23 +61,6 @@ fn reaches_past<A: Axis>(first: i32, count: i32) -> bool
     is_past(A::LAST, last_of(first, count))
 }
 
-fn is_line<A: Axis>(line: i32) -> bool
-    ensures { result ≡ is_line A.along.last line }
-{
-    1 <= line && line <= A::LAST
-}
-
-/// The refusal of a line that is not one of the axis.
-fn outside<A: Axis>() -> EditError
-    ensures { result ≡ outside A.along }
-{
-    if A::of(true, false) {
-        EditError::InvalidRow
-    } else {
-        EditError::InvalidColumn
-    }
-}
-
 /// Whether an edit splits a rectangle that lies inside the sheet.
 fn splits_rectangle<A: Axis>(edit: &LineEdit<A>, rectangle: MergedCell) -> bool
     ensures { result ≡ splits_rectangle A.along edit.now.kind rectangle }
@@ -117,7 +99,7 @@ fn insertion_refusal<A: Axis>(first: i32, count: i32, sheet: &Worksheet) -> Opti
 {
     if count < 1 {
         Some(EditError::BadCount)
-    } else if !is_line::<A>(first) {
+    } else if !is_line(A::LAST, first as i64) {
         Some(outside::<A>())
     } else if splits_array::<A>(&LineEdit::new(EditKind::Insert { first, count }), sheet) {
         Some(EditError::SplitsArray)
@@ -135,7 +117,7 @@ fn deletion_refusal<A: Axis>(first: i32, count: i32, sheet: &Worksheet) -> Optio
 {
     if count < 1 {
         Some(EditError::BadCount)
-    } else if !is_line::<A>(first) {
+    } else if !is_line(A::LAST, first as i64) {
         Some(outside::<A>())
     } else if reaches_past::<A>(first, count) {
         Some(EditError::TargetOutOfBounds)

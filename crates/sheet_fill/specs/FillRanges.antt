@@ -2,22 +2,18 @@
 use Rattle.std.proofs.Common.{ℕ, ℤ, pos, ◌+ℤ◌, ◌-ℤ◌, Bool, true, false, Result, Ok, Err}
 use Rattle.std.specs.Prelude.{◌%◌, int_lt, not, unsigned_abs, if◌then◌else◌}
 use Rattle.base_values.specs.declared.EditError.{EditError}
-use Rattle.base_values.specs.declared.EditError.TheVariants.{InvalidArea, InvalidRow, InvalidColumn, NothingToFill}
+use Rattle.base_values.specs.declared.EditError.TheVariants.{InvalidArea, NothingToFill}
 use Rattle.base_values.specs.declared.Position.{Position}
 use Rattle.base_values.specs.Places.{is_line}
 use Rattle.base_axis.specs.declared.Area.{Area}
 use Rattle.base_axis.specs.declared.MergedCell.{MergedCell}
-use Rattle.base_axis.specs.Along.{Along}
+use Rattle.base_axis.specs.Along.{Along, outside}
 use Rattle.base_axis.specs.Rectangles.{IsInside, is_inside, first_line, last_line, line_count, with_lines}
 use Rattle.sheet_fill.specs.declared.range.FillRange.{FillRange}
 
 -- the rectangle of an area
 abbrev pub source_of : Area → MergedCell
 source_of area = record { row = area.row; column = area.column; width = area.width; height = area.height }
-
--- the refusal of a line that is not one of the axis
-abbrev pub outside : Along → EditError
-outside a = if a.of true false then InvalidRow else InvalidColumn
 
 -- the lines behind a source up to a line, on its cross lines
 abbrev pub behind : Along → MergedCell → ℤ → FillRange

@@ -139,7 +139,8 @@ fn progression_on<A: Axis>(fill: &Fill<'_>, at: Position) -> Result<Option<Progr
     detect_progression(fill.alloc, &texts, fill.locale, seed.as_str())
 }
 
-/// The content of a target that is not covered, of so many that stand nearer the source.
+/// The content of a target that is not covered, with the count of uncovered targets nearer the
+/// source.
 fn open_content(
     fill: &Fill<'_>,
     progression: &Option<Progression>,
@@ -166,7 +167,7 @@ fn open_content(
     }
 }
 
-/// The content of a target, where so many that are not covered stand nearer the source.
+/// The content of a target, with the count of uncovered targets nearer the source.
 fn content_with<A: Axis>(
     fill: &Fill<'_>,
     progression: &Option<Progression>,
@@ -215,7 +216,7 @@ fn link_at(fill: &Fill<'_>, place: Position) -> Result<Option<Link>, EditError>
     }
 }
 
-/// The cell of a target, where so many that are not covered stand nearer the source.
+/// The cell of a target, with the count of uncovered targets nearer the source.
 fn cell_with<A: Axis>(
     fill: &Fill<'_>,
     progression: &Option<Progression>,

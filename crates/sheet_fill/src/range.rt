@@ -4,10 +4,10 @@ ghost use Rattle.std.specs.Prelude.{◌≡◌, ◌≢◌, ◌<◌, ◌≤◌, �
 ghost use Rattle.base_values.specs.declared.EditError.TheVariants.{NoMemory};
 ghost use Rattle.base_values.specs.Places.{IsLine, IsPlace, is_line, place_of};
 ghost use Rattle.base_axis.specs.Rectangles.{IsInside, first_line, last_line};
-ghost use Rattle.sheet_fill.specs.FillRanges.{IsRange, ahead, behind, counted_line, lines, outside, range_of, source_of, source_place, target_place};
+ghost use Rattle.sheet_fill.specs.FillRanges.{IsRange, ahead, behind, counted_line, lines, range_of, source_of, source_place, target_place};
 
-use base_axis::{Area, Axis, MergedCell};
-use base_values::{EditError, Position};
+use base_axis::{Area, Axis, MergedCell, outside};
+use base_values::{EditError, Position, is_line};
 
 /// The source of a fill, and the target: the lines that are filled, on the same cross lines.
 #[derive(Clone, Copy)]
@@ -27,24 +27,6 @@ pub fn source_of(area: &Area) -> MergedCell
         column: area.column,
         width: area.width,
         height: area.height,
-    }
-}
-
-fn is_line<A: Axis>(line: i32) -> bool
-    ensures { result ≡ is_line A.along.last line }
-{
-    1 <= line && line <= A::LAST
-}
-
-/// The refusal of a line that is not one of the axis.
-fn outside<A: Axis>() -> EditError
-    ensures line { result ≡ outside A.along }
-    ensures sure { result ≢ NoMemory }
-{
-    if A::of(true, false) {
-        EditError::InvalidRow
-    } else {
-        EditError::InvalidColumn
     }
 }
 
@@ -82,6 +64,12 @@ fn ahead<A: Axis>(source: MergedCell, first: i32, to: i32) -> FillRange
     }
 }
 
+fn is_line_of<A: Axis>(line: i32) -> bool
+    ensures { result ≡ is_line A.along.last line }
+{
+    is_line(A::LAST, line as i64)
+}
+
 /// What is filled from a source up to a line. It takes no memory.
 ///
 /// `InvalidArea` where the source is empty or reaches outside the sheet, else `InvalidRow` or
@@ -96,7 +84,7 @@ pub fn fill_range<A: Axis>(source: MergedCell, to: i32) -> Result<FillRange, Edi
     if !source.is_inside() {
         return Err(EditError::InvalidArea);
     }
-    if !is_line::<A>(to) {
+    if !is_line_of::<A>(to) {
         return Err(outside::<A>());
     }
     let (first, last) = source.lines::<A>();
@@ -120,8 +108,8 @@ pub fn lines<A: Axis>(rectangle: MergedCell) -> u32
     rectangle.line_count::<A>().unsigned_abs()
 }
 
-/// Of lines from a first to a last, the one that so many others stand before where they are counted
-/// from the first on, or from the last one back.
+/// The line at an index of the lines from `first` to `last`, counted from the first, or backwards
+/// from the last.
 fn counted_line(onwards: bool, first: i32, last: i32, index: u32) -> i32
     requires low { pos 1 ≤ℤ first }
     requires high { last ≤ℤ pos 1048576 }
@@ -149,7 +137,7 @@ fn line_of<A: Axis>(rectangle: MergedCell, onwards: bool, index: u32) -> i32
     counted_line(onwards, first, last, index)
 }
 
-/// The place on the cross line of another one that so many targets stand nearer the source.
+/// The target at an index on the cross line of `at`, counted from the source.
 pub fn target_place<A: Axis>(range: FillRange, at: Position, index: u32) -> Position
     requires range { IsRange range }
     requires place { IsPlace at }

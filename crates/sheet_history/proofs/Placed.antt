@@ -9,7 +9,7 @@ use Rattle.std.specs.FinMap.{get}
 use Rattle.base_values.specs.declared.EditError.{EditError}
 use Rattle.base_values.specs.declared.Position.{Position}
 use Rattle.base_values.specs.Answers.{Edits}
-use Rattle.base_values.specs.Places.{position_cmp}
+use Rattle.base_values.specs.Places.{position_cmp, is_place}
 use Rattle.base_values.specs.laws.KeyMap.{get-with_entry}
 use Rattle.base_values.specs.laws.Places.{position_total, exact_positions}
 use Rattle.base_maps.specs.laws.Keys.{one_key}
@@ -27,7 +27,7 @@ use Rattle.sheet_grid.specs.Book.{Book}
 use Rattle.sheet_rules.specs.laws.EntryLaws.{both}
 use Rattle.sheet_rules.specs.laws.WellFormedLaws.{well_formed_parts, cells_fit_from_trees}
 use Rattle.sheet_rules.specs.Occupied.{have_merges}
-use Rattle.sheet_rules.specs.WellFormed.{is_place, have_trees, IsWellFormed}
+use Rattle.sheet_rules.specs.WellFormed.{have_trees, IsWellFormed}
 use Rattle.sheet_lines.specs.Sheets.{IsPlacedCell, IsPlacedSheet, IsPlacedBook, sheet_of}
 use Rattle.book_sheets.specs.laws.Placed.{placed_cell, merges_lie}
 use Rattle.sheet_history.specs.Entries.{EntryKey, EntryValue, cell_stands_at, value_fits, sheet_id_of, with_sheet_entry, with_changed, put_entry, accepts}

@@ -9,7 +9,7 @@ use Rattle.std.specs.declared.cmp.Ordering.{Ordering}
 use Rattle.std.specs.FinMap as fin
 use Rattle.base_values.specs.declared.Position.{Position}
 use Rattle.base_values.specs.KeyMap.{with_entry}
-use Rattle.base_values.specs.Places.{is_line}
+use Rattle.base_values.specs.Places.{is_line, is_place}
 use Rattle.base_axis.specs.declared.MergedCell.{MergedCell}
 use Rattle.base_axis.specs.Rectangles.{is_inside}
 use Rattle.cell_content.specs.Fitting.{fits_at}
@@ -22,7 +22,6 @@ use Rattle.sheet_grid.specs.Arrays.{array_at}
 use Rattle.sheet_grid.specs.Lines.{is_plain}
 use Rattle.sheet_grid.specs.Sheet.{Sheet}
 use Rattle.sheet_grid.specs.Book.{Book}
-use Rattle.sheet_rules.specs.WellFormed.{is_place}
 use Rattle.sheet_lines.specs.Sheets.{sheet_of}
 pub use Rattle.book_sheets.specs.SheetDiffs.{lies_inside}
 use Rattle.sheet_history.specs.declared.diff.LineAxis.{LineAxis}

@@ -8,7 +8,7 @@ use Rattle.std.specs.FinMap.{FinMap, entries, get}
 use Rattle.base_values.specs.declared.EditError.{EditError}
 use Rattle.base_values.specs.declared.EditError.TheVariants.{DiffRefused}
 use Rattle.base_values.specs.declared.Position.{Position}
-use Rattle.base_values.specs.Places.{is_line, position_cmp}
+use Rattle.base_values.specs.Places.{is_line, position_cmp, is_place}
 use Rattle.base_axis.specs.declared.MergedCell.{MergedCell}
 use Rattle.base_axis.specs.Rectangles.{is_inside}
 use Rattle.base_axis.specs.Along.{Along, rows, columns}
@@ -26,7 +26,6 @@ use Rattle.sheet_grid.specs.Arrays.{array_at}
 use Rattle.sheet_grid.specs.declared.Cell.{Cell}
 use Rattle.sheet_grid.specs.Sheet.{Sheet}
 use Rattle.sheet_grid.specs.Book.{Book}
-use Rattle.sheet_rules.specs.WellFormed.{is_place}
 use Rattle.sheet_lines.specs.declared.KeptLines.{KeptLines}
 use Rattle.sheet_lines.specs.Sheets.{sheet_of}
 use Rattle.sheet_lines.specs.Followed.{book_followed}
@@ -35,6 +34,7 @@ use Rattle.book_sheets.specs.SheetDiffs.{lies_inside, cells_fit}
 use Rattle.rule_edits.specs.RuleChanges as rule_changes
 use Rattle.rule_lines.specs.Rules.{are_there}
 pub use Rattle.book_names.specs.RenameDiffs.{is_formula}
+use Rattle.book_names.specs.RenameDiffs.{stand_on_places}
 use Rattle.sheet_history.specs.declared.diff.LineAxis.{LineAxis}
 use Rattle.sheet_history.specs.declared.diff.LineAxis.TheVariants.{Rows, Columns}
 
@@ -72,7 +72,7 @@ all_keys test m = list_all (λ entry. test entry.0) (entries m)
 -- each kept cell, link and line lies inside the sheet, on a line without an image, and each kept tree at a place of the sheet
 unfoldable pub stand_on_lost : Along → EditKind → KeptLines → Bool
 stand_on_lost a e kept =
-    (all_keys (is_lost_place a e) kept.cells && all_keys (is_lost_place a e) kept.links) && (all_keys (is_lost_line a e) kept.lines && all_keys (λ key. is_place key.place) kept.formulas)
+    (all_keys (is_lost_place a e) kept.cells && all_keys (is_lost_place a e) kept.links) && (all_keys (is_lost_line a e) kept.lines && stand_on_places kept.formulas)
 
 -- each of the kept merges, if they are there, lies inside the sheet
 abbrev pub merges_inside : Option (List MergedCell) → Bool

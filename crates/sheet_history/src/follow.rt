@@ -113,7 +113,7 @@ fn diff_keeps_rules(workbook: &Workbook, kind: DiffType, diff: &Diff) -> bool
     }
 }
 
-/// Whether a list does: it is empty, or has one such diff.
+/// Whether a list surely leaves a well-formed workbook: it is empty, or has one diff that does.
 fn keeps_rules(workbook: &Workbook, kind: DiffType, list: &DiffList) -> bool
     ensures { result ≡ keeps_rules kind workbook.now list.now }
 {

@@ -65,7 +65,7 @@ impl History {
     /// Makes room for one list more on either stack, so that the next `push`, `undo` or `redo`
     /// takes no memory. `NoMemory` leaves the history as it was.
     pub fn reserve(&mut self) -> Result<(), EditError>
-        ensures { Changes result self.old self.new (Ok (record self.old { has_room = true })) }
+        ensures room { Changes result self.old self.new (Ok (record self.old { has_room = true })) }
     {
         self.undo.reserve(1)?;
         self.redo.reserve(1)?;

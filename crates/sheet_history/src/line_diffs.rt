@@ -5,13 +5,11 @@ ghost use Rattle.std.specs.List.{list_all};
 ghost use Rattle.std.specs.Option.{option_copied};
 ghost use Rattle.std.specs.FinMap.{entries};
 ghost use Rattle.base_values.specs.Answers.{Edits};
-ghost use Rattle.base_values.specs.Places.{is_line};
 ghost use Rattle.base_values.specs.declared.Position.{Position};
 ghost use Rattle.line_edits.specs.Edit.{IsValid, image_at, opposite_of};
 ghost use Rattle.line_edits.specs.Moves.{place_image};
 ghost use Rattle.sheet_grid.specs.Arrays.{array_at};
 ghost use Rattle.sheet_grid.specs.declared.Cell.{Cell};
-ghost use Rattle.sheet_rules.specs.WellFormed.{is_place};
 ghost use Rattle.sheet_lines.specs.Back.{ArePlacedLines, LieInside};
 ghost use Rattle.sheet_lines.specs.CanonicalNumbers.{AreCanonicalLines};
 ghost use Rattle.sheet_lines.specs.Sheets.{IsPlacedBook, sheet_of};
@@ -24,12 +22,13 @@ ghost use Rattle.sheet_history.specs.LineDiffs.{goes_forward, goes_back, lines_f
 use base_axis::{Axis, MergeList};
 use base_maps::{IndexMap, NumberMap, PositionMap, SheetPlaceMap};
 use base_shared::Shared;
-use base_values::{EditError, PlaceMap, Position};
-use book_names::{is_formula, is_line, is_place};
+use base_values::{EditError, PlaceMap, Position, is_line, is_place};
+use book_names::{is_formula, stand_on_places};
 use book_sheets::{array_lies_inside, merges_lie_inside};
 use cell_content::{fits_at, tree_fits_at};
 use format_rules::{ConditionalFormatting, has_fitting_trees, has_parts};
 use formula_tree::Node;
+use line_edits::place_image;
 use line_map::{EditKind, LineEdit};
 use rule_lines::are_there;
 use sheet_grid::{Cell, Workbook, Worksheet};
@@ -84,11 +83,10 @@ fn is_there_inside<A: Axis>(edit: &LineEdit<A>, workbook: &Workbook, id: u32) ->
 }
 
 /// Whether a position is a place of the sheet that has no image.
-#[tactic(auto, unfolding(line_edits::specs::Moves::place_image))]
 fn is_lost_place<A: Axis>(edit: &LineEdit<A>, place: Position) -> bool
     ensures { result ≡ is_lost_place A.along edit.now.kind place }
 {
-    is_place(place) && edit.image(A::line(place)).is_none()
+    is_place(place) && place_image(edit, place).is_none()
 }
 
 fn are_lost_places<A: Axis, V>(edit: &LineEdit<A>, map: &PositionMap<V>) -> bool
@@ -102,19 +100,13 @@ fn are_lost_places<A: Axis, V>(edit: &LineEdit<A>, map: &PositionMap<V>) -> bool
 fn is_lost_line<A: Axis>(edit: &LineEdit<A>, line: i32) -> bool
     ensures { result ≡ is_lost_line A.along edit.now.kind line }
 {
-    is_line(A::LAST, line) && edit.image(line).is_none()
+    is_line(A::LAST, line as i64) && edit.image(line).is_none()
 }
 
 fn are_lost_lines<A: Axis, V>(edit: &LineEdit<A>, map: &NumberMap<V>) -> bool
     ensures { result ≡ all_keys (is_lost_line A.along edit.now.kind) map.now }
 {
     map.iter().all(|(line, _value)| is_lost_line(edit, *line))
-}
-
-fn are_on_places<V>(map: &SheetPlaceMap<V>) -> bool
-    ensures { result ≡ all_keys (λ key. is_place key.place) map.now }
-{
-    map.iter().all(|(key, _value)| is_place(key.place))
 }
 
 /// Whether what is kept of lines lies inside the sheet where lines have no image, and each kept
@@ -124,7 +116,7 @@ fn stand_on_lost<A: Axis>(edit: &LineEdit<A>, kept: &KeptLines) -> bool
     ensures { result ≡ stand_on_lost A.along edit.now.kind kept.now }
 {
     (are_lost_places(edit, &kept.cells) && are_lost_places(edit, &kept.links))
-        && (are_lost_lines(edit, &kept.lines) && are_on_places(&kept.formulas))
+        && (are_lost_lines(edit, &kept.lines) && stand_on_places(&kept.formulas))
 }
 
 fn arrays_inside(cells: &PositionMap<Shared<Cell>>) -> bool
@@ -162,7 +154,7 @@ fn lie_inside(kept: &KeptLines) -> bool
     arrays_inside(&kept.cells) && merges_inside(&kept.merges) && parts_inside(&kept.formattings)
 }
 
-/// Both: what is kept lies inside the sheet.
+/// Whether what is kept passes `stand_on_lost` and `lie_inside`.
 fn kept_lies_inside<A: Axis>(edit: &LineEdit<A>, kept: &KeptLines) -> bool
     ensures value { result ≡ (stand_on_lost A.along edit.now.kind kept.now && lie_inside kept.now) }
     ensures inside { IsTrue result → LieInside A.along kept.now }
@@ -186,16 +178,6 @@ fn is_formula_at(cells: &PlaceMap<Shared<Cell>>, place: Option<Position>) -> boo
     match place {
         Some(place) => is_formula(cells.get(place)),
         None => false,
-    }
-}
-
-#[tactic(auto, unfolding(line_edits::specs::Moves::place_image))]
-fn place_image<A: Axis>(edit: &LineEdit<A>, place: Position) -> Option<Position>
-    ensures { result ≡ place_image A.along (image_at A.along.last edit.now.kind) place }
-{
-    match edit.image(A::line(place)) {
-        Some(line) => Some(A::with_line(place, line)),
-        None => None,
     }
 }
 
@@ -231,7 +213,7 @@ fn tree_stands<A: Axis>(
     }
 }
 
-/// Whether each kept tree does.
+/// Whether each kept tree fits its place, with a formula there.
 #[tactic(auto, unfolding(crate::specs::LineDiffs::formulas_stand))]
 fn formulas_stand<A: Axis>(
     edit: &LineEdit<A>,

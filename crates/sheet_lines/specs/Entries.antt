@@ -1,16 +1,14 @@
 -- What a line edit leaves at each place, and what is kept, entry by entry.
-use Rattle.std.specs.Prelude.{◌≡◌, ◌≢◌, ℕ, ℤ, Option, Some, None, is_none, if◌then◌else◌}
+use Rattle.std.specs.Prelude.{◌≡◌, ℕ, ℤ, Option, Some, None, is_none, if◌then◌else◌}
 use Rattle.std.specs.FinMap.{get}
 use Rattle.base_values.specs.declared.Position.{Position}
 use Rattle.base_axis.specs.Along.{Along}
 use Rattle.base_maps.specs.Carried.{if_there}
 use Rattle.base_maps.specs.Tagged.{place_on}
-use Rattle.format_rules.specs.declared.ConditionalFormatting.{ConditionalFormatting}
 use Rattle.line_edits.specs.declared.EditKind.{EditKind}
 use Rattle.line_map.specs.Contents.{cell_carried, cell_part}
 use Rattle.line_map.specs.Maps.{entry_carried, entry_part, places_carried}
-use Rattle.line_map.specs.Way.{Way, back}
-use Rattle.rule_lines.specs.Rules.{formatting_carried}
+use Rattle.line_trees.specs.Way.{Way}
 use Rattle.sheet_grid.specs.declared.LineAttr.{LineAttr}
 use Rattle.sheet_grid.specs.Sheet.{Sheet}
 use Rattle.sheet_grid.specs.Book.{Book}
@@ -26,10 +24,6 @@ CarriesCells w sheet = (q : Position) → get (places_carried cell_carried w she
 -- what a line of the edited axis has of its own, where it goes nowhere
 abbrev pub line_lost : Way → Sheet → ℤ → Option LineAttr
 line_lost w sheet n = if is_none (w.moves.to n) then get (lines_of w.along sheet) n else None
-
--- a conditional rule that the way back does not give
-abbrev pub DoesNotReturn : Way → ConditionalFormatting → Type 0
-DoesNotReturn w rule = formatting_carried (back w) (formatting_carried w rule) ≢ rule
 
 -- a fact of the edited sheet: of how the edit meets it, of the sheet before, and of what is kept
 abbrev pub OfEdited : Along → EditKind → ℕ → Book → (Way → Sheet → KeptLines → Type 0) → Type 0

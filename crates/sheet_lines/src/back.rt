@@ -5,7 +5,7 @@ ghost use Rattle.line_map.specs.Attributes.{LinesLie, lines_restored};
 ghost use Rattle.line_edits.specs.Edit.{IsValid};
 ghost use Rattle.line_map.specs.Maps.{AllLie, KeysInside, PartsFit, places_restored};
 ghost use Rattle.line_map.specs.Merges.{MergesLie};
-ghost use Rattle.line_map.specs.Way.{back, way};
+ghost use Rattle.line_trees.specs.Way.{back, way};
 ghost use Rattle.rule_lines.specs.Canonical.{AreCanonicalKept};
 ghost use Rattle.rule_lines.specs.Rules.{RulesLie};
 ghost use Rattle.sheet_lines.specs.Back.{LieInside, ArePlacedLines, with_lost, merges_back, formattings_back, sheet_back, book_back};

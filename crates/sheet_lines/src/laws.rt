@@ -5,10 +5,10 @@ ghost use Rattle.line_edits.specs.Edit.{IsValid};
 ghost use Rattle.line_edits.specs.Moves.{edit_moves};
 ghost use Rattle.line_map.specs.Maps.{entry_lost};
 ghost use Rattle.line_map.specs.Merges.{merges_part};
-ghost use Rattle.rule_lines.specs.Rules.{rules_kept};
+ghost use Rattle.rule_lines.specs.Rules.{rules_kept, DoesNotReturn};
 ghost use Rattle.sheet_grid.specs.Sheet.{Sheet};
 ghost use Rattle.sheet_lines.specs.Back.{there_and_back};
-ghost use Rattle.sheet_lines.specs.Entries.{CarriesCells, DoesNotReturn, KeepsTree, OfEdited, line_lost};
+ghost use Rattle.sheet_lines.specs.Entries.{CarriesCells, KeepsTree, OfEdited, line_lost};
 ghost use Rattle.sheet_lines.specs.Followed.{way_of};
 ghost use Rattle.sheet_lines.specs.Sheets.{HasDistinctIds};
 

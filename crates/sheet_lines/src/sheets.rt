@@ -1,6 +1,6 @@
 ghost use Rattle.std.specs.Prelude.{◌≡◌, is_some};
 ghost use Rattle.std.specs.Option.{option_copied};
-ghost use Rattle.line_map.specs.Way.{IsWay, way};
+ghost use Rattle.line_trees.specs.Way.{IsWay, way};
 ghost use Rattle.sheet_lines.specs.Followed.{way_on};
 ghost use Rattle.sheet_lines.specs.Sheets.{sheet_of, name_of};
 

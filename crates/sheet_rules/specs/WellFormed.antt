@@ -6,7 +6,7 @@ use Rattle.std.specs.Ordering.{int_eq}
 use Rattle.std.specs.FinMap.{entries}
 use Rattle.base_values.specs.CodedEq.{same_value}
 use Rattle.base_values.specs.declared.Position.{Position}
-use Rattle.base_values.specs.Places.{is_line}
+use Rattle.base_values.specs.Places.{is_line, is_place}
 use Rattle.base_tables.specs.Folding.{same_folded}
 use Rattle.base_styles.specs.declared.style.Style.{Style}
 use Rattle.base_styles.specs.contracts.style.Style as style
@@ -29,10 +29,6 @@ use Rattle.sheet_rules.specs.SheetNames.{is_sheet_name}
 unfoldable pub are_sheets : List Sheet → Bool
 are_sheets sheets =
     nat_lt 0 (length sheets) && are_distinct (λ a b. a == b) (ids_of sheets) && list_all is_sheet_name (names_of sheets) && are_distinct same_folded (names_of sheets)
-
--- whether a position is a place of the sheet
-abbrev pub is_place : Position → Bool
-is_place place = is_line (pos 1048576) place.row && is_line (pos 16384) place.column
 
 -- rule 2: cells, links, rows and columns stand inside the sheet
 unfoldable pub stands_inside : Sheet → Bool

@@ -1,10 +1,10 @@
 ghost use Rattle.std.specs.Prelude.{◌≡◌, ◌&&◌, is_none};
 ghost use Rattle.std.specs.List.{list_all};
 ghost use Rattle.std.specs.FinMap.{entries};
-ghost use Rattle.base_values.specs.Places.{is_line};
+ghost use Rattle.base_values.specs.Places.{is_line, is_place};
 ghost use Rattle.sheet_rules.specs.Names.{have_name_trees};
 ghost use Rattle.sheet_rules.specs.Occupied.{have_arrays, have_merges, are_hidden_blank};
-ghost use Rattle.sheet_rules.specs.WellFormed.{are_sheets, is_place, stands_inside, have_trees, have_rule_trees, have_attributes, is_count, are_frozen, have_rule_parts, broken_rule};
+ghost use Rattle.sheet_rules.specs.WellFormed.{are_sheets, stands_inside, have_trees, have_rule_trees, have_attributes, is_count, are_frozen, have_rule_parts, broken_rule};
 
 use crate::attributes::have_attributes;
 use crate::defined::{are_names, have_name_trees};
@@ -32,6 +32,7 @@ fn are_sheets(sheets: &[Worksheet]) -> bool
 fn are_places<V>(map: &PlaceMap<V>) -> bool
     ensures { result ≡ list_all (λ entry. is_place entry.0) (entries map.now) }
 {
+    // The promise is one of the type.
     let _ = map.iter();
     true
 }
@@ -40,6 +41,7 @@ fn are_places<V>(map: &PlaceMap<V>) -> bool
 fn are_lines<A: Axis, V>(map: &AxisMap<A, V>) -> bool
     ensures { result ≡ list_all (λ entry. is_line A.along.last entry.0) (entries map.now) }
 {
+    // The promise is one of the type.
     let _ = map.iter();
     true
 }

@@ -2,22 +2,14 @@
 use Rattle.std.specs.Prelude.{ℕ, ◌<◌, ◌^◌, List, ◌++◌, Option, IfSome}
 use Rattle.std.specs.Int.{w32, to_be_bytes}
 use Rattle.base_values.specs.declared.Position.{Position}
-use Rattle.base_wire.specs.Reading.{Reader, ◌⊗◌, number_at, option_at}
 use Rattle.base_wire.specs.Spelling.{spell_option}
-use Rattle.cell_wire.specs.CellBytes.{spell_position, position_at, FitsPosition}
+use Rattle.cell_wire.specs.CellBytes.{spell_position, FitsPosition}
 
 -- ---- at a position
 
 -- the id of a sheet, a position, and what stands there before and after
 abbrev pub spell_change : {A : Type 0} → (A → List ℕ) → ℕ → Position → Option A → Option A → List ℕ
 spell_change spell id place old new = to_be_bytes w32 id ++ (spell_position place ++ (spell_option spell old ++ spell_option spell new))
-
--- what stands at a position, or nothing
-unfoldable pub standing_at : {A : Type 0} → Reader A → Reader (Option A)
-standing_at read = option_at read
-
-abbrev pub change_at : {A : Type 0} → Reader A → Reader (ℕ × (Position × (Option A × Option A)))
-change_at read = number_at w32 ⊗ position_at ⊗ standing_at read ⊗ standing_at read
 
 -- the parts of such a change, which bytes can carry
 pub record FitsChange {A : Type 0} (Fits : A → Type 0) (id : ℕ) (position : Position) (before later : Option A) : Type 0 where
@@ -31,9 +23,6 @@ pub record FitsChange {A : Type 0} (Fits : A → Type 0) (id : ℕ) (position : 
 -- the id of a sheet, and what it had before and has after
 unfoldable pub spell_sheet_change : {A : Type 0} → (A → List ℕ) → ℕ → A → A → List ℕ
 spell_sheet_change spell id old new = to_be_bytes w32 id ++ (spell old ++ spell new)
-
-abbrev pub sheet_change_at : {A : Type 0} → Reader A → Reader (ℕ × (A × A))
-sheet_change_at read = number_at w32 ⊗ read ⊗ read
 
 -- the parts of such a change, which bytes can carry
 pub record FitsSheetChange {A : Type 0} (Fits : A → Type 0) (id : ℕ) (before later : A) : Type 0 where

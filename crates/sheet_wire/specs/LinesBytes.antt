@@ -1,29 +1,22 @@
 -- The bytes of edits of lines with what they keep.
-use Rattle.std.specs.Prelude.{ℕ, List, [], ◌∷◌, ◌++◌, ◌<◌, ◌^◌}
+use Rattle.std.specs.Prelude.{ℕ, List, ◌++◌, ◌<◌, ◌^◌}
 use Rattle.std.specs.Int.{w32, to_be_bytes}
 use Rattle.line_edits.specs.declared.EditKind.{EditKind}
 use Rattle.sheet_lines.specs.declared.KeptLines.{KeptLines}
 use Rattle.sheet_history.specs.declared.LineAxis.{LineAxis}
 use Rattle.sheet_history.specs.declared.LineAxis.TheVariants.{Rows, Columns}
-use Rattle.base_wire.specs.Reading.{Reader, ◌⊗◌, code_at, number_at}
 use Rattle.base_wire.specs.Spelling.{spell_code}
-use Rattle.lines_wire.specs.EditBytes.{spell_edit, edit_at, FitsEdit}
-use Rattle.lines_wire.specs.KeptBytes.{spell_kept, kept_at, FitsKept}
+use Rattle.lines_wire.specs.EditBytes.{spell_edit, FitsEdit}
+use Rattle.lines_wire.specs.KeptBytes.{spell_kept, FitsKept}
 
 -- rows or columns
 abbrev pub axis_code : LineAxis → ℕ
 axis_code Rows = 0
 axis_code Columns = 1
 
-abbrev pub axes : List LineAxis
-axes = Rows ∷ Columns ∷ []
-
 -- the id of the sheet, the axis, the edit, and what taking it back does not give
 abbrev pub spell_lines : ℕ → LineAxis → EditKind → KeptLines → List ℕ
 spell_lines id axis edit kept = to_be_bytes w32 id ++ (spell_code axis_code axis ++ (spell_edit edit ++ spell_kept kept))
-
-abbrev pub lines_parts_at : Reader (ℕ × (LineAxis × (EditKind × KeptLines)))
-lines_parts_at = number_at w32 ⊗ code_at axis_code axes ⊗ edit_at ⊗ kept_at
 
 -- the parts of an edit of lines, which bytes can carry
 pub record FitsLines (id : ℕ) (kind : EditKind) (part : KeptLines) : Type 0 where

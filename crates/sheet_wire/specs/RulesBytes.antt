@@ -1,25 +1,13 @@
 -- The bytes of changes of conditional rules.
-use Rattle.std.specs.Prelude.{ℕ, ◌<◌, ◌^◌, List, ◌++◌, Option, IfSome}
+use Rattle.std.specs.Prelude.{ℕ, ◌<◌, ◌^◌, List, ◌++◌, IfSome}
 use Rattle.std.specs.Int.{w32, w64, to_be_bytes}
-use Rattle.format_rules.specs.declared.ConditionalFormatting.{ConditionalFormatting}
 use Rattle.rule_edits.specs.declared.RuleChange.{RuleChange}
-use Rattle.base_wire.specs.Reading.{Reader, map_at, ◌⊗◌, number_at, option_at}
 use Rattle.base_wire.specs.Spelling.{spell_option}
-use Rattle.rule_wire.specs.FormattingBytes.{spell_formatting, formatting_at, FitsFormatting, IsKnownFormatting}
+use Rattle.rule_wire.specs.FormattingBytes.{spell_formatting, FitsFormatting, IsKnownFormatting}
 
 -- the index of the rule, the old one, and the new one
 unfoldable pub spell_rule_change : RuleChange → List ℕ
 spell_rule_change change = to_be_bytes w64 change.index ++ (spell_option spell_formatting change.old ++ spell_option spell_formatting change.new)
-
--- a rule, or none
-unfoldable pub rule_there_at : Reader (Option ConditionalFormatting)
-rule_there_at = option_at formatting_at
-
-abbrev pub rule_change_made : ℕ × (Option ConditionalFormatting × Option ConditionalFormatting) → RuleChange
-rule_change_made x = record { index = x.0; old = x.1.0; new = x.1.1 }
-
-unfoldable pub rule_change_at : Reader RuleChange
-rule_change_at = map_at rule_change_made (number_at w64 ⊗ rule_there_at ⊗ rule_there_at)
 
 -- an index of 64 bits, and rules that bytes can carry
 pub record FitsRuleChange (change : RuleChange) : Type 0 where
@@ -35,9 +23,6 @@ pub record IsKnownRuleChange (change : RuleChange) : Type 0 where
 -- the id of the sheet, and the change of its rules
 unfoldable pub spell_rule : ℕ → RuleChange → List ℕ
 spell_rule id change = to_be_bytes w32 id ++ spell_rule_change change
-
-abbrev pub rule_parts_at : Reader (ℕ × RuleChange)
-rule_parts_at = number_at w32 ⊗ rule_change_at
 
 -- an id and a change that bytes can carry
 pub record FitsRuleDiff (id : ℕ) (part : RuleChange) : Type 0 where

@@ -1,22 +1,18 @@
 -- The bytes of changes of the fields of a sheet, and of changes of the list of sheets.
 use Rattle.std.specs.Prelude.{ℕ, ℤ, ◌<◌, ◌^◌, Bool, List, ◌++◌, IfSome, FitsSigned}
-use Rattle.std.specs.FinMap.{FinMap, get}
+use Rattle.std.specs.FinMap.{get}
 use Rattle.std.specs.Int.{w32, w64, to_be_bytes}
-use Rattle.std.specs.Ordering.{nat_cmp}
 use Rattle.base_styles.specs.declared.Color.{Color}
-use Rattle.defined_names.specs.declared.DefinedName.{DefinedName}
-use Rattle.sheet_grid.specs.Sheet.{Sheet}
 use Rattle.sheet_grid.specs.declared.SheetState.{SheetState}
 use Rattle.book_sheets.specs.declared.KeptSheet.{KeptSheet}
 use Rattle.sheet_history.specs.declared.FieldChange.{FieldChange}
 use Rattle.sheet_history.specs.declared.FieldChange.TheVariants as change
-use Rattle.base_wire.specs.Reading.{Reader, map_at, ◌⊗◌, code_at, number_at, text_at}
 use Rattle.base_wire.specs.Spelling.{Any, spell_code, boolean_code, spell_signed, spell_text, FitsText}
-use Rattle.map_wire.specs.MapBytes.{spell_map, map_of_at, FitsMap}
+use Rattle.map_wire.specs.MapBytes.{spell_map, FitsMap}
 use Rattle.cell_wire.specs.StyleBytes.{spell_color, FitsColor}
-use Rattle.grid_wire.specs.StateBytes.{state_code, states}
-use Rattle.grid_wire.specs.NameBytes.{spell_name, name_at, FitsName, IsKnownName}
-use Rattle.grid_wire.specs.SheetBytes.{spell_sheet, sheet_at, FitsSheet, IsKnownSheet}
+use Rattle.grid_wire.specs.StateBytes.{state_code}
+use Rattle.grid_wire.specs.NameBytes.{spell_name, FitsName, IsKnownName}
+use Rattle.grid_wire.specs.SheetBytes.{spell_sheet, FitsSheet, IsKnownSheet}
 use Rattle.sheet_wire.specs.ChangeBytes.{spell_sheet_change, FitsSheetChange}
 
 -- ---- fields of a sheet
@@ -33,9 +29,6 @@ spell_grid_change = spell_sheet_change (spell_code boolean_code)
 abbrev pub spell_count_change : ℕ → ℤ → ℤ → List ℕ
 spell_count_change = spell_sheet_change (spell_signed w32)
 
-unfoldable pub state_at : Reader SheetState
-state_at = code_at state_code states
-
 -- the parts of a change of a field, which bytes can carry
 abbrev pub FitsField : ℕ → FieldChange → Type 0
 FitsField id (change.State old new) = FitsSheetChange Any id old new
@@ -50,9 +43,6 @@ FitsField id (change.FrozenColumns old new) = FitsSheetChange (FitsSigned w32) i
 unfoldable pub spell_new : ℕ → ℕ → List ℕ → List ℕ
 spell_new id index name = to_be_bytes w32 id ++ (to_be_bytes w32 index ++ spell_text name)
 
-abbrev pub new_parts_at : Reader (ℕ × (ℕ × List ℕ))
-new_parts_at = number_at w32 ⊗ number_at w32 ⊗ text_at
-
 -- the parts of a new sheet, which bytes can carry
 pub record FitsNew (id at : ℕ) (text : List ℕ) : Type 0 where
   pub sheet : id < 2 ^ 32
@@ -62,9 +52,6 @@ pub record FitsNew (id at : ℕ) (text : List ℕ) : Type 0 where
 -- the id of the sheet that is copied, and those parts of the copy
 unfoldable pub spell_copy : ℕ → ℕ → ℕ → List ℕ → List ℕ
 spell_copy source id index name = to_be_bytes w32 source ++ spell_new id index name
-
-abbrev pub copy_parts_at : Reader (ℕ × (ℕ × (ℕ × List ℕ)))
-copy_parts_at = number_at w32 ⊗ new_parts_at
 
 -- the parts of a copy, which bytes can carry
 pub record FitsCopy (original id at : ℕ) (text : List ℕ) : Type 0 where
@@ -76,15 +63,6 @@ pub record FitsCopy (original id at : ℕ) (text : List ℕ) : Type 0 where
 -- the sheet, and the names of its scope by their places
 unfoldable pub spell_kept_sheet : KeptSheet → List ℕ
 spell_kept_sheet kept = spell_sheet kept.sheet ++ spell_map (to_be_bytes w64) spell_name kept.names
-
-unfoldable pub placed_names_at : Reader (FinMap nat_cmp DefinedName)
-placed_names_at = map_of_at nat_cmp (λ m. m) (number_at w64) name_at
-
-abbrev pub kept_sheet_made : Sheet × FinMap nat_cmp DefinedName → KeptSheet
-kept_sheet_made x = record { sheet = x.0; names = x.1 }
-
-unfoldable pub kept_sheet_at : Reader KeptSheet
-kept_sheet_at = map_at kept_sheet_made (sheet_at ⊗ placed_names_at)
 
 -- a sheet and names that bytes can carry
 pub record FitsKeptSheet (kept : KeptSheet) : Type 0 where
@@ -100,9 +78,6 @@ pub record IsKnownKeptSheet (kept : KeptSheet) : Type 0 where
 unfoldable pub spell_deletion : ℕ → KeptSheet → List ℕ
 spell_deletion index kept = to_be_bytes w32 index ++ spell_kept_sheet kept
 
-abbrev pub deletion_parts_at : Reader (ℕ × KeptSheet)
-deletion_parts_at = number_at w32 ⊗ kept_sheet_at
-
 -- an index and a kept sheet that bytes can carry
 pub record FitsDeletion (at : ℕ) (part : KeptSheet) : Type 0 where
   pub index : at < 2 ^ 32
@@ -113,9 +88,6 @@ pub record FitsDeletion (at : ℕ) (part : KeptSheet) : Type 0 where
 -- the id of the sheet, and the indexes between which it moves
 unfoldable pub spell_move : ℕ → ℕ → ℕ → List ℕ
 spell_move id from to = to_be_bytes w32 id ++ (to_be_bytes w32 from ++ to_be_bytes w32 to)
-
-abbrev pub move_parts_at : Reader (ℕ × (ℕ × ℕ))
-move_parts_at = number_at w32 ⊗ number_at w32 ⊗ number_at w32
 
 -- three numbers of 32 bits
 pub record FitsMove (id before later : ℕ) : Type 0 where

@@ -1,3 +1,4 @@
+pub mod Reading
 pub mod QueueLaws
 pub mod QueueFormats
 pub mod AttrFormats

@@ -5,7 +5,7 @@ ghost use Rattle.base_values.specs.Answers.{Answers, map_ok};
 ghost use Rattle.grid_wire.specs.LineBytes.{IsKnownLine};
 ghost use Rattle.sheet_history.specs.Entries.{line_tag};
 ghost use Rattle.sheet_wire.specs.AttrBytes.{spell_attr_change, FitsAttrChange};
-ghost use Rattle.sheet_wire.specs.QueueBytes.{attr_diff_at};
+ghost use Rattle.sheet_wire.specs.laws.Reading.{attr_diff_at};
 
 use base_shared::Shared;
 use base_styles::Style;
@@ -27,7 +27,7 @@ pub(crate) fn line_tag(axis: LineAxis) -> u8
     }
 }
 
-#[tactic(auto, unfolding(crate::specs::QueueBytes::attr_diff_at, crate::specs::AttrBytes::own_at))]
+#[tactic(auto, unfolding(crate::specs::laws::Reading::attr_diff_at, crate::specs::laws::Reading::own_at))]
 pub(crate) fn attr_diff_at<'a>(
     alloc: Global,
     plain: &Shared<Style>,

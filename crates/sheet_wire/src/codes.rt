@@ -3,9 +3,10 @@
 ghost use Rattle.std.specs.Prelude.{◌≡◌};
 ghost use Rattle.base_values.specs.Answers.{ok_or};
 ghost use Rattle.base_values.specs.declared.EditError.TheVariants.{ParseDiffs};
-ghost use Rattle.base_wire.specs.Reading.{decoded};
-ghost use Rattle.sheet_wire.specs.LinesBytes.{axes, axis_code};
-ghost use Rattle.sheet_wire.specs.QueueBytes.{direction_code, directions};
+ghost use Rattle.base_wire.specs.laws.Reading.{decoded};
+ghost use Rattle.sheet_wire.specs.LinesBytes.{axis_code};
+ghost use Rattle.sheet_wire.specs.laws.Reading.{axes, directions};
+ghost use Rattle.sheet_wire.specs.QueueBytes.{direction_code};
 
 use base_values::EditError;
 use sheet_history::{DiffType, LineAxis};

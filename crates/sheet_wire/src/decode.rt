@@ -3,11 +3,10 @@
 ghost use Rattle.std.specs.Prelude.{◌≡◌, ◌≢◌, IfErr, IfOk, List};
 ghost use Rattle.base_values.specs.Answers.{Answers, map_ok};
 ghost use Rattle.base_values.specs.declared.EditError.TheVariants.{NoMemory, ParseDiffs};
-ghost use Rattle.base_wire.specs.Reading.{code_at, rest_after};
-ghost use Rattle.sheet_wire.specs.ChangeBytes.{change_at};
-ghost use Rattle.sheet_wire.specs.LinesBytes.{axes, axis_code};
-ghost use Rattle.sheet_wire.specs.QueueBytes.{cell_diff_at, diff_at, lines_diff_at, link_diff_at, merges_diff_at};
-ghost use Rattle.sheet_wire.specs.QueueBytes.{direction_code, directions, entry_at, magic, queue_of, spell_queue, FitsQueue, IsNoQueue};
+ghost use Rattle.base_wire.specs.laws.Reading.{code_at, rest_after};
+ghost use Rattle.sheet_wire.specs.laws.Reading.{change_at, axes, cell_diff_at, diff_at, lines_diff_at, link_diff_at, merges_diff_at, directions, entry_at, queue_of};
+ghost use Rattle.sheet_wire.specs.LinesBytes.{axis_code};
+ghost use Rattle.sheet_wire.specs.QueueBytes.{direction_code, magic, spell_queue, FitsQueue, IsNoQueue};
 ghost use Rattle.sheet_history.specs.declared.QueueDiffs.{QueueDiffs};
 
 use crate::attributes::attr_diff_at;
@@ -34,7 +33,7 @@ use std::alloc::Global;
 type Change<T> = (u32, Position, Option<T>, Option<T>);
 
 /// The id of a sheet, a position, and what stands there before and after.
-#[tactic(auto, unfolding(crate::specs::ChangeBytes::standing_at))]
+#[tactic(auto, unfolding(crate::specs::laws::Reading::standing_at))]
 fn change_at<'a, P: Part>(
     alloc: Global,
     context: &P::Context,
@@ -49,7 +48,7 @@ fn change_at<'a, P: Part>(
     Ok(((sheet, position, old, new), rest))
 }
 
-#[tactic(auto, unfolding(crate::specs::QueueBytes::cell_diff_at))]
+#[tactic(auto, unfolding(crate::specs::laws::Reading::cell_diff_at))]
 fn cell_diff_at<'a>(
     alloc: Global,
     plain: &Shared<Style>,
@@ -67,7 +66,7 @@ fn cell_diff_at<'a>(
     Ok((diff, rest))
 }
 
-#[tactic(auto, unfolding(crate::specs::QueueBytes::link_diff_at))]
+#[tactic(auto, unfolding(crate::specs::laws::Reading::link_diff_at))]
 fn link_diff_at(alloc: Global, bytes: &[u8]) -> Result<(Diff, &[u8]), EditError>
     ensures { Answers (map_ok (λ x. (x.0, x.1.now)) result) (link_diff_at bytes.now) }
 {
@@ -81,7 +80,7 @@ fn link_diff_at(alloc: Global, bytes: &[u8]) -> Result<(Diff, &[u8]), EditError>
     Ok((diff, rest))
 }
 
-#[tactic(auto, unfolding(crate::specs::QueueBytes::merges_diff_at))]
+#[tactic(auto, unfolding(crate::specs::laws::Reading::merges_diff_at))]
 fn merges_diff_at(alloc: Global, bytes: &[u8]) -> Result<(Diff, &[u8]), EditError>
     ensures { Answers (map_ok (λ x. (x.0, x.1.now)) result) (merges_diff_at bytes.now) }
 {
@@ -97,7 +96,7 @@ fn axis_at(alloc: Global, bytes: &[u8]) -> Result<(LineAxis, &[u8]), EditError>
     Ok((axis, rest))
 }
 
-#[tactic(auto, unfolding(crate::specs::QueueBytes::lines_diff_at))]
+#[tactic(auto, unfolding(crate::specs::laws::Reading::lines_diff_at))]
 fn lines_diff_at<'a>(
     alloc: Global,
     plain: &Shared<Style>,
@@ -118,7 +117,7 @@ fn lines_diff_at<'a>(
     Ok((diff, rest))
 }
 
-#[tactic(auto, unfolding(crate::specs::QueueBytes::diff_at))]
+#[tactic(auto, unfolding(crate::specs::laws::Reading::diff_at))]
 pub(crate) fn diff_at<'a>(
     alloc: Global,
     plain: &Shared<Style>,
@@ -162,7 +161,7 @@ fn direction_at(alloc: Global, bytes: &[u8]) -> Result<(DiffType, &[u8]), EditEr
     Ok((kind, rest))
 }
 
-#[tactic(auto, unfolding(crate::specs::QueueBytes::entry_at, crate::specs::QueueBytes::list_of_diffs_at))]
+#[tactic(auto, unfolding(crate::specs::laws::Reading::entry_at, crate::specs::laws::Reading::list_of_diffs_at))]
 pub(crate) fn entry_at<'a>(
     alloc: Global,
     plain: &Shared<Style>,
@@ -185,7 +184,7 @@ fn after_magic(bytes: &[u8]) -> Result<&[u8], EditError>
     }
 }
 
-#[tactic(auto, unfolding(crate::specs::QueueBytes::queue_of))]
+#[tactic(auto, unfolding(crate::specs::laws::Reading::queue_of))]
 fn read_queue(
     alloc: Global,
     plain: &Shared<Style>,

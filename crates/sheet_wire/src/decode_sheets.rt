@@ -1,8 +1,7 @@
 //! Diffs of the fields of a sheet and of the list of sheets from their bytes.
 
 ghost use Rattle.base_values.specs.Answers.{Answers, map_ok};
-ghost use Rattle.sheet_wire.specs.ChangeBytes.{sheet_change_at};
-ghost use Rattle.sheet_wire.specs.QueueBytes.{color_diff_at, copy_diff_at, deletion_diff_at, grid_diff_at, move_diff_at, name_diff_at, new_diff_at, rename_diff_at, state_diff_at, frozen_columns_diff_at, frozen_rows_diff_at};
+ghost use Rattle.sheet_wire.specs.laws.Reading.{sheet_change_at, color_diff_at, copy_diff_at, deletion_diff_at, grid_diff_at, move_diff_at, name_diff_at, new_diff_at, rename_diff_at, state_diff_at, frozen_columns_diff_at, frozen_rows_diff_at};
 
 use crate::sheets::KeptSheetPart;
 use crate::trees::KeptTreesPart;
@@ -34,7 +33,7 @@ pub(crate) fn sheet_change_at<'a, P: Part>(
     Ok(((sheet, old, new), rest))
 }
 
-#[tactic(auto, unfolding(crate::specs::QueueBytes::color_diff_at))]
+#[tactic(auto, unfolding(crate::specs::laws::Reading::color_diff_at))]
 pub(crate) fn color_diff_at(alloc: Global, bytes: &[u8]) -> Result<(Diff, &[u8]), EditError>
     ensures { Answers (map_ok (λ x. (x.0, x.1.now)) result) (color_diff_at bytes.now) }
 {
@@ -43,7 +42,7 @@ pub(crate) fn color_diff_at(alloc: Global, bytes: &[u8]) -> Result<(Diff, &[u8])
     Ok((Diff::Field { sheet, change }, rest))
 }
 
-#[tactic(auto, unfolding(crate::specs::QueueBytes::state_diff_at, crate::specs::SheetsBytes::state_at))]
+#[tactic(auto, unfolding(crate::specs::laws::Reading::state_diff_at, crate::specs::laws::Reading::state_at))]
 pub(crate) fn state_diff_at(alloc: Global, bytes: &[u8]) -> Result<(Diff, &[u8]), EditError>
     ensures { Answers (map_ok (λ x. (x.0, x.1.now)) result) (state_diff_at bytes.now) }
 {
@@ -52,7 +51,7 @@ pub(crate) fn state_diff_at(alloc: Global, bytes: &[u8]) -> Result<(Diff, &[u8])
     Ok((Diff::Field { sheet, change }, rest))
 }
 
-#[tactic(auto, unfolding(crate::specs::QueueBytes::grid_diff_at))]
+#[tactic(auto, unfolding(crate::specs::laws::Reading::grid_diff_at))]
 pub(crate) fn grid_diff_at(alloc: Global, bytes: &[u8]) -> Result<(Diff, &[u8]), EditError>
     ensures { Answers (map_ok (λ x. (x.0, x.1.now)) result) (grid_diff_at bytes.now) }
 {
@@ -61,7 +60,7 @@ pub(crate) fn grid_diff_at(alloc: Global, bytes: &[u8]) -> Result<(Diff, &[u8]),
     Ok((Diff::Field { sheet, change }, rest))
 }
 
-#[tactic(auto, unfolding(crate::specs::QueueBytes::frozen_rows_diff_at))]
+#[tactic(auto, unfolding(crate::specs::laws::Reading::frozen_rows_diff_at))]
 pub(crate) fn frozen_rows_diff_at(alloc: Global, bytes: &[u8]) -> Result<(Diff, &[u8]), EditError>
     ensures { Answers (map_ok (λ x. (x.0, x.1.now)) result) (frozen_rows_diff_at bytes.now) }
 {
@@ -70,7 +69,7 @@ pub(crate) fn frozen_rows_diff_at(alloc: Global, bytes: &[u8]) -> Result<(Diff, 
     Ok((Diff::Field { sheet, change }, rest))
 }
 
-#[tactic(auto, unfolding(crate::specs::QueueBytes::frozen_columns_diff_at))]
+#[tactic(auto, unfolding(crate::specs::laws::Reading::frozen_columns_diff_at))]
 pub(crate) fn frozen_columns_diff_at(
     alloc: Global,
     bytes: &[u8],
@@ -82,7 +81,7 @@ pub(crate) fn frozen_columns_diff_at(
     Ok((Diff::Field { sheet, change }, rest))
 }
 
-#[tactic(auto, unfolding(crate::specs::QueueBytes::new_diff_at))]
+#[tactic(auto, unfolding(crate::specs::laws::Reading::new_diff_at))]
 pub(crate) fn new_diff_at(alloc: Global, bytes: &[u8]) -> Result<(Diff, &[u8]), EditError>
     ensures { Answers (map_ok (λ x. (x.0, x.1.now)) result) (new_diff_at bytes.now) }
 {
@@ -92,7 +91,7 @@ pub(crate) fn new_diff_at(alloc: Global, bytes: &[u8]) -> Result<(Diff, &[u8]), 
     Ok((Diff::NewSheet { sheet, index, name }, rest))
 }
 
-#[tactic(auto, unfolding(crate::specs::QueueBytes::copy_diff_at))]
+#[tactic(auto, unfolding(crate::specs::laws::Reading::copy_diff_at))]
 pub(crate) fn copy_diff_at(alloc: Global, bytes: &[u8]) -> Result<(Diff, &[u8]), EditError>
     ensures { Answers (map_ok (λ x. (x.0, x.1.now)) result) (copy_diff_at bytes.now) }
 {
@@ -109,7 +108,7 @@ pub(crate) fn copy_diff_at(alloc: Global, bytes: &[u8]) -> Result<(Diff, &[u8]),
     Ok((diff, rest))
 }
 
-#[tactic(auto, unfolding(crate::specs::QueueBytes::deletion_diff_at))]
+#[tactic(auto, unfolding(crate::specs::laws::Reading::deletion_diff_at))]
 pub(crate) fn deletion_diff_at<'a>(
     alloc: Global,
     plain: &Shared<Style>,
@@ -122,7 +121,7 @@ pub(crate) fn deletion_diff_at<'a>(
     Ok((Diff::DeleteSheet { index, kept }, rest))
 }
 
-#[tactic(auto, unfolding(crate::specs::QueueBytes::rename_diff_at))]
+#[tactic(auto, unfolding(crate::specs::laws::Reading::rename_diff_at))]
 pub(crate) fn rename_diff_at<'a>(
     alloc: Global,
     plain: &Shared<Style>,
@@ -143,7 +142,7 @@ pub(crate) fn rename_diff_at<'a>(
     Ok((diff, rest))
 }
 
-#[tactic(auto, unfolding(crate::specs::QueueBytes::name_diff_at, crate::specs::TreesBytes::name_there_at))]
+#[tactic(auto, unfolding(crate::specs::laws::Reading::name_diff_at, crate::specs::laws::Reading::name_there_at))]
 pub(crate) fn name_diff_at<'a>(
     alloc: Global,
     plain: &Shared<Style>,
@@ -159,7 +158,7 @@ pub(crate) fn name_diff_at<'a>(
     Ok((Diff::ChangeName { change, kept }, rest))
 }
 
-#[tactic(auto, unfolding(crate::specs::QueueBytes::move_diff_at))]
+#[tactic(auto, unfolding(crate::specs::laws::Reading::move_diff_at))]
 pub(crate) fn move_diff_at(alloc: Global, bytes: &[u8]) -> Result<(Diff, &[u8]), EditError>
     ensures { Answers (map_ok (λ x. (x.0, x.1.now)) result) (move_diff_at bytes.now) }
 {

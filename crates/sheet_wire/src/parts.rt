@@ -16,7 +16,8 @@ pub struct DiffPart;
 pub(crate) struct EntryPart;
 
 impl Part for DiffPart {
-    ghost use Rattle.sheet_wire.specs.QueueBytes.{diff_at, spell_diff, FitsDiff, IsKnownDiff};
+    ghost use Rattle.sheet_wire.specs.QueueBytes.{spell_diff, FitsDiff, IsKnownDiff};
+    ghost use Rattle.sheet_wire.specs.laws.Reading.{diff_at};
     ghost use Rattle.sheet_wire.specs.laws.QueueFormats.{diff_format, diff_some};
 
     type Value = Diff;
@@ -50,7 +51,8 @@ impl Part for DiffPart {
 
 impl Part for EntryPart {
     ghost use Rattle.std.proofs.Common.{arith};
-    ghost use Rattle.sheet_wire.specs.QueueBytes.{entry_at, spell_entry, FitsEntry, IsKnownEntry};
+    ghost use Rattle.sheet_wire.specs.QueueBytes.{spell_entry, FitsEntry, IsKnownEntry};
+    ghost use Rattle.sheet_wire.specs.laws.Reading.{entry_at};
     ghost use Rattle.sheet_wire.specs.laws.QueueFormats.{entry_format};
 
     type Value = QueueDiffs;

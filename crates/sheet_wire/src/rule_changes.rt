@@ -2,8 +2,8 @@
 
 ghost use Rattle.std.specs.Prelude.{◌≡◌, ◌++◌, OnOk};
 ghost use Rattle.base_values.specs.Answers.{Answers, map_ok};
-ghost use Rattle.sheet_wire.specs.QueueBytes.{rule_diff_at};
-ghost use Rattle.sheet_wire.specs.RulesBytes.{rule_change_at, spell_rule, spell_rule_change, FitsRuleChange, FitsRuleDiff, IsKnownRuleChange};
+ghost use Rattle.sheet_wire.specs.laws.Reading.{rule_diff_at, rule_change_at};
+ghost use Rattle.sheet_wire.specs.RulesBytes.{spell_rule, spell_rule_change, FitsRuleChange, FitsRuleDiff, IsKnownRuleChange};
 
 use base_shared::Shared;
 use base_styles::Style;
@@ -15,7 +15,7 @@ use rule_wire::FormattingPart;
 use sheet_history::Diff;
 use std::alloc::{AllocError, Global};
 
-#[tactic(auto, unfolding(crate::specs::RulesBytes::rule_change_at, crate::specs::RulesBytes::rule_there_at))]
+#[tactic(auto, unfolding(crate::specs::laws::Reading::rule_change_at, crate::specs::laws::Reading::rule_there_at))]
 fn rule_change_at<'a>(
     alloc: Global,
     plain: &Shared<Style>,
@@ -45,7 +45,8 @@ fn put_rule_change(out: &mut Vec<u8>, change: &RuleChange) -> Result<(), AllocEr
 pub(crate) struct RuleChangePart;
 
 impl Part for RuleChangePart {
-    ghost use Rattle.sheet_wire.specs.RulesBytes.{rule_change_at, spell_rule_change, FitsRuleChange, IsKnownRuleChange};
+    ghost use Rattle.sheet_wire.specs.RulesBytes.{spell_rule_change, FitsRuleChange, IsKnownRuleChange};
+    ghost use Rattle.sheet_wire.specs.laws.Reading.{rule_change_at};
     ghost use Rattle.sheet_wire.specs.laws.RulesFormats.{rule_change_format, rule_change_some};
 
     type Value = RuleChange;
@@ -91,7 +92,7 @@ pub(crate) fn put_rule(
     Shared::<RuleChangePart>::put(out, change)
 }
 
-#[tactic(auto, unfolding(crate::specs::QueueBytes::rule_diff_at))]
+#[tactic(auto, unfolding(crate::specs::laws::Reading::rule_diff_at))]
 pub(crate) fn rule_diff_at<'a>(
     alloc: Global,
     plain: &Shared<Style>,

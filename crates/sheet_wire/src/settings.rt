@@ -3,8 +3,9 @@
 ghost use Rattle.std.specs.Prelude.{◌≡◌, ◌++◌, OnOk};
 ghost use Rattle.base_values.specs.Answers.{Answers, map_ok};
 ghost use Rattle.sheet_history.specs.declared.Diff.TheVariants.{Setting as SettingDiff};
-ghost use Rattle.sheet_wire.specs.QueueBytes.{locale_diff_at, spell_diff, theme_diff_at, title_diff_at, zone_diff_at};
-ghost use Rattle.sheet_wire.specs.SettingBytes.{spell_twice, twice_at, FitsSetting};
+ghost use Rattle.sheet_wire.specs.QueueBytes.{spell_diff};
+ghost use Rattle.sheet_wire.specs.laws.Reading.{locale_diff_at, theme_diff_at, title_diff_at, zone_diff_at, twice_at};
+ghost use Rattle.sheet_wire.specs.SettingBytes.{spell_twice, FitsSetting};
 
 use base_values::{EditError, Text};
 use base_wire::Part;
@@ -60,7 +61,7 @@ fn twice_at<'a, P: Part>(
     Ok(((old, new), rest))
 }
 
-#[tactic(auto, unfolding(crate::specs::QueueBytes::theme_diff_at))]
+#[tactic(auto, unfolding(crate::specs::laws::Reading::theme_diff_at))]
 pub(crate) fn theme_diff_at(alloc: Global, bytes: &[u8]) -> Result<(Diff, &[u8]), EditError>
     ensures { Answers (map_ok (λ x. (x.0, x.1.now)) result) (theme_diff_at bytes.now) }
 {
@@ -69,7 +70,7 @@ pub(crate) fn theme_diff_at(alloc: Global, bytes: &[u8]) -> Result<(Diff, &[u8])
     Ok((Diff::Setting { change }, rest))
 }
 
-#[tactic(auto, unfolding(crate::specs::QueueBytes::title_diff_at))]
+#[tactic(auto, unfolding(crate::specs::laws::Reading::title_diff_at))]
 pub(crate) fn title_diff_at(alloc: Global, bytes: &[u8]) -> Result<(Diff, &[u8]), EditError>
     ensures { Answers (map_ok (λ x. (x.0, x.1.now)) result) (title_diff_at bytes.now) }
 {
@@ -78,7 +79,7 @@ pub(crate) fn title_diff_at(alloc: Global, bytes: &[u8]) -> Result<(Diff, &[u8])
     Ok((Diff::Setting { change }, rest))
 }
 
-#[tactic(auto, unfolding(crate::specs::QueueBytes::locale_diff_at))]
+#[tactic(auto, unfolding(crate::specs::laws::Reading::locale_diff_at))]
 pub(crate) fn locale_diff_at(alloc: Global, bytes: &[u8]) -> Result<(Diff, &[u8]), EditError>
     ensures { Answers (map_ok (λ x. (x.0, x.1.now)) result) (locale_diff_at bytes.now) }
 {
@@ -87,7 +88,7 @@ pub(crate) fn locale_diff_at(alloc: Global, bytes: &[u8]) -> Result<(Diff, &[u8]
     Ok((Diff::Setting { change }, rest))
 }
 
-#[tactic(auto, unfolding(crate::specs::QueueBytes::zone_diff_at))]
+#[tactic(auto, unfolding(crate::specs::laws::Reading::zone_diff_at))]
 pub(crate) fn zone_diff_at(alloc: Global, bytes: &[u8]) -> Result<(Diff, &[u8]), EditError>
     ensures { Answers (map_ok (λ x. (x.0, x.1.now)) result) (zone_diff_at bytes.now) }
 {

@@ -2,9 +2,10 @@
 
 ghost use Rattle.std.specs.Prelude.{◌≡◌, ◌++◌, OnOk};
 ghost use Rattle.base_values.specs.Answers.{Answers, map_ok};
-ghost use Rattle.sheet_wire.specs.SheetsBytes.{kept_sheet_at, spell_kept_sheet, FitsKeptSheet, IsKnownKeptSheet};
+ghost use Rattle.sheet_wire.specs.SheetsBytes.{spell_kept_sheet, FitsKeptSheet, IsKnownKeptSheet};
+ghost use Rattle.sheet_wire.specs.laws.Reading.{kept_sheet_at};
 
-use base_maps::IndexMap;
+use base_maps::IndexKeys;
 use base_shared::Shared;
 use base_styles::Style;
 use base_values::EditError;
@@ -15,9 +16,9 @@ use grid_wire::{NamePart, SheetPart};
 use map_wire::{MapPart, read};
 use std::alloc::{AllocError, Global};
 
-type PlacedNamesPart = MapPart<IndexMap<DefinedName>, u64, NamePart>;
+type PlacedNamesPart = MapPart<IndexKeys<DefinedName>, u64, NamePart>;
 
-#[tactic(auto, unfolding(crate::specs::SheetsBytes::kept_sheet_at, crate::specs::SheetsBytes::placed_names_at))]
+#[tactic(auto, unfolding(crate::specs::laws::Reading::kept_sheet_at, crate::specs::laws::Reading::placed_names_at))]
 fn kept_sheet_at<'a>(
     alloc: Global,
     plain: &Shared<Style>,
@@ -44,7 +45,8 @@ fn put_kept_sheet(out: &mut Vec<u8>, kept: &KeptSheet) -> Result<(), AllocError>
 pub(crate) struct KeptSheetPart;
 
 impl Part for KeptSheetPart {
-    ghost use Rattle.sheet_wire.specs.SheetsBytes.{kept_sheet_at, spell_kept_sheet, FitsKeptSheet, IsKnownKeptSheet};
+    ghost use Rattle.sheet_wire.specs.SheetsBytes.{spell_kept_sheet, FitsKeptSheet, IsKnownKeptSheet};
+    ghost use Rattle.sheet_wire.specs.laws.Reading.{kept_sheet_at};
     ghost use Rattle.sheet_wire.specs.laws.SheetsFormats.{kept_sheet_format, kept_sheet_some};
 
     type Value = KeptSheet;

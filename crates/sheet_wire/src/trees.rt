@@ -2,9 +2,10 @@
 
 ghost use Rattle.std.specs.Prelude.{◌≡◌, ◌++◌, OnOk};
 ghost use Rattle.base_values.specs.Answers.{Answers, map_ok};
-ghost use Rattle.sheet_wire.specs.TreesBytes.{spell_trees, trees_at, AreKnownTrees, FitsTrees};
+ghost use Rattle.sheet_wire.specs.TreesBytes.{spell_trees, AreKnownTrees, FitsTrees};
+ghost use Rattle.sheet_wire.specs.laws.Reading.{trees_at};
 
-use base_maps::IndexMap;
+use base_maps::{IndexKeys, SheetIndexKeys};
 use base_shared::Shared;
 use base_styles::Style;
 use base_values::EditError;
@@ -13,17 +14,16 @@ use book_names::KeptTrees;
 use format_rules::ConditionalFormatting;
 use formula_tree::Node;
 use formula_wire::NodePart;
-use index_maps::SheetIndexMap;
 use lines_wire::{FormulasPart, SheetIndexPart};
 use map_wire::{MapPart, read};
 use rule_wire::FormattingPart;
 use std::alloc::{AllocError, Global};
 
-type RulesPart = MapPart<SheetIndexMap<ConditionalFormatting>, SheetIndexPart, FormattingPart>;
+type RulesPart = MapPart<SheetIndexKeys<ConditionalFormatting>, SheetIndexPart, FormattingPart>;
 
-type NameTreesPart = MapPart<IndexMap<Shared<Node>>, u64, Shared<NodePart>>;
+type NameTreesPart = MapPart<IndexKeys<Shared<Node>>, u64, Shared<NodePart>>;
 
-#[tactic(auto, unfolding(crate::specs::TreesBytes::trees_at, crate::specs::TreesBytes::name_trees_at, crate::specs::TreesBytes::renamed_rules_at, lines_wire::specs::KeptBytes::formulas_at))]
+#[tactic(auto, unfolding(crate::specs::laws::Reading::trees_at, crate::specs::laws::Reading::name_trees_at, crate::specs::laws::Reading::renamed_rules_at, lines_wire::specs::laws::Reading::formulas_at))]
 fn trees_at<'a>(
     alloc: Global,
     plain: &Shared<Style>,
@@ -58,7 +58,8 @@ fn put_trees(out: &mut Vec<u8>, kept: &KeptTrees) -> Result<(), AllocError>
 pub(crate) struct KeptTreesPart;
 
 impl Part for KeptTreesPart {
-    ghost use Rattle.sheet_wire.specs.TreesBytes.{spell_trees, trees_at, AreKnownTrees, FitsTrees};
+    ghost use Rattle.sheet_wire.specs.TreesBytes.{spell_trees, AreKnownTrees, FitsTrees};
+    ghost use Rattle.sheet_wire.specs.laws.Reading.{trees_at};
     ghost use Rattle.sheet_wire.specs.laws.TreesFormats.{trees_format, trees_some};
 
     type Value = KeptTrees;

@@ -9,7 +9,7 @@ use Rattle.base_values.specs.declared.EditError.{EditError}
 use Rattle.base_values.specs.declared.EditError.TheVariants.{InvalidSheet}
 use Rattle.base_values.specs.declared.Position.{Position}
 use Rattle.base_values.specs.Answers.{and_then}
-use Rattle.base_values.specs.Places.{is_line}
+use Rattle.base_values.specs.Places.{is_line, is_place}
 use Rattle.base_axis.specs.Along.{Along}
 use Rattle.base_axis.specs.declared.MergedCell.{MergedCell}
 use Rattle.line_edits.specs.declared.EditKind.{EditKind}
@@ -20,7 +20,7 @@ use Rattle.sheet_grid.specs.Arrays.{array_at}
 use Rattle.sheet_grid.specs.Dimension.{reached, extent_at, extent_of, extents_of, last_corner}
 use Rattle.sheet_grid.specs.Sheet.{Sheet}
 use Rattle.sheet_grid.specs.Book.{Book, sheet_at}
-use Rattle.sheet_rules.specs.WellFormed.{is_place, stands_inside, IsWellFormed}
+use Rattle.sheet_rules.specs.WellFormed.{stands_inside, IsWellFormed}
 use Rattle.sheet_rules.specs.laws.EntryLaws.{both}
 use Rattle.sheet_rules.specs.laws.WellFormedLaws.{well_formed_parts}
 use Rattle.sheet_history.specs.declared.LineAxis.{LineAxis}

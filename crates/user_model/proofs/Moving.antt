@@ -22,8 +22,8 @@ use Rattle.edit_plans.specs.SheetEdits.{field_set, sheet_deleted}
 use Rattle.std.specs.Prelude.{◌&&◌}
 use Rattle.sheet_views.specs.declared.View.{View}
 use Rattle.sheet_rules.specs.laws.EntryLaws.{both}
-use Rattle.edit_plans.specs.ViewSteps.{keeps_range, selected_by, view_asked}
-use Rattle.edit_plans.specs.laws.ViewLaws.{view_kept}
+use Rattle.edit_plans.specs.ViewSteps.{selected_by, view_asked}
+use Rattle.edit_plans.specs.laws.ViewLaws.{view_kept, keeps_range}
 use Rattle.sheet_history.specs.declared.Diff.{Diff}
 use Rattle.sheet_history.specs.declared.SheetField.{SheetField}
 use Rattle.user_model.specs.declared.open_book.OpenBook.{OpenBook}

@@ -13,7 +13,7 @@ use Rattle.base_values.specs.declared.EditError.TheVariants.{DiffRefused, Invali
 use Rattle.base_values.specs.declared.Position.{Position}
 use Rattle.base_values.specs.Answers.{and_then, map_ok, ok_or}
 use Rattle.base_maps.specs.declared.SheetPlace.{SheetPlace}
-use Rattle.index_maps.specs.declared.SheetIndex.{SheetIndex}
+use Rattle.base_maps.specs.declared.SheetIndex.{SheetIndex}
 use Rattle.formula_tree.specs.declared.Node.{Node}
 use Rattle.formula_tree.specs.Depth.{is_within}
 use Rattle.cell_content.specs.Fitting.{tree_fits_at}
@@ -24,7 +24,7 @@ use Rattle.defined_names.specs.Names.{names_left}
 use Rattle.sheet_grid.specs.Sheet.{Sheet}
 use Rattle.sheet_grid.specs.Book.{Book, ids_of, sheet_at}
 use Rattle.sheet_grid.specs.laws.FittingLaws.{shallow_entry}
-use Rattle.sheet_rules.specs.Names.{first_place, have_name_trees}
+use Rattle.sheet_rules.specs.Names.{first_place}
 use Rattle.sheet_rules.specs.WellFormed.{IsWellFormed}
 use Rattle.sheet_rules.specs.laws.EntryLaws.{both}
 use Rattle.sheet_rules.specs.laws.WellFormedLaws.{cells_fit_from_trees, distinct_ids_from_well_formed, well_formed_parts}
@@ -35,7 +35,7 @@ use Rattle.book_sheets.specs.SheetDiffs.{deletion_back, kept_of, may_come_back, 
 use Rattle.book_sheets.specs.laws.SheetRules.{rules_at}
 use Rattle.book_names.specs.declared.KeptTrees.{KeptTrees}
 use Rattle.book_names.specs.Renaming.{everywhere, trees_kept}
-use Rattle.book_names.specs.laws.Stands.{kept_of_name, kept_rule_fits, kept_tree_fits}
+use Rattle.book_names.specs.laws.Stands.{kept_name_fits, kept_rule_fits, kept_tree_fits}
 use Rattle.book_laws.specs.laws.BothWays.{deletion_both_ways}
 use Rattle.book_laws.specs.laws.ListTests.{passes_at}
 use Rattle.book_laws.specs.laws.SheetDiffLaws.{found_at}
@@ -62,8 +62,9 @@ use Rattle.edit_plans.specs.NamedEdits.{name_diff}
 use Rattle.rule_edits.specs.declared.RuleChange.{RuleChange}
 use Rattle.rule_edits.specs.RuleChanges.{may_stand, rules_changed}
 use Rattle.rule_edits.specs.RuleEdits.{RuleEdit, rule_changes, sheet_index_of}
-use Rattle.rule_edits.specs.laws.EditLaws.{ChangesGo, edited_go}
-use Rattle.rule_edits.specs.laws.Lists.{IsAt, later_stand}
+use Rattle.rule_edits.specs.Made.{ChangesGo, IsAt}
+use Rattle.rule_edits.specs.laws.EditLaws.{edited_go}
+use Rattle.rule_edits.specs.laws.Lists.{later_stand}
 use Rattle.edit_plans.specs.RuleEdits.{all_diffs, diffs_of, rules_record}
 use Rattle.edit_plans.specs.SheetEdits.{copy_diff, deletion_diff, move_diff, new_diff, one_diff, rename_diff}
 use Rattle.user_model.specs.Spellable.{AreSpellable}
@@ -128,12 +129,11 @@ module _ (sheet : Sheet) (name : List ℕ) (w : Book) (rules : IsWellFormed w) (
       go (Some tree) is = shallow_tree key.place tree (kept_tree_fits everywhere everywhere sheet.name name w rules key tree is)
 
   shallow_defined : (place : ℕ) → IfSome (get trees.names place) (λ tree. IsTrue (is_within 64 tree))
-  unfolding have_name_trees
   shallow_defined place = go (get trees.names place) refl
     where
       go : (o : Option Node) → get trees.names place ≡ o → IfSome o (λ tree. IsTrue (is_within 64 tree))
       go None is = tt
-      go (Some tree) is = shallow_tree first_place tree (kept_of_name sheet.name name w.names (well_formed_parts w rules).name_trees place tree is).fits
+      go (Some tree) is = shallow_tree first_place tree (kept_name_fits sheet.name name w.names (well_formed_parts w rules).name_trees place tree is)
 
   shallow_rules : (key : SheetIndex) → IfSome (get trees.formattings key) (λ formatting. IsTrue (is_shallow_rule formatting))
   shallow_rules key = go (get trees.formattings key) refl

@@ -51,8 +51,8 @@ fn follow_untested(
     }
 }
 
-/// Follows a list in the workbook itself, or refuses it. Where it is `kept`, it is known not to be
-/// refused, and the result is not tested.
+/// Follows a list in the workbook itself, or refuses it. Where `kept` is true, the list is known
+/// not to be refused, and the result is not tested.
 fn follow(
     alloc: Global,
     workbook: &mut Workbook,
@@ -142,7 +142,8 @@ fn install_in_place<R: Recalc>(
     }
 }
 
-/// Whether a list can be followed in the workbook itself: no values are made, or surely.
+/// Whether a list can be followed in the workbook itself: evaluation is paused, or computing never
+/// returns `NoMemory`.
 fn goes_in_place<R: Recalc>(paused: bool, recalc: &R) -> bool
     ensures { result ≡ true → paused ≡ false → R.Sure }
 {
@@ -150,7 +151,7 @@ fn goes_in_place<R: Recalc>(paused: bool, recalc: &R) -> bool
 }
 
 /// Makes the workbook after a list, in its direction, the present one, with its values, or refuses
-/// the list. Where it is `kept`, it is known not to be refused. An error changes nothing.
+/// the list. Where `kept` is true, the list is known not to be refused. An error changes nothing.
 pub(crate) fn install<R: Recalc>(
     alloc: Global,
     workbook: &mut Workbook,

@@ -18,6 +18,7 @@ pub fn edits_go_both_ways()
     ensures { (edit : Edit) (earlier later : Book) → IsWellFormed earlier → IsGiven edit →
         changed edit earlier ≡ Ok later → GoesBothWays edit earlier later }
 {
+    // For the proof alone: two laws.
     edits_have_records();
     sheet_edits_go_both_ways();
 }

@@ -9,9 +9,8 @@ use std::alloc::Global;
 
 /// Whoever computes the values of a workbook. A user model asks it with each change.
 ///
-/// Nothing is said of the values but that they fit the workbook, in the sense that the implementor
-/// gives by `Fits`. An implementor writes `compute` alone; one that is never out of memory also says so
-/// by `Sure` and `is_sure`.
+/// The values fit the workbook; the implementor defines `Fits`. An implementor writes `compute`
+/// alone; one that is never out of memory also says so by `Sure` and `is_sure`.
 ///
 /// ```
 /// impl Recalc for Ones {
@@ -28,7 +27,7 @@ pub trait Recalc {
     /// Which values fit a workbook.
     ghost Fits: { Book → Values → Type 0 };
 
-    /// That it is never out of memory.
+    /// `compute` never returns `NoMemory`.
     ghost Sure: { Type 0 } = { ⊥ };
 
     /// The values of a workbook. The only error is `NoMemory`.

@@ -133,7 +133,7 @@ impl<R: Recalc + Drop> UserModel<R> {
     /// a display language that are given by their names. Its values are made.
     ///
     /// `LocaleName`, `ZoneName` and `LanguageName`, in this order, where there is none of that name,
-    /// else `NoMemory` where there is not enough. docs/MODEL.md tells where the names stand.
+    /// else `NoMemory` where there is not enough. docs/SCRIPT.md lists the names.
     ///
     /// ```
     /// let model = UserModel::new_empty(alloc, "budget", "de", "Europe/Berlin", "de", ClearAll)?;
@@ -606,8 +606,8 @@ impl<R: Recalc + Drop> UserModel<R> {
 
     /// Takes the newest step back. Without one nothing is done.
     ///
-    /// `DiffRefused` where the step was one from before entries of another copy came, and these stand
-    /// in its way, else `NoMemory` where there is not enough. An error changes nothing.
+    /// `DiffRefused` where the record is stale (another copy's entries came after it) and no longer
+    /// fits the workbook, else `NoMemory` where there is not enough. An error changes nothing.
     ///
     /// ```
     /// model.set_user_input(0, 1, 1, "3")?;
@@ -639,8 +639,8 @@ impl<R: Recalc + Drop> UserModel<R> {
         self.book.make_again(&mut self.results, &mut self.recalc)
     }
 
-    /// The bytes of all that was done since the last flush, which are then no longer kept. The only
-    /// error is `NoMemory`, and nothing has changed then.
+    /// The bytes of all records since the last flush. The queue is empty then. The only error is
+    /// `NoMemory`, and nothing has changed then.
     ///
     /// The bytes carry the workbook at the flush before, and any equal to it, to the present one.
     ///
@@ -662,8 +662,8 @@ impl<R: Recalc + Drop> UserModel<R> {
         Ok(bytes)
     }
 
-    /// Takes the workbook along the bytes of another copy's queue, entry by entry. The stacks and the
-    /// queue stay.
+    /// Follows the entries that the bytes of another copy's queue spell, one by one. The stacks and
+    /// the queue stay.
     ///
     /// `ParseDiffs` exactly where the bytes are no queue's, and nothing has changed then. `DiffRefused`
     /// with the numbers of the first entry and diff that do not fit; exactly the entries before it

@@ -109,7 +109,7 @@ pub(crate) fn seen_by_hiding(
     }
 }
 
-/// A rectangle that is none.
+/// An empty rectangle, outside every sheet.
 const NOWHERE: MergedCell = MergedCell {
     row: 0,
     column: 0,
@@ -117,8 +117,8 @@ const NOWHERE: MergedCell = MergedCell {
     height: 0,
 };
 
-/// The rectangle that pasted styles get, or one that lies outside the sheet as well, where no sheet is as
-/// large as that.
+/// The rectangle that gets the pasted styles. Where a side has more lines than any sheet: an empty
+/// one, which is outside the sheet as well.
 pub(crate) fn pasted_rectangle(styles: &[Vec<Style>], range: [i32; 4]) -> MergedCell
     ensures inside { is_inside result ≡ is_inside (pasted_by (map (λ row. row.items) styles.now) range) }
     ensures area { is_inside result ≡ true → result ≡ pasted_by (map (λ row. row.items) styles.now) range }

@@ -22,6 +22,11 @@ found_holds p P (y ∷ xs) all x h = by_test (found_holds p P xs all.1 x) (p y) 
     by_test rest true g = let same : y ≡ x = cc in subst P same all.0
     by_test rest false g = rest g
 
+-- where each item comes back, so does the list
+pub all_come_back : {S : Type 0} (P : S → Type 0) (there back : S → S) → ((x : S) → P x → back (there x) ≡ x) → (xs : List S) → AllByRecursion P xs → map back (map there xs) ≡ xs
+all_come_back P there back each [] all = refl
+all_come_back P there back each (x ∷ xs) all = λ i. each x all.0 i ∷ all_come_back P there back each xs all.1 i
+
 module _ {S : Type 0} (id_of : S → ℕ) where
   -- the item of an id
   abbrev pub found_by : ℕ → List S → Option S

@@ -1,14 +1,8 @@
--- What maps hold that stand under the ids of sheets.
-use Rattle.std.proofs.Common.{◌≡◌, ℕ, T, Bool, true, false, cond, List, [], ◌∷◌, map, Option, Some, None, refl, ap, sym, subst, ◌∙◌}
+-- What maps of places hold that stand under the ids of sheets.
+use Rattle.std.proofs.Common.{◌≡◌, ℕ, List, map, refl}
 use Rattle.std.specs.Prelude.{◌==◌, IfSome}
-use Rattle.std.specs.Option.{option_or}
-use Rattle.std.specs.List.{fold, find as first, IsDistinct}
-use Rattle.std.specs.declared.cmp.Ordering.{Ordering}
-use Rattle.std.specs.declared.cmp.Ordering.TheVariants.{Less, Equal, Greater}
-use Rattle.std.specs.Ordering.{nat_cmp, ordering_then, is_eq, eq_by_cmp}
-use Rattle.std.specs.Cmp.{nat_cmp_total, unsigned_Decides}
-use Rattle.std.specs.FinMap.{FinMap, empty, entries, entries_sorted, get, get-empty, get-entries, get-insert, insert, nat_cmp-IsAntisymmetric}
-use Rattle.std.specs.FinMap.Entries.{find, is_sorted}
+use Rattle.std.specs.List.{find as first, IsDistinct}
+use Rattle.std.specs.FinMap.{FinMap, get}
 use Rattle.base_values.specs.declared.Position.{Position}
 use Rattle.base_values.specs.Places.{position_cmp}
 use Rattle.base_values.specs.laws.Places.{position_total, exact_positions}
@@ -16,85 +10,16 @@ use Rattle.base_maps.specs.declared.sheet_place.SheetPlace.{SheetPlace}
 use Rattle.base_maps.specs.Carried.{if_there}
 use Rattle.base_maps.specs.SheetPlaces.{sheet_place_cmp}
 use Rattle.base_maps.specs.Tagged.{place_on, put_under, all_under}
-use Rattle.base_maps.specs.laws.Found.{not_again}
-use Rattle.base_maps.specs.laws.Keys.{one_key, own_key, apart_keys, first_once, sorted_rest}
 use Rattle.base_maps.specs.laws.SheetPlaces.{sheet_place_total}
-
--- ids that compare alike are one
-ids_alike : (id n : ℕ) → eq_by_cmp nat_cmp n id ≡ (id == n)
-ids_alike id n = by_test (id == n) refl
-  where
-    by_test : (b : Bool) → (id == n) ≡ b → eq_by_cmp nat_cmp n id ≡ b
-    by_test true h = ap (eq_by_cmp nat_cmp n) ((unsigned_Decides id n).0 h) ∙ own_key nat_cmp nat_cmp_total nat_cmp-IsAntisymmetric n
-    by_test false h = apart_keys nat_cmp nat_cmp_total nat_cmp-IsAntisymmetric n id (λ same. let yes : (id == n) ≡ true = (unsigned_Decides id n).1 (sym same) in absurd (cc))
-
-both_alike : (o r : Ordering) → is_eq (ordering_then o r) ≡ cond (is_eq o) (is_eq r) false
-both_alike Less r = refl
-both_alike Equal r = refl
-both_alike Greater r = refl
-
-keys_alike : (id n : ℕ) (p q : Position) → eq_by_cmp sheet_place_cmp (place_on n p) (place_on id q) ≡ cond (id == n) (eq_by_cmp position_cmp p q) false
-keys_alike id n p q = both_alike (nat_cmp n id) (position_cmp p q) ∙ ap (λ b. cond b (eq_by_cmp position_cmp p q) false) (ids_alike id n)
-
-test_of : (b : Bool) → T b → b ≡ true
-test_of true h = refl
-test_of false h = absurd h
+use Rattle.base_maps.specs.laws.Under.{put_under_are as put_keys_under_are, get-all_under as get-all_keys_under}
 
 module _ {X : Type 0} where
-  put_at : (id : ℕ) (es : List (Position × X)) → is_sorted position_cmp es ≡ true → (own : FinMap sheet_place_cmp X) (n : ℕ) (p : Position) →
-      get (fold (λ made (e : Position × X). insert made (place_on id e.0) e.1) own es) (place_on n p) ≡ option_or (cond (id == n) (find position_cmp p es) None) (get own (place_on n p))
-  put_at id [] sorted own n p = elim (id == n) as (λ b. get own (place_on n p) ≡ option_or (cond b None None) (get own (place_on n p))) [ true ↦ refl | false ↦ refl ]
-  put_at id (e ∷ es) sorted own n p =
-      put_at id es (sorted_rest position_cmp e es sorted) (insert own (place_on id e.0) e.1) n p
-      ∙ ap (option_or (cond (id == n) (find position_cmp p es) None)) (get-insert sheet_place_total own (place_on id e.0) e.1 (place_on n p) ∙ ap (λ b. cond b (Some e.1) (get own (place_on n p))) (keys_alike id n p e.0))
-      ∙ by_key (id == n) (eq_by_cmp position_cmp p e.0) refl
-    where
-      by_key : (b c : Bool) → eq_by_cmp position_cmp p e.0 ≡ c →
-          option_or (cond b (find position_cmp p es) None) (cond (cond b c false) (Some e.1) (get own (place_on n p))) ≡ option_or (cond b (cond c (Some e.1) (find position_cmp p es)) None) (get own (place_on n p))
-      by_key false c same = refl
-      by_key true false same = refl
-      by_key true true same =
-          ap (λ o. option_or o (Some e.1)) (ap (λ k. find position_cmp k es) (one_key position_cmp position_total exact_positions p e.0 same) ∙ first_once position_cmp e es sorted)
+  -- what holds of the values of a map and of those it is put among holds of all
+  pub put_under_are : (P : X → Type 0) (id : ℕ) (m : FinMap position_cmp X) (own : FinMap sheet_place_cmp X) → ((p : Position) → IfSome (get m p) P) → ((k : SheetPlace) → IfSome (get own k) P)
+      → (k : SheetPlace) → IfSome (get (put_under id m own) k) P
+  put_under_are P id m own h i k = put_keys_under_are position_total exact_positions sheet_place_total place_on (λ id n p q. refl) P id m own h i k.sheet k.place
 
-  -- what stands at a place of a sheet, when a map was put under an id
-  pub get-put_under : (id : ℕ) (m : FinMap position_cmp X) (own : FinMap sheet_place_cmp X) (n : ℕ) (p : Position) → get (put_under id m own) (place_on n p) ≡ option_or (cond (id == n) (get m p) None) (get own (place_on n p))
-  get-put_under id m own n p =
-      put_at id (entries m) (test_of _ (entries_sorted m)) own n p ∙ ap (λ o. option_or (cond (id == n) o None) (get own (place_on n p))) (sym (get-entries m p))
-
-  -- what holds of the values of both holds of those
-  pub put_under_are : (P : X → Type 0) (id : ℕ) (m : FinMap position_cmp X) (own : FinMap sheet_place_cmp X) → ((p : Position) → IfSome (get m p) P) → ((k : SheetPlace) → IfSome (get own k) P) → (k : SheetPlace) → IfSome (get (put_under id m own) k) P
-  put_under_are P id m own h i k = subst (λ o. IfSome o P) (sym (get-put_under id m own k.sheet k.place)) (by_id (id == k.sheet))
-    where
-      by_value : (o : Option X) → IfSome o P → IfSome (option_or o (get own k)) P
-      by_value None held = i k
-      by_value (Some x) held = held
-
-      by_id : (b : Bool) → IfSome (option_or (cond b (get m k.place) None) (get own k)) P
-      by_id true = by_value (get m k.place) (h k.place)
-      by_id false = i k
-
-  module _ {S : Type 0} (id_of : S → ℕ) (map_of : S → FinMap position_cmp X) where
-    all_at : (items : List S) (own : FinMap sheet_place_cmp X) → IsDistinct ◌==◌ (map id_of items) → (n : ℕ) (p : Position) →
-        get (fold (λ made item. put_under (id_of item) (map_of item) made) own items) (place_on n p) ≡ option_or (if_there (first (λ item. id_of item == n) items) (λ item. get (map_of item) p)) (get own (place_on n p))
-    unfolding IsDistinct
-    all_at [] own distinct n p = refl
-    all_at (item ∷ items) own distinct n p =
-        all_at items (put_under (id_of item) (map_of item) own) distinct.1 n p
-        ∙ ap (option_or (if_there (first (λ item. id_of item == n) items) (λ item. get (map_of item) p))) (get-put_under (id_of item) (map_of item) own n p)
-        ∙ by_test (id_of item == n) refl
-      where
-        by_test : (b : Bool) → (id_of item == n) ≡ b →
-            option_or (if_there (first (λ item. id_of item == n) items) (λ item. get (map_of item) p)) (option_or (cond b (get (map_of item) p) None) (get own (place_on n p)))
-            ≡ option_or (if_there (cond b (Some item) (first (λ item. id_of item == n) items)) (λ item. get (map_of item) p)) (get own (place_on n p))
-        by_test true it = ap (λ o. option_or (if_there o (λ item. get (map_of item) p)) (option_or (get (map_of item) p) (get own (place_on n p)))) (not_again id_of item items distinct.0 n it)
-        by_test false other = refl
-
-    -- under each id stands the map of the item that is found by it, and nothing else
-    pub get-all_under : (items : List S) → IsDistinct ◌==◌ (map id_of items) → (n : ℕ) (p : Position) → get (all_under id_of map_of items) (place_on n p) ≡ if_there (first (λ item. id_of item == n) items) (λ item. get (map_of item) p)
-    get-all_under items distinct n p =
-        all_at items empty distinct n p ∙ ap (option_or (if_there (first (λ item. id_of item == n) items) (λ item. get (map_of item) p))) (get-empty sheet_place_cmp (place_on n p))
-        ∙ by_value (if_there (first (λ item. id_of item == n) items) (λ item. get (map_of item) p))
-      where
-        by_value : (o : Option X) → option_or o None ≡ o
-        by_value None = refl
-        by_value (Some x) = refl
+  -- under each id stands the map of the item that is found by it, and nothing else
+  pub get-all_under : {S : Type 0} (id_of : S → ℕ) (map_of : S → FinMap position_cmp X) (items : List S) → IsDistinct ◌==◌ (map id_of items) → (n : ℕ) (p : Position)
+      → get (all_under id_of map_of items) (place_on n p) ≡ if_there (first (λ item. id_of item == n) items) (λ item. get (map_of item) p)
+  get-all_under id_of map_of items distinct n p = get-all_keys_under position_total exact_positions sheet_place_total place_on (λ id n p q. refl) id_of map_of items distinct n p

@@ -92,6 +92,11 @@ module _ {K X : Type 0} {R : K → K → Ordering} {D : K → K → Bool} {E : X
       Decides-like _ (same_entries_map m n) (ap entries)
       (pointwise_decides (λ p q. Decides-like _ (λ h i. (h.0 i, h.1 i)) (λ e. (ap (λ x. x.0) e, ap (λ x. x.1) e)) (Decides-and _ _ (one p.0 q.0) (same p.1 q.1))) (entries m) (entries n))
 
+-- equality of what stands for finite maps is told by those
+pub same_seen_decides : {K X M : Type 0} {R : K → K → Ordering} {D : K → K → Bool} {E : X → X → Bool} (made : FinMap R X → M) (seen : M → FinMap R X) → ((map : M) → made (seen map) ≡ map)
+    → ((a b : K) → Decides (D a b) (a ≡ b)) → ((a b : X) → Decides (E a b) (a ≡ b)) → (a b : M) → Decides (same_entries D E (seen a) (seen b)) (a ≡ b)
+same_seen_decides made seen made_seen one same a b = Decides-like _ (λ e. sym (made_seen a) ∙ ap made e ∙ made_seen b) (ap seen) (same_entries_decides one same (seen a) (seen b))
+
 pub IsOrdered-same : {K X : Type 0} (R : K → K → Ordering) (m n : BTreeMap K X) → n.entries ≡ m.entries → IsOrdered R m → IsOrdered R n
 IsOrdered-same R m n e h = subst (λ es. IsStrictlySortedBy R (keys_of es)) (sym e) h
 

@@ -12,7 +12,7 @@ use Rattle.std.proofs.lemmas.Str.{is_utf8-from_IsUtf8}
 use mir.Val.{bits}
 use Rattle.std.proofs.Math.Facts.{Fits-of_z}
 use Rattle.base_wire.specs.laws.Sixteen.{from_be_bytes-to_be_bytes_16}
-use Rattle.base_wire.specs.Reading.{Reader, after, whole, map_at, ◌⊗◌, check_at, byte_at, decoded, coded_at, code_at, number_at, signed_at, text_at, option_at, many_at, list_at}
+use Rattle.base_wire.specs.laws.Reading.{Reader, after, whole, map_at, ◌⊗◌, check_at, byte_at, decoded, coded_at, code_at, number_at, signed_at, text_at, option_at, many_at, list_at}
 use Rattle.base_wire.specs.Spelling.{spell_signed, spell_code, spell_text, spell_option, spell_list, spell_both, Any, Both, FitsText, FitsItems}
 
 -- what is spelled is read again

@@ -1,14 +1,15 @@
 -- Parts whose values fit where they pass a test, and how their laws are made from those of their own parts.
 use Rattle.std.proofs.Common.{◌≡◌, ℕ, ◌^◌, ◌≤◌, ◌&&◌, ltb, Bool, true, List, [], ◌∷◌, length, Option, Some, None, refl}
-use Rattle.std.specs.Prelude.{IfSome, nat_lt}
+use Rattle.std.specs.Prelude.{IfSome}
 use Rattle.std.specs.List.{list_all, AllByRecursion}
 use Rattle.std.specs.Str.{is_utf8}
 use Rattle.std.proofs.lemmas.Bool.{and_parts, and_from, ltb-true, lt-ltb}
 use Rattle.std.proofs.lemmas.Str.{is_utf8-from_IsUtf8, IsUtf8-from_is_utf8}
 use Rattle.base_decimal.specs.Canonical.{is_canonical}
-use Rattle.base_wire.specs.Reading.{Reader, ◌⊗◌, map_at, text_at, option_at, list_at, code_at, decoded, coded_at}
+use Rattle.base_wire.specs.laws.Reading.{Reader, ◌⊗◌, map_at, text_at, option_at, list_at, code_at, decoded, coded_at, decimal_at}
 use Rattle.base_wire.specs.Spelling.{spell_code, spell_text, spell_option, spell_list, FitsText, FitsItems}
-use Rattle.base_wire.specs.Parts.{spell_decimal, decimal_at}
+use Rattle.base_wire.specs.Parts.{spell_decimal}
+use Rattle.base_wire.specs.Forms.{if_passes, is_text, is_list}
 use Rattle.base_wire.specs.laws.Format.{Format}
 use Rattle.base_wire.specs.laws.Again.{ReadsAgain, both_again, map_again, coded_again, text_again, option_again, list_again}
 use Rattle.base_wire.specs.Spelling.{spell_both}
@@ -38,19 +39,6 @@ always x = true
 -- both parts pass
 abbrev pub both_pass : {A B : Type 0} → (A → Bool) → (B → Bool) → A × B → Bool
 both_pass p q x = p x.0 && q x.1
-
--- nothing, or a value that passes
-abbrev pub if_passes : {A : Type 0} → (A → Bool) → Option A → Bool
-if_passes test None = true
-if_passes test (Some x) = test x
-
--- a text of Rust
-abbrev pub is_text : List ℕ → Bool
-is_text text = nat_lt (length text) (2 ^ 64) && is_utf8 text
-
--- a list of Rust, whose items pass
-abbrev pub is_list : {A : Type 0} → (A → Bool) → List A → Bool
-is_list test xs = nat_lt (length xs) (2 ^ 64) && list_all test xs
 
 pub both_form : {A B : Type 0} {p : A → Bool} {q : B → Bool} {s : A → List ℕ} {t : B → List ℕ} {r : Reader A} {n : Reader B} → Form p s r → Form q t n → Form (both_pass p q) (spell_both s t) (r ⊗ n)
 both_form {p} {q} one two = form_of (both_again one.again two.again) (both_spelled one.spelled two.spelled) (both_plain one.plain two.plain) (λ x h. and_parts (p x.0) (q x.1) h) (λ x h. and_from (p x.0) (q x.1) h.0 h.1)

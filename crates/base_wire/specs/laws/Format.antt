@@ -5,7 +5,7 @@ use Rattle.base_values.specs.Answers.{Answers}
 use Rattle.base_values.specs.declared.EditError.{EditError}
 use Rattle.base_values.specs.declared.EditError.TheVariants.{NoMemory, ParseDiffs}
 use Rattle.base_wire.specs.Reads.{Read, Reads, BeginsWithNone}
-use Rattle.base_wire.specs.Reading.{Reader, option_at, list_at}
+use Rattle.base_wire.specs.laws.Reading.{Reader, option_at, list_at}
 use Rattle.base_wire.specs.Spelling.{spell_option, spell_list, FitsItems}
 use Rattle.base_wire.specs.laws.Again.{ReadsAgain, option_again, list_again}
 use Rattle.base_wire.specs.laws.Spelled.{ReadsSpelled, IsSpelled, IsBytes, option_spelled, list_spelled}

@@ -2,7 +2,7 @@
 use Rattle.std.proofs.Common.{◌≡◌, List, ◌++◌, ℕ, Bool, true, Ok, ap, sym, subst, ◌∙◌}
 use Rattle.std.specs.Prelude.{nat_eq}
 use Rattle.std.specs.Cmp.Lexicographic.{pointwise}
-use Rattle.base_wire.specs.Reading.{Reader, map_at, ◌⊗◌, check_at, after}
+use Rattle.base_wire.specs.laws.Reading.{Reader, map_at, ◌⊗◌, check_at, after}
 use Rattle.base_wire.specs.Spelling.{Both, spell_both}
 use Rattle.base_wire.specs.laws.Again.{ReadsAgain, both_again, check_again, after_again}
 use Rattle.base_wire.specs.laws.Spelled.{ReadsSpelled, IsSpelled, bind_ok, ok_is, both_spelled, check_spelled, after_spelled}

@@ -3,7 +3,7 @@ use Rattle.std.proofs.Common.{◌≡◌, ℕ, suc, ◌-◌, ◌+◌, ◌≤◌, 
 use Rattle.std.proofs.lemmas.List.{append-nil}
 use Rattle.base_values.specs.declared.EditError.{EditError}
 use Rattle.base_wire.specs.Reads.{Read}
-use Rattle.base_wire.specs.Reading.{Reader, ◌>>=◌, many_at}
+use Rattle.base_wire.specs.laws.Reading.{Reader, ◌>>=◌, many_at}
 
 -- what was read before, and what is still read
 abbrev pub with_front : {A : Type 0} → List A → Read (List A) → Read (List A)

@@ -11,10 +11,10 @@ use Rattle.base_tables.specs.Error.{all_errors, error_code, error_of_code}
 use Rattle.base_tables.specs.laws.Tables.{found_number}
 use Rattle.base_decimal.specs.declared.Decimal.{Decimal}
 use Rattle.base_decimal.specs.Canonical.{is_canonical, IsCanonical}
-use Rattle.base_wire.specs.Reading.{decoded, byte_at, number_at, signed_at, text_at}
-use Rattle.base_wire.specs.Spelling.{spell_code, boolean_code, booleans, spell_signed, spell_text, spell_option, FitsText}
+use Rattle.base_wire.specs.laws.Reading.{decoded, byte_at, number_at, signed_at, text_at, booleans, boolean_at, error_at, decimal_made, decimal_at}
+use Rattle.base_wire.specs.Spelling.{spell_code, boolean_code, spell_signed, spell_text, spell_option, FitsText}
 use Rattle.base_wire.specs.laws.Format.{Format}
-use Rattle.base_wire.specs.Parts.{boolean_at, error_at, spell_decimal, decimal_made, decimal_at}
+use Rattle.base_wire.specs.Parts.{spell_decimal}
 use Rattle.base_wire.specs.laws.Again.{ReadsAgain, both_again, map_again, check_again, byte_again, coded_again, code_again, wide32, wide64, wide128, number_again, signed_again, text_again}
 use Rattle.base_wire.specs.Spelling.{Any}
 use Rattle.base_wire.specs.laws.Spelled.{ReadsSpelled, both_spelled, map_spelled, fits_otherwise, check_spelled, byte_spelled, coded_spelled, code_spelled, back32, back64, back128, number_spelled, signed_spelled, text_spelled}

@@ -6,7 +6,7 @@ use Rattle.std.specs.Int.{Width, w64, byte_len, from_be_bytes, cast_signed}
 use Rattle.base_values.specs.declared.EditError.{EditError}
 use Rattle.base_values.specs.declared.EditError.TheVariants.{ParseDiffs}
 use Rattle.base_values.specs.Answers.{ok_or}
-use Rattle.base_wire.specs.Reading.{Reader, ◌>>=◌, refused, plain, map_at, ◌⊗◌, check_at, byte_at, tagged_at, decoded, coded_at, code_at, number_at, signed_at, bytes_at, text_at, option_of, option_at, many_at, count_at, list_at, rest_after, after, whole}
+use Rattle.base_wire.specs.laws.Reading.{Reader, ◌>>=◌, refused, plain, map_at, ◌⊗◌, check_at, byte_at, tagged_at, decoded, coded_at, code_at, number_at, signed_at, bytes_at, text_at, option_of, option_at, many_at, count_at, list_at, rest_after, after, whole}
 
 -- what is refused is refused with ParseDiffs
 abbrev pub Refuses : {A : Type 0} → Result A EditError → Type 0

@@ -16,7 +16,7 @@ use Rattle.base_values.specs.declared.EditError.{EditError}
 use Rattle.base_values.specs.declared.EditError.TheVariants.{ParseDiffs}
 use Rattle.base_values.specs.Answers.{ok_or}
 use Rattle.base_wire.specs.laws.Sixteen.{be_bytes_16, be_bytes_16_below}
-use Rattle.base_wire.specs.Reading.{Reader, ◌>>=◌, refused, plain, map_at, ◌⊗◌, check_at, byte_at, tagged_at, decoded, coded_at, code_at, number_at, signed_at, bytes_at, text_at, option_of, option_at, many_at, count_at, list_at, rest_after, after, whole}
+use Rattle.base_wire.specs.laws.Reading.{Reader, ◌>>=◌, refused, plain, map_at, ◌⊗◌, check_at, byte_at, tagged_at, decoded, coded_at, code_at, number_at, signed_at, bytes_at, text_at, option_of, option_at, many_at, count_at, list_at, rest_after, after, whole}
 use Rattle.base_wire.specs.Spelling.{spell_signed, spell_code, spell_text, spell_option, spell_list, FitsText, FitsItems}
 use Rattle.base_wire.specs.Spelling.{Any, Both, spell_both}
 

@@ -4,6 +4,7 @@ use Rattle.std.specs.Prelude.{◌&&◌, IfSome, IsTrue, if◌then◌else◌, nat
 use Rattle.std.specs.List.{All, AllByRecursion, list_all}
 use Rattle.std.specs.FinMap.{get}
 use Rattle.std.proofs.lemmas.List.Elements.{recursion_from_All, All-from_recursion, All-map, All-weaker}
+use Rattle.std.proofs.lemmas.List.Sums.{AllPass-from_list_all}
 use Rattle.base_values.specs.declared.Position.{Position}
 use Rattle.formula_tree.specs.declared.Node.{Node}
 use Rattle.formula_tree.specs.declared.numbers.NumberRule.TheVariants.{Canonical, NotNegative}
@@ -28,8 +29,7 @@ use Rattle.format_rules.specs.laws.RuleEquals.{formatting_equals}
 use Rattle.format_rules.specs.laws.RuleTreeLaws.{changed_have, each_still}
 use Rattle.rule_lines.specs.Canonical.{AreCanonicalKept}
 use Rattle.rule_lines.specs.Rules.{RulesLie}
-use Rattle.rule_lines.specs.laws.ByIndexLaws.{items_regained, kept_are, kept_within, restored_are}
-use Rattle.sheet_rules.specs.laws.EntryLaws.{both}
+use Rattle.base_maps.specs.laws.ByIndexLaws.{items_regained, kept_are, kept_within, restored_are}
 use Rattle.book_names.specs.Renaming.{formatting_renamed, formattings_renamed, formatting_kept, own_formattings_kept, formattings_back}
 use Rattle.book_names.specs.laws.Cells.{tree_fits as fits_still}
 
@@ -158,13 +158,6 @@ part_at : (formatting part : ConditionalFormatting) (b : Bool) → (if b then No
 part_at formatting part true h = absurd (cc)
 part_at formatting part false h = let same : formatting ≡ part = cc in sym same
 
--- the rules of a list that all pass a test
-each_passes : (test : ConditionalFormatting → Bool) (formattings : List ConditionalFormatting) → list_all test formattings ≡ true
-    → AllByRecursion (λ (formatting : ConditionalFormatting). test formatting ≡ true) formattings
-each_passes test [] all = tt
-each_passes test (formatting ∷ formattings) all =
-    let parts = both (test formatting) (list_all test formattings) all in (parts.0, each_passes test formattings parts.1)
-
 module _ (there back : Reach) (old new : List ℕ) where
   abbrev there_and_back : ConditionalFormatting → ConditionalFormatting
   there_and_back formatting = formatting_renamed back new old (formatting_renamed there old new formatting)
@@ -197,7 +190,7 @@ module _ (there back : Reach) (old new : List ℕ) where
       → get (own_formattings_kept there back old new formattings) q ≡ Some part → test part ≡ true
   own_kept_passes test formattings all q part h =
       let Passes : ConditionalFormatting → Type 0 = λ (formatting : ConditionalFormatting). test formatting ≡ true in
-      subst (λ o. IfSome o Passes) h (own_parts_are Passes formattings (each_passes test formattings all) q)
+      subst (λ o. IfSome o Passes) h (own_parts_are Passes formattings (recursion_from_All Passes formattings (AllPass-from_list_all test formattings all)) q)
 
   -- and has the place of one of them
   pub own_kept_within : (formattings : List ConditionalFormatting) (q : ℕ) (part : ConditionalFormatting) → get (own_formattings_kept there back old new formattings) q ≡ Some part
@@ -209,8 +202,5 @@ module _ (there back : Reach) (old new : List ℕ) where
       → formattings_back back old new (get (own_formattings_kept there back old new formattings)) (formattings_renamed there old new formattings) ≡ formattings
   formattings_regained formattings =
       items_regained (formatting_kept there back old new) (formatting_renamed there old new) (formatting_renamed back new old) (λ _ own. own) (λ _. Unit {0})
-      (λ formatting _ h. comes_back formatting h) (λ formatting _ part h. kept_is formatting part h) formattings (nothing_known formattings)
-    where
-      nothing_known : (xs : List ConditionalFormatting) → AllByRecursion (λ _. Unit {0}) xs
-      nothing_known [] = tt
-      nothing_known (x ∷ xs) = (tt, nothing_known xs)
+      (λ formatting _ h. comes_back formatting h) (λ formatting _ part h. kept_is formatting part h) formattings
+      (recursion_from_All (λ _. Unit {0}) formattings (λ _ _ _. tt))

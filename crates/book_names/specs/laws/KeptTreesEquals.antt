@@ -8,7 +8,7 @@ use Rattle.base_values.specs.laws.KeyMap.{same_entries_decides}
 use Rattle.base_maps.specs.laws.SheetPlaceEquals.{sheet_place_equals}
 use Rattle.format_rules.specs.laws.RuleEquals.{formatting_equals}
 use Rattle.formula_tree.specs.contracts.node.Node.{the_row}
-use Rattle.index_maps.specs.laws.SheetIndexEquals.{sheet_index_equals}
+use Rattle.base_maps.specs.laws.SheetIndexEquals.{sheet_index_equals}
 use Rattle.book_names.specs.declared.kept_trees.KeptTrees.{KeptTrees}
 use Rattle.book_names.specs.contracts.kept_trees.KeptTreesPartialEq.TheImpl as kept
 

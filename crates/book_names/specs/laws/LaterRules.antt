@@ -24,27 +24,27 @@ use Rattle.book_names.specs.laws.Sheets.{all_rules_stay}
 
 module _ (old new : List ℕ) where
   -- a defined name differs from others as it did
-  same_among : (name : DefinedName) (names : List DefinedName) → list_any (is_same_name (defined_renamed old new name)) (map (defined_renamed old new) names) ≡ list_any (is_same_name name) names
+  same_among : (name : DefinedName) (names : List DefinedName) → list_any (is_same_name (defined_renamed Sheets old new name)) (map (defined_renamed Sheets old new) names) ≡ list_any (is_same_name name) names
   same_among name [] = refl
   same_among name (other ∷ names) = ap (λ b. is_same_name name other || b) (same_among name names)
 
-  same_distinct : (names : List DefinedName) → are_distinct is_same_name (map (defined_renamed old new) names) ≡ are_distinct is_same_name names
+  same_distinct : (names : List DefinedName) → are_distinct is_same_name (map (defined_renamed Sheets old new) names) ≡ are_distinct is_same_name names
   same_distinct [] = refl
   same_distinct (name ∷ names) = λ i. not (same_among name names i) && same_distinct names i
 
   -- the trees of defined names fit as they did
-  name_trees_same : (names : List DefinedName) → have_name_trees (map (defined_renamed old new) names) ≡ have_name_trees names
+  name_trees_same : (names : List DefinedName) → have_name_trees (map (defined_renamed Sheets old new) names) ≡ have_name_trees names
   unfolding have_name_trees
-  name_trees_same names = all_same (defined_renamed old new) (λ (name : DefinedName). tree_fits_at first_place name.formula) (λ (name : DefinedName). tree_fits_at first_place name.formula)
+  name_trees_same names = all_same (defined_renamed Sheets old new) (λ (name : DefinedName). tree_fits_at first_place name.formula) (λ (name : DefinedName). tree_fits_at first_place name.formula)
       (λ name. tree_fits Sheets old new first_place name.formula) names
 
   -- and they keep their rules
-  names_same : (ids : List ℕ) (names : List DefinedName) → are_names ids (map (defined_renamed old new) names) ≡ are_names ids names
+  names_same : (ids : List ℕ) (names : List DefinedName) → are_names ids (map (defined_renamed Sheets old new) names) ≡ are_names ids names
   unfolding are_names
   names_same ids names = λ i.
-      all_same (defined_renamed old new) (λ (name : DefinedName). is_defined_name name.name) (λ (name : DefinedName). is_defined_name name.name) (λ name. refl) names i
+      all_same (defined_renamed Sheets old new) (λ (name : DefinedName). is_defined_name name.name) (λ (name : DefinedName). is_defined_name name.name) (λ name. refl) names i
       && same_distinct names i
-      && all_same (defined_renamed old new) (has_living_scope ids) (has_living_scope ids) (λ name. refl) names i
+      && all_same (defined_renamed Sheets old new) (has_living_scope ids) (has_living_scope ids) (λ name. refl) names i
 
 -- the later workbook breaks no rule
 pub renamed_well_formed : (id : ℕ) (old new : List ℕ) (book : Book) → IsWellFormed book → may_be_named id new book.worksheets ≡ true → IsWellFormed (book_renamed id old new book)
@@ -56,4 +56,4 @@ renamed_well_formed id old new book rules may =
     (sheets_stay id old new book.worksheets name.0 (not_true (is_taken id new book.worksheets) name.1) parts.sheets)
     (all_rules_stay id old new book.worksheets (all_keep book rules))
     (name_trees_same old new book.names ∙ parts.name_trees)
-    (ap (λ ids. are_names ids (map (defined_renamed old new) book.names)) (same_ids id old new book.worksheets) ∙ names_same old new (ids_of book.worksheets) book.names ∙ parts.names)
+    (ap (λ ids. are_names ids (map (defined_renamed Sheets old new) book.names)) (same_ids id old new book.worksheets) ∙ names_same old new (ids_of book.worksheets) book.names ∙ parts.names)

@@ -1,19 +1,16 @@
 -- The numbers of renamed trees, of kept ones and of those that come back are canonical.
-use Rattle.std.proofs.Common.{◌≡◌, ℕ, ◌+◌, List, [], ◌∷◌, map, Option, Some, None, refl, sym, subst}
+use Rattle.std.proofs.Common.{◌≡◌, ℕ, List, [], ◌∷◌, map, Option, Some, None, refl, sym, subst}
 use Rattle.std.specs.Prelude.{IsTrue, IfSome}
-use Rattle.std.specs.Cmp.{nat_cmp_total}
-use Rattle.std.specs.List.{AllByRecursion, cons_option, enumerate_from}
-use Rattle.std.specs.Option.{option_map}
-use Rattle.std.specs.Ordering.{nat_cmp}
-use Rattle.std.specs.FinMap.{FinMap, get-from_entries}
+use Rattle.std.specs.List.{AllByRecursion}
+use Rattle.std.specs.FinMap.{FinMap}
 use Rattle.std.proofs.lemmas.List.Elements.{All-from_recursion, recursion_from_All}
 use Rattle.base_values.specs.declared.Position.{Position}
 use Rattle.base_values.specs.Places.{position_cmp}
 use Rattle.base_values.specs.laws.Places.{position_total, exact_positions}
-use Rattle.base_maps.specs.Carried.{if_there, settled}
+use Rattle.base_maps.specs.Carried.{if_there}
+use Rattle.base_maps.specs.laws.ByIndexLaws.{restored_are}
 use Rattle.base_maps.specs.laws.Each.{each_found, each_gathered}
 use Rattle.base_maps.specs.laws.Inverses.{own_inverse}
-use Rattle.base_maps.specs.laws.Known.{found_known}
 use Rattle.formula_tree.specs.declared.Node.{Node}
 use Rattle.formula_tree.specs.declared.numbers.NumberRule.TheVariants.{Canonical}
 use Rattle.formula_tree.specs.Numbers.{has_canonical_numbers}
@@ -21,7 +18,6 @@ use Rattle.formula_names.specs.declared.Reach.{Reach}
 use Rattle.formula_names.specs.declared.Reach.TheVariants.{Sheets}
 use Rattle.formula_names.specs.Renamed.{naming, tree_renamed, tree_kept}
 use Rattle.formula_names.specs.laws.NamedLaws.{numbers-named}
-use Rattle.formula_names.specs.laws.RenamedLaws.{something_kept}
 use Rattle.cell_content.specs.declared.Content.{Content}
 use Rattle.cell_content.specs.CanonicalContent.{IsCanonicalContent}
 use Rattle.cell_content.specs.Lens.{tree_of}
@@ -32,8 +28,8 @@ use Rattle.sheet_grid.specs.declared.Cell.{Cell}
 use Rattle.sheet_grid.specs.CanonicalCell.{IsCanonicalCell, CanonicalCells}
 use Rattle.sheet_lines.specs.CanonicalNumbers.{AreCanonicalFormulas}
 use Rattle.book_names.specs.laws.Cells.{renamed_none, renamed_some}
-use Rattle.book_names.specs.laws.Names.{listed}
-use Rattle.book_names.specs.Renaming.{content_renamed, cell_renamed, cells_renamed, cell_kept, cells_kept, cell_back, cells_back, defined_renamed, names_kept, defined_back, names_back}
+use Rattle.book_names.specs.laws.Names.{part_is, name_parts_are}
+use Rattle.book_names.specs.Renaming.{content_renamed, cell_renamed, cells_renamed, cell_kept, cells_kept, cell_back, cells_back, defined_renamed, names_kept, with_kept_tree, names_back}
 
 abbrev pub HasCanonicalNumbers : Node → Type 0
 HasCanonicalNumbers tree = IsTrue (has_canonical_numbers tree)
@@ -57,48 +53,27 @@ module _ (reach : Reach) (old new : List ℕ) where
       (λ p q cell there held. cell_numbers cell (each_found position_cmp (λ _. IsCanonicalCell) cells h p cell held))
 
 module _ (there back : Reach) (old new : List ℕ) where
-  kept_numbers : (tree : Node) (o : Option Node) → tree_kept there back old new tree ≡ o → HasCanonicalNumbers tree → IfSome o HasCanonicalNumbers
-  kept_numbers tree None is h = tt
-  kept_numbers tree (Some part) is h = subst HasCanonicalNumbers (sym (something_kept there back old new tree part is).itself) h
-
-  -- what is kept of a tree has canonical numbers
-  pub part_numbers : (tree : Node) → HasCanonicalNumbers tree → IfSome (tree_kept there back old new tree) HasCanonicalNumbers
-  part_numbers tree h = kept_numbers tree (tree_kept there back old new tree) refl h
-
   cell_part : (o : Option Node) → IfSome o HasCanonicalNumbers → IfSome (if_there o (tree_kept there back old new)) HasCanonicalNumbers
   cell_part None h = tt
-  cell_part (Some tree) h = part_numbers tree h
+  cell_part (Some tree) h = part_is HasCanonicalNumbers there back old new tree h
 
-  -- so has what is kept of the cells of a sheet
+  -- what is kept of the cells of a sheet has canonical numbers
   pub cells_kept_numbers : (cells : FinMap position_cmp Cell) → CanonicalCells cells → AreCanonicalFormulas (cells_kept there back old new cells)
   cells_kept_numbers cells h = each_gathered position_cmp position_total exact_positions (λ _. HasCanonicalNumbers) Some Some own_inverse (λ _ _ cell. cell_kept there back old new cell) cells
       (λ p q cell here held. cell_part (tree_of cell.content) (tree_of-kept cell.content (each_found position_cmp (λ _. IsCanonicalCell) cells h p cell held)))
 
 module _ (old new : List ℕ) where
   -- and the defined names
-  names_by : (names : List DefinedName) → AllByRecursion IsCanonicalName names → AllByRecursion IsCanonicalName (map (defined_renamed old new) names)
+  names_by : (names : List DefinedName) → AllByRecursion IsCanonicalName names → AllByRecursion IsCanonicalName (map (defined_renamed Sheets old new) names)
   names_by [] all = tt
   names_by (name ∷ names) all = (tree_numbers Sheets old new name.formula all.0, names_by names all.1)
 
-  pub names_numbers : (names : List DefinedName) → AreCanonicalNames names → AreCanonicalNames (map (defined_renamed old new) names)
-  names_numbers names all = All-from_recursion IsCanonicalName (map (defined_renamed old new) names) (names_by names (recursion_from_All IsCanonicalName names all))
+  pub names_numbers : (names : List DefinedName) → AreCanonicalNames names → AreCanonicalNames (map (defined_renamed Sheets old new) names)
+  names_numbers names all = All-from_recursion IsCanonicalName (map (defined_renamed Sheets old new) names) (names_by names (recursion_from_All IsCanonicalName names all))
 
--- what is kept of defined names has canonical numbers
-module _ (old new : List ℕ) where
-  with_part : (at : ℕ) (o : Option Node) (rest : List (ℕ × Node)) → IfSome o HasCanonicalNumbers → AllByRecursion (λ (entry : ℕ × Node). HasCanonicalNumbers entry.1) rest
-      → AllByRecursion (λ (entry : ℕ × Node). HasCanonicalNumbers entry.1) (cons_option (option_map (λ tree. (at, tree)) o) rest)
-  with_part at None rest part all = all
-  with_part at (Some tree) rest part all = (part, all)
-
-  listed_numbers : (at : ℕ) (names : List DefinedName) → AllByRecursion IsCanonicalName names → AllByRecursion (λ (entry : ℕ × Node). HasCanonicalNumbers entry.1) (listed old new at names)
-  listed_numbers at [] all = tt
-  listed_numbers at (name ∷ names) all =
-      with_part at (tree_kept Sheets Sheets old new name.formula) (listed old new (at + 1) names) (part_numbers Sheets Sheets old new name.formula all.0) (listed_numbers (at + 1) names all.1)
-
+  -- and what is kept of them
   pub names_kept_numbers : (names : List DefinedName) → AreCanonicalNames names → AreCanonicalFormulas (names_kept old new names)
-  names_kept_numbers names all q =
-      subst (λ o. IfSome o HasCanonicalNumbers) (sym (get-from_entries nat_cmp_total (listed old new 0 names) q))
-      (found_known nat_cmp HasCanonicalNumbers (listed old new 0 names) (listed_numbers 0 names (recursion_from_All IsCanonicalName names all)) q)
+  names_kept_numbers names all = name_parts_are HasCanonicalNumbers old new names (recursion_from_All IsCanonicalName names all)
 
 module _ (reach : Reach) (old new : List ℕ) where
   -- a cell that comes back has canonical numbers
@@ -110,14 +85,9 @@ module _ (reach : Reach) (old new : List ℕ) where
   cells_back_numbers kept cells parts h = each_gathered position_cmp position_total exact_positions (λ _. IsCanonicalCell) Some Some own_inverse (λ _ place cell. Some (cell_back reach old new (kept place) cell)) cells
       (λ p q cell there held. back_numbers (kept q) cell (parts q) (each_found position_cmp (λ _. IsCanonicalCell) cells h p cell held))
 
-  name_back_numbers : (o : Option Node) (tree : Node) → IfSome o HasCanonicalNumbers → HasCanonicalNumbers tree → HasCanonicalNumbers (settled (tree_renamed reach new old) (λ _ tree. tree) o tree)
-  name_back_numbers None tree kept h = tree_numbers reach new old tree h
-  name_back_numbers (Some part) tree kept h = kept
-
-  names_back_by : (kept : ℕ → Option Node) → ((n : ℕ) → IfSome (kept n) HasCanonicalNumbers) → (at : ℕ) (names : List DefinedName) → AllByRecursion IsCanonicalName names
-      → AllByRecursion IsCanonicalName (map (defined_back reach old new kept) (enumerate_from at names))
-  names_back_by kept parts at [] all = tt
-  names_back_by kept parts at (name ∷ names) all = (name_back_numbers (kept at) name.formula (parts at) all.0, names_back_by kept parts (at + 1) names all.1)
-
+  -- so have the defined names
   pub names_back_numbers : (kept : ℕ → Option Node) → ((n : ℕ) → IfSome (kept n) HasCanonicalNumbers) → (names : List DefinedName) → AreCanonicalNames names → AreCanonicalNames (names_back reach old new kept names)
-  names_back_numbers kept parts names all = All-from_recursion IsCanonicalName (names_back reach old new kept names) (names_back_by kept parts 0 names (recursion_from_All IsCanonicalName names all))
+  names_back_numbers kept parts names all =
+      All-from_recursion IsCanonicalName (names_back reach old new kept names)
+      (restored_are (defined_renamed reach new old) with_kept_tree IsCanonicalName IsCanonicalName HasCanonicalNumbers (λ name h. tree_numbers reach new old name.formula h) (λ _ _ h. h)
+      kept parts names (recursion_from_All IsCanonicalName names all))

@@ -11,9 +11,9 @@ use Rattle.cell_content.specs.Fitting.{tree_fits_at}
 use Rattle.format_rules.specs.declared.ConditionalFormatting.{ConditionalFormatting}
 use Rattle.format_rules.specs.Fitting.{StandsInside}
 use Rattle.format_rules.specs.laws.FittingLaws.{stands_inside}
-use Rattle.index_maps.specs.declared.SheetIndex.{SheetIndex}
-use Rattle.index_maps.specs.SheetIndexes.{sheet_index_cmp}
-use Rattle.index_maps.specs.laws.SheetIndexes.{sheet_index_total, exact_sheet_indexes}
+use Rattle.base_maps.specs.declared.SheetIndex.{SheetIndex}
+use Rattle.base_maps.specs.SheetIndexes.{sheet_index_cmp}
+use Rattle.base_maps.specs.laws.SheetIndexes.{sheet_index_total, exact_sheet_indexes}
 use Rattle.sheet_grid.specs.Sheet.{Sheet}
 use Rattle.sheet_grid.specs.Book.{Book}
 use Rattle.sheet_rules.specs.laws.EntryLaws.{both}

@@ -1,22 +1,21 @@
 -- Going back with what was kept gives the workbook.
-use Rattle.std.proofs.Common.{◌≡◌, ℕ, Bool, true, false, List, [], ◌∷◌, map, Option, Some, None, refl, ap, sym, ◌∙◌}
+use Rattle.std.proofs.Common.{◌≡◌, ℕ, Bool, true, false, List, [], ◌∷◌, Option, Some, None, refl, ap, sym, ◌∙◌}
 use Rattle.std.specs.Prelude.{◌==◌, if◌then◌else◌}
 use Rattle.std.specs.Cmp.{unsigned_Decides}
-use Rattle.std.specs.List.{AllByRecursion}
 use Rattle.std.specs.FinMap.{get}
 use Rattle.base_values.specs.declared.Position.{Position}
 use Rattle.base_values.specs.Places.{position_cmp}
 use Rattle.base_values.specs.laws.Places.{position_total, exact_positions}
 use Rattle.base_maps.specs.Carried.{if_there}
 use Rattle.base_maps.specs.Tagged.{place_on}
-use Rattle.base_maps.specs.laws.Found.{all_found}
+use Rattle.base_maps.specs.laws.Found.{all_come_back, all_found}
 use Rattle.base_maps.specs.laws.Gathering.{get-gathered}
 use Rattle.base_maps.specs.laws.Inverses.{own_inverse}
 use Rattle.base_maps.specs.laws.Tagged.{get-all_under}
 use Rattle.formula_names.specs.declared.Reach.{Reach}
 use Rattle.formula_names.specs.declared.Reach.TheVariants.{Sheets}
-use Rattle.index_maps.specs.Tagged.{index_on}
-use Rattle.index_maps.specs.laws.Tagged.{get-all_under as get-indexes_under}
+use Rattle.base_maps.specs.TaggedIndexes.{index_on}
+use Rattle.base_maps.specs.laws.TaggedIndexes.{get-all_under as get-indexes_under}
 use Rattle.sheet_grid.specs.declared.Cell.{Cell}
 use Rattle.sheet_grid.specs.Sheet.{Sheet}
 use Rattle.sheet_grid.specs.Book.{Book}
@@ -102,13 +101,9 @@ module _ (id : ℕ) (new : List ℕ) (book : Book) (distinct : HasDistinctIds bo
     formattings = sheet_formattings_regained everywhere everywhere old new book distinct s there i;
   }
 
-  all_regained : (sheets : List Sheet) → AllByRecursion (λ s. sheet_of book s.id ≡ Some s) sheets → map (sheet_back id old new kept) (map (sheet_renamed id old new) sheets) ≡ sheets
-  all_regained [] there = refl
-  all_regained (s ∷ sheets) there = λ i. sheet_regained s there.0 i ∷ all_regained sheets there.1 i
-
   -- going back with what was kept gives the workbook
   pub book_regained : book_back id old new kept (book_renamed id old new book) ≡ book
   book_regained = λ i. record book {
     names = names_regained old new book.names i;
-    worksheets = all_regained book.worksheets (all_found (λ (s : Sheet). s.id) book.worksheets distinct) i;
+    worksheets = all_come_back (λ s. sheet_of book s.id ≡ Some s) (sheet_renamed id old new) (sheet_back id old new kept) sheet_regained book.worksheets (all_found (λ (s : Sheet). s.id) book.worksheets distinct) i;
   }

@@ -5,7 +5,7 @@ use Rattle.std.specs.List.{AllByRecursion, filter_map, list_all, list_any}
 use Rattle.std.specs.Option.{option_map}
 use Rattle.std.specs.FinMap.{entries, get}
 use Rattle.base_values.specs.declared.Position.{Position}
-use Rattle.base_values.specs.Places.{is_line, position_cmp}
+use Rattle.base_values.specs.Places.{is_line, position_cmp, is_place}
 use Rattle.base_values.specs.laws.Places.{position_total, exact_positions}
 use Rattle.base_axis.specs.declared.MergedCell.{MergedCell}
 use Rattle.base_axis.specs.Rectangles.{is_inside}
@@ -23,7 +23,7 @@ use Rattle.cell_content.specs.Fitting.{fits_at}
 use Rattle.cell_content.specs.Lens.{tree_of, with_tree}
 use Rattle.cell_content.specs.laws.LensLaws.{tree_of-with_tree}
 use Rattle.format_rules.specs.Fitting.{StandsInside}
-use Rattle.index_maps.specs.Tagged.{index_on}
+use Rattle.base_maps.specs.TaggedIndexes.{index_on}
 use Rattle.sheet_grid.specs.Arrays.{array_at, arrays_of, where_large, large_array_at, large_arrays_of}
 use Rattle.sheet_grid.specs.declared.Cell.{Cell}
 use Rattle.sheet_grid.specs.declared.LineAttr.{LineAttr}
@@ -31,7 +31,7 @@ use Rattle.sheet_grid.specs.declared.Link.{Link}
 use Rattle.sheet_grid.specs.Merges.{is_empty}
 use Rattle.sheet_grid.specs.Sheet.{Sheet}
 use Rattle.sheet_rules.specs.Occupied.{are_apart, meets_any, have_arrays, is_merge, have_merges, covers, covers_blanks, are_hidden_blank}
-use Rattle.sheet_rules.specs.WellFormed.{is_place, stands_inside, have_trees, have_attributes, is_row, is_column, has_font}
+use Rattle.sheet_rules.specs.WellFormed.{stands_inside, have_trees, have_attributes, is_row, is_column, has_font}
 use Rattle.sheet_lines.specs.Sheets.{IsPlacedCell, IsPlacedSheet}
 use Rattle.book_sheets.specs.laws.SheetRules.{KeepsSheetRules}
 use Rattle.book_names.specs.declared.kept_trees.KeptTrees.{KeptTrees}

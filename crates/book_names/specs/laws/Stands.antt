@@ -1,110 +1,80 @@
 -- The conditions of a diff of a renamed sheet hold of what is kept of a well-formed workbook: the sheet is renamed, and gets its old name back.
-use Rattle.std.proofs.Common.{◌≡◌, ℕ, ◌+◌, ◌<◌, Bool, true, false, cond, ◌&&◌, List, [], ◌∷◌, map, length, suc, Option, Some, None, Ok, Err, refl, ap, sym, ◌∙◌, arith}
-use Rattle.std.specs.Prelude.{◌==◌, is_some, nat_lt, if◌then◌else◌}
+use Rattle.std.proofs.Common.{◌≡◌, ℕ, Bool, true, false, cond, ◌&&◌, List, [], ◌∷◌, map, length, suc, Option, Some, None, Ok, Err, refl, ap, sym, subst, ◌∙◌}
+use Rattle.std.specs.Prelude.{◌==◌, IfSome, is_some, nat_lt, if◌then◌else◌}
 use Rattle.std.specs.Cmp.{nat_cmp_total}
-use Rattle.std.specs.List.{cons_option, find, list_all}
-use Rattle.std.specs.Option.{option_map, option_map_or}
-use Rattle.std.specs.Ordering.{eq_by_cmp, nat_cmp}
-use Rattle.std.specs.FinMap.{FinMap, entries, get, get-from_entries}
-use Rattle.std.specs.FinMap.Entries.{find as find_entry}
-use Rattle.std.proofs.lemmas.Bool.{lt-ltb}
+use Rattle.std.specs.List.{find, list_all}
+use Rattle.std.specs.Option.{option_map_or}
+use Rattle.std.specs.Ordering.{nat_cmp}
+use Rattle.std.specs.FinMap.{FinMap, entries, get}
+use Rattle.std.proofs.lemmas.List.Elements.{recursion_from_All}
+use Rattle.std.proofs.lemmas.List.Sums.{AllPass-from_list_all}
 use Rattle.std.proofs.lemmas.Map.Lookups.{exact_unsigned}
 use Rattle.base_values.specs.declared.EditError.TheVariants.{DiffRefused}
 use Rattle.base_values.specs.declared.Position.{Position}
-use Rattle.base_values.specs.Places.{position_cmp}
+use Rattle.base_values.specs.Places.{position_cmp, is_place}
 use Rattle.base_values.specs.laws.Places.{position_total, exact_positions}
 use Rattle.base_maps.specs.Carried.{if_there}
 use Rattle.base_maps.specs.declared.SheetPlace.{SheetPlace}
 use Rattle.base_maps.specs.SheetPlaces.{sheet_place_cmp}
+use Rattle.base_maps.specs.laws.ByIndexLaws.{kept_within}
 use Rattle.base_maps.specs.laws.Found.{found_holds}
-use Rattle.base_maps.specs.laws.Keys.{one_key}
 use Rattle.base_maps.specs.laws.SheetPlaces.{sheet_place_total, exact_sheet_places}
 use Rattle.formula_tree.specs.declared.Node.{Node}
 use Rattle.formula_names.specs.declared.Reach.{Reach}
 use Rattle.formula_names.specs.declared.Reach.TheVariants.{Sheets}
-use Rattle.formula_names.specs.Renamed.{tree_kept}
-use Rattle.formula_names.specs.laws.RenamedLaws.{something_kept}
 use Rattle.cell_content.specs.Fitting.{tree_fits_at}
 use Rattle.cell_content.specs.Lens.{tree_of}
 use Rattle.defined_names.specs.declared.DefinedName.{DefinedName}
 use Rattle.format_rules.specs.declared.ConditionalFormatting.{ConditionalFormatting}
 use Rattle.format_rules.specs.Fitting.{has_fitting_trees, has_parts}
-use Rattle.index_maps.specs.declared.SheetIndex.{SheetIndex}
-use Rattle.index_maps.specs.SheetIndexes.{sheet_index_cmp}
-use Rattle.index_maps.specs.laws.SheetIndexes.{sheet_index_total, exact_sheet_indexes}
+use Rattle.base_maps.specs.declared.SheetIndex.{SheetIndex}
+use Rattle.base_maps.specs.SheetIndexes.{sheet_index_cmp}
+use Rattle.base_maps.specs.laws.SheetIndexes.{sheet_index_total, exact_sheet_indexes}
 use Rattle.sheet_grid.specs.declared.Cell.{Cell}
 use Rattle.sheet_grid.specs.Sheet.{Sheet}
 use Rattle.sheet_grid.specs.Book.{Book}
 use Rattle.sheet_grid.specs.laws.FittingCells.{entry_fits_at, CellsFit}
 use Rattle.sheet_rules.specs.Names.{first_place, have_name_trees}
-use Rattle.sheet_rules.specs.WellFormed.{is_place, stands_inside, IsWellFormed}
+use Rattle.sheet_rules.specs.WellFormed.{stands_inside, IsWellFormed}
 use Rattle.sheet_rules.specs.laws.EntryLaws.{both}
 use Rattle.sheet_rules.specs.laws.WellFormedLaws.{well_formed_parts, cells_fit_from_trees, distinct_ids_from_well_formed}
 use Rattle.sheet_lines.specs.Sheets.{sheet_of}
 use Rattle.book_sheets.specs.laws.SheetRules.{KeepsSheetRules, all_keep}
 use Rattle.book_names.specs.declared.kept_trees.KeptTrees.{KeptTrees}
-use Rattle.book_names.specs.Renaming.{cell_renamed, cells_renamed, defined_renamed, sheet_renamed, book_renamed, cell_kept, formulas_kept, everywhere, names_kept, trees_kept, book_back}
+use Rattle.book_names.specs.Renaming.{cell_renamed, cells_renamed, defined_renamed, sheet_renamed, book_renamed, cell_kept, formulas_kept, everywhere, defined_kept, names_kept, trees_kept, book_back}
 use Rattle.book_names.specs.Renaming.{formattings_renamed, own_formattings_kept, formattings_kept}
 use Rattle.book_names.specs.RenameDiffs.{stand_on_places, stand_on_parts, is_formula, tree_stands, formulas_stand, names_stand, formatting_stands, formattings_stand}
 use Rattle.book_names.specs.RenameDiffs.{lie_in_sheets, goes_forward, goes_back, rename_forward, rename_back}
 use Rattle.book_names.specs.laws.Cells.{kept_is, formula_stays}
 use Rattle.book_names.specs.laws.Entries.{all_entries, entry_holds, get_changed}
 use Rattle.book_names.specs.laws.Formattings.{same_count as same_rule_count, own_kept_passes, own_kept_within}
-use Rattle.book_names.specs.laws.Names.{listed}
+use Rattle.book_names.specs.laws.Names.{name_parts_are}
 use Rattle.book_names.specs.laws.Regained.{formulas_at, formattings_at, book_regained}
 
 -- ---- defined names
 
 module _ (old new : List ℕ) where
-  -- a kept tree is one of a defined name: its place is one of the list, and it fits A1 where all do
-  pub record IsOfName (at : ℕ) (names : List DefinedName) (q : ℕ) (tree : Node) : Type 0 where
-    pub within : q < at + length names
-    pub fits : tree_fits_at first_place tree ≡ true
+  abbrev FitsFirst : Node → Type 0
+  FitsFirst tree = tree_fits_at first_place tree ≡ true
 
-  abbrev FitFirst : List DefinedName → Type 0
-  FitFirst names = list_all (λ (name : DefinedName). tree_fits_at first_place name.formula) names ≡ true
+  -- a kept tree of a defined name fits A1, where those of all do
+  pub kept_name_fits : (names : List DefinedName) → have_name_trees names ≡ true → (q : ℕ) (tree : Node) → get (names_kept old new names) q ≡ Some tree → FitsFirst tree
+  unfolding have_name_trees
+  kept_name_fits names fit q tree h =
+      let all = AllPass-from_list_all (λ (name : DefinedName). tree_fits_at first_place name.formula) names fit in
+      subst (λ o. IfSome o FitsFirst) h (name_parts_are FitsFirst old new names (recursion_from_All (λ (name : DefinedName). FitsFirst name.formula) names all) q)
 
-  found_in : (at : ℕ) (names : List DefinedName) → FitFirst names → (q : ℕ) (tree : Node) → find_entry nat_cmp q (listed old new at names) ≡ Some tree → IsOfName at names q tree
-  found_in at [] fit q tree h = absurd (cc)
-  found_in at (name ∷ names) fit q tree h = go (found_in (at + 1) names parts.1 q tree) (tree_kept Sheets Sheets old new name.formula) refl h
-    where
-      parts : (tree_fits_at first_place name.formula ≡ true) × FitFirst names
-      parts = both (tree_fits_at first_place name.formula) (list_all (λ (other : DefinedName). tree_fits_at first_place other.formula) names) fit
-
-      more : IsOfName (at + 1) names q tree → IsOfName at (name ∷ names) q tree
-      more later = let lower = later.within in record { within = omega (arith, lower); fits = later.fits }
-
-      here : (find_entry nat_cmp q (listed old new (at + 1) names) ≡ Some tree → IsOfName (at + 1) names q tree) → (part : Node) → tree_kept Sheets Sheets old new name.formula ≡ Some part
-          → (b : Bool) → eq_by_cmp nat_cmp q at ≡ b → cond b (Some part) (find_entry nat_cmp q (listed old new (at + 1) names)) ≡ Some tree → IsOfName at (name ∷ names) q tree
-      here rest part is true same it =
-          let place : q ≡ at = one_key nat_cmp nat_cmp_total exact_unsigned q at same in
-          let own : part ≡ tree = cc in
-          record { within = omega (arith, place); fits = ap (tree_fits_at first_place) (sym own ∙ (something_kept Sheets Sheets old new name.formula part is).itself) ∙ parts.0 }
-      here rest part is false other it = more (rest it)
-
-      go : (find_entry nat_cmp q (listed old new (at + 1) names) ≡ Some tree → IsOfName (at + 1) names q tree) → (o : Option Node) → tree_kept Sheets Sheets old new name.formula ≡ o
-          → find_entry nat_cmp q (cons_option (option_map (λ t. (at, t)) o) (listed old new (at + 1) names)) ≡ Some tree → IsOfName at (name ∷ names) q tree
-      go rest None is it = more (rest it)
-      go rest (Some part) is it = here rest part is (eq_by_cmp nat_cmp q at) refl it
-
-  -- a kept tree of a defined name fits A1, and its place is one of the list
-  pub kept_of_name : (names : List DefinedName) → FitFirst names → (q : ℕ) (tree : Node) → get (names_kept old new names) q ≡ Some tree → IsOfName 0 names q tree
-  kept_of_name names fit q tree h = found_in 0 names fit q tree (sym (get-from_entries nat_cmp_total (listed old new 0 names) q) ∙ h)
-
-  same_count : (names : List DefinedName) → length (map (defined_renamed old new) names) ≡ length names
+  same_count : (names : List DefinedName) → length (map (defined_renamed Sheets old new) names) ≡ length names
   same_count [] = refl
   same_count (name ∷ names) = ap suc (same_count names)
 
   -- the kept trees of defined names stand in as many names
-  pub kept_names_stand : (names : List DefinedName) → have_name_trees names ≡ true → names_stand (names_kept old new names) (length (map (defined_renamed old new) names)) ≡ true
-  unfolding have_name_trees names_stand
+  pub kept_names_stand : (names : List DefinedName) → have_name_trees names ≡ true → names_stand (names_kept old new names) (length (map (defined_renamed Sheets old new) names)) ≡ true
+  unfolding names_stand
   kept_names_stand names fit =
-      all_entries nat_cmp nat_cmp_total exact_unsigned (λ (entry : ℕ × Node). nat_lt entry.0 (length (map (defined_renamed old new) names)) && tree_fits_at first_place entry.1) (names_kept old new names)
-      (λ q tree h.
-      let of = kept_of_name names fit q tree h in
-      let lower = of.within in
-      let count = same_count names in
-      λ i. lt-ltb q (length (map (defined_renamed old new) names)) (omega (arith, count, lower)) i && of.fits i)
+      ap (names_stand (names_kept old new names)) (same_count names)
+      ∙ all_entries nat_cmp nat_cmp_total exact_unsigned (λ (entry : ℕ × Node). nat_lt entry.0 (length names) && tree_fits_at first_place entry.1) (names_kept old new names)
+      (λ q tree h i. kept_within (defined_kept old new) names q tree h i && kept_name_fits names fit q tree h i)
 
 -- ---- cells and conditional rules
 

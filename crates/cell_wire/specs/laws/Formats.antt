@@ -8,8 +8,9 @@ use Rattle.base_values.specs.declared.Position.{Position}
 use Rattle.sheet_grid.specs.declared.Cell.{Cell}
 use Rattle.base_wire.specs.Spelling.{Any}
 use Rattle.base_wire.specs.laws.Format.{Format}
-use Rattle.cell_wire.specs.StyleBytes.{spell_color, color_at, FitsColor, spell_border_item, border_item_at, FitsBorderItem, spell_alignment, alignment_at, spell_style, style_at, FitsStyle}
-use Rattle.cell_wire.specs.CellBytes.{spell_position, position_at, FitsPosition, spell_content, spell_cell, cell_at, FitsCell}
+use Rattle.cell_wire.specs.StyleBytes.{spell_color, FitsColor, spell_border_item, FitsBorderItem, spell_alignment, spell_style, FitsStyle}
+use Rattle.cell_wire.specs.laws.Reading.{color_at, border_item_at, alignment_at, style_at, position_at, cell_at}
+use Rattle.cell_wire.specs.CellBytes.{spell_position, FitsPosition, spell_content, spell_cell, FitsCell}
 use Rattle.cell_wire.specs.laws.PartsAgain.{color_again, border_item_again, alignment_again, style_again, position_again, cell_again}
 use Rattle.cell_wire.specs.laws.PartsSpelled.{color_spelled, border_item_spelled, alignment_spelled, style_spelled, position_spelled, cell_spelled}
 use Rattle.cell_wire.specs.laws.Refusals.{color_plain, border_item_plain, alignment_plain, style_plain, position_plain, cell_plain}

@@ -4,8 +4,9 @@ use Rattle.base_axis.specs.declared.MergedCell.{MergedCell}
 use Rattle.base_wire.specs.laws.Format.{Format, list_format}
 use Rattle.base_wire.specs.laws.Formats.{both_format, made_format}
 use Rattle.base_wire.specs.laws.Parts.{signed_format, text_format}
-use Rattle.cell_wire.specs.LinkBytes.{spell_link, link_made, link_at, FitsLink}
-use Rattle.cell_wire.specs.MergeBytes.{spell_merge, merge_made, merge_at, FitsMerge, spell_merges, merges_at, FitsMerges}
+use Rattle.cell_wire.specs.LinkBytes.{spell_link, FitsLink}
+use Rattle.cell_wire.specs.laws.Reading.{link_made, link_at, merge_made, merge_at, merges_at}
+use Rattle.cell_wire.specs.MergeBytes.{spell_merge, FitsMerge, spell_merges, FitsMerges}
 
 pub link_format : Format FitsLink spell_link link_at
 unfolding link_at

@@ -14,12 +14,14 @@ use Rattle.base_styles.specs.declared.VerticalAlignment.{VerticalAlignment}
 use Rattle.base_styles.specs.declared.VerticalAlignment.TheVariants as vertical
 use Rattle.cell_content.specs.declared.Content.{Content}
 use Rattle.cell_content.specs.declared.Content.TheVariants.{Empty, Number, Boolean, Error as ErrorValue, Text, Formula, Dynamic, Array}
-use Rattle.base_wire.specs.Reading.{decoded, ◌⊗◌, signed_at}
-use Rattle.formula_wire.specs.NodeBytes.{spell_node, node_at}
+use Rattle.base_wire.specs.laws.Reading.{decoded, ◌⊗◌, signed_at}
+use Rattle.formula_wire.specs.NodeBytes.{spell_node}
+use Rattle.formula_wire.specs.laws.Reading.{node_at}
 use Rattle.formula_wire.specs.Carried.{FitsNode}
 use Rattle.base_wire.specs.Spelling.{Both, spell_both, spell_option, spell_signed}
-use Rattle.cell_wire.specs.StyleBytes.{theme_code, theme_colors, spell_color, color_at, FitsColor, spell_font, font_made, font_at, FitsFont, border_code, border_styles, spell_border_item, border_item_made, border_item_at, FitsBorderItem, spell_border, border_made, side_at, border_at, FitsBorder, horizontal_code, horizontals, vertical_code, verticals, spell_alignment, alignment_made, alignment_at, alignment_option_at, spell_style, style_made, style_at, FitsStyle}
-use Rattle.cell_wire.specs.CellBytes.{spell_position, position_made, position_at, FitsPosition, spell_content, content_at, FitsContent, spell_cell, cell_made, cell_at, FitsCell}
+use Rattle.cell_wire.specs.StyleBytes.{theme_code, spell_color, FitsColor, spell_font, FitsFont, border_code, spell_border_item, FitsBorderItem, spell_border, FitsBorder, horizontal_code, vertical_code, spell_alignment, spell_style, FitsStyle}
+use Rattle.cell_wire.specs.laws.Reading.{theme_colors, color_at, font_made, font_at, border_styles, border_item_made, border_item_at, border_made, side_at, border_at, horizontals, verticals, alignment_made, alignment_at, alignment_option_at, style_made, style_at, position_made, position_at, content_at, cell_made, cell_at}
+use Rattle.cell_wire.specs.CellBytes.{spell_position, FitsPosition, spell_content, FitsContent, spell_cell, FitsCell}
 use Rattle.base_wire.specs.laws.Again.{ReadsAgain, both_again, map_again, code_again, wide32, signed_again, text_again, option_again}
 use Rattle.base_wire.specs.Spelling.{Any}
 use Rattle.base_wire.specs.laws.Parts.{boolean_again, error_again, decimal_again}

@@ -5,13 +5,13 @@ use Rattle.std.specs.Int.{w32}
 use Rattle.base_styles.specs.declared.Color.TheVariants.{None as NoColor, Theme}
 use Rattle.cell_content.specs.declared.Content.TheVariants.{Empty, Number, Boolean, Error as ErrorValue, Text, Formula, Dynamic}
 use Rattle.base_wire.specs.Spelling.{spell_option}
-use Rattle.cell_wire.specs.StyleBytes.{theme_code, theme_colors, spell_color, color_at, FitsColor, spell_font, font_made, font_at, FitsFont, border_code, border_styles, spell_border_item, border_item_made, border_item_at, FitsBorderItem, spell_border, border_made, side_at, border_at, FitsBorder, horizontal_code, horizontals, vertical_code, verticals, spell_alignment, alignment_made, alignment_at, alignment_option_at, spell_style, style_made, style_at, FitsStyle}
-use Rattle.cell_wire.specs.CellBytes.{spell_position, position_made, position_at, FitsPosition, spell_content, content_at, FitsContent, spell_cell, cell_made, cell_at, FitsCell}
-use Rattle.cell_wire.specs.StyleBytes.{rgb, color_of}
-use Rattle.cell_wire.specs.CellBytes.{array_made, content_of}
-use Rattle.base_wire.specs.Reading.{◌⊗◌, signed_at}
+use Rattle.cell_wire.specs.StyleBytes.{theme_code, spell_color, FitsColor, spell_font, FitsFont, border_code, spell_border_item, FitsBorderItem, spell_border, FitsBorder, horizontal_code, vertical_code, spell_alignment, spell_style, FitsStyle}
+use Rattle.cell_wire.specs.laws.Reading.{theme_colors, color_at, font_made, font_at, border_styles, border_item_made, border_item_at, border_made, side_at, border_at, horizontals, verticals, alignment_made, alignment_at, alignment_option_at, style_made, style_at, position_made, position_at, content_at, cell_made, cell_at, rgb, color_of, array_made, content_of}
+use Rattle.cell_wire.specs.CellBytes.{spell_position, FitsPosition, spell_content, FitsContent, spell_cell, FitsCell}
+use Rattle.base_wire.specs.laws.Reading.{◌⊗◌, signed_at}
 use Rattle.base_wire.specs.Spelling.{Any, Both, spell_both, spell_signed}
-use Rattle.formula_wire.specs.NodeBytes.{spell_node, node_at}
+use Rattle.formula_wire.specs.NodeBytes.{spell_node}
+use Rattle.formula_wire.specs.laws.Reading.{node_at}
 use Rattle.formula_wire.specs.Carried.{FitsNode}
 use Rattle.base_wire.specs.laws.Spelled.{ReadsSpelled, both_spelled, map_spelled, fits_otherwise, byte_spelled, code_spelled, tag_map, tag_plain, tag_refused, tag_if, tagged_spelled, option_spelled, back32, signed_spelled, text_spelled}
 use Rattle.base_wire.specs.laws.Parts.{boolean_spelled, error_spelled, decimal_spelled}

@@ -1,4 +1,4 @@
--- The names of a sheet that went come back, and those of a copy go; and the numbers of trees stay ones that a workbook keeps.
+-- The names of a sheet that went come back, and those of a copy go; and the numbers of trees stay canonical.
 use Rattle.std.proofs.Common.{◌≡◌, ℕ, ◌+◌, ◌-◌, ◌<◌, ◌==◌, Bool, true, false, cond, not, List, [], ◌∷◌, ◌++◌, length, take, drop, Option, Some, None, refl, ap, sym, subst, ◌∙◌, append_assoc, arith}
 use Rattle.std.specs.Prelude.{IfSome, All, ◌&&◌}
 use Rattle.std.specs.Cmp.{nat_cmp_total, unsigned_Decides}

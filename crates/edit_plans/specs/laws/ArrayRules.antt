@@ -7,7 +7,7 @@ use Rattle.std.specs.FinMap.{get}
 use Rattle.base_values.specs.declared.EditError.{EditError}
 use Rattle.base_values.specs.declared.EditError.TheVariants.{InvalidArea, CoveredCell, ArrayCell}
 use Rattle.base_values.specs.declared.Position.{Position}
-use Rattle.base_values.specs.Places.{position_cmp, same_position}
+use Rattle.base_values.specs.Places.{position_cmp, same_position, is_place}
 use Rattle.base_values.specs.laws.Places.{position_total, exact_positions}
 use Rattle.base_axis.specs.declared.MergedCell.{MergedCell}
 use Rattle.base_axis.specs.Rectangles.{anchor_place, has_many, holds, is_inside, meets}
@@ -22,7 +22,6 @@ use Rattle.sheet_grid.specs.Merges.{is_covered}
 use Rattle.sheet_grid.specs.Sheet.{Sheet, with_cell, shown_style}
 use Rattle.sheet_grid.specs.laws.FittingLaws.{cells_fit-put}
 use Rattle.sheet_rules.specs.Occupied.{meets_any, covers}
-use Rattle.sheet_rules.specs.WellFormed.{is_place}
 use Rattle.sheet_rules.specs.laws.HiddenLaws.{covered_by_one}
 use Rattle.sheet_rules.specs.laws.OccupiedLaws.{keeps_merges}
 use Rattle.sheet_rules.specs.laws.ShownLaws.{neither, none_in}

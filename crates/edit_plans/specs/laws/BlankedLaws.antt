@@ -5,7 +5,7 @@ use Rattle.std.specs.List.{filter, filter_map, cons_option, list_all}
 use Rattle.std.specs.Option.{option_and_then}
 use Rattle.std.specs.FinMap.{FinMap, entries, get}
 use Rattle.base_values.specs.declared.Position.{Position}
-use Rattle.base_values.specs.Places.{position_cmp, same_position}
+use Rattle.base_values.specs.Places.{position_cmp, same_position, is_place}
 use Rattle.base_values.specs.laws.Places.{position_total, exact_positions}
 use Rattle.base_axis.specs.declared.MergedCell.{MergedCell}
 use Rattle.base_axis.specs.Rectangles.{anchor_place, has_many, holds, meets}
@@ -20,7 +20,7 @@ use Rattle.sheet_grid.specs.Merges.{is_empty}
 use Rattle.sheet_grid.specs.Sheet.{Sheet}
 use Rattle.sheet_rules.specs.Occupied.{meets_any, have_arrays, have_merges, covers, are_hidden_blank}
 use Rattle.sheet_rules.specs.laws.ArraysIn.{array_in, large_array_in}
-use Rattle.sheet_rules.specs.WellFormed.{is_place, stands_inside, have_trees, has_font, have_attributes}
+use Rattle.sheet_rules.specs.WellFormed.{stands_inside, have_trees, has_font, have_attributes}
 use Rattle.sheet_rules.specs.laws.EntryLaws.{both}
 use Rattle.sheet_rules.specs.laws.OccupiedLaws.{keeps_arrays, have_arrays_from, keeps_merges, have_merges_from, keeps_hidden, are_hidden_blank_from}
 use Rattle.sheet_rules.specs.laws.ShownLaws.{no_value, all_pass, none_in}

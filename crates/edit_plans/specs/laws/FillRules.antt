@@ -10,7 +10,7 @@ use Rattle.std.specs.declared.cmp.Ordering.{Ordering}
 use Rattle.std.specs.FinMap.{FinMap, empty, entries, get, get-empty, same_map}
 use Rattle.std.proofs.lemmas.Map.Lookups.{CmpEqualImpliesEq, exact_signed}
 use Rattle.base_values.specs.declared.Position.{Position}
-use Rattle.base_values.specs.Places.{IsLine, IsPlace, is_line, position_cmp, same_position}
+use Rattle.base_values.specs.Places.{IsLine, IsPlace, is_line, position_cmp, same_position, is_place}
 use Rattle.base_values.specs.laws.Places.{position_total, exact_positions}
 use Rattle.base_axis.specs.declared.MergedCell.{MergedCell}
 use Rattle.base_axis.specs.Along.{Along, IsAxis}
@@ -31,7 +31,7 @@ use Rattle.sheet_grid.specs.laws.FittingCells.{entry_fits_at}
 use Rattle.sheet_grid.specs.Merges.{is_empty}
 use Rattle.sheet_grid.specs.Sheet.{Sheet}
 use Rattle.sheet_rules.specs.Occupied.{are_apart, are_hidden_blank, covers, have_arrays, have_merges, is_merge, meets_any}
-use Rattle.sheet_rules.specs.WellFormed.{has_font, have_attributes, have_trees, is_column, is_place, is_row, stands_inside}
+use Rattle.sheet_rules.specs.WellFormed.{has_font, have_attributes, have_trees, is_column, is_row, stands_inside}
 use Rattle.sheet_rules.specs.laws.ArraysIn.{array_in, large_array_in}
 use Rattle.sheet_rules.specs.laws.EntryLaws.{both}
 use Rattle.sheet_rules.specs.laws.HiddenLaws.{covered_by_one}

@@ -9,7 +9,7 @@ use Rattle.base_values.specs.declared.EditError.TheVariants.{CoveredCell, ArrayC
 use Rattle.base_values.specs.declared.Position.{Position}
 use Rattle.base_values.specs.Answers.{and_then, map_ok}
 use Rattle.base_values.specs.KeyMap.{with_entry}
-use Rattle.base_values.specs.Places.{is_line, place_of}
+use Rattle.base_values.specs.Places.{is_line, place_of, is_place}
 use Rattle.base_axis.specs.declared.MergedCell.{MergedCell}
 use Rattle.base_styles.specs.declared.Style.{Style}
 use Rattle.cell_content.specs.declared.Content.{Content}
@@ -24,7 +24,7 @@ use Rattle.sheet_grid.specs.laws.FittingLaws.{place_is}
 use Rattle.sheet_grid.specs.Sheet.{Sheet, with_cell, shown_style}
 use Rattle.sheet_grid.specs.Book.{Book, sheet_at, with_sheet}
 use Rattle.sheet_rules.specs.Occupied.{array_over, is_hidden_place, may_stand}
-use Rattle.sheet_rules.specs.WellFormed.{is_place, has_font, IsWellFormed}
+use Rattle.sheet_rules.specs.WellFormed.{has_font, IsWellFormed}
 use Rattle.sheet_rules.specs.laws.HiddenLaws.{shown_where_free}
 use Rattle.sheet_lines.specs.Sheets.{sheet_of}
 use Rattle.sheet_history.specs.declared.Diff.{Diff}

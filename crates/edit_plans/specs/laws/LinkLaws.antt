@@ -6,11 +6,11 @@ use Rattle.base_values.specs.declared.EditError.TheVariants.{NoMemory}
 use Rattle.base_values.specs.declared.Position.{Position}
 use Rattle.base_values.specs.Answers.{map_ok}
 use Rattle.base_values.specs.KeyMap.{with_entry}
-use Rattle.base_values.specs.Places.{place_of}
+use Rattle.base_values.specs.Places.{place_of, is_place}
 use Rattle.sheet_grid.specs.declared.Link.{Link}
 use Rattle.sheet_grid.specs.Sheet.{Sheet, link_put}
 use Rattle.sheet_grid.specs.Book.{Book, sheet_at, with_sheet}
-use Rattle.sheet_rules.specs.WellFormed.{is_place, IsWellFormed}
+use Rattle.sheet_rules.specs.WellFormed.{IsWellFormed}
 use Rattle.sheet_history.specs.declared.Diff.{Diff}
 use Rattle.sheet_history.specs.Diffs.{IsCanonicalList}
 use Rattle.sheet_history.specs.Entries.{EntryKey, with_sheet_entry, put_entry}

@@ -6,7 +6,7 @@ use Rattle.std.specs.Ordering.{int_cmp}
 use Rattle.std.specs.FinMap.{get, get-empty}
 use Rattle.std.proofs.lemmas.Int.{ints}
 use Rattle.base_values.specs.declared.Position.{Position}
-use Rattle.base_values.specs.Places.{IsPlace, is_line, position_cmp}
+use Rattle.base_values.specs.Places.{IsPlace, is_line, position_cmp, is_place}
 use Rattle.base_values.specs.laws.Places.{position_total, exact_positions}
 use Rattle.base_axis.specs.declared.MergedCell.{MergedCell}
 use Rattle.base_axis.specs.Along.{rows, columns}
@@ -22,7 +22,7 @@ use Rattle.sheet_grid.specs.declared.LineAttr.{LineAttr}
 use Rattle.sheet_grid.specs.declared.Link.{Link}
 use Rattle.sheet_grid.specs.Lines.{attr_of, is_plain, own_line_style, with_style}
 use Rattle.sheet_grid.specs.Sheet.{Sheet, cell_style, line_style as line_style_at, shown_style}
-use Rattle.sheet_rules.specs.WellFormed.{has_font, is_default, is_place}
+use Rattle.sheet_rules.specs.WellFormed.{has_font, is_default}
 use Rattle.sheet_rules.specs.laws.EntryLaws.{both}
 use Rattle.range_styles.specs.declared.Clearing.{Clearing}
 use Rattle.range_styles.specs.declared.Clearing.TheVariants.{Contents, Cells}

@@ -21,7 +21,8 @@ use Rattle.format_rules.specs.Fitting.{has_fitting_trees, has_parts}
 use Rattle.rule_edits.specs.declared.RuleChange.{RuleChange}
 use Rattle.rule_edits.specs.RuleChanges.{may_stand}
 use Rattle.rule_edits.specs.RuleEdits.{RuleEdit, rule_changes, rules_after, sheet_index_of}
-use Rattle.rule_edits.specs.laws.EditLaws.{ChangesGo, all_later_stand, edited_go}
+use Rattle.rule_edits.specs.Made.{ChangesGo}
+use Rattle.rule_edits.specs.laws.EditLaws.{all_later_stand, edited_go}
 use Rattle.rule_edits.specs.laws.Lists.{later_stand}
 use Rattle.sheet_history.specs.declared.Diff.TheVariants.{Rule as RuleDiff}
 use Rattle.sheet_history.specs.Diffs.{back_from, book_after, book_before, forward_from, step_back, tested}

@@ -8,7 +8,7 @@ use Rattle.std.specs.Cmp.{int_cmp_total}
 use Rattle.std.specs.FinMap.{FinMap, entries, get}
 use Rattle.std.proofs.lemmas.Map.Lookups.{exact_signed}
 use Rattle.base_values.specs.declared.Position.{Position}
-use Rattle.base_values.specs.Places.{is_line, position_cmp}
+use Rattle.base_values.specs.Places.{is_line, position_cmp, is_place}
 use Rattle.base_values.specs.laws.Places.{position_total, exact_positions}
 use Rattle.base_axis.specs.declared.MergedCell.{MergedCell}
 use Rattle.planned_maps.specs.Planned.{carried_out}
@@ -24,7 +24,7 @@ use Rattle.sheet_grid.specs.laws.FittingCells.{entry_fits_at}
 use Rattle.sheet_grid.specs.Merges.{is_empty}
 use Rattle.sheet_grid.specs.Sheet.{Sheet}
 use Rattle.sheet_rules.specs.Occupied.{are_hidden_blank, have_arrays, have_merges}
-use Rattle.sheet_rules.specs.WellFormed.{has_font, have_attributes, have_trees, is_column, is_place, is_row, stands_inside}
+use Rattle.sheet_rules.specs.WellFormed.{has_font, have_attributes, have_trees, is_column, is_row, stands_inside}
 use Rattle.sheet_rules.specs.laws.ArraysIn.{array_in, large_array_in}
 use Rattle.sheet_rules.specs.laws.EntryLaws.{both}
 use Rattle.sheet_rules.specs.laws.OccupiedLaws.{are_hidden_blank_from, have_arrays_from, have_merges_from, keeps_arrays, keeps_hidden, keeps_merges}

@@ -19,11 +19,15 @@ use Rattle.formula_tree.specs.Placed.{is_placed}
 use Rattle.formula_tree.specs.laws.PlacedEquations.{placed_reference, placed_range, placed_colon, placed_concatenate, placed_compare, placed_sum, placed_product}
 use Rattle.formula_tree.specs.laws.PlacedEquations.{placed_power, placed_unary, placed_call, placed_named_call, placed_spill, placed_lambda, placed_lambda_call}
 use Rattle.formula_tree.specs.laws.PlacedEquations.{placed_implicit_intersection, placed_name}
-use Rattle.formula_names.specs.Named.{Naming, named, followed}
+use Rattle.formula_names.specs.Named.{Naming, named}
 use Rattle.formula_names.specs.laws.NamedEquations.{named_boolean, named_number, named_text, named_reference, named_range, named_colon, named_concatenate}
 use Rattle.formula_names.specs.laws.NamedEquations.{named_compare, named_sum, named_product, named_power, named_unary, named_call, named_named_call}
 use Rattle.formula_names.specs.laws.NamedEquations.{named_array, named_name, named_error, named_parse_error, named_empty_argument, named_spill, named_lambda}
 use Rattle.formula_names.specs.laws.NamedEquations.{named_lambda_call, named_implicit_intersection}
+
+-- the one, and then the other
+abbrev pub followed : Naming → Naming → Naming
+followed f g = record { sheet = λ sheet. g.sheet (f.sheet sheet); name = λ name. g.name (f.name name) }
 
 module _ (f : Naming) where
   same_depths : (all : List Node) → AllByRecursion (λ n. depth_of (named f n) ≡ depth_of n) all → greatest (map depth_of (map (named f) all)) ≡ greatest (map depth_of all)

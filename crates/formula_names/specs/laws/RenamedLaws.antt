@@ -12,10 +12,10 @@ use Rattle.formula_tree.specs.declared.Node.{Node}
 use Rattle.formula_tree.specs.contracts.node.Node.{the_row}
 use Rattle.formula_names.specs.declared.reach.Reach.{Reach}
 use Rattle.formula_names.specs.declared.reach.Reach.TheVariants.{Nothing}
-use Rattle.formula_names.specs.Named.{named, followed}
+use Rattle.formula_names.specs.Named.{named}
 use Rattle.formula_back.specs.Leaves.{has_leaf}
 use Rattle.formula_names.specs.Renamed.{renamed_name, renamed_sheet, reaches_sheets, reaches_names, naming, tree_renamed, renamed_and_back, tree_kept, is_lost_name, is_lost_sheet, lost_names}
-use Rattle.formula_names.specs.laws.NamedLaws.{named-named, named-stays}
+use Rattle.formula_names.specs.laws.NamedLaws.{named-named, named-stays, followed}
 use Rattle.formula_names.specs.laws.NameLeaves.{tells_named}
 
 -- ---- names

@@ -9,7 +9,7 @@ use Rattle.formula_tree.specs.declared.Node.{Node}
 use Rattle.formula_tree.specs.laws.Induction.{induct}
 use Rattle.formula_tree.specs.Numbers.{has_canonical_numbers}
 use Rattle.formula_tree.specs.laws.NumbersEquations.{numbers_boolean, numbers_number, numbers_text, numbers_reference, numbers_range, numbers_colon, numbers_concatenate, numbers_compare, numbers_sum, numbers_product, numbers_power, numbers_unary, numbers_call, numbers_named_call, numbers_name, numbers_error, numbers_parse_error, numbers_empty_argument, numbers_spill, numbers_lambda, numbers_lambda_call, numbers_implicit_intersection}
-use Rattle.base_wire.specs.laws.Form.{is_text, is_list}
+use Rattle.base_wire.specs.Forms.{is_text, is_list}
 use Rattle.formula_wire.specs.Carried.{is_item, is_parameter, is_carried}
 use Rattle.formula_wire.specs.laws.CarriedEquations.{carried_number, carried_colon, carried_concatenate, carried_compare, carried_sum, carried_product, carried_power, carried_unary, carried_call, carried_named_call, carried_array, carried_spill, carried_lambda, carried_lambda_call, carried_implicit_intersection}
 use Rattle.formula_wire.specs.CanonicalNumbers.{is_canonical_item}

@@ -18,7 +18,7 @@ use Rattle.formula_tree.specs.declared.Node.{Node}
 use Rattle.formula_tree.specs.declared.Node.TheVariants as node
 use Rattle.formula_tree.specs.declared.Node.TheOpen.{Node-F}
 use Rattle.formula_tree.specs.declared.Node.TheFolds.{fold-Node, fold-roll-Node}
-use Rattle.base_wire.specs.laws.Form.{if_passes, is_text, is_list}
+use Rattle.base_wire.specs.Forms.{if_passes, is_text, is_list}
 use Rattle.formula_wire.specs.Carried.{is_corner, is_item, is_parameter, carried_layer, is_carried}
 
 length_same : (all : List Node) → length (map is_carried all) ≡ length all

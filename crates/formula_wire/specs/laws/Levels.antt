@@ -1,8 +1,8 @@
 -- One level of reading a tree.
 use Rattle.std.proofs.Common.{◌≡◌, ℕ, suc, ◌+◌, ◌-◌, ◌<◌, List, Err, refl, ap, subst, sym, ◌∙◌, arith}
 use Rattle.base_values.specs.declared.EditError.TheVariants.{ParseDiffs}
-use Rattle.base_wire.specs.Reading.{tagged_at}
-use Rattle.formula_wire.specs.NodeBytes.{node_of, node_within}
+use Rattle.base_wire.specs.laws.Reading.{tagged_at}
+use Rattle.formula_wire.specs.laws.Reading.{node_of, node_within}
 
 -- no tree is at most 0 deep
 pub nothing_within : (most : ℕ) (bytes : List ℕ) → most ≡ 0 → node_within most bytes ≡ Err ParseDiffs

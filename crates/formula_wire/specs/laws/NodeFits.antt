@@ -17,7 +17,7 @@ use Rattle.formula_tree.specs.declared.Node.{Node}
 use Rattle.formula_tree.specs.declared.Node.TheVariants as node
 use Rattle.formula_tree.specs.Depth.{is_within}
 use Rattle.formula_tree.specs.laws.DepthBounds.{within_nothing, within_boolean, within_number, within_text, within_reference, within_range, within_colon, within_concatenate, within_compare, within_sum, within_product, within_power, within_unary, within_call, within_named_call, within_array, within_name, within_error, within_parse_error, within_empty_argument, within_spill, within_lambda, within_lambda_call, within_implicit_intersection}
-use Rattle.base_wire.specs.laws.Form.{if_passes, is_text, is_list}
+use Rattle.base_wire.specs.Forms.{if_passes, is_text, is_list}
 use Rattle.formula_wire.specs.Carried.{is_corner, is_item, is_parameter, is_carried}
 use Rattle.formula_wire.specs.laws.CarriedEquations.{carried_boolean, carried_number, carried_text, carried_reference, carried_range, carried_colon, carried_concatenate, carried_compare, carried_sum, carried_product, carried_power, carried_unary, carried_call, carried_named_call, carried_array, carried_name, carried_error, carried_parse_error, carried_empty_argument, carried_spill, carried_lambda, carried_lambda_call, carried_implicit_intersection}
 

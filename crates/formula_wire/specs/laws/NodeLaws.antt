@@ -7,15 +7,15 @@ use Rattle.formula_tree.specs.declared.Node.{Node}
 use Rattle.formula_tree.specs.declared.Node.TheVariants as node
 use Rattle.formula_tree.specs.laws.Induction.{induct}
 use Rattle.formula_tree.specs.Depth.{is_within}
-use Rattle.base_wire.specs.Reading.{Reader, refused, map_at, ◌⊗◌}
+use Rattle.base_wire.specs.laws.Reading.{Reader, refused, map_at, ◌⊗◌}
 use Rattle.base_wire.specs.laws.Again.{ReadsAgain}
 use Rattle.base_wire.specs.laws.Spelled.{ReadsSpelled, TagSpelled, tag_map, tag_plain, tag_refused, tag_if, tagged_spelled, fits_otherwise}
 use Rattle.base_wire.specs.laws.Refusals.{IsPlain, map_plain, plain_plain, refused_plain, if_plain, tagged_plain}
 use Rattle.base_wire.specs.laws.Format.{Format}
 use Rattle.base_wire.specs.laws.Form.{Passes, Form, form_of, both_form, decimal_form, text_form, list_form}
-use Rattle.formula_wire.specs.PartBytes.{sheet_at, corner_at}
+use Rattle.formula_wire.specs.laws.Reading.{sheet_at, corner_at, reference_made, range_made, colon_made, concatenate_made, compare_made, sum_made, product_made, power_made, unary_made, call_made, named_call_made, lambda_made, lambda_call_made, node_of, node_within, node_at}
 use Rattle.formula_wire.specs.laws.PartLaws.{boolean_form, error_form, compare_form, sum_form, product_form, unary_form, function_form, corner_form, sheet_form, lines_form, parameters_form}
-use Rattle.formula_wire.specs.NodeBytes.{spell_node, reference_made, range_made, colon_made, concatenate_made, compare_made, sum_made, product_made, power_made, unary_made, call_made, named_call_made, lambda_made, lambda_call_made, node_of, node_within, node_at}
+use Rattle.formula_wire.specs.NodeBytes.{spell_node}
 use Rattle.formula_wire.specs.laws.SpellEquations.{spell_of_boolean, spell_of_number, spell_of_text, spell_of_reference, spell_of_range, spell_of_colon, spell_of_concatenate, spell_of_compare, spell_of_sum, spell_of_product, spell_of_power, spell_of_unary, spell_of_call, spell_of_named_call, spell_of_array, spell_of_name, spell_of_error, spell_of_parse_error, spell_of_empty_argument, spell_of_spill, spell_of_lambda, spell_of_lambda_call, spell_of_implicit_intersection}
 use Rattle.formula_wire.specs.Carried.{is_carried, FitsNode}
 use Rattle.formula_wire.specs.laws.NodeFits.{fits_within, fits_nothing, fits_boolean, fits_number, fits_text, fits_reference, fits_range, fits_colon, fits_concatenate, fits_compare, fits_sum, fits_product, fits_power, fits_unary, fits_call, fits_named_call, fits_array, fits_name, fits_error, fits_parse_error, fits_empty_argument, fits_spill, fits_lambda, fits_lambda_call, fits_implicit_intersection}

@@ -19,16 +19,17 @@ use Rattle.formula_tree.specs.declared.ProductKind.{ProductKind}
 use Rattle.formula_tree.specs.declared.ProductKind.TheVariants.{Multiply, Divide}
 use Rattle.formula_tree.specs.declared.UnaryKind.{UnaryKind}
 use Rattle.formula_tree.specs.declared.UnaryKind.TheVariants.{Minus, Percent}
-use Rattle.base_wire.specs.Reading.{Reader, signed_at, decoded}
+use Rattle.base_wire.specs.laws.Reading.{Reader, signed_at, decoded, boolean_at, error_at}
 use Rattle.base_wire.specs.Spelling.{spell_signed, spell_code, boolean_code, spell_list}
-use Rattle.base_wire.specs.Parts.{boolean_at, error_at}
 use Rattle.base_wire.specs.laws.Again.{ReadsAgain, wide32, signed_again}
 use Rattle.base_wire.specs.Spelling.{Any}
 use Rattle.base_wire.specs.laws.Spelled.{ReadsSpelled, tag_map, tag_refused, tag_if, tagged_spelled, back32, signed_spelled}
 use Rattle.base_wire.specs.laws.Refusals.{map_plain, refused_plain, if_plain, tagged_plain, signed_plain}
 use Rattle.base_wire.specs.laws.Parts.{boolean_again, boolean_spelled, boolean_plain, error_again, error_spelled, error_plain}
-use Rattle.base_wire.specs.laws.Form.{Passes, Form, form_of, always, both_form, map_form, coded_form, code_form, decimal_form, text_form, option_form, list_form, if_passes, is_text, is_list}
-use Rattle.formula_wire.specs.PartBytes.{compare_code, comparisons, compare_at, sum_code, sums, sum_at, product_code, products, product_at, unary_code, unaries, unary_at, function_at, spell_corner, corner_made, corner_at, spell_sheet, sheet_at, spell_item, item_of, item_at, spell_line, line_at, spell_lines, lines_at, spell_parameter, parameter_made, parameter_at, spell_parameters, parameters_at}
+use Rattle.base_wire.specs.Forms.{if_passes, is_text, is_list}
+use Rattle.base_wire.specs.laws.Form.{Passes, Form, form_of, always, both_form, map_form, coded_form, code_form, decimal_form, text_form, option_form, list_form}
+use Rattle.formula_wire.specs.PartBytes.{compare_code, sum_code, product_code, unary_code, spell_corner, spell_sheet, spell_item, spell_line, spell_lines, spell_parameter, spell_parameters}
+use Rattle.formula_wire.specs.laws.Reading.{comparisons, compare_at, sums, sum_at, products, product_at, unaries, unary_at, function_at, corner_made, corner_at, sheet_at, item_of, item_at, line_at, lines_at, parameter_made, parameter_at, parameters_at}
 use Rattle.formula_wire.specs.Carried.{is_signed, is_corner, is_item, is_parameter}
 
 pub boolean_form : Form always (spell_code boolean_code) boolean_at

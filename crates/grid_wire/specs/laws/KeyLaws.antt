@@ -8,9 +8,9 @@ use Rattle.std.specs.Cmp.{int_cmp_total}
 use Rattle.std.specs.Int.{w32}
 use Rattle.std.specs.Ordering.{int_cmp}
 use Rattle.base_values.specs.declared.Position.{Position}
-use Rattle.base_values.specs.Places.{IsLine, IsPlace, is_line, position_cmp}
+use Rattle.base_values.specs.Places.{IsLine, IsPlace, is_line, position_cmp, is_place}
 use Rattle.base_values.specs.laws.Places.{position_total, exact_positions}
-use Rattle.base_wire.specs.Reading.{Reader}
+use Rattle.base_wire.specs.laws.Reading.{Reader}
 use Rattle.base_wire.specs.Spelling.{spell_signed}
 use Rattle.base_wire.specs.laws.Format.{Format}
 use Rattle.base_wire.specs.laws.Formats.{check_format}
@@ -20,7 +20,7 @@ use Rattle.cell_wire.specs.CellBytes.{spell_position, FitsPosition}
 use Rattle.cell_wire.specs.laws.Formats.{position_format, position_some}
 use Rattle.map_wire.specs.MapBytes.{spell_map, FitsMap}
 use Rattle.map_wire.specs.laws.MapLaws.{map_format}
-use Rattle.grid_wire.specs.KeyBytes.{is_place, place_at, axis_line_at, place_map_at, axis_map_at}
+use Rattle.grid_wire.specs.laws.Reading.{place_at, axis_line_at, place_map_at, axis_map_at}
 
 -- what fits in one way fits in another, and the other way round
 pub alike_format : {A : Type 0} {F G : A → Type 0} {s : A → List ℕ} {r : Reader A} → ((x : A) → F x → G x) → ((x : A) → G x → F x) → Format F s r → Format G s r

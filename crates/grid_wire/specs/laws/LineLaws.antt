@@ -11,7 +11,8 @@ use Rattle.base_wire.specs.laws.Formats.{both_format, check_format, made_format}
 use Rattle.base_wire.specs.laws.Parts.{signed_format, boolean_format, option_some}
 use Rattle.cell_wire.specs.StyleBytes.{spell_style}
 use Rattle.cell_wire.specs.laws.Formats.{style_format}
-use Rattle.grid_wire.specs.LineBytes.{spell_line, line_made, size_at, own_style_at, line_at, FitsLine}
+use Rattle.grid_wire.specs.LineBytes.{spell_line, FitsLine}
+use Rattle.grid_wire.specs.laws.Reading.{line_made, size_at, own_style_at, line_at}
 
 not_plain : (b : Bool) → b ≡ false → not b ≡ true
 not_plain true h = cc

@@ -5,7 +5,8 @@ use Rattle.base_wire.specs.laws.Format.{Format, option_format}
 use Rattle.base_wire.specs.laws.Formats.{both_format, made_format}
 use Rattle.base_wire.specs.laws.Parts.{short_format, text_format}
 use Rattle.formula_wire.specs.laws.NodeLaws.{node_format}
-use Rattle.grid_wire.specs.NameBytes.{spell_name, name_made, scope_at, name_at, FitsName}
+use Rattle.grid_wire.specs.NameBytes.{spell_name, FitsName}
+use Rattle.grid_wire.specs.laws.Reading.{name_made, scope_at, name_at}
 
 pub name_format : Format FitsName spell_name name_at
 unfolding spell_name scope_at name_at

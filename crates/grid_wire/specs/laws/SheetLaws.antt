@@ -15,7 +15,8 @@ use Rattle.cell_wire.specs.laws.Formats.{color_format, cell_format}
 use Rattle.cell_wire.specs.laws.MergeLaws.{link_format, merges_format}
 use Rattle.rule_wire.specs.laws.FormattingLaws.{formattings_format}
 use Rattle.grid_wire.specs.LineBytes.{spell_line, FitsLine}
-use Rattle.grid_wire.specs.SheetBytes.{Fields, spell_fields, bare_sheet, fields_at, FitsFields, rows_at, columns_at, cells_at, links_at, spell_entries, spell_sheet, sheet_made, sheet_at, FitsSheet}
+use Rattle.grid_wire.specs.SheetBytes.{spell_fields, FitsFields, spell_entries, spell_sheet, FitsSheet}
+use Rattle.grid_wire.specs.laws.Reading.{Fields, bare_sheet, fields_at, rows_at, columns_at, cells_at, links_at, sheet_made, sheet_at}
 use Rattle.grid_wire.specs.laws.StateLaws.{state_format}
 use Rattle.grid_wire.specs.laws.KeyLaws.{axis_map_format, place_map_format}
 use Rattle.grid_wire.specs.laws.LineLaws.{line_format}

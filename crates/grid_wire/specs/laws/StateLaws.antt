@@ -2,13 +2,14 @@
 use Rattle.std.proofs.Common.{◌≡◌, Some, refl}
 use Rattle.sheet_grid.specs.declared.SheetState.{SheetState}
 use Rattle.sheet_grid.specs.declared.SheetState.TheVariants.{Visible, Hidden, VeryHidden}
-use Rattle.base_wire.specs.Reading.{decoded, code_at}
+use Rattle.base_wire.specs.laws.Reading.{decoded, code_at}
 use Rattle.base_wire.specs.Spelling.{Any, spell_code}
 use Rattle.base_wire.specs.laws.Again.{code_again}
 use Rattle.base_wire.specs.laws.Format.{Format}
 use Rattle.base_wire.specs.laws.Refusals.{code_plain}
 use Rattle.base_wire.specs.laws.Spelled.{code_spelled}
-use Rattle.grid_wire.specs.StateBytes.{state_code, states}
+use Rattle.grid_wire.specs.StateBytes.{state_code}
+use Rattle.grid_wire.specs.laws.Reading.{states}
 
 state_known : (x : SheetState) → decoded state_code states (state_code x) ≡ Some x
 state_known Visible = refl

@@ -1,15 +1,7 @@
 -- The law of followers for what an edit carries along by itself.
 use Rattle.std.proofs.Common.{◌≡◌, Option, Some, None, refl}
-use Rattle.base_axis.specs.Along.{Along, IsAxis}
-use Rattle.line_edits.specs.declared.EditKind.{EditKind}
-use Rattle.line_map.specs.Alone.{edit_way, regained, Restores}
-use Rattle.line_edits.specs.Edit.{IsValid}
-use Rattle.line_map.specs.Way.{Way, IsWay, back}
-use Rattle.line_edits.specs.laws.OneToOne.{edit_one_to_one}
-
--- the way of a valid edit is one
-pub edit_is_way : (a : Along) → IsAxis a → (e : EditKind) → IsValid a.last e → IsWay (edit_way a e)
-edit_is_way a lawful e valid = record { axis = lawful; one_to_one = edit_one_to_one a.last e valid }
+use Rattle.line_map.specs.Alone.{regained, Restores}
+use Rattle.line_trees.specs.Way.{Way, IsWay, back}
 
 module _ {F P : Type 0} (Lies : Way → F → Type 0) (carry : Way → F → F) (part : Way → F → Option P) (w : Way) (is : IsWay w) where
   -- what is kept can be laid over the value that was carried along

@@ -5,13 +5,13 @@ use Rattle.base_values.specs.declared.Position.{Position}
 use Rattle.base_values.specs.Places.{position_cmp}
 use Rattle.base_values.specs.laws.Places.{position_total, exact_positions}
 use Rattle.base_maps.specs.Carried.{if_there, lost_map, overlaid, settled}
-use Rattle.line_map.specs.Maps.{AllLie, KeptFits, places_carried, places_parts, places_restored}
+use Rattle.line_map.specs.Maps.{AllLie, KeptFits, entry_part, places_carried, places_parts, places_restored}
 use Rattle.line_map.specs.declared.place_map.KeptMap.{KeptMap}
 use Rattle.base_maps.specs.Carried.{Inverse}
-use Rattle.line_map.specs.Way.{Way, IsWay, at, back, place_goes}
+use Rattle.line_trees.specs.Way.{Way, IsWay, at, back, place_goes}
 use Rattle.base_maps.specs.laws.Gathering.{get-lost_map}
 use Rattle.base_maps.specs.laws.CarriedLaws.{get-carried_map, get-parts_map, map_restores}
-use Rattle.line_map.specs.laws.WayLaws.{goes_inverse, goes_there, at_is_way}
+use Rattle.line_trees.specs.laws.WayLaws.{goes_inverse, goes_there, at_is_way}
 
 found_from : {F : Type 0} (f : F → F) (v : Option F) (y : F) → if_there v (λ x. Some (f x)) ≡ Some y → (x : F) × (v ≡ Some x) × (y ≡ f x)
 found_from f None y h = absurd (cc)
@@ -68,6 +68,11 @@ module _ (w : Way) (is : IsWay w) where
           subst P same (item_lies stays m lie q y c);
     }
 
+  -- the part of an entry that goes somewhere
+  pub part_there : {F P : Type 0} (part : Way → F → Option P) (m : FinMap position_cmp F) (p q : Position) (x : F) → place_goes w p ≡ Some q →
+      get m p ≡ Some x → entry_part part w m p ≡ part (at w p q) x
+  part_there part m p q x there held = λ i. if_there (held i) (λ x. if_there (there i) (λ q. part (at w p q) x))
+
   module _ {F P : Type 0} (carry : Way → F → F) (part : Way → F → Option P) (restore : Way → F → P → F) (Lies : Way → F → Type 0) where
     -- what an entry settles to with the part that is kept of it
     settles_at : (v : Way) (x : F) (o : Option P) → part v x ≡ o → (part v x ≡ None → carry (back v) (carry v x) ≡ x) →
@@ -78,7 +83,8 @@ module _ (w : Way) (is : IsWay w) where
     module _ (comes_back : (v : Way) → IsWay v → (x : F) → Lies v x → part v x ≡ None → carry (back v) (carry v x) ≡ x)
         (restores : (v : Way) → IsWay v → (x : F) → Lies v x → (k : P) → part v x ≡ Some k → restore v (carry v x) k ≡ x) where
       -- a map goes back with its lost entries, and with parts that are those of its entries
-      pub places_return : (m : FinMap position_cmp F) → AllLie Lies w m → (parts : Position → Option P) →
+      pub places_return : (m : FinMap position_cmp F) →
+          ((p q : Position) (x : F) → get m p ≡ Some x → place_goes w p ≡ Some q → Lies (at w p q) x) → (parts : Position → Option P) →
           ((p q : Position) (x : F) → place_goes w p ≡ Some q → get m p ≡ Some x → parts p ≡ part (at w p q) x) →
           overlaid (lost_map (place_goes w) m) (places_restored carry restore w parts (places_carried carry w m)) ≡ m
       places_return m lie parts kept =
@@ -87,21 +93,15 @@ module _ (w : Way) (is : IsWay w) where
           (λ p q x there held.
           let v : Way = at w p q in
           let way : IsWay v = at_is_way w is p q in
-          let lies : Lies v x = lie.items p q x held there in
+          let lies : Lies v x = lie p q x held there in
           ap (λ o. settled (carry (back v)) (restore v) o (carry v x)) (kept p q x there held)
           ∙ settles_at v x (part v x) refl (comes_back v way x lies) (restores v way x lies))
-
-      kept_at : (m : FinMap position_cmp F) (p q : Position) (x : F) → place_goes w p ≡ Some q → get m p ≡ Some x →
-          get (places_parts part w m) p ≡ part (at w p q) x
-      kept_at m p q x there held =
-          get-parts_map position_cmp position_total exact_positions (place_goes w) (λ p q x. part (at w p q) x) m p
-          ∙ ap (λ v. if_there v (λ x. if_there (place_goes w p) (λ q. part (at w p q) x))) held
-          ∙ ap (λ t. if_there t (λ q. part (at w p q) x)) there
 
       -- it is restored from what is kept of it
       pub places_restore : (m : FinMap position_cmp F) → AllLie Lies w m →
           overlaid (lost_map (place_goes w) m) (places_restored carry restore w (get (places_parts part w m)) (places_carried carry w m)) ≡ m
-      places_restore m lie = places_return m lie (get (places_parts part w m)) (kept_at m)
+      places_restore m lie = places_return m lie.items (get (places_parts part w m)) (λ p q x there held.
+          get-parts_map position_cmp position_total exact_positions (place_goes w) (λ p q x. part (at w p q) x) m p ∙ part_there part m p q x there held)
 
       pub kept_map_restores : (m : FinMap position_cmp F) → AllLie Lies w m → (k : KeptMap F P) →
           Some (record { lost = lost_map (place_goes w) m; parts = places_parts part w m }) ≡ Some k →

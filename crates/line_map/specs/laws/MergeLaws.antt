@@ -13,8 +13,8 @@ use Rattle.base_maps.specs.Carried.{if_there}
 use Rattle.base_maps.specs.laws.Lists.{all_found}
 use Rattle.line_edits.specs.Merged.{AreLines}
 use Rattle.line_map.specs.Merges.{merge_carried, merges_carried, merges_part, MergesLie}
-use Rattle.line_map.specs.Way.{Way, IsWay, back}
-use Rattle.line_map.specs.laws.TrialLaws.{trial_comes_back, trial_part}
+use Rattle.line_trees.specs.Way.{Way, IsWay, back}
+use Rattle.line_trees.specs.laws.TrialLaws.{trial_comes_back, trial_part}
 
 put_inside : (a : Along) → IsAxis a → (merge : MergedCell) → IsInside merge → (o : Option (ℤ × ℤ)) →
     IfSome {T = ℤ × ℤ} o (λ lines. AreLines a.last lines.0 lines.1) →

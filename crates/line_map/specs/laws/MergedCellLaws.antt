@@ -9,9 +9,9 @@ use Rattle.base_axis.specs.contracts.merged_cell.MergedCellPartialEq.TheImpl as 
 use Rattle.base_axis.specs.laws.MergedEquals.{merged_equals}
 use Rattle.base_axis.specs.Rectangles.{IsInside}
 use Rattle.line_map.specs.MergedCells.{between, moved_to, merged_cell_carried, merged_cell_part}
-use Rattle.line_map.specs.Way.{Way, IsWay, back}
-use Rattle.line_map.specs.laws.TrialLaws.{trial_comes_back, trial_part}
-use Rattle.line_map.specs.laws.WayLaws.{goes_inside}
+use Rattle.line_trees.specs.Way.{Way, IsWay, back}
+use Rattle.line_trees.specs.laws.TrialLaws.{trial_comes_back, trial_part}
+use Rattle.line_trees.specs.laws.WayLaws.{goes_inside}
 
 -- the corners are its first and its last place, in either order
 pub between_inside : (p q : Position) → IsPlace p → IsPlace q → IsInside (between p q)

@@ -4,7 +4,7 @@ use Rattle.std.specs.Prelude.{FitsSigned}
 use Rattle.std.specs.Int.{w32}
 use Rattle.line_edits.specs.declared.EditKind.{EditKind}
 use Rattle.line_edits.specs.declared.EditKind.TheVariants.{Insert, Delete, Move}
-use Rattle.base_wire.specs.Reading.{Reader, map_at, signed_at}
+use Rattle.base_wire.specs.laws.Reading.{Reader, map_at, signed_at}
 use Rattle.base_wire.specs.Spelling.{Both}
 use Rattle.base_wire.specs.laws.Again.{ReadsAgain}
 use Rattle.base_wire.specs.laws.Format.{Format}
@@ -12,7 +12,8 @@ use Rattle.base_wire.specs.laws.Formats.{both_format}
 use Rattle.base_wire.specs.laws.Parts.{signed_format}
 use Rattle.base_wire.specs.laws.Refusals.{IsPlain, map_plain, if_plain, refused_plain, tagged_plain}
 use Rattle.base_wire.specs.laws.Spelled.{ReadsSpelled, tag_map, tag_if, tag_refused, tagged_spelled}
-use Rattle.lines_wire.specs.EditBytes.{spell_number, spell_block, spell_move, spell_edit, insertion, deletion, move, block_at, move_at, edit_of, edit_at, FitsEdit}
+use Rattle.lines_wire.specs.EditBytes.{spell_number, spell_block, spell_move, spell_edit, FitsEdit}
+use Rattle.lines_wire.specs.laws.Reading.{insertion, deletion, move, block_at, move_at, edit_of, edit_at}
 
 number_format : Format (FitsSigned w32) spell_number (signed_at w32)
 unfolding spell_number

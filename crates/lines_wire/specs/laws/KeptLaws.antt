@@ -30,7 +30,8 @@ use Rattle.rule_wire.specs.FormattingBytes.{spell_formatting, FitsFormatting}
 use Rattle.rule_wire.specs.laws.FormattingLaws.{formatting_format}
 use Rattle.grid_wire.specs.laws.LineLaws.{line_format}
 use Rattle.lines_wire.specs.laws.PartLaws.{sheet_place_format, sheet_place_some}
-use Rattle.lines_wire.specs.KeptBytes.{cells_at, links_at, lines_at, formulas_at, kept_merges_at, kept_rules_at, spell_kept, kept_made, kept_at, FitsKept}
+use Rattle.lines_wire.specs.KeptBytes.{spell_kept, FitsKept}
+use Rattle.lines_wire.specs.laws.Reading.{cells_at, links_at, lines_at, formulas_at, kept_merges_at, kept_rules_at, kept_made, kept_at}
 
 -- ---- maps
 

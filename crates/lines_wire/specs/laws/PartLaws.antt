@@ -1,12 +1,13 @@
 -- The laws of the bytes of places of a workbook, and of indexes of lists of its sheets.
 use Rattle.std.proofs.Common.{◌≤◌, length, refl, arith}
 use Rattle.base_maps.specs.declared.SheetPlace.{SheetPlace}
-use Rattle.index_maps.specs.declared.SheetIndex.{SheetIndex}
+use Rattle.base_maps.specs.declared.SheetIndex.{SheetIndex}
 use Rattle.base_wire.specs.laws.Format.{Format}
 use Rattle.base_wire.specs.laws.Formats.{both_format, made_format}
 use Rattle.base_wire.specs.laws.Parts.{long_format, short_format}
 use Rattle.cell_wire.specs.laws.Formats.{position_format}
-use Rattle.lines_wire.specs.PartBytes.{spell_sheet_place, sheet_place_made, sheet_place_at, FitsSheetPlace, spell_sheet_index, sheet_index_made, sheet_index_at, FitsSheetIndex}
+use Rattle.lines_wire.specs.PartBytes.{spell_sheet_place, FitsSheetPlace, spell_sheet_index, FitsSheetIndex}
+use Rattle.lines_wire.specs.laws.Reading.{sheet_place_made, sheet_place_at, sheet_index_made, sheet_index_at}
 
 pub sheet_place_format : Format FitsSheetPlace spell_sheet_place sheet_place_at
 unfolding sheet_place_at

@@ -66,7 +66,7 @@ module _ {K X : Type 0} (R : K → K → Ordering) (total : IsTotalOrder R) wher
       by_test false same = refl
 
   -- a map made of the first entries goes on with the next one
-  pub made_more : CmpEqualImpliesEq R → (es fs : List (K × X)) (e : K × X) → is_sorted R (es ++ e ∷ fs) ≡ true → from_entries {R = R} (es ++ e ∷ []) ≡ insert (from_entries es) e.0 e.1
+  made_more : CmpEqualImpliesEq R → (es fs : List (K × X)) (e : K × X) → is_sorted R (es ++ e ∷ fs) ≡ true → from_entries {R = R} (es ++ e ∷ []) ≡ insert (from_entries es) e.0 e.1
   made_more exact es fs e h = from_entries_push total exact es e.0 e.1 (not_before R total exact es e fs h)
 
   -- entries in order make the same map where they are put in one after another

@@ -12,15 +12,16 @@ use Rattle.base_maps.specs.laws.SheetPlaces.{sheet_place_total, exact_sheet_plac
 use Rattle.format_rules.specs.declared.ConditionalFormatting.{ConditionalFormatting}
 use Rattle.format_rules.specs.Fitting.{has_fitting_trees, has_parts}
 use Rattle.formula_tree.specs.declared.Node.{Node}
-use Rattle.index_maps.specs.declared.SheetIndex.{SheetIndex}
-use Rattle.index_maps.specs.SheetIndexes.{sheet_index_cmp}
-use Rattle.index_maps.specs.laws.SheetIndexes.{sheet_index_total, exact_sheet_indexes}
+use Rattle.base_maps.specs.declared.SheetIndex.{SheetIndex}
+use Rattle.base_maps.specs.SheetIndexes.{sheet_index_cmp}
+use Rattle.base_maps.specs.laws.SheetIndexes.{sheet_index_total, exact_sheet_indexes}
 use Rattle.cell_content.specs.Fitting.{tree_fits_at}
 use Rattle.defined_names.specs.declared.DefinedName.{DefinedName}
 use Rattle.sheet_grid.specs.Book.{Book}
 use Rattle.sheet_grid.specs.Sheet.{Sheet}
 use Rattle.sheet_rules.specs.Names.{first_place, have_name_trees}
-use Rattle.sheet_rules.specs.WellFormed.{is_place, IsWellFormed}
+use Rattle.base_values.specs.Places.{is_place}
+use Rattle.sheet_rules.specs.WellFormed.{IsWellFormed}
 use Rattle.sheet_rules.specs.laws.WellFormedLaws.{well_formed_parts, distinct_ids_from_well_formed}
 use Rattle.sheet_lines.specs.Sheets.{sheet_of}
 use Rattle.book_names.specs.declared.KeptTrees.{KeptTrees}

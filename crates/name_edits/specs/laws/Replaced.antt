@@ -1,14 +1,13 @@
 -- The sheets of a workbook where a defined name stands in the place of another: they come back with what was kept, and stay placed.
-use Rattle.std.proofs.Common.{◌≡◌, ℕ, ◌+◌, Bool, true, false, cond, List, [], ◌∷◌, map, Option, Some, None, refl, ap, sym, ◌∙◌}
+use Rattle.std.proofs.Common.{◌≡◌, ℕ, ◌+◌, Bool, true, false, cond, List, [], ◌∷◌, map, Some, refl, ap, ◌∙◌}
 use Rattle.std.specs.Prelude.{◌==◌}
 use Rattle.std.specs.List.{AllByRecursion, enumerate_from, find}
 use Rattle.std.specs.Ordering.{nat_cmp}
 use Rattle.std.specs.FinMap.{empty, get, get-empty}
+use Rattle.base_maps.specs.ByIndex.{restored_at}
 use Rattle.base_maps.specs.Carried.{settled}
-use Rattle.base_maps.specs.laws.Found.{all_found}
-use Rattle.formula_tree.specs.declared.Node.{Node}
+use Rattle.base_maps.specs.laws.Found.{all_come_back, all_found}
 use Rattle.formula_names.specs.declared.Reach.TheVariants.{Nothing}
-use Rattle.formula_names.specs.Renamed.{tree_renamed}
 use Rattle.formula_names.specs.laws.RenamedLaws.{tree_left}
 use Rattle.defined_names.specs.declared.DefinedName.{DefinedName}
 use Rattle.sheet_grid.specs.Sheet.{Sheet}
@@ -17,7 +16,7 @@ use Rattle.sheet_rules.specs.WellFormed.{ids_of, names_of}
 use Rattle.sheet_lines.specs.Sheets.{IsPlacedSheet, sheet_of, HasDistinctIds}
 use Rattle.book_sheets.specs.laws.SheetRules.{KeepsSheetRules}
 use Rattle.book_names.specs.declared.KeptTrees.{KeptTrees}
-use Rattle.book_names.specs.Renaming.{ArePlacedTrees, defined_back, names_back}
+use Rattle.book_names.specs.Renaming.{ArePlacedTrees, defined_renamed, with_kept_tree, names_back}
 use Rattle.book_names.specs.laws.Entries.{maps_same}
 use Rattle.book_names.specs.laws.Regained.{sheet_cells_regained, sheet_formattings_regained}
 use Rattle.book_names.specs.laws.Sheets.{placed_sheet, rules_stay, sheet_placed_back}
@@ -28,12 +27,11 @@ use Rattle.name_edits.specs.laws.Lists.{change_at}
 -- ---- names
 
 -- names of whose trees nothing is kept stay
-names_stay_from : (old new : List ℕ) (at : ℕ) (names : List DefinedName) → map (defined_back Nothing old new (get (empty {R = nat_cmp}))) (enumerate_from at names) ≡ names
+names_stay_from : (old new : List ℕ) (at : ℕ) (names : List DefinedName) →
+    map (restored_at (defined_renamed Nothing new old) with_kept_tree (get (empty {R = nat_cmp}))) (enumerate_from at names) ≡ names
 names_stay_from old new at [] = refl
 names_stay_from old new at (name ∷ names) = λ i.
-    record name {
-      formula = (ap (λ o. settled (tree_renamed Nothing new old) (λ _ tree. tree) o name.formula) (get-empty nat_cmp at) ∙ tree_left new old name.formula) i;
-    }
+    (ap (λ o. settled (defined_renamed Nothing new old) with_kept_tree o name) (get-empty nat_cmp at) ∙ (λ j. record name { formula = tree_left new old name.formula j })) i
     ∷ names_stay_from old new (at + 1) names i
 
 pub names_laid : (old new : List ℕ) (names : List DefinedName) → names_back Nothing old new (get (empty {R = nat_cmp})) names ≡ names
@@ -98,11 +96,7 @@ module _ (index : ℕ) (old new : DefinedName) (book : Book) (distinct : HasDist
     formattings = sheet_formattings_regained (reach_at index old.name book.names) (reach_at index new.name later) old.name new.name book distinct s there i;
   }
 
-  all_regained : (sheets : List Sheet) → AllByRecursion (λ s. sheet_of book s.id ≡ Some s) sheets
-      → map (sheet_returned index old.name new.name later kept) (map (sheet_updated index old.name new.name book.names) sheets) ≡ sheets
-  all_regained [] there = refl
-  all_regained (s ∷ sheets) there = λ i. sheet_regained s there.0 i ∷ all_regained sheets there.1 i
-
   -- the sheets come back with what was kept
   pub sheets_regained : map (sheet_returned index old.name new.name later kept) (map (sheet_updated index old.name new.name book.names) book.worksheets) ≡ book.worksheets
-  sheets_regained = all_regained book.worksheets (all_found (λ (s : Sheet). s.id) book.worksheets distinct)
+  sheets_regained = all_come_back (λ s. sheet_of book s.id ≡ Some s) (sheet_updated index old.name new.name book.names) (sheet_returned index old.name new.name later kept) sheet_regained
+      book.worksheets (all_found (λ (s : Sheet). s.id) book.worksheets distinct)

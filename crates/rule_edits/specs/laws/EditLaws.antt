@@ -32,7 +32,8 @@ use Rattle.rule_edits.specs.RuleChanges.{change_at, may_stand, rules_changed}
 use Rattle.rule_edits.specs.RuleEdits.{RuleEdit, checked_rule, come_behind, formatting_of, is_rule_formula, maybe_one, maybe_two, next_priority}
 use Rattle.rule_edits.specs.RuleEdits.{priorities_swapped, priority_change, rule_added, rule_at, rule_changes, rule_removed, rule_replaced, rule_updated, rules_after, rules_swapped}
 use Rattle.rule_edits.specs.RuleEdits.RuleEdit.{Add, Update, Delete, Swap}
-use Rattle.rule_edits.specs.laws.Lists.{IsMade, later_stand}
+use Rattle.rule_edits.specs.Made.{ChangesGo, IsMade}
+use Rattle.rule_edits.specs.laws.Lists.{later_stand}
 
 -- ---- a weaker test of formulas
 
@@ -119,11 +120,6 @@ at_index index rules old is = go (slice_get rules index) is
     go None h = absurd (cc)
 
 -- ---- changes one after the other
-
--- each can be made where those before it were
-abbrev pub ChangesGo : List RuleChange → List ConditionalFormatting → Type 0
-ChangesGo [] rules = Unit {0}
-ChangesGo (change ∷ changes) rules = IsMade change.index change.old change.new rules × ChangesGo changes (rules_changed change rules)
 
 -- and each of the later rules may stand
 pub all_later_stand : (changes : List RuleChange) (rules : List ConditionalFormatting) → list_all may_stand rules ≡ true → ChangesGo changes rules → list_all may_stand (rules_after changes rules) ≡ true

@@ -10,12 +10,8 @@ use Rattle.book_sheets.specs.laws.Placed.{all_inserted, all_removed}
 use Rattle.book_laws.specs.laws.ListEdits.{remove_inserted, insert_removed, got_within, length_inserted, length_removed}
 use Rattle.book_laws.specs.laws.ListTests.{all_with, all_without, passes_at}
 use Rattle.rule_edits.specs.declared.change.RuleChange.{RuleChange}
+use Rattle.rule_edits.specs.Made.{IsAt, IsMade}
 use Rattle.rule_edits.specs.RuleChanges.{change_at, change_goes, comes_fitting, has_place, is_change, may_stand, opposite, rule_come, rule_gone, rules_changed}
-
--- where a change takes place: the rule that goes stands at the index, or where none goes the index is one of the list, or that behind it
-abbrev pub IsAt : Option ConditionalFormatting → ℕ → List ConditionalFormatting → Type 0
-IsAt None index rules = index ≤ length rules
-IsAt (Some old) index rules = slice_get rules index ≡ Some old
 
 -- ---- there and back
 
@@ -90,12 +86,6 @@ module _ (p : ConditionalFormatting → Bool) where
   all_changed index old (Some new) rules all one = all_with p (rule_gone index old rules) index new (all_gone index old rules all) one
 
 -- ---- both ways
-
--- a change may be made where it takes place in the list, where a rule goes or comes, and where the rule that comes may stand
-pub record IsMade (index : ℕ) (old new : Option ConditionalFormatting) (rules : List ConditionalFormatting) : Type 0 where
-  pub some : is_change (change_at index old new) ≡ true
-  pub at : IsAt old index rules
-  pub fits : comes_fitting (change_at index old new) ≡ true
 
 pub may_go : (index : ℕ) (old new : Option ConditionalFormatting) (rules : List ConditionalFormatting) → IsMade index old new rules → change_goes (change_at index old new) (length rules) ≡ true
 unfolding change_goes

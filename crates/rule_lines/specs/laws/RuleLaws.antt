@@ -1,6 +1,6 @@
 -- The law of followers for rules: what is carried along stands inside the sheet, and comes back with what is kept.
-use Rattle.std.proofs.Common.{◌≡◌, true, false, List, [], ◌∷◌, map, Option, Some, None, refl, sym, subst}
-use Rattle.std.specs.Prelude.{IfSome, IsTrue, if◌then◌else◌}
+use Rattle.std.proofs.Common.{◌≡◌, ℕ, true, false, List, [], ◌∷◌, map, Option, Some, None, refl, ap, sym, subst, ◌∙◌}
+use Rattle.std.specs.Prelude.{⊤, IfSome, IsTrue, if◌then◌else◌}
 use Rattle.std.specs.List.{All, AllByRecursion}
 use Rattle.std.specs.Ordering.{nat_cmp}
 use Rattle.std.specs.FinMap.{FinMap, get}
@@ -23,15 +23,16 @@ use Rattle.format_rules.specs.laws.FittingLaws.{canonical_still}
 use Rattle.format_rules.specs.laws.RuleEquals.{formatting_equals}
 use Rattle.format_rules.specs.laws.RuleTreeLaws.{changed_have}
 use Rattle.line_map.specs.MergedCells.{merged_cell_carried}
-use Rattle.line_map.specs.Trees.{TreeLies, following, tree_carried}
-use Rattle.line_map.specs.Way.{Way, IsWay, back}
+use Rattle.line_trees.specs.Trees.{TreeLies, following, tree_carried}
+use Rattle.line_trees.specs.Trial.{part_by_trial}
+use Rattle.line_trees.specs.Way.{Way, IsWay, back}
 use Rattle.line_map.specs.laws.MergedCellLaws.{merged_cell_stays}
-use Rattle.line_map.specs.laws.TreeLaws.{tree_placed}
-use Rattle.line_map.specs.laws.TrialLaws.{trial_comes_back, trial_part}
-use Rattle.line_map.specs.laws.WayLaws.{back_is_way}
+use Rattle.line_trees.specs.laws.TreeLaws.{tree_placed}
+use Rattle.line_trees.specs.laws.TrialLaws.{trial_comes_back, trial_part}
+use Rattle.line_trees.specs.laws.WayLaws.{back_is_way}
 use Rattle.rule_lines.specs.Canonical.{AreCanonicalKept, KeptLie}
-use Rattle.rule_lines.specs.Rules.{at_part, way_of_trees, formatting_moved, formatting_carried, formatting_part, rules_carried, rules_kept, rules_restored, RulesLie}
-use Rattle.rule_lines.specs.laws.ByIndexLaws.{items_regained, kept_are, restored_are}
+use Rattle.rule_lines.specs.Rules.{at_part, way_of_trees, formatting_moved, formatting_carried, formatting_part, rules_carried, rules_kept, rules_restored, DoesNotReturn, RulesLie}
+use Rattle.base_maps.specs.laws.ByIndexLaws.{items_regained, kept_are, restored_are}
 
 -- ---- one rule
 
@@ -141,12 +142,29 @@ restored_lie w is kept inside rules lie =
     (restored_are (formatting_carried (back w)) (λ _ own. own) StandsInside StandsInside StandsInside (formatting_stays (back w) (back_is_way w is)) (λ _ own h. h) (get kept) inside rules
     (recursion_from_All StandsInside rules lie))
 
+nothing_known : (rules : List ConditionalFormatting) → AllByRecursion (λ _. ⊤) rules
+nothing_known [] = tt
+nothing_known (rule ∷ rules) = (tt, nothing_known rules)
+
 -- the law of followers: the rules come back with what is kept of them
 pub rules_regained : (w : Way) (rules : List ConditionalFormatting) → rules_restored w (rules_kept w rules) (rules_carried w rules) ≡ rules
 rules_regained w rules =
-    items_regained (formatting_part w) (formatting_carried w) (formatting_carried (back w)) (λ _ own. own) (λ _. Unit {0})
+    items_regained (formatting_part w) (formatting_carried w) (formatting_carried (back w)) (λ _ own. own) (λ _. ⊤)
     (λ rule _ h. formatting_comes_back w rule h) (λ rule _ part h. formatting_restores w rule part h) rules (nothing_known rules)
-  where
-    nothing_known : (xs : List ConditionalFormatting) → AllByRecursion (λ _. Unit {0}) xs
-    nothing_known [] = tt
-    nothing_known (x ∷ xs) = (tt, nothing_known xs)
+
+-- a rule that is kept does not come back by itself
+kept_away : (w : Way) (rule k : ConditionalFormatting) → formatting_part w rule ≡ Some k → DoesNotReturn w rule
+unfolding part_by_trial
+kept_away w rule k h home =
+    let nothing : formatting_part w rule ≡ None =
+    ap (λ b. if b then None else Some rule) ((formatting_equals (formatting_carried (back w) (formatting_carried w rule)) rule).1 home) in
+    let never : ◌≡◌ {A = Option ConditionalFormatting} None (Some k) = sym nothing ∙ h in cc
+
+part_needed : (w : Way) (rule : ConditionalFormatting) (o : Option ConditionalFormatting) → formatting_part w rule ≡ o → IfSome o (DoesNotReturn w)
+part_needed w rule None h = tt
+part_needed w rule (Some k) h = subst (DoesNotReturn w) (sym (formatting_restores w rule k h)) (kept_away w rule k h)
+
+-- so it is of each that is kept
+pub rules_needed : (w : Way) (rules : List ConditionalFormatting) (index : ℕ) → IfSome (get (rules_kept w rules) index) (DoesNotReturn w)
+rules_needed w rules index =
+    kept_are (formatting_part w) (λ _. ⊤) (DoesNotReturn w) (λ rule _. part_needed w rule (formatting_part w rule) refl) rules (nothing_known rules) index

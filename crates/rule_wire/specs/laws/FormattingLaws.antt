@@ -6,7 +6,8 @@ use Rattle.base_wire.specs.laws.Formats.{both_format, made_format}
 use Rattle.base_wire.specs.laws.Parts.{short_format}
 use Rattle.cell_wire.specs.laws.MergeLaws.{merge_format, merge_some}
 use Rattle.format_rules.specs.declared.ConditionalFormatting.{ConditionalFormatting}
-use Rattle.rule_wire.specs.FormattingBytes.{spell_areas, areas_at, FitsAreas, spell_formatting, formatting_made, formatting_at, FitsFormatting, spell_formattings, formattings_at, FitsFormattings}
+use Rattle.rule_wire.specs.FormattingBytes.{spell_areas, FitsAreas, spell_formatting, FitsFormatting, spell_formattings, FitsFormattings}
+use Rattle.rule_wire.specs.laws.Reading.{areas_at, formatting_made, formatting_at, formattings_at}
 use Rattle.rule_wire.specs.laws.RuleLaws.{rule_format}
 
 areas_format : Format FitsAreas spell_areas areas_at

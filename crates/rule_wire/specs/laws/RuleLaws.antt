@@ -6,8 +6,7 @@ use Rattle.format_rules.specs.declared.CfOperator.{CfOperator}
 use Rattle.format_rules.specs.declared.CfOperator.TheVariants.{Equal, NotEqual, Less, LessOrEqual, Greater, GreaterOrEqual, Between, NotBetween}
 use Rattle.format_rules.specs.declared.CfRule.{CfRule}
 use Rattle.format_rules.specs.declared.CfRule.TheVariants.{Formula, CellIs, ColorScale, DataBar, IconSet, IconRating}
-use Rattle.base_wire.specs.Reading.{Reader, decoded, map_at, ◌⊗◌, byte_at}
-use Rattle.base_wire.specs.Parts.{boolean_at}
+use Rattle.base_wire.specs.laws.Reading.{Reader, decoded, map_at, ◌⊗◌, byte_at, boolean_at}
 use Rattle.base_wire.specs.Spelling.{spell_code, boolean_code, spell_option, spell_both, Any, Both, FitsItems}
 use Rattle.base_wire.specs.laws.Again.{ReadsAgain, code_again}
 use Rattle.base_wire.specs.laws.Format.{Format, option_format}
@@ -15,13 +14,16 @@ use Rattle.base_wire.specs.laws.Formats.{both_format}
 use Rattle.base_wire.specs.laws.Parts.{boolean_format, byte_format}
 use Rattle.base_wire.specs.laws.Refusals.{IsPlain, code_plain, map_plain, refused_plain, if_plain, tagged_plain}
 use Rattle.base_wire.specs.laws.Spelled.{ReadsSpelled, code_spelled, tag_map, tag_refused, tag_if, tagged_spelled}
-use Rattle.formula_wire.specs.NodeBytes.{spell_node, node_at}
+use Rattle.formula_wire.specs.NodeBytes.{spell_node}
+use Rattle.formula_wire.specs.laws.Reading.{node_at}
 use Rattle.formula_wire.specs.Carried.{FitsNode}
 use Rattle.formula_wire.specs.laws.NodeLaws.{node_format}
-use Rattle.cell_wire.specs.StyleBytes.{spell_style, style_at, FitsStyle, spell_color, color_at, FitsColor}
+use Rattle.cell_wire.specs.StyleBytes.{spell_style, FitsStyle, spell_color, FitsColor}
+use Rattle.cell_wire.specs.laws.Reading.{style_at, color_at}
 use Rattle.cell_wire.specs.laws.Formats.{color_format, style_format}
-use Rattle.rule_wire.specs.ThresholdBytes.{spell_cfvo, FitsCfvo, bound_at, spell_colors, colors_at, spell_icons, icons_at, FitsIconThreshold}
-use Rattle.rule_wire.specs.RuleBytes.{operator_code, operators, operator_at, spell_formula, formula_made, second_at, spell_cell_is, cell_is_made, spell_data_bar, data_bar_made, spell_icon_set, icon_set_made, spell_icon_rating, icon_rating_made, spell_rule, rule_of, rule_at, FitsRule}
+use Rattle.rule_wire.specs.ThresholdBytes.{spell_cfvo, FitsCfvo, spell_colors, spell_icons, FitsIconThreshold}
+use Rattle.rule_wire.specs.laws.Reading.{bound_at, colors_at, icons_at, operators, operator_at, formula_made, second_at, cell_is_made, data_bar_made, icon_set_made, icon_rating_made, rule_of, rule_at}
+use Rattle.rule_wire.specs.RuleBytes.{operator_code, spell_formula, spell_cell_is, spell_data_bar, spell_icon_set, spell_icon_rating, spell_rule, FitsRule}
 use Rattle.rule_wire.specs.laws.ThresholdLaws.{bound_format, colors_format, icons_format}
 
 -- ---- operators

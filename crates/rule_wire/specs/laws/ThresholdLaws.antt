@@ -14,7 +14,8 @@ use Rattle.base_wire.specs.laws.Refusals.{IsPlain, map_plain, plain_plain, refus
 use Rattle.base_wire.specs.laws.Spelled.{ReadsSpelled, tag_map, tag_plain, tag_refused, tag_if, tagged_spelled}
 use Rattle.formula_wire.specs.laws.NodeLaws.{node_again, node_spelled, node_plain}
 use Rattle.cell_wire.specs.laws.Formats.{color_format}
-use Rattle.rule_wire.specs.ThresholdBytes.{spell_cfvo, cfvo_of, cfvo_at, FitsCfvo, bound_at, spell_color_threshold, color_threshold_made, color_threshold_at, FitsColorThreshold, spell_colors, colors_at, spell_icon_threshold, icon_threshold_made, icon_threshold_at, FitsIconThreshold, spell_icons, icons_at}
+use Rattle.rule_wire.specs.ThresholdBytes.{spell_cfvo, FitsCfvo, spell_color_threshold, FitsColorThreshold, spell_colors, spell_icon_threshold, FitsIconThreshold, spell_icons}
+use Rattle.rule_wire.specs.laws.Reading.{cfvo_of, cfvo_at, bound_at, color_threshold_made, color_threshold_at, colors_at, icon_threshold_made, icon_threshold_at, icons_at}
 use Rattle.std.specs.Prelude.{IfSome}
 use Rattle.base_wire.specs.Spelling.{boolean_code, spell_code, spell_option}
 use Rattle.cell_wire.specs.StyleBytes.{spell_color}

@@ -22,7 +22,7 @@ impl Write for Unflushed {
 
     fn flush(&mut self) -> io::Result<()> {
         self.flushes = self.flushes.saturating_add(1);
-        if self.flushes == 1 {
+        if self.flushes != 2 {
             return Err(ErrorKind::BrokenPipe.into());
         }
         Ok(())
@@ -34,6 +34,7 @@ fn each_write_is_flushed(rt: HostRuntime) -> Result<(), Fail> {
     let mut sink = StdSink::new(Unflushed { flushes: 0 });
     assert_eq!(rt; sink.write(b"ab"), Err(Failed));
     assert_eq!(rt; sink.write(b"ab"), Ok(2));
+    assert_eq!(rt; sink.write(b"ab"), Err(Failed));
     Ok(())
 }
 

@@ -15,8 +15,9 @@ use Rattle.base_wire.specs.laws.Formats.{both_format, made_format}
 use Rattle.base_wire.specs.laws.Parts.{byte_format}
 use Rattle.base_wire.specs.laws.Refusals.{coded_plain}
 use Rattle.base_wire.specs.laws.Spelled.{coded_spelled}
-use Rattle.setting_wire.specs.TableBytes.{locale_at, spell_locale, spell_zone, zone_at}
-use Rattle.setting_wire.specs.ThemeBytes.{rgb_at, rgb_made, spell_rgb, spell_theme, theme_at, theme_made, Colors, FitsRgb, FitsTheme}
+use Rattle.setting_wire.specs.TableBytes.{spell_locale, spell_zone}
+use Rattle.setting_wire.specs.laws.Reading.{locale_at, zone_at, rgb_at, rgb_made, theme_at, theme_made, Colors}
+use Rattle.setting_wire.specs.ThemeBytes.{spell_rgb, spell_theme, FitsRgb, FitsTheme}
 
 -- ---- themes
 

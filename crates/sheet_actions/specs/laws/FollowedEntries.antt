@@ -4,15 +4,14 @@ use Rattle.std.specs.Prelude.{⊤}
 use Rattle.std.specs.List.{list_all}
 use Rattle.std.specs.FinMap.{FinMap, entries, get}
 use Rattle.base_values.specs.declared.Position.{Position}
-use Rattle.base_values.specs.Places.{position_cmp}
+use Rattle.base_values.specs.Places.{position_cmp, is_place}
 use Rattle.base_values.specs.laws.Places.{position_total, exact_positions}
 use Rattle.base_maps.specs.Carried.{if_there}
 use Rattle.line_map.specs.Maps.{places_carried}
-use Rattle.line_map.specs.Way.{Way, IsWay, at, back, place_goes}
+use Rattle.line_trees.specs.Way.{Way, IsWay, at, back, place_goes}
 use Rattle.base_maps.specs.laws.CarriedLaws.{get-carried_map}
 use Rattle.line_map.specs.laws.MapLaws.{places_stay}
-use Rattle.line_map.specs.laws.WayLaws.{goes_inverse}
-use Rattle.sheet_rules.specs.WellFormed.{is_place}
+use Rattle.line_trees.specs.laws.WayLaws.{goes_inverse}
 use Rattle.sheet_rules.specs.laws.EntryLaws.{passes_at_from_all, all_from_passes_at}
 use Rattle.sheet_rules.specs.laws.InsideLaws.{places_from_test, test_from_places}
 

@@ -8,7 +8,7 @@ use Rattle.base_values.specs.declared.EditError.{EditError}
 use Rattle.base_values.specs.declared.EditError.TheVariants.{InvalidSheet, InvalidRow, InvalidColumn, BadCount, OverEdge, TargetOutOfBounds, SplitsArray, SplitsMerge, NoMemory}
 use Rattle.base_values.specs.Answers.{ok_or}
 use Rattle.base_values.specs.Places.{is_line}
-use Rattle.base_axis.specs.Along.{Along}
+use Rattle.base_axis.specs.Along.{Along, outside}
 use Rattle.base_axis.specs.Rectangles.{last_of}
 use Rattle.sheet_grid.specs.Sheet.{Sheet}
 use Rattle.sheet_grid.specs.Book.{Book, sheet_at}
@@ -19,7 +19,7 @@ use Rattle.sheet_lines.specs.Sheets.{sheet_of}
 use Rattle.sheet_actions.specs.GreatestLine.{greatest_line}
 use Rattle.sheet_actions.specs.laws.GreatestLaws.{at_least_one}
 use Rattle.sheet_rules.specs.WellFormed.{IsWellFormed}
-use Rattle.sheet_actions.specs.Planned.{outside, splits_array, splits_merge, pushes_past, refusal_of}
+use Rattle.sheet_actions.specs.Planned.{splits_array, splits_merge, pushes_past, refusal_of}
 use Rattle.sheet_actions.specs.Whole.{LeavesWhole, IsAllowed}
 use Rattle.sheet_actions.specs.laws.OwnSheets.{own_found}
 

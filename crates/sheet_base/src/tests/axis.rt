@@ -32,7 +32,7 @@ fn lines_go(
 ) -> Result<(), EditError> {
     assert!(rt; map.insert(2, true)?.is_none());
     map.put(3, Some(false))?;
-    assert_eq!(rt; map.lines(alloc)?.len(), 2);
+    assert_eq!(rt; map.keys(alloc)?.len(), 2);
     assert!(rt; is_copied(&*map)?);
     assert_eq!(rt; map.iter().count(), 2);
     map.put(3, None)?;

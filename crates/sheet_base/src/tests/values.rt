@@ -30,10 +30,10 @@ fn places_go(rt: &impl Abort, alloc: Global, map: &mut PlaceMap<bool>) -> Result
     let place = Position { row: 2, column: 3 };
     assert!(rt; map.insert(place, true)?.is_none());
     map.put(place, Some(false))?;
-    assert_eq!(rt; map.places(alloc)?.len(), 1);
+    assert_eq!(rt; map.keys(alloc)?.len(), 1);
     assert!(rt; is_copied(&*map)?);
     map.put(place, None)?;
-    assert_eq!(rt; map.places(alloc)?.len(), 0);
+    assert_eq!(rt; map.keys(alloc)?.len(), 0);
     Ok(())
 }
 

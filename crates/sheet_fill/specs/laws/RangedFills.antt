@@ -8,7 +8,7 @@ use Rattle.base_values.specs.declared.EditError.TheVariants.{InvalidArea, Nothin
 use Rattle.base_values.specs.Answers.{and_then, map_ok}
 use Rattle.base_values.specs.Places.{IsLine, is_line}
 use Rattle.base_axis.specs.declared.MergedCell.{MergedCell}
-use Rattle.base_axis.specs.Along.{Along, IsAxis}
+use Rattle.base_axis.specs.Along.{Along, IsAxis, outside}
 use Rattle.base_axis.specs.Rectangles.{IsInside, first_line, is_inside, last_line}
 use Rattle.base_axis.specs.laws.RectangleLaws.{first_cross, first_cross_stays, first_inside, first_put, inside_found, last_cross, last_cross_stays, last_inside, last_put, put_lines_inside}
 use Rattle.base_tables.specs.declared.Language.{Language}
@@ -17,7 +17,7 @@ use Rattle.sheet_grid.specs.Arrays.{large_arrays_of}
 use Rattle.sheet_grid.specs.Sheet.{Sheet}
 use Rattle.sheet_fill.specs.declared.range.FillRange.{FillRange}
 use Rattle.sheet_fill.specs.declared.plan.FillPlan.{FillPlan}
-use Rattle.sheet_fill.specs.FillRanges.{ahead, behind, outside, range_of, target_line}
+use Rattle.sheet_fill.specs.FillRanges.{ahead, behind, range_of, target_line}
 use Rattle.sheet_fill.specs.Tiles.{cuts_tile, is_cut, is_partial, range_tested}
 use Rattle.sheet_fill.specs.Plans.{plan_of, planned_in}
 

@@ -50,21 +50,21 @@ impl Worksheet {
     pub fn cell_keys(&self) -> Result<Items<Position>, EditError>
         ensures { Returns result (Ok (fin.keys self.now.cells)) }
     {
-        self.cells.as_map().places(self.name.allocator())
+        self.cells.as_map().keys(self.name.allocator())
     }
 
     /// The places of the links, by row and then by column. `NoMemory` alone is an error.
     pub fn link_keys(&self) -> Result<Items<Position>, EditError>
         ensures { Returns result (Ok (fin.keys self.now.links)) }
     {
-        self.links.places(self.name.allocator())
+        self.links.keys(self.name.allocator())
     }
 
     /// The rows that have something of their own, in ascending order. `NoMemory` alone is an error.
     pub fn row_keys(&self) -> Result<Items<i32>, EditError>
         ensures { Returns result (Ok (fin.keys self.now.rows)) }
     {
-        self.rows.lines(self.name.allocator())
+        self.rows.keys(self.name.allocator())
     }
 
     /// The columns that have something of their own, in ascending order. `NoMemory` alone is an
@@ -72,7 +72,7 @@ impl Worksheet {
     pub fn column_keys(&self) -> Result<Items<i32>, EditError>
         ensures { Returns result (Ok (fin.keys self.now.columns)) }
     {
-        self.columns.lines(self.name.allocator())
+        self.columns.keys(self.name.allocator())
     }
 
     /// A copy of the sheet that holds these in place of its own cells, links, rows, columns, merges

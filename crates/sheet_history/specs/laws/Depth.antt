@@ -7,7 +7,7 @@ use Rattle.base_maps.specs.declared.SheetPlace.{SheetPlace}
 use Rattle.formula_tree.specs.Depth.{is_within}
 use Rattle.format_rules.specs.declared.ConditionalFormatting.{ConditionalFormatting}
 use Rattle.format_rules.specs.RuleTrees.{each_tree}
-use Rattle.index_maps.specs.declared.SheetIndex.{SheetIndex}
+use Rattle.base_maps.specs.declared.SheetIndex.{SheetIndex}
 use Rattle.sheet_grid.specs.laws.FittingCells.{is_shallow_entry}
 use Rattle.sheet_lines.specs.declared.KeptLines.{KeptLines}
 use Rattle.book_sheets.specs.declared.KeptSheet.{KeptSheet}

@@ -12,7 +12,7 @@ use Rattle.std.proofs.lemmas.Map.Views.{tells_apart}
 use Rattle.base_values.specs.declared.Position.{Position}
 use Rattle.base_values.specs.KeyMap.{with_entry}
 use Rattle.base_values.specs.laws.KeyMap.{get-with_entry}
-use Rattle.base_values.specs.Places.{is_line}
+use Rattle.base_values.specs.Places.{is_line, is_place}
 use Rattle.base_values.specs.laws.Places.{position_total, exact_positions}
 use Rattle.base_axis.specs.declared.MergedCell.{MergedCell}
 use Rattle.base_styles.specs.declared.Color.{Color}
@@ -24,7 +24,6 @@ use Rattle.sheet_grid.specs.declared.SheetState.{SheetState}
 use Rattle.sheet_grid.specs.declared.SheetState.TheVariants.{Visible}
 use Rattle.sheet_grid.specs.Sheet.{Sheet}
 use Rattle.sheet_grid.specs.Book.{Book}
-use Rattle.sheet_rules.specs.WellFormed.{is_place}
 use Rattle.sheet_rules.specs.laws.EntryLaws.{both}
 use Rattle.sheet_lines.specs.Sheets.{HasDistinctIds}
 use Rattle.sheet_history.specs.declared.diff.LineAxis.{LineAxis}

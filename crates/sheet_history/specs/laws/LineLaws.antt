@@ -11,7 +11,7 @@ use Rattle.std.proofs.lemmas.List.{length-map}
 use Rattle.std.proofs.lemmas.Map.Lookups.{CmpEqualImpliesEq, exact_signed, exact_unsigned}
 use Rattle.base_values.specs.declared.EditError.TheVariants.{DiffRefused}
 use Rattle.base_values.specs.declared.Position.{Position}
-use Rattle.base_values.specs.Places.{is_line, position_cmp}
+use Rattle.base_values.specs.Places.{is_line, position_cmp, is_place}
 use Rattle.base_values.specs.laws.Places.{position_total, exact_positions}
 use Rattle.base_axis.specs.declared.MergedCell.{MergedCell}
 use Rattle.base_axis.specs.contracts.merge_list.MergeListPartialEq.TheImpl as equality
@@ -35,15 +35,15 @@ use Rattle.base_maps.specs.Carried.{if_there, lost_map}
 use Rattle.line_map.specs.Contents.{cell_carried, cell_part}
 use Rattle.line_map.specs.Maps.{places_carried}
 use Rattle.line_map.specs.Merges.{merges_carried, merges_part}
-use Rattle.line_map.specs.Trial.{comes_back, part_by_trial}
+use Rattle.line_trees.specs.Trial.{comes_back, part_by_trial}
 use Rattle.line_edits.specs.Moves.{at_line, edit_moves, place_image}
-use Rattle.line_map.specs.Way.{Way, at, back, place_goes}
+use Rattle.line_trees.specs.Way.{Way, at, back, place_goes}
 use Rattle.base_maps.specs.laws.Gathering.{get-lost_map}
 use Rattle.base_maps.specs.laws.CarriedLaws.{get-carried_map}
-use Rattle.line_map.specs.laws.WayLaws.{goes_inverse}
+use Rattle.line_trees.specs.laws.WayLaws.{goes_inverse}
 use Rattle.rule_edits.specs.RuleChanges as rule_changes
 use Rattle.rule_lines.specs.Rules.{are_there, formatting_carried, formatting_part, rules_kept}
-use Rattle.rule_lines.specs.laws.ByIndexLaws.{kept_are, kept_within}
+use Rattle.base_maps.specs.laws.ByIndexLaws.{kept_are, kept_within}
 use Rattle.rule_lines.specs.laws.RuleLaws.{formatting_restores}
 use Rattle.sheet_grid.specs.Arrays.{array_at}
 use Rattle.sheet_grid.specs.declared.Cell.{Cell}
@@ -54,7 +54,7 @@ use Rattle.sheet_grid.specs.Book.{Book}
 use Rattle.sheet_grid.specs.laws.FittingCells.{entry_fits_at, is_shallow_entry, CellsFit}
 use Rattle.sheet_grid.specs.laws.FittingLaws.{shallow_entry}
 use Rattle.sheet_rules.specs.laws.EntryLaws.{both}
-use Rattle.sheet_rules.specs.WellFormed.{is_place, stands_inside, IsWellFormed}
+use Rattle.sheet_rules.specs.WellFormed.{stands_inside, IsWellFormed}
 use Rattle.sheet_rules.specs.laws.WellFormedLaws.{cells_fit_from_trees, distinct_ids_from_well_formed}
 use Rattle.sheet_lines.specs.declared.KeptLines.{KeptLines}
 use Rattle.sheet_lines.specs.Sheets.{sheet_of, name_of}
@@ -66,6 +66,7 @@ use Rattle.sheet_lines.specs.laws.Stays.{way_is}
 use Rattle.sheet_history.specs.laws.Depth.{AreShallowLines, is_shallow_rule}
 use Rattle.sheet_history.specs.LineDiffs.{is_pushed_past, stays_inside, is_there_inside, is_lost_place, is_lost_line, all_keys, stand_on_lost, merges_inside, parts_inside, lie_inside, tree_stands, formulas_stand, each_stands, formattings_stand, goes_on, goes_forward, goes_back, lines_forward, lines_back}
 use Rattle.book_sheets.specs.SheetDiffs.{lies_inside, cells_fit}
+use Rattle.book_names.specs.RenameDiffs.{stand_on_places}
 use Rattle.sheet_history.specs.laws.Entries.{all_entries, entry_holds}
 use Rattle.sheet_history.specs.laws.RuleLaws.{KeepsSheetRules, sheet_rules}
 use Rattle.sheet_history.specs.laws.SoundEntries.{array_inside, sheet_merges_inside}
@@ -245,7 +246,8 @@ module _ (a : Along) (l : IsAxis a) (e : EditKind) (valid : IsValid a.last e) (i
     kept_tree_fits : (key : SheetPlace) (tree : Node) → get kept.formulas key ≡ Some tree → tree_fits_at key.place tree ≡ true
     kept_tree_fits key tree h = let of = kept_tree key tree h in kept_fits (way_in of.sheet) of.sheet.cells key.place tree of.it (sheet_fits key.sheet of.sheet of.found key.place)
 
-    trees_inside : all_keys (λ (key : SheetPlace). is_place key.place) kept.formulas ≡ true
+    trees_inside : stand_on_places kept.formulas ≡ true
+    unfolding stand_on_places
     trees_inside = all_entries sheet_place_cmp sheet_place_total exact_sheet_places (λ (entry : SheetPlace × Node). is_place entry.0.place) kept.formulas (λ key tree h.
         let of = kept_tree key tree h in
         entry_holds position_cmp position_total exact_positions (λ (entry : Position × Cell). is_place entry.0) of.sheet.cells (sheet_inside key.sheet of.sheet of.found).cells key.place of.it.cell of.it.stands)

@@ -12,7 +12,8 @@ use Rattle.sheet_grid.specs.Book.{Book, index_of, sheet_at, with_sheet}
 use Rattle.sheet_lines.specs.Sheets.{sheet_of}
 use Rattle.rule_edits.specs.declared.RuleChange.{RuleChange}
 use Rattle.rule_edits.specs.RuleChanges.{change_at, change_goes, may_stand, opposite}
-use Rattle.rule_edits.specs.laws.Lists.{IsMade, may_go, may_go_back, rules_regained}
+use Rattle.rule_edits.specs.Made.{IsMade}
+use Rattle.rule_edits.specs.laws.Lists.{may_go, may_go_back, rules_regained}
 use Rattle.sheet_history.specs.Entries.{with_changed}
 use Rattle.sheet_history.specs.RuleDiffs.{book_rules_changed, rule_put, sheet_rule_put, takes_change, with_rules_changed}
 use Rattle.sheet_history.specs.laws.EntryLaws.{by_id, decide, found-changed}

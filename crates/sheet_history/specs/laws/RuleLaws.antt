@@ -6,7 +6,7 @@ use Rattle.std.specs.List.{list_all}
 use Rattle.std.specs.FinMap.{entries}
 use Rattle.base_values.specs.declared.Position.{Position}
 use Rattle.base_values.specs.KeyMap.{with_entry}
-use Rattle.base_values.specs.Places.{position_cmp}
+use Rattle.base_values.specs.Places.{position_cmp, is_place}
 use Rattle.base_values.specs.laws.Places.{position_total, exact_positions}
 use Rattle.base_tables.specs.Folding.{same_folded}
 use Rattle.sheet_grid.specs.declared.Cell.{Cell}
@@ -21,7 +21,7 @@ use Rattle.sheet_rules.specs.laws.PutLaws.{arrays-put, merges-put, hidden-put}
 use Rattle.sheet_rules.specs.Names.{are_names}
 use Rattle.sheet_rules.specs.Occupied.{have_arrays, have_merges, are_hidden_blank, may_stand}
 use Rattle.sheet_rules.specs.SheetNames.{is_sheet_name}
-use Rattle.sheet_rules.specs.WellFormed.{are_distinct, ids_of, names_of, are_sheets, is_place, stands_inside, have_trees, have_rule_trees, have_attributes, are_frozen, have_rule_parts, is_row, is_column, IsWellFormed, has_font}
+use Rattle.sheet_rules.specs.WellFormed.{are_distinct, ids_of, names_of, are_sheets, stands_inside, have_trees, have_rule_trees, have_attributes, are_frozen, have_rule_parts, is_row, is_column, IsWellFormed, has_font}
 use Rattle.sheet_rules.specs.laws.WellFormedLaws.{well_formed_parts, well_formed_from_parts, cells_fit_from_trees, have_trees_from_cells_fit}
 use Rattle.sheet_lines.specs.Sheets.{sheet_of}
 pub use Rattle.book_sheets.specs.laws.SheetRules.{KeepsSheetRules}

@@ -9,7 +9,7 @@ use Rattle.std.specs.FinMap as fin
 use Rattle.std.specs.FinMap.{FinMap}
 use Rattle.std.proofs.lemmas.Map.Lookups.{exact_signed}
 use Rattle.base_values.specs.declared.Position.{Position}
-use Rattle.base_values.specs.Places.{is_line, position_cmp}
+use Rattle.base_values.specs.Places.{is_line, position_cmp, is_place}
 use Rattle.base_values.specs.laws.Places.{position_total, exact_positions}
 use Rattle.base_axis.specs.declared.MergedCell.{MergedCell}
 use Rattle.base_axis.specs.Rectangles.{has_many, is_inside}
@@ -25,7 +25,7 @@ use Rattle.sheet_rules.specs.laws.EntryLaws.{both}
 use Rattle.sheet_rules.specs.laws.OccupiedLaws.{keeps_arrays, keeps_merges}
 use Rattle.sheet_rules.specs.laws.WellFormedLaws.{cells_fit_from_trees, distinct_ids_from_well_formed}
 use Rattle.sheet_rules.specs.Occupied.{is_merge, have_arrays, have_merges}
-use Rattle.sheet_rules.specs.WellFormed.{have_attributes, is_column, is_column_style, is_place, is_row, is_row_style, is_size, is_width, stands_inside, IsWellFormed}
+use Rattle.sheet_rules.specs.WellFormed.{have_attributes, is_column, is_column_style, is_row, is_row_style, is_size, is_width, stands_inside, IsWellFormed}
 use Rattle.sheet_lines.specs.Sheets.{sheet_of}
 use Rattle.sheet_history.specs.declared.diff.Diff.{Diff}
 use Rattle.sheet_history.specs.declared.diff.LineAxis.{LineAxis}

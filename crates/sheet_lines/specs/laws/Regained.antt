@@ -1,7 +1,7 @@
 -- Going back with what was kept gives the workbook.
 use Rattle.std.proofs.Common.{◌≡◌, ◌⊎◌, inl, inr, ℕ, Bool, true, false, List, [], ◌∷◌, map, Option, Some, None, refl, ap, sym, subst, ◌∙◌}
-use Rattle.std.specs.Prelude.{◌==◌, IfSome, if◌then◌else◌}
-use Rattle.std.specs.List.{AllByRecursion, filter_map}
+use Rattle.std.specs.Prelude.{⊤, ◌==◌, if◌then◌else◌}
+use Rattle.std.specs.List.{filter_map}
 use Rattle.std.specs.Ordering.{int_cmp, nat_cmp}
 use Rattle.std.specs.Cmp.{unsigned_Decides}
 use Rattle.std.specs.FinMap.{FinMap, empty, get, get-empty, same_map}
@@ -12,15 +12,15 @@ use Rattle.base_axis.specs.Along.{Along, IsAxis, rows, columns}
 use Rattle.base_axis.specs.declared.MergedCell.{MergedCell}
 use Rattle.base_maps.specs.Carried.{if_there, lost_map, moved_map, overlaid, settled}
 use Rattle.base_maps.specs.Tagged.{place_on}
-use Rattle.base_maps.specs.laws.CarriedLaws.{get-parts_map, map_restores}
-use Rattle.base_maps.specs.laws.Found.{found_by, all_found}
+use Rattle.base_maps.specs.laws.CarriedLaws.{get-parts_map}
+use Rattle.base_maps.specs.laws.Found.{all_come_back, found_by, all_found}
 use Rattle.base_maps.specs.laws.Gathering.{get-lost_map, nothing_overlaid}
 use Rattle.base_maps.specs.laws.Tagged.{get-all_under}
 use Rattle.formula_tree.specs.declared.Node.{Node}
 use Rattle.format_rules.specs.declared.ConditionalFormatting.{ConditionalFormatting}
-use Rattle.format_rules.specs.laws.RuleEquals.{formatting_equals}
 use Rattle.sheet_grid.specs.declared.Cell.{Cell}
 use Rattle.sheet_grid.specs.declared.LineAttr.{LineAttr}
+use Rattle.sheet_grid.specs.declared.Link.{Link}
 use Rattle.sheet_grid.specs.contracts.line_attr.LineAttrPartialEq.TheImpl as attribute
 use Rattle.sheet_grid.specs.Sheet.{Sheet}
 use Rattle.sheet_grid.specs.Book.{Book}
@@ -32,18 +32,16 @@ use Rattle.line_map.specs.Attributes.{line_goes_along, heirs, lines_carried, lin
 use Rattle.line_map.specs.Contents.{cell_carried, cell_part, cell_restored}
 use Rattle.line_map.specs.Maps.{entry_part, places_carried, places_restored}
 use Rattle.line_map.specs.Merges.{merge_carried, merges_carried, merges_part}
-use Rattle.line_map.specs.Trial.{part_by_trial}
-use Rattle.line_map.specs.Way.{Way, IsWay, at, back, place_goes, is_along}
+use Rattle.line_trees.specs.Way.{Way, IsWay, at, back, place_goes, is_along}
 use Rattle.line_map.specs.laws.AttributeLaws.{both_of, lines_restore}
 use Rattle.line_map.specs.laws.ContentLaws.{cell_comes_back, cell_restores}
+use Rattle.line_map.specs.laws.MapLaws.{part_there, places_return}
 use Rattle.line_map.specs.laws.MergeLaws.{merges_come_back, merges_restore}
-use Rattle.line_map.specs.laws.WayLaws.{goes_inverse}
-use Rattle.rule_lines.specs.Rules.{formatting_moved, formatting_carried, formatting_part, rules_carried, rules_kept, rules_restored}
-use Rattle.rule_lines.specs.laws.ByIndexLaws.{kept_are}
-use Rattle.rule_lines.specs.laws.RuleLaws.{formatting_restores, rules_regained}
+use Rattle.rule_lines.specs.Rules.{rules_carried, rules_kept, rules_restored}
+use Rattle.rule_lines.specs.laws.FollowLaws.{formatting_elsewhere}
+use Rattle.rule_lines.specs.laws.RuleLaws.{rules_regained}
 use Rattle.sheet_lines.specs.declared.kept.KeptLines.{KeptLines}
 use Rattle.sheet_lines.specs.Back.{with_lost, merges_back, formattings_back, sheet_back, book_back}
-use Rattle.sheet_lines.specs.Entries.{DoesNotReturn}
 use Rattle.sheet_lines.specs.Followed.{way_of, way_of_edit, sheet_followed, book_followed}
 use Rattle.sheet_lines.specs.Kept.{lines_of, of_sheet, cells_lost, trees_kept, formulas_kept, merges_kept, formattings_kept, kept_lines}
 use Rattle.sheet_lines.specs.Sheets.{sheet_of, name_of, HasDistinctIds}
@@ -58,32 +56,28 @@ laid_at to false given m returned h =
     ∙ ap (λ l. overlaid l returned) (same_map position_total exact_positions empty (lost_map Some m)
     (λ p. get-empty position_cmp p ∙ sym (get-lost_map position_cmp position_total exact_positions Some m p)))
 
+-- what was lost of the edited sheet is what is lost of each sheet
+lost_laid : {X : Type 0} (w : Way) (given m returned : FinMap position_cmp X) → (w.is_edited ≡ true → given ≡ lost_map (place_image w.along w.moves.to) m) →
+    with_lost w given returned ≡ overlaid (lost_map (place_goes w) m) returned
+unfolding place_goes
+lost_laid w given m returned lost = laid_at (place_image w.along w.moves.to) w.is_edited given m returned lost
+
 module _ (w : Way) (is : IsWay w) where
-  -- a map goes back with what was lost of the edited sheet, where each entry that goes somewhere settles to what it was
-  map_regained : {X P : Type 0} (carry : Way → X → X) (restore : Way → X → P → X) (parts : Position → Option P) (m given : FinMap position_cmp X) →
-      (w.is_edited ≡ true → given ≡ lost_map (place_image w.along w.moves.to) m) →
-      ((p q : Position) (x : X) → place_goes w p ≡ Some q → get m p ≡ Some x →
-      settled (carry (back (at w p q))) (restore (at w p q)) (parts p) (carry (at w p q) x) ≡ x) →
-      with_lost w given (places_restored carry restore w parts (places_carried carry w m)) ≡ m
-  unfolding place_goes
-  map_regained carry restore parts m given lost settles =
-      laid_at (place_image w.along w.moves.to) w.is_edited given m _ lost
-      ∙ map_restores position_cmp position_total exact_positions (place_goes w) (place_goes (back w)) (goes_inverse w is)
-      (λ p q. carry (at w p q)) (λ p q. carry (back (at w p q))) (λ p q. restore (at w p q)) parts m settles
-
-  settles_at : (v : Way) (x : Cell) (o : Option Node) → cell_part v x ≡ o → settled (cell_carried (back v)) cell_restored o (cell_carried v x) ≡ x
-  settles_at v x None h = cell_comes_back v x h
-  settles_at v x (Some k) h = cell_restores v x k h
-
   -- the cells of a sheet, with trees that are those kept of them
   cells_regained : (cells given : FinMap position_cmp Cell) (trees : Position → Option Node) →
       (w.is_edited ≡ true → given ≡ lost_map (place_image w.along w.moves.to) cells) →
       ((p : Position) → trees p ≡ entry_part cell_part w cells p) →
       with_lost w given (places_restored cell_carried (λ _ cell tree. cell_restored cell tree) w trees (places_carried cell_carried w cells)) ≡ cells
-  cells_regained cells given trees lost kept = map_regained cell_carried (λ _ cell tree. cell_restored cell tree) trees cells given lost (λ p q x there held.
-      ap (λ o. settled (cell_carried (back (at w p q))) cell_restored o (cell_carried (at w p q) x))
-      (kept p ∙ (λ i. if_there (held i) (λ cell. if_there (there i) (λ q. cell_part (at w p q) cell))))
-      ∙ settles_at (at w p q) x (cell_part (at w p q) x) refl)
+  cells_regained cells given trees lost kept = lost_laid w given cells _ lost
+      ∙ places_return w is cell_carried cell_part (λ _ cell tree. cell_restored cell tree) (λ _ _. ⊤) (λ v _ x _. cell_comes_back v x)
+      (λ v _ x _. cell_restores v x) cells (λ p q x held there. tt) trees (λ p q x there held. kept p ∙ part_there w is cell_part cells p q x there held)
+
+  -- its links, of which nothing but the lost ones is kept
+  links_regained : (links given : FinMap position_cmp Link) → (w.is_edited ≡ true → given ≡ lost_map (place_image w.along w.moves.to) links) →
+      with_lost w given (places_carried (λ _ link. link) (back w) (places_carried (λ _ link. link) w links)) ≡ links
+  links_regained links given lost = lost_laid w given links _ lost
+      ∙ places_return w is {P = ⊤} (λ _ link. link) (λ _ _. None) (λ _ link _. link) (λ _ _. ⊤) (λ v _ x _ h. refl)
+      (λ v _ x _ k h. refl) links (λ p q x held there. tt) (λ _. None) (λ p q x there held. refl)
 
   -- what the lines of an axis have
   attributes_regained : (b : Along) (m given : FinMap int_cmp LineAttr) → (line_goes_along b w ≡ true → given ≡ lost_map w.moves.to m) →
@@ -116,13 +110,9 @@ merges_regained w merges kept lost = at_sheet w.is_edited refl
     at_sheet false h = apart w h merges
 
 -- on another sheet than the edited one conditional rules stay
-rule_apart : (w : Way) → w.is_edited ≡ false → (rule : ConditionalFormatting) → formatting_carried w rule ≡ rule
-unfolding formatting_carried
-rule_apart w h rule = ap (λ b. if b then formatting_moved w rule else rule) h
-
 rules_apart : (w : Way) → w.is_edited ≡ false → (rules : List ConditionalFormatting) → rules_carried w rules ≡ rules
 rules_apart w h [] = refl
-rules_apart w h (rule ∷ rules) = λ i. rule_apart w h rule i ∷ rules_apart w h rules i
+rules_apart w h (rule ∷ rules) = λ i. formatting_elsewhere w h rule i ∷ rules_apart w h rules i
 
 formattings_regained : (w : Way) (rules : List ConditionalFormatting) (kept : FinMap nat_cmp ConditionalFormatting) →
     (w.is_edited ≡ true → kept ≡ rules_kept w rules) → formattings_back w kept (rules_carried w rules) ≡ rules
@@ -131,27 +121,6 @@ formattings_regained w rules kept same = at_sheet w.is_edited refl
     at_sheet : (b : Bool) → w.is_edited ≡ b → (if b then rules_restored w kept (rules_carried w rules) else rules_carried w rules) ≡ rules
     at_sheet true h = ap (λ k. rules_restored w k (rules_carried w rules)) (same h) ∙ rules_regained w rules
     at_sheet false h = rules_apart w h rules
-
--- a conditional rule that is kept does not come back by itself
-kept_away : (w : Way) (rule k : ConditionalFormatting) → formatting_part w rule ≡ Some k → DoesNotReturn w rule
-unfolding part_by_trial
-kept_away w rule k h home =
-    let nothing : formatting_part w rule ≡ None =
-    ap (λ b. if b then None else Some rule) ((formatting_equals (formatting_carried (back w) (formatting_carried w rule)) rule).1 home) in
-    let never : ◌≡◌ {A = Option ConditionalFormatting} None (Some k) = sym nothing ∙ h in cc
-
-part_needed : (w : Way) (rule : ConditionalFormatting) (o : Option ConditionalFormatting) → formatting_part w rule ≡ o → IfSome o (DoesNotReturn w)
-part_needed w rule None h = tt
-part_needed w rule (Some k) h = subst (DoesNotReturn w) (sym (formatting_restores w rule k h)) (kept_away w rule k h)
-
--- so it is of each that is kept
-pub rules_needed : (w : Way) (rules : List ConditionalFormatting) (index : ℕ) → IfSome (get (rules_kept w rules) index) (DoesNotReturn w)
-rules_needed w rules index =
-    kept_are (formatting_part w) (λ _. Unit {0}) (DoesNotReturn w) (λ rule _. part_needed w rule (formatting_part w rule) refl) rules (nothing_asked rules) index
-  where
-    nothing_asked : (xs : List ConditionalFormatting) → AllByRecursion (λ _. Unit {0}) xs
-    nothing_asked [] = tt
-    nothing_asked (x ∷ xs) = (tt, nothing_asked xs)
 
 columns_alone : (a : Along) → IsAxis a → a.of false true ≡ true → a.of true false ≡ false
 columns_alone a l h = by_axis l.one_of
@@ -207,8 +176,7 @@ module _ (a : Along) (l : IsAxis a) (e : EditKind) (valid : IsValid a.last e) (i
             (λ same. ap (of_sheet (cells_lost a moves)) (it same))
             (λ p. formulas_at a moves id (name_of (sheet_of book id)) book distinct sheet.id p
             ∙ ap (λ o. if_there o (λ s. entry_part cell_part (way_to s) s.cells p)) found) i;
-        links = map_regained w is {P = Unit {0}} (λ _ link. link) (λ _ link _. link) (λ _. None) sheet.links kept.links
-            (λ same. ap (of_sheet (λ s. lost_map (place_image a moves.to) s.links)) (it same)) (λ p q x there held. refl) i;
+        links = links_regained w is sheet.links kept.links (λ same. ap (of_sheet (λ s. lost_map (place_image a moves.to) s.links)) (it same)) i;
         rows = attributes_regained w is rows sheet.rows kept.lines (λ h. let along = both_of w.is_edited (is_along a rows) h in lines along.0
             ∙ ap (λ t. lost_map moves.to (if t then sheet.rows else sheet.columns)) along.1) i;
         columns = attributes_regained w is columns sheet.columns kept.lines
@@ -219,15 +187,11 @@ module _ (a : Along) (l : IsAxis a) (e : EditKind) (valid : IsValid a.last e) (i
             (λ same. ap (formattings_kept a moves id (name_of (sheet_of book id))) (it same)) i;
       }
 
-  all_regained : (sheets : List Sheet) → AllByRecursion (λ sheet. sheet_of book sheet.id ≡ Some sheet) sheets →
-      map (λ sheet. sheet_back (way_to sheet) kept sheet) (map (λ sheet. sheet_followed (way_to sheet) sheet) sheets) ≡ sheets
-  all_regained [] found = refl
-  all_regained (sheet ∷ sheets) found = λ i. sheet_regained sheet found.0 i ∷ all_regained sheets found.1 i
-
   -- going back with what was kept gives the workbook
   pub book_regained : book_back a e id kept (book_followed a e id book) ≡ book
   book_regained = λ i. record book {
     worksheets = (ap (λ name. map (λ sheet. sheet_back (way_of a moves id name sheet) kept sheet) (book_followed a e id book).worksheets)
         (same_name a moves id (name_of (sheet_of book id)) id book.worksheets)
-        ∙ all_regained book.worksheets (all_found (λ sheet. sheet.id) book.worksheets distinct)) i;
+        ∙ all_come_back (λ sheet. sheet_of book sheet.id ≡ Some sheet) (λ sheet. sheet_followed (way_to sheet) sheet) (λ sheet. sheet_back (way_to sheet) kept sheet) sheet_regained
+        book.worksheets (all_found (λ sheet. sheet.id) book.worksheets distinct)) i;
   }

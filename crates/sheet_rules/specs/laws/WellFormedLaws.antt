@@ -8,7 +8,7 @@ use Rattle.std.specs.declared.cmp.Ordering.{Ordering}
 use Rattle.std.specs.FinMap.{entries, empty, len-entries, len-empty}
 use Rattle.std.proofs.lemmas.List.Elements.{All-from_recursion}
 use Rattle.base_values.specs.declared.Position.{Position}
-use Rattle.base_values.specs.Places.{position_cmp, is_line}
+use Rattle.base_values.specs.Places.{position_cmp, is_line, is_place}
 use Rattle.base_values.specs.laws.Places.{position_total, exact_positions}
 use Rattle.base_tables.specs.declared.Locale.{Locale}
 use Rattle.base_tables.specs.declared.Zone.{Zone}
@@ -26,7 +26,7 @@ use Rattle.sheet_rules.specs.Occupied.{are_apart, have_arrays, meets_any, have_m
 use Rattle.sheet_rules.specs.SheetNames.{is_sheet_name}
 use Rattle.sheet_rules.specs.laws.EntryLaws.{both, passes_at_from_all, all_from_passes_at}
 use Rattle.sheet_rules.specs.laws.ShownLaws.{not_true}
-use Rattle.sheet_rules.specs.WellFormed.{are_distinct, are_sheets, is_place, stands_inside, have_trees, have_rule_trees, is_row, is_column, has_font, have_attributes, are_frozen, have_rule_parts, IsWellFormed, ids_of}
+use Rattle.sheet_rules.specs.WellFormed.{are_distinct, are_sheets, stands_inside, have_trees, have_rule_trees, is_row, is_column, has_font, have_attributes, are_frozen, have_rule_parts, IsWellFormed, ids_of}
 
 -- the rules of a workbook, each for all of its sheets, and those of its defined names
 pub record KeepsRules (book : Book) : Type 0 where

@@ -8,7 +8,7 @@ use Rattle.base_wire.specs.laws.Formats.{both_format}
 use Rattle.base_wire.specs.laws.Parts.{short_format, signed_format}
 use Rattle.grid_wire.specs.LineBytes.{spell_line, FitsLine}
 use Rattle.grid_wire.specs.laws.LineLaws.{line_format}
-use Rattle.sheet_wire.specs.AttrBytes.{attr_parts_at, own_at}
+use Rattle.sheet_wire.specs.laws.Reading.{attr_parts_at, own_at}
 
 -- what bytes can carry of its parts, and how they are spelled
 abbrev pub AttrFits : ℕ × (ℤ × (Option LineAttr × Option LineAttr)) → Type 0

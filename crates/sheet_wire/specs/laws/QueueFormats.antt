@@ -11,43 +11,42 @@ use Rattle.sheet_history.specs.declared.DiffType.{DiffType}
 use Rattle.sheet_history.specs.declared.DiffType.TheVariants.{Undo, Redo}
 use Rattle.sheet_history.specs.declared.LineAxis.{LineAxis}
 use Rattle.sheet_history.specs.declared.LineAxis.TheVariants.{Rows, Columns}
-use Rattle.base_wire.specs.Reading.{Reader, map_at, after, code_at, decoded, list_at, signed_at, text_at}
+use Rattle.base_wire.specs.laws.Reading.{Reader, map_at, after, code_at, decoded, list_at, signed_at, text_at, boolean_at}
 use Rattle.base_wire.specs.Spelling.{Any, Both, spell_both, spell_code, spell_list, spell_option, spell_text}
 use Rattle.base_wire.specs.laws.Again.{ReadsAgain, code_again}
 use Rattle.base_wire.specs.laws.Format.{Format, list_format, option_format}
 use Rattle.base_wire.specs.laws.Formats.{both_format, after_format, made_format}
-use Rattle.base_wire.specs.Parts.{boolean_at}
 use Rattle.base_wire.specs.laws.Parts.{boolean_format, short_format, signed_format, text_format}
-use Rattle.cell_wire.specs.StyleBytes.{color_at}
+use Rattle.cell_wire.specs.laws.Reading.{color_at, cell_at, link_at, merges_at}
 use Rattle.base_wire.specs.laws.Refusals.{IsPlain, code_plain, if_plain, map_plain, refused_plain, tagged_plain}
 use Rattle.base_wire.specs.laws.Spelled.{ReadsSpelled, code_spelled, tag_if, tag_map, tag_refused, tagged_spelled}
-use Rattle.cell_wire.specs.CellBytes.{spell_position, FitsPosition, spell_cell, cell_at}
-use Rattle.cell_wire.specs.LinkBytes.{spell_link, link_at}
-use Rattle.cell_wire.specs.MergeBytes.{spell_merges, merges_at}
+use Rattle.cell_wire.specs.CellBytes.{spell_position, FitsPosition, spell_cell}
+use Rattle.cell_wire.specs.LinkBytes.{spell_link}
+use Rattle.cell_wire.specs.MergeBytes.{spell_merges}
 use Rattle.cell_wire.specs.laws.Formats.{color_format, position_format, cell_format}
 use Rattle.cell_wire.specs.laws.MergeLaws.{link_format, merges_format}
 use Rattle.lines_wire.specs.EditBytes.{spell_edit, FitsEdit}
 use Rattle.lines_wire.specs.KeptBytes.{spell_kept, FitsKept}
 use Rattle.lines_wire.specs.laws.EditLaws.{edit_format}
 use Rattle.lines_wire.specs.laws.KeptLaws.{kept_format}
-use Rattle.sheet_wire.specs.ChangeBytes.{spell_change, standing_at, change_at, spell_sheet_change, sheet_change_at}
-use Rattle.sheet_wire.specs.LinesBytes.{axis_code, axes, spell_lines, lines_parts_at}
-use Rattle.sheet_wire.specs.SheetsBytes.{spell_color_change, spell_state_change, spell_grid_change, state_at, spell_new, new_parts_at, spell_copy, copy_parts_at, spell_deletion, deletion_parts_at, spell_move, move_parts_at, spell_count_change}
-use Rattle.sheet_wire.specs.RulesBytes.{spell_rule, rule_parts_at}
+use Rattle.sheet_wire.specs.ChangeBytes.{spell_change, spell_sheet_change}
+use Rattle.sheet_wire.specs.laws.Reading.{standing_at, change_at, sheet_change_at, axes, lines_parts_at, state_at, new_parts_at, copy_parts_at, deletion_parts_at, move_parts_at, rule_parts_at, rename_parts_at, name_parts_at, attr_parts_at, rename_diff_made, rename_diff_at, name_diff_made, name_diff_at, move_diff_made, move_diff_at, color_diff_made, color_diff_at, state_diff_made, state_diff_at, grid_diff_made, grid_diff_at, attr_diff_made, attr_diff_at, frozen_rows_diff_made, frozen_rows_diff_at, frozen_columns_diff_made, frozen_columns_diff_at, twice_at, theme_diff_made, theme_diff_at, title_diff_made, title_diff_at, locale_diff_made, locale_diff_at, zone_diff_made, zone_diff_at, cell_diff_made, cell_diff_at, link_diff_made, link_diff_at, merges_diff_made, merges_diff_at, rule_diff_made, rule_diff_at, lines_diff_made, lines_diff_at, new_diff_made, new_diff_at, copy_diff_made, copy_diff_at, deletion_diff_made, deletion_diff_at, diff_of, diff_at, directions, entry_made, list_of_diffs_at, entry_at}
+use Rattle.sheet_wire.specs.LinesBytes.{axis_code, spell_lines}
+use Rattle.sheet_wire.specs.SheetsBytes.{spell_color_change, spell_state_change, spell_grid_change, spell_new, spell_copy, spell_deletion, spell_move, spell_count_change}
+use Rattle.sheet_wire.specs.RulesBytes.{spell_rule}
 use Rattle.sheet_wire.specs.laws.RulesFormats.{rule_parts_format}
-use Rattle.sheet_wire.specs.TreesBytes.{spell_rename, rename_parts_at, spell_name_change, name_parts_at}
+use Rattle.sheet_wire.specs.TreesBytes.{spell_rename, spell_name_change}
 use Rattle.sheet_wire.specs.laws.TreesFormats.{rename_parts_format, name_parts_format}
-use Rattle.sheet_wire.specs.AttrBytes.{spell_attr_change, attr_parts_at}
+use Rattle.sheet_wire.specs.AttrBytes.{spell_attr_change}
 use Rattle.sheet_wire.specs.laws.AttrFormats.{attr_parts_format}
 use Rattle.sheet_wire.specs.laws.SheetsFormats.{sheet_change_format, sheet_state_format, new_parts_format, copy_parts_format, deletion_parts_format, move_parts_format}
-use Rattle.sheet_wire.specs.QueueBytes.{rename_diff_made, rename_diff_at, name_diff_made, name_diff_at, move_diff_made, move_diff_at, color_diff_made, color_diff_at, state_diff_made, state_diff_at, grid_diff_made, grid_diff_at, attr_diff_made, attr_diff_at, frozen_rows_diff_made, frozen_rows_diff_at, frozen_columns_diff_made, frozen_columns_diff_at}
-use Rattle.setting_wire.specs.TableBytes.{spell_locale, locale_at, spell_zone, zone_at}
-use Rattle.setting_wire.specs.ThemeBytes.{spell_theme, theme_at}
+use Rattle.setting_wire.specs.TableBytes.{spell_locale, spell_zone}
+use Rattle.setting_wire.specs.laws.Reading.{locale_at, zone_at, theme_at}
+use Rattle.setting_wire.specs.ThemeBytes.{spell_theme}
 use Rattle.setting_wire.specs.laws.Formats.{locale_format, theme_format, zone_format}
-use Rattle.sheet_wire.specs.SettingBytes.{spell_twice, twice_at}
+use Rattle.sheet_wire.specs.SettingBytes.{spell_twice}
 use Rattle.sheet_wire.specs.laws.SettingFormats.{twice_format}
-use Rattle.sheet_wire.specs.QueueBytes.{theme_diff_made, theme_diff_at, title_diff_made, title_diff_at, locale_diff_made, locale_diff_at, zone_diff_made, zone_diff_at}
-use Rattle.sheet_wire.specs.QueueBytes.{spell_diff, cell_diff_made, cell_diff_at, link_diff_made, link_diff_at, merges_diff_made, merges_diff_at, rule_diff_made, rule_diff_at, lines_diff_made, lines_diff_at, new_diff_made, new_diff_at, copy_diff_made, copy_diff_at, deletion_diff_made, deletion_diff_at, diff_of, diff_at, FitsDiff, FitsList, direction_code, directions, spell_entry, entry_made, list_of_diffs_at, entry_at, FitsEntry, magic, FitsQueue}
+use Rattle.sheet_wire.specs.QueueBytes.{spell_diff, FitsDiff, FitsList, direction_code, spell_entry, FitsEntry, magic, FitsQueue}
 
 -- ---- diffs
 

@@ -6,7 +6,8 @@ use Rattle.sheet_history.specs.declared.QueueDiffs.{QueueDiffs}
 use Rattle.base_wire.specs.laws.Again.{whole_again}
 use Rattle.base_wire.specs.laws.Refusals.{Refuses, whole_refuses}
 use Rattle.base_wire.specs.laws.Spelled.{IsBytes, whole_spelled}
-use Rattle.sheet_wire.specs.QueueBytes.{spell_queue, queue_of, FitsQueue, IsNoQueue}
+use Rattle.sheet_wire.specs.QueueBytes.{spell_queue, FitsQueue, IsNoQueue}
+use Rattle.sheet_wire.specs.laws.Reading.{queue_of}
 use Rattle.sheet_wire.specs.laws.QueueFormats.{queue_format}
 
 -- a queue that bytes can carry is read again from its spelling

@@ -6,7 +6,8 @@ use Rattle.base_wire.specs.laws.Format.{Format, option_format}
 use Rattle.base_wire.specs.laws.Formats.{both_format, made_format}
 use Rattle.base_wire.specs.laws.Parts.{long_format, short_format}
 use Rattle.rule_wire.specs.laws.FormattingLaws.{formatting_format}
-use Rattle.sheet_wire.specs.RulesBytes.{spell_rule_change, rule_there_at, rule_change_made, rule_change_at, FitsRuleChange, rule_parts_at}
+use Rattle.sheet_wire.specs.RulesBytes.{spell_rule_change, FitsRuleChange}
+use Rattle.sheet_wire.specs.laws.Reading.{rule_there_at, rule_change_made, rule_change_at, rule_parts_at}
 use Rattle.sheet_wire.specs.laws.SheetsFormats.{IsShort, spell_short}
 
 pub rule_change_format : Format FitsRuleChange spell_rule_change rule_change_at

@@ -6,7 +6,7 @@ use Rattle.std.specs.Cmp.{nat_cmp_total}
 use Rattle.std.specs.Int.{w32, w64, to_be_bytes}
 use Rattle.std.specs.Ordering.{nat_cmp}
 use Rattle.book_sheets.specs.declared.KeptSheet.{KeptSheet}
-use Rattle.base_wire.specs.Reading.{Reader}
+use Rattle.base_wire.specs.laws.Reading.{Reader}
 use Rattle.base_wire.specs.Spelling.{Any, Both, spell_both, spell_code, spell_text, FitsText}
 use Rattle.base_wire.specs.laws.Format.{Format}
 use Rattle.base_wire.specs.laws.Formats.{both_format, made_format}
@@ -19,8 +19,8 @@ use Rattle.grid_wire.specs.SheetBytes.{spell_sheet}
 use Rattle.grid_wire.specs.laws.StateLaws.{state_format}
 use Rattle.grid_wire.specs.laws.NameLaws.{name_format}
 use Rattle.grid_wire.specs.laws.SheetLaws.{sheet_format, sheet_some}
-use Rattle.sheet_wire.specs.ChangeBytes.{sheet_change_at}
-use Rattle.sheet_wire.specs.SheetsBytes.{state_at, new_parts_at, copy_parts_at, spell_kept_sheet, placed_names_at, kept_sheet_made, kept_sheet_at, FitsKeptSheet, deletion_parts_at, move_parts_at}
+use Rattle.sheet_wire.specs.laws.Reading.{sheet_change_at, state_at, new_parts_at, copy_parts_at, placed_names_at, kept_sheet_made, kept_sheet_at, deletion_parts_at, move_parts_at}
+use Rattle.sheet_wire.specs.SheetsBytes.{spell_kept_sheet, FitsKeptSheet}
 
 -- an id, or an index
 abbrev pub IsShort : ℕ → Type 0

@@ -6,8 +6,8 @@ use Rattle.std.proofs.lemmas.Map.Lookups.{exact_unsigned}
 use Rattle.std.specs.Cmp.{nat_cmp_total}
 use Rattle.std.specs.Int.{w64, to_be_bytes}
 use Rattle.std.specs.Ordering.{nat_cmp}
-use Rattle.index_maps.specs.SheetIndexes.{sheet_index_cmp}
-use Rattle.index_maps.specs.laws.SheetIndexes.{sheet_index_total, exact_sheet_indexes}
+use Rattle.base_maps.specs.SheetIndexes.{sheet_index_cmp}
+use Rattle.base_maps.specs.laws.SheetIndexes.{sheet_index_total, exact_sheet_indexes}
 use Rattle.book_names.specs.declared.KeptTrees.{KeptTrees}
 use Rattle.base_wire.specs.Spelling.{Both, spell_both, spell_option, spell_text, FitsText}
 use Rattle.base_wire.specs.laws.Format.{Format, option_format}
@@ -25,7 +25,8 @@ use Rattle.rule_wire.specs.laws.FormattingLaws.{formatting_format}
 use Rattle.lines_wire.specs.PartBytes.{spell_sheet_place, spell_sheet_index, FitsSheetIndex}
 use Rattle.lines_wire.specs.laws.PartLaws.{sheet_index_format, sheet_index_some}
 use Rattle.lines_wire.specs.laws.KeptLaws.{formulas_format}
-use Rattle.sheet_wire.specs.TreesBytes.{spell_trees, name_trees_at, renamed_rules_at, trees_made, trees_at, FitsTrees, rename_parts_at, name_there_at, name_parts_at}
+use Rattle.sheet_wire.specs.TreesBytes.{spell_trees, FitsTrees}
+use Rattle.sheet_wire.specs.laws.Reading.{name_trees_at, renamed_rules_at, trees_made, trees_at, rename_parts_at, name_there_at, name_parts_at}
 use Rattle.sheet_wire.specs.laws.SheetsFormats.{IsShort, spell_short}
 
 name_trees_format : Format (FitsMap {order = nat_cmp} (λ place. place < 2 ^ 64) FitsNode) (spell_map (to_be_bytes w64) spell_node) name_trees_at

@@ -62,8 +62,8 @@ impl<R: Recalc + Drop> UserModel<R> {
     }
 
     /// Inserts empty rows in the sheet at an index, as many as the count, before a row. Its cells
-    /// with their links, its merges and its rows go where their lines go, and the formulas of all
-    /// sheets follow.
+    /// with their links, its merges, its conditional rules and its rows go where their lines go,
+    /// and the formulas of all sheets follow.
     ///
     /// `InvalidSheet` where there is no such sheet, else `BadCount` where the count is below 1, else
     /// `InvalidRow` where the row is outside the sheet, else `SplitsArray` where an array stands on
@@ -88,9 +88,9 @@ impl<R: Recalc + Drop> UserModel<R> {
         )
     }
 
-    /// Inserts empty columns in the sheet at an index, as many as the count, before a column. Its cells
-    /// with their links, its merges and its columns go where their lines go, and the formulas of all
-    /// sheets follow.
+    /// Inserts empty columns in the sheet at an index, as many as the count, before a column. Its
+    /// cells with their links, its merges, its conditional rules and its columns go where their
+    /// lines go, and the formulas of all sheets follow.
     ///
     /// `InvalidSheet` where there is no such sheet, else `BadCount` where the count is below 1, else
     /// `InvalidColumn` where the column is outside the sheet, else `SplitsArray` where an array stands on

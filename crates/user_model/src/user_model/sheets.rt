@@ -157,9 +157,10 @@ impl<R: Recalc + Drop> UserModel<R> {
         self.make(plan, selected)
     }
 
-    /// Renames the sheet at an index, and records the change. Every reference and range, in a cell or in
-    /// a defined name, that names a sheet with the old name, whatever the case of its letters, names the
-    /// new one. Where the sheet has exactly that name already, nothing is done and recorded.
+    /// Renames the sheet at an index, and records the change. Every reference and range, in a cell,
+    /// a conditional rule or a defined name, that names a sheet with the old name, whatever the
+    /// case of its letters, names the new one. Where the sheet has exactly that name already,
+    /// nothing is done and recorded.
     ///
     /// `InvalidSheet` where there is no such sheet, else `SheetName` where the name has not 1 to 31
     /// characters, or one of them is one of `: \ / ? * [ ]`, or an apostrophe is at one of its ends, or

@@ -1,9 +1,9 @@
 use super::{is_part, is_refused, refused_damages, shortest_front};
-use base_maps::IndexMap;
+use base_maps::IndexKeys;
 use map_wire::MapPart;
 use std::test::Fail;
 
-type NumbersPart = MapPart<IndexMap<u8>, u64, u8>;
+type NumbersPart = MapPart<IndexKeys<u8>, u64, u8>;
 
 /// The number 7 at index 1, and 9 at index 258.
 const TWO_ENTRIES: [u8; 26] = [

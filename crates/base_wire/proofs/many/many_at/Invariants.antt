@@ -1,5 +1,5 @@
 use Rattle.std.proofs.Common.{◌≡◌, ◌-◌}
-use Rattle.base_wire.specs.Reading.{many_at}
+use Rattle.base_wire.specs.laws.Reading.{many_at}
 use Rattle.base_wire.specs.laws.Many.{with_front}
 use Rattle.base_wire.proofs.many.many_at.Given as goal
 

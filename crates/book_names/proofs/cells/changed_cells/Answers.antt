@@ -3,7 +3,7 @@ use Rattle.std.proofs.lemmas.Result.{IfOk-weaker}
 use Rattle.base_values.specs.Places.{IsPlace}
 use Rattle.base_values.specs.laws.Places.{position_total, exact_positions}
 use Rattle.base_maps.specs.laws.Inverses.{own_inverse}
-use Rattle.line_map.specs.laws.Listed.{listed_held, listed_on, listed_all}
+use Rattle.base_maps.specs.laws.Listed.{listed_held, listed_on, listed_all}
 use Rattle.book_names.proofs.cells.changed_cells.Goals as goal
 
 pub loop-place-preserved : goal.loop-place-preserved

@@ -1,7 +1,7 @@
 use Rattle.std.proofs.Common.{Some}
 use Rattle.std.specs.Map.Iter.{deref_pair}
 use Rattle.base_values.specs.Places.{IsPlace}
-use Rattle.line_map.specs.laws.Listed.{Listed}
+use Rattle.base_maps.specs.laws.Listed.{Listed}
 use Rattle.book_names.proofs.cells.changed_cells.Given as goal
 
 abbrev pub invariant-loop-place : goal.invariant-loop-place

@@ -2,8 +2,8 @@ use Rattle.std.proofs.Common.{[], ◌∷◌, ◌++◌, ◌<◌, length, map, tak
 use Rattle.std.specs.List.{enumerate_from}
 use Rattle.std.proofs.lemmas.List.{map-append}
 use Rattle.format_rules.specs.declared.ConditionalFormatting.{ConditionalFormatting}
-use Rattle.rule_lines.specs.ByIndex.{restored_at}
-use Rattle.rule_lines.specs.laws.ByIndexLaws.{numbered_more}
+use Rattle.base_maps.specs.ByIndex.{restored_at}
+use Rattle.base_maps.specs.laws.ByIndexLaws.{numbered_more}
 use Rattle.book_names.specs.Renaming.{formatting_renamed, formattings_under}
 use Rattle.book_names.proofs.formattings.formattings_back.Goals as goal
 

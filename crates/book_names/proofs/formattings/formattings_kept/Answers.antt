@@ -1,7 +1,7 @@
 use Rattle.std.proofs.Common.{◌<◌, length, take, ap, sym, ◌∙◌, arith}
 use Rattle.base_maps.specs.laws.Gathering.{with_made}
-use Rattle.rule_lines.specs.ByIndex.{kept_at}
-use Rattle.rule_lines.specs.laws.ByIndexLaws.{kept_more}
+use Rattle.base_maps.specs.ByIndex.{kept_at}
+use Rattle.base_maps.specs.laws.ByIndexLaws.{kept_more}
 use Rattle.book_names.specs.Renaming.{formatting_kept, own_formattings_kept}
 use Rattle.book_names.proofs.formattings.formattings_kept.Goals as goal
 

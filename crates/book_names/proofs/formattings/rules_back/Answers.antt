@@ -1,6 +1,6 @@
 use Rattle.std.proofs.Common.{sym, subst}
 use Rattle.format_rules.specs.Canonical.{AreCanonicalRules}
-use Rattle.index_maps.specs.Tagged.{index_on}
+use Rattle.base_maps.specs.TaggedIndexes.{index_on}
 use Rattle.book_names.specs.Renaming.{formattings_under}
 use Rattle.book_names.specs.laws.Formattings.{formattings_back_numbers}
 use Rattle.book_names.proofs.formattings.rules_back.Goals as goal

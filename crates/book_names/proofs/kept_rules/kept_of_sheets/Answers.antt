@@ -3,9 +3,9 @@ use Rattle.std.specs.FinMap.{empty}
 use Rattle.std.proofs.lemmas.List.Sums.{fold_more}
 use Rattle.base_maps.specs.laws.Each.{no_entry}
 use Rattle.format_rules.specs.Canonical.{IsCanonicalFormatting}
-use Rattle.index_maps.specs.SheetIndexes.{sheet_index_cmp}
-use Rattle.index_maps.specs.Tagged.{put_under}
-use Rattle.index_maps.specs.laws.Tagged.{put_under_are}
+use Rattle.base_maps.specs.SheetIndexes.{sheet_index_cmp}
+use Rattle.base_maps.specs.TaggedIndexes.{put_under}
+use Rattle.base_maps.specs.laws.TaggedIndexes.{put_under_are}
 use Rattle.sheet_grid.specs.Sheet.{Sheet}
 use Rattle.book_names.specs.Renaming.{AreCanonicalFormattings, formattings_kept, own_formattings_kept}
 use Rattle.book_names.proofs.kept_rules.kept_of_sheets.Goals as goal

@@ -1,6 +1,7 @@
 use Rattle.std.proofs.Common.{◌≡◌, map, take}
+use Rattle.formula_names.specs.declared.Reach.TheVariants.{Sheets}
 use Rattle.book_names.specs.Renaming.{defined_renamed}
 use Rattle.book_names.proofs.names.names_renamed.Given as goal
 
 abbrev pub invariant-loop-name : goal.invariant-loop-name
-invariant-loop-name l = l.made ≡ map (defined_renamed l.old l.new) (take l.name-index l.names)
+invariant-loop-name l = l.made ≡ map (defined_renamed Sheets l.old l.new) (take l.name-index l.names)

@@ -1,5 +1,5 @@
 use Rattle.std.proofs.lemmas.Result.{err_from_is_err_and}
-use Rattle.formula_wire.specs.NodeBytes.{node_within}
+use Rattle.formula_wire.specs.laws.Reading.{node_within}
 use Rattle.base_wire.specs.laws.Many.{goes_on, ends, is_done}
 use Rattle.formula_wire.proofs.reading.+nodes.Goals as goal
 

@@ -1,7 +1,7 @@
 use Rattle.std.proofs.Common.{◌≡◌, ◌-◌, ◌+◌, ◌*◌}
-use Rattle.base_wire.specs.Reading.{many_at}
+use Rattle.base_wire.specs.laws.Reading.{many_at}
 use Rattle.base_wire.specs.laws.Many.{with_front}
-use Rattle.formula_wire.specs.NodeBytes.{node_within}
+use Rattle.formula_wire.specs.laws.Reading.{node_within}
 use Rattle.formula_wire.proofs.reading.+nodes.Given as goal
 
 -- each level of a tree counts, and the calls that lead from one to the next

@@ -6,7 +6,7 @@ use Rattle.std.specs.Ordering.{int_cmp}
 use Rattle.base_values.specs.Places.{IsLine}
 use Rattle.map_wire.specs.laws.Ascending.{put_in_turn}
 use Rattle.map_wire.specs.laws.MapFits.{keys_hold}
-use Rattle.grid_wire.specs.KeyBytes.{axis_map_at}
+use Rattle.grid_wire.specs.laws.Reading.{axis_map_at}
 use Rattle.grid_wire.proofs.keys.axis_map_at.Goals as goal
 
 pub of_entries-requires : goal.of_entries-requires

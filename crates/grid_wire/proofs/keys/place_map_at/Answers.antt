@@ -4,7 +4,7 @@ use Rattle.base_values.specs.Places.{IsPlace, position_cmp}
 use Rattle.base_values.specs.laws.Places.{position_total, exact_positions}
 use Rattle.map_wire.specs.laws.Ascending.{put_in_turn}
 use Rattle.map_wire.specs.laws.MapFits.{keys_hold}
-use Rattle.grid_wire.specs.KeyBytes.{place_map_at}
+use Rattle.grid_wire.specs.laws.Reading.{place_map_at}
 use Rattle.grid_wire.proofs.keys.place_map_at.Goals as goal
 
 pub of_entries-requires : goal.of_entries-requires

@@ -10,7 +10,7 @@ use Rattle.std.specs.FinMap.{int_cmp-IsAntisymmetric}
 use Rattle.base_values.specs.Places.{IsLine}
 use Rattle.base_maps.specs.Carried.{entry_made}
 use Rattle.base_maps.specs.laws.Turns.{first_holds, rest_hold}
-use Rattle.line_map.specs.laws.Listed.{listed_on, listed_all}
+use Rattle.base_maps.specs.laws.Listed.{listed_on, listed_all}
 use Rattle.line_map.proofs.axis_map.moved_lines.Goals as goal
 
 pub loop-line-preserved : goal.loop-line-preserved

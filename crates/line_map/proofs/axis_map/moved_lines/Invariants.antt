@@ -2,7 +2,7 @@ use Rattle.std.proofs.Common.{Some}
 use Rattle.std.specs.Map.Iter.{deref_pair}
 use Rattle.std.specs.List.{All}
 use Rattle.base_values.specs.Places.{IsLine}
-use Rattle.line_map.specs.laws.Listed.{Listed}
+use Rattle.base_maps.specs.laws.Listed.{Listed}
 use Rattle.line_map.proofs.axis_map.moved_lines.Given as goal
 
 abbrev pub invariant-loop-line : goal.invariant-loop-line

@@ -4,7 +4,7 @@ use Rattle.base_axis.specs.declared.MergedCell.{MergedCell}
 use Rattle.base_axis.specs.Rectangles.{first_line, last_line, across, with_lines}
 use Rattle.base_axis.specs.laws.RectangleLaws.{first_inside, last_inside, lines_in_order}
 use Rattle.base_maps.specs.Carried.{if_there}
-use Rattle.line_map.specs.Way.{way}
+use Rattle.line_trees.specs.Way.{way}
 use Rattle.line_map.proofs.merge_list.carried_merge.Goals as goal
 
 pub merged-requires-clause-lines : goal.merged-requires-clause-lines

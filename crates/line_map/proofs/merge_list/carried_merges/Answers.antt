@@ -2,7 +2,7 @@ use Rattle.std.proofs.Common.{◌≡◌, ◌++◌, [], ap, sym, subst, ◌∙◌
 use Rattle.std.specs.List.{cons_option, filter_map}
 use Rattle.std.proofs.lemmas.List.{take_all}
 use Rattle.line_map.specs.Merges.{merge_carried, MergesLie}
-use Rattle.line_map.specs.Way.{way}
+use Rattle.line_trees.specs.Way.{way}
 use Rattle.base_maps.specs.laws.Lists.{one_left}
 use Rattle.line_map.specs.laws.MergeLaws.{left_stay}
 use Rattle.line_map.proofs.merge_list.carried_merges.Goals as goal

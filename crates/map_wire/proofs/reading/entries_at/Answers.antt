@@ -6,5 +6,5 @@ use Rattle.map_wire.proofs.reading.entries_at.Goals as goal
 
 pub returns-clause-fits : goal.returns-clause-fits
 returns-clause-fits g c =
-    let law = entries_format {R = g.M.Keyed.order} g.met.M.Keyed.total g.met.M.Keyed.exact g.met.K.Part.format g.met.P.Part.format g.met.K.Part.some in
+    let law = entries_format g.X.MapKey.order g.met.K.Part.format g.met.P.Part.format g.met.K.Part.some in
     of_answer _ _ (λ x fits. fits.0.each) c.sorted_entries_at.result (reads law c.args.bytes.now _ (λ i. omega (arith, c.type_inv.bytes i)) c.sorted_entries_at.ensures.read).fits

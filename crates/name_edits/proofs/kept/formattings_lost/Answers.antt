@@ -1,7 +1,7 @@
 use Rattle.std.proofs.Common.{sym, subst}
 use Rattle.base_maps.specs.laws.Each.{no_entry}
 use Rattle.format_rules.specs.Canonical.{IsCanonicalFormatting}
-use Rattle.index_maps.specs.SheetIndexes.{sheet_index_cmp}
+use Rattle.base_maps.specs.SheetIndexes.{sheet_index_cmp}
 use Rattle.book_names.specs.Renaming.{AreCanonicalFormattings}
 use Rattle.name_edits.proofs.kept.formattings_lost.Goals as goal
 

@@ -1,9 +1,9 @@
 use Rattle.std.proofs.Common.{◌<◌, length, take, ap, sym, ◌∙◌, arith}
 use Rattle.base_maps.specs.laws.Gathering.{with_made}
-use Rattle.line_map.specs.Way.{way}
-use Rattle.rule_lines.specs.ByIndex.{kept_at}
+use Rattle.line_trees.specs.Way.{way}
+use Rattle.base_maps.specs.ByIndex.{kept_at}
 use Rattle.rule_lines.specs.Rules.{formatting_part, rules_kept}
-use Rattle.rule_lines.specs.laws.ByIndexLaws.{kept_more}
+use Rattle.base_maps.specs.laws.ByIndexLaws.{kept_more}
 use Rattle.rule_lines.proofs.rules.kept_items.Goals as goal
 
 pub loop-place-preserved : goal.loop-place-preserved

@@ -3,10 +3,10 @@ use Rattle.std.specs.List.{enumerate_from}
 use Rattle.std.specs.FinMap.{get}
 use Rattle.std.proofs.lemmas.List.{map-append}
 use Rattle.format_rules.specs.declared.ConditionalFormatting.{ConditionalFormatting}
-use Rattle.line_map.specs.Way.{back, way}
-use Rattle.rule_lines.specs.ByIndex.{restored_at}
+use Rattle.line_trees.specs.Way.{back, way}
+use Rattle.base_maps.specs.ByIndex.{restored_at}
 use Rattle.rule_lines.specs.Rules.{formatting_carried}
-use Rattle.rule_lines.specs.laws.ByIndexLaws.{numbered_more}
+use Rattle.base_maps.specs.laws.ByIndexLaws.{numbered_more}
 use Rattle.rule_lines.proofs.rules.restored_items.Goals as goal
 
 pub loop-place-preserved : goal.loop-place-preserved

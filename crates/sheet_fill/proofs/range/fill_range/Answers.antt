@@ -5,7 +5,8 @@ use Rattle.base_values.specs.declared.EditError.TheVariants.{InvalidArea, Nothin
 use Rattle.base_values.specs.Places.{IsLine, is_line}
 use Rattle.base_axis.specs.Rectangles.{first_line, is_inside, last_line}
 use Rattle.base_axis.specs.laws.RectangleLaws.{inside_found}
-use Rattle.sheet_fill.specs.FillRanges.{ahead, behind, outside, range_of}
+use Rattle.base_axis.specs.Along.{outside}
+use Rattle.sheet_fill.specs.FillRanges.{ahead, behind, range_of}
 use Rattle.sheet_fill.specs.laws.RangedFills.{line_found}
 use Rattle.sheet_fill.proofs.range.fill_range.Goals as goal
 

@@ -12,7 +12,7 @@ use Rattle.base_maps.specs.laws.Found.{found_holds, found_passes}
 use Rattle.line_map.specs.Maps.{KeysInside}
 use Rattle.line_edits.specs.Moves.{LineMoves, place_image}
 use Rattle.line_map.specs.Merges.{merges_part, MergesLie}
-use Rattle.line_map.specs.Way.{place_goes, way}
+use Rattle.line_trees.specs.Way.{place_goes, way}
 use Rattle.line_map.specs.laws.MergeLaws.{merges_part_fits}
 use Rattle.rule_lines.specs.Rules.{rules_kept, RulesLie}
 use Rattle.sheet_grid.specs.Book.{Book}

@@ -16,15 +16,16 @@ use Rattle.line_edits.specs.declared.EditKind.{EditKind}
 use Rattle.line_edits.specs.Moves.{edit_moves, place_image}
 use Rattle.line_map.specs.Contents.{cell_carried}
 use Rattle.line_map.specs.Maps.{entry_lost}
-use Rattle.line_map.specs.Way.{at, back, place_goes}
-use Rattle.line_map.specs.laws.WayLaws.{goes_inverse}
+use Rattle.line_trees.specs.Way.{at, back, place_goes}
+use Rattle.line_trees.specs.laws.WayLaws.{goes_inverse}
+use Rattle.rule_lines.specs.Rules.{DoesNotReturn}
+use Rattle.rule_lines.specs.laws.RuleLaws.{rules_needed}
 use Rattle.sheet_grid.specs.Book.{Book}
 use Rattle.sheet_grid.specs.Sheet.{Sheet}
-use Rattle.sheet_lines.specs.Entries.{DoesNotReturn}
 use Rattle.sheet_lines.specs.Followed.{way_of, way_of_edit}
 use Rattle.sheet_lines.specs.Kept.{lines_of, of_sheet, cells_lost, merges_kept, formattings_kept}
 use Rattle.sheet_lines.specs.Sheets.{sheet_of, name_of}
-use Rattle.sheet_lines.specs.laws.Regained.{formulas_at, rules_needed}
+use Rattle.sheet_lines.specs.laws.Regained.{formulas_at}
 use Rattle.sheet_lines.specs.laws.Stays.{lost_places, way_is}
 use Rattle.sheet_lines.proofs.laws.entries_of_sheets.Goals as goal
 

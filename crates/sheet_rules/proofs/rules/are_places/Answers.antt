@@ -1,6 +1,6 @@
 use Rattle.std.proofs.Common.{ap, sym, ◌∙◌}
 use Rattle.std.specs.List.{list_all}
-use Rattle.sheet_rules.specs.WellFormed.{is_place}
+use Rattle.base_values.specs.Places.{is_place}
 use Rattle.sheet_rules.specs.laws.InsideLaws.{places_pass}
 use Rattle.sheet_rules.proofs.rules.are_places.Goals as goal
 

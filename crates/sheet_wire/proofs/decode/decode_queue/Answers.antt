@@ -4,7 +4,8 @@ use Rattle.base_values.specs.declared.EditError.{EditError}
 use Rattle.base_values.specs.declared.EditError.TheVariants.{NoMemory, ParseDiffs}
 use Rattle.base_values.specs.Answers.{Answers}
 use Rattle.sheet_history.specs.declared.QueueDiffs.{QueueDiffs}
-use Rattle.sheet_wire.specs.QueueBytes.{queue_of, spell_queue, FitsQueue, IsNoQueue}
+use Rattle.sheet_wire.specs.QueueBytes.{spell_queue, FitsQueue, IsNoQueue}
+use Rattle.sheet_wire.specs.laws.Reading.{queue_of}
 use Rattle.base_wire.specs.laws.Spelled.{IsBytes}
 use Rattle.sheet_wire.specs.laws.QueueLaws.{queue_again, queue_spelled, refused_no_queue}
 use Rattle.sheet_wire.proofs.decode.decode_queue.Goals as goal

@@ -1,3 +1,0 @@
-pub mod SheetIndexes
-pub mod Tagged
-pub mod laws

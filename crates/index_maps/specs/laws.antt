@@ -1,3 +1,0 @@
-pub mod SheetIndexEquals
-pub mod SheetIndexes
-pub mod Tagged

@@ -1,0 +1,34 @@
+-- For which states of the machine a session stands.
+use Rattle.std.proofs.Common.{◌≡◌, ◌++◌, ℕ, List, [], ◌∷◌, Some}
+use Rattle.std.specs.Prelude.{OnOk, IsOkUnless}
+use Rattle.base_values.specs.declared.EditError.{EditError}
+use Rattle.base_values.specs.declared.EditError.TheVariants.{NoMemory}
+use Rattle.std.specs.declared.result.Result.{Result}
+use Rattle.script_lines.specs.Parts.{without_return}
+use Rattle.script_lines.specs.declared.Command.{Command}
+use Rattle.user_model.specs.Machine.{State}
+use Rattle.user_model.specs.Sound.{IsSound}
+use Rattle.user_model.specs.Stands.{StandsFor}
+use Rattle.script_runs.specs.declared.session.Session.{Session}
+use Rattle.script_runs.specs.Script.{reply_to, next_of, line_next}
+
+-- the model stands for the state, and the second copy is the workbook at the last sync
+pub record SessionStands (session : Session) (s : State) : Type 0 where
+  pub model : StandsFor session.model.document s
+  pub copy : s.synced ≡ Some session.copy.document.book
+
+-- a command wrote its answer and took the session to what stands for the next state, unless memory ran out: nothing else stops
+-- it, so no line is answered by a refused diff
+pub record Runs (result : Result (Unit {0}) EditError) (old new : Session) (reply : List ℕ) (next : State) : Type 0 where
+  pub out : OnOk result (new.out.items ≡ old.out.items ++ reply)
+  pub stands : OnOk result (SessionStands new next)
+  pub only : IsOkUnless result NoMemory
+
+-- for whatever state the session stood, it ran the command
+abbrev pub RunsCommand : Command → Result (Unit {0}) EditError → Session → Session → Type 0
+RunsCommand command result old new = (s : State) → SessionStands old s → Runs result old new (reply_to command s) (next_of command s)
+
+-- every state that lines go through is sound, from this one to the last
+abbrev pub SoundThrough : List (List ℕ) → State → Type 0
+SoundThrough [] s = IsSound s
+SoundThrough (l ∷ ls) s = IsSound s × SoundThrough ls (line_next (without_return l) s)

@@ -9,9 +9,9 @@ use Rattle.cell_content.specs.laws.LensLaws.{tree_of-with_tree, with_own_tree, w
 use Rattle.sheet_grid.specs.declared.Cell.{Cell}
 use Rattle.base_maps.specs.Carried.{if_there}
 use Rattle.line_map.specs.Contents.{with_new_tree, content_carried, content_part, ContentLies, cell_carried, cell_part, cell_restored, CellLies}
-use Rattle.line_trees.specs.Trees.{tree_carried, tree_part, TreeLies}
-use Rattle.line_trees.specs.Way.{Way, IsWay, back}
-use Rattle.line_trees.specs.laws.TreeLaws.{tree_stays, tree_comes_back, tree_restores}
+use Rattle.line_routes.specs.Trees.{tree_carried, tree_part, TreeLies}
+use Rattle.line_routes.specs.Way.{Way, IsWay, back}
+use Rattle.line_routes.specs.laws.TreeLaws.{tree_stays, tree_comes_back, tree_restores}
 
 -- a content with this tree, carried along
 abbrev carried_at : Way → Content → Option Node → Content

@@ -2,10 +2,11 @@ use Rattle.std.proofs.Common.{◌≡◌, Ok, ap, sym, ◌∙◌}
 use Rattle.std.specs.FinMap.{from_entries}
 use Rattle.map_wire.specs.laws.Ascending.{put_in_turn}
 use Rattle.map_wire.specs.laws.KeyOrder.{order_total, order_exact}
+use Rattle.map_wire.specs.laws.MapFits.{keys_hold}
 use Rattle.map_wire.proofs.reading.map_at.Goals as goal
 
 pub of_entries-requires : goal.of_entries-requires
-of_entries-requires g c = record { inside = λ k d within. g.met.X.PlainKey.plain _ }
+of_entries-requires g c = record { inside = λ k d within. c.requires.inside _ (keys_hold g.K.Part.Fits g.P.Part.Fits c.in_ok-entries.entries c.in_ok-entries.ensures.fits k d within) }
 
 pub returns : goal.returns
 returns g c =

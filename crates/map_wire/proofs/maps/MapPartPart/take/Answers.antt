@@ -4,6 +4,9 @@ use Rattle.map_wire.specs.laws.KeyOrder.{order_total, order_exact}
 use Rattle.map_wire.specs.laws.MapLaws.{map_format}
 use Rattle.map_wire.proofs.maps.MapPartPart.take.Goals as goal
 
+pub map_at-requires : goal.map_at-requires
+map_at-requires g c = record { inside = λ key fits. g.met.X.PlainKey.plain key }
+
 pub returns : goal.returns
 returns g c =
     let same = g.met.X.MapKey.ordered in

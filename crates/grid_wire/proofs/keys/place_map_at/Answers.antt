@@ -1,4 +1,10 @@
+use Rattle.std.proofs.Common.{arith}
+use Rattle.base_wire.specs.laws.Format.{answers}
+use Rattle.grid_wire.specs.laws.KeyLaws.{place_map_format}
 use Rattle.grid_wire.proofs.keys.place_map_at.Goals as goal
 
 pub map_at-requires : goal.map_at-requires
 map_at-requires g c = record { inside = λ place inside. inside }
+
+pub returns : goal.returns
+returns g c = answers (place_map_format g.met.P.Part.format) c.args.bytes.now _ (λ i. omega (arith, c.type_inv.bytes i)) c.map_at.ensures

@@ -1,4 +1,5 @@
-ghost use Rattle.std.specs.Prelude.{◌≡◌, IfOk, IfSome, IsOkUnless, IsTrue, None, Some, if◌then◌else◌};
+ghost use Rattle.std.specs.Prelude.{◌≡◌, IfOk, IfSome, IsOkUnless, None, Some, if◌then◌else◌};
+ghost use Rattle.std.specs.Bool.{Decides};
 ghost use Rattle.base_tables.specs.Folding.{same_folded};
 ghost use Rattle.base_values.specs.Places.{IsPlace};
 ghost use Rattle.base_values.specs.declared.EditError.TheVariants.{NoMemory};
@@ -147,11 +148,10 @@ pub fn carried_node<A: Axis, M: LineMap<A>>(
     Ok(move_node(alloc, node, route.to, &Following { route })?)
 }
 
-/// Whether the tree of a formula stays the same along a route, told without memory. A tree of which
-/// this is false may stay the same too.
+/// Whether the tree of a formula stays the same along a route, told without memory.
 #[tactic(auto, unfolding(crate::specs::Trees::tree_carried))]
 pub fn stays<A: Axis, M: LineMap<A>>(route: &Route<'_, A, M>, tree: &Node) -> bool
-    ensures { IsTrue result → tree_carried (way route.now) tree.now ≡ tree.now }
+    ensures { Decides result (tree_carried (way route.now) tree.now ≡ tree.now) }
 {
     is_still(tree, route.to, &Following { route })
 }

@@ -16,7 +16,7 @@ use base_wire::Part;
 use std::alloc::Global;
 
 /// What `take` answers, by the steps of the reader.
-fn read<'a, P: Part>(
+pub(crate) fn read<'a, P: Part>(
     alloc: Global,
     context: &P::Context,
     bytes: &'a [u8],

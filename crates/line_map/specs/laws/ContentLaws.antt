@@ -29,6 +29,11 @@ carried_none w content h = ap (carried_at w content) h
 carried_some : (w : Way) (content : Content) (tree : Node) → tree_of content ≡ Some tree → content_carried w content ≡ with_tree content (tree_carried w tree)
 carried_some w content tree h = ap (carried_at w content) h
 
+-- so does one whose tree stays
+pub unchanged_content : (w : Way) (content : Content) (tree : Node) → tree_of content ≡ Some tree → tree_carried w tree ≡ tree →
+    content_carried w content ≡ content
+unchanged_content w content tree h stays = carried_some w content tree h ∙ ap (with_tree content) stays ∙ with_own_tree content tree h
+
 stays_at : (w : Way) → IsWay w → (content : Content) (o : Option Node) → tree_of content ≡ o → ContentLies (back w) (content_carried w content)
 stays_at w is content None h = subst (λ o. IfSome o (TreeLies (back w))) (sym (ap tree_of (carried_none w content h) ∙ h)) tt
 stays_at w is content (Some tree) h = subst (λ o. IfSome o (TreeLies (back w)))

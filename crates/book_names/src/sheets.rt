@@ -192,11 +192,7 @@ pub(crate) fn book_renamed(
     ensures only { IsOkUnless result NoMemory }
 {
     let new = shared_name(alloc, new)?;
-    let renamed = RenamedSheets {
-        id,
-        old,
-        new: &new,
-    };
+    let renamed = RenamedSheets { id, old, new: &new };
     let sheets = changed_sheets(alloc, &renamed, workbook.worksheets())?;
     let names = renamed_list(alloc, workbook.name_list(), old, &new)?;
     with_lists(workbook, sheets, names)

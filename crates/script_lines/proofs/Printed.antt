@@ -1,6 +1,6 @@
 -- The name of a place names it.
-use Rattle.std.proofs.Common.{◌≡◌, ℕ, ℤ, pos, ◌+◌, ◌-◌, ◌/◌, ◌%◌, ◌^◌, ◌<◌, ◌≤◌, ◌≤ℤ◌, Bool, true, false, cond, List, [], ◌∷◌, ◌++◌, length, take, drop, Option, Some, None, refl, ap, ◌∙◌, arith}
-use Rattle.std.specs.Prelude.{◌&&◌, negsuc, decimal}
+use Rattle.std.proofs.Common.{◌≡◌, ℕ, ℤ, pos, ◌+◌, ◌-◌, ◌/◌, ◌%◌, ◌^◌, ◌<◌, ◌≤◌, ◌≤ℤ◌, Bool, true, false, cond, List, [], ◌∷◌, ◌++◌, length, take, drop, Option, Some, None, refl, sym, ap, ◌∙◌, arith}
+use Rattle.std.specs.Prelude.{◌&&◌, negsuc, decimal, nat_le, if◌then◌else◌}
 use Rattle.std.specs.Option.{option_and_then, option_map}
 use Rattle.std.specs.List.{list_all, prefix_len}
 use Rattle.std.proofs.lemmas.Bool.{and_parts, le-leb}
@@ -9,8 +9,8 @@ use Rattle.std.proofs.lemmas.Int.{ints}
 use Rattle.std.proofs.lemmas.Fmt.{decimal_by_steps, length-decimal-le, decimal_nonempty}
 use Rattle.std.proofs.Math.Seq.{take-append_seam, drop-append_seam}
 use Rattle.script_lines.specs.Number.{is_digit, are_digits, value_of}
-use Rattle.base_tables.specs.Column.{is_between, is_letter, letters_number, column_letters}
-use Rattle.base_tables.specs.laws.ColumnLaws.{AreLetters, column_letters_are}
+use Rattle.base_tables.specs.Column.{is_between, is_letter, letters_number, number_a_column, is_column_name, column_of_name, column_letters}
+use Rattle.base_tables.specs.laws.ColumnLaws.{letters_name_column}
 use Rattle.script_lines.specs.References.{read_column, read_row, letters_of, digits_of, reference_of, reference_text, IsReadAgain}
 use Rattle.script_lines.specs.declared.reference.Reference.{Reference}
 use Rattle.script_lines.proofs.Digits.{value_of-push}
@@ -58,6 +58,28 @@ letters_end (b ∷ letters) digits e f =
     let h = and_parts (is_letter b) (list_all is_letter letters) e in
     let rest = letters_end letters digits h.1 f in
     ap (λ t. cond t (1 + prefix_len is_letter (letters ++ digits)) 0) h.0 ∙ omega arith
+
+-- one to three letters with this number
+record AreLetters (n : ℕ) (text : List ℕ) : Type 0 where
+  all : list_all is_letter text ≡ true
+  few : is_between 1 3 (length text) ≡ true
+  number : letters_number text ≡ n
+
+nothing_there : (n : ℕ) → Some (pos n) ≡ None → ⊥
+nothing_there n e = cc
+
+parts_of_name : (n : ℕ) (text : List ℕ) (named : Bool) → is_column_name text ≡ named → (if named then Some (pos (letters_number text)) else None) ≡ Some (pos n) → AreLetters n text
+unfolding is_column_name
+parts_of_name n text true e f =
+    let parts = and_parts (list_all is_letter text) (number_a_column text) e in
+    let counted = and_parts (is_between 1 3 (length text)) (nat_le (letters_number text) 16384) parts.1 in
+    record { all = parts.0; few = counted.0; number = cc }
+parts_of_name n text false e f = absurd (nothing_there n (sym f))
+
+-- the letters of a column are one to three, and its number is theirs
+column_letters_are : (n : ℕ) → 1 ≤ n → n ≤ 16384 → AreLetters n (column_letters n)
+unfolding column_of_name
+column_letters_are n low high = parts_of_name n (column_letters n) (is_column_name (column_letters n)) refl (letters_name_column n low high)
 
 record Named (column row : ℕ) (letters digits : List ℕ) : Type 0 where
   column_so : AreLetters column letters

@@ -142,7 +142,9 @@ fn parts_inside(formattings: &IndexMap<ConditionalFormatting>) -> bool
 fn lie_inside(kept: &KeptLines) -> bool
     ensures { result ≡ lie_inside kept.now }
 {
-    arrays_lie_inside(kept.cells.iter()) && merges_inside(&kept.merges) && parts_inside(&kept.formattings)
+    arrays_lie_inside(kept.cells.iter())
+        && merges_inside(&kept.merges)
+        && parts_inside(&kept.formattings)
 }
 
 /// Whether what is kept passes `stand_on_lost` and `lie_inside`.

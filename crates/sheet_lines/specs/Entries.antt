@@ -41,7 +41,7 @@ module _ {X : Type 0} (b : Along) (same : X → X → Bool) where
   abbrev pub line_after : Way → FinMap int_cmp X → ℤ → Option X
   line_after w m n =
       if line_goes_along b w then
-        (if is_brought w.moves.inserted n && is_line b.last n then if_there w.moves.inserted (line_brought m) else if_there (w.moves.from n) (get m))
+      (if is_brought w.moves.inserted n && is_line b.last n then if_there w.moves.inserted (line_brought m) else if_there (w.moves.from n) (get m))
       else get m n
 
 -- so it is of each row and of each column of a sheet

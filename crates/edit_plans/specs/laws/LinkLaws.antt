@@ -1,5 +1,5 @@
 -- A link that is put leaves a well-formed workbook, and its change is the record.
-use Rattle.std.proofs.Common.{◌≡◌, ℕ, ℤ, true, List, Option, Result, Ok, Err, ap, sym, subst, ◌∙◌}
+use Rattle.std.proofs.Common.{◌≡◌, ℕ, ℤ, true, List, Option, Result, Ok, Err, refl, ap, sym, subst, ◌∙◌}
 use Rattle.std.specs.Prelude.{IfOk, IsOkUnless}
 use Rattle.base_values.specs.declared.EditError.{EditError}
 use Rattle.base_values.specs.declared.EditError.TheVariants.{NoMemory}

@@ -513,7 +513,7 @@ pub same_book : (w w2 : Book) → HasDistinctIds w → frame_of w ≡ frame_of w
 unfolding frame_of entry_at
 same_book w w2 own e entries =
     let sheets : w.worksheets ≡ w2.worksheets = same_sheets w.worksheets w2.worksheets own (ap (λ (b : Book). b.worksheets) e)
-        (λ k none. subst (λ o. entry_found o k w ≡ entry_found o k w2) none (entries k)) in
+    (λ k none. subst (λ o. entry_found o k w ≡ entry_found o k w2) none (entries k)) in
     let theme : w.theme ≡ w2.theme = ap theme_of (entries (SettingKey ThemeSetting)) in
     let name : w.name ≡ w2.name = ap title_of (entries (SettingKey NameSetting)) in
     let locale : w.locale ≡ w2.locale = ap locale_of (entries (SettingKey LocaleSetting)) in

@@ -1,4 +1,4 @@
-use Rattle.std.proofs.Common.{◌≡◌, None, Some, Err, sym, subst, rules, w32, SFits}
+use Rattle.std.proofs.Common.{refl, ◌≡◌, None, Some, Err, sym, subst, rules, w32, SFits}
 use Rattle.std.proofs.lemmas.Int.{to_z-of_z}
 use Rattle.base_values.specs.Answers.{Edits}
 use Rattle.sheet_grid.specs.Book.{index_of, sheet_at, with_sheet}

@@ -1,4 +1,4 @@
-use Rattle.std.proofs.Common.{◌≡◌, None, Some, Ok, Err, ap, sym, ◌∙◌, rules}
+use Rattle.std.proofs.Common.{refl, ◌≡◌, None, Some, Ok, Err, ap, sym, ◌∙◌, rules}
 use Rattle.sheet_grid.specs.Book.{index_of, sheet_at, with_sheet}
 use Rattle.sheet_history.specs.Entries.EntryKey.{FieldKey}
 use Rattle.sheet_history.specs.Entries.EntryValue.{FieldValue}

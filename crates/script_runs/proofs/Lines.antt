@@ -1,5 +1,6 @@
 -- A line that is not empty does what is said there, and an empty one nothing.
-use Rattle.std.proofs.Common.{◌≡◌, ℕ, List, [], ◌∷◌, true, false, Option, Result, Ok, Err, length, sym, subst, append-nil}
+use Rattle.std.proofs.Common.{◌≡◌, ℕ, List, [], ◌∷◌, true, false, Option, Result, Ok, Err, length, arith, sym, subst, append-nil}
+use Rattle.std.proofs.lemmas.Bool.Decides.{nat_tests}
 use Rattle.std.specs.Prelude.{◌==◌, OnOk}
 use Rattle.base_values.specs.declared.EditError.{EditError}
 use Rattle.sheet_wire.specs.QueueBytes.{FitsQueue}
@@ -29,7 +30,10 @@ line_ran result old new (byte ∷ bytes) found state full is ran =
       sends = sent_there result (command_of (byte ∷ bytes)) (FitsQueue state.sent) there.sends;
     }
 
+never_empty : (byte : ℕ) (bytes : List ℕ) → (length (byte ∷ bytes) == 0) ≡ true → ⊥
+never_empty byte bytes empty = grind (arith, nat_tests, empty)
+
 pub empty_ran : (session : Session) (line : List ℕ) (state : State) → (length line == 0) ≡ true → SessionStands session state
     → Runs (Ok (tt {0})) session session (line_reply line state) (line_next line state) (LineSends line state)
 empty_ran session [] state empty stands = record { out = sym (append-nil session.out.items); stands = stands; only = tt; sends = tt }
-empty_ran session (byte ∷ bytes) state empty stands = let never : false ≡ true = empty in cc
+empty_ran session (byte ∷ bytes) state empty stands = absurd (never_empty byte bytes empty)

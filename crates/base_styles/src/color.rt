@@ -19,7 +19,8 @@ pub enum ThemeColor {
 
 impl ThemeColor {
     ghost use Rattle.std.specs.Prelude.{◌≡◌};
-    ghost use Rattle.base_styles.specs.Colors.{theme_color_name};
+    ghost use Rattle.base_tables.specs.Tables.{entry_named};
+    ghost use Rattle.base_styles.specs.Colors.{all_theme_colors, theme_color_code, theme_color_of_code, theme_color_name};
 
     /// All colours of a theme, in its order.
     pub const ALL: [ThemeColor; 12] = [
@@ -36,6 +37,33 @@ impl ThemeColor {
         ThemeColor::Hyperlink,
         ThemeColor::FollowedHyperlink,
     ];
+
+    /// The number of the colour, from 0 in the order of the theme.
+    pub fn code(self) -> u8
+        ensures { result ≡ theme_color_code self }
+    {
+        match self {
+            ThemeColor::Light1 => 0,
+            ThemeColor::Dark1 => 1,
+            ThemeColor::Light2 => 2,
+            ThemeColor::Dark2 => 3,
+            ThemeColor::Accent1 => 4,
+            ThemeColor::Accent2 => 5,
+            ThemeColor::Accent3 => 6,
+            ThemeColor::Accent4 => 7,
+            ThemeColor::Accent5 => 8,
+            ThemeColor::Accent6 => 9,
+            ThemeColor::Hyperlink => 10,
+            ThemeColor::FollowedHyperlink => 11,
+        }
+    }
+
+    /// The colour with that number, or `None` where no colour has it.
+    pub fn from_code(code: u8) -> Option<ThemeColor>
+        ensures { result ≡ theme_color_of_code code }
+    {
+        ThemeColor::ALL.get(usize::from(code)).copied()
+    }
 
     /// The colour in words: `theme:` and its number, from 0 to 11.
     pub fn name(self) -> &'static str
@@ -55,6 +83,16 @@ impl ThemeColor {
             ThemeColor::Hyperlink => "theme:10",
             ThemeColor::FollowedHyperlink => "theme:11",
         }
+    }
+
+    /// The colour that has the text as its name, or `None` where no colour has it.
+    pub fn from_name(text: &str) -> Option<ThemeColor>
+        ensures { result ≡ entry_named theme_color_name all_theme_colors text.now }
+    {
+        ThemeColor::ALL
+            .iter()
+            .copied()
+            .find(|color| color.name() == text)
     }
 }
 

@@ -1,4 +1,4 @@
-ghost use Rattle.std.specs.Prelude.{◌≡◌, ◌<◌, ◌≤◌, ◌*◌, ◌+◌, ◌^◌, ◌++◌, ◌∷◌, [], pos, IfOk, OnOk, IfSome, IsOkUnless, string_bytes, option_map, length, map, Some, ◌&&◌, true, if◌then◌else◌};
+ghost use Rattle.std.specs.Prelude.{◌≡◌, ◌≤◌, ◌++◌, ◌∷◌, [], pos, IfOk, OnOk, IfSome, IsOkUnless, string_bytes, option_map, length, map, Some, ◌&&◌, true, if◌then◌else◌};
 ghost use Rattle.std.specs.List.{list_all};
 ghost use Rattle.std.specs.Char.{to_ascii_uppercase};
 ghost use Rattle.base_values.specs.declared.error.EditError.TheVariants.{NoMemory};
@@ -14,8 +14,10 @@ fn push_letter(name: &mut String, value: u32) -> Result<(), AllocError>
     name.push(char::from(b'@' + value as u8))
 }
 
+/// Writes the letters of a column at the end, in capitals. Where memory ends, a front of them may have
+/// been written.
 #[tactic(auto, unfolding(crate::specs::Column::column_letters))]
-fn push_column(name: &mut String, column: u32) -> Result<(), AllocError>
+pub fn push_column(name: &mut String, column: u32) -> Result<(), AllocError>
     requires low { 1 ≤ column }
     requires high { column ≤ 16384 }
     ensures { OnOk result (string_bytes name.new ≡ string_bytes name.old ++ column_letters column) }
@@ -35,8 +37,9 @@ fn push_column(name: &mut String, column: u32) -> Result<(), AllocError>
     Ok(())
 }
 
+/// The letters of a column, in capitals.
 #[tactic(auto, using(crate::specs::laws::ColumnLaws::letters_name_column))]
-fn column_text(alloc: Global, column: u32) -> Result<String, AllocError>
+pub fn column_text(alloc: Global, column: u32) -> Result<String, AllocError>
     requires low { 1 ≤ column }
     requires high { column ≤ 16384 }
     ensures value { IfOk result (λ name. string_bytes name ≡ column_letters column) }
@@ -63,7 +66,8 @@ pub fn number_to_column(alloc: Global, column: i32) -> Result<Option<String>, Ed
     Ok(Some(column_text(alloc, column.unsigned_abs())?))
 }
 
-pub(crate) fn is_letter(c: u8) -> bool
+/// Whether the byte is an ASCII letter.
+pub fn is_letter(c: u8) -> bool
     ensures { result ≡ is_letter c }
 {
     (b'A' <= c && c <= b'Z') || (b'a' <= c && c <= b'z')
@@ -87,17 +91,31 @@ fn are_letters(text: &[u8]) -> bool
     text.iter().all(|c| is_letter(*c))
 }
 
-fn number_of_letters(letters: &[u8]) -> Option<u32>
+/// The number of at most three letters, `A` standing for 1 and `Z` for 26.
+pub fn letters_number(letters: &[u8]) -> u32
+    requires all { list_all is_letter letters.now ≡ true }
+    requires few { length letters.now ≤ 3 }
+    ensures value { result ≡ letters_number letters.now }
+    ensures small { result ≤ 18278 }
+{
+    match letters {
+        [] => 0,
+        [a] => letter_value(*a),
+        [a, b] => letter_value(*a) * 26 + letter_value(*b),
+        [a, b, c] => (letter_value(*a) * 26 + letter_value(*b)) * 26 + letter_value(*c),
+        _ => unreachable!(),
+    }
+}
+
+fn number_inside(letters: &[u8]) -> Option<u32>
     requires { list_all is_letter letters.now ≡ true }
     ensures value { result ≡ (if number_a_column letters.now then Some (letters_number letters.now) else None) }
     ensures inside { IfSome result (λ number. number ≤ 16384) }
 {
-    let number = match letters {
-        [a] => letter_value(*a),
-        [a, b] => letter_value(*a) * 26 + letter_value(*b),
-        [a, b, c] => (letter_value(*a) * 26 + letter_value(*b)) * 26 + letter_value(*c),
-        _ => return None,
-    };
+    if letters.is_empty() || letters.len() > 3 {
+        return None;
+    }
+    let number = letters_number(letters);
     if number <= 16_384 { Some(number) } else { None }
 }
 
@@ -110,7 +128,7 @@ fn column_number(letters: &[u8]) -> Option<u32>
     if !are_letters(letters) {
         return None;
     }
-    number_of_letters(letters)
+    number_inside(letters)
 }
 
 /// Whether the letters name a column inside the sheet.

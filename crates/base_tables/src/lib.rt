@@ -14,7 +14,9 @@ mod tables;
 mod word;
 mod zone;
 
-pub use column::{column_to_number, number_to_column};
+pub use column::{
+    column_text, column_to_number, is_letter, letters_number, number_to_column, push_column,
+};
 pub use error::{Error, read_error};
 pub use folding::same_by_folding;
 pub use function::{Function, function_by_name};

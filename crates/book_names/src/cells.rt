@@ -9,7 +9,6 @@ ghost use Rattle.base_maps.specs.Carried.{carried_map};
 ghost use Rattle.cell_content.specs.Lens.{tree_of};
 ghost use Rattle.formula_names.specs.Renamed.{tree_renamed};
 ghost use Rattle.line_map.specs.Contents.{cell_restored};
-ghost use Rattle.line_map.specs.Maps.{KeysInside};
 ghost use Rattle.sheet_grid.specs.declared.Cell.{Cell};
 ghost use Rattle.book_names.specs.Renaming.{cell_renamed, cell_back};
 
@@ -21,6 +20,7 @@ use cell_content::{tree_of, with_tree};
 use formula_names::{Reach, is_unchanged, rename_in_node};
 use formula_tree::Node;
 use sheet_grid::Cell;
+use sheet_lines::places_inside;
 use std::alloc::Global;
 
 /// A change of cells, each at its place.
@@ -176,14 +176,6 @@ fn put_last(
 {
     made.push((place, cell))?;
     Ok(())
-}
-
-/// The keys of a map by place are places of the sheet.
-fn places_inside<V>(map: &PlaceMap<V>)
-    ensures { KeysInside map.now }
-{
-    // The promise is one of the type.
-    let _ = map.iter();
 }
 
 /// The cells of a sheet, each changed at its place, in one walk.

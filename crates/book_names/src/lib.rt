@@ -9,6 +9,7 @@
 //! as it was, and so does a call that is out of memory.
 #![tactic(auto)]
 
+mod by_sheet;
 mod cells;
 mod diffs;
 mod formattings;
@@ -22,6 +23,7 @@ mod reaching;
 mod sheets;
 mod standing;
 
+pub use by_sheet::{SheetChange, changed_sheets};
 pub use diffs::{lie_in_sheets, may_stand, rename_back, rename_forward, stand_on_places};
 pub use kept::kept_formulas;
 pub use kept_rules::kept_formattings;

@@ -1,14 +1,15 @@
 //! The sheets of a workbook, each with its trees renamed or taken back; the one of an id gets another
 //! name.
 
-ghost use Rattle.std.specs.Prelude.{◌≡◌, ◌==◌, map, IfOk, IsOkUnless, if◌then◌else◌};
+ghost use Rattle.std.specs.Prelude.{◌≡◌, ◌==◌, IfOk, IsOkUnless, if◌then◌else◌};
 ghost use Rattle.base_values.specs.declared.EditError.TheVariants.{NoMemory};
 ghost use Rattle.sheet_grid.specs.CanonicalCell.{CanonicalCells};
 ghost use Rattle.sheet_lines.specs.Sheets.{IsPlacedBook};
 ghost use Rattle.book_names.specs.Renaming.{AreCanonicalTrees, ArePlacedTrees, cells_renamed, cells_back, kept_under};
 ghost use Rattle.book_names.specs.Renaming.{formattings_renamed, formattings_back, formattings_under};
-ghost use Rattle.book_names.specs.Renaming.{sheet_renamed, sheet_back, book_renamed, book_back};
+ghost use Rattle.book_names.specs.Renaming.{book_renamed, book_back};
 
+use crate::by_sheet::{SheetChange, changed_sheets};
 use crate::cells::{Renamed, Returned, changed_cells};
 use crate::formattings::{renamed_rules, rules_back};
 use crate::kept_trees::KeptTrees;
@@ -106,72 +107,50 @@ fn with_name_at(mut sheet: Worksheet, id: u32, name: &str) -> Result<Worksheet, 
     Ok(sheet)
 }
 
-fn renamed_sheet(
-    alloc: Global,
-    sheet: &Worksheet,
+/// The sheet of an id gets another name, and each formula that names the old one names the new one.
+#[derive(Drop)]
+struct RenamedSheets<'r> {
     id: u32,
-    old: &str,
-    new: &Shared<Text>,
-) -> Result<Worksheet, EditError>
-    ensures sheet { IfOk result (λ made. made ≡ sheet_renamed id old.now new.now sheet.now) }
-    ensures only { IsOkUnless result NoMemory }
-{
-    let made = with_formulas_renamed(alloc, sheet, Reach::Sheets, old, new)?;
-    with_name_at(made, id, new.get().as_str())
+    old: &'r str,
+    new: &'r Shared<Text>,
 }
 
-fn sheet_back(
-    alloc: Global,
-    sheet: &Worksheet,
-    id: u32,
-    old: &Shared<Text>,
-    new: &str,
-    kept: &KeptTrees,
-) -> Result<Worksheet, EditError>
-    requires { AreCanonicalTrees kept.now }
-    ensures sheet { IfOk result (λ made. made ≡ sheet_back id old.now new.now kept.now sheet.now) }
-    ensures only { IsOkUnless result NoMemory }
-{
-    let made = with_formulas_back(alloc, sheet, Reach::Sheets, old, new, kept)?;
-    with_name_at(made, id, old.get().as_str())
-}
+impl<'r> SheetChange for RenamedSheets<'r> {
+    ghost use Rattle.std.specs.Prelude.{⊤};
+    ghost use Rattle.book_names.specs.Renaming.{sheet_renamed};
 
-fn sheets_renamed(
-    alloc: Global,
-    sheets: &[Worksheet],
-    id: u32,
-    old: &str,
-    new: &Shared<Text>,
-) -> Result<Items<Worksheet>, EditError>
-    ensures sheets { IfOk result (λ made. made ≡ map (sheet_renamed id old.now new.now) sheets.now) }
-    ensures only { IsOkUnless result NoMemory }
-{
-    let mut made = Items::empty(alloc);
-    for sheet in sheets {
-        let renamed = renamed_sheet(alloc, sheet, id, old, new)?;
-        made.push(renamed)?;
+    ghost Asks = { λ _. ⊤ };
+
+    ghost change = { λ self. sheet_renamed self.id self.old.now self.new.now };
+
+    fn changed(&self, alloc: Global, sheet: &Worksheet) -> Result<Worksheet, EditError> {
+        let made = with_formulas_renamed(alloc, sheet, Reach::Sheets, self.old, self.new)?;
+        with_name_at(made, self.id, self.new.get().as_str())
     }
-    Ok(made)
 }
 
-fn sheets_back(
-    alloc: Global,
-    sheets: &[Worksheet],
+/// The sheet of an id gets its old name back, and each formula is the kept one, or renamed back without
+/// one.
+#[derive(Drop)]
+struct SheetsBack<'r> {
     id: u32,
-    old: &Shared<Text>,
-    new: &str,
-    kept: &KeptTrees,
-) -> Result<Items<Worksheet>, EditError>
-    requires { AreCanonicalTrees kept.now }
-    ensures sheets { IfOk result (λ made. made ≡ map (sheet_back id old.now new.now kept.now) sheets.now) }
-    ensures only { IsOkUnless result NoMemory }
-{
-    let mut made = Items::empty(alloc);
-    for sheet in sheets {
-        let back = sheet_back(alloc, sheet, id, old, new, kept)?;
-        made.push(back)?;
+    old: &'r Shared<Text>,
+    new: &'r str,
+    kept: &'r KeptTrees,
+}
+
+impl<'r> SheetChange for SheetsBack<'r> {
+    ghost use Rattle.book_names.specs.Renaming.{AreCanonicalTrees, sheet_back};
+
+    ghost Asks = { λ self. AreCanonicalTrees self.kept.now };
+
+    ghost change = { λ self. sheet_back self.id self.old.now self.new.now self.kept.now };
+
+    fn changed(&self, alloc: Global, sheet: &Worksheet) -> Result<Worksheet, EditError> {
+        let (old, new) = (self.old, self.new);
+        let made = with_formulas_back(alloc, sheet, Reach::Sheets, old, new, self.kept)?;
+        with_name_at(made, self.id, old.get().as_str())
     }
-    Ok(made)
 }
 
 /// The text of a name, to be held once for every tree that names it. `NoMemory` alone is an error.
@@ -213,7 +192,8 @@ pub(crate) fn book_renamed(
     ensures only { IsOkUnless result NoMemory }
 {
     let new = shared_name(alloc, new)?;
-    let sheets = sheets_renamed(alloc, workbook.worksheets(), id, old, &new)?;
+    let renamed = RenamedSheets { id, old, new: &new };
+    let sheets = changed_sheets(alloc, &renamed, workbook.worksheets())?;
     let names = renamed_list(alloc, workbook.name_list(), old, &new)?;
     with_lists(workbook, sheets, names)
 }
@@ -236,7 +216,13 @@ pub(crate) fn book_back(
     ensures only { IsOkUnless result NoMemory }
 {
     let old = shared_name(alloc, old)?;
-    let sheets = sheets_back(alloc, workbook.worksheets(), id, &old, new, kept)?;
+    let back = SheetsBack {
+        id,
+        old: &old,
+        new,
+        kept,
+    };
+    let sheets = changed_sheets(alloc, &back, workbook.worksheets())?;
     let names = list_back(
         alloc,
         workbook.name_list(),

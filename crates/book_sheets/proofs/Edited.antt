@@ -1,9 +1,8 @@
 -- What the edits of the list of sheets make, where a diff is not refused.
-use Rattle.std.proofs.Common.{◌≡◌, ℕ, ◌+◌, Bool, true, false, cond, ltb, ◌&&◌, List, [], ◌∷◌, length, Option, Some, None, Result, Ok, Err, refl, ap, sym, subst, ◌∙◌}
+use Rattle.std.proofs.Common.{◌≡◌, ℕ, ◌+◌, Bool, true, false, cond, ◌&&◌, List, [], ◌∷◌, length, Option, Some, None, Result, Ok, Err, refl, ap, sym, subst, ◌∙◌}
 use Rattle.std.specs.Prelude.{◌==◌, OnOk, is_none, nat_le, nat_lt, slice_get}
-use Rattle.std.specs.List.{find, position_from, position_or_len}
+use Rattle.std.specs.List.{find, position_from}
 use Rattle.std.proofs.lemmas.Iterator.Adapters.{position_from-zero}
-use Rattle.std.proofs.lemmas.List.Folds.{find_at}
 use Rattle.base_values.specs.declared.EditError.{EditError}
 use Rattle.base_values.specs.declared.EditError.TheVariants.{DiffRefused, InvalidSheet}
 use Rattle.base_values.specs.Answers.{Changes, Edits, ok_or}
@@ -12,7 +11,8 @@ use Rattle.defined_names.specs.Names.{names_copied}
 use Rattle.sheet_grid.specs.Sheet.{Sheet, new_sheet}
 use Rattle.sheet_grid.specs.Book.{Book, index_of, sheet_at, sheet_inserted, sheet_moved, sheets_moved}
 use Rattle.sheet_rules.specs.laws.EntryLaws.{both}
-use Rattle.sheet_lines.specs.Sheets.{IsPlacedSheet, IsPlacedBook, sheet_of}
+use Rattle.sheet_lines.specs.Sheets.{IsPlacedSheet, IsPlacedBook}
+use Rattle.sheet_lines.specs.laws.Found.{found_at, not_found}
 use Rattle.book_sheets.specs.SheetDiffs.{may_come, with_sheet_at, sheet_comes, sheet_as, copied_from, new_forward, copy_forward}
 use Rattle.book_sheets.specs.laws.Placed.{all_inserted, placed_sheets_moved}
 
@@ -30,15 +30,7 @@ not_changed error old next later last made is h =
 
 -- ---- where a sheet is
 
--- where no sheet has an id, none is found by it
-none_found : (p : Sheet → Bool) (n : ℕ) (ss : List Sheet) → position_from p n ss ≡ None → find p ss ≡ None
-none_found p n [] none = refl
-none_found p n (s ∷ ss) none = go (p s) (none_found p (n + 1) ss) none
-  where
-    go : (b : Bool) → (position_from p (n + 1) ss ≡ None → find p ss ≡ None) → cond b (Some n) (position_from p (n + 1) ss) ≡ None → cond b (Some s) (find p ss) ≡ None
-    go true rest none = absurd (cc)
-    go false rest none = rest none
-
+-- where one has an id, one is found by it
 one_found : (p : Sheet → Bool) (n i : ℕ) (ss : List Sheet) → position_from p n ss ≡ Some i → find p ss ≡ None → ⊥
 one_found p n i [] is none = absurd (cc)
 one_found p n i (s ∷ ss) is none = go (p s) (one_found p (n + 1) i ss) is none
@@ -47,18 +39,7 @@ one_found p n i (s ∷ ss) is none = go (p s) (one_found p (n + 1) i ss) is none
     go true rest is none = absurd (cc)
     go false rest is none = rest is none
 
--- the sheet of an id stands at its index
-found_at : (w : Book) (id i : ℕ) → index_of w id ≡ Some i → sheet_of w id ≡ slice_get w.worksheets i
-found_at w id i is = find_at has w.worksheets ∙ ap (slice_get w.worksheets) (go (ltb (position_or_len has w.worksheets) (length w.worksheets)) is)
-  where
-    has : Sheet → Bool
-    has = λ (s : Sheet). s.id == id
-
-    go : (b : Bool) → cond b (Some (position_or_len (λ (s : Sheet). s.id == id) w.worksheets)) None ≡ Some i → position_or_len (λ (s : Sheet). s.id == id) w.worksheets ≡ i
-    go true same = cc
-    go false same = absurd (cc)
-
--- so there is one at the index
+-- so there is one at its index
 pub sheet_at_there : (w : Book) (id i : ℕ) (error : EditError) → index_of w id ≡ Some i → sheet_at w i ≡ Err error → ⊥
 sheet_at_there w id i error is lacks = go (slice_get w.worksheets i) refl lacks
   where
@@ -102,7 +83,7 @@ copy_where_may at source id index found name sheet w is there may =
 pub copy_without_source : (at source id index : ℕ) (name : List ℕ) (w : Book) → index_of w source ≡ None → copy_forward at source id index name w ≡ Err (DiffRefused 0 at)
 unfolding copy_forward
 copy_without_source at source id index name w none =
-    ap (λ o. copied_from at o source id index name w) (none_found (λ (s : Sheet). s.id == source) 0 w.worksheets (sym (position_from-zero (λ (s : Sheet). s.id == source) w.worksheets) ∙ none))
+    ap (λ o. copied_from at o source id index name w) (not_found w source none)
 
 -- ---- formulas and merges lie inside then
 

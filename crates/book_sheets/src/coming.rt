@@ -6,11 +6,10 @@ ghost use Rattle.defined_names.specs.Names.{AreCanonicalPlaced};
 ghost use Rattle.sheet_lines.specs.Sheets.{IsPlacedBook};
 ghost use Rattle.book_sheets.specs.SheetDiffs.{may_come, with_sheet_at, new_forward, copy_forward, deletion_back};
 
-use crate::index::sheet_index;
 use crate::kept_sheet::{KeptSheet, may_come_back};
 use base_values::{EditError, copy_of};
 use defined_names::NameList;
-use sheet_grid::{Workbook, Worksheet};
+use sheet_grid::{Workbook, Worksheet, sheet_index};
 use std::alloc::Global;
 
 /// Whether no sheet has the id, and the index is at most the number of the sheets.

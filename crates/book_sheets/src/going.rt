@@ -6,12 +6,11 @@ ghost use Rattle.defined_names.specs.Names.{names_left};
 ghost use Rattle.sheet_lines.specs.Sheets.{IsPlacedBook};
 ghost use Rattle.book_sheets.specs.SheetDiffs.{without_sheet_at, sheet_goes, new_back, copy_back, deletion_forward};
 
-use crate::index::sheet_index;
 use crate::inside::sheet_lies_inside;
 use crate::kept_sheet::KeptSheet;
 use base_values::EditError;
 use defined_names::NameList;
-use sheet_grid::Workbook;
+use sheet_grid::{Workbook, sheet_index};
 use std::alloc::Global;
 
 /// Takes the sheet at an index away, and puts these names in place of the workbook's.

@@ -3,9 +3,9 @@
 
 ghost use Rattle.std.specs.Prelude.{◌≡◌};
 ghost use Rattle.std.specs.List.{list_all};
-ghost use Rattle.std.specs.FinMap.{entries};
 ghost use Rattle.base_axis.specs.Rectangles.{is_inside};
 ghost use Rattle.base_values.specs.declared.Position.{Position};
+ghost use Rattle.cell_content.specs.Fitting.{fits_at};
 ghost use Rattle.format_rules.specs.Fitting.{has_parts, has_fitting_trees};
 ghost use Rattle.sheet_grid.specs.Arrays.{array_at};
 ghost use Rattle.sheet_grid.specs.declared.Cell.{Cell};
@@ -13,10 +13,11 @@ ghost use Rattle.book_sheets.specs.SheetDiffs.{lies_inside, sheet_lies_inside, c
 
 use base_axis::{MergeList, MergedCell};
 use base_shared::Shared;
-use base_values::{PlaceMap, Position};
+use base_values::Position;
 use cell_content::fits_at;
 use format_rules::{RuleList, has_fitting_trees, has_parts};
 use sheet_grid::{Cell, Worksheet, array_at};
+use std::collections::btree_map::Iter;
 
 fn lies_inside(rectangle: Option<MergedCell>) -> bool
     ensures { result ≡ lies_inside rectangle }
@@ -41,12 +42,11 @@ pub fn merges_lie_inside(merges: &MergeList) -> bool
     merges.as_slice().iter().all(|merge| merge.is_inside())
 }
 
-fn arrays_lie_inside(sheet: &Worksheet) -> bool
-    ensures { result ≡ list_all (λ (entry : Position × Cell). lies_inside (array_at entry.0 entry.1.content)) (entries sheet.now.cells) }
+/// Whether each array of these cells does.
+pub fn arrays_lie_inside(mut cells: Iter<'_, Position, Shared<Cell>>) -> bool
+    ensures { result ≡ list_all (λ (entry : Position × Cell). lies_inside (array_at entry.0 entry.1.content)) cells.entry }
 {
-    sheet
-        .cells()
-        .all(|(place, cell)| array_lies_inside(*place, cell.get()))
+    cells.all(|(place, cell)| array_lies_inside(*place, cell.get()))
 }
 
 /// Whether each conditional rule stands on a part at least, and its parts lie inside the sheet.
@@ -65,19 +65,24 @@ fn rules_have_parts(rules: &RuleList) -> bool
 pub(crate) fn sheet_lies_inside(sheet: &Worksheet) -> bool
     ensures { result ≡ sheet_lies_inside sheet.now }
 {
-    arrays_lie_inside(sheet)
+    arrays_lie_inside(sheet.cells())
         && merges_lie_inside(sheet.merge_list())
         && rules_have_parts(sheet.conditional_formatting())
 }
 
-/// Whether the formula of each cell fits its place.
-#[tactic(auto, unfolding(crate::specs::SheetDiffs::cells_fit))]
-pub(crate) fn cells_fit(cells: &PlaceMap<Shared<Cell>>) -> bool
-    ensures { result ≡ cells_fit cells.now }
+/// Whether the formula of each of these cells fits its place.
+pub fn each_fits(mut cells: Iter<'_, Position, Shared<Cell>>) -> bool
+    ensures { result ≡ list_all (λ (entry : Position × Cell). fits_at entry.0 entry.1.content) cells.entry }
 {
-    cells
-        .iter()
-        .all(|(place, cell)| fits_at(*place, &cell.get().content))
+    cells.all(|(place, cell)| fits_at(*place, &cell.get().content))
+}
+
+/// Whether the formula of each cell of a sheet fits its place.
+#[tactic(auto, unfolding(crate::specs::SheetDiffs::cells_fit))]
+pub(crate) fn cells_fit(sheet: &Worksheet) -> bool
+    ensures { result ≡ cells_fit sheet.now.cells }
+{
+    each_fits(sheet.cells())
 }
 
 /// Whether the formulas of each conditional rule fit the rule's place.

@@ -72,7 +72,7 @@ pub(crate) fn may_come_back(count: usize, kept: &KeptSheet) -> bool
     ensures { result ≡ may_come_back count kept.now }
 {
     sheet_lies_inside(&kept.sheet)
-        && cells_fit(kept.sheet.cell_map())
+        && cells_fit(&kept.sheet)
         && rules_fit(kept.sheet.conditional_formatting())
         && (are_places(count, &kept.names) && names_fit(&kept.names))
 }

@@ -7,14 +7,12 @@
 
 mod coming;
 mod going;
-mod index;
 mod inside;
 mod kept_sheet;
 mod moving;
 
 pub use coming::{copy_forward, deletion_back, new_forward};
 pub use going::{copy_back, deletion_forward, new_back};
-pub use index::sheet_index;
-pub use inside::{array_lies_inside, merges_lie_inside};
+pub use inside::{array_lies_inside, arrays_lie_inside, each_fits, merges_lie_inside};
 pub use kept_sheet::KeptSheet;
 pub use moving::sheet_moves;

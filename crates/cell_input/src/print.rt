@@ -95,9 +95,9 @@ pub fn push_content(
         Content::Boolean(value) => Ok(out.push_str(language.boolean(*value))?),
         Content::Error(error) => Ok(out.push_str(error.text())?),
         Content::Text(text) => Ok(push_text(out, text.as_str(), context, locale, language)?),
-        Content::Formula(tree) => push_formula(out, tree.get(), context, locale, language),
-        Content::Dynamic(tree) => push_formula(out, tree.get(), context, locale, language),
-        Content::Array { tree, .. } => push_formula(out, tree.get(), context, locale, language),
+        Content::Formula(tree) | Content::Dynamic(tree) | Content::Array { tree, .. } => {
+            push_formula(out, tree.get(), context, locale, language)
+        }
     }
 }
 

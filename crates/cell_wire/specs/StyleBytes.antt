@@ -1,8 +1,7 @@
 -- The bytes of styles.
 use Rattle.std.specs.Prelude.{ℕ, ◌<◌, ◌^◌, List, [], ◌∷◌, ◌++◌, IfSome, FitsSigned}
 use Rattle.std.specs.Int.{w32}
-use Rattle.base_styles.specs.declared.ThemeColor.{ThemeColor}
-use Rattle.base_styles.specs.declared.ThemeColor.TheVariants.{Light1, Dark1, Light2, Dark2, Accent1, Accent2, Accent3, Accent4, Accent5, Accent6, Hyperlink, FollowedHyperlink}
+use Rattle.base_styles.specs.Colors.{theme_color_code}
 use Rattle.base_styles.specs.declared.Color.{Color}
 use Rattle.base_styles.specs.declared.Color.TheVariants.{None as NoColor, Rgb, Theme}
 use Rattle.base_styles.specs.declared.BorderStyle.{BorderStyle}
@@ -20,26 +19,11 @@ use Rattle.base_wire.specs.Spelling.{spell_signed, spell_code, boolean_code, spe
 
 -- ---- colours
 
--- in the order of the theme
-abbrev pub theme_code : ThemeColor → ℕ
-theme_code Light1 = 0
-theme_code Dark1 = 1
-theme_code Light2 = 2
-theme_code Dark2 = 3
-theme_code Accent1 = 4
-theme_code Accent2 = 5
-theme_code Accent3 = 6
-theme_code Accent4 = 7
-theme_code Accent5 = 8
-theme_code Accent6 = 9
-theme_code Hyperlink = 10
-theme_code FollowedHyperlink = 11
-
 -- its kind, and then three parts or the code of a theme colour
 abbrev pub spell_color : Color → List ℕ
 spell_color NoColor = 0 ∷ []
 spell_color (Rgb red green blue) = 1 ∷ red ∷ green ∷ blue ∷ []
-spell_color (Theme theme) = 2 ∷ theme_code theme ∷ []
+spell_color (Theme theme) = 2 ∷ theme_color_code theme ∷ []
 
 -- its parts are bytes
 abbrev pub FitsColor : Color → Type 0

@@ -3,50 +3,20 @@
 ghost use Rattle.std.specs.Prelude.{◌≡◌};
 ghost use Rattle.base_values.specs.Answers.{ok_or};
 ghost use Rattle.base_values.specs.declared.EditError.TheVariants.{ParseDiffs};
+ghost use Rattle.base_styles.specs.Colors.{theme_color_of_code};
 ghost use Rattle.base_wire.specs.laws.Reading.{decoded};
-ghost use Rattle.cell_wire.specs.StyleBytes.{border_code, horizontal_code, theme_code, vertical_code};
-ghost use Rattle.cell_wire.specs.laws.Reading.{border_styles, horizontals, theme_colors, verticals};
+ghost use Rattle.cell_wire.specs.StyleBytes.{border_code, horizontal_code, vertical_code};
+ghost use Rattle.cell_wire.specs.laws.Reading.{border_styles, horizontals, verticals};
 
 use base_styles::{BorderStyle, HorizontalAlignment, ThemeColor, VerticalAlignment};
 use base_values::EditError;
 
-/// The number of a theme's colour, from 0 in the order of the theme (docs/FORMATS.md, "Bytes").
-pub fn theme_code(theme: ThemeColor) -> u8
-    ensures { result ≡ theme_code theme }
-{
-    match theme {
-        ThemeColor::Light1 => 0,
-        ThemeColor::Dark1 => 1,
-        ThemeColor::Light2 => 2,
-        ThemeColor::Dark2 => 3,
-        ThemeColor::Accent1 => 4,
-        ThemeColor::Accent2 => 5,
-        ThemeColor::Accent3 => 6,
-        ThemeColor::Accent4 => 7,
-        ThemeColor::Accent5 => 8,
-        ThemeColor::Accent6 => 9,
-        ThemeColor::Hyperlink => 10,
-        ThemeColor::FollowedHyperlink => 11,
-    }
-}
-
 pub(crate) fn theme_of(code: u8) -> Result<ThemeColor, EditError>
-    ensures { result ≡ ok_or ParseDiffs (decoded theme_code theme_colors code) }
+    ensures { result ≡ ok_or ParseDiffs (theme_color_of_code code) }
 {
-    match code {
-        0 => Ok(ThemeColor::Light1),
-        1 => Ok(ThemeColor::Dark1),
-        2 => Ok(ThemeColor::Light2),
-        3 => Ok(ThemeColor::Dark2),
-        4 => Ok(ThemeColor::Accent1),
-        5 => Ok(ThemeColor::Accent2),
-        6 => Ok(ThemeColor::Accent3),
-        7 => Ok(ThemeColor::Accent4),
-        8 => Ok(ThemeColor::Accent5),
-        9 => Ok(ThemeColor::Accent6),
-        10 => Ok(ThemeColor::Hyperlink),
-        11 => Ok(ThemeColor::FollowedHyperlink),
-        _ => Err(EditError::ParseDiffs),
+    match ThemeColor::from_code(code) {
+        Some(color) => Ok(color),
+        None => Err(EditError::ParseDiffs),
     }
 }
 

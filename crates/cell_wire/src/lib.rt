@@ -15,7 +15,6 @@ mod reading_cells;
 mod reading_styles;
 mod writing;
 
-pub use codes::theme_code;
 pub use encode::encode_style;
 pub use merges::{LinkPart, MergeListPart};
 pub use parts::{CellPart, ColorPart, PositionPart, StylePart};

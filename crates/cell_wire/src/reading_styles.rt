@@ -3,9 +3,10 @@
 ghost use Rattle.std.specs.Prelude.{◌≡◌, IfOk, IsOkUnless};
 ghost use Rattle.base_values.specs.Answers.{Answers, map_ok};
 ghost use Rattle.base_values.specs.declared.EditError.TheVariants.{NoMemory};
-ghost use Rattle.base_wire.specs.laws.Reading.{code_at};
-ghost use Rattle.cell_wire.specs.StyleBytes.{border_code, horizontal_code, theme_code, vertical_code};
-ghost use Rattle.cell_wire.specs.laws.Reading.{alignment_at, border_at, border_item_at, border_styles, color_at, font_at, horizontals, style_at, theme_colors, verticals};
+ghost use Rattle.base_styles.specs.Colors.{theme_color_of_code};
+ghost use Rattle.base_wire.specs.laws.Reading.{code_at, coded_at};
+ghost use Rattle.cell_wire.specs.StyleBytes.{border_code, horizontal_code, vertical_code};
+ghost use Rattle.cell_wire.specs.laws.Reading.{alignment_at, border_at, border_item_at, border_styles, color_at, font_at, horizontals, style_at, verticals};
 
 use crate::codes::{border_style_of, horizontal_of, theme_of, vertical_of};
 use crate::parts::{AlignmentPart, BorderItemPart};
@@ -19,7 +20,7 @@ use base_values::{EditError, Text, copy_of, same};
 use std::alloc::Global;
 
 fn theme_at(alloc: Global, bytes: &[u8]) -> Result<(ThemeColor, &[u8]), EditError>
-    ensures { Answers (map_ok (λ x. (x.0, x.1.now)) result) (code_at theme_code theme_colors bytes.now) }
+    ensures { Answers (map_ok (λ x. (x.0, x.1.now)) result) (coded_at theme_color_of_code bytes.now) }
 {
     let (code, rest) = read::<u8>(alloc, bytes)?;
     let theme = theme_of(code)?;

@@ -8,7 +8,7 @@ ghost use Rattle.formula_wire.specs.Carried.{IsKnownNode};
 ghost use Rattle.cell_wire.specs.StyleBytes.{spell_alignment, spell_border, spell_border_item, spell_color, spell_font, spell_style, FitsBorder, FitsBorderItem, FitsColor, FitsFont, FitsStyle};
 ghost use Rattle.cell_wire.specs.CellBytes.{spell_array, spell_cell, spell_content, spell_position, FitsArray, FitsCell, FitsContent, FitsPosition, IsKnownCell};
 
-use crate::codes::{border_code, horizontal_code, theme_code, vertical_code};
+use crate::codes::{border_code, horizontal_code, vertical_code};
 use crate::parts::{AlignmentPart, BorderItemPart};
 use base_decimal::Decimal;
 use base_styles::{Alignment, Border, BorderItem, Color, Font, Style};
@@ -26,7 +26,7 @@ pub(crate) fn put_color(out: &mut Vec<u8>, color: Color) -> Result<(), AllocErro
     match color {
         Color::None => out.push(0)?,
         Color::Rgb { red, green, blue } => out.extend_from_slice(&[1, red, green, blue])?,
-        Color::Theme(theme) => out.extend_from_slice(&[2, theme_code(theme)])?,
+        Color::Theme(theme) => out.extend_from_slice(&[2, theme.code()])?,
     }
     Ok(())
 }

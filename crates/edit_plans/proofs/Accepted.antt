@@ -29,7 +29,8 @@ use Rattle.edit_plans.specs.Edits.{Edit, IsGiven, changed, is_of_entries}
 use Rattle.edit_plans.specs.Edits.Edit.{Input, ArrayInput, SetLink, Merge, Unmerge, Lines, MoveLines, AddSheet, CopySheet, DeleteSheet, MoveSheet, RenameSheet, ChangeNames, EditRules, SetField, SetSize, SetHidden, SetRangeStyle, ClearRange, ClearFormatting, PasteStyles, SetSetting, Fill}
 use Rattle.edit_plans.specs.Inputs.{IsInput, input_place, input_put, with_input}
 use Rattle.edit_plans.specs.Links.{link_set}
-use Rattle.edit_plans.specs.Merging.{merge_diffs, merge_made, merge_undone, merged_in, unmerged_at, unmerged_in, with_merge, without_merge}
+use Rattle.edit_plans.specs.Merging.{merge_made, merge_undone, merged_in, unmerged_at, unmerged_in, with_merge, without_merge}
+use Rattle.edit_plans.specs.laws.EditRecords.{array_diffs, field_change, fill_record, merge_diffs}
 use Rattle.line_sizes.specs.declared.LineChange.{LineChange}
 use Rattle.line_sizes.specs.declared.LineChange.TheVariants.{Hidden}
 use Rattle.line_sizes.specs.LineChanges.{lines_from}
@@ -39,16 +40,16 @@ use Rattle.entry_records.specs.LineRecords.{change_fits, lines_set, size_change}
 use Rattle.entry_records.specs.laws.AttrRules.{hidden_fits, size_fits}
 use Rattle.entry_records.specs.laws.LineRecordLaws.{attrs_exact, attrs_well_formed, lines_inside}
 use Rattle.edit_plans.specs.LineEdits.{attrs_in, attrs_set}
-use Rattle.edit_plans.specs.SheetEdits.{field_put, field_set, field_change}
+use Rattle.edit_plans.specs.SheetEdits.{field_put, field_set}
 use Rattle.edit_plans.specs.laws.FieldPlans.{field_exact, field_may, field_taken, field_well_formed}
 use Rattle.edit_plans.specs.laws.InputLaws.{input_exact, input_well_formed}
 use Rattle.edit_plans.specs.laws.LinkLaws.{link_exact, link_well_formed}
-use Rattle.edit_plans.specs.ArrayInputs.{array_area, array_diffs, array_put, with_array}
+use Rattle.edit_plans.specs.ArrayInputs.{array_area, array_put, with_array}
 use Rattle.edit_plans.proofs.ArrayPlans.{array_exact, array_is, array_well_formed}
 use Rattle.base_tables.specs.declared.Language.{Language}
 use Rattle.sheet_fill.specs.declared.FillPlan.{FillPlan}
 use Rattle.sheet_fill.specs.Plans.{planned_in as filled_in}
-use Rattle.edit_plans.specs.Fills.{fill_made, fill_record, with_fill}
+use Rattle.edit_plans.specs.Fills.{fill_made, with_fill}
 use Rattle.edit_plans.specs.laws.FillLaws.{fill_exact, fill_well_formed}
 use Rattle.edit_plans.proofs.Merges.{merge_exact, merge_well_formed, unmerge_exact, unmerge_well_formed}
 use Rattle.edit_plans.proofs.MergePlans.{may_merge}

@@ -20,7 +20,8 @@ use Rattle.sheet_history.specs.declared.Diff.{Diff}
 use Rattle.sheet_history.specs.Diffs.{IsCanonicalList}
 use Rattle.sheet_history.specs.Records.{IsRecord}
 use Rattle.sheet_history.specs.laws.RuleLaws.{KeepsSheetRules}
-use Rattle.edit_plans.specs.ArrayInputs.{free_area, array_area, with_array, array_put, array_diffs}
+use Rattle.edit_plans.specs.ArrayInputs.{free_area, array_area, with_array, array_put}
+use Rattle.edit_plans.specs.laws.EditRecords.{array_diffs}
 use Rattle.edit_plans.specs.Plans.{IsPlan, Plans}
 use Rattle.edit_plans.specs.laws.ArrayRecords.{array_changes, array_record, array_made}
 use Rattle.edit_plans.specs.laws.ArrayRules.{MayFill, may_fill, array_rules}

@@ -17,7 +17,8 @@ use Rattle.sheet_history.specs.declared.Diff.{Diff}
 use Rattle.sheet_history.specs.declared.Diff.TheVariants.{Merges as MergesDiff}
 use Rattle.sheet_history.specs.Diffs.{IsCanonicalList}
 use Rattle.sheet_history.specs.Records.{IsRecord}
-use Rattle.edit_plans.specs.Merging.{with_merge, merged_in, merge_made, merge_diffs, merges_without, without_merge, unmerged_at, unmerged_in, merge_undone}
+use Rattle.edit_plans.specs.Merging.{with_merge, merged_in, merge_made, merges_without, without_merge, unmerged_at, unmerged_in, merge_undone}
+use Rattle.edit_plans.specs.laws.EditRecords.{merge_diffs}
 use Rattle.edit_plans.specs.Plans.{IsPlan, Plans}
 use Rattle.edit_plans.specs.laws.PlanLaws.{plan_refused, plan_made, no_sheet, sheet_refuses, sheet_sure, sheet_takes}
 use Rattle.edit_plans.proofs.Merges.{merge_well_formed, merge_exact, unmerge_well_formed, unmerge_exact}

@@ -24,8 +24,8 @@ use Rattle.sheet_rules.specs.laws.ShownLaws.{neither, not_true, none_in}
 use Rattle.sheet_history.specs.declared.Diff.TheVariants.{Merges as MergesDiff}
 use Rattle.sheet_history.specs.Records.{IsRecord}
 use Rattle.sheet_history.specs.laws.RuleLaws.{KeepsSheetRules}
-use Rattle.edit_plans.specs.Blanked.{blank_diffs}
-use Rattle.edit_plans.specs.Merging.{with_merge, merge_diffs, merges_without, without_merge}
+use Rattle.edit_plans.specs.laws.EditRecords.{blank_diffs, merge_diffs}
+use Rattle.edit_plans.specs.Merging.{with_merge, merges_without, without_merge}
 use Rattle.entry_records.specs.laws.AtIndex.{there}
 use Rattle.edit_plans.specs.laws.BlankedLaws.{blanked_sheet, content_left, large_left, rules_stay}
 use Rattle.edit_plans.specs.laws.BlankRecord.{blank_changes, blank_record, made_changes, blank_below}

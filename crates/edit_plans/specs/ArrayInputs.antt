@@ -1,5 +1,5 @@
 -- The input of a formula whose values fill a rectangle.
-use Rattle.std.proofs.Common.{ℕ, List, ◌++◌, Result, Ok, Err}
+use Rattle.std.proofs.Common.{ℕ, Result, Ok, Err}
 use Rattle.std.specs.Prelude.{Bool, if◌then◌else◌, not}
 use Rattle.base_values.specs.declared.EditError.{EditError}
 use Rattle.base_values.specs.declared.EditError.TheVariants.{InvalidArea, CoveredCell, ArrayCell}
@@ -15,9 +15,8 @@ use Rattle.sheet_grid.specs.Merges.{is_covered}
 use Rattle.sheet_grid.specs.Sheet.{Sheet}
 use Rattle.sheet_grid.specs.Book.{Book, sheet_edit}
 use Rattle.sheet_rules.specs.Occupied.{meets_any}
-use Rattle.sheet_history.specs.declared.Diff.{Diff}
-use Rattle.edit_plans.specs.Blanked.{blanked, blank_diffs}
-use Rattle.edit_plans.specs.Inputs.{cell_entered, cell_record}
+use Rattle.edit_plans.specs.Blanked.{blanked}
+use Rattle.edit_plans.specs.Inputs.{cell_entered}
 
 -- a rectangle of more than one cell meets a merge, or a merge covers its one cell
 abbrev pub hits_merge : Sheet → MergedCell → Bool
@@ -45,7 +44,3 @@ array_area sheet r = and_then (place_of r.row r.column) (λ place. free_area she
 -- the workbook with an array of the sheet at an index, or the first refusal: no such sheet, or no rectangle that it may fill
 unfoldable pub array_put : ℕ → MergedCell → Node → Book → Result Book EditError
 array_put index r tree book = sheet_edit book index (λ sheet. map_ok (λ area. with_array sheet area tree) (array_area sheet r))
-
--- the record of an array that may fill a rectangle: the change of its first cell, and then the cells that lose their contents
-abbrev pub array_diffs : MergedCell → Node → Sheet → List Diff
-array_diffs r tree sheet = cell_record (Array tree r.width r.height) sheet (anchor_place r) ++ blank_diffs r sheet

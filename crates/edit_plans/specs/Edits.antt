@@ -107,7 +107,8 @@ is_of_sheets (EditRules edit) = true
 is_of_sheets (SetSetting setting) = true
 is_of_sheets edit = false
 
--- whether an edit is one of entries, not of lines, of the list of the sheets, of the defined names, of conditional rules or of settings
+-- whether an edit is one of entries of a sheet, not of lines, of the list of the sheets, of the defined names, of conditional rules or of
+-- settings
 abbrev pub is_of_entries : Edit → Bool
 is_of_entries (Lines index axis kind) = false
 is_of_entries (MoveLines index axis first count delta) = false

@@ -1,5 +1,5 @@
--- Fills: what they change, when they are refused, and their record.
-use Rattle.std.proofs.Common.{ℕ, ℤ, List, ◌++◌, Option, Result}
+-- Fills: what they change, and when they are refused.
+use Rattle.std.proofs.Common.{ℕ, ℤ, Option, Result}
 use Rattle.std.specs.FinMap.{FinMap, empty}
 use Rattle.base_values.specs.declared.EditError.{EditError}
 use Rattle.base_values.specs.Answers.{map_ok}
@@ -13,13 +13,9 @@ use Rattle.sheet_grid.specs.Book.{Book, sheet_edit}
 use Rattle.sheet_fill.specs.declared.FillPlan.{FillPlan}
 use Rattle.sheet_fill.specs.Plans.{planned_in}
 use Rattle.range_styles.specs.declared.SheetPlan.{SheetPlan}
-use Rattle.sheet_history.specs.declared.Diff.{Diff}
 use Rattle.sheet_history.specs.declared.LineAxis.{LineAxis}
-use Rattle.sheet_history.specs.Entries.EntryKey.{MergesKey}
-use Rattle.sheet_history.specs.Entries.EntryValue.{MergesValue}
 use Rattle.sheet_history.specs.LineDiffs.{along_of}
-use Rattle.sheet_history.specs.Records.{entry_record}
-use Rattle.entry_records.specs.SheetPlans.{plan_diffs, with_plan}
+use Rattle.entry_records.specs.SheetPlans.{with_plan}
 
 -- what a fill puts at places, as a plan of a sheet: no line changes
 abbrev pub places_plan : FinMap position_cmp (Option Cell) → FinMap position_cmp (Option Link) → SheetPlan
@@ -33,13 +29,3 @@ with_fill sheet plan = record (with_plan (places_plan plan.cells plan.links) she
 unfoldable pub fill_made : ℕ → LineAxis → MergedCell → ℤ → Language → Book → Result Book EditError
 fill_made index axis source to language book =
     sheet_edit book index (λ sheet. map_ok (with_fill sheet) (planned_in (along_of axis) source to book.locale language sheet))
-
--- ---- the record
-
--- the change of the merges of a sheet
-abbrev pub merges_record : Sheet → List MergedCell → List Diff
-merges_record sheet merges = entry_record (MergesKey sheet.id) (MergesValue sheet.merges) (MergesValue merges)
-
--- the record of a fill: the cells that change, the links, and the merges
-abbrev pub fill_record : Sheet → FillPlan → List Diff
-fill_record sheet plan = plan_diffs (places_plan plan.cells plan.links) sheet ++ merges_record sheet plan.merges

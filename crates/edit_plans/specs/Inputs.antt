@@ -1,5 +1,5 @@
 -- The input of a content at a place.
-use Rattle.std.proofs.Common.{◌≡◌, ℕ, ℤ, List, [], ◌++◌, Option, Some, None, Result, Ok, Err}
+use Rattle.std.proofs.Common.{◌≡◌, ℕ, ℤ, Option, Some, None, Result, Ok, Err}
 use Rattle.std.specs.Prelude.{if◌then◌else◌, is_some, IsTrue}
 use Rattle.std.specs.FinMap as fin
 use Rattle.base_values.specs.declared.EditError.{EditError}
@@ -20,13 +20,6 @@ use Rattle.sheet_grid.specs.Sheet.{Sheet, with_cell, shown_style}
 use Rattle.sheet_grid.specs.Book.{Book, sheet_edit}
 use Rattle.line_sizes.specs.Heights.{needed_height, raised_entry}
 use Rattle.sheet_rules.specs.Occupied.{array_over}
-use Rattle.sheet_history.specs.declared.Diff.{Diff}
-use Rattle.sheet_history.specs.declared.LineAxis.TheVariants.{Rows}
-use Rattle.sheet_history.specs.Entries.EntryKey.{CellKey}
-use Rattle.sheet_history.specs.Entries.EntryValue.{CellValue}
-use Rattle.sheet_history.specs.Records.{entry_record}
-use Rattle.entry_records.specs.LineRecords.{attr_record}
-use Rattle.edit_plans.specs.Links.{link_change}
 
 -- a new cell, with the style that its place shows; an empty input makes none
 abbrev pub new_cell : Content → Style → Option Cell
@@ -78,22 +71,6 @@ input_place sheet row column = and_then (place_of row column) (free_place sheet)
 -- the workbook after an input, or the first refusal: no such sheet, or no place to which it may go
 unfoldable pub input_put : ℕ → ℤ → ℤ → Content → ℕ → Book → Result Book EditError
 input_put index row column content feeds book = sheet_edit book index (λ sheet. map_ok (with_input sheet content feeds) (input_place sheet row column))
-
--- the change of the cell at a place that gets a content
-abbrev pub cell_record : Content → Sheet → Position → List Diff
-cell_record content sheet place = entry_record (CellKey sheet.id place) (CellValue (fin.get sheet.cells place)) (CellValue (cell_entered sheet place content))
-
--- the change of its link
-abbrev pub link_record : Content → Sheet → Position → List Diff
-link_record content sheet place = if is_empty content then link_change sheet place None else []
-
--- the change of its row
-abbrev pub height_record : ℕ → Sheet → Position → List Diff
-height_record feeds sheet place = attr_record sheet.id Rows place.row (fin.get sheet.rows place.row) (row_raised sheet place feeds)
-
--- the record of an input at a place
-abbrev pub input_record : Content → ℕ → Sheet → Position → List Diff
-input_record content feeds sheet place = (cell_record content sheet place ++ link_record content sheet place) ++ height_record feeds sheet place
 
 -- what an input may be: a content that may stand at its place, and no array
 pub record IsInput (row column : ℤ) (content : Content) : Type 0 where

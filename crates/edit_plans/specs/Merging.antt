@@ -14,9 +14,7 @@ use Rattle.sheet_grid.specs.Merges.{merge_holding}
 use Rattle.sheet_grid.specs.Sheet.{Sheet}
 use Rattle.sheet_grid.specs.Book.{Book, sheet_edit}
 use Rattle.sheet_rules.specs.Occupied.{is_merge, meets_any}
-use Rattle.sheet_history.specs.declared.Diff.{Diff}
-use Rattle.sheet_history.specs.declared.Diff.TheVariants.{Merges as MergesDiff}
-use Rattle.edit_plans.specs.Blanked.{blanked, blank_diffs}
+use Rattle.edit_plans.specs.Blanked.{blanked}
 
 -- the sheet with one more merge, behind its others. The cells that it covers lose their contents
 abbrev pub with_merge : Sheet → MergedCell → Sheet
@@ -42,10 +40,6 @@ merges_without place merges = filter (λ merge. not (holds merge place)) merges
 -- a sheet without the merges that hold a place
 abbrev pub without_merge : Sheet → Position → Sheet
 without_merge sheet place = record sheet { merges = merges_without place sheet.merges }
-
--- the record of a merge: the cells that lose their contents, and then the merges
-abbrev pub merge_diffs : MergedCell → Sheet → List Diff
-merge_diffs r sheet = blank_diffs r sheet ++ MergesDiff sheet.id sheet.merges (sheet.merges ++ r ∷ []) ∷ []
 
 -- the merge that holds a place goes. Where there is none it is refused
 abbrev pub unmerged_at : Sheet → Position → Option MergedCell → Result Sheet EditError

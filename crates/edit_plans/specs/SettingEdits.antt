@@ -23,6 +23,6 @@ abbrev pub is_own_name : Setting → Book → Bool
 is_own_name (value.Name name) book = same_text book.name name
 is_own_name setting book = false
 
--- the record of a setting that a workbook gets: its change, or nothing where it stays
+-- the record of a setting that a workbook gets: its change, or nothing where it stays, as of any other entry
 abbrev pub setting_record : Setting → Book → List Diff
 setting_record setting book = if has_setting setting book then [] else SettingDiff (change_to setting book) ∷ []

@@ -16,10 +16,7 @@ use Rattle.book_names.specs.RenameDiffs.{may_be_named}
 use Rattle.sheet_history.specs.declared.SheetField.{SheetField}
 use Rattle.sheet_history.specs.declared.Diff.{Diff}
 use Rattle.sheet_history.specs.declared.Diff.TheVariants.{NewSheet as NewDiff, DuplicateSheet as CopyDiff, DeleteSheet as DeletionDiff, MoveSheet as MoveDiff, RenameSheet as RenameDiff}
-use Rattle.sheet_history.specs.Entries.EntryKey.{FieldKey}
-use Rattle.sheet_history.specs.Entries.EntryValue.{FieldValue}
-use Rattle.sheet_history.specs.Fields.{field_of, field_in, may_have, with_field}
-use Rattle.sheet_history.specs.Records.{entry_record}
+use Rattle.sheet_history.specs.Fields.{field_of, may_have, with_field}
 
 -- ---- the list of the sheets
 
@@ -111,7 +108,3 @@ field_put value sheet = if may_have value then Ok (with_field (field_of value) v
 -- a field of a sheet gets a value: there is no such sheet, or no such value
 unfoldable pub field_set : ℕ → SheetField → Book → Result Book EditError
 field_set index value book = sheet_edit book index (field_put value)
-
--- the change where a field gets a value: nothing where it stays
-abbrev pub field_change : Sheet → SheetField → List Diff
-field_change sheet value = entry_record (FieldKey sheet.id (field_of value)) (FieldValue (field_in (field_of value) sheet)) (FieldValue value)

@@ -1,3 +1,4 @@
+pub mod EditRecords
 pub mod ArrayPut
 pub mod ArrayRecords
 pub mod ArrayRules

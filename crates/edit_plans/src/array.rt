@@ -9,7 +9,8 @@ ghost use Rattle.cell_content.specs.declared.Content.TheVariants.{Array};
 ghost use Rattle.formula_tree.specs.Numbers.{has_canonical_numbers};
 ghost use Rattle.sheet_rules.specs.WellFormed.{IsWellFormed};
 ghost use Rattle.sheet_history.specs.Diffs.{IsCanonicalList};
-ghost use Rattle.edit_plans.specs.ArrayInputs.{hits_merge, free_area, array_area, array_put, array_diffs};
+ghost use Rattle.edit_plans.specs.ArrayInputs.{hits_merge, free_area, array_area, array_put};
+ghost use Rattle.edit_plans.specs.laws.EditRecords.{array_diffs};
 ghost use Rattle.edit_plans.specs.Plans.{Plans};
 
 use crate::blanked::push_blank_diffs;

@@ -7,7 +7,8 @@ ghost use Rattle.sheet_grid.specs.CanonicalCell.{IsCanonicalCell};
 ghost use Rattle.sheet_grid.specs.Merges.{is_empty};
 ghost use Rattle.sheet_history.specs.Diffs.{IsCanonicalDiff, IsCanonicalList};
 ghost use Rattle.sheet_rules.specs.Occupied.{covers};
-ghost use Rattle.edit_plans.specs.Blanked.{blank_cell, blank_diff, blank_diffs, loses};
+ghost use Rattle.edit_plans.specs.Blanked.{blank_cell, loses};
+ghost use Rattle.edit_plans.specs.laws.EditRecords.{blank_diff, blank_diffs};
 
 use base_axis::MergedCell;
 use base_shared::Shared;

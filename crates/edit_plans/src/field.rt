@@ -8,7 +8,8 @@ ghost use Rattle.sheet_rules.specs.WellFormed.{IsWellFormed};
 ghost use Rattle.sheet_history.specs.Diffs.{IsCanonicalDiff, IsCanonicalList};
 ghost use Rattle.sheet_history.specs.declared.SheetField.TheVariants.{State, Color as ColorValue, GridLines, FrozenRows, FrozenColumns};
 ghost use Rattle.edit_plans.specs.Plans.{Plans};
-ghost use Rattle.edit_plans.specs.SheetEdits.{field_set, field_change};
+ghost use Rattle.edit_plans.specs.SheetEdits.{field_set};
+ghost use Rattle.edit_plans.specs.laws.EditRecords.{field_change};
 
 use base_styles::Color;
 use base_values::EditError;

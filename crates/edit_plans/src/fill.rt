@@ -9,7 +9,8 @@ ghost use Rattle.sheet_fill.specs.Plans.{CanonicalFill, fill_planned};
 ghost use Rattle.sheet_rules.specs.WellFormed.{IsWellFormed};
 ghost use Rattle.sheet_history.specs.Diffs.{IsCanonicalDiff, IsCanonicalList};
 ghost use Rattle.sheet_history.specs.LineDiffs.{along_of};
-ghost use Rattle.edit_plans.specs.Fills.{fill_made, fill_record, merges_record, places_plan};
+ghost use Rattle.edit_plans.specs.Fills.{fill_made, places_plan};
+ghost use Rattle.edit_plans.specs.laws.EditRecords.{fill_record, merges_record};
 ghost use Rattle.edit_plans.specs.Plans.{Plans};
 
 use base_axis::{Area, AxisMap, ColumnAxis, MergeList, MergedCell, RowAxis};

@@ -12,7 +12,8 @@ ghost use Rattle.sheet_grid.specs.Merges.{is_covered, is_empty};
 ghost use Rattle.sheet_rules.specs.WellFormed.{IsWellFormed};
 ghost use Rattle.sheet_history.specs.Diffs.{IsCanonicalDiff, IsCanonicalList};
 ghost use Rattle.edit_plans.specs.Plans.{Plans};
-ghost use Rattle.edit_plans.specs.Inputs.{IsInput, entered, free_place, input_place, input_put, cell_record, height_record, link_record, input_record};
+ghost use Rattle.edit_plans.specs.Inputs.{IsInput, entered, free_place, input_place, input_put};
+ghost use Rattle.edit_plans.specs.laws.EditRecords.{cell_record, height_record, link_record, input_record};
 
 use crate::blanked::is_empty;
 use crate::link::link_change;

@@ -7,7 +7,8 @@ ghost use Rattle.base_values.specs.Places.{place_of};
 ghost use Rattle.sheet_rules.specs.WellFormed.{IsWellFormed};
 ghost use Rattle.sheet_history.specs.Diffs.{IsCanonicalDiff, IsCanonicalList};
 ghost use Rattle.edit_plans.specs.Plans.{Plans};
-ghost use Rattle.edit_plans.specs.Links.{link_set, link_change};
+ghost use Rattle.edit_plans.specs.Links.{link_set};
+ghost use Rattle.edit_plans.specs.laws.EditRecords.{link_change};
 
 use base_values::{EditError, Position, place_of};
 use entry_records::{link_diff, list_of_two};

@@ -10,7 +10,8 @@ ghost use Rattle.sheet_grid.specs.Arrays.{large_arrays_of};
 ghost use Rattle.sheet_history.specs.Diffs.{IsCanonicalList};
 ghost use Rattle.sheet_rules.specs.Occupied.{is_merge, meets_any};
 ghost use Rattle.sheet_rules.specs.WellFormed.{IsWellFormed};
-ghost use Rattle.edit_plans.specs.Merging.{merge_diffs, merge_made, merged_in, with_merge};
+ghost use Rattle.edit_plans.specs.Merging.{merge_made, merged_in, with_merge};
+ghost use Rattle.edit_plans.specs.laws.EditRecords.{merge_diffs};
 ghost use Rattle.edit_plans.specs.Plans.{Plans};
 
 use crate::blanked::push_blank_diffs;

@@ -19,10 +19,10 @@ use std::alloc::Global;
 
 /// What is done to each tree of a rule. `NoMemory` alone is an error.
 pub trait TreeChange {
-    /// A tree that it can be done to.
+    /// The trees that the change accepts.
     ghost Takes: { Self → Node → Type 0 };
 
-    /// It as definitions speak of it.
+    /// The change in the definitions.
     ghost change_of: { Self → Node → Node };
 
     /// The tree that a tree becomes.

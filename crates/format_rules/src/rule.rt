@@ -32,7 +32,7 @@ pub enum CfRule {
     ColorScale {
         thresholds: Items<ColorThreshold>,
     },
-    /// A bar, as long as the value is great.
+    /// A bar whose length shows the value.
     DataBar {
         /// Where a bar has no length. `None` where the program that shows it decides.
         min: Option<Cfvo>,

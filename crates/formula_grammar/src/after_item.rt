@@ -1,5 +1,5 @@
 /// What goes on after an item of an array.
-#[derive(Clone, Copy, Debug, PartialEq, Eq)]
+#[derive(Clone, Copy, Debug)]
 pub enum AfterItem {
     /// The next item of the line.
     Column,

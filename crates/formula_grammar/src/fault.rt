@@ -1,7 +1,7 @@
 use std::alloc::AllocError;
 
 /// Why no tree was read.
-#[derive(Clone, Copy, Debug, PartialEq, Eq)]
+#[derive(Clone, Copy, Debug)]
 pub enum Fault {
     /// Memory ran out.
     Memory,

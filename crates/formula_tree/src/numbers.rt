@@ -9,7 +9,7 @@ use base_shared::Shared;
 use base_values::Items;
 
 /// What may be asked of the numbers of a tree.
-#[derive(Clone, Copy, Debug, PartialEq, Eq)]
+#[derive(Clone, Copy, Debug)]
 pub enum NumberRule {
     /// Each is canonical, also in arrays.
     Canonical,

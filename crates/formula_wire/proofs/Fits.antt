@@ -13,7 +13,7 @@ use Rattle.base_wire.specs.Forms.{is_text, is_list}
 use Rattle.base_wire.specs.laws.Form.{Passes, each_passes, items_out, text_passes}
 use Rattle.formula_wire.specs.Carried.{is_corner, is_item, is_parameter}
 use Rattle.formula_wire.specs.laws.CanonicalLaws.{lines_kept}
-use Rattle.formula_wire.specs.CanonicalNumbers.{is_canonical_item}
+use Rattle.formula_wire.specs.laws.CanonicalNumbers.{is_canonical_item}
 use Rattle.formula_wire.specs.laws.PartLaws.{signed_passes}
 
 pub text_carried : (text : List ℕ) → FitsText text → is_text text ≡ true

@@ -1,5 +1,4 @@
 pub mod PartBytes
 pub mod NodeBytes
 pub mod Carried
-pub mod CanonicalNumbers
 pub mod laws

@@ -42,7 +42,3 @@ spell_layer (layer.ImplicitIntersection a) = 22 ∷ a
 -- the one spelling of a tree
 unfoldable pub spell_node : Node → List ℕ
 spell_node = fold-Node (List ℕ) spell_layer
-
--- the nodes of a list, with their count before them
-abbrev pub spell_nodes : List Node → List ℕ
-spell_nodes = spell_list spell_node

@@ -4,6 +4,7 @@ pub mod PartLaws
 pub mod SpellEquations
 pub mod CarriedEquations
 pub mod NodeFits
+pub mod CanonicalNumbers
 pub mod CanonicalLaws
 pub mod Levels
 pub mod CanonicalArrays

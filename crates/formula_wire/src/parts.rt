@@ -16,7 +16,7 @@ pub(crate) struct ParameterPart;
 impl Part for ConstantPart {
     ghost use Rattle.base_wire.specs.laws.Form.{Passes};
     ghost use Rattle.formula_wire.specs.Carried.{is_item};
-    ghost use Rattle.formula_wire.specs.CanonicalNumbers.{is_canonical_item};
+    ghost use Rattle.formula_wire.specs.laws.CanonicalNumbers.{is_canonical_item};
     ghost use Rattle.formula_wire.specs.PartBytes.{spell_item};
     ghost use Rattle.formula_wire.specs.laws.Reading.{item_at};
     ghost use Rattle.formula_wire.specs.laws.PartLaws.{item_form, item_some};

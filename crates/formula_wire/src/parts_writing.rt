@@ -7,7 +7,7 @@ ghost use Rattle.base_wire.specs.Parts.{spell_decimal};
 ghost use Rattle.base_wire.specs.Spelling.{spell_text};
 ghost use Rattle.base_wire.specs.Forms.{if_passes, is_list, is_text};
 ghost use Rattle.formula_wire.specs.Carried.{is_corner, is_item, is_parameter};
-ghost use Rattle.formula_wire.specs.CanonicalNumbers.{is_canonical_item};
+ghost use Rattle.formula_wire.specs.laws.CanonicalNumbers.{is_canonical_item};
 ghost use Rattle.formula_wire.specs.PartBytes.{spell_corner, spell_lines, spell_parameters, spell_sheet};
 
 use crate::parts::{ConstantPart, ParameterPart};

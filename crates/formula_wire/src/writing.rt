@@ -7,9 +7,10 @@ ghost use Rattle.base_wire.specs.Spelling.{spell_text};
 ghost use Rattle.base_wire.specs.Parts.{spell_decimal};
 ghost use Rattle.base_wire.specs.Forms.{if_passes, is_list, is_text};
 ghost use Rattle.formula_wire.specs.Carried.{is_carried, is_corner, is_item, is_parameter, FitsNode, IsKnownNode};
-ghost use Rattle.formula_wire.specs.CanonicalNumbers.{is_canonical_item};
+ghost use Rattle.formula_wire.specs.laws.CanonicalNumbers.{is_canonical_item};
 ghost use Rattle.formula_wire.specs.PartBytes.{spell_corner, spell_lines, spell_parameters, spell_sheet};
-ghost use Rattle.formula_wire.specs.NodeBytes.{spell_node, spell_nodes};
+ghost use Rattle.formula_wire.specs.NodeBytes.{spell_node};
+ghost use Rattle.formula_wire.specs.laws.SpellEquations.{spell_nodes};
 
 use crate::codes::{compare_code, product_code, sum_code, unary_code};
 use crate::parts_writing::{

@@ -11,11 +11,12 @@ ghost use Rattle.cell_wire.specs.CellBytes.{spell_position};
 ghost use Rattle.map_wire.specs.MapBytes.{spell_map, FitsMap};
 ghost use Rattle.grid_wire.specs.laws.Reading.{axis_line_at, axis_map_at, place_at, place_map_at};
 
+use crate::steps::read;
 use base_axis::{Axis, AxisMap, LineKeys};
 use base_values::{EditError, PlaceKeys, PlaceMap, Position, is_line, is_place};
 use base_wire::Part;
 use cell_wire::PositionPart;
-use map_wire::{entries_at, put_entries, read};
+use map_wire::{map_at, put_map};
 use std::alloc::{AllocError, Global};
 use std::marker::PhantomData;
 
@@ -131,9 +132,7 @@ pub(crate) fn place_map_at<'a, P: Part>(
 ) -> Result<(PlaceMap<P::Value>, &'a [u8]), EditError>
     ensures { Answers (map_ok (λ x. (x.0, x.1.now)) result) (place_map_at P.reading bytes.now) }
 {
-    let (entries, rest) = entries_at::<PlaceKeys<P::Value>, PlacePart, P>(alloc, context, bytes)?;
-    let map = PlaceMap::of_entries(alloc, entries)?;
-    Ok((map, rest))
+    map_at::<PlaceKeys<P::Value>, PlacePart, P>(alloc, context, bytes)
 }
 
 /// A map from lines of an axis.
@@ -145,11 +144,7 @@ pub(crate) fn axis_map_at<'a, A: Axis, P: Part>(
 ) -> Result<(AxisMap<A, P::Value>, &'a [u8]), EditError>
     ensures { Answers (map_ok (λ x. (x.0, x.1.now)) result) (axis_map_at A.along.last P.reading bytes.now) }
 {
-    let (entries, rest) = entries_at::<LineKeys<A, P::Value>, AxisLinePart<A>, P>(
-        alloc, context, bytes,
-    )?;
-    let map = AxisMap::of_entries(alloc, entries)?;
-    Ok((map, rest))
+    map_at::<LineKeys<A, P::Value>, AxisLinePart<A>, P>(alloc, context, bytes)
 }
 
 /// Adds a map from positions of the sheet.
@@ -160,7 +155,7 @@ pub(crate) fn put_place_map<P: Part>(
     ensures spelled { OnOk result (out.new.items ≡ out.old.items ++ spell_map spell_position P.spelling map.now) }
     ensures fits { OnOk result (((place : Position) → IfSome (get map.now place) P.Known) → FitsMap IsPlace P.Fits map.now) }
 {
-    put_entries::<PlacePart, P>(out, map.iter())?;
+    put_map::<PlaceKeys<P::Value>, PlacePart, P>(out, map)?;
     Ok(())
 }
 
@@ -172,6 +167,6 @@ pub(crate) fn put_axis_map<A: Axis, P: Part>(
     ensures spelled { OnOk result (out.new.items ≡ out.old.items ++ spell_map (spell_signed w32) P.spelling map.now) }
     ensures fits { OnOk result (((line : ℤ) → IfSome (get map.now line) P.Known) → FitsMap (IsLine A.along.last) P.Fits map.now) }
 {
-    put_entries::<AxisLinePart<A>, P>(out, map.iter())?;
+    put_map::<LineKeys<A, P::Value>, AxisLinePart<A>, P>(out, map)?;
     Ok(())
 }

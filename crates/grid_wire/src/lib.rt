@@ -11,6 +11,7 @@ mod names;
 mod reading_sheets;
 mod sheets;
 mod states;
+mod steps;
 mod writing_sheets;
 
 pub use lines::LinePart;

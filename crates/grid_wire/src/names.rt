@@ -3,12 +3,12 @@
 ghost use Rattle.base_values.specs.Answers.{Answers, map_ok};
 ghost use Rattle.grid_wire.specs.laws.Reading.{name_at};
 
+use crate::steps::read;
 use base_shared::Shared;
 use base_values::{EditError, Text};
 use base_wire::Part;
 use defined_names::DefinedName;
 use formula_wire::NodePart;
-use map_wire::read;
 use std::alloc::{AllocError, Global};
 
 #[tactic(auto, unfolding(crate::specs::laws::Reading::name_at, crate::specs::laws::Reading::scope_at))]

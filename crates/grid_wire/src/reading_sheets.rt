@@ -11,13 +11,13 @@ ghost use Rattle.grid_wire.specs.laws.Reading.{cells_at, columns_at, fields_at, 
 use crate::keys::{axis_map_at, place_map_at};
 use crate::lines::LinePart;
 use crate::states::StatePart;
+use crate::steps::read;
 use base_axis::{AxisMap, ColumnAxis, MergeList, RowAxis};
 use base_shared::Shared;
 use base_styles::Style;
 use base_values::{EditError, PlaceMap, Text};
 use cell_wire::{CellPart, ColorPart, LinkPart, MergeListPart};
 use format_rules::RuleList;
-use map_wire::read;
 use rule_wire::RuleListPart;
 use sheet_grid::{Cell, LineAttr, Link, Worksheet};
 use std::alloc::Global;

@@ -15,11 +15,11 @@ use Rattle.line_edits.specs.declared.edit.EditKind.TheVariants.{Insert, Delete, 
 use Rattle.base_maps.specs.Carried.{if_there}
 use Rattle.line_edits.specs.Edit.{within, goes_to, image_at, IsValid}
 use Rattle.line_edits.specs.Moves.{at_line, place_image, is_between}
-use Rattle.line_trees.specs.Trees.{corner_of, target, is_exposed, moved_corner, tree_carried}
-use Rattle.line_trees.specs.Way.{Way, IsWay, at}
+use Rattle.line_routes.specs.Trees.{corner_of, target, is_exposed, moved_corner, tree_carried}
+use Rattle.line_routes.specs.Way.{Way, IsWay, at}
 use Rattle.line_edits.specs.laws.Images.{insert_parts, delete_parts}
 use Rattle.line_edits.specs.laws.PlaceLaws.{image_inside}
-use Rattle.line_trees.specs.laws.WayLaws.{at_is_way}
+use Rattle.line_routes.specs.laws.WayLaws.{at_is_way}
 use Rattle.line_laws.specs.Ranges.{is_insertion_or_deletion, Denotes, Holds, Survives, IsImage, IsLeastRange, GoesByNodes, range_carried, RangesHoldImages}
 
 -- lines that go somewhere stay in their order

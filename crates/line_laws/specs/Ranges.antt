@@ -10,8 +10,8 @@ use Rattle.formula_tree.specs.Moved.{move_layer}
 use Rattle.line_edits.specs.declared.edit.EditKind.{EditKind}
 use Rattle.line_edits.specs.declared.edit.EditKind.TheVariants.{Insert, Delete, Move}
 use Rattle.line_edits.specs.Moves.{is_between, place_image}
-use Rattle.line_trees.specs.Trees.{following, is_exposed, tree_carried}
-use Rattle.line_trees.specs.Way.{Way, at, place_goes}
+use Rattle.line_routes.specs.Trees.{following, is_exposed, tree_carried}
+use Rattle.line_routes.specs.Way.{Way, at, place_goes}
 
 -- the edit is no move
 abbrev pub is_insertion_or_deletion : EditKind → Bool

@@ -7,7 +7,7 @@ ghost use Rattle.formula_move.specs.Lines.{shifted, stepped};
 ghost use Rattle.line_edits.specs.declared.EditKind.TheVariants.{Insert, Delete, Move};
 ghost use Rattle.line_edits.specs.Edit.{image_at, IsValid};
 ghost use Rattle.line_laws.specs.Ranges.{is_insertion_or_deletion, GoesByNodes, RangesHoldImages};
-ghost use Rattle.line_trees.specs.Way.{way};
+ghost use Rattle.line_routes.specs.Way.{way};
 
 use base_axis::Axis;
 use line_edits::LineEdit;

@@ -1,6 +1,6 @@
 -- What an edit carries along by itself is regained from what was kept.
 use Rattle.std.specs.Prelude.{◌≡◌, Option, Some, None}
-use Rattle.line_trees.specs.Way.{Way, back}
+use Rattle.line_routes.specs.Way.{Way, back}
 
 module _ {F P : Type 0} where
   -- what was kept restores the value, or the way back gives it

@@ -7,7 +7,7 @@ use Rattle.base_axis.specs.Along.{Along}
 use Rattle.line_edits.specs.declared.Block.{Block}
 use Rattle.base_maps.specs.Carried.{moved_map, lost_map, overlaid}
 use Rattle.line_edits.specs.Edit.{within, amount}
-use Rattle.line_trees.specs.Way.{Way, is_along}
+use Rattle.line_routes.specs.Way.{Way, is_along}
 
 -- whether lines of an axis go along the map: those of the edited axis of the edited sheet
 abbrev pub line_goes_along : Along → Way → Bool

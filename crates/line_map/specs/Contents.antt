@@ -5,8 +5,8 @@ use Rattle.cell_content.specs.declared.Content.{Content}
 use Rattle.cell_content.specs.Lens.{tree_of, with_tree}
 use Rattle.sheet_grid.specs.declared.Cell.{Cell}
 use Rattle.base_maps.specs.Carried.{if_there}
-use Rattle.line_trees.specs.Trees.{tree_carried, tree_part, TreeLies}
-use Rattle.line_trees.specs.Way.{Way}
+use Rattle.line_routes.specs.Trees.{tree_carried, tree_part, TreeLies}
+use Rattle.line_routes.specs.Way.{Way}
 
 -- a content with this tree, if there is one
 abbrev pub with_new_tree : Content → Option Node → Content

@@ -1,6 +1,4 @@
 pub mod Contents
-pub mod MergedCells
-pub mod Merges
 pub mod Lists
 pub mod Maps
 pub mod Attributes

@@ -4,7 +4,7 @@ use Rattle.std.specs.FinMap.{FinMap, get}
 use Rattle.base_values.specs.declared.Position.{Position}
 use Rattle.base_values.specs.Places.{IsPlace, position_cmp}
 use Rattle.base_maps.specs.Carried.{carried_map, entry_made, if_there, parts_map, settled}
-use Rattle.line_trees.specs.Way.{Way, at, back, place_goes}
+use Rattle.line_routes.specs.Way.{Way, at, back, place_goes}
 
 module _ {F : Type 0} where
   -- one entry where its place goes

@@ -10,15 +10,14 @@ ghost use Rattle.line_map.specs.Attributes.{line_goes_along, heir, with_line, bl
 ghost use Rattle.base_maps.specs.Carried.{entry_made, if_lost, lost_map, moved_map, overlaid};
 ghost use Rattle.line_edits.specs.Edit.{within};
 ghost use Rattle.base_maps.specs.laws.Gathering.{with_made};
-ghost use Rattle.line_trees.specs.Way.{way};
+ghost use Rattle.line_routes.specs.Way.{way};
 
 use crate::follower::Follower;
-use crate::list::put_last;
 use base_axis::{Axis, AxisMap};
 use base_maps::NumberMap;
 use base_values::{EditError, Exact, Items, copy_of};
 use line_edits::{Block, LineMap, within};
-use line_trees::Route;
+use line_routes::{Route, put_last};
 use std::alloc::Global;
 
 /// Whether the lines of an axis go along a route: those of the edited axis of the edited sheet.

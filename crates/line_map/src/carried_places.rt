@@ -6,16 +6,15 @@ ghost use Rattle.base_values.specs.Places.{IsPlace};
 ghost use Rattle.base_maps.specs.Carried.{entry_made, if_lost, if_there, lost_map};
 ghost use Rattle.base_maps.specs.laws.Gathering.{with_made};
 ghost use Rattle.line_map.specs.Maps.{AllLie, carried_entry, kept_entry, places_carried, places_parts};
-ghost use Rattle.line_trees.specs.Way.{at, place_goes, way};
+ghost use Rattle.line_routes.specs.Way.{at, place_goes, way};
 
 use crate::follower::Follower;
-use crate::list::put_last;
 use crate::place_map::KeptMap;
 use base_axis::Axis;
 use base_maps::PositionMap;
 use base_values::{EditError, Exact, Items, PlaceMap, Position, copy_of};
 use line_edits::LineMap;
-use line_trees::Route;
+use line_routes::{Route, put_last};
 use std::alloc::Global;
 
 /// What becomes of one entry of a map.

@@ -2,8 +2,8 @@ ghost use Rattle.std.specs.Prelude.{◌≡◌, IfOk, IsOkUnless, Some};
 ghost use Rattle.base_values.specs.declared.EditError.TheVariants.{NoMemory};
 ghost use Rattle.cell_content.specs.Lens.{tree_of};
 ghost use Rattle.line_map.specs.Contents.{cell_carried, cell_part};
-ghost use Rattle.line_trees.specs.Trees.{TreeLies};
-ghost use Rattle.line_trees.specs.Way.{way};
+ghost use Rattle.line_routes.specs.Trees.{TreeLies};
+ghost use Rattle.line_routes.specs.Way.{way};
 
 use crate::follower::Follower;
 use base_axis::Axis;
@@ -12,7 +12,7 @@ use base_values::{EditError, Exact, copy_of};
 use cell_content::{Content, tree_of, with_tree};
 use formula_tree::Node;
 use line_edits::LineMap;
-use line_trees::{Route, carried_node, stays};
+use line_routes::{Route, carried_node, stays};
 use sheet_grid::{Cell, Link};
 use std::alloc::Global;
 

@@ -7,7 +7,7 @@ use crate::follower::Follower;
 use base_axis::Axis;
 use base_values::{EditError, Exact};
 use line_edits::LineEdit;
-use line_trees::edit_route;
+use line_routes::edit_route;
 use std::alloc::Global;
 
 /// What line edits along an axis carry along, by itself: it stands on the edited sheet, or names
@@ -65,10 +65,10 @@ pub trait Follow<A: Axis>: Exact + Drop {
 impl<A: Axis, F: Follower<A> + Exact> Follow<A> for F {
     ghost use Rattle.std.specs.Prelude.{IfSome};
     ghost use Rattle.line_map.specs.Alone.{regained, Restores};
-    ghost use Rattle.line_trees.specs.EditWay.{edit_way};
-    ghost use Rattle.line_trees.specs.Way.{back};
+    ghost use Rattle.line_routes.specs.EditWay.{edit_way};
+    ghost use Rattle.line_routes.specs.Way.{back};
     ghost use Rattle.line_map.specs.laws.AloneLaws.{kept_restores, kept_fits};
-    ghost use Rattle.line_trees.specs.laws.WayLaws.{edit_is_way};
+    ghost use Rattle.line_routes.specs.laws.WayLaws.{edit_is_way};
 
     type Kept = Option<F::Part>;
 

@@ -1,11 +1,11 @@
 ghost use Rattle.std.specs.Prelude.{◌≡◌, IfOk, IsOkUnless, None, Option, Some};
 ghost use Rattle.base_values.specs.declared.EditError.TheVariants.{NoMemory};
-ghost use Rattle.line_trees.specs.Way.{Way, IsWay, back, way};
+ghost use Rattle.line_routes.specs.Way.{Way, IsWay, back, way};
 
 use base_axis::Axis;
 use base_values::EditError;
 use line_edits::LineMap;
-use line_trees::Route;
+use line_routes::Route;
 use std::alloc::Global;
 
 /// What is carried along a map on lines. Each call asks that the value lies inside the sheet, and

@@ -5,13 +5,13 @@ ghost use Rattle.std.specs.FinMap.{get};
 ghost use Rattle.base_values.specs.declared.Position.{Position};
 ghost use Rattle.base_maps.specs.Carried.{lost_map};
 ghost use Rattle.line_map.specs.Maps.{entry_carried, entry_lost, entry_part, places_carried, places_parts};
-ghost use Rattle.line_trees.specs.Way.{place_goes, way};
+ghost use Rattle.line_routes.specs.Way.{place_goes, way};
 
 use crate::follower::Follower;
 use base_axis::Axis;
 use base_values::PlaceMap;
 use line_edits::LineMap;
-use line_trees::Route;
+use line_routes::Route;
 
 /// A carried map has at a place what the map had where the place came from, carried along. Of a map
 /// is kept: each entry whose place goes nowhere; and of each other entry the part that the way back

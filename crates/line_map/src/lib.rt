@@ -23,7 +23,7 @@ pub use follow::{Follow, there_and_back};
 pub use follower::Follower;
 pub use laws::entries_of_maps;
 pub use line_edits::{Block, EditKind, LineEdit, LineMap, image_of_opposite, move_by_single_lines};
-pub use line_trees::{
+pub use line_routes::{
     Route, TreeAt, followed_is_placed, kept_by_corners, moves_keep_whole_ranges, must_keep,
 };
 pub use place_map::{KeptMap, Parts, kept_parts, lost_places, overlaid_places, restored_places};

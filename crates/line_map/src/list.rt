@@ -1,14 +1,13 @@
-ghost use Rattle.std.specs.Prelude.{◌≡◌, ◌++◌, [], IfOk, IfSome, IsOkUnless, OnOk};
-ghost use Rattle.std.specs.List.{cons_option};
+ghost use Rattle.std.specs.Prelude.{◌≡◌, IfOk, IfSome, IsOkUnless};
 ghost use Rattle.base_values.specs.declared.EditError.TheVariants.{NoMemory};
 ghost use Rattle.base_maps.specs.Carried.{settled};
-ghost use Rattle.line_trees.specs.Way.{back, way};
+ghost use Rattle.line_routes.specs.Way.{back, way};
 
 use crate::follower::Follower;
 use base_axis::Axis;
 use base_values::{EditError, Items};
 use line_edits::LineMap;
-use line_trees::Route;
+use line_routes::Route;
 use std::alloc::Global;
 
 /// What an item is restored from its part to, if it has one, else what is carried back.
@@ -29,23 +28,12 @@ fn settled<A: Axis, M: LineMap<A>, F: Follower<A>>(
     }
 }
 
-/// Puts an item behind the others, if there is one.
-pub(crate) fn put_last<T: Drop>(item: Option<T>, items: &mut Items<T>) -> Result<(), EditError>
-    ensures items { OnOk result (items.new ≡ items.old ++ cons_option item []) }
-    ensures only { IsOkUnless result NoMemory }
-{
-    if let Some(item) = item {
-        items.push(item)?;
-    }
-    Ok(())
-}
-
 /// Each item of a list is carried along.
 impl<A: Axis, F: Follower<A>> Follower<A> for Items<F> {
     ghost use Rattle.std.specs.Prelude.{map, Some, IfSome};
     ghost use Rattle.std.specs.List.{All};
     ghost use Rattle.line_map.specs.Lists.{items_restored};
-    ghost use Rattle.line_trees.specs.Way.{back};
+    ghost use Rattle.line_routes.specs.Way.{back};
     ghost use Rattle.line_map.specs.laws.ListLaws.{items_stay, parts_fit, items_restore};
 
     /// The part of each item.

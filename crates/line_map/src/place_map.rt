@@ -9,15 +9,14 @@ ghost use Rattle.base_values.specs.Places.{IsPlace};
 ghost use Rattle.base_maps.specs.Carried.{entry_made, if_lost, lost_map, overlaid};
 ghost use Rattle.base_maps.specs.laws.Gathering.{with_made};
 ghost use Rattle.line_map.specs.Maps.{AllLie, KeysInside, PartsFit, carried_entry, kept_entry, restored_entry, places_carried, places_parts, places_restored};
-ghost use Rattle.line_trees.specs.Way.{at, back, place_goes, way};
+ghost use Rattle.line_routes.specs.Way.{at, back, place_goes, way};
 
 use crate::follower::Follower;
-use crate::list::put_last;
 use base_axis::Axis;
 use base_maps::PositionMap;
 use base_values::{EditError, Exact, Items, PlaceMap, Position, copy_of};
 use line_edits::LineMap;
-use line_trees::Route;
+use line_routes::{Route, put_last};
 use std::alloc::{AllocError, Global};
 
 /// Parts that are kept under places.
@@ -262,7 +261,7 @@ impl<A: Axis, F: Follower<A> + Exact> Follower<A> for PlaceMap<F> {
     ghost use Rattle.std.specs.FinMap.{get};
     ghost use Rattle.base_maps.specs.Carried.{lost_map, overlaid};
     ghost use Rattle.line_map.specs.Maps.{AllLie, KeptFits, places_carried, places_parts, places_restored};
-    ghost use Rattle.line_trees.specs.Way.{place_goes};
+    ghost use Rattle.line_routes.specs.Way.{place_goes};
     ghost use Rattle.line_map.specs.laws.MapLaws.{places_stay, kept_map_fits, kept_map_restores};
 
     type Part = KeptMap<F, F::Part>;

@@ -4,14 +4,14 @@ use base_shared::Shared;
 use base_values::{EditError, copy_of};
 use formula_tree::Node;
 use line_edits::LineMap;
-use line_trees::{Route, TreeAt, carried_tree, carried_tree_at, tree_at_part, tree_part};
+use line_routes::{Route, TreeAt, carried_tree, carried_tree_at, tree_at_part, tree_part};
 use std::alloc::Global;
 
 /// A formula's tree follows with its cell. One that stays the same is shared.
 impl<A: Axis> Follower<A> for Shared<Node> {
     ghost use Rattle.std.specs.Prelude.{⊤};
-    ghost use Rattle.line_trees.specs.Trees.{TreeLies, tree_carried, tree_part};
-    ghost use Rattle.line_trees.specs.laws.TreeLaws.{tree_stays, tree_comes_back, tree_restores};
+    ghost use Rattle.line_routes.specs.Trees.{TreeLies, tree_carried, tree_part};
+    ghost use Rattle.line_routes.specs.laws.TreeLaws.{tree_stays, tree_comes_back, tree_restores};
 
     type Part = Shared<Node>;
 
@@ -63,8 +63,8 @@ impl<A: Axis> Follower<A> for Shared<Node> {
 /// goes nowhere.
 impl<A: Axis> Follower<A> for TreeAt {
     ghost use Rattle.std.specs.Prelude.{⊤};
-    ghost use Rattle.line_trees.specs.TreeAt.{TreeAtLies, tree_at_carried, tree_at_part};
-    ghost use Rattle.line_trees.specs.laws.TreeAtLaws.{tree_at_stays, tree_at_comes_back, tree_at_restores};
+    ghost use Rattle.line_routes.specs.TreeAt.{TreeAtLies, tree_at_carried, tree_at_part};
+    ghost use Rattle.line_routes.specs.laws.TreeAtLaws.{tree_at_stays, tree_at_comes_back, tree_at_restores};
 
     /// The tree, where the way back does not give it.
     type Part = TreeAt;

@@ -6,10 +6,10 @@ ghost use Rattle.base_values.specs.Answers.{Answers, map_ok};
 ghost use Rattle.lines_wire.specs.EditBytes.{spell_block, spell_edit, spell_number, FitsBlock, FitsEdit};
 ghost use Rattle.lines_wire.specs.laws.Reading.{block_at, edit_at};
 
+use crate::steps::read;
 use base_values::EditError;
 use base_wire::Part;
 use line_map::EditKind;
-use map_wire::read;
 use std::alloc::{AllocError, Global};
 
 #[tactic(auto, unfolding(crate::specs::EditBytes::spell_number))]

@@ -7,6 +7,7 @@ ghost use Rattle.cell_wire.specs.MergeBytes.{spell_merges, FitsMerges};
 ghost use Rattle.lines_wire.specs.KeptBytes.{spell_kept, FitsKept, IsKnownKept};
 ghost use Rattle.lines_wire.specs.laws.Reading.{kept_at};
 
+use crate::steps::read;
 use crate::values::SheetPlacePart;
 use base_axis::MergeList;
 use base_maps::{IndexKeys, NumberKeys, PositionKeys, SheetPlaceKeys};
@@ -19,7 +20,7 @@ use format_rules::ConditionalFormatting;
 use formula_tree::Node;
 use formula_wire::NodePart;
 use grid_wire::LinePart;
-use map_wire::{MapPart, read};
+use map_wire::MapPart;
 use rule_wire::FormattingPart;
 use sheet_grid::{Cell, LineAttr, Link};
 use sheet_lines::KeptLines;

@@ -7,6 +7,7 @@
 
 mod edits;
 mod kept_lines;
+mod steps;
 mod values;
 
 pub use edits::EditPart;

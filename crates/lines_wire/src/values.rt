@@ -3,11 +3,11 @@
 ghost use Rattle.base_values.specs.Answers.{Answers, map_ok};
 ghost use Rattle.lines_wire.specs.laws.Reading.{sheet_index_at, sheet_place_at};
 
+use crate::steps::read;
 use base_maps::{SheetIndex, SheetPlace};
 use base_values::EditError;
 use base_wire::Part;
 use cell_wire::PositionPart;
-use map_wire::read;
 use std::alloc::{AllocError, Global};
 
 #[tactic(auto, unfolding(crate::specs::laws::Reading::sheet_place_at))]

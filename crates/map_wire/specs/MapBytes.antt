@@ -8,9 +8,9 @@ use Rattle.base_wire.specs.Spelling.{Both, spell_both, spell_list, FitsItems}
 abbrev pub spell_entries : {K X : Type 0} → (K → List ℕ) → (X → List ℕ) → List (K × X) → List ℕ
 spell_entries key value = spell_list (spell_both key value)
 
--- bytes can carry the entry where it is known
-abbrev pub Carried : {K X : Type 0} → (K → Type 0) → (X → Type 0) → (K → Type 0) → (X → Type 0) → K × X → Type 0
-Carried KnownKey KnownValue FitsKey FitsValue entry = Both KnownKey KnownValue entry → Both FitsKey FitsValue entry
+-- each key of the first kind is one of the second
+abbrev pub Within : {K : Type 0} → (K → Type 0) → (K → Type 0) → Type 0
+Within {K} P Q = (key : K) → P key → Q key
 
 module _ {K X : Type 0} {order : K → K → Ordering} where
   abbrev pub spell_map : (K → List ℕ) → (X → List ℕ) → FinMap order X → List ℕ
@@ -19,6 +19,10 @@ module _ {K X : Type 0} {order : K → K → Ordering} where
   -- a map of at most 2 ^ 64 - 1 entries, whose keys and values bytes can carry
   abbrev pub FitsMap : (K → Type 0) → (X → Type 0) → FinMap order X → Type 0
   FitsMap Key Value m = FitsItems (Both Key Value) (entries m)
+
+  -- each value of the map is of this kind
+  abbrev pub HasValues : (X → Type 0) → FinMap order X → Type 0
+  HasValues Value m = (key : K) → IfSome (get m key) Value
 
   -- what writing asks: of every key, and of the value at each
   pub record IsKnownMap (Key : K → Type 0) (Value : X → Type 0) (m : FinMap order X) : Type 0 where

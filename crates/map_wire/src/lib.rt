@@ -13,5 +13,5 @@ mod writing;
 
 pub use maps::MapPart;
 pub use plain_key::PlainKey;
-pub use reading::{entries_at, read};
-pub use writing::put_entries;
+pub use reading::map_at;
+pub use writing::put_map;

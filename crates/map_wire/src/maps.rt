@@ -2,7 +2,7 @@
 
 use crate::plain_key::PlainKey;
 use crate::reading::map_at;
-use crate::writing::put_entries;
+use crate::writing::put_map;
 use base_values::{EditError, KeyMap};
 use base_wire::Part;
 use std::alloc::{AllocError, Global};
@@ -37,7 +37,7 @@ impl<X: PlainKey<P::Value>, K: Part<Value = X::Key, Context = ()>, P: Part> Part
     ghost reading = { map_of_at X.order X.made K.reading P.reading };
 
     fn put(out: &mut Vec<u8>, value: &KeyMap<X, P::Value>) -> Result<(), AllocError> {
-        put_entries::<K, P>(out, value.iter())?;
+        put_map::<X, K, P>(out, value)?;
         Ok(())
     }
 

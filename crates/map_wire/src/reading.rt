@@ -5,18 +5,18 @@ ghost use Rattle.std.specs.Prelude.{◌≡◌, IfOk, IsTrue};
 ghost use Rattle.std.specs.FinMap.{is_sorted};
 ghost use Rattle.std.specs.List.{AllByRecursion};
 ghost use Rattle.base_values.specs.Answers.{Answers, map_ok};
+ghost use Rattle.base_wire.specs.Reads.{Reads};
 ghost use Rattle.base_wire.specs.Spelling.{Both};
+ghost use Rattle.map_wire.specs.MapBytes.{FitsMap, Within, spell_map};
 ghost use Rattle.map_wire.specs.laws.Reading.{entries_at, map_of_at};
 
 use crate::entries::EntryPart;
-use crate::plain_key::PlainKey;
 use base_values::{EditError, Items, KeyMap, MapKey};
 use base_wire::Part;
 use std::alloc::Global;
 
-/// A part at the front of bytes, as `take` returns it. The clause names the steps of its reader, which
-/// proofs of the readers above follow.
-pub fn read<'a, P: Part>(
+/// What `take` answers, by the steps of the reader.
+pub(crate) fn read<'a, P: Part>(
     alloc: Global,
     context: &P::Context,
     bytes: &'a [u8],
@@ -54,12 +54,8 @@ fn sorted_entries_at<'a, X: MapKey<P::Value>, K: Part<Value = X::Key, Context = 
     Ok((entries, rest))
 }
 
-/// The entries of a map at the front of bytes, in the order of its keys, for a reader that makes the
-/// map itself.
-///
-/// Refuses with `ParseDiffs` bytes that are cut short, that spell no such entries or whose keys don't
-/// rise strictly, and with `NoMemory`.
-pub fn entries_at<'a, X: MapKey<P::Value>, K: Part<Value = X::Key, Context = ()>, P: Part>(
+/// The entries of a map, in the order of its keys.
+fn entries_at<'a, X: MapKey<P::Value>, K: Part<Value = X::Key, Context = ()>, P: Part>(
     alloc: Global,
     context: &P::Context,
     bytes: &'a [u8],
@@ -71,15 +67,31 @@ pub fn entries_at<'a, X: MapKey<P::Value>, K: Part<Value = X::Key, Context = ()>
     sorted_entries_at::<X, K, P>(alloc, context, bytes)
 }
 
-/// The map at the front of bytes.
-pub(crate) fn map_at<'a, X: PlainKey<P::Value>, K: Part<Value = X::Key, Context = ()>, P: Part>(
+/// What `map_at` answers, by the steps of the reader.
+fn map_by_steps<'a, X: MapKey<P::Value>, K: Part<Value = X::Key, Context = ()>, P: Part>(
     alloc: Global,
     context: &P::Context,
     bytes: &'a [u8],
 ) -> Result<(KeyMap<X, P::Value>, &'a [u8]), EditError>
+    requires inside { Within K.Fits X.fits }
     ensures { Answers (map_ok (λ x. (x.0, x.1.now)) result) (map_of_at X.order X.made K.reading P.reading bytes.now) }
 {
-    let (entries, rest) = sorted_entries_at::<X, K, P>(alloc, context, bytes)?;
+    let (entries, rest) = entries_at::<X, K, P>(alloc, context, bytes)?;
     let map = KeyMap::of_entries(alloc, entries)?;
     Ok((map, rest))
+}
+
+/// The map at the front of bytes, and the bytes after it. The map takes each key that bytes can carry.
+///
+/// Refuses with `ParseDiffs` bytes that begin with the spelling of no map, such as those whose keys don't
+/// rise strictly, and with `NoMemory`.
+pub fn map_at<'a, X: MapKey<P::Value>, K: Part<Value = X::Key, Context = ()>, P: Part>(
+    alloc: Global,
+    context: &P::Context,
+    bytes: &'a [u8],
+) -> Result<(KeyMap<X, P::Value>, &'a [u8]), EditError>
+    requires inside { Within K.Fits X.fits }
+    ensures { Reads (λ map. FitsMap K.Fits P.Fits (X.seen map)) (λ map. spell_map K.spelling P.spelling (X.seen map)) bytes.now (map_ok (λ x. (x.0, x.1.now)) result) }
+{
+    map_by_steps::<X, K, P>(alloc, context, bytes)
 }

@@ -3,8 +3,10 @@
 ghost use Rattle.std.specs.Prelude.{◌≡◌, ◌++◌, ◌<◌, ◌^◌, OnOk, length};
 ghost use Rattle.std.specs.List.{AllByRecursion};
 ghost use Rattle.base_wire.specs.Spelling.{spell_both};
-ghost use Rattle.map_wire.specs.MapBytes.{spell_entries, Carried};
+ghost use Rattle.map_wire.specs.MapBytes.{spell_entries, spell_map, FitsMap, HasValues, Within};
+ghost use Rattle.map_wire.specs.laws.MapFits.{Carried};
 
+use base_values::{KeyMap, MapKey};
 use base_wire::Part;
 use std::alloc::AllocError;
 use std::collections::btree_map::Iter;
@@ -21,9 +23,8 @@ fn put_entry<K: Part, P: Part>(
     P::put(out, value)
 }
 
-/// Adds how many entries there are, in eight bytes, and each of them. Out of memory may leave some of
-/// their bytes there.
-pub fn put_entries<K: Part, P: Part>(
+/// Adds how many entries there are, in eight bytes, and each of them.
+fn put_entries<K: Part, P: Part>(
     out: &mut Vec<u8>,
     entries: Iter<'_, K::Value, P::Value>,
 ) -> Result<(), AllocError>
@@ -35,5 +36,18 @@ pub fn put_entries<K: Part, P: Part>(
     for (key, value) in entries {
         put_entry::<K, P>(out, key, value)?;
     }
+    Ok(())
+}
+
+/// Adds a map: how many entries it has, in eight bytes, and each of them (docs/FORMATS.md, "Bytes"). Out
+/// of memory may leave some of its bytes there.
+pub fn put_map<X: MapKey<P::Value>, K: Part<Value = X::Key, Context = ()>, P: Part>(
+    out: &mut Vec<u8>,
+    map: &KeyMap<X, P::Value>,
+) -> Result<(), AllocError>
+    ensures spelled { OnOk result (out.new.items ≡ out.old.items ++ spell_map K.spelling P.spelling (X.seen map.now)) }
+    ensures fits { OnOk result (Within X.fits K.Known → HasValues P.Known (X.seen map.now) → FitsMap K.Fits P.Fits (X.seen map.now)) }
+{
+    put_entries::<K, P>(out, map.iter())?;
     Ok(())
 }

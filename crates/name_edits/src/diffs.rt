@@ -14,9 +14,11 @@ ghost use Rattle.name_edits.specs.NameDiffs.{name_back, name_forward};
 use crate::list::changed_list;
 use crate::look_up::Finding;
 use crate::name_change::NameChange;
-use crate::sheets::{returned_sheets, updated_sheets};
+use crate::sheets::{Returned, Updated};
 use base_values::{EditError, Position, copy_of};
-use book_names::{KeptTrees, lie_in_sheets, list_back, may_stand, shared_name, with_lists};
+use book_names::{
+    KeptTrees, changed_sheets, lie_in_sheets, list_back, may_stand, shared_name, with_lists,
+};
 use cell_content::tree_fits_at;
 use defined_names::NameList;
 use formula_names::Reach;
@@ -126,7 +128,8 @@ fn with_updated_sheets(
         place: index,
         text: old,
     };
-    let sheets = updated_sheets(alloc, workbook.worksheets(), &found, &new)?;
+    let updated = Updated { found, new: &new };
+    let sheets = changed_sheets(alloc, &updated, workbook.worksheets())?;
     with_lists(workbook, sheets, names)
 }
 
@@ -175,7 +178,12 @@ fn with_returned_sheets(
         place: index,
         text: new,
     };
-    let sheets = returned_sheets(alloc, workbook.worksheets(), &found, &old, kept)?;
+    let returned = Returned {
+        found,
+        old: &old,
+        kept,
+    };
+    let sheets = changed_sheets(alloc, &returned, workbook.worksheets())?;
     let laid = list_back(alloc, names, &kept.names, Reach::Nothing, &old, new)?;
     with_lists(workbook, sheets, laid)
 }

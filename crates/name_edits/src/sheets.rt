@@ -1,81 +1,53 @@
 //! The sheets of a workbook in which a defined name is renamed, or gets its old name back.
 
-ghost use Rattle.std.specs.Prelude.{◌≡◌, map, IfOk, IsOkUnless};
-ghost use Rattle.base_values.specs.declared.EditError.TheVariants.{NoMemory};
-ghost use Rattle.book_names.specs.Renaming.{AreCanonicalTrees};
-ghost use Rattle.name_edits.specs.NameChanges.{sheet_updated, sheet_returned};
-
 use crate::look_up::Finding;
 use base_shared::Shared;
-use base_values::{EditError, Items, Text};
-use book_names::{KeptTrees, SheetReach, with_formulas_back, with_formulas_renamed};
+use base_values::{EditError, Text};
+use book_names::{KeptTrees, SheetChange, SheetReach, with_formulas_back, with_formulas_renamed};
 use sheet_grid::Worksheet;
 use std::alloc::Global;
 
-/// A copy of a sheet, in whose formulas, those of its conditional rules too, the found name becomes the
-/// new one, where they mean it.
-fn updated_sheet(
-    alloc: Global,
-    sheet: &Worksheet,
-    found: &Finding,
-    new: &Shared<Text>,
-) -> Result<Worksheet, EditError>
-    ensures sheet { IfOk result (λ made. made ≡ sheet_updated found.now.place found.now.text.now new.now found.now.names.now sheet.now) }
-    ensures only { IsOkUnless result NoMemory }
-{
-    let reach = found.reach_in(sheet.get_sheet_id());
-    with_formulas_renamed(alloc, sheet, reach, found.text, new)
+/// In the formulas of a sheet, those of its conditional rules too, the found name becomes the new one,
+/// where they mean it.
+#[derive(Drop)]
+pub(crate) struct Updated<'n> {
+    pub(crate) found: Finding<'n>,
+    pub(crate) new: &'n Shared<Text>,
 }
 
-pub(crate) fn updated_sheets(
-    alloc: Global,
-    sheets: &[Worksheet],
-    found: &Finding,
-    new: &Shared<Text>,
-) -> Result<Items<Worksheet>, EditError>
-    ensures sheets { IfOk result (λ made. made ≡ map (sheet_updated found.now.place found.now.text.now new.now found.now.names.now) sheets.now) }
-    ensures only { IsOkUnless result NoMemory }
-{
-    let mut made = Items::empty(alloc);
-    for sheet in sheets {
-        let updated = updated_sheet(alloc, sheet, found, new)?;
-        made.push(updated)?;
+impl<'n> SheetChange for Updated<'n> {
+    ghost use Rattle.std.specs.Prelude.{⊤};
+    ghost use Rattle.name_edits.specs.NameChanges.{sheet_updated};
+
+    ghost Asks = { λ _. ⊤ };
+
+    ghost change = { λ self. sheet_updated self.found.place self.found.text.now self.new.now self.found.names.now };
+
+    fn changed(&self, alloc: Global, sheet: &Worksheet) -> Result<Worksheet, EditError> {
+        let reach = self.found.reach_in(sheet.get_sheet_id());
+        with_formulas_renamed(alloc, sheet, reach, self.found.text, self.new)
     }
-    Ok(made)
 }
 
-/// A copy of a sheet whose trees and conditional rules are the kept ones, or in which the found name
-/// becomes the old one, where formulas mean it.
-fn returned_sheet(
-    alloc: Global,
-    sheet: &Worksheet,
-    found: &Finding,
-    old: &Shared<Text>,
-    kept: &KeptTrees,
-) -> Result<Worksheet, EditError>
-    requires { AreCanonicalTrees kept.now }
-    ensures sheet { IfOk result (λ made. made ≡ sheet_returned found.now.place old.now found.now.text.now found.now.names.now kept.now sheet.now) }
-    ensures only { IsOkUnless result NoMemory }
-{
-    let reach = found.reach_in(sheet.get_sheet_id());
-    with_formulas_back(alloc, sheet, reach, old, found.text, kept)
+/// The trees and conditional rules of a sheet are the kept ones, or in them the found name becomes the
+/// old one, where formulas mean it.
+#[derive(Drop)]
+pub(crate) struct Returned<'n> {
+    pub(crate) found: Finding<'n>,
+    pub(crate) old: &'n Shared<Text>,
+    pub(crate) kept: &'n KeptTrees,
 }
 
-pub(crate) fn returned_sheets(
-    alloc: Global,
-    sheets: &[Worksheet],
-    found: &Finding,
-    old: &Shared<Text>,
-    kept: &KeptTrees,
-) -> Result<Items<Worksheet>, EditError>
-    requires { AreCanonicalTrees kept.now }
-    ensures sheets { IfOk result (λ made. made ≡ map (sheet_returned found.now.place old.now found.now.text.now found.now.names.now kept.now) sheets.now) }
-    ensures only { IsOkUnless result NoMemory }
-{
-    let mut made = Items::empty(alloc);
-    for sheet in sheets {
-        let returned = returned_sheet(alloc, sheet, found, old, kept)?;
-        made.push(returned)?;
+impl<'n> SheetChange for Returned<'n> {
+    ghost use Rattle.book_names.specs.Renaming.{AreCanonicalTrees};
+    ghost use Rattle.name_edits.specs.NameChanges.{sheet_returned};
+
+    ghost Asks = { λ self. AreCanonicalTrees self.kept.now };
+
+    ghost change = { λ self. sheet_returned self.found.place self.old.now self.found.text.now self.found.names.now self.kept.now };
+
+    fn changed(&self, alloc: Global, sheet: &Worksheet) -> Result<Worksheet, EditError> {
+        let reach = self.found.reach_in(sheet.get_sheet_id());
+        with_formulas_back(alloc, sheet, reach, self.old, self.found.text, self.kept)
     }
-    Ok(made)
 }

@@ -9,7 +9,7 @@ use base_values::{EditError, Exact, Items, Text, copy_of};
 use defined_names::DefinedName;
 use formula_print::to_localized_string;
 use formula_tree::{CellReferenceRC, Node};
-use sheet_grid::Workbook;
+use sheet_grid::{Workbook, sheet_index};
 use std::alloc::Global;
 
 /// A defined name as it is listed.
@@ -46,13 +46,7 @@ fn scope_index(workbook: &Workbook, scope: Option<u32>) -> Result<Option<u32>, E
     let Some(id) = scope else {
         return Ok(None);
     };
-    let Some(index) = workbook.index_of(id) else {
-        return Ok(None);
-    };
-    match u32::try_from(index) {
-        Ok(index) => Ok(Some(index)),
-        Err(_) => Err(EditError::NoMemory),
-    }
+    sheet_index(workbook, id)
 }
 
 /// The text of a formula as at A1.

@@ -1,11 +1,11 @@
 -- What an edit makes of places and lines, as finite maps of what it makes.
-use Rattle.std.proofs.Common.{ℕ, zero, suc, ℤ, pos, ◌+ℤ◌, List, [], ◌∷◌, ◌++◌, map, Option, Some, None}
+use Rattle.std.proofs.Common.{ℕ, zero, suc, ℤ, pos, ◌+ℤ◌, List, [], ◌∷◌, ◌++◌, map, Option}
 use Rattle.std.specs.Prelude.{unsigned_abs}
 use Rattle.std.specs.List.{filter_map, flat_map, fold}
 use Rattle.std.specs.Option.{option_map}
 use Rattle.std.specs.declared.cmp.Ordering.{Ordering}
 use Rattle.std.specs.Ordering.{int_cmp}
-use Rattle.std.specs.FinMap.{FinMap, entries, from_entries, insert}
+use Rattle.std.specs.FinMap.{FinMap, entries, from_entries}
 use Rattle.base_values.specs.declared.Position.{Position}
 use Rattle.base_values.specs.KeyMap.{with_entry}
 use Rattle.base_values.specs.Places.{position_cmp}
@@ -45,13 +45,3 @@ planned_lines make first count = planned make (lines_from first count)
 -- a map where each planned key has what is planned there, which may be nothing
 abbrev pub carried_out : {K X : Type 0} {R : K → K → Ordering} → FinMap R (Option X) → FinMap R X → FinMap R X
 carried_out plan m = fold (λ made e. with_entry made e.0 e.1) m (entries plan)
-
--- ---- plans that are made key by key
-
--- a plan with what is made of one more key, if something is
-abbrev pub put_if : {K X : Type 0} {R : K → K → Ordering} → FinMap R X → K → Option X → FinMap R X
-put_if m key None = m
-put_if m key (Some x) = insert m key x
-
-abbrev pub put_one : {K X : Type 0} {R : K → K → Ordering} → (K → Option X) → FinMap R X → K → FinMap R X
-put_one make m key = put_if m key (make key)

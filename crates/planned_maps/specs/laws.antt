@@ -1,2 +1,3 @@
+pub mod PlanWalks
 pub mod PlannedLaws
 pub mod WalkLaws

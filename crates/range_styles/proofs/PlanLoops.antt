@@ -8,8 +8,7 @@ use Rattle.base_values.specs.declared.Position.{Position}
 use Rattle.base_values.specs.Places.{IsPlace, position_cmp}
 use Rattle.base_axis.specs.declared.MergedCell.{MergedCell}
 use Rattle.base_axis.specs.Along.{Along}
-use Rattle.planned_maps.specs.Planned.{put_one}
-use Rattle.planned_maps.specs.Walks.{chosen_put, line_done, line_passes, places_put}
+use Rattle.planned_maps.specs.laws.PlanWalks.{chosen_put, line_done, line_passes, places_put, put_one}
 
 module _ {X : Type 0} (make : Position → Option X) where
   -- a plan with what is made of the place of an entry

@@ -10,7 +10,7 @@ use Rattle.base_axis.specs.Rectangles.{holds, is_between, first_line, last_line}
 use Rattle.sheet_grid.specs.declared.LineAttr.{LineAttr}
 use Rattle.sheet_grid.specs.Lines.{own_line_style}
 use Rattle.sheet_grid.specs.Sheet.{Sheet, shown_style}
-use Rattle.sheet_rules.specs.WellFormed.{is_default}
+use Rattle.sheet_grid.specs.DefaultParts.{is_default}
 use Rattle.range_styles.specs.declared.range.AreaKind.{AreaKind}
 use Rattle.range_styles.specs.declared.range.AreaKind.TheVariants.{FullColumns, FullRows, OtherPlaces}
 use Rattle.range_styles.specs.declared.range.StyleRange.{StyleRange}

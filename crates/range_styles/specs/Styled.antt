@@ -17,7 +17,7 @@ use Rattle.sheet_grid.specs.declared.Cell.{Cell}
 use Rattle.sheet_grid.specs.declared.LineAttr.{LineAttr}
 use Rattle.sheet_grid.specs.Lines.{attr_of, kept_line, own_line_style, with_style}
 use Rattle.sheet_grid.specs.Sheet.{Sheet, shown_style}
-use Rattle.sheet_rules.specs.WellFormed.{is_default}
+use Rattle.sheet_grid.specs.DefaultParts.{is_default}
 use Rattle.range_styles.specs.declared.plan.SheetPlan.{SheetPlan}
 use Rattle.range_styles.specs.declared.range.StyleRange.{StyleRange}
 use Rattle.planned_maps.specs.Planned.{lines_from, planned_lines, planned_places, places_of}

@@ -5,9 +5,9 @@ ghost use Rattle.base_axis.specs.Rectangles.{IsInside};
 ghost use Rattle.range_styles.specs.Styled.{all_accept, place_accepts};
 ghost use Rattle.std.specs.List.{list_all};
 ghost use Rattle.planned_maps.specs.Planned.{places_of};
-ghost use Rattle.planned_maps.specs.Walks.{chosen_all, line_passes, places_all, rows_all};
+ghost use Rattle.planned_maps.specs.laws.PlanWalks.{chosen_all, line_passes, places_all, rows_all};
 ghost use Rattle.range_styles.specs.StyleRanges.{has_own_style};
-ghost use Rattle.range_styles.specs.StyleWalks.{stored_pass};
+ghost use Rattle.range_styles.specs.laws.StoredWalks.{stored_pass};
 
 use crate::change::StyleChange;
 use crate::lines::accepts_lines;

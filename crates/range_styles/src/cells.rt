@@ -8,10 +8,11 @@ ghost use Rattle.base_values.specs.Answers.{Returns};
 ghost use Rattle.base_values.specs.Places.{IsLine};
 ghost use Rattle.base_values.specs.declared.EditError.TheVariants.{NoMemory};
 ghost use Rattle.planned_maps.specs.Planned.{planned_places};
-ghost use Rattle.planned_maps.specs.Walks.{chosen_put, line_done};
+ghost use Rattle.planned_maps.specs.laws.PlanWalks.{chosen_put, line_done};
 ghost use Rattle.range_styles.specs.CanonicalPlans.{CanonicalCellPlan};
 ghost use Rattle.range_styles.specs.StyleRanges.{has_own_style};
-ghost use Rattle.range_styles.specs.StyleWalks.{columns_walked, reaches_all};
+ghost use Rattle.range_styles.specs.StyleWalks.{reaches_all};
+ghost use Rattle.range_styles.specs.laws.StoredWalks.{columns_walked};
 ghost use Rattle.range_styles.specs.Styled.{content_of, place_styled, styled_cell};
 
 use crate::change::StyleChange;

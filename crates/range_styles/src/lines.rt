@@ -8,10 +8,9 @@ ghost use Rattle.base_values.specs.Answers.{Returns};
 ghost use Rattle.base_values.specs.Places.{IsLine};
 ghost use Rattle.base_values.specs.declared.EditError.TheVariants.{NoMemory};
 ghost use Rattle.sheet_grid.specs.Lines.{attr_of, kept_line, with_style};
-ghost use Rattle.planned_maps.specs.Planned.{put_one};
+ghost use Rattle.planned_maps.specs.laws.PlanWalks.{kept_put, lines_all, lines_put, put_one};
 ghost use Rattle.range_styles.specs.StyleRanges.{is_among, is_full_columns, is_full_rows, touches_line};
 ghost use Rattle.range_styles.specs.Styled.{attr_styled, kept_style, line_accepts, line_place, line_style_made, line_styled, lines_accept, lines_styled};
-ghost use Rattle.planned_maps.specs.Walks.{kept_put, lines_all, lines_put};
 
 use crate::change::StyleChange;
 use crate::range::{AreaKind, StyleRange};

@@ -4,7 +4,7 @@ ghost use Rattle.std.specs.Prelude.{◌≡◌, IsTrue};
 ghost use Rattle.std.specs.Option.{option_copied};
 ghost use Rattle.sheet_grid.specs.Lines.{own_line_style};
 ghost use Rattle.sheet_grid.specs.Sheet.{line_style as line_style_at, own_style, shown_style};
-ghost use Rattle.sheet_rules.specs.WellFormed.{is_default};
+ghost use Rattle.sheet_grid.specs.DefaultParts.{is_default};
 ghost use Rattle.range_styles.specs.StyleRanges.{has_cell, has_own_style, has_style, is_cleared, is_set, touches};
 ghost use Rattle.range_styles.specs.Styled.{line_style};
 

@@ -10,8 +10,8 @@ ghost use Rattle.base_values.specs.Places.{IsLine, IsPlace};
 ghost use Rattle.base_values.specs.declared.Position.{Position};
 ghost use Rattle.base_axis.specs.declared.MergedCell.{MergedCell};
 ghost use Rattle.base_values.specs.declared.EditError.TheVariants.{NoMemory};
-ghost use Rattle.planned_maps.specs.Planned.{planned_places, put_one};
-ghost use Rattle.planned_maps.specs.Walks.{line_done, places_put, rows_put};
+ghost use Rattle.planned_maps.specs.Planned.{planned_places};
+ghost use Rattle.planned_maps.specs.laws.PlanWalks.{line_done, places_put, put_one, rows_put};
 ghost use Rattle.range_styles.specs.PlaceWalks.{MakesThere, has_fewer};
 
 use base_axis::{Axis, MergedCell, RowAxis};

@@ -6,9 +6,9 @@ use Rattle.base_axis.specs.Rectangles.{anchor_place, last_place}
 use Rattle.format_rules.specs.declared.ConditionalFormatting.{ConditionalFormatting}
 use Rattle.format_rules.specs.Fitting.{place_of}
 use Rattle.format_rules.specs.RuleTrees.{trees_changed}
-use Rattle.line_map.specs.MergedCells.{between}
-use Rattle.line_trees.specs.Trees.{tree_carried}
-use Rattle.line_trees.specs.Way.{Way, at, place_goes}
+use Rattle.line_routes.specs.MergedCells.{between}
+use Rattle.line_routes.specs.Trees.{tree_carried}
+use Rattle.line_routes.specs.Way.{Way, at, place_goes}
 
 -- a part goes to the rectangle that has the images of its corners as opposite corners, and stays where one of them has no image
 pub record PartFollows (w : Way) (part there : MergedCell) : Type 0 where

@@ -1,5 +1,5 @@
 -- The rules of a sheet, carried along.
-use Rattle.std.specs.Prelude.{◌≢◌, ℕ, Bool, nat_lt, List, [], ◌∷◌, map, Option, if◌then◌else◌}
+use Rattle.std.specs.Prelude.{◌≡◌, ◌≢◌, ◌↔◌, ℕ, Bool, nat_lt, List, [], ◌∷◌, map, Option, Some, slice_get, if◌then◌else◌}
 use Rattle.std.specs.List.{All, list_all}
 use Rattle.std.specs.Ordering.{nat_cmp}
 use Rattle.std.specs.FinMap.{FinMap, entries, get}
@@ -9,10 +9,10 @@ use Rattle.format_rules.specs.declared.ConditionalFormatting.{ConditionalFormatt
 use Rattle.format_rules.specs.contracts.formatting.ConditionalFormattingPartialEq.TheImpl as equality
 use Rattle.format_rules.specs.Fitting.{StandsInside}
 use Rattle.format_rules.specs.RuleTrees.{trees_changed}
-use Rattle.line_map.specs.MergedCells.{merged_cell_carried}
-use Rattle.line_trees.specs.Trees.{tree_carried}
-use Rattle.line_trees.specs.Trial.{part_by_trial}
-use Rattle.line_trees.specs.Way.{Way, at, back}
+use Rattle.line_routes.specs.MergedCells.{merged_cell_carried}
+use Rattle.line_routes.specs.Trees.{tree_carried}
+use Rattle.line_routes.specs.Trial.{part_by_trial}
+use Rattle.line_routes.specs.Way.{Way, at, back}
 use Rattle.base_maps.specs.ByIndex.{kept_by_index, restored_by_index}
 
 -- how the map meets what stands at the first place of a part: it goes with the part, and stays where the part stays
@@ -50,6 +50,10 @@ rules_kept w rules = kept_by_index (formatting_part w) rules
 -- a rule that the way back does not give
 abbrev pub DoesNotReturn : Way → ConditionalFormatting → Type 0
 DoesNotReturn w rule = formatting_carried (back w) (formatting_carried w rule) ≢ rule
+
+-- under an index exactly the rule is kept that stands there in the list and that the way back does not give
+abbrev pub KeepsRule : Way → List ConditionalFormatting → FinMap nat_cmp ConditionalFormatting → ℕ → ConditionalFormatting → Type 0
+KeepsRule w rules kept index rule = (get kept index ≡ Some rule) ↔ ((slice_get rules index ≡ Some rule) × DoesNotReturn w rule)
 
 -- each rule that was kept, and each other one carried back
 abbrev pub rules_restored : Way → FinMap nat_cmp ConditionalFormatting → List ConditionalFormatting → List ConditionalFormatting

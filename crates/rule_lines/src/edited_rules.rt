@@ -1,6 +1,6 @@
 ghost use Rattle.std.specs.Prelude.{◌≡◌, IfOk, IsOkUnless};
 ghost use Rattle.base_values.specs.declared.EditError.TheVariants.{NoMemory};
-ghost use Rattle.line_trees.specs.Way.{way};
+ghost use Rattle.line_routes.specs.Way.{way};
 ghost use Rattle.rule_lines.specs.EditedRules.{way_on};
 
 use crate::rules::{carried_items, kept_items, restored_items};

@@ -3,7 +3,7 @@ ghost use Rattle.std.specs.List.{All};
 ghost use Rattle.base_values.specs.declared.EditError.TheVariants.{NoMemory};
 ghost use Rattle.base_axis.specs.Rectangles.{IsInside};
 ghost use Rattle.format_rules.specs.Fitting.{StandsInside};
-ghost use Rattle.line_trees.specs.Way.{way};
+ghost use Rattle.line_routes.specs.Way.{way};
 ghost use Rattle.rule_lines.specs.Rules.{at_part, way_of_trees, formatting_moved, formatting_carried, formatting_part};
 
 use base_axis::{Axis, MergedCell};
@@ -21,8 +21,8 @@ struct Following<'r, 'a, A: Axis, M: LineMap<A>> {
 }
 
 impl<'r, 'a, A: Axis, M: LineMap<A>> TreeChange for Following<'r, 'a, A, M> {
-    ghost use Rattle.line_trees.specs.Trees.{TreeLies, tree_carried};
-    ghost use Rattle.line_trees.specs.Way.{way};
+    ghost use Rattle.line_routes.specs.Trees.{TreeLies, tree_carried};
+    ghost use Rattle.line_routes.specs.Way.{way};
 
     ghost Takes = { λ self. TreeLies (way self.route.now) };
 
@@ -34,7 +34,7 @@ impl<'r, 'a, A: Axis, M: LineMap<A>> TreeChange for Following<'r, 'a, A, M> {
 }
 
 /// The route of what stands at the first place of a part, and goes with the part.
-#[tactic(auto, using(line_map::specs::laws::MergedCellLaws::merged_cell_stays))]
+#[tactic(auto, using(line_routes::specs::laws::MergedCellLaws::merged_cell_stays))]
 fn route_with<'a, A: Axis, M: LineMap<A>>(
     alloc: Global,
     route: &Route<'a, A, M>,
@@ -105,7 +105,7 @@ pub(crate) fn carried_formatting<A: Axis, M: LineMap<A>>(
 }
 
 /// What has to be kept of a rule: the rule, where the way back does not give it.
-#[tactic(auto, unfolding(line_trees::specs::Trial::part_by_trial), using(crate::specs::laws::RuleLaws::formatting_stays))]
+#[tactic(auto, unfolding(line_routes::specs::Trial::part_by_trial), using(crate::specs::laws::RuleLaws::formatting_stays))]
 pub(crate) fn formatting_part<A: Axis, M: LineMap<A>>(
     alloc: Global,
     route: &Route<'_, A, M>,

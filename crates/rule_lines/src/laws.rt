@@ -2,7 +2,7 @@
 
 ghost use Rattle.std.specs.Prelude.{◌≡◌, true, false, List};
 ghost use Rattle.format_rules.specs.declared.ConditionalFormatting.{ConditionalFormatting};
-ghost use Rattle.line_trees.specs.Way.{way};
+ghost use Rattle.line_routes.specs.Way.{way};
 ghost use Rattle.rule_lines.specs.Follows.{RuleFollows};
 ghost use Rattle.rule_lines.specs.Rules.{formatting_carried, rules_carried, rules_kept, rules_restored};
 

@@ -7,7 +7,7 @@ ghost use Rattle.base_maps.specs.Carried.{settled};
 ghost use Rattle.base_maps.specs.laws.Gathering.{with_made};
 ghost use Rattle.base_values.specs.declared.EditError.TheVariants.{NoMemory};
 ghost use Rattle.format_rules.specs.Fitting.{StandsInside};
-ghost use Rattle.line_trees.specs.Way.{back, way};
+ghost use Rattle.line_routes.specs.Way.{back, way};
 ghost use Rattle.base_maps.specs.ByIndex.{kept_at, restored_at};
 ghost use Rattle.rule_lines.specs.Canonical.{AreCanonicalKept};
 ghost use Rattle.rule_lines.specs.Rules.{RulesLie, formatting_carried, formatting_part, rules_carried, rules_kept, rules_restored};

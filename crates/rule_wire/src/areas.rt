@@ -3,10 +3,10 @@
 ghost use Rattle.base_values.specs.Answers.{Answers, map_ok};
 ghost use Rattle.cell_wire.specs.laws.Reading.{merge_at};
 
+use crate::steps::read;
 use base_axis::MergedCell;
 use base_values::EditError;
 use base_wire::Part;
-use map_wire::read;
 use std::alloc::{AllocError, Global};
 
 #[tactic(auto, unfolding(cell_wire::specs::laws::Reading::merge_at))]

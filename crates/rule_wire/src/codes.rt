@@ -7,9 +7,9 @@ ghost use Rattle.base_wire.specs.laws.Reading.{decoded};
 ghost use Rattle.rule_wire.specs.RuleBytes.{operator_code};
 ghost use Rattle.rule_wire.specs.laws.Reading.{operator_at, operators};
 
+use crate::steps::read;
 use base_values::EditError;
 use format_rules::CfOperator;
-use map_wire::read;
 use std::alloc::Global;
 
 pub(crate) fn operator_code(operator: CfOperator) -> u8

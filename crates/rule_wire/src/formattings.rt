@@ -7,13 +7,13 @@ ghost use Rattle.rule_wire.specs.laws.Reading.{formatting_at};
 
 use crate::areas::AreaPart;
 use crate::rules::RulePart;
+use crate::steps::read;
 use base_axis::MergedCell;
 use base_shared::Shared;
 use base_styles::Style;
 use base_values::{EditError, Items};
 use base_wire::{Part, put_items};
 use format_rules::{ConditionalFormatting, RuleList};
-use map_wire::read;
 use std::alloc::{AllocError, Global};
 
 #[tactic(auto, unfolding(crate::specs::laws::Reading::formatting_at, crate::specs::laws::Reading::areas_at))]

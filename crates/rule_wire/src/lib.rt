@@ -12,6 +12,7 @@ mod encode;
 mod formattings;
 mod reading;
 mod rules;
+mod steps;
 mod thresholds;
 mod writing;
 

@@ -4,6 +4,7 @@ ghost use Rattle.base_values.specs.Answers.{Answers, map_ok};
 ghost use Rattle.rule_wire.specs.laws.Reading.{cell_is_at, data_bar_at, formula_at, icon_rating_at, icon_set_at, rule_at};
 
 use crate::codes::operator_at;
+use crate::steps::read;
 use crate::thresholds::{CfvoPart, ColorThresholdPart, IconThresholdPart};
 use base_shared::Shared;
 use base_styles::Style;
@@ -11,7 +12,6 @@ use base_values::{EditError, Items};
 use cell_wire::{ColorPart, StylePart};
 use format_rules::CfRule;
 use formula_wire::NodePart;
-use map_wire::read;
 use std::alloc::Global;
 
 fn formula_at<'a>(

@@ -5,6 +5,7 @@ ghost use Rattle.base_values.specs.Answers.{Answers, map_ok};
 ghost use Rattle.rule_wire.specs.ThresholdBytes.{spell_cfvo, FitsCfvo, IsKnownCfvo};
 ghost use Rattle.rule_wire.specs.laws.Reading.{cfvo_at, color_threshold_at, icon_threshold_at};
 
+use crate::steps::read;
 use base_decimal::Decimal;
 use base_shared::Shared;
 use base_values::EditError;
@@ -12,7 +13,6 @@ use base_wire::Part;
 use cell_wire::ColorPart;
 use format_rules::{Cfvo, ColorThreshold, IconThreshold};
 use formula_wire::NodePart;
-use map_wire::read;
 use std::alloc::{AllocError, Global};
 
 fn put_cfvo(out: &mut Vec<u8>, cfvo: &Cfvo) -> Result<(), AllocError>

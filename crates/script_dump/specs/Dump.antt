@@ -8,6 +8,7 @@ use Rattle.base_axis.specs.declared.MergedCell.{MergedCell}
 use Rattle.base_axis.specs.Rectangles.{anchor_place, last_place, is_inside, has_many}
 use Rattle.base_tables.specs.Locale.{locale_name}
 use Rattle.base_tables.specs.Zone.{zone_name}
+use Rattle.base_styles.specs.Colors.{theme_color_name}
 use Rattle.base_styles.specs.declared.Color.{Color}
 use Rattle.base_styles.specs.declared.Color.TheVariants.{None as NoColor, Rgb, Theme}
 use Rattle.base_styles.specs.declared.Style.{Style}
@@ -28,7 +29,7 @@ use Rattle.cell_content.specs.declared.Content.{Content}
 use Rattle.cell_content.specs.declared.Content.TheVariants.{Empty, Formula, Dynamic, Array}
 use Rattle.sheet_grid.specs.declared.SheetState.{SheetState}
 use Rattle.sheet_grid.specs.declared.SheetState.TheVariants.{Visible, Hidden, VeryHidden}
-use Rattle.cell_wire.specs.StyleBytes.{theme_code, spell_style}
+use Rattle.cell_wire.specs.StyleBytes.{spell_style}
 use Rattle.format_rules.specs.declared.ConditionalFormatting.{ConditionalFormatting}
 use Rattle.rule_wire.specs.RuleBytes.{spell_rule}
 use Rattle.script_lines.specs.Escapes.{escaped}
@@ -51,7 +52,7 @@ state_text VeryHidden = codes "very-hidden"
 abbrev pub color_text : Color → List ℕ
 color_text NoColor = codes "-"
 color_text (Rgb red green blue) = rgb_text (rgb red green blue)
-color_text (Theme theme) = codes "theme:" ++ decimal (theme_code theme)
+color_text (Theme theme) = theme_color_name theme
 
 -- whether two styles are equal
 abbrev pub same_style : Style → Style → Bool

@@ -21,7 +21,7 @@ use crate::theme::push_theme;
 use base_shared::Shared;
 use base_styles::{Color, RgbColor, Style};
 use base_values::{EditError, Position};
-use cell_wire::{encode_style, theme_code};
+use cell_wire::encode_style;
 use script_lines::{push_escaped, push_reference};
 use sheet_grid::{Cell, Content, SheetState, Workbook, Worksheet};
 use std::alloc::{AllocError, Global};
@@ -51,10 +51,7 @@ fn push_color(alloc: Global, out: &mut Vec<u8>, color: Color) -> Result<(), Allo
             let text = RgbColor::new(red, green, blue).text(alloc)?;
             out.extend_from_slice(text.as_bytes())
         }
-        Color::Theme(theme) => {
-            out.extend_from_slice(b"theme:")?;
-            push_unsigned(alloc, out, u32::from(theme_code(theme)))
-        }
+        Color::Theme(theme) => out.extend_from_slice(theme.name().as_bytes()),
     }
 }
 

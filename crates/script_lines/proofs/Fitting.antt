@@ -13,10 +13,15 @@ use Rattle.std.proofs.lemmas.Bool.Decides.{nat_tests}
 use Rattle.std.proofs.lemmas.Int.{ints}
 use Rattle.script_lines.specs.Parts.{parts_at, text_of}
 use Rattle.script_lines.specs.Number.{are_digits, value_of, value_below, number_below, signed_number}
-use Rattle.script_lines.specs.References.{is_between, is_letter, letter_value, letters_value, read_column, read_row, letters_of, digits_of, reference_of, first_between, count_between, area_between, area_of_parts, area_of}
+use Rattle.base_tables.specs.Column.{is_between, is_letter, letters_number}
+use Rattle.base_tables.specs.laws.ColumnLaws.{value_bounds}
+use Rattle.script_lines.specs.References.{read_column, read_row, letters_of, digits_of, reference_of, first_between, count_between, area_between, area_of_parts, area_of}
 use Rattle.script_lines.proofs.ReferenceBounds.{read_row-lt}
 use Rattle.script_lines.proofs.Letters.{all_letters}
-use Rattle.script_lines.specs.Colors.{named_colors, named_color, digit_value, pair_value, color_of_pairs, color_of_digits, digit_color, color_of, parts_of_pairs, parts_of_digits, parts_of}
+use Rattle.script_lines.specs.Colors.{named_color, digit_value, pair_value, color_of_pairs, color_of_digits, digit_color, color_of, parts_of_pairs, parts_of_digits, parts_of}
+use Rattle.base_tables.specs.Tables.{entry_named}
+use Rattle.base_styles.specs.Colors.{theme_color_name, all_theme_colors}
+use Rattle.base_styles.specs.declared.Color.TheVariants.{None as NoColor, Theme}
 use Rattle.script_lines.specs.Escapes.{unescaped}
 use Rattle.script_lines.proofs.EscapeLaws.{unescaped-IsUtf8}
 use Rattle.script_lines.specs.Commands.{Reader, word, sheet_word, cell_words, area_words, lines_words, move_words, sheet_move_words, rule_words, swap_words, color_words, grid_words, bit_of, scope_of, name_of, name_words, path_words, update_words, ended, with_text, alone, exactly, and_text, Table, by_table, cell_commands, cell_command, line_commands, line_command, sheet_commands, sheet_command, book_commands, book_command, from_words, command_of, count_words, span_of, size_of, only_text, theme_words, fill_words}
@@ -82,31 +87,28 @@ signed_fits (b ∷ bytes) =
 
 -- ---- rows and columns
 
-letter_fits : (b : ℕ) → is_letter b ≡ true → (1 ≤ letter_value b) × (letter_value b ≤ 26)
-letter_fits b e = (grind (arith, nat_tests), grind (arith, nat_tests))
-
 column_fits : (letters : List ℕ) → list_all is_letter letters ≡ true → IfSome (read_column letters) (λ column. (1 ≤ column) × (column ≤ 18278))
 column_fits [] e = tt
 column_fits (a ∷ []) e =
-    let x = letter_fits a (and_parts _ _ e).0 in (omega (arith, x), omega (arith, x))
+    let x = value_bounds a (and_parts _ _ e).0 in (omega (arith, x), omega (arith, x))
 column_fits (a ∷ b ∷ []) e =
     let f = and_parts _ _ e in
     let g = and_parts _ _ f.1 in
-    let x = letter_fits a f.0 in
-    let y = letter_fits b g.0 in
+    let x = value_bounds a f.0 in
+    let y = value_bounds b g.0 in
     (omega (arith, x, y), omega (arith, x, y))
 column_fits (a ∷ b ∷ c ∷ []) e =
     let f = and_parts _ _ e in
     let g = and_parts _ _ f.1 in
     let h = and_parts _ _ g.1 in
-    let x = letter_fits a f.0 in
-    let y = letter_fits b g.0 in
-    let z = letter_fits c h.0 in
+    let x = value_bounds a f.0 in
+    let y = value_bounds b g.0 in
+    let z = value_bounds c h.0 in
     (omega (arith, x, y, z), omega (arith, x, y, z))
 column_fits (a ∷ b ∷ c ∷ d ∷ letters) e = go (is_between 1 3 (length (a ∷ b ∷ c ∷ d ∷ letters))) refl
   where
     go : (t : Bool) → is_between 1 3 (length (a ∷ b ∷ c ∷ d ∷ letters)) ≡ t
-        → IfSome (cond t (Some (letters_value (a ∷ b ∷ c ∷ d ∷ letters))) None) (λ column. (1 ≤ column) × (column ≤ 18278))
+        → IfSome (cond t (Some (letters_number (a ∷ b ∷ c ∷ d ∷ letters))) None) (λ column. (1 ≤ column) × (column ≤ 18278))
     go true is = let few : length (a ∷ b ∷ c ∷ d ∷ letters) ≤ 3 = grind (arith, nat_tests) in absurd (omega arith)
     go false is = tt
 
@@ -194,8 +196,8 @@ digit_color_fits (sign ∷ digits) = either IsNamedColor (sign == 35) (color_of_
 
 named_color_fits : (bytes : List ℕ) → IfSome (named_color bytes) IsNamedColor
 named_color_fits bytes =
-    mapped (λ entry. IsNamedColor entry.1) IsNamedColor (find (λ entry. bytes_eq entry.0 bytes) named_colors) (λ entry. entry.1)
-    (found_fits (λ entry. IsNamedColor entry.1) (λ entry. bytes_eq entry.0 bytes) named_colors (tt ▸ tt ▸ tt ▸ tt ▸ tt ▸ tt ▸ tt ▸ tt ▸ tt ▸ tt ▸ tt ▸ tt ▸ tt ▸ tt)) (λ entry p. p)
+    either IsNamedColor (bytes_eq bytes (codes "-")) (Some NoColor) (option_map Theme (entry_named theme_color_name all_theme_colors bytes)) tt
+    (mapped (λ color. Unit {0}) IsNamedColor (entry_named theme_color_name all_theme_colors bytes) Theme (any_value (entry_named theme_color_name all_theme_colors bytes)) (λ color p. tt))
 
 either_fits : {A : Type 0} (P : A → Type 0) (x y : Option A) → IfSome x P → IfSome y P → IfSome (option_or x y) P
 either_fits P None y p q = q

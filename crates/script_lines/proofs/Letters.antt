@@ -2,7 +2,8 @@
 use Rattle.std.proofs.Common.{◌≡◌, ℕ, ◌+◌, suc, Bool, true, false, cond, List, [], ◌∷◌, take, refl, ap, ◌∙◌, arith}
 use Rattle.std.specs.Prelude.{◌&&◌}
 use Rattle.std.specs.List.{list_all, prefix_len}
-use Rattle.script_lines.specs.References.{is_letter, letters_of}
+use Rattle.base_tables.specs.Column.{is_letter}
+use Rattle.script_lines.specs.References.{letters_of}
 
 front : (p : ℕ → Bool) (bytes : List ℕ) → list_all p (take (prefix_len p bytes) bytes) ≡ true
 front p [] = refl

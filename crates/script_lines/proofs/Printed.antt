@@ -1,15 +1,17 @@
 -- The name of a place names it.
-use Rattle.std.proofs.Common.{◌≡◌, ℕ, ℤ, pos, ◌+◌, ◌-◌, ◌*◌, ◌/◌, ◌%◌, ◌^◌, ◌<◌, ◌≤◌, ◌≤ℤ◌, Bool, true, false, cond, List, [], ◌∷◌, ◌++◌, length, take, drop, Option, Some, None, refl, ap, ◌∙◌, arith}
-use Rattle.std.specs.Prelude.{◌&&◌, nat_le, negsuc, decimal}
+use Rattle.std.proofs.Common.{◌≡◌, ℕ, ℤ, pos, ◌+◌, ◌-◌, ◌/◌, ◌%◌, ◌^◌, ◌<◌, ◌≤◌, ◌≤ℤ◌, Bool, true, false, cond, List, [], ◌∷◌, ◌++◌, length, take, drop, Option, Some, None, refl, sym, ap, ◌∙◌, arith}
+use Rattle.std.specs.Prelude.{◌&&◌, negsuc, decimal, nat_le, if◌then◌else◌}
 use Rattle.std.specs.Option.{option_and_then, option_map}
 use Rattle.std.specs.List.{list_all, prefix_len}
-use Rattle.std.proofs.lemmas.Bool.{and_parts, leb-true, le-leb}
+use Rattle.std.proofs.lemmas.Bool.{and_parts, le-leb}
 use Rattle.std.proofs.lemmas.Bool.Decides.{nat_tests}
 use Rattle.std.proofs.lemmas.Int.{ints}
 use Rattle.std.proofs.lemmas.Fmt.{decimal_by_steps, length-decimal-le, decimal_nonempty}
 use Rattle.std.proofs.Math.Seq.{take-append_seam, drop-append_seam}
 use Rattle.script_lines.specs.Number.{is_digit, are_digits, value_of}
-use Rattle.script_lines.specs.References.{is_between, is_letter, letter_value, letters_value, read_column, read_row, letters_of, digits_of, reference_of, letters_text, reference_text, IsReadAgain}
+use Rattle.base_tables.specs.Column.{is_between, is_letter, letters_number, number_a_column, is_column_name, column_of_name, column_letters}
+use Rattle.base_tables.specs.laws.ColumnLaws.{letters_name_column}
+use Rattle.script_lines.specs.References.{read_column, read_row, letters_of, digits_of, reference_of, reference_text, IsReadAgain}
 use Rattle.script_lines.specs.declared.reference.Reference.{Reference}
 use Rattle.script_lines.proofs.Digits.{value_of-push}
 
@@ -41,46 +43,6 @@ decimal_more n ds h i = record {
 decimal_so : (n : ℕ) → n < 2 ^ 64 → IsDecimal n (decimal n)
 decimal_so = decimal_by_steps IsDecimal decimal_one decimal_more
 
--- ---- letters
-
-letter_so : (j : ℕ) → j < 26 → is_letter (65 + j) ≡ true
-letter_so j h = grind (arith, nat_tests)
-
-letter_is : (j : ℕ) → j < 26 → letter_value (65 + j) ≡ j + 1
-letter_is j h = let e : nat_le 97 (65 + j) ≡ false = grind (arith, nat_tests) in ap (λ c. cond c (65 + j - 96) (65 + j - 64)) e ∙ omega arith
-
-record IsLetters (k : ℕ) (s : List ℕ) : Type 0 where
-  all : list_all is_letter s ≡ true
-  value : letters_value s ≡ k
-  few : is_between 1 3 (length s) ≡ true
-
-one_letter : (k a : ℕ) → a < 26 → k ≡ a + 1 → IsLetters k ((65 + a) ∷ [])
-one_letter k a h e = record { all = both_and _ _ (letter_so a h) refl; value = omega (arith, letter_is a h); few = refl }
-
-two_letters : (k a b : ℕ) → a < 26 → b < 26 → k ≡ (a + 1) * 26 + (b + 1) → IsLetters k ((65 + a) ∷ (65 + b) ∷ [])
-two_letters k a b h i e = record { all = both_and _ _ (letter_so a h) (both_and _ _ (letter_so b i) refl); value = omega (arith, letter_is a h, letter_is b i); few = refl }
-
-three_letters : (k a b c : ℕ) → a < 26 → b < 26 → c < 26 → k ≡ ((a + 1) * 26 + (b + 1)) * 26 + (c + 1) → IsLetters k ((65 + a) ∷ (65 + b) ∷ (65 + c) ∷ [])
-three_letters k a b c h i j e =
-    record { all = both_and _ _ (letter_so a h) (both_and _ _ (letter_so b i) (both_and _ _ (letter_so c j) refl)); value = omega (arith, letter_is a h, letter_is b i, letter_is c j); few = refl }
-
-letters_so : (k : ℕ) → 1 ≤ k → k ≤ 16384 → IsLetters k (letters_text k)
-letters_so k h g = small (nat_le k 26) refl
-  where
-    two : List ℕ
-    two = (65 + (k - 27) / 26) ∷ (65 + (k - 27) % 26) ∷ []
-
-    three : List ℕ
-    three = (65 + (k - 703) / 26 / 26) ∷ (65 + (k - 703) / 26 % 26) ∷ (65 + (k - 703) % 26) ∷ []
-
-    large : (c : Bool) → nat_le k 702 ≡ c → 27 ≤ k → IsLetters k (cond c two three)
-    large true e l = let m : k ≤ 702 = leb-true k 702 e in two_letters k ((k - 27) / 26) ((k - 27) % 26) (omega arith) (omega arith) (omega arith)
-    large false e l = let m : 703 ≤ k = grind (arith, nat_tests) in three_letters k ((k - 703) / 26 / 26) ((k - 703) / 26 % 26) ((k - 703) % 26) (omega arith) (omega arith) (omega arith) (omega arith)
-
-    small : (c : Bool) → nat_le k 26 ≡ c → IsLetters k (cond c ((65 + (k - 1)) ∷ []) (cond (nat_le k 702) two three))
-    small true e = let m : k ≤ 26 = leb-true k 26 e in one_letter k (k - 1) (omega arith) (omega arith)
-    small false e = large (nat_le k 702) refl (grind (arith, nat_tests))
-
 -- ---- letters and digits
 
 digit_no_letter : (b : ℕ) → is_digit b ≡ true → is_letter b ≡ false
@@ -97,8 +59,30 @@ letters_end (b ∷ letters) digits e f =
     let rest = letters_end letters digits h.1 f in
     ap (λ t. cond t (1 + prefix_len is_letter (letters ++ digits)) 0) h.0 ∙ omega arith
 
+-- one to three letters with this number
+record AreLetters (n : ℕ) (text : List ℕ) : Type 0 where
+  all : list_all is_letter text ≡ true
+  few : is_between 1 3 (length text) ≡ true
+  number : letters_number text ≡ n
+
+nothing_there : (n : ℕ) → Some (pos n) ≡ None → ⊥
+nothing_there n e = cc
+
+parts_of_name : (n : ℕ) (text : List ℕ) (named : Bool) → is_column_name text ≡ named → (if named then Some (pos (letters_number text)) else None) ≡ Some (pos n) → AreLetters n text
+unfolding is_column_name
+parts_of_name n text true e f =
+    let parts = and_parts (list_all is_letter text) (number_a_column text) e in
+    let counted = and_parts (is_between 1 3 (length text)) (nat_le (letters_number text) 16384) parts.1 in
+    record { all = parts.0; few = counted.0; number = cc }
+parts_of_name n text false e f = absurd (nothing_there n (sym f))
+
+-- the letters of a column are one to three, and its number is theirs
+column_letters_are : (n : ℕ) → 1 ≤ n → n ≤ 16384 → AreLetters n (column_letters n)
+unfolding column_of_name
+column_letters_are n low high = parts_of_name n (column_letters n) (is_column_name (column_letters n)) refl (letters_name_column n low high)
+
 record Named (column row : ℕ) (letters digits : List ℕ) : Type 0 where
-  column_so : IsLetters column letters
+  column_so : AreLetters column letters
   row_so : IsDecimal row digits
   row_few : is_between 1 7 (length digits) ≡ true
 
@@ -107,7 +91,7 @@ named_reads column row letters digits n =
     let len = letters_end letters digits n.column_so.all n.row_so.all in
     let front : letters_of (letters ++ digits) ≡ letters = ap (λ k. take k (letters ++ digits)) len ∙ take-append_seam letters digits in
     let back : digits_of (letters ++ digits) ≡ digits = ap (λ k. drop k (letters ++ digits)) len ∙ drop-append_seam letters digits in
-    let first : read_column letters ≡ Some column = ap (λ t. cond t (Some (letters_value letters)) None) n.column_so.few ∙ ap Some n.column_so.value in
+    let first : read_column letters ≡ Some column = ap (λ t. cond t (Some (letters_number letters)) None) n.column_so.few ∙ ap Some n.column_so.number in
     let second : read_row digits ≡ Some row = ap (λ t. cond t (Some (value_of digits)) None) (both_and _ _ n.row_few n.row_so.all) ∙ ap Some n.row_so.value in
     let whole : List ℕ → List ℕ → Option Reference = λ l d. option_and_then (λ c. option_map (λ r. record { row = pos r; column = pos c }) (read_row d)) (read_column l) in
     let made : Option ℕ → Option ℕ → Option Reference = λ c r. option_and_then (λ c. option_map (λ r. record { row = pos r; column = pos c }) r) c in
@@ -122,8 +106,8 @@ read_again place h = go place.row place.column h.0 h.1
         let fits : r < 2 ^ 64 = omega (arith, ints, x) in
         let some = decimal_nonempty r fits in
         let few : length (decimal r) ≤ 7 = length-decimal-le 7 r (omega arith) (omega (arith, ints, x)) fits in
-        named_reads c r (letters_text c) (decimal r) (record {
-          column_so = letters_so c (omega (arith, ints, y)) (omega (arith, ints, y));
+        named_reads c r (column_letters c) (decimal r) (record {
+          column_so = column_letters_are c (omega (arith, ints, y)) (omega (arith, ints, y));
           row_so = decimal_so r fits;
           row_few = both_and _ _ (le-leb 1 (length (decimal r)) some) (le-leb (length (decimal r)) 7 few);
         })

@@ -5,7 +5,8 @@ use Rattle.std.proofs.lemmas.Bool.{and_parts, lt-ltb, le-leb}
 use Rattle.std.proofs.lemmas.Bool.Decides.{nat_tests}
 use Rattle.std.proofs.Math.Nat.{mul-le-mul_left, pow-le-pow_right, pow-suc, mul_comm}
 use Rattle.script_lines.specs.Number.{is_digit, are_digits, value_of, value_below, number_below}
-use Rattle.script_lines.specs.References.{is_between, read_row}
+use Rattle.base_tables.specs.Column.{is_between}
+use Rattle.script_lines.specs.References.{read_row}
 
 digit-small : (b : ℕ) → is_digit b ≡ true → b - 48 ≤ 9
 digit-small b e = grind (arith, nat_tests)

@@ -1,36 +1,19 @@
 -- Colours in words: `-` for none, `#RRGGBB`, `#RGB` with each digit doubled, and `theme:` with a number from 0 to 11.
 use Rattle.std.specs.Prelude.{ℕ, ◌==◌, ◌+◌, ◌-◌, ◌*◌, List, [], ◌∷◌, if◌then◌else◌, codes}
-use Rattle.std.specs.List.{find}
 use Rattle.std.specs.Option.{option_and_then, option_map, option_or}
 use Rattle.std.specs.Str.{bytes_eq}
 use Rattle.std.specs.declared.option.Option.{Option}
 use Rattle.std.specs.declared.option.Option.TheVariants.{Some, None}
+use Rattle.base_tables.specs.Column.{is_between}
+use Rattle.base_tables.specs.Tables.{entry_named}
 use Rattle.base_styles.specs.declared.Color.{Color}
 use Rattle.base_styles.specs.declared.Color.TheVariants.{None as NoColor, Rgb, Theme}
 use Rattle.base_styles.specs.declared.RgbColor.{RgbColor}
-use Rattle.base_styles.specs.declared.ThemeColor.TheVariants.{Light1, Dark1, Light2, Dark2, Accent1, Accent2, Accent3, Accent4, Accent5, Accent6, Hyperlink, FollowedHyperlink}
-use Rattle.script_lines.specs.References.{is_between}
+use Rattle.base_styles.specs.Colors.{theme_color_name, all_theme_colors}
 
--- the words of colours that have no digits, and the colours
-abbrev pub named_colors : List (List ℕ × Color)
-named_colors =
-    (codes "-", NoColor)
-    ∷ (codes "theme:0", Theme Light1)
-    ∷ (codes "theme:1", Theme Dark1)
-    ∷ (codes "theme:2", Theme Light2)
-    ∷ (codes "theme:3", Theme Dark2)
-    ∷ (codes "theme:4", Theme Accent1)
-    ∷ (codes "theme:5", Theme Accent2)
-    ∷ (codes "theme:6", Theme Accent3)
-    ∷ (codes "theme:7", Theme Accent4)
-    ∷ (codes "theme:8", Theme Accent5)
-    ∷ (codes "theme:9", Theme Accent6)
-    ∷ (codes "theme:10", Theme Hyperlink)
-    ∷ (codes "theme:11", Theme FollowedHyperlink)
-    ∷ []
-
+-- the colour of a word without digits of its own: a dash for none, or one that the theme names
 abbrev pub named_color : List ℕ → Option Color
-named_color bytes = option_map (λ entry. entry.1) (find (λ entry. bytes_eq entry.0 bytes) named_colors)
+named_color bytes = if bytes_eq bytes (codes "-") then Some NoColor else option_map Theme (entry_named theme_color_name all_theme_colors bytes)
 
 -- the value of a hexadecimal digit of either case
 abbrev pub digit_value : ℕ → Option ℕ

@@ -1,6 +1,6 @@
 -- The names of cells, as B3: one to three letters for the column, one to seven digits for the row; and of areas, as B3:A1.
 use Rattle.std.proofs.Common.{◌+ℤ◌, ◌-ℤ◌}
-use Rattle.std.specs.Prelude.{◌≡◌, ℕ, ℤ, pos, negsuc, ◌+◌, ◌-◌, ◌*◌, ◌/◌, ◌%◌, ◌^◌, Bool, ◌&&◌, ◌||◌, List, [], ◌∷◌, ◌++◌, length, take, drop, nat_le, int_le, if◌then◌else◌, decimal}
+use Rattle.std.specs.Prelude.{◌≡◌, ℕ, ℤ, pos, negsuc, ◌&&◌, List, [], ◌∷◌, ◌++◌, length, take, drop, int_le, if◌then◌else◌, decimal}
 use Rattle.std.specs.List.{prefix_len}
 use Rattle.std.specs.Option.{option_and_then, option_map}
 use Rattle.std.specs.declared.option.Option.{Option}
@@ -9,29 +9,13 @@ use Rattle.script_lines.specs.declared.reference.Reference.{Reference}
 use Rattle.base_values.specs.declared.position.Position.{Position}
 use Rattle.base_values.specs.Places.{IsPlace}
 use Rattle.base_axis.specs.declared.MergedCell.{MergedCell}
+use Rattle.base_tables.specs.Column.{is_between, is_letter, letters_number, column_letters}
 use Rattle.script_lines.specs.Number.{are_digits, value_of}
 use Rattle.script_lines.specs.Parts.{parts_at}
 
--- from the low one to the high one
-abbrev pub is_between : ℕ → ℕ → ℕ → Bool
-is_between low high b = nat_le low b && nat_le b high
-
--- an ASCII letter of either case
-abbrev pub is_letter : ℕ → Bool
-is_letter b = is_between 65 90 b || is_between 97 122 b
-
--- A is 1, and Z 26
-abbrev pub letter_value : ℕ → ℕ
-letter_value b = if nat_le 97 b then b - 96 else b - 64
-
--- the number of letters, each by its power of 26: AA is 27
-abbrev pub letters_value : List ℕ → ℕ
-letters_value [] = 0
-letters_value (b ∷ letters) = letter_value b * 26 ^ length letters + letters_value letters
-
 -- the column of one to three letters
 abbrev pub read_column : List ℕ → Option ℕ
-read_column letters = if is_between 1 3 (length letters) then Some (letters_value letters) else None
+read_column letters = if is_between 1 3 (length letters) then Some (letters_number letters) else None
 
 -- the row of one to seven digits
 abbrev pub read_row : List ℕ → Option ℕ
@@ -81,13 +65,6 @@ area_of_parts parts = None
 abbrev pub area_of : List ℕ → Option MergedCell
 area_of bytes = area_of_parts (parts_at 58 bytes)
 
--- the letters of a column, from A to XFD
-abbrev pub letters_text : ℕ → List ℕ
-letters_text column =
-    if nat_le column 26 then (65 + (column - 1)) ∷ []
-    else (if nat_le column 702 then (65 + (column - 27) / 26) ∷ (65 + (column - 27) % 26) ∷ []
-    else (65 + (column - 703) / 26 / 26) ∷ (65 + (column - 703) / 26 % 26) ∷ (65 + (column - 703) % 26) ∷ [])
-
 -- a line of a sheet as a number without a sign: lines are counted from 1
 abbrev pub line_number : ℤ → ℕ
 line_number (pos n) = n
@@ -95,7 +72,7 @@ line_number (negsuc n) = 0
 
 -- the name of a place
 abbrev pub reference_text : Position → List ℕ
-reference_text place = letters_text (line_number place.column) ++ decimal (line_number place.row)
+reference_text place = column_letters (line_number place.column) ++ decimal (line_number place.row)
 
 -- the name of a place names that place
 abbrev pub IsReadAgain : Type 0

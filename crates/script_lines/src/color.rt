@@ -3,26 +3,14 @@ ghost use Rattle.script_lines.specs.Colors as spec;
 
 use base_styles::{Color, RgbColor, ThemeColor};
 
-/// The colour of a word without digits of its own.
+/// The colour of a word without digits of its own: a dash for none, or one that the theme names.
 fn named_color(text: &str) -> Option<Color>
     ensures { result ≡ spec.named_color text.now }
 {
-    match text {
-        "-" => Some(Color::None),
-        "theme:0" => Some(Color::Theme(ThemeColor::Light1)),
-        "theme:1" => Some(Color::Theme(ThemeColor::Dark1)),
-        "theme:2" => Some(Color::Theme(ThemeColor::Light2)),
-        "theme:3" => Some(Color::Theme(ThemeColor::Dark2)),
-        "theme:4" => Some(Color::Theme(ThemeColor::Accent1)),
-        "theme:5" => Some(Color::Theme(ThemeColor::Accent2)),
-        "theme:6" => Some(Color::Theme(ThemeColor::Accent3)),
-        "theme:7" => Some(Color::Theme(ThemeColor::Accent4)),
-        "theme:8" => Some(Color::Theme(ThemeColor::Accent5)),
-        "theme:9" => Some(Color::Theme(ThemeColor::Accent6)),
-        "theme:10" => Some(Color::Theme(ThemeColor::Hyperlink)),
-        "theme:11" => Some(Color::Theme(ThemeColor::FollowedHyperlink)),
-        _ => None,
+    if text == "-" {
+        return Some(Color::None);
     }
+    ThemeColor::from_name(text).map(Color::Theme)
 }
 
 /// The value of a hexadecimal digit of either case.

@@ -1,4 +1,5 @@
 ghost use Rattle.std.specs.Prelude.{◌≡◌, ◌≤◌, ◌≤ℤ◌, ◌<◌, ◌^◌, ◌++◌, ◌∷◌, [], true, decimal, length, pos, IfSome, OnOk};
+ghost use Rattle.base_tables.specs.Column.{is_letter, column_letters};
 ghost use Rattle.std.specs.List.{list_all, prefix_len};
 ghost use Rattle.base_values.specs.Places.{IsPlace};
 ghost use Rattle.script_lines.specs.CommandFits.{IsNamed};
@@ -7,25 +8,20 @@ ghost use Rattle.script_lines.specs.References as spec;
 use crate::number::read_u32;
 use crate::parts::split_first;
 use base_axis::MergedCell;
+use base_tables::{column_text, is_letter, letters_number};
 use base_values::Position;
 use std::alloc::{AllocError, Global};
 
 /// The row and column that a reference names, which may lie outside every sheet.
-#[derive(Clone, Copy, Debug, PartialEq, Eq)]
+#[derive(Clone, Copy, Debug)]
 pub(crate) struct Reference {
     pub row: i32,
     pub column: i32,
 }
 
-fn is_letter(byte: u8) -> bool
-    ensures { result ≡ spec.is_letter byte }
-{
-    (65 <= byte && byte <= 90) || (97 <= byte && byte <= 122)
-}
-
 /// How many letters stand at the front.
 fn letters_len(bytes: &[u8]) -> usize
-    ensures value { result ≡ prefix_len spec.is_letter bytes.now }
+    ensures value { result ≡ prefix_len is_letter bytes.now }
     ensures within { result ≤ length bytes.now }
 {
     for (at, byte) in bytes.iter().enumerate() {
@@ -36,26 +32,16 @@ fn letters_len(bytes: &[u8]) -> usize
     bytes.len()
 }
 
-fn letter_value(byte: u8) -> u32
-    requires { spec.is_letter byte ≡ true }
-    ensures value { result ≡ spec.letter_value byte }
-    ensures small { result ≤ 26 }
-{
-    u32::from(if byte >= 97 { byte - 96 } else { byte - 64 })
-}
-
 /// The column that one to three letters name.
 fn column_of(letters: &[u8]) -> Option<u32>
-    requires { list_all spec.is_letter letters.now ≡ true }
+    requires { list_all is_letter letters.now ≡ true }
     ensures value { result ≡ spec.read_column letters.now }
     ensures small { IfSome result (λ column. column < 2 ^ 31) }
 {
-    match letters {
-        [a] => Some(letter_value(*a)),
-        [a, b] => Some(letter_value(*a) * 26 + letter_value(*b)),
-        [a, b, c] => Some((letter_value(*a) * 26 + letter_value(*b)) * 26 + letter_value(*c)),
-        _ => None,
+    if letters.is_empty() || letters.len() > 3 {
+        return None;
     }
+    Some(letters_number(letters))
 }
 
 /// The row that one to seven digits name.
@@ -180,22 +166,13 @@ fn unsigned(line: i32) -> u32
     line as u32
 }
 
-fn push_letters(out: &mut Vec<u8>, column: u32) -> Result<(), AllocError>
+fn push_letters(alloc: Global, out: &mut Vec<u8>, column: u32) -> Result<(), AllocError>
     requires low { 1 ≤ column }
     requires high { column ≤ 16384 }
-    ensures { OnOk result (out.new.items ≡ out.old.items ++ spec.letters_text column) }
+    ensures { OnOk result (out.new.items ≡ out.old.items ++ column_letters column) }
 {
-    if column <= 26 {
-        out.push(65 + (column - 1) as u8)?;
-    } else if column <= 702 {
-        out.push(65 + ((column - 27) / 26) as u8)?;
-        out.push(65 + ((column - 27) % 26) as u8)?;
-    } else {
-        out.push(65 + ((column - 703) / 26 / 26) as u8)?;
-        out.push(65 + ((column - 703) / 26 % 26) as u8)?;
-        out.push(65 + ((column - 703) % 26) as u8)?;
-    }
-    Ok(())
+    let text = column_text(alloc, column)?;
+    out.extend_from_slice(text.as_bytes())
 }
 
 fn push_decimal(alloc: Global, out: &mut Vec<u8>, number: u32) -> Result<(), AllocError>
@@ -211,7 +188,7 @@ pub fn push_reference(alloc: Global, out: &mut Vec<u8>, place: Position) -> Resu
     requires { IsPlace place }
     ensures { OnOk result (out.new.items ≡ out.old.items ++ spec.reference_text place) }
 {
-    push_letters(out, unsigned(place.column))?;
+    push_letters(alloc, out, unsigned(place.column))?;
     push_decimal(alloc, out, unsigned(place.row))
 }
 

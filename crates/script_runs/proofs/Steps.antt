@@ -97,12 +97,13 @@ answered (Err error) old new s expected stands turns err memory =
 pub step_runs : (result done : Result (Unit {0}) EditError) (old new : Session) (s : State) (expected : Result State EditError) → KeepsSync expected s → SessionStands old s
     → Turns done new.model.document expected → OnErr done (new.model ≡ old.model) → new.copy ≡ old.copy
     → OnOk result (new.out.items ≡ old.out.items ++ outcome done) → OnOk result (IfErr done (λ error. error ≢ NoMemory)) → IsOkUnless result NoMemory
-    → Runs result old new (outcome expected) (state_after expected s)
+    → Runs result old new (outcome expected) (state_after expected s) (Unit {0})
 step_runs (Ok u) done old new s expected keeps stands turns err copy out memory only =
     let after = answered done old.model new.model s expected stands.model turns err memory in
     record {
       out = out ∙ ap (λ l. old.out.items ++ l) after.0;
       stands = record { model = after.1; copy = keeps ∙ stands.copy ∙ ap (λ v. Some v.document.book) (sym copy) };
       only = tt;
+      sends = tt;
     }
-step_runs (Err error) done old new s expected keeps stands turns err copy out memory only = record { out = tt; stands = tt; only = only }
+step_runs (Err error) done old new s expected keeps stands turns err copy out memory only = record { out = tt; stands = tt; only = only; sends = tt }

@@ -5,6 +5,7 @@ use Rattle.base_values.specs.declared.EditError.{EditError}
 use Rattle.base_values.specs.declared.EditError.TheVariants.{NoMemory}
 use Rattle.sheet_grid.specs.Book.{Book}
 use Rattle.sheet_history.specs.declared.QueueDiffs.{QueueDiffs}
+use Rattle.sheet_wire.specs.QueueBytes.{FitsQueue}
 use Rattle.user_model.specs.Machine.{State, synced_of}
 use Rattle.user_model.specs.Sound.{Carries}
 use Rattle.user_model.specs.Stands.{StandsFor}
@@ -18,6 +19,7 @@ carries_to entries bytes seen synced copied later one two carries =
     subst (λ l. Carries entries l copied later) (sym one) (subst (λ (o : Option Book). IfSome o (λ book. Carries entries bytes book later)) two carries)
 
 pub sync_runs : (result : Result (Unit {0}) EditError) (old new : Session) (state : State) (reply : List ℕ) → new.out.items ≡ old.out.items ++ reply
-    → StandsFor new.model.document (synced_of state) → OnOk result (new.copy.document.book ≡ state.present) → IsOkUnless result NoMemory → Runs result old new reply (synced_of state)
-sync_runs (Ok u) old new state reply out model copy only = record { out = out; stands = record { model = model; copy = ap Some (sym copy) }; only = tt }
-sync_runs (Err error) old new state reply out model copy only = record { out = tt; stands = tt; only = only }
+    → StandsFor new.model.document (synced_of state) → OnOk result (new.copy.document.book ≡ state.present) → IsOkUnless result NoMemory → FitsQueue state.sent
+    → Runs result old new reply (synced_of state) (OnOk result (FitsQueue state.sent))
+sync_runs (Ok u) old new state reply out model copy only fits = record { out = out; stands = record { model = model; copy = ap Some (sym copy) }; only = tt; sends = fits }
+sync_runs (Err error) old new state reply out model copy only fits = record { out = tt; stands = tt; only = only; sends = tt }

@@ -29,7 +29,8 @@ pub fn run_script<S: Source, K: Sink>(
     // Over any ends.
     ensures ran { OnOk result (Ran MOST_BYTES (S.left input.old) (S.left input.new) (K.taken output.old) (K.taken output.new)) }
     // In every state that the lines go through, undo and redo lead to the kept workbooks, and what was
-    // sent since the last sync leads from the workbook at that sync to the present one.
+    // sent since the last sync leads from the workbook at that sync to the present one. What a sync
+    // writes are the bytes of a queue, which decoding them gives again.
     ensures sound { OnOk result (IfSome (S.left input.old) (λ script. SoundThrough (lines_of script) start)) }
 
     ensures read_fault { result ≡ Err RunError.ReadFault → Rose (S.faults input.old) (S.faults input.new) }

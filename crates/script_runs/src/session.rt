@@ -162,7 +162,7 @@ impl Session {
     ghost use Rattle.script_lines.specs.declared.Command.TheVariants as command;
     ghost use Rattle.user_model.specs.Machine.{State};
     ghost use Rattle.script_runs.specs.Script.{line_reply, line_next, lines_of, replies, after};
-    ghost use Rattle.script_runs.specs.Session.{SessionStands, Runs, RunsCommand, SoundThrough};
+    ghost use Rattle.script_runs.specs.Session.{SessionStands, Runs, RunsCommand, LineSends, SoundThrough};
 
     /// A new workbook, a second copy equal to it, and no answer yet.
     pub(crate) fn new(alloc: Global) -> Result<Session, EditError>
@@ -670,7 +670,7 @@ impl Session {
 
     fn run_line(&mut self, line: &[u8]) -> Result<(), EditError>
         ensures { (state : State) → SessionStands self.old state →
-            Runs result self.old self.new (line_reply line.now state) (line_next line.now state) }
+            Runs result self.old self.new (line_reply line.now state) (line_next line.now state) (OnOk result (LineSends line.now state)) }
     {
         if line.is_empty() {
             return Ok(());
@@ -687,7 +687,7 @@ impl Session {
     /// Runs all lines of a script.
     pub(crate) fn run_lines(&mut self, script: &[u8]) -> Result<(), EditError>
         ensures runs { (state : State) → SessionStands self.old state →
-            Runs result self.old self.new (replies (lines_of script.now) state) (after (lines_of script.now) state) }
+            Runs result self.old self.new (replies (lines_of script.now) state) (after (lines_of script.now) state) (Unit {0}) }
         ensures sound { (state : State) → SessionStands self.old state → OnOk result (SoundThrough (lines_of script.now) state) }
     {
         let mut rest = Some(script);

@@ -4,6 +4,7 @@
 
 mod parts;
 mod reading;
+mod steps;
 mod writing;
 
 pub use parts::{LocalePart, ThemePart, ZonePart};

@@ -1,6 +1,5 @@
 pub mod FillRanges
 pub mod Tiles
 pub mod Targets
-pub mod FillWalks
 pub mod Plans
 pub mod laws

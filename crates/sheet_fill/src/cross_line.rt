@@ -7,12 +7,12 @@ ghost use Rattle.base_values.specs.declared.EditError.TheVariants.{NoMemory};
 ghost use Rattle.base_values.specs.Places.{IsPlace, place_of};
 ghost use Rattle.base_axis.specs.Rectangles.{first_line, holds};
 ghost use Rattle.cell_content.specs.CanonicalContent.{IsCanonicalContent};
-ghost use Rattle.planned_maps.specs.Planned.{put_one};
+ghost use Rattle.planned_maps.specs.laws.PlanWalks.{put_one};
 ghost use Rattle.planned_maps.specs.Walks.{count_across};
 ghost use Rattle.sheet_grid.specs.CanonicalCell.{IsCanonicalCell};
 ghost use Rattle.sheet_grid.specs.Sheet.{shown_style};
 ghost use Rattle.sheet_fill.specs.FillRanges.{IsRange, lines, source_place, target_place};
-ghost use Rattle.sheet_fill.specs.FillWalks.{across_put, targets_put};
+ghost use Rattle.sheet_fill.specs.laws.FillWalks.{across_put, targets_put};
 ghost use Rattle.sheet_fill.specs.Plans.{CanonicalFill, cells_filled, links_filled};
 ghost use Rattle.sheet_fill.specs.Targets.{cell_with, content_with, hidden_among, is_hidden, open_content, open_count, place_filled, place_linked, progression_on, text_at, texts};
 

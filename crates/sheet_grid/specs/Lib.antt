@@ -4,6 +4,7 @@ pub mod Book
 pub mod Computed
 pub mod Dimension
 pub mod CanonicalCell
+pub mod DefaultParts
 pub mod Lines
 pub mod Merges
 pub mod SameEntry

@@ -9,6 +9,7 @@ use Rattle.base_values.specs.Answers.{map_ok, and_then}
 use Rattle.base_values.specs.KeyMap.{with_entry}
 use Rattle.base_values.specs.Places.{is_line, line_of}
 use Rattle.base_styles.specs.declared.Style.{Style}
+use Rattle.sheet_grid.specs.DefaultParts.{is_default}
 use Rattle.sheet_grid.specs.declared.line_attr.LineAttr.{LineAttr}
 use Rattle.sheet_grid.specs.declared.row_attr.RowAttr.{RowAttr}
 use Rattle.sheet_grid.specs.declared.column_attr.ColumnAttr.{ColumnAttr}
@@ -96,6 +97,14 @@ with_style style attr = record attr { style = style }
 -- the change of a line to have a style of its own, or none
 abbrev pub style_set : Option Style → Result (LineAttr → LineAttr) EditError
 style_set style = Ok (with_style style)
+
+-- the default style is not a row's own; a column's it may be
+unfoldable pub own_row_style : Style → Option Style
+own_row_style style = if is_default style then None else Some style
+
+-- the change of a row that is set to a style
+abbrev pub row_style_set : Style → Result (LineAttr → LineAttr) EditError
+row_style_set style = style_set (own_row_style style)
 
 -- the lines of which one has what a change makes of its own; one left plain has no entry
 abbrev pub with_change : FinMap int_cmp LineAttr → ℤ → (LineAttr → LineAttr) → FinMap int_cmp LineAttr

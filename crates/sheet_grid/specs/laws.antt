@@ -1,5 +1,6 @@
 pub mod CellEquals
 pub mod ComputedEquals
+pub mod DefaultPartLaws
 pub mod DimensionEquals
 pub mod DimensionLaws
 pub mod FittingLaws

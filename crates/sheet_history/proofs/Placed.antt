@@ -30,7 +30,7 @@ use Rattle.sheet_rules.specs.Occupied.{have_merges}
 use Rattle.sheet_rules.specs.WellFormed.{have_trees, IsWellFormed}
 use Rattle.sheet_lines.specs.Sheets.{IsPlacedCell, IsPlacedSheet, IsPlacedBook, sheet_of}
 use Rattle.book_sheets.specs.laws.Placed.{placed_cell, merges_lie}
-use Rattle.sheet_history.specs.Entries.{EntryKey, EntryValue, cell_stands_at, value_fits, sheet_id_of, with_sheet_entry, with_changed, put_entry, accepts}
+use Rattle.sheet_history.specs.Entries.{EntryKey, EntryValue, cell_stands_at, value_fits, setting_of, sheet_id_of, with_sheet_entry, with_changed, entry_placed, entry_accepted, put_entry, accepts}
 use Rattle.sheet_history.specs.Entries.EntryKey.{CellKey, LinkKey, MergesKey, FieldKey, AttrKey}
 use Rattle.sheet_history.specs.Entries.EntryValue.{CellValue, LinkValue, MergesValue, FieldValue, AttrValue}
 use Rattle.sheet_history.specs.declared.diff.LineAxis.TheVariants.{Rows, Columns}
@@ -42,12 +42,12 @@ use Rattle.sheet_history.specs.Diffs.{put_in}
 use Rattle.sheet_history.specs.RuleDiffs.{rule_put, takes_change, with_rules_changed}
 use Rattle.sheet_history.specs.laws.RuleDiffLaws.{rule_put-done}
 use Rattle.sheet_history.specs.laws.StandingRules.{has_standing_rules, rules_stand}
-use Rattle.sheet_history.specs.laws.EntryLaws.{decide}
+use Rattle.sheet_history.specs.laws.EntryLaws.{decide, sheets-with_value}
 use Rattle.sheet_history.specs.laws.SoundEntries.{sheet_merges_inside}
 use Rattle.sheet_history.specs.laws.TestedLaws.{put_in-done}
 use Rattle.sheet_history.specs.declared.setting.Setting.{Setting}
 use Rattle.sheet_history.specs.declared.setting.Setting.TheVariants as setting
-use Rattle.sheet_history.specs.Settings.{with_setting}
+use Rattle.sheet_history.specs.Settings.{SettingKind, with_setting}
 
 -- rules that may stand lie inside the sheet
 rules_lie : (rules : List ConditionalFormatting) → list_all may_stand rules ≡ true → RulesLie rules
@@ -119,13 +119,18 @@ each_changed P f keeps id (s ∷ ss) all =
     (λ hit. subst (λ b. AllByRecursion P (cond b (f s ∷ ss) (s ∷ with_changed id f ss))) (sym hit) (keeps s all.0, all.1))
     (λ miss. subst (λ b. AllByRecursion P (cond b (f s ∷ ss) (s ∷ with_changed id f ss))) (sym miss) (all.0, each_changed P f keeps id ss all.1))
 
+placed_where : (o : Option SettingKind) (book : Book) (k : EntryKey) (v : EntryValue) → IsPlacedBook book → entry_accepted o k v book ≡ true → IsPlacedBook (entry_placed o k v book)
+placed_where None book k v all accepted =
+    let fits = (both (is_some (sheet_of book (sheet_id_of k))) (value_fits k v) accepted).1 in
+    each_changed IsPlacedSheet (with_sheet_entry k v) (λ s placed. placed_entry s k v fits placed) (sheet_id_of k) book.worksheets all
+placed_where (Some kind) book k v all accepted = subst (AllByRecursion IsPlacedSheet) (sym (sheets-with_value kind v book)) all
+
 -- of a workbook in which an entry is put
 pub put_in-placed : (at : ℕ) (book : Book) (k : EntryKey) (v : EntryValue) (next : Book) → IsPlacedBook book → put_in at book k v ≡ Ok next → IsPlacedBook next
 unfolding accepts put_entry
 put_in-placed at book k v next all is =
     let done = put_in-done at book k v next is in
-    let fits = (both (is_some (sheet_of book (sheet_id_of k))) (value_fits k v) done.0).1 in
-    subst IsPlacedBook done.1 (each_changed IsPlacedSheet (with_sheet_entry k v) (λ s placed. placed_entry s k v fits placed) (sheet_id_of k) book.worksheets all)
+    subst IsPlacedBook done.1 (placed_where (setting_of k) book k v all done.0)
 
 -- so it is after a call that puts one
 pub edit_placed : (at : ℕ) (book : Book) (k : EntryKey) (v : EntryValue) (next : Book) (result : Result (Unit {0}) EditError) → IsPlacedBook book → Edits result book next (put_in at book k v) → OnOk result (IsPlacedBook next)

@@ -1,5 +1,5 @@
--- A workbook as a map of entries: the cells and the links of its sheets, what their rows and columns have of their own, and the merges and the
--- fields of each sheet.
+-- A workbook as a map of entries: the cells and the links of its sheets, what their rows and columns have of their own, the merges and the
+-- fields of each sheet, and the settings of the workbook.
 use Rattle.std.proofs.Common.{ℕ, ℤ, pos, Bool, true, false, ◌&&◌, List, [], ◌∷◌, map, Option, Some, None}
 use Rattle.std.specs.Prelude.{◌==◌, is_some, not, if◌then◌else◌}
 use Rattle.std.specs.Option.{option_map}
@@ -29,6 +29,8 @@ use Rattle.sheet_history.specs.declared.diff.LineAxis.TheVariants.{Rows, Columns
 use Rattle.sheet_history.specs.LineDiffs.{along_of}
 use Rattle.sheet_history.specs.declared.field.SheetField.{SheetField}
 use Rattle.sheet_history.specs.Fields.{Field, tag_of, field_in, with_field, is_of}
+use Rattle.sheet_history.specs.declared.setting.Setting.{Setting}
+use Rattle.sheet_history.specs.Settings.{SettingKind, setting_tag, is_of_kind, setting_in, with_kind, plain_setting, without_settings}
 
 -- which entry of a workbook
 pub data EntryKey : Type 0 where
@@ -42,6 +44,8 @@ pub data EntryKey : Type 0 where
   FieldKey : ℕ → Field → EntryKey
   -- what a row or a column of the sheet of an id has of its own
   AttrKey : ℕ → LineAxis → ℤ → EntryKey
+  -- a setting of the workbook
+  SettingKey : SettingKind → EntryKey
 
 -- what an entry is
 pub data EntryValue : Type 0 where
@@ -55,10 +59,12 @@ pub data EntryValue : Type 0 where
   FieldValue : SheetField → EntryValue
   -- what a line has of its own, or nothing
   AttrValue : Option LineAttr → EntryValue
+  -- what a setting is
+  SettingValue : Setting → EntryValue
 
 -- ---- the order of keys
 
--- where a key stands in the order of a record: the tag of its diff, its sheet, its row and its column
+-- where a key stands in the order of a record: the tag of its diff, its sheet, its row and its column. A setting stands at no sheet, 0
 pub record Rank : Type 0 where
   pub tag : ℕ
   pub sheet : ℕ
@@ -75,6 +81,7 @@ rank_of (LinkKey sheet place) = record { tag = 2; sheet = sheet; row = place.row
 rank_of (MergesKey sheet) = record { tag = 5; sheet = sheet; row = pos 0; column = pos 0 }
 rank_of (FieldKey sheet field) = record { tag = tag_of field; sheet = sheet; row = pos 0; column = pos 0 }
 rank_of (AttrKey sheet axis line) = record { tag = line_tag axis; sheet = sheet; row = line; column = pos 0 }
+rank_of (SettingKey kind) = record { tag = setting_tag kind; sheet = 0; row = pos 0; column = pos 0 }
 
 -- by tag, then by sheet id, then by row, then by column. The number of a line, of columns too, stands in the place of the row
 abbrev pub rank_cmp : Rank → Rank → Ordering
@@ -85,15 +92,21 @@ key_cmp a b = rank_cmp (rank_of a) (rank_of b)
 
 -- ---- the entries of a sheet
 
--- the sheet that a key names
+-- the setting that a key names, where it is one of a setting
+abbrev pub setting_of : EntryKey → Option SettingKind
+setting_of (SettingKey kind) = Some kind
+setting_of _ = None
+
+-- the sheet that a key names. That of a setting names none
 abbrev pub sheet_id_of : EntryKey → ℕ
 sheet_id_of (CellKey sheet place) = sheet
 sheet_id_of (LinkKey sheet place) = sheet
 sheet_id_of (MergesKey sheet) = sheet
 sheet_id_of (FieldKey sheet field) = sheet
 sheet_id_of (AttrKey sheet axis line) = sheet
+sheet_id_of (SettingKey kind) = 0
 
--- what a sheet has at a key
+-- what a sheet has at a key. It has no setting: a plain one stands for that
 abbrev pub sheet_entry : EntryKey → Sheet → EntryValue
 sheet_entry (CellKey id place) sheet = CellValue (fin.get sheet.cells place)
 sheet_entry (LinkKey id place) sheet = LinkValue (fin.get sheet.links place)
@@ -101,8 +114,9 @@ sheet_entry (MergesKey id) sheet = MergesValue sheet.merges
 sheet_entry (FieldKey id field) sheet = FieldValue (field_in field sheet)
 sheet_entry (AttrKey id Rows line) sheet = AttrValue (fin.get sheet.rows line)
 sheet_entry (AttrKey id Columns line) sheet = AttrValue (fin.get sheet.columns line)
+sheet_entry (SettingKey kind) sheet = SettingValue (plain_setting kind)
 
--- the sheet with a value at a key. A value of another kind changes nothing
+-- the sheet with a value at a key. A value of another kind changes nothing, nor does a setting
 abbrev pub with_sheet_entry : EntryKey → EntryValue → Sheet → Sheet
 with_sheet_entry (CellKey id place) (CellValue entry) sheet = record sheet { cells = with_entry sheet.cells place entry }
 with_sheet_entry (LinkKey id place) (LinkValue entry) sheet = record sheet { links = with_entry sheet.links place entry }
@@ -110,6 +124,7 @@ with_sheet_entry (MergesKey id) (MergesValue merges) sheet = record sheet { merg
 with_sheet_entry (FieldKey id field) (FieldValue value) sheet = with_field field value sheet
 with_sheet_entry (AttrKey id Rows line) (AttrValue entry) sheet = record sheet { rows = with_entry sheet.rows line entry }
 with_sheet_entry (AttrKey id Columns line) (AttrValue entry) sheet = record sheet { columns = with_entry sheet.columns line entry }
+with_sheet_entry (SettingKey kind) value sheet = sheet
 with_sheet_entry _ _ sheet = sheet
 
 -- what is put at a place, a cell or none, may stand there: a formula fits its place, and an array lies inside the sheet
@@ -122,14 +137,15 @@ abbrev pub is_kept : Option LineAttr → Bool
 is_kept None = true
 is_kept (Some attr) = not (is_plain attr)
 
--- whether a value may stand at a key: it is one of the key's kind, the place or the line lies inside the sheet, a cell may stand there, what a
--- line has is something, and each merge lies inside
+-- whether a value may stand at a key of a sheet: it is one of the key's kind, the place or the line lies inside the sheet, a cell may stand
+-- there, what a line has is something, and each merge lies inside. A setting stands in no sheet
 abbrev pub value_fits : EntryKey → EntryValue → Bool
 value_fits (CellKey id place) (CellValue entry) = is_place place && cell_stands_at place entry
 value_fits (LinkKey id place) (LinkValue entry) = is_place place
 value_fits (MergesKey id) (MergesValue merges) = list_all is_inside merges
 value_fits (FieldKey id field) (FieldValue value) = is_of field value
 value_fits (AttrKey id axis line) (AttrValue entry) = is_line (along_of axis).last line && is_kept entry
+value_fits (SettingKey kind) value = false
 value_fits _ _ = false
 
 -- ---- the entries of a workbook
@@ -139,17 +155,43 @@ abbrev pub with_changed : ℕ → (Sheet → Sheet) → List Sheet → List Shee
 with_changed id change [] = []
 with_changed id change (sheet ∷ sheets) = if sheet.id == id then change sheet ∷ sheets else sheet ∷ with_changed id change sheets
 
--- the entry at a key. There is none where there is no such sheet
+-- what is found at a key: the setting that it names, else what its sheet has. There is nothing where there is no such sheet
+abbrev pub entry_found : Option SettingKind → EntryKey → Book → Option EntryValue
+entry_found None key book = option_map (sheet_entry key) (sheet_of book (sheet_id_of key))
+entry_found (Some kind) key book = Some (SettingValue (setting_in kind book))
+
+-- the workbook with a value of a setting. A value of another kind changes nothing
+abbrev pub with_value : SettingKind → EntryValue → Book → Book
+with_value kind (SettingValue value) book = with_kind kind value book
+with_value kind _ book = book
+
+-- the workbook with a value of the setting that a key names, else with the value in the sheet of the key. Where there is no such sheet, it is
+-- as it was
+abbrev pub entry_placed : Option SettingKind → EntryKey → EntryValue → Book → Book
+entry_placed None key value book = record book { worksheets = with_changed (sheet_id_of key) (with_sheet_entry key value) book.worksheets }
+entry_placed (Some kind) key value book = with_value kind value book
+
+-- whether a value is one of a setting
+abbrev pub is_value_of : SettingKind → EntryValue → Bool
+is_value_of kind (SettingValue value) = is_of_kind kind value
+is_value_of kind _ = false
+
+-- whether a value is one of the setting that a key names, else whether the sheet is there and the value may stand in it
+abbrev pub entry_accepted : Option SettingKind → EntryKey → EntryValue → Book → Bool
+entry_accepted None key value book = is_some (sheet_of book (sheet_id_of key)) && value_fits key value
+entry_accepted (Some kind) key value book = is_value_of kind value
+
+-- the entry at a key
 unfoldable pub entry_at : Book → EntryKey → Option EntryValue
-entry_at book key = option_map (sheet_entry key) (sheet_of book (sheet_id_of key))
+entry_at book key = entry_found (setting_of key) key book
 
--- the workbook with a value at a key. Where there is no such sheet, it is as it was
+-- the workbook with a value at a key
 unfoldable pub put_entry : Book → EntryKey → EntryValue → Book
-put_entry book key value = record book { worksheets = with_changed (sheet_id_of key) (with_sheet_entry key value) book.worksheets }
+put_entry book key value = entry_placed (setting_of key) key value book
 
--- a value can be put at a key: the sheet is there, and the value may stand in it
+-- a value can be put at a key
 unfoldable pub accepts : Book → EntryKey → EntryValue → Bool
-accepts book key value = is_some (sheet_of book (sheet_id_of key)) && value_fits key value
+accepts book key value = entry_accepted (setting_of key) key value book
 
 -- a sheet without its entries
 abbrev pub bare_sheet : Sheet → Sheet
@@ -167,6 +209,6 @@ bare_sheet sheet =
       merges = [];
     }
 
--- a workbook without its entries
+-- a workbook without its entries: its sheets without theirs, and its defined names
 unfoldable pub frame_of : Book → Book
-frame_of book = record book { worksheets = map bare_sheet book.worksheets }
+frame_of book = record (without_settings book) { worksheets = map bare_sheet book.worksheets }

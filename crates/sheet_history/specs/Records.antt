@@ -24,12 +24,17 @@ use Rattle.sheet_history.specs.declared.field.SheetField.{SheetField}
 use Rattle.sheet_history.specs.declared.field.SheetField.TheVariants as field_value
 use Rattle.sheet_history.specs.declared.field.FieldChange.TheVariants as field_change
 use Rattle.sheet_history.specs.contracts.field.SheetFieldPartialEq.TheImpl as sheet_field
+use Rattle.sheet_history.specs.declared.setting.Setting.{Setting}
+use Rattle.sheet_history.specs.declared.setting.Setting.TheVariants as setting_value
+use Rattle.sheet_history.specs.declared.setting.SettingChange.TheVariants as setting_change
+use Rattle.sheet_history.specs.contracts.setting.SettingPartialEq.TheImpl as setting
 use Rattle.sheet_history.specs.declared.diff.Diff.TheVariants.{Cell as CellDiff, Link as LinkDiff, Merges as MergesDiff, Field as FieldDiff, Lines as LinesDiff, NewSheet as NewDiff, DuplicateSheet as CopyDiff, DeleteSheet as DeletionDiff, MoveSheet as MoveDiff, RenameSheet as RenameDiff, ChangeName as NameDiff, Rule as RuleDiff, Attributes as AttrDiff, Setting as SettingDiff}
 use Rattle.sheet_history.specs.declared.diff.LineAxis.TheVariants.{Rows, Columns}
 use Rattle.sheet_history.specs.Entries.{EntryKey, EntryValue, key_cmp, entry_at, frame_of}
-use Rattle.sheet_history.specs.Entries.EntryKey.{CellKey, LinkKey, MergesKey, FieldKey, AttrKey}
-use Rattle.sheet_history.specs.Entries.EntryValue.{CellValue, LinkValue, MergesValue, FieldValue, AttrValue}
+use Rattle.sheet_history.specs.Entries.EntryKey.{CellKey, LinkKey, MergesKey, FieldKey, AttrKey, SettingKey}
+use Rattle.sheet_history.specs.Entries.EntryValue.{CellValue, LinkValue, MergesValue, FieldValue, AttrValue, SettingValue}
 use Rattle.sheet_history.specs.Fields.{all_fields, old_of, new_of, changed_field}
+use Rattle.sheet_history.specs.Settings.{all_settings, old_setting, new_setting, changed_setting}
 use Rattle.sheet_history.specs.LineDiffs.{along_of, is_there_inside}
 
 -- whether two entries are equal
@@ -39,6 +44,7 @@ same_entry_value (LinkValue a) (LinkValue b) = option_eq link.ghosts.eq a b
 same_entry_value (MergesValue a) (MergesValue b) = pointwise merged.ghosts.eq a b
 same_entry_value (FieldValue a) (FieldValue b) = sheet_field.ghosts.eq a b
 same_entry_value (AttrValue a) (AttrValue b) = option_eq line_attr.ghosts.eq a b
+same_entry_value (SettingValue a) (SettingValue b) = setting.ghosts.eq a b
 same_entry_value _ _ = false
 
 -- the entry before and after, where they differ
@@ -57,6 +63,7 @@ change_of (LinkDiff sheet place old new) = Some (LinkKey sheet place, (LinkValue
 change_of (MergesDiff sheet old new) = Some (MergesKey sheet, (MergesValue old, MergesValue new))
 change_of (FieldDiff sheet change) = Some (FieldKey sheet (changed_field change), (FieldValue (old_of change), FieldValue (new_of change)))
 change_of (AttrDiff sheet axis line old new) = Some (AttrKey sheet axis line, (AttrValue old, AttrValue new))
+change_of (SettingDiff change) = Some (SettingKey (changed_setting change), (SettingValue (old_setting change), SettingValue (new_setting change)))
 change_of (RuleDiff sheet change) = None
 change_of (LinesDiff sheet axis edit kept) = None
 change_of (NewDiff sheet index name) = None
@@ -65,7 +72,6 @@ change_of (DeletionDiff index kept) = None
 change_of (MoveDiff sheet from to) = None
 change_of (RenameDiff sheet old new kept) = None
 change_of (NameDiff change kept) = None
-change_of (SettingDiff change) = None
 
 -- a list has, in the order of their keys, exactly the entries in which the later workbook differs from the earlier one, which
 -- differ in nothing else
@@ -85,6 +91,14 @@ field_diff sheet (field_value.FrozenRows old) (field_value.FrozenRows new) = Fie
 field_diff sheet (field_value.FrozenColumns old) (field_value.FrozenColumns new) = FieldDiff sheet (field_change.FrozenColumns old new) ∷ []
 field_diff _ _ _ = []
 
+-- the diff of a setting: its values are of one setting
+abbrev pub setting_diff : Setting → Setting → List Diff
+setting_diff (setting_value.Theme old) (setting_value.Theme new) = SettingDiff (setting_change.Theme old new) ∷ []
+setting_diff (setting_value.Name old) (setting_value.Name new) = SettingDiff (setting_change.Name old new) ∷ []
+setting_diff (setting_value.Locale old) (setting_value.Locale new) = SettingDiff (setting_change.Locale old new) ∷ []
+setting_diff (setting_value.Zone old) (setting_value.Zone new) = SettingDiff (setting_change.Zone old new) ∷ []
+setting_diff _ _ = []
+
 -- the diff of a change: its values are of its key's kind
 abbrev pub diff_of : EntryKey → EntryValue → EntryValue → List Diff
 diff_of (CellKey sheet place) (CellValue old) (CellValue new) = CellDiff sheet place old new ∷ []
@@ -92,6 +106,7 @@ diff_of (LinkKey sheet place) (LinkValue old) (LinkValue new) = LinkDiff sheet p
 diff_of (MergesKey sheet) (MergesValue old) (MergesValue new) = MergesDiff sheet old new ∷ []
 diff_of (FieldKey sheet field) (FieldValue old) (FieldValue new) = field_diff sheet old new
 diff_of (AttrKey sheet axis line) (AttrValue old) (AttrValue new) = AttrDiff sheet axis line old new ∷ []
+diff_of (SettingKey kind) (SettingValue old) (SettingValue new) = setting_diff old new
 diff_of _ _ _ = []
 
 -- the record of one entry: its change, or nothing where it stays
@@ -131,9 +146,9 @@ attr_keys sheet = map (AttrKey sheet.id Columns) (fin.keys sheet.columns) ++ map
 abbrev pub sheet_keys : Sheet → List EntryKey
 sheet_keys sheet = map (CellKey sheet.id) (fin.keys sheet.cells) ++ map (LinkKey sheet.id) (fin.keys sheet.links) ++ (attr_keys sheet ++ single_keys sheet.id)
 
--- and of all that a workbook has
+-- and of all that a workbook has, its settings too
 abbrev pub book_keys : Book → List EntryKey
-book_keys book = flat_map sheet_keys book.worksheets
+book_keys book = map SettingKey all_settings ++ flat_map sheet_keys book.worksheets
 
 -- the change at a key, if its entry differs
 abbrev pub change_at : Book → Book → EntryKey → Option Change

@@ -8,12 +8,11 @@ ghost use Rattle.base_values.specs.Answers.{Edits};
 ghost use Rattle.base_values.specs.declared.Position.{Position};
 ghost use Rattle.line_edits.specs.Edit.{IsValid, image_at, opposite_of};
 ghost use Rattle.line_edits.specs.Moves.{place_image};
-ghost use Rattle.sheet_grid.specs.Arrays.{array_at};
 ghost use Rattle.sheet_grid.specs.declared.Cell.{Cell};
 ghost use Rattle.sheet_lines.specs.Back.{ArePlacedLines, LieInside};
 ghost use Rattle.sheet_lines.specs.CanonicalNumbers.{AreCanonicalLines};
 ghost use Rattle.sheet_lines.specs.Sheets.{IsPlacedBook, sheet_of};
-ghost use Rattle.book_sheets.specs.SheetDiffs.{lies_inside, cells_fit};
+ghost use Rattle.book_sheets.specs.SheetDiffs.{cells_fit};
 ghost use Rattle.rule_lines.specs.Canonical.{KeptLie};
 ghost use Rattle.sheet_history.specs.LineDiffs.{is_pushed_past, stays_inside, is_there_inside, is_lost_place, is_lost_line, all_keys};
 ghost use Rattle.sheet_history.specs.LineDiffs.{stand_on_lost, lie_inside, merges_inside, parts_inside, is_formula, is_formula_at, goes_on, tree_stands, formulas_stand, each_stands, formattings_stand, may_stand};
@@ -24,8 +23,8 @@ use base_maps::{IndexMap, NumberMap, PositionMap, SheetPlaceMap};
 use base_shared::Shared;
 use base_values::{EditError, PlaceMap, Position, is_line, is_place};
 use book_names::{is_formula, stand_on_places};
-use book_sheets::{array_lies_inside, merges_lie_inside};
-use cell_content::{fits_at, tree_fits_at};
+use book_sheets::{arrays_lie_inside, each_fits, merges_lie_inside};
+use cell_content::tree_fits_at;
 use format_rules::{ConditionalFormatting, has_fitting_trees, has_parts};
 use formula_tree::Node;
 use line_edits::place_image;
@@ -119,14 +118,6 @@ fn stand_on_lost<A: Axis>(edit: &LineEdit<A>, kept: &KeptLines) -> bool
         && (are_lost_lines(edit, &kept.lines) && stand_on_places(&kept.formulas))
 }
 
-fn arrays_inside(cells: &PositionMap<Shared<Cell>>) -> bool
-    ensures { result ≡ list_all (λ (entry : Position × Cell). lies_inside (array_at entry.0 entry.1.content)) (entries cells.now) }
-{
-    cells
-        .iter()
-        .all(|(place, cell)| array_lies_inside(*place, cell.get()))
-}
-
 fn merges_inside(merges: &Option<MergeList>) -> bool
     ensures { result ≡ merges_inside merges.now }
 {
@@ -151,7 +142,9 @@ fn parts_inside(formattings: &IndexMap<ConditionalFormatting>) -> bool
 fn lie_inside(kept: &KeptLines) -> bool
     ensures { result ≡ lie_inside kept.now }
 {
-    arrays_inside(&kept.cells) && merges_inside(&kept.merges) && parts_inside(&kept.formattings)
+    arrays_lie_inside(kept.cells.iter())
+        && merges_inside(&kept.merges)
+        && parts_inside(&kept.formattings)
 }
 
 /// Whether what is kept passes `stand_on_lost` and `lie_inside`.
@@ -167,9 +160,7 @@ fn kept_lies_inside<A: Axis>(edit: &LineEdit<A>, kept: &KeptLines) -> bool
 fn cells_fit(cells: &PositionMap<Shared<Cell>>) -> bool
     ensures { result ≡ cells_fit cells.now }
 {
-    cells
-        .iter()
-        .all(|(place, cell)| fits_at(*place, &cell.get().content))
+    each_fits(cells.iter())
 }
 
 fn is_formula_at(cells: &PlaceMap<Shared<Cell>>, place: Option<Position>) -> bool

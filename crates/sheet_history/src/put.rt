@@ -21,9 +21,9 @@ use crate::field::SheetField;
 use base_axis::MergeList;
 use base_shared::Shared;
 use base_values::{EditError, Position, copy_of};
-use book_sheets::{array_lies_inside, merges_lie_inside, sheet_index};
+use book_sheets::{array_lies_inside, merges_lie_inside};
 use cell_content::fits_at;
-use sheet_grid::{Cell, ColumnAttr, LineAttr, Link, RowAttr, Workbook, Worksheet};
+use sheet_grid::{Cell, ColumnAttr, LineAttr, Link, RowAttr, Workbook, Worksheet, sheet_index};
 
 /// Whether what is put at a place, a cell or none, may stand there.
 fn cell_stands_at(place: Position, entry: &Option<Shared<Cell>>) -> bool

@@ -7,9 +7,8 @@ ghost use Rattle.sheet_lines.specs.Sheets.{IsPlacedBook};
 ghost use Rattle.sheet_history.specs.RuleDiffs.{rule_put, sheet_rule_put};
 
 use base_values::EditError;
-use book_sheets::sheet_index;
 use rule_edits::{RuleChange, goes_back, goes_forward, rules_made, rules_unmade};
-use sheet_grid::{Workbook, Worksheet};
+use sheet_grid::{Workbook, Worksheet, sheet_index};
 use std::alloc::Global;
 
 /// Makes a change of the rules of a sheet, where it can be made.

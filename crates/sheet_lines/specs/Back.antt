@@ -12,8 +12,8 @@ use Rattle.line_edits.specs.declared.EditKind.{EditKind}
 use Rattle.line_map.specs.Attributes.{lines_restored, LinesLie}
 use Rattle.line_map.specs.Contents.{cell_carried, cell_restored}
 use Rattle.line_map.specs.Maps.{places_carried, places_restored, KeysInside}
-use Rattle.line_map.specs.Merges.{merges_carried, MergesLie}
-use Rattle.line_trees.specs.Way.{Way, back}
+use Rattle.line_routes.specs.Merges.{merges_carried, MergesLie}
+use Rattle.line_routes.specs.Way.{Way, back}
 use Rattle.rule_lines.specs.Canonical.{KeptLie}
 use Rattle.rule_lines.specs.Rules.{rules_restored}
 use Rattle.formula_tree.specs.declared.Node.{Node}

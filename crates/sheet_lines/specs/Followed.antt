@@ -7,9 +7,9 @@ use Rattle.line_edits.specs.declared.LineMap as line_map
 use Rattle.line_map.specs.Attributes.{lines_carried}
 use Rattle.line_map.specs.Contents.{cell_carried}
 use Rattle.line_map.specs.Maps.{places_carried}
-use Rattle.line_map.specs.Merges.{merges_carried}
+use Rattle.line_routes.specs.Merges.{merges_carried}
 use Rattle.line_edits.specs.Moves.{LineMoves, edit_moves}
-use Rattle.line_trees.specs.Way.{Way}
+use Rattle.line_routes.specs.Way.{Way}
 use Rattle.rule_lines.specs.Rules.{rules_carried}
 use Rattle.sheet_grid.specs.contracts.line_attr.LineAttrPartialEq.TheImpl as attribute
 use Rattle.sheet_grid.specs.Sheet.{Sheet}

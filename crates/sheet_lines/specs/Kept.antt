@@ -17,7 +17,7 @@ use Rattle.line_edits.specs.declared.EditKind.{EditKind}
 use Rattle.line_edits.specs.Moves.{LineMoves, edit_moves, place_image}
 use Rattle.line_map.specs.Contents.{cell_part}
 use Rattle.line_map.specs.Maps.{places_parts}
-use Rattle.line_map.specs.Merges.{merges_part}
+use Rattle.line_routes.specs.Merges.{merges_part}
 use Rattle.rule_lines.specs.Rules.{rules_kept}
 use Rattle.sheet_grid.specs.declared.Cell.{Cell}
 use Rattle.sheet_grid.specs.declared.LineAttr.{LineAttr}

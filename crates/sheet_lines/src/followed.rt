@@ -6,7 +6,7 @@ ghost use Rattle.base_values.specs.declared.EditError.TheVariants.{NoMemory};
 ghost use Rattle.base_maps.specs.Carried.{lost_map};
 ghost use Rattle.base_maps.specs.Tagged.{put_under};
 ghost use Rattle.line_edits.specs.Edit.{IsValid, opposite_of};
-ghost use Rattle.line_trees.specs.Way.{place_goes, way};
+ghost use Rattle.line_routes.specs.Way.{place_goes, way};
 ghost use Rattle.sheet_grid.specs.CanonicalCell.{CanonicalCells};
 ghost use Rattle.sheet_lines.specs.Followed.{way_on, sheet_followed, book_followed};
 ghost use Rattle.sheet_lines.specs.Kept.{trees_kept, first_lost, formulas_kept};

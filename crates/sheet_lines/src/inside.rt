@@ -7,7 +7,7 @@ use base_axis::{Axis, AxisMap};
 use base_values::PlaceMap;
 
 /// The keys of a map by place are places of the sheet.
-pub(crate) fn places_inside<V>(map: &PlaceMap<V>)
+pub fn places_inside<V>(map: &PlaceMap<V>)
     ensures { KeysInside map.now }
 {
     // The promise is one of the type.

@@ -19,6 +19,7 @@ mod sheets;
 pub use back::line_back;
 pub use edit::line_edit;
 pub use followed::followed_book;
+pub use inside::places_inside;
 pub use kept::KeptLines;
 pub use laws::{edit_and_back, entries_of_sheets};
 pub use sheets::{has_sheet, sheet_of};

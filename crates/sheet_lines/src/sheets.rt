@@ -1,6 +1,6 @@
 ghost use Rattle.std.specs.Prelude.{◌≡◌, is_some};
 ghost use Rattle.std.specs.Option.{option_copied};
-ghost use Rattle.line_trees.specs.Way.{IsWay, way};
+ghost use Rattle.line_routes.specs.Way.{IsWay, way};
 ghost use Rattle.sheet_lines.specs.Followed.{way_on};
 ghost use Rattle.sheet_lines.specs.Sheets.{sheet_of, name_of};
 
@@ -9,17 +9,17 @@ use base_axis::Axis;
 use base_tables::same_by_folding;
 use base_values::Position;
 use line_map::{LineMap, Route};
-use sheet_grid::{Workbook, Worksheet};
+use sheet_grid::{Workbook, Worksheet, sheet_at};
 use std::marker::PhantomData;
 
 /// The sheet of an id, if there is one.
 pub fn sheet_of(workbook: &Workbook, id: u32) -> Option<&Worksheet>
     ensures { option_copied result ≡ sheet_of workbook.now id }
 {
-    workbook
-        .worksheets()
-        .iter()
-        .find(|sheet| sheet.get_sheet_id() == id)
+    match workbook.index_of(id) {
+        Some(index) => sheet_at(workbook.worksheets(), index),
+        None => None,
+    }
 }
 
 /// Whether a sheet has that id.

@@ -1,4 +1,3 @@
-pub mod DefaultParts
 pub mod Distinct
 pub mod Names
 pub mod Occupied

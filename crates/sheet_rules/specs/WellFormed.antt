@@ -4,18 +4,16 @@ use Rattle.std.specs.Prelude.{◌≡◌, ℕ, ℤ, pos, Bool, true, ◌&&◌, �
 use Rattle.std.specs.List.{list_all}
 use Rattle.std.specs.Ordering.{int_eq}
 use Rattle.std.specs.FinMap.{entries}
-use Rattle.base_values.specs.CodedEq.{same_value}
 use Rattle.base_values.specs.declared.Position.{Position}
 use Rattle.base_values.specs.Places.{is_line, is_place}
 use Rattle.base_tables.specs.Folding.{same_folded}
 use Rattle.base_styles.specs.declared.style.Style.{Style}
-use Rattle.base_styles.specs.contracts.style.Style as style
-use Rattle.base_styles.specs.DefaultStyle.{default_style}
 use Rattle.cell_content.specs.Fitting.{fits_at}
 use Rattle.format_rules.specs.Fitting.{has_fitting_trees, has_parts}
 use Rattle.sheet_grid.specs.declared.Cell.{Cell}
 use Rattle.sheet_grid.specs.declared.LineAttr.{LineAttr}
 use Rattle.sheet_grid.specs.declared.Link.{Link}
+use Rattle.sheet_grid.specs.DefaultParts.{is_default}
 use Rattle.sheet_grid.specs.Lines.{is_plain, usual_width}
 use Rattle.sheet_grid.specs.Sheet.{Sheet}
 use Rattle.sheet_grid.specs.Book.{Book}
@@ -57,9 +55,6 @@ has_font style = int_le (pos 1) style.font.sz
 -- a count of lines
 abbrev pub is_count : ℤ → ℤ → Bool
 is_count most count = int_le (pos 0) count && int_le count most
-
-abbrev pub is_default : Style → Bool
-is_default given = same_value style.the_row.coded given default_style
 
 -- a row's own style is none or not the default one
 abbrev pub is_row_style : Option Style → Bool

@@ -1,5 +1,4 @@
 pub mod ArraysIn
-pub mod DefaultPartLaws
 pub mod EntryLaws
 pub mod FollowedLists
 pub mod FormattingLaws

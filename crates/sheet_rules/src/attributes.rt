@@ -8,10 +8,9 @@ ghost use Rattle.sheet_grid.specs.declared.Cell.{Cell};
 ghost use Rattle.sheet_grid.specs.declared.LineAttr.{LineAttr};
 ghost use Rattle.sheet_rules.specs.WellFormed.{is_size, has_font, is_row_style, is_row, is_width, is_column_style, is_column, have_attributes};
 
-use crate::default_style::is_default;
 use base_shared::Shared;
 use base_styles::Style;
-use sheet_grid::{LineAttr, USUAL_WIDTH, Worksheet};
+use sheet_grid::{LineAttr, USUAL_WIDTH, Worksheet, is_default_style};
 
 fn has_font(style: &Style) -> bool
     ensures { result ≡ has_font style.now }
@@ -32,7 +31,7 @@ fn is_row_style(style: &Option<Shared<Style>>) -> bool
     ensures { result ≡ is_row_style style.now }
 {
     match style {
-        Some(given) => has_font(given.get()) && !is_default(given.get()),
+        Some(given) => has_font(given.get()) && !is_default_style(given.get()),
         None => true,
     }
 }

@@ -5,7 +5,6 @@
 #![tactic(auto)]
 
 mod attributes;
-mod default_style;
 mod defined;
 mod formattings;
 mod ids;

@@ -1,12 +1,12 @@
 //! Which sheet is selected after an edit, and what of it.
 
-ghost use Rattle.std.specs.Prelude.{◌≡◌, ◌<◌, length, slice_get};
+ghost use Rattle.std.specs.Prelude.{◌≡◌, ◌<◌, length};
 ghost use Rattle.std.specs.List.{position};
 ghost use Rattle.std.specs.Option.{option_copied, option_map};
 ghost use Rattle.sheet_views.specs.Chosen.{id_of, id_at, is_shown, is_visible, next_visible, selected_after_delete, last_index, range_of, viewed};
 
 use crate::view::View;
-use sheet_grid::{SheetState, Worksheet};
+use sheet_grid::{SheetState, Worksheet, sheet_at};
 
 fn is_shown(state: SheetState) -> bool
     ensures { result ≡ is_shown state }
@@ -56,12 +56,6 @@ fn id_of(sheet: Option<&Worksheet>) -> Option<u32>
         Some(sheet) => Some(sheet.get_sheet_id()),
         None => None,
     }
-}
-
-fn sheet_at(sheets: &[Worksheet], index: usize) -> Option<&Worksheet>
-    ensures { option_copied result ≡ slice_get sheets.now index }
-{
-    sheets.get(index)
 }
 
 fn id_at(sheets: &[Worksheet], index: usize) -> Option<u32>

@@ -7,12 +7,12 @@ ghost use Rattle.sheet_history.specs.Entries.{line_tag};
 ghost use Rattle.sheet_wire.specs.AttrBytes.{spell_attr_change, FitsAttrChange};
 ghost use Rattle.sheet_wire.specs.laws.Reading.{attr_diff_at};
 
+use crate::steps::read;
 use base_shared::Shared;
 use base_styles::Style;
 use base_values::EditError;
 use base_wire::Part;
 use grid_wire::LinePart;
-use map_wire::read;
 use sheet_grid::LineAttr;
 use sheet_history::{Diff, LineAxis};
 use std::alloc::{AllocError, Global};

@@ -16,6 +16,7 @@ mod parts;
 mod rule_changes;
 mod settings;
 mod sheets;
+mod steps;
 mod trees;
 
 pub use decode::decode_queue;

@@ -5,6 +5,7 @@ ghost use Rattle.base_values.specs.Answers.{Answers, map_ok};
 ghost use Rattle.sheet_wire.specs.SheetsBytes.{spell_kept_sheet, FitsKeptSheet, IsKnownKeptSheet};
 ghost use Rattle.sheet_wire.specs.laws.Reading.{kept_sheet_at};
 
+use crate::steps::read;
 use base_maps::IndexKeys;
 use base_shared::Shared;
 use base_styles::Style;
@@ -13,7 +14,7 @@ use base_wire::Part;
 use book_sheets::KeptSheet;
 use defined_names::DefinedName;
 use grid_wire::{NamePart, SheetPart};
-use map_wire::{MapPart, read};
+use map_wire::MapPart;
 use std::alloc::{AllocError, Global};
 
 type PlacedNamesPart = MapPart<IndexKeys<DefinedName>, u64, NamePart>;

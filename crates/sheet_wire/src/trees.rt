@@ -5,6 +5,7 @@ ghost use Rattle.base_values.specs.Answers.{Answers, map_ok};
 ghost use Rattle.sheet_wire.specs.TreesBytes.{spell_trees, AreKnownTrees, FitsTrees};
 ghost use Rattle.sheet_wire.specs.laws.Reading.{trees_at};
 
+use crate::steps::read;
 use base_maps::{IndexKeys, SheetIndexKeys};
 use base_shared::Shared;
 use base_styles::Style;
@@ -15,7 +16,7 @@ use format_rules::ConditionalFormatting;
 use formula_tree::Node;
 use formula_wire::NodePart;
 use lines_wire::{FormulasPart, SheetIndexPart};
-use map_wire::{MapPart, read};
+use map_wire::MapPart;
 use rule_wire::FormattingPart;
 use std::alloc::{AllocError, Global};
 

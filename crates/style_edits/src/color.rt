@@ -1,18 +1,7 @@
 ghost use Rattle.std.specs.Prelude.{◌≡◌};
-ghost use Rattle.base_tables.specs.Tables.{entry_named};
-ghost use Rattle.base_styles.specs.Colors.{theme_color_name, all_theme_colors};
 ghost use Rattle.style_edits.specs.Colors.{color_written, digit_color, color_of_digits, color_of_pairs, pair_value, hex_value};
 
 use base_styles::{Color, ThemeColor};
-
-fn theme_color(text: &str) -> Option<ThemeColor>
-    ensures { result ≡ entry_named theme_color_name all_theme_colors text.now }
-{
-    ThemeColor::ALL
-        .iter()
-        .copied()
-        .find(|color| color.name() == text)
-}
 
 /// The value of a hexadecimal digit of either case.
 fn hex_value(byte: u8) -> Option<u32>
@@ -71,7 +60,7 @@ fn digit_color(bytes: &[u8]) -> Option<Color>
 pub fn read_color(text: &str) -> Option<Color>
     ensures { result ≡ color_written text.now }
 {
-    match theme_color(text) {
+    match ThemeColor::from_name(text) {
         Some(color) => Some(Color::Theme(color)),
         None => digit_color(text.as_bytes()),
     }

@@ -1,5 +1,5 @@
 -- An edit of the list of the sheets is a sound step, and its record is its one diff. So is one of conditional rules, with a diff for each rule
--- that it changes.
+-- that it changes, and one of a setting, with the entry that it changes.
 use Rattle.std.proofs.Common.{◌≡◌, ◌⊎◌, inl, inr, ◌<◌, ◌≤◌, ℕ, true, false, cond, List, length, Option, Some, None, Result, Ok, Err, refl, ap, sym, subst, ◌∙◌}
 use Rattle.std.specs.Prelude.{◌&&◌, nat_lt, get_or, slice_get, IfOk, IsOk, IsOkAnd, IsTrue}
 use Rattle.std.proofs.lemmas.Bool.{le-ltb}
@@ -12,6 +12,9 @@ use Rattle.sheet_grid.specs.Book.{Book, ids_of, sheet_at, sheets_moved, with_she
 use Rattle.sheet_rules.specs.WellFormed.{IsWellFormed}
 use Rattle.sheet_naming.specs.NextIds.{next_id}
 use Rattle.sheet_history.specs.declared.Diff.{Diff}
+use Rattle.sheet_history.specs.declared.Setting.{Setting}
+use Rattle.sheet_history.specs.Settings.{with_setting}
+use Rattle.sheet_history.specs.Records.{IsRecord}
 use Rattle.sheet_history.specs.Diffs.{IsCanonicalList}
 use Rattle.edit_plans.specs.Edits.{Edit, changed, is_of_sheets, is_silent, record_of}
 use Rattle.edit_plans.specs.Edits.Edit.{Input, ArrayInput, SetLink, Merge, Unmerge, Lines, MoveLines, AddSheet, CopySheet, DeleteSheet, MoveSheet, RenameSheet, ChangeNames, EditRules, SetField, SetSize, SetHidden, SetRangeStyle, ClearRange, ClearFormatting, PasteStyles, SetSetting, Fill}
@@ -25,7 +28,9 @@ use Rattle.rule_edits.specs.declared.RuleChange.{RuleChange}
 use Rattle.rule_edits.specs.RuleEdits.{RuleEdit, rule_changes, sheet_index_of}
 use Rattle.edit_plans.specs.RuleEdits.{all_diffs, diffs_of, rules_edited, rules_in, rules_record, with_changes}
 use Rattle.edit_plans.specs.SheetEdits.{added_record, copied_record, copy_diff, deleted_record, deletion_diff, move_diff, named_record, new_diff, one_diff, rename_diff, sheet_added, sheet_copied, sheet_deleted, sheet_named, sheet_taken, taken_record, with_copy, with_name, with_new_sheet}
+use Rattle.edit_plans.specs.SettingEdits.{setting_record}
 use Rattle.edit_plans.specs.ViewSteps.{selected_by}
+use Rattle.edit_plans.specs.laws.SettingStays.{setting_exact}
 use Rattle.edit_plans.specs.laws.ViewLaws.{sheets_keep_range, view_kept}
 use Rattle.user_model.specs.BothWays.{GoesBothWays}
 use Rattle.user_model.specs.Document.{Document}
@@ -135,6 +140,12 @@ module _ (earlier later : Book) where
         go (Some sheet) is = refl
         go None is = absurd (never_taken is how)
 
+  set_exact : (setting : Setting) → changed (SetSetting setting) earlier ≡ Ok later → IsExact (SetSetting setting) earlier later (setting_record setting earlier)
+  set_exact setting how =
+      let same : with_setting setting earlier ≡ later =
+      (let is : ◌≡◌ {A = Result Book EditError} (Ok (with_setting setting earlier)) (Ok later) = how in cc) in
+      subst (λ book. IsRecord earlier book (setting_record setting earlier)) same (setting_exact setting earlier)
+
   exact : (edit : Edit) → IsTrue (is_of_sheets edit) → changed edit earlier ≡ Ok later → IsExact edit earlier later (record_of edit earlier later)
   exact AddSheet is how = added_exact how
   exact (CopySheet index) is how = copied_exact index how
@@ -143,7 +154,7 @@ module _ (earlier later : Book) where
   exact (RenameSheet index name) is how = named_exact index name how
   exact (ChangeNames edit) is how = names_exact edit how
   exact (EditRules edit) is how = rules_exact edit how
-  exact (SetSetting setting) is how = refl
+  exact (SetSetting setting) is how = set_exact setting how
   exact (Input index row column content feeds) is how = absurd (let never : false ≡ true = is in cc)
   exact (ArrayInput index r tree) is how = absurd (let never : false ≡ true = is in cc)
   exact (SetLink index row column link) is how = absurd (let never : false ≡ true = is in cc)

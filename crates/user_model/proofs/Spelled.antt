@@ -80,7 +80,7 @@ module _ (w : Book) where
   known (MoveDiff id from to) c is news olds kept = absurd (cc)
   known (RenameDiff id before after trees) c is news olds kept = absurd (cc)
   known (NameDiff change trees) c is news olds kept = absurd (cc)
-  known (SettingDiff change) c is news olds kept = absurd (cc)
+  known (SettingDiff change) c is news olds kept = tt
 
   all_known : (list : List Diff) (changes : List Change) → map change_of list ≡ map Some changes → AllFit w changes → AllByRecursion IsCanonicalDiff list → AreSpellable list
   all_known [] [] is fit kept = tt

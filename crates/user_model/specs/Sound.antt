@@ -19,8 +19,7 @@ use Rattle.sheet_history.specs.Records.{IsRecord, line_record}
 use Rattle.sheet_wire.specs.QueueBytes.{FitsQueue, IsKnownQueue, spell_queue}
 use Rattle.user_model.specs.Spellable.{AreSpellable}
 use Rattle.edit_plans.specs.Edits.{Edit, changed, grown_move, is_silent}
-use Rattle.edit_plans.specs.Edits.Edit.{Lines, MoveLines, AddSheet, CopySheet, DeleteSheet, MoveSheet, RenameSheet, ChangeNames, EditRules, SetSetting}
-use Rattle.edit_plans.specs.SettingEdits.{setting_record}
+use Rattle.edit_plans.specs.Edits.Edit.{Lines, MoveLines, AddSheet, CopySheet, DeleteSheet, MoveSheet, RenameSheet, ChangeNames, EditRules}
 use Rattle.name_edits.specs.NameEdits.{name_change}
 use Rattle.edit_plans.specs.NamedEdits.{name_diff}
 use Rattle.edit_plans.specs.RuleEdits.{rule_diffs}
@@ -39,8 +38,8 @@ abbrev pub IsOneDiff : Result Diff EditError → List Diff → Type 0
 IsOneDiff found list = IsOkAnd found (λ diff. list ≡ diff ∷ [])
 
 -- the record of an edit of lines is the edit itself, that of an edit of the list of the sheets its one diff, that of an edit of conditional
--- rules one diff for each rule that comes, goes or changes, by index, that of a setting its change, or nothing where it stays, and that of
--- any other has exactly the entries that changed
+-- rules one diff for each rule that comes, goes or changes, by index, and that of any other, of a setting too, has exactly the entries that
+-- changed
 abbrev pub IsExact : Edit → Book → Book → List Diff → Type 0
 IsExact (Lines index axis kind) earlier later list = IsLinesRecord index axis (λ sheet. kind) earlier later list
 IsExact (MoveLines index axis first count delta) earlier later list = IsLinesRecord index axis (grown_move (along_of axis) first count delta) earlier later list
@@ -52,7 +51,6 @@ IsExact (MoveSheet from to) earlier later list = IsOneDiff (map_ok (move_diff fr
 IsExact (RenameSheet index name) earlier later list = IsOneDiff (map_ok (rename_diff name earlier) (sheet_at earlier index)) list
 IsExact (ChangeNames edit) earlier later list = IsOneDiff (map_ok (name_diff earlier) (name_change edit earlier)) list
 IsExact (EditRules edit) earlier later list = rule_diffs edit earlier ≡ Ok list
-IsExact (SetSetting setting) earlier later list = list ≡ setting_record setting earlier
 IsExact edit earlier later list = IsRecord earlier later list
 
 -- the record of a step takes its earlier workbook to its later one and back, and both are well-formed

@@ -8,7 +8,8 @@ use Rattle.base_values.specs.Places.{is_line}
 use Rattle.base_tables.specs.laws.Tables.{both, both_parts}
 use Rattle.base_tables.specs.Column.{is_between, is_letter, letter_value, letter_of, letters_number, last_value, number_before, column_letters, column_name, is_column_name, column_of_name}
 
-value_bounds : (c : ℕ) → is_letter c ≡ true → (1 ≤ letter_value c) × (letter_value c ≤ 26)
+-- a letter is 1 to 26
+pub value_bounds : (c : ℕ) → is_letter c ≡ true → (1 ≤ letter_value c) × (letter_value c ≤ 26)
 value_bounds c e = (grind (arith, nat_tests), grind (arith, nat_tests))
 
 letter_again : (c : ℕ) → is_letter c ≡ true → letter_of (letter_value c) ≡ to_ascii_uppercase c
@@ -72,10 +73,30 @@ read_name : (n : ℕ) (text : List ℕ) → Names n text → column_of_name text
 unfolding column_of_name
 read_name n text names = rw names.0 (ap (λ (k : ℕ). Some (pos k)) names.1)
 
+letters_of_column : (n : ℕ) → 1 ≤ n → n ≤ 16384 → Names n (column_letters n)
+unfolding column_letters
+letters_of_column n low high = letters_name n low high (nat_le n 26) (nat_le n 702) refl refl
+
 -- the letters of a column name it
 pub letters_name_column : (n : ℕ) → 1 ≤ n → n ≤ 16384 → column_of_name (column_letters n) ≡ Some (pos n)
-unfolding column_letters
-letters_name_column n low high = read_name n (column_letters n) (letters_name n low high (nat_le n 26) (nat_le n 702) refl refl)
+letters_name_column n low high = read_name n (column_letters n) (letters_of_column n low high)
+
+-- one to three letters with this number
+pub record AreLetters (n : ℕ) (text : List ℕ) : Type 0 where
+  all : list_all is_letter text ≡ true
+  few : is_between 1 3 (length text) ≡ true
+  number : letters_number text ≡ n
+
+parts_of_name : (n : ℕ) (text : List ℕ) → Names n text → AreLetters n text
+unfolding is_column_name
+parts_of_name n text names =
+    let parts = both_parts _ _ names.0 in
+    let counted = both_parts _ _ parts.1 in
+    record { all = parts.0; few = counted.0; number = names.1 }
+
+-- the letters of a column are one to three, and its number is theirs
+pub column_letters_are : (n : ℕ) → 1 ≤ n → n ≤ 16384 → AreLetters n (column_letters n)
+column_letters_are n low high = parts_of_name n (column_letters n) (letters_of_column n low high)
 
 -- ---- the name of a number
 

@@ -1,10 +1,10 @@
 -- A map of which each value changes under its key: what it has at each key, its entries, and tests of these.
-use Rattle.std.proofs.Common.{◌≡◌, Bool, true, false, T, List, [], ◌∷◌, map, Option, Some, None, refl, ap, sym, ◌∙◌}
+use Rattle.std.proofs.Common.{◌≡◌, Bool, true, false, cond, T, List, [], ◌∷◌, map, Option, Some, None, refl, ap, sym, ◌∙◌}
 use Rattle.std.specs.Prelude.{◌&&◌}
 use Rattle.std.specs.declared.cmp.Ordering.{Ordering}
 use Rattle.std.specs.Ordering.{is_lt}
 use Rattle.std.specs.Cmp.{IsTotalOrder}
-use Rattle.std.specs.List.{cons_option, filter_map, list_all}
+use Rattle.std.specs.List.{cons_option, filter_map, find, list_all}
 use Rattle.std.proofs.lemmas.Map.Lookups.{CmpEqualImpliesEq}
 use Rattle.std.specs.FinMap.{FinMap, entries, entries_sorted, from_entries, get}
 use Rattle.std.specs.FinMap.Entries.{below_all, is_sorted}
@@ -70,6 +70,16 @@ module _ {K X : Type 0} (R : K → K → Ordering) (total : IsTotalOrder R) (exa
 -- ---- tests of lists whose items change
 
 module _ {X Y : Type 0} (g : X → Y) where
+  -- what is found by a test that each item passes as it did
+  pub found_same : (p : Y → Bool) (q : X → Bool) → ((x : X) → p (g x) ≡ q x) → (xs : List X) (x : X) → find q xs ≡ Some x → find p (map g xs) ≡ Some (g x)
+  found_same p q same [] x found = absurd (cc)
+  found_same p q same (y ∷ xs) x found = go (found_same p q same xs x) (q y) refl found
+    where
+      go : (find q xs ≡ Some x → find p (map g xs) ≡ Some (g x)) → (b : Bool) → q y ≡ b → cond b (Some y) (find q xs) ≡ Some x
+          → cond (p (g y)) (Some (g y)) (find p (map g xs)) ≡ Some (g x)
+      go rest true is it = let own : y ≡ x = cc in ap (λ b. cond b (Some (g y)) (find p (map g xs))) (same y ∙ is) ∙ ap (λ z. Some (g z)) own
+      go rest false is it = ap (λ b. cond b (Some (g y)) (find p (map g xs))) (same y ∙ is) ∙ rest it
+
   -- a test that each item passes as it did
   pub all_same : (p : Y → Bool) (q : X → Bool) → ((x : X) → p (g x) ≡ q x) → (xs : List X) → list_all p (map g xs) ≡ list_all q xs
   all_same p q same [] = refl

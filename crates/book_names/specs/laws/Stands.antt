@@ -1,5 +1,5 @@
 -- The conditions of a diff of a renamed sheet hold of what is kept of a well-formed workbook: the sheet is renamed, and gets its old name back.
-use Rattle.std.proofs.Common.{◌≡◌, ℕ, Bool, true, false, cond, ◌&&◌, List, [], ◌∷◌, map, length, suc, Option, Some, None, Ok, Err, refl, ap, sym, subst, ◌∙◌}
+use Rattle.std.proofs.Common.{◌≡◌, ℕ, true, ◌&&◌, List, [], ◌∷◌, map, length, suc, Option, Some, None, Ok, Err, refl, ap, sym, subst, ◌∙◌}
 use Rattle.std.specs.Prelude.{◌==◌, IfSome, is_some, nat_lt, if◌then◌else◌}
 use Rattle.std.specs.Cmp.{nat_cmp_total}
 use Rattle.std.specs.List.{find, list_all}
@@ -46,7 +46,7 @@ use Rattle.book_names.specs.Renaming.{formattings_renamed, own_formattings_kept,
 use Rattle.book_names.specs.RenameDiffs.{stand_on_places, stand_on_parts, is_formula, tree_stands, formulas_stand, names_stand, formatting_stands, formattings_stand}
 use Rattle.book_names.specs.RenameDiffs.{lie_in_sheets, goes_forward, goes_back, rename_forward, rename_back}
 use Rattle.book_names.specs.laws.Cells.{kept_is, formula_stays}
-use Rattle.book_names.specs.laws.Entries.{all_entries, entry_holds, get_changed}
+use Rattle.book_names.specs.laws.Entries.{all_entries, entry_holds, found_same, get_changed}
 use Rattle.book_names.specs.laws.Formattings.{same_count as same_rule_count, own_kept_passes, own_kept_within}
 use Rattle.book_names.specs.laws.Names.{name_parts_are}
 use Rattle.book_names.specs.laws.Regained.{formulas_at, formattings_at, book_regained}
@@ -81,16 +81,7 @@ module _ (old new : List ℕ) where
 -- the sheet of an id in the later workbook
 pub later_found : (id : ℕ) (old new : List ℕ) (n : ℕ) (sheets : List Sheet) (s : Sheet) → find (λ (t : Sheet). t.id == n) sheets ≡ Some s
     → find (λ (t : Sheet). t.id == n) (map (sheet_renamed id old new) sheets) ≡ Some (sheet_renamed id old new s)
-later_found id old new n [] s h = absurd (cc)
-later_found id old new n (t ∷ sheets) s h = go (later_found id old new n sheets s) (t.id == n) refl h
-  where
-    rest : List Sheet
-    rest = map (sheet_renamed id old new) sheets
-
-    go : (find (λ (u : Sheet). u.id == n) sheets ≡ Some s → find (λ (u : Sheet). u.id == n) rest ≡ Some (sheet_renamed id old new s)) → (b : Bool) → (t.id == n) ≡ b
-        → cond b (Some t) (find (λ (u : Sheet). u.id == n) sheets) ≡ Some s → cond (t.id == n) (Some (sheet_renamed id old new t)) (find (λ (u : Sheet). u.id == n) rest) ≡ Some (sheet_renamed id old new s)
-    go more true is it = let same : t ≡ s = cc in ap (λ b. cond b (Some (sheet_renamed id old new t)) (find (λ (u : Sheet). u.id == n) rest)) is ∙ ap (λ u. Some (sheet_renamed id old new u)) same
-    go more false is it = ap (λ b. cond b (Some (sheet_renamed id old new t)) (find (λ (u : Sheet). u.id == n) rest)) is ∙ more it
+later_found id old new n sheets s = found_same (sheet_renamed id old new) (λ (t : Sheet). t.id == n) (λ (t : Sheet). t.id == n) (λ t. refl) sheets s
 
 -- a sheet of a later workbook under an id: its cells and its conditional rules are those of an earlier one, renamed
 pub record HasLater (old new : List ℕ) (later : Book) (n : ℕ) (s : Sheet) : Type 0 where

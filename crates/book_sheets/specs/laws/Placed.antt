@@ -20,7 +20,7 @@ use Rattle.formula_tree.specs.Placed.{is_placed}
 use Rattle.cell_content.specs.Fitting.{tree_fits_at}
 use Rattle.cell_content.specs.Lens.{tree_of}
 use Rattle.defined_names.specs.declared.DefinedName.{DefinedName}
-use Rattle.line_map.specs.Merges.{MergesLie}
+use Rattle.line_routes.specs.Merges.{MergesLie}
 use Rattle.sheet_grid.specs.declared.Cell.{Cell}
 use Rattle.sheet_grid.specs.laws.FittingCells.{entry_fits_at}
 use Rattle.sheet_grid.specs.Sheet.{Sheet, new_sheet}

@@ -4,6 +4,7 @@ use Rattle.std.specs.Prelude.{IfSome, FitsSigned}
 use Rattle.std.specs.Int.{w32}
 use Rattle.base_styles.specs.declared.ThemeColor.{ThemeColor}
 use Rattle.base_styles.specs.declared.ThemeColor.TheVariants.{Light1, Dark1, Light2, Dark2, Accent1, Accent2, Accent3, Accent4, Accent5, Accent6, Hyperlink, FollowedHyperlink}
+use Rattle.base_styles.specs.Colors.{theme_color_code, theme_color_of_code}
 use Rattle.base_styles.specs.declared.Color.{Color}
 use Rattle.base_styles.specs.declared.Color.TheVariants.{None as NoColor, Rgb, Theme}
 use Rattle.base_styles.specs.declared.BorderStyle.{BorderStyle}
@@ -19,8 +20,8 @@ use Rattle.formula_wire.specs.NodeBytes.{spell_node}
 use Rattle.formula_wire.specs.laws.Reading.{node_at}
 use Rattle.formula_wire.specs.Carried.{FitsNode}
 use Rattle.base_wire.specs.Spelling.{Both, spell_both, spell_option, spell_signed}
-use Rattle.cell_wire.specs.StyleBytes.{theme_code, spell_color, FitsColor, spell_font, FitsFont, border_code, spell_border_item, FitsBorderItem, spell_border, FitsBorder, horizontal_code, vertical_code, spell_alignment, spell_style, FitsStyle}
-use Rattle.cell_wire.specs.laws.Reading.{theme_colors, color_at, font_made, font_at, border_styles, border_item_made, border_item_at, border_made, side_at, border_at, horizontals, verticals, alignment_made, alignment_at, alignment_option_at, style_made, style_at, position_made, position_at, content_at, cell_made, cell_at}
+use Rattle.cell_wire.specs.StyleBytes.{spell_color, FitsColor, spell_font, FitsFont, border_code, spell_border_item, FitsBorderItem, spell_border, FitsBorder, horizontal_code, vertical_code, spell_alignment, spell_style, FitsStyle}
+use Rattle.cell_wire.specs.laws.Reading.{color_at, font_made, font_at, border_styles, border_item_made, border_item_at, border_made, side_at, border_at, horizontals, verticals, alignment_made, alignment_at, alignment_option_at, style_made, style_at, position_made, position_at, content_at, cell_made, cell_at}
 use Rattle.cell_wire.specs.CellBytes.{spell_position, FitsPosition, spell_content, FitsContent, spell_cell, FitsCell}
 use Rattle.base_wire.specs.laws.Again.{ReadsAgain, both_again, map_again, code_again, wide32, signed_again, text_again, option_again}
 use Rattle.base_wire.specs.Spelling.{Any}
@@ -29,7 +30,7 @@ use Rattle.formula_wire.specs.laws.NodeLaws.{node_again}
 
 -- ---- colours
 
-theme_known : (x : ThemeColor) → decoded theme_code theme_colors (theme_code x) ≡ Some x
+theme_known : (x : ThemeColor) → theme_color_of_code (theme_color_code x) ≡ Some x
 theme_known Light1 = refl
 theme_known Dark1 = refl
 theme_known Light2 = refl

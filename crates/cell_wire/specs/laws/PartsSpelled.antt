@@ -3,17 +3,19 @@ use Rattle.std.proofs.Common.{refl}
 use Rattle.std.specs.Prelude.{IfSome, FitsSigned}
 use Rattle.std.specs.Int.{w32}
 use Rattle.base_styles.specs.declared.Color.TheVariants.{None as NoColor, Theme}
+use Rattle.base_styles.specs.Colors.{all_theme_colors, theme_color_code, theme_color_of_code}
+use Rattle.base_tables.specs.laws.Tables.{found_number}
 use Rattle.cell_content.specs.declared.Content.TheVariants.{Empty, Number, Boolean, Error as ErrorValue, Text, Formula, Dynamic}
 use Rattle.base_wire.specs.Spelling.{spell_option}
-use Rattle.cell_wire.specs.StyleBytes.{theme_code, spell_color, FitsColor, spell_font, FitsFont, border_code, spell_border_item, FitsBorderItem, spell_border, FitsBorder, horizontal_code, vertical_code, spell_alignment, spell_style, FitsStyle}
-use Rattle.cell_wire.specs.laws.Reading.{theme_colors, color_at, font_made, font_at, border_styles, border_item_made, border_item_at, border_made, side_at, border_at, horizontals, verticals, alignment_made, alignment_at, alignment_option_at, style_made, style_at, position_made, position_at, content_at, cell_made, cell_at, rgb, color_of, array_made, content_of}
+use Rattle.cell_wire.specs.StyleBytes.{spell_color, FitsColor, spell_font, FitsFont, border_code, spell_border_item, FitsBorderItem, spell_border, FitsBorder, horizontal_code, vertical_code, spell_alignment, spell_style, FitsStyle}
+use Rattle.cell_wire.specs.laws.Reading.{color_at, font_made, font_at, border_styles, border_item_made, border_item_at, border_made, side_at, border_at, horizontals, verticals, alignment_made, alignment_at, alignment_option_at, style_made, style_at, position_made, position_at, content_at, cell_made, cell_at, rgb, color_of, array_made, content_of}
 use Rattle.cell_wire.specs.CellBytes.{spell_position, FitsPosition, spell_content, FitsContent, spell_cell, FitsCell}
 use Rattle.base_wire.specs.laws.Reading.{◌⊗◌, signed_at}
 use Rattle.base_wire.specs.Spelling.{Any, Both, spell_both, spell_signed}
 use Rattle.formula_wire.specs.NodeBytes.{spell_node}
 use Rattle.formula_wire.specs.laws.Reading.{node_at}
 use Rattle.formula_wire.specs.Carried.{FitsNode}
-use Rattle.base_wire.specs.laws.Spelled.{ReadsSpelled, both_spelled, map_spelled, fits_otherwise, byte_spelled, code_spelled, tag_map, tag_plain, tag_refused, tag_if, tagged_spelled, option_spelled, back32, signed_spelled, text_spelled}
+use Rattle.base_wire.specs.laws.Spelled.{ReadsSpelled, both_spelled, map_spelled, fits_otherwise, byte_spelled, coded_spelled, code_spelled, tag_map, tag_plain, tag_refused, tag_if, tagged_spelled, option_spelled, back32, signed_spelled, text_spelled}
 use Rattle.base_wire.specs.laws.Parts.{boolean_spelled, error_spelled, decimal_spelled}
 use Rattle.formula_wire.specs.laws.NodeLaws.{node_spelled}
 
@@ -25,7 +27,7 @@ color_spelled =
     tagged_spelled color_of (λ kind.
     tag_if kind 0 (tag_plain FitsColor spell_color 0 NoColor refl tt)
     (tag_if kind 1 (tag_map (both_spelled byte_spelled (both_spelled byte_spelled byte_spelled)) rgb FitsColor spell_color 1 (λ x. refl) (λ x fits. fits))
-    (tag_if kind 2 (tag_map (code_spelled theme_code theme_colors) Theme FitsColor spell_color 2 (λ x. refl) (λ x fits. tt))
+    (tag_if kind 2 (tag_map (coded_spelled theme_color_code theme_color_of_code (found_number theme_color_code all_theme_colors refl)) Theme FitsColor spell_color 2 (λ x. refl) (λ x fits. tt))
     (tag_refused FitsColor spell_color kind))))
 
 -- ---- fonts

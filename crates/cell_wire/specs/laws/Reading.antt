@@ -1,8 +1,7 @@
 -- Reading styles, positions, cells, links and merges. Serves proofs alone.
 use Rattle.std.specs.Prelude.{ℕ, ℤ, Bool, Option, List, [], ◌∷◌, ◌==◌, if◌then◌else◌}
 use Rattle.std.specs.Int.{w32}
-use Rattle.base_styles.specs.declared.ThemeColor.{ThemeColor}
-use Rattle.base_styles.specs.declared.ThemeColor.TheVariants.{Light1, Dark1, Light2, Dark2, Accent1, Accent2, Accent3, Accent4, Accent5, Accent6, Hyperlink, FollowedHyperlink}
+use Rattle.base_styles.specs.Colors.{theme_color_of_code}
 use Rattle.base_styles.specs.declared.Color.{Color}
 use Rattle.base_styles.specs.declared.Color.TheVariants.{None as NoColor, Rgb, Theme}
 use Rattle.base_styles.specs.declared.BorderStyle.{BorderStyle}
@@ -16,7 +15,7 @@ use Rattle.base_styles.specs.declared.VerticalAlignment.TheVariants as vertical
 use Rattle.base_styles.specs.declared.Alignment.{Alignment}
 use Rattle.base_styles.specs.declared.Font.{Font}
 use Rattle.base_styles.specs.declared.Style.{Style}
-use Rattle.base_wire.specs.laws.Reading.{Reader, plain, refused, map_at, ◌⊗◌, byte_at, tagged_at, code_at, signed_at, text_at, option_at, boolean_at, error_at, decimal_at, list_at}
+use Rattle.base_wire.specs.laws.Reading.{Reader, plain, refused, map_at, ◌⊗◌, byte_at, tagged_at, coded_at, code_at, signed_at, text_at, option_at, boolean_at, error_at, decimal_at, list_at}
 use Rattle.base_values.specs.declared.Position.{Position}
 use Rattle.formula_tree.specs.declared.Node.{Node}
 use Rattle.cell_content.specs.declared.Content.{Content}
@@ -25,13 +24,9 @@ use Rattle.sheet_grid.specs.declared.Cell.{Cell}
 use Rattle.formula_wire.specs.laws.Reading.{node_at}
 use Rattle.sheet_grid.specs.declared.Link.{Link}
 use Rattle.base_axis.specs.declared.MergedCell.{MergedCell}
-use Rattle.cell_wire.specs.StyleBytes.{theme_code, border_code, horizontal_code, vertical_code}
+use Rattle.cell_wire.specs.StyleBytes.{border_code, horizontal_code, vertical_code}
 
 -- ---- colours
-
--- all of them
-abbrev pub theme_colors : List ThemeColor
-theme_colors = Light1 ∷ Dark1 ∷ Light2 ∷ Dark2 ∷ Accent1 ∷ Accent2 ∷ Accent3 ∷ Accent4 ∷ Accent5 ∷ Accent6 ∷ Hyperlink ∷ FollowedHyperlink ∷ []
 
 abbrev pub rgb : ℕ × (ℕ × ℕ) → Color
 rgb x = Rgb x.0 x.1.0 x.1.1
@@ -41,7 +36,7 @@ abbrev pub color_of : ℕ → Reader Color
 color_of kind =
     if kind == 0 then plain NoColor
     else if kind == 1 then map_at rgb (byte_at ⊗ byte_at ⊗ byte_at)
-    else if kind == 2 then map_at Theme (code_at theme_code theme_colors)
+    else if kind == 2 then map_at Theme (coded_at theme_color_of_code)
     else refused
 
 unfoldable pub color_at : Reader Color

@@ -2,12 +2,13 @@
 use Rattle.std.proofs.Common.{eqb}
 use Rattle.std.specs.Int.{w32}
 use Rattle.base_styles.specs.declared.Color.TheVariants.{Theme}
+use Rattle.base_styles.specs.Colors.{theme_color_of_code}
 use Rattle.cell_content.specs.declared.Content.TheVariants.{Number, Boolean, Error as ErrorValue, Text, Formula, Dynamic}
-use Rattle.base_wire.specs.laws.Refusals.{IsPlain, both_plain, map_plain, byte_plain, code_plain, signed_plain, text_plain, plain_plain, refused_plain, if_plain, tagged_plain, option_plain}
+use Rattle.base_wire.specs.laws.Refusals.{IsPlain, both_plain, map_plain, byte_plain, coded_plain, code_plain, signed_plain, text_plain, plain_plain, refused_plain, if_plain, tagged_plain, option_plain}
 use Rattle.base_wire.specs.laws.Parts.{boolean_plain, error_plain, decimal_plain}
 use Rattle.formula_wire.specs.laws.NodeLaws.{node_plain}
-use Rattle.cell_wire.specs.StyleBytes.{theme_code, border_code, horizontal_code, vertical_code}
-use Rattle.cell_wire.specs.laws.Reading.{theme_colors, rgb, color_of, color_at, font_made, font_at, border_styles, border_item_made, border_item_at, border_made, side_at, border_at, horizontals, verticals, alignment_made, alignment_at, alignment_option_at, style_made, style_at, position_made, position_at, array_made, content_of, content_at, cell_made, cell_at}
+use Rattle.cell_wire.specs.StyleBytes.{border_code, horizontal_code, vertical_code}
+use Rattle.cell_wire.specs.laws.Reading.{rgb, color_of, color_at, font_made, font_at, border_styles, border_item_made, border_item_at, border_made, side_at, border_at, horizontals, verticals, alignment_made, alignment_at, alignment_option_at, style_made, style_at, position_made, position_at, array_made, content_of, content_at, cell_made, cell_at}
 
 pub color_plain : IsPlain color_at
 unfolding color_at
@@ -15,7 +16,7 @@ color_plain =
     tagged_plain color_of (λ kind.
     if_plain (eqb kind 0) (plain_plain _)
     (if_plain (eqb kind 1) (map_plain rgb (both_plain byte_plain (both_plain byte_plain byte_plain)))
-    (if_plain (eqb kind 2) (map_plain Theme (code_plain theme_code theme_colors)) refused_plain)))
+    (if_plain (eqb kind 2) (map_plain Theme (coded_plain theme_color_of_code)) refused_plain)))
 
 font_plain : IsPlain font_at
 unfolding font_at

@@ -29,14 +29,15 @@ use Rattle.sheet_history.specs.declared.Diff.TheVariants.{Cell as CellDiff}
 use Rattle.sheet_history.specs.Entries.{EntryKey, EntryValue, key_cmp, sheet_id_of, sheet_entry}
 use Rattle.sheet_history.specs.declared.LineAxis.TheVariants.{Rows, Columns}
 use Rattle.sheet_history.specs.Entries.EntryKey.{AttrKey}
-use Rattle.sheet_history.specs.Entries.EntryKey.{CellKey, LinkKey, MergesKey, FieldKey}
+use Rattle.sheet_history.specs.Entries.EntryKey.{CellKey, LinkKey, MergesKey, FieldKey, SettingKey}
 use Rattle.sheet_history.specs.Entries.EntryValue.{CellValue, FieldValue}
 use Rattle.sheet_history.specs.Records.{Change, change_of, changed_entry, same_entry_value}
 use Rattle.sheet_history.specs.laws.EntryLaws.{decide}
 use Rattle.sheet_history.specs.laws.FieldLaws.{fields_stay}
 use Rattle.sheet_history.specs.laws.RecordLaws.{key_total, exact_keys}
-use Rattle.edit_plans.specs.ArrayInputs.{with_array, array_diffs}
-use Rattle.edit_plans.specs.Blanked.{blanked, blank_cell, blank_diffs, loses}
+use Rattle.edit_plans.specs.ArrayInputs.{with_array}
+use Rattle.edit_plans.specs.laws.EditRecords.{array_diffs, blank_diffs}
+use Rattle.edit_plans.specs.Blanked.{blanked, blank_cell, loses}
 use Rattle.edit_plans.specs.laws.BlankedLaws.{blanked_sheet}
 use Rattle.edit_plans.specs.Inputs.{cell_entered}
 use Rattle.edit_plans.specs.laws.BlankRecord.{blank_changes, changes_of, blank_sorted, blank_record, made_changes}
@@ -142,6 +143,7 @@ module _ (r : MergedCell) (tree : Node) (sheet : Sheet) where
   stays (FieldKey id field) own other = ap FieldValue (fields_stay field (blanked_sheet r sheet) next refl refl refl refl refl)
   stays (AttrKey id Rows line) own other = refl
   stays (AttrKey id Columns line) own other = refl
+  stays (SettingKey kind) own other = refl
 
   here : (k : EntryKey) → sheet_id_of k ≡ sheet.id → fin.find key_cmp k array_changes ≡ changed_entry (Some (sheet_entry k sheet)) (Some (sheet_entry k next))
   here k own = decide (eq_by_cmp key_cmp k key)

@@ -23,7 +23,7 @@ use Rattle.sheet_history.specs.declared.Diff.TheVariants.{Cell as CellDiff}
 use Rattle.sheet_history.specs.Entries.{EntryKey, EntryValue, key_cmp, sheet_id_of, sheet_entry}
 use Rattle.sheet_history.specs.declared.LineAxis.TheVariants.{Rows, Columns}
 use Rattle.sheet_history.specs.Entries.EntryKey.{AttrKey}
-use Rattle.sheet_history.specs.Entries.EntryKey.{CellKey, LinkKey, MergesKey, FieldKey}
+use Rattle.sheet_history.specs.Entries.EntryKey.{CellKey, LinkKey, MergesKey, FieldKey, SettingKey}
 use Rattle.sheet_history.specs.Entries.EntryValue.{CellValue, FieldValue}
 use Rattle.sheet_history.specs.Records.{Change, change_of, changed_entry, same_entry_value}
 use Rattle.sheet_history.specs.laws.EntryLaws.{decide}
@@ -31,7 +31,8 @@ use Rattle.sheet_history.specs.laws.FieldLaws.{fields_stay}
 use Rattle.sheet_history.specs.laws.OneEntry.{changed_entry-same}
 use Rattle.sheet_history.specs.laws.RecordLaws.{exact_keys}
 use Rattle.sheet_history.specs.laws.ValueEquals.{same_value_decides}
-use Rattle.edit_plans.specs.Blanked.{blank_cell, blanked_cell, blanked, loses, blank_diff}
+use Rattle.edit_plans.specs.Blanked.{blank_cell, blanked_cell, blanked, loses}
+use Rattle.edit_plans.specs.laws.EditRecords.{blank_diff}
 use Rattle.edit_plans.specs.laws.BlankedLaws.{blanked_sheet, get-blanked}
 use Rattle.edit_plans.specs.laws.MappedMaps.{tagged, find-tagged, sorted-tagged, no_tag, tagged_below, rising}
 use Rattle.edit_plans.specs.laws.SheetRecords.{IsSheetRecord}
@@ -140,6 +141,8 @@ module _ (r : MergedCell) where
     blank_here (AttrKey id Columns line) own = other_kind sheet.id (AttrKey id Columns line)
         (λ other same. let never : AttrKey id Columns line ≡ CellKey sheet.id other = same in cc) (entries sheet.cells)
         ∙ sym (changed_entry-same (Some (sheet_entry (AttrKey id Columns line) sheet)))
+    blank_here (SettingKey kind) own = other_kind sheet.id (SettingKey kind) (λ other same. let never : SettingKey kind ≡ CellKey sheet.id other = same in cc)
+        (entries sheet.cells) ∙ sym (changed_entry-same (Some (sheet_entry (SettingKey kind) sheet)))
 
     -- and all are below that of the merges
     pub blank_below : AllByRecursion (λ c. is_lt (key_cmp c.0 (MergesKey sheet.id)) ≡ true) blank_changes

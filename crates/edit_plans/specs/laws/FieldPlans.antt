@@ -18,7 +18,8 @@ use Rattle.sheet_history.specs.laws.FieldLaws.{own_field}
 use Rattle.sheet_history.specs.laws.OneEntry.{put_record}
 use Rattle.sheet_history.specs.laws.RuleLaws.{well_formed-field}
 use Rattle.edit_plans.specs.Plans.{IsPlan, Plans}
-use Rattle.edit_plans.specs.SheetEdits.{field_put, field_set, field_change}
+use Rattle.edit_plans.specs.SheetEdits.{field_put, field_set}
+use Rattle.edit_plans.specs.laws.EditRecords.{field_change}
 use Rattle.entry_records.specs.laws.AtIndex.{there, changed_at, put_changed}
 use Rattle.edit_plans.specs.laws.PlanLaws.{plan_refused, plan_made, no_sheet, sheet_refuses, sheet_takes, sheet_sure}
 
@@ -42,7 +43,7 @@ module _ (w : Book) (index : ℕ) (value : SheetField) (may : may_have value ≡
   after = with_sheet w index (with_field (field_of value) value sheet)
 
   put_is : put_entry w key (FieldValue value) ≡ after
-  put_is = put_changed w key (FieldValue value) ∙ changed_at w rules index sheet at (with_sheet_entry key (FieldValue value))
+  put_is = put_changed w key (FieldValue value) refl ∙ changed_at w rules index sheet at (with_sheet_entry key (FieldValue value))
 
   pub field_well_formed : IsWellFormed after
   field_well_formed = subst IsWellFormed put_is (well_formed-field w sheet.id (field_of value) value may rules)

@@ -41,7 +41,8 @@ use Rattle.entry_records.specs.SheetPlans.{attr_diffs, cell_diffs, link_diffs, p
 use Rattle.entry_records.specs.laws.Appended.{come_before, come_before-append, put_after}
 use Rattle.entry_records.specs.laws.AtIndex.{changed_at, changed_twice, keeps, put_changed, there}
 use Rattle.entry_records.specs.laws.PlanRecords.{PlanFits, cell_kind, column_kind, diffs_before, link_kind, plan_exact, row_kind}
-use Rattle.edit_plans.specs.Fills.{fill_made, fill_record, places_plan, with_fill}
+use Rattle.edit_plans.specs.Fills.{fill_made, places_plan, with_fill}
+use Rattle.edit_plans.specs.laws.EditRecords.{fill_record}
 use Rattle.edit_plans.specs.Plans.{IsPlan, Plans}
 use Rattle.edit_plans.specs.laws.FillRules.{fill_fits, fill_keeps}
 use Rattle.edit_plans.specs.laws.PlanLaws.{plan_made}
@@ -110,7 +111,7 @@ module _ (w : Book) (rules : IsWellFormed w) (index : ℕ) (sheet : Sheet) (at :
   -- the merges that are put change the sheet once more
   after_is : put_entry places_put key (MergesValue plan.merges) ≡ with_sheet w index (with_fill sheet plan)
   after_is =
-      put_changed places_put key (MergesValue plan.merges)
+      put_changed places_put key (MergesValue plan.merges) refl
       ∙ ap (λ ss. record w { worksheets = ss }) (changed_twice sheet.id carried (with_sheet_entry key (MergesValue plan.merges)) (λ s. refl) w.worksheets)
       ∙ changed_at w rules index sheet at (λ s. with_sheet_entry key (MergesValue plan.merges) (carried s))
 

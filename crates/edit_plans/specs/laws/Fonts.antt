@@ -17,10 +17,11 @@ use Rattle.base_values.specs.Places.{is_line, place_of, position_cmp, is_place}
 use Rattle.base_values.specs.laws.Places.{position_total, exact_positions}
 use Rattle.sheet_grid.specs.declared.Cell.{Cell}
 use Rattle.sheet_grid.specs.declared.LineAttr.{LineAttr}
+use Rattle.sheet_grid.specs.DefaultParts.{is_default}
 use Rattle.sheet_grid.specs.Lines.{is_plain, own_line_style}
 use Rattle.sheet_grid.specs.Sheet.{Sheet, cell_style, line_style, own_style, shown_style}
 use Rattle.sheet_rules.specs.laws.EntryLaws.{both}
-use Rattle.sheet_rules.specs.WellFormed.{have_attributes, is_size, is_width, is_default, is_row, is_row_style, is_column, is_column_style, has_font}
+use Rattle.sheet_rules.specs.WellFormed.{have_attributes, is_size, is_width, is_row, is_row_style, is_column, is_column_style, has_font}
 use Rattle.sheet_history.specs.laws.Entries.{entry_holds}
 
 -- ---- places

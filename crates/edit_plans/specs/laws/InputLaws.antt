@@ -42,8 +42,8 @@ use Rattle.sheet_history.specs.laws.RuleLaws.{well_formed-cell, well_formed-link
 use Rattle.sheet_rules.specs.laws.EntryLaws.{both}
 use Rattle.line_sizes.specs.Heights.{needed_height}
 use Rattle.edit_plans.specs.Plans.{IsPlan, Plans}
-use Rattle.edit_plans.specs.Inputs.{IsInput, new_cell, entered, cell_entered, with_input, with_row, row_raised, free_place, input_place, input_put, cell_record, height_record, input_record}
-use Rattle.edit_plans.specs.Links.{link_change}
+use Rattle.edit_plans.specs.Inputs.{IsInput, new_cell, entered, cell_entered, with_input, with_row, row_raised, free_place, input_place, input_put}
+use Rattle.edit_plans.specs.laws.EditRecords.{cell_record, height_record, input_record, link_change}
 use Rattle.entry_records.specs.laws.Appended.{come_before, come_before-append, put_after}
 use Rattle.entry_records.specs.laws.AtIndex.{there, keeps, changed_at, changed_twice, put_changed, put_twice, sheet_of-put}
 use Rattle.entry_records.specs.laws.AttrRules.{attr-put, line_own, needed_size, own_entry, own_kept, raised_own}
@@ -209,7 +209,7 @@ module _ (w : Book) (index : ℕ) (row column : ℤ) (content : Content) (feeds 
   celled = with_cell sheet place new
 
   put_cell_is : put_cell ≡ with_sheet w index celled
-  put_cell_is = put_changed w cell_key (CellValue new) ∙ changed_at w rules index sheet at (with_sheet_entry cell_key (CellValue new))
+  put_cell_is = put_changed w cell_key (CellValue new) refl ∙ changed_at w rules index sheet at (with_sheet_entry cell_key (CellValue new))
 
   cell_rules : IsWellFormed put_cell
   cell_rules = well_formed-cell w sheet.id place new rules fits font stands
@@ -227,7 +227,7 @@ module _ (w : Book) (index : ℕ) (row column : ℤ) (content : Content) (feeds 
 
   put_both_is : put_both ≡ with_sheet w index unlinked
   put_both_is =
-      put_twice w cell_key link_key (CellValue new) (LinkValue None) refl
+      put_twice w cell_key link_key (CellValue new) (LinkValue None) refl refl refl
       ∙ changed_at w rules index sheet at (λ s. with_sheet_entry link_key (LinkValue None) (with_sheet_entry cell_key (CellValue new) s))
 
   both_rules : IsWellFormed put_both
@@ -236,7 +236,7 @@ module _ (w : Book) (index : ℕ) (row column : ℤ) (content : Content) (feeds 
   both_exact : IsRecord w put_both (cell_record content sheet place ++ link_change sheet place None)
   both_exact =
       put_after w put_cell (cell_record content sheet place) cell_exact link_key (LinkValue None) celled
-      (sheet_of-put w cell_key (CellValue new) sheet is_there) inside
+      (sheet_of-put w cell_key (CellValue new) refl sheet is_there) inside
       (cell_first sheet.id place old new (same_entry_value (CellValue old) (CellValue new)))
 
   -- ---- and the height of the row
@@ -259,7 +259,7 @@ module _ (w : Book) (index : ℕ) (row column : ℤ) (content : Content) (feeds 
   row_fits = λ i. inside_row i && own_kept Rows raised raised_fits i
 
   row_rules : (book : Book) → IsWellFormed book → IsWellFormed (put_entry book row_key (AttrValue raised))
-  row_rules book well = well_formed-put book well row_key (AttrValue raised) (λ s found h. attr-put s sheet.id Rows place.row raised inside_row raised_fits h)
+  row_rules book well = well_formed-put book well row_key (AttrValue raised) refl (λ s found h. attr-put s sheet.id Rows place.row raised inside_row raised_fits h)
 
   cell_before_row : come_before row_key (cell_record content sheet place) ≡ true
   cell_before_row = cell_first_row sheet.id place old new (same_entry_value (CellValue old) (CellValue new))
@@ -267,18 +267,18 @@ module _ (w : Book) (index : ℕ) (row column : ℤ) (content : Content) (feeds 
   celled_exact : IsRecord w (put_entry put_cell row_key (AttrValue raised)) (cell_record content sheet place ++ height_record feeds sheet place)
   celled_exact =
       put_after w put_cell (cell_record content sheet place) cell_exact row_key (AttrValue raised) celled
-      (sheet_of-put w cell_key (CellValue new) sheet is_there) row_fits cell_before_row
+      (sheet_of-put w cell_key (CellValue new) refl sheet is_there) row_fits cell_before_row
 
   unlinked_exact : IsRecord w (put_entry put_both row_key (AttrValue raised)) ((cell_record content sheet place ++ link_change sheet place None) ++ height_record feeds sheet place)
   unlinked_exact =
       put_after w put_both (cell_record content sheet place ++ link_change sheet place None) both_exact row_key (AttrValue raised) unlinked
-      (sheet_of-put put_cell link_key (LinkValue None) celled (sheet_of-put w cell_key (CellValue new) sheet is_there)) row_fits
+      (sheet_of-put put_cell link_key (LinkValue None) refl celled (sheet_of-put w cell_key (CellValue new) refl sheet is_there)) row_fits
       (come_before-append row_key (cell_record content sheet place) (link_change sheet place None) cell_before_row
       (link_first_row sheet.id place (fin.get sheet.links place) None (same_entry_value (LinkValue (fin.get sheet.links place)) (LinkValue None))))
 
   celled_is : put_entry put_cell row_key (AttrValue raised) ≡ with_sheet w index (with_row celled place.row raised)
   celled_is =
-      put_twice w cell_key row_key (CellValue new) (AttrValue raised) refl
+      put_twice w cell_key row_key (CellValue new) (AttrValue raised) refl refl refl
       ∙ changed_at w rules index sheet at (λ s. with_sheet_entry row_key (AttrValue raised) (with_sheet_entry cell_key (CellValue new) s))
 
   unlinked_is : put_entry put_both row_key (AttrValue raised) ≡ with_sheet w index (with_row unlinked place.row raised)
@@ -286,8 +286,8 @@ module _ (w : Book) (index : ℕ) (row column : ℤ) (content : Content) (feeds 
       let unlink : Sheet → Sheet = λ s. with_sheet_entry link_key (LinkValue None) (with_sheet_entry cell_key (CellValue new) s) in
       let ids : (s : Sheet) → (unlink s).id ≡ s.id =
       λ s. id-with_sheet_entry link_key (LinkValue None) (with_sheet_entry cell_key (CellValue new) s) ∙ id-with_sheet_entry cell_key (CellValue new) s in
-      put_changed put_both row_key (AttrValue raised)
-      ∙ ap (λ (b : Book). record b { worksheets = with_changed sheet.id (with_sheet_entry row_key (AttrValue raised)) b.worksheets }) (put_twice w cell_key link_key (CellValue new) (LinkValue None) refl)
+      put_changed put_both row_key (AttrValue raised) refl
+      ∙ ap (λ (b : Book). record b { worksheets = with_changed sheet.id (with_sheet_entry row_key (AttrValue raised)) b.worksheets }) (put_twice w cell_key link_key (CellValue new) (LinkValue None) refl refl refl)
       ∙ (λ i. record w { worksheets = changed_twice sheet.id unlink (with_sheet_entry row_key (AttrValue raised)) ids w.worksheets i })
       ∙ changed_at w rules index sheet at (λ s. with_sheet_entry row_key (AttrValue raised) (unlink s))
 

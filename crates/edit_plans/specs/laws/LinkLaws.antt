@@ -1,5 +1,5 @@
 -- A link that is put leaves a well-formed workbook, and its change is the record.
-use Rattle.std.proofs.Common.{◌≡◌, ℕ, ℤ, true, List, Option, Result, Ok, Err, ap, sym, subst, ◌∙◌}
+use Rattle.std.proofs.Common.{◌≡◌, ℕ, ℤ, true, List, Option, Result, Ok, Err, refl, ap, sym, subst, ◌∙◌}
 use Rattle.std.specs.Prelude.{IfOk, IsOkUnless}
 use Rattle.base_values.specs.declared.EditError.{EditError}
 use Rattle.base_values.specs.declared.EditError.TheVariants.{NoMemory}
@@ -20,7 +20,8 @@ use Rattle.sheet_history.specs.Records.{IsRecord}
 use Rattle.sheet_history.specs.laws.OneEntry.{put_record}
 use Rattle.sheet_history.specs.laws.RuleLaws.{well_formed-link}
 use Rattle.edit_plans.specs.Plans.{IsPlan, Plans}
-use Rattle.edit_plans.specs.Links.{link_set, link_change}
+use Rattle.edit_plans.specs.Links.{link_set}
+use Rattle.edit_plans.specs.laws.EditRecords.{link_change}
 use Rattle.entry_records.specs.laws.AtIndex.{there, changed_at, put_changed}
 use Rattle.edit_plans.specs.laws.Fonts.{place_inside}
 use Rattle.edit_plans.specs.laws.PlanLaws.{plan_refused, plan_made, no_sheet, sheet_refuses, sheet_takes, sheet_sure, place_sure}
@@ -40,7 +41,7 @@ module _ (w : Book) (index : ℕ) (row column : ℤ) (entry : Option Link) (rule
   inside = place_inside row column place named
 
   put_is : put_entry w key (LinkValue entry) ≡ after
-  put_is = put_changed w key (LinkValue entry) ∙ changed_at w rules index sheet at (with_sheet_entry key (LinkValue entry))
+  put_is = put_changed w key (LinkValue entry) refl ∙ changed_at w rules index sheet at (with_sheet_entry key (LinkValue entry))
 
   pub link_well_formed : IsWellFormed after
   link_well_formed = subst IsWellFormed put_is (well_formed-link w sheet.id place entry rules inside)

@@ -13,7 +13,7 @@ use Rattle.sheet_history.specs.declared.Diff.{Diff}
 use Rattle.sheet_history.specs.Entries.{EntryKey, EntryValue, key_cmp, sheet_id_of, sheet_entry}
 use Rattle.sheet_history.specs.declared.LineAxis.TheVariants.{Rows, Columns}
 use Rattle.sheet_history.specs.Entries.EntryKey.{AttrKey}
-use Rattle.sheet_history.specs.Entries.EntryKey.{CellKey, LinkKey, MergesKey, FieldKey}
+use Rattle.sheet_history.specs.Entries.EntryKey.{CellKey, LinkKey, MergesKey, FieldKey, SettingKey}
 use Rattle.sheet_history.specs.Entries.EntryValue.{MergesValue, FieldValue}
 use Rattle.sheet_history.specs.Records.{Change, change_of, changed_entry, same_entry_value}
 use Rattle.sheet_history.specs.laws.EntryLaws.{decide}
@@ -90,6 +90,8 @@ module _ (change : Sheet → Sheet) (merges : Sheet → List MergedCell) (sheet 
       ∙ is.here (AttrKey id Rows line) own
   here (AttrKey id Columns line) own = others (AttrKey id Columns line) (λ same. let never : AttrKey id Columns line ≡ MergesKey sheet.id = same in cc)
       ∙ is.here (AttrKey id Columns line) own
+  here (SettingKey kind) own = others (SettingKey kind) (λ same. let never : SettingKey kind ≡ MergesKey sheet.id = same in cc)
+      ∙ is.here (SettingKey kind) own
 
   -- the changes and that of the merges are the record
   pub merges_record : IsSheetRecord (λ s. record (change s) { merges = merges s }) sheet (cs ++ merges_change sheet (merges sheet) ∷ [])

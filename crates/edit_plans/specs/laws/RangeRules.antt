@@ -20,9 +20,10 @@ use Rattle.planned_maps.specs.laws.WalkLaws.{place_is_in}
 use Rattle.sheet_grid.specs.declared.Cell.{Cell}
 use Rattle.sheet_grid.specs.declared.LineAttr.{LineAttr}
 use Rattle.sheet_grid.specs.declared.Link.{Link}
+use Rattle.sheet_grid.specs.DefaultParts.{is_default}
 use Rattle.sheet_grid.specs.Lines.{attr_of, is_plain, own_line_style, with_style}
 use Rattle.sheet_grid.specs.Sheet.{Sheet, cell_style, line_style as line_style_at, shown_style}
-use Rattle.sheet_rules.specs.WellFormed.{has_font, is_default}
+use Rattle.sheet_rules.specs.WellFormed.{has_font}
 use Rattle.sheet_rules.specs.laws.EntryLaws.{both}
 use Rattle.range_styles.specs.declared.Clearing.{Clearing}
 use Rattle.range_styles.specs.declared.Clearing.TheVariants.{Contents, Cells}

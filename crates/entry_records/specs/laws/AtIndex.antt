@@ -1,5 +1,5 @@
 -- Entries put in the sheet at an index of a well-formed workbook.
-use Rattle.std.proofs.Common.{◌≡◌, ℕ, zero, suc, true, false, cond, List, [], ◌∷◌, map, Some, Ok, option_map, refl, ap, sym, ◌∙◌}
+use Rattle.std.proofs.Common.{◌≡◌, ℕ, zero, suc, true, false, cond, List, [], ◌∷◌, map, Some, None, Ok, option_map, refl, ap, sym, ◌∙◌}
 use Rattle.std.specs.Prelude.{◌==◌, slice_get, slice_set}
 use Rattle.std.specs.List.{AllByRecursion, IsDistinct}
 use Rattle.std.specs.Cmp.{unsigned_Decides}
@@ -10,7 +10,7 @@ use Rattle.sheet_rules.specs.WellFormed.{IsWellFormed}
 use Rattle.sheet_rules.specs.laws.WellFormedLaws.{distinct_ids_from_well_formed}
 use Rattle.sheet_lines.specs.Sheets.{sheet_of}
 use Rattle.sheet_actions.specs.laws.OwnSheets.{own_found}
-use Rattle.sheet_history.specs.Entries.{EntryKey, EntryValue, sheet_id_of, with_sheet_entry, with_changed, put_entry}
+use Rattle.sheet_history.specs.Entries.{EntryKey, EntryValue, setting_of, sheet_id_of, with_sheet_entry, with_changed, entry_placed, put_entry}
 use Rattle.sheet_history.specs.laws.EntryLaws.{decide, found-changed, id-with_sheet_entry}
 use Rattle.sheet_history.specs.laws.PutLaws.{ok_or-some}
 use Rattle.sheet_history.specs.laws.RuleLaws.{KeepsSheetRules, sheet_rules}
@@ -78,27 +78,29 @@ changed_twice id first second same_ids (s ∷ ss) =
     ∙ ap (λ ts. s ∷ ts) (changed_twice id first second same_ids ss)
     ∙ ap (λ b. cond b (second (first s) ∷ ss) (s ∷ with_changed id (λ t. second (first t)) ss)) (sym miss))
 
--- an entry that is put changes the sheet of its id
-pub put_changed : (w : Book) (k : EntryKey) (v : EntryValue)
+-- an entry of a sheet that is put changes the sheet of its id
+pub put_changed : (w : Book) (k : EntryKey) (v : EntryValue) → setting_of k ≡ None
     → put_entry w k v ≡ record w { worksheets = with_changed (sheet_id_of k) (with_sheet_entry k v) w.worksheets }
 unfolding put_entry
-put_changed w k v = refl
+put_changed w k v none = λ i. entry_placed (none i) k v w
 
 -- two entries of one sheet change it twice
-pub put_twice : (w : Book) (k l : EntryKey) (v u : EntryValue) → sheet_id_of l ≡ sheet_id_of k
+pub put_twice : (w : Book) (k l : EntryKey) (v u : EntryValue) → setting_of k ≡ None → setting_of l ≡ None → sheet_id_of l ≡ sheet_id_of k
     → put_entry (put_entry w k v) l u ≡ record w { worksheets = with_changed (sheet_id_of k) (λ s. with_sheet_entry l u (with_sheet_entry k v s)) w.worksheets }
 unfolding put_entry
-put_twice w k l v u one =
-    (λ i. record w { worksheets = with_changed (one i) (with_sheet_entry l u) (with_changed (sheet_id_of k) (with_sheet_entry k v) w.worksheets) })
+put_twice w k l v u none none_too one =
+    (λ i. entry_placed (none_too i) l u (entry_placed (none i) k v w))
+    ∙ (λ i. record w { worksheets = with_changed (one i) (with_sheet_entry l u) (with_changed (sheet_id_of k) (with_sheet_entry k v) w.worksheets) })
     ∙ ap (λ ss. record w { worksheets = ss })
     (changed_twice (sheet_id_of k) (with_sheet_entry k v) (with_sheet_entry l u) (id-with_sheet_entry k v) w.worksheets)
 
 -- the sheet of an entry that was put
-pub sheet_of-put : (w : Book) (k : EntryKey) (v : EntryValue) (sheet : Sheet) → sheet_of w (sheet_id_of k) ≡ Some sheet
+pub sheet_of-put : (w : Book) (k : EntryKey) (v : EntryValue) → setting_of k ≡ None → (sheet : Sheet) → sheet_of w (sheet_id_of k) ≡ Some sheet
     → sheet_of (put_entry w k v) (sheet_id_of k) ≡ Some (with_sheet_entry k v sheet)
 unfolding put_entry
-sheet_of-put w k v sheet there =
-    found-changed (with_sheet_entry k v) (id-with_sheet_entry k v) (sheet_id_of k) w.worksheets ∙ ap (option_map (with_sheet_entry k v)) there
+sheet_of-put w k v none sheet there =
+    (λ i. sheet_of (entry_placed (none i) k v w) (sheet_id_of k))
+    ∙ found-changed (with_sheet_entry k v) (id-with_sheet_entry k v) (sheet_id_of k) w.worksheets ∙ ap (option_map (with_sheet_entry k v)) there
 
 -- a change that leaves every sheet
 pub changed_same : (id : ℕ) (ss : List Sheet) → with_changed id (λ s. s) ss ≡ ss

@@ -166,13 +166,13 @@ module _ (w : Book) (rules : IsWellFormed w) (index : ℕ) (sheet : Sheet) (at :
 
   there_with : (k : ℕ) → sheet_of (book_with k) sheet.id ≡ Some (sheet_with k sheet)
   there_with zero = there w rules index sheet at
-  there_with (suc k) = sheet_of-put (book_with k) (key_at sheet.id axis first k) (value_at change lines first k) (sheet_with k sheet) (there_with k)
+  there_with (suc k) = sheet_of-put (book_with k) (key_at sheet.id axis first k) (value_at change lines first k) refl (sheet_with k sheet) (there_with k)
 
   book_is : (k : ℕ) → book_with k ≡ record w { worksheets = with_changed sheet.id (sheet_with k) w.worksheets }
   book_is zero = λ i. record w { worksheets = sym (changed_same sheet.id w.worksheets) i }
   book_is (suc k) =
       let put : Sheet → Sheet = with_sheet_entry (key_at sheet.id axis first k) (value_at change lines first k) in
-      put_changed (book_with k) (key_at sheet.id axis first k) (value_at change lines first k)
+      put_changed (book_with k) (key_at sheet.id axis first k) (value_at change lines first k) refl
       ∙ ap (λ (b : Book). record b { worksheets = with_changed sheet.id put b.worksheets }) (book_is k)
       ∙ (λ i. record w {
         worksheets =

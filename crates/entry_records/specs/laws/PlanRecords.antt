@@ -1,5 +1,5 @@
 -- The record of a plan that is carried out is exact.
-use Rattle.std.proofs.Common.{◌≡◌, ◌≢◌, ℕ, ℤ, pos, Bool, true, false, cond, ◌&&◌, List, [], ◌∷◌, ◌++◌, Option, Some, Ok, option_map, refl, ap, sym, subst, ◌∙◌, T, append_assoc}
+use Rattle.std.proofs.Common.{◌≡◌, ◌≢◌, ℕ, ℤ, pos, Bool, true, false, cond, ◌&&◌, List, [], ◌∷◌, ◌++◌, Option, Some, None, Ok, option_map, refl, ap, sym, subst, ◌∙◌, T, append_assoc}
 use Rattle.std.specs.List.{AllByRecursion, flat_map, fold}
 use Rattle.std.specs.Ordering.{int_cmp, is_lt, ordering_then}
 use Rattle.std.specs.declared.cmp.Ordering.{Ordering}
@@ -25,7 +25,7 @@ use Rattle.sheet_history.specs.declared.Diff.{Diff}
 use Rattle.sheet_history.specs.declared.Diff.TheVariants.{Cell as CellDiff, Link as LinkDiff, Attributes as AttrDiff}
 use Rattle.sheet_history.specs.declared.LineAxis.{LineAxis}
 use Rattle.sheet_history.specs.declared.LineAxis.TheVariants.{Rows, Columns}
-use Rattle.sheet_history.specs.Entries.{EntryKey, EntryValue, bare_sheet, entry_at, key_cmp, line_tag, put_entry, sheet_entry, sheet_id_of, value_fits, with_changed, with_sheet_entry}
+use Rattle.sheet_history.specs.Entries.{EntryKey, EntryValue, bare_sheet, entry_at, entry_found, key_cmp, line_tag, put_entry, setting_of, sheet_entry, sheet_id_of, value_fits, with_changed, with_sheet_entry}
 use Rattle.sheet_history.specs.Entries.EntryKey.{AttrKey, CellKey, LinkKey}
 use Rattle.sheet_history.specs.Entries.EntryValue.{AttrValue, CellValue, LinkValue}
 use Rattle.sheet_history.specs.Records.{IsRecord, entry_record, same_entry_value}
@@ -45,6 +45,7 @@ less_apart Greater h e = absurd (let never : false ≡ true = h in cc)
 pub record IsKind (K V : Type 0) (R : K → K → Ordering) (id : ℕ) (tag : K → EntryKey) (value : Option V → EntryValue) : Type 0 where
   order : (a b : K) → key_cmp (tag a) (tag b) ≡ R a b
   own : (a : K) → sheet_id_of (tag a) ≡ id
+  of_sheet : (a : K) → setting_of (tag a) ≡ None
   apart : (a : K) → key_cmp (tag a) (tag a) ≡ Equal
   before : (a : K) (s : Sheet) (v : Option V) (later : EntryKey) → is_lt (key_cmp (tag a) later) ≡ true
       → come_before later (entry_record (tag a) (sheet_entry (tag a) s) (value v)) ≡ true
@@ -93,7 +94,7 @@ module _ {K V : Type 0} (R : K → K → Ordering) (id : ℕ) (tag : K → Entry
   found_books (e ∷ es) b s found =
       found_books es (put_entry b (tag e.0) (value e.1)) (with_sheet_entry (tag e.0) (value e.1) s)
       (subst (λ n. sheet_of (put_entry b (tag e.0) (value e.1)) n ≡ Some (with_sheet_entry (tag e.0) (value e.1) s)) (kind.own e.0)
-      (sheet_of-put b (tag e.0) (value e.1) s (ap (sheet_of b) (kind.own e.0) ∙ found)))
+      (sheet_of-put b (tag e.0) (value e.1) (kind.of_sheet e.0) s (ap (sheet_of b) (kind.own e.0) ∙ found)))
 
   module _ (w : Book) where
     -- a workbook whose sheet of the id is changed
@@ -103,7 +104,7 @@ module _ {K V : Type 0} (R : K → K → Ordering) (id : ℕ) (tag : K → Entry
     one_change : (f : Sheet → Sheet) → ((s : Sheet) → (f s).id ≡ s.id) → (e : Entry)
         → put_entry (with_change f) (tag e.0) (value e.1) ≡ with_change (λ s. with_sheet_entry (tag e.0) (value e.1) (f s))
     one_change f ids e =
-        put_changed (with_change f) (tag e.0) (value e.1)
+        put_changed (with_change f) (tag e.0) (value e.1) (kind.of_sheet e.0)
         ∙ (λ i. record w { worksheets = with_changed (kind.own e.0 i) (with_sheet_entry (tag e.0) (value e.1)) (with_changed id f w.worksheets) })
         ∙ (λ i. record w { worksheets = changed_twice id f (with_sheet_entry (tag e.0) (value e.1)) ids w.worksheets i })
 
@@ -138,9 +139,9 @@ module _ {K V : Type 0} (R : K → K → Ordering) (id : ℕ) (tag : K → Entry
     all_next b xs e (f ∷ es) low all = let parts =
         both (is_lt (R e.0 f.0)) (below_all R e.0 es) low in (next_on b xs e f parts.0 all.0, all_next b xs e es parts.1 all.1)
 
-    pub found_entry : (b : Book) (k : EntryKey) (s : Sheet) → sheet_of b (sheet_id_of k) ≡ Some s → entry_at b k ≡ Some (sheet_entry k s)
+    pub found_entry : (b : Book) (k : EntryKey) → setting_of k ≡ None → (s : Sheet) → sheet_of b (sheet_id_of k) ≡ Some s → entry_at b k ≡ Some (sheet_entry k s)
     unfolding entry_at
-    found_entry b k s found = ap (option_map (sheet_entry k)) found
+    found_entry b k none s found = (λ i. entry_found (none i) k b) ∙ ap (option_map (sheet_entry k)) found
 
     one_value : (v u : EntryValue) → ◌≡◌ {A = Option EntryValue} (Some v) (Some u) → v ≡ u
     one_value v u h = cc
@@ -152,13 +153,13 @@ module _ {K V : Type 0} (R : K → K → Ordering) (id : ℕ) (tag : K → Entry
     goes_on (e ∷ es) sorted b xs s record_so_far found all =
         let parts = both (below_all R e.0 es) (is_sorted R es) sorted in
         let here : sheet_of b (sheet_id_of (tag e.0)) ≡ Some s = ap (sheet_of b) (kind.own e.0) ∙ found in
-        let same : sheet_entry (tag e.0) s ≡ sheet_entry (tag e.0) sheet = one_value _ _ (sym (found_entry b (tag e.0) s here) ∙ all.0.stands) in
+        let same : sheet_entry (tag e.0) s ≡ sheet_entry (tag e.0) sheet = one_value _ _ (sym (found_entry b (tag e.0) (kind.of_sheet e.0) s here) ∙ all.0.stands) in
         let more : IsRecord w (put_entry b (tag e.0) (value e.1)) (xs ++ entry_record (tag e.0) (sheet_entry (tag e.0) sheet) (value e.1)) =
         subst (λ old. IsRecord w (put_entry b (tag e.0) (value e.1)) (xs ++ entry_record (tag e.0) old (value e.1))) same
         (put_after w b xs record_so_far (tag e.0) (value e.1) s here all.0.fits all.0.behind) in
         let found_on : sheet_of (put_entry b (tag e.0) (value e.1)) id ≡ Some (with_sheet_entry (tag e.0) (value e.1) s) =
         subst (λ n. sheet_of (put_entry b (tag e.0) (value e.1)) n ≡ Some (with_sheet_entry (tag e.0) (value e.1) s)) (kind.own e.0)
-        (sheet_of-put b (tag e.0) (value e.1) s here) in
+        (sheet_of-put b (tag e.0) (value e.1) (kind.of_sheet e.0) s here) in
         subst (IsRecord w (books (put_entry b (tag e.0) (value e.1)) es))
         (append_assoc xs (entry_record (tag e.0) (sheet_entry (tag e.0) sheet) (value e.1)) (diffs sheet es))
         (goes_on es parts.1 (put_entry b (tag e.0) (value e.1)) (xs ++ entry_record (tag e.0) (sheet_entry (tag e.0) sheet) (value e.1))
@@ -194,6 +195,7 @@ module _ (id : ℕ) where
   cell_kind = record {
     order = cell_order id;
     own = λ a. refl;
+    of_sheet = λ a. refl;
     apart = λ a. cell_order id a a ∙ tied_itself position_total a;
     before = λ a s v later low.
         one_before later (CellDiff id a (get s.cells a) v) (λ i. low i && true) (same_entry_value (CellValue (get s.cells a)) (CellValue v));
@@ -203,6 +205,7 @@ module _ (id : ℕ) where
   link_kind = record {
     order = link_order id;
     own = λ a. refl;
+    of_sheet = λ a. refl;
     apart = λ a. link_order id a a ∙ tied_itself position_total a;
     before = λ a s v later low.
         one_before later (LinkDiff id a (get s.links a) v) (λ i. low i && true) (same_entry_value (LinkValue (get s.links a)) (LinkValue v));
@@ -212,6 +215,7 @@ module _ (id : ℕ) where
   column_kind = record {
     order = attr_order id Columns;
     own = λ a. refl;
+    of_sheet = λ a. refl;
     apart = λ a. attr_order id Columns a a ∙ tied_itself int_cmp_total a;
     before = λ a s v later low.
         one_before later (AttrDiff id Columns a (get s.columns a) v) (λ i. low i && true) (same_entry_value (AttrValue (get s.columns a)) (AttrValue v));
@@ -221,6 +225,7 @@ module _ (id : ℕ) where
   row_kind = record {
     order = attr_order id Rows;
     own = λ a. refl;
+    of_sheet = λ a. refl;
     apart = λ a. attr_order id Rows a a ∙ tied_itself int_cmp_total a;
     before = λ a s v later low.
         one_before later (AttrDiff id Rows a (get s.rows a) v) (λ i. low i && true) (same_entry_value (AttrValue (get s.rows a)) (AttrValue v));
@@ -336,9 +341,9 @@ module _ (w : Book) (rules : IsWellFormed w) (index : ℕ) (sheet : Sheet) (at :
     found_3 : sheet_of book_3 id ≡ Some sheet_3
     found_3 = found_books int_cmp id (AttrKey id Columns) AttrValue (column_kind id) column_list book_2 sheet_2 found_2
 
-    had : (key : EntryKey) → sheet_id_of key ≡ id → entry_at w key ≡ Some (sheet_entry key sheet)
+    had : (key : EntryKey) → setting_of key ≡ None → sheet_id_of key ≡ id → entry_at w key ≡ Some (sheet_entry key sheet)
     unfolding entry_at
-    had key own = ap (λ n. option_map (sheet_entry key) (sheet_of w n)) own ∙ ap (option_map (sheet_entry key)) found
+    had key none own = (λ i. entry_found (none i) key w) ∙ ap (λ n. option_map (sheet_entry key) (sheet_of w n)) own ∙ ap (option_map (sheet_entry key)) found
 
     -- what stands behind the cells, the links and the columns stays until it is its turn
     stays_1 : (later : EntryKey) → ((place : Position) → is_lt (key_cmp (CellKey id place) later) ≡ true) → entry_at book_1 later ≡ entry_at w later
@@ -368,7 +373,7 @@ module _ (w : Book) (rules : IsWellFormed w) (index : ℕ) (sheet : Sheet) (at :
     record_1 : IsRecord w book_1 diffs_1
     record_1 = goes_on position_cmp id (CellKey id) CellValue (cell_kind id) w sheet cell_list (rises _ (entries_sorted plan.cells)) w [] sheet
         (nothing_changed w) found
-        (all_from _ _ (λ e fit. record { behind = refl; fits = fit; stands = had (CellKey id e.0) refl }) cell_list fits.cells)
+        (all_from _ _ (λ e fit. record { behind = refl; fits = fit; stands = had (CellKey id e.0) refl refl }) cell_list fits.cells)
 
     record_2 : IsRecord w book_2 (diffs_1 ++ diffs_2)
     record_2 = goes_on position_cmp id (LinkKey id) LinkValue (link_kind id) w sheet link_list (rises _ (entries_sorted plan.links)) book_1 diffs_1 sheet_1
@@ -376,7 +381,7 @@ module _ (w : Book) (rules : IsWellFormed w) (index : ℕ) (sheet : Sheet) (at :
         (all_from _ _ (λ e fit. record {
           behind = before_1 (LinkKey id e.0) (λ place. refl);
           fits = fit;
-          stands = stays_1 (LinkKey id e.0) (λ place. refl) ∙ had (LinkKey id e.0) refl;
+          stands = stays_1 (LinkKey id e.0) (λ place. refl) ∙ had (LinkKey id e.0) refl refl;
         }) link_list fits.links)
 
     record_3 : IsRecord w book_3 ((diffs_1 ++ diffs_2) ++ diffs_3)
@@ -386,7 +391,7 @@ module _ (w : Book) (rules : IsWellFormed w) (index : ℕ) (sheet : Sheet) (at :
           behind = come_before-append (AttrKey id Columns e.0) diffs_1 diffs_2 (before_1 (AttrKey id Columns e.0) (λ place. refl))
               (before_2 (AttrKey id Columns e.0) (λ place. refl));
           fits = fit;
-          stands = stays_2 (AttrKey id Columns e.0) (λ place. refl) ∙ stays_1 (AttrKey id Columns e.0) (λ place. refl) ∙ had (AttrKey id Columns e.0) refl;
+          stands = stays_2 (AttrKey id Columns e.0) (λ place. refl) ∙ stays_1 (AttrKey id Columns e.0) (λ place. refl) ∙ had (AttrKey id Columns e.0) refl refl;
         }) column_list fits.columns)
 
     record_4 : IsRecord w book_4 (((diffs_1 ++ diffs_2) ++ diffs_3) ++ diffs_4)
@@ -399,7 +404,7 @@ module _ (w : Book) (rules : IsWellFormed w) (index : ℕ) (sheet : Sheet) (at :
               (before_3 (AttrKey id Rows e.0) (λ line. refl));
           fits = fit;
           stands = stays_3 (AttrKey id Rows e.0) (λ line. refl) ∙ stays_2 (AttrKey id Rows e.0) (λ place. refl) ∙ stays_1 (AttrKey id Rows e.0) (λ place. refl)
-              ∙ had (AttrKey id Rows e.0) refl;
+              ∙ had (AttrKey id Rows e.0) refl refl;
         }) row_list fits.rows)
 
     in_one_list : ((diffs_1 ++ diffs_2) ++ diffs_3) ++ diffs_4 ≡ plan_diffs plan sheet

@@ -8,7 +8,7 @@ use Rattle.formula_tree.specs.declared.ArrayItem.TheVariants as item
 use Rattle.formula_tree.specs.declared.Node.TheVariants as node
 use Rattle.formula_tree.specs.Numbers.{has_canonical_numbers}
 use Rattle.formula_tree.specs.laws.NumbersEquations.{numbers_array}
-use Rattle.formula_wire.specs.CanonicalNumbers.{is_canonical_item}
+use Rattle.formula_wire.specs.laws.CanonicalNumbers.{is_canonical_item}
 
 module _ {A : Type 0} (p q : A → Bool) (same : (x : A) → p x ≡ q x) where
   all_same : (xs : List A) → list_all p xs ≡ list_all q xs

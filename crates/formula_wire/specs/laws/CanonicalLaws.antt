@@ -12,7 +12,7 @@ use Rattle.formula_tree.specs.laws.NumbersEquations.{numbers_boolean, numbers_nu
 use Rattle.base_wire.specs.Forms.{is_text, is_list}
 use Rattle.formula_wire.specs.Carried.{is_item, is_parameter, is_carried}
 use Rattle.formula_wire.specs.laws.CarriedEquations.{carried_number, carried_colon, carried_concatenate, carried_compare, carried_sum, carried_product, carried_power, carried_unary, carried_call, carried_named_call, carried_array, carried_spill, carried_lambda, carried_lambda_call, carried_implicit_intersection}
-use Rattle.formula_wire.specs.CanonicalNumbers.{is_canonical_item}
+use Rattle.formula_wire.specs.laws.CanonicalNumbers.{is_canonical_item}
 use Rattle.formula_wire.specs.laws.CanonicalArrays.{canonical_array}
 
 -- ---- tests of many parts

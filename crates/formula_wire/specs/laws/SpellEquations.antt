@@ -22,7 +22,11 @@ use Rattle.formula_tree.specs.declared.Node.TheFolds.{fold-Node, fold-roll-Node}
 use Rattle.base_wire.specs.Spelling.{spell_code, boolean_code, spell_text, spell_list}
 use Rattle.base_wire.specs.Parts.{spell_decimal}
 use Rattle.formula_wire.specs.PartBytes.{compare_code, sum_code, product_code, unary_code, spell_corner, spell_sheet, spell_lines, spell_parameters}
-use Rattle.formula_wire.specs.NodeBytes.{spelled_all, spell_layer, spell_node, spell_nodes}
+use Rattle.formula_wire.specs.NodeBytes.{spelled_all, spell_layer, spell_node}
+
+-- the nodes of a list, with their count before them
+abbrev pub spell_nodes : List Node → List ℕ
+spell_nodes = spell_list spell_node
 
 length_same : (all : List Node) → length (map spell_node all) ≡ length all
 length_same [] = refl

@@ -17,6 +17,8 @@ enum Step {
     Columns(bool),
     /// A row gets a style.
     Row(i32, bool),
+    /// A row gets the default style.
+    DefaultRow(i32),
     /// A column gets a style.
     Column(i32, bool),
     /// A cell at a row and a column gets a style.
@@ -41,7 +43,7 @@ enum Sight {
 }
 
 /// What is done to a new sheet, and what is seen then.
-const CASES: [(&[Step], &[Sight]); 5] = [
+const CASES: [(&[Step], &[Sight]); 6] = [
     (
         &[Step::Value(1, 2), Step::Width(2, 300), Step::Columns(true)],
         &[
@@ -75,6 +77,18 @@ const CASES: [(&[Step], &[Sight]); 5] = [
         ],
         &[Sight::Shows(2, 3, (false, false)), Sight::Owns(3, None)],
     ),
+    // A row that gets the default style has none, so its cells show their columns' styles.
+    (
+        &[
+            Step::Row(2, false),
+            Step::Column(3, true),
+            Step::DefaultRow(2),
+        ],
+        &[
+            Sight::Shows(2, 3, (true, false)),
+            Sight::Shows(2, 4, (false, false)),
+        ],
+    ),
     // The style of a cell is changed, and its content stays.
     (
         &[
@@ -106,12 +120,18 @@ fn put_value(alloc: Global, sheet: &mut Worksheet, row: i32, column: i32) -> Res
     sheet.set_cell_with_boolean(row, column, true, plain.shared())
 }
 
+fn set_default_row(alloc: Global, sheet: &mut Worksheet, row: i32) -> Result<(), EditError> {
+    let plain = DefaultStyle::new(alloc)?;
+    sheet.set_row_style(row, plain.shared())
+}
+
 fn take(alloc: Global, sheet: &mut Worksheet, step: Step) -> Result<(), EditError> {
     match step {
         Step::Value(row, column) => put_value(alloc, sheet, row, column),
         Step::Width(column, width) => sheet.set_column_width(column, width),
         Step::Columns(is_bold) => sheet.set_style(&drawn(alloc, is_bold)?),
         Step::Row(row, is_bold) => sheet.set_row_style(row, &drawn(alloc, is_bold)?),
+        Step::DefaultRow(row) => set_default_row(alloc, sheet, row),
         Step::Column(column, is_bold) => sheet.set_column_style(column, &drawn(alloc, is_bold)?),
         Step::Cell(row, column, is_bold) => {
             sheet.set_cell_style(row, column, &drawn(alloc, is_bold)?)

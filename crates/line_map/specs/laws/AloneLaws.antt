@@ -1,7 +1,7 @@
 -- The law of followers for what an edit carries along by itself.
 use Rattle.std.proofs.Common.{◌≡◌, Option, Some, None, refl}
 use Rattle.line_map.specs.Alone.{regained, Restores}
-use Rattle.line_trees.specs.Way.{Way, IsWay, back}
+use Rattle.line_routes.specs.Way.{Way, IsWay, back}
 
 module _ {F P : Type 0} (Lies : Way → F → Type 0) (carry : Way → F → F) (part : Way → F → Option P) (w : Way) (is : IsWay w) where
   -- what is kept can be laid over the value that was carried along

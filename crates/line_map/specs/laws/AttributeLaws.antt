@@ -15,7 +15,7 @@ use Rattle.line_map.specs.Attributes.{lines_restored, LinesLie}
 use Rattle.base_maps.specs.Carried.{if_there, moved_map, lost_map, overlaid}
 use Rattle.line_edits.specs.Edit.{within, is_in_block}
 use Rattle.line_edits.specs.Moves.{is_brought}
-use Rattle.line_trees.specs.Way.{Way, IsWay, back, is_along}
+use Rattle.line_routes.specs.Way.{Way, IsWay, back, is_along}
 use Rattle.base_maps.specs.laws.Gathering.{get-lost_map, get-overlaid, nothing_overlaid, overlaid_more}
 use Rattle.base_maps.specs.laws.Keys.{one_key}
 use Rattle.base_maps.specs.laws.CarriedLaws.{get-moved_map, laid_over}

@@ -9,9 +9,9 @@ use Rattle.cell_content.specs.laws.LensLaws.{tree_of-with_tree, with_own_tree, w
 use Rattle.sheet_grid.specs.declared.Cell.{Cell}
 use Rattle.base_maps.specs.Carried.{if_there}
 use Rattle.line_map.specs.Contents.{with_new_tree, content_carried, content_part, ContentLies, cell_carried, cell_part, cell_restored, CellLies}
-use Rattle.line_trees.specs.Trees.{tree_carried, tree_part, TreeLies}
-use Rattle.line_trees.specs.Way.{Way, IsWay, back}
-use Rattle.line_trees.specs.laws.TreeLaws.{tree_stays, tree_comes_back, tree_restores}
+use Rattle.line_routes.specs.Trees.{tree_carried, tree_part, TreeLies}
+use Rattle.line_routes.specs.Way.{Way, IsWay, back}
+use Rattle.line_routes.specs.laws.TreeLaws.{tree_stays, tree_comes_back, tree_restores}
 
 -- a content with this tree, carried along
 abbrev carried_at : Way → Content → Option Node → Content
@@ -28,6 +28,11 @@ carried_none w content h = ap (carried_at w content) h
 
 carried_some : (w : Way) (content : Content) (tree : Node) → tree_of content ≡ Some tree → content_carried w content ≡ with_tree content (tree_carried w tree)
 carried_some w content tree h = ap (carried_at w content) h
+
+-- so does one whose tree stays
+pub unchanged_content : (w : Way) (content : Content) (tree : Node) → tree_of content ≡ Some tree → tree_carried w tree ≡ tree →
+    content_carried w content ≡ content
+unchanged_content w content tree h stays = carried_some w content tree h ∙ ap (with_tree content) stays ∙ with_own_tree content tree h
 
 stays_at : (w : Way) → IsWay w → (content : Content) (o : Option Node) → tree_of content ≡ o → ContentLies (back w) (content_carried w content)
 stays_at w is content None h = subst (λ o. IfSome o (TreeLies (back w))) (sym (ap tree_of (carried_none w content h) ∙ h)) tt

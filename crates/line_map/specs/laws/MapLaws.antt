@@ -8,10 +8,10 @@ use Rattle.base_maps.specs.Carried.{if_there, lost_map, overlaid, settled}
 use Rattle.line_map.specs.Maps.{AllLie, KeptFits, entry_part, places_carried, places_parts, places_restored}
 use Rattle.line_map.specs.declared.place_map.KeptMap.{KeptMap}
 use Rattle.base_maps.specs.Carried.{Inverse}
-use Rattle.line_trees.specs.Way.{Way, IsWay, at, back, place_goes}
+use Rattle.line_routes.specs.Way.{Way, IsWay, at, back, place_goes}
 use Rattle.base_maps.specs.laws.Gathering.{get-lost_map}
 use Rattle.base_maps.specs.laws.CarriedLaws.{get-carried_map, get-parts_map, map_restores}
-use Rattle.line_trees.specs.laws.WayLaws.{goes_inverse, goes_there, at_is_way}
+use Rattle.line_routes.specs.laws.WayLaws.{goes_inverse, goes_there, at_is_way}
 
 found_from : {F : Type 0} (f : F → F) (v : Option F) (y : F) → if_there v (λ x. Some (f x)) ≡ Some y → (x : F) × (v ≡ Some x) × (y ≡ f x)
 found_from f None y h = absurd (cc)

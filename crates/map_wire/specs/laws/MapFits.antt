@@ -1,7 +1,7 @@
 -- What is known of the values of a map that bytes can carry, and of a value that may be missing.
-use Rattle.std.proofs.Common.{◌≡◌, ◌^◌, ◌<◌, List, [], ◌∷◌, length, Option, Some, None, Result, Ok, Err, subst}
+use Rattle.std.proofs.Common.{◌≡◌, ◌^◌, ◌<◌, List, [], ◌∷◌, length, Option, Some, None, Result, Ok, Err, sym, subst}
 use Rattle.std.specs.Prelude.{IfOk, IfSome}
-use Rattle.std.proofs.lemmas.List.Elements.{All-from_recursion}
+use Rattle.std.proofs.lemmas.List.Elements.{All-from_recursion, All-same, recursion_from_All}
 use Rattle.std.proofs.lemmas.Map.Lookups.{CmpEqualImpliesEq}
 use Rattle.std.specs.Cmp.{IsTotalOrder}
 use Rattle.std.specs.List.{All, AllByRecursion}
@@ -10,7 +10,11 @@ use Rattle.std.specs.declared.cmp.Ordering.{Ordering}
 use Rattle.base_values.specs.Answers.{map_ok}
 use Rattle.base_maps.specs.laws.Known.{entries_known, values_known}
 use Rattle.base_wire.specs.Spelling.{Any, Both}
-use Rattle.map_wire.specs.MapBytes.{Carried, FitsMap}
+use Rattle.map_wire.specs.MapBytes.{FitsMap, Within}
+
+-- bytes can carry the entry where it is known
+abbrev pub Carried : {K X : Type 0} → (K → Type 0) → (X → Type 0) → (K → Type 0) → (X → Type 0) → K × X → Type 0
+Carried KnownKey KnownValue FitsKey FitsValue entry = Both KnownKey KnownValue entry → Both FitsKey FitsValue entry
 
 -- nothing is asked of it
 pub any_option : {A : Type 0} (o : Option A) → IfSome o Any
@@ -39,11 +43,6 @@ module _ {K X : Type 0} (KnownKey : K → Type 0) (Known : X → Type 0) (FitsKe
     each = each_fits (entries m) (subst (AllByRecursion (Carried KnownKey Known FitsKey Fits)) same carried) keys (entries_known R total exact Known m values);
   }
 
--- what holds of every key holds of those of entries
-pub all_keys : {K X : Type 0} (P : K → Type 0) → ((key : K) → P key) → (es : List (K × X)) → AllByRecursion (λ e. P e.0) es
-all_keys P every [] = tt
-all_keys P every (e ∷ es) = (every e.0, all_keys P every es)
-
 -- what holds of the parts of each entry holds of its key
 pub keys_hold : {K X : Type 0} (P : K → Type 0) (Q : X → Type 0) (es : List (K × X)) → AllByRecursion (Both P Q) es → All (λ e. P e.0) es
 keys_hold P Q es all = All-from_recursion (λ e. P e.0) es (firsts es all)
@@ -51,6 +50,10 @@ keys_hold P Q es all = All-from_recursion (λ e. P e.0) es (firsts es all)
     firsts : (es : List _) → AllByRecursion (Both P Q) es → AllByRecursion (λ e. P e.0) es
     firsts [] all = tt
     firsts (e ∷ es) all = (all.0.0, firsts es all.1)
+
+-- what holds of the keys of entries as another thing does
+pub keys_more : {K X : Type 0} (P Q : K → Type 0) → Within P Q → (es fs : List (K × X)) → es ≡ fs → All (λ e. P e.0) es → AllByRecursion (λ e. Q e.0) fs
+keys_more {K} {X} P Q change es fs same all = recursion_from_All (λ e. Q e.0) fs (λ k d within. change _ (All-same (λ (e : K × X). P e.0) fs es (sym same) all k d within))
 
 -- what holds of all that is seen of an answer
 pub of_answer : {A B E : Type 0} {f : A → B} (P : B → Type 0) (Q : A → Type 0) → ((x : A) → P (f x) → Q x) → (result : Result A E) → IfOk (map_ok f result) P → IfOk result Q

@@ -1,5 +1,5 @@
 -- The sheets of a workbook where a defined name stands in the place of another: they come back with what was kept, and stay placed.
-use Rattle.std.proofs.Common.{◌≡◌, ℕ, ◌+◌, Bool, true, false, cond, List, [], ◌∷◌, map, Some, refl, ap, ◌∙◌}
+use Rattle.std.proofs.Common.{◌≡◌, ℕ, ◌+◌, List, [], ◌∷◌, map, Some, refl, ap, ◌∙◌}
 use Rattle.std.specs.Prelude.{◌==◌}
 use Rattle.std.specs.List.{AllByRecursion, enumerate_from, find}
 use Rattle.std.specs.Ordering.{nat_cmp}
@@ -17,7 +17,7 @@ use Rattle.sheet_lines.specs.Sheets.{IsPlacedSheet, sheet_of, HasDistinctIds}
 use Rattle.book_sheets.specs.laws.SheetRules.{KeepsSheetRules}
 use Rattle.book_names.specs.declared.KeptTrees.{KeptTrees}
 use Rattle.book_names.specs.Renaming.{ArePlacedTrees, defined_renamed, with_kept_tree, names_back}
-use Rattle.book_names.specs.laws.Entries.{maps_same}
+use Rattle.book_names.specs.laws.Entries.{found_same, maps_same}
 use Rattle.book_names.specs.laws.Regained.{sheet_cells_regained, sheet_formattings_regained}
 use Rattle.book_names.specs.laws.Sheets.{placed_sheet, rules_stay, sheet_placed_back}
 use Rattle.name_edits.specs.LookUp.{reach_at}
@@ -50,19 +50,7 @@ module _ (index : ℕ) (old new : List ℕ) (names : List DefinedName) where
   -- the sheet of an id in the later workbook
   pub later_found : (n : ℕ) (sheets : List Sheet) (s : Sheet) → find (λ (t : Sheet). t.id == n) sheets ≡ Some s
       → find (λ (t : Sheet). t.id == n) (map (sheet_updated index old new names) sheets) ≡ Some (sheet_updated index old new names s)
-  later_found n [] s h = absurd (cc)
-  later_found n (t ∷ sheets) s h = go (later_found n sheets s) (t.id == n) refl h
-    where
-      rest : List Sheet
-      rest = map (sheet_updated index old new names) sheets
-
-      go : (find (λ (u : Sheet). u.id == n) sheets ≡ Some s → find (λ (u : Sheet). u.id == n) rest ≡ Some (sheet_updated index old new names s)) → (b : Bool) → (t.id == n) ≡ b
-          → cond b (Some t) (find (λ (u : Sheet). u.id == n) sheets) ≡ Some s
-          → cond (t.id == n) (Some (sheet_updated index old new names t)) (find (λ (u : Sheet). u.id == n) rest) ≡ Some (sheet_updated index old new names s)
-      go more true is it =
-          let same : t ≡ s = cc in
-          ap (λ b. cond b (Some (sheet_updated index old new names t)) (find (λ (u : Sheet). u.id == n) rest)) is ∙ ap (λ u. Some (sheet_updated index old new names u)) same
-      go more false is it = ap (λ b. cond b (Some (sheet_updated index old new names t)) (find (λ (u : Sheet). u.id == n) rest)) is ∙ more it
+  later_found n sheets s = found_same (sheet_updated index old new names) (λ (t : Sheet). t.id == n) (λ (t : Sheet). t.id == n) (λ t. refl) sheets s
 
   -- each keeps the rules of a sheet
   pub all_rules_stay : (sheets : List Sheet) → AllByRecursion KeepsSheetRules sheets → AllByRecursion KeepsSheetRules (map (sheet_updated index old new names) sheets)

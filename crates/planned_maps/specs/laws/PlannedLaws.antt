@@ -11,7 +11,8 @@ use Rattle.std.proofs.lemmas.Map.Lookups.{CmpEqualImpliesEq}
 use Rattle.base_values.specs.KeyMap.{with_entry}
 use Rattle.base_values.specs.laws.KeyMap.{get-with_entry}
 use Rattle.base_maps.specs.laws.Keys.{first_once, one_key, own_key, sorted_rest}
-use Rattle.planned_maps.specs.Planned.{carried_out, lines_from, made_entry, planned, put_if, put_one}
+use Rattle.planned_maps.specs.Planned.{carried_out, lines_from, made_entry, planned}
+use Rattle.planned_maps.specs.laws.PlanWalks.{put_if, put_one}
 
 -- ---- keys of a list
 

@@ -19,8 +19,9 @@ use Rattle.base_maps.specs.Carried.{if_there}
 use Rattle.base_maps.specs.laws.Gathering.{get-gathered}
 use Rattle.base_maps.specs.laws.Inverses.{own_inverse}
 use Rattle.base_maps.specs.laws.Keys.{one_key}
-use Rattle.planned_maps.specs.Planned.{lines_from, places_of, put_one, row_places}
-use Rattle.planned_maps.specs.Walks.{chosen_put, count_across, kept_put, line_all, line_done, line_passes, line_put, lines_all, lines_put, place_across, places_put, rows_all, rows_put}
+use Rattle.planned_maps.specs.Planned.{lines_from, places_of, row_places}
+use Rattle.planned_maps.specs.laws.PlanWalks.{chosen_put, kept_put, line_all, line_done, line_passes, line_put, lines_all, lines_put, places_put, put_one, rows_all, rows_put}
+use Rattle.planned_maps.specs.Walks.{count_across, place_across}
 use Rattle.planned_maps.specs.laws.PlannedLaws.{Fits, Goes, IsIn, earlier, empty_fits, goes_nowhere, goes_on, in_each, in_mapped, line_is_in, one_done, one_goes}
 
 -- ---- lines and places by their indexes

@@ -6,7 +6,7 @@ use Rattle.base_styles.specs.declared.Style.{Style}
 use Rattle.base_styles.specs.contracts.style.Style as coded_style
 use Rattle.base_styles.specs.DefaultStyle.{default_style}
 use Rattle.planned_maps.specs.laws.PlannedLaws.{one_test}
-use Rattle.sheet_rules.specs.WellFormed.{is_default}
+use Rattle.sheet_grid.specs.DefaultParts.{is_default}
 
 -- the default style passes
 pub default_is : is_default default_style ≡ true

@@ -4,7 +4,7 @@ use Rattle.std.specs.declared.cmp.Ordering.{Ordering}
 use Rattle.std.specs.FinMap.{FinMap}
 use Rattle.base_maps.specs.Carried.{entry_made, if_there}
 use Rattle.base_maps.specs.laws.Gathering.{with_made}
-use Rattle.planned_maps.specs.Planned.{put_if, put_one}
+use Rattle.planned_maps.specs.laws.PlanWalks.{put_if, put_one}
 
 pub put_is_made : {K V X : Type 0} {R : K → K → Ordering} (make : K → Option X) (m : FinMap R X) (key : K) (v : V)
     → put_one make m key ≡ with_made (entry_made Some (λ _ q (u : V). make q) (key, v)) m

@@ -15,7 +15,8 @@ use Rattle.base_axis.specs.Along.{Along, IsAxis, rows, columns}
 use Rattle.base_axis.specs.Rectangles.{first_line, holds, is_between, last_line, last_of, line_count}
 use Rattle.base_maps.specs.Carried.{if_there}
 use Rattle.planned_maps.specs.Planned.{lines_from, planned_places, places_of}
-use Rattle.planned_maps.specs.Walks.{chosen_all, chosen_put, count_across, kept_put, line_all, line_passes, lines_all, lines_put, place_across, rows_all}
+use Rattle.planned_maps.specs.Walks.{count_across, place_across}
+use Rattle.planned_maps.specs.laws.PlanWalks.{chosen_all, chosen_put, kept_put, line_all, line_passes, lines_all, lines_put, rows_all}
 use Rattle.planned_maps.specs.laws.PlannedLaws.{IsIn, all_pass, empty_fits, get-planned, goes_nowhere, line_is_in, one_test, passes_in, same_plan}
 use Rattle.planned_maps.specs.laws.WalkLaws.{At, GoesOn, IsFit, across_column, across_row, all_chosen_go, all_chosen_made, all_places_go, all_places_made, at_index, chosen_each, chosen_test, column_index, get-kept_put, line_test, lines_fit, lines_made, lines_pass, place_is_in, places_each, places_test, row_index, rows_each, rows_test}
 use Rattle.base_styles.specs.declared.Style.{Style}
@@ -25,12 +26,13 @@ use Rattle.sheet_grid.specs.declared.Cell.{Cell}
 use Rattle.sheet_grid.specs.declared.LineAttr.{LineAttr}
 use Rattle.sheet_grid.specs.Lines.{own_line_style}
 use Rattle.sheet_grid.specs.Sheet.{Sheet, cell_style, shown_style}
-use Rattle.sheet_rules.specs.WellFormed.{is_default}
+use Rattle.sheet_grid.specs.DefaultParts.{is_default}
 use Rattle.range_styles.specs.declared.range.AreaKind.{AreaKind}
 use Rattle.range_styles.specs.declared.range.AreaKind.TheVariants.{FullColumns, FullRows, OtherPlaces}
 use Rattle.range_styles.specs.declared.range.StyleRange.{StyleRange}
 use Rattle.range_styles.specs.StyleRanges.{has_cell, has_own_style, has_style, is_among, is_cleared, is_full_columns, is_full_rows, is_set, touches, touches_line}
-use Rattle.range_styles.specs.StyleWalks.{cells_walked, columns_walked, reaches_all, reaches_columns, reaches_rows, rows_walked, stored_pass}
+use Rattle.range_styles.specs.StyleWalks.{reaches_all, reaches_columns, reaches_rows}
+use Rattle.range_styles.specs.laws.StoredWalks.{cells_walked, columns_walked, rows_walked, stored_pass}
 use Rattle.range_styles.specs.laws.DefaultTest.{default_is}
 use Rattle.range_styles.specs.laws.WalkedPlaces.{none_across}
 use Rattle.range_styles.specs.Styled.{Accepts, Made, attr_styled, line_accepts, line_place, line_style, line_styled, lines_accept, lines_styled, place_accepts, place_styled, styled_cell}

@@ -9,8 +9,9 @@ use Rattle.base_axis.specs.declared.MergedCell.{MergedCell}
 use Rattle.base_axis.specs.Along.{Along, IsAxis, rows}
 use Rattle.base_axis.specs.Rectangles.{first_line, holds, is_between, last_line}
 use Rattle.base_axis.specs.laws.RectangleLaws.{holds_along}
-use Rattle.planned_maps.specs.Planned.{planned_places, places_of, put_if}
-use Rattle.planned_maps.specs.Walks.{count_across, line_done, line_put, place_across, places_put, rows_put}
+use Rattle.planned_maps.specs.Planned.{planned_places, places_of}
+use Rattle.planned_maps.specs.laws.PlanWalks.{line_done, line_put, places_put, put_if, rows_put}
+use Rattle.planned_maps.specs.Walks.{count_across, place_across}
 use Rattle.planned_maps.specs.laws.PlannedLaws.{empty_fits, same_plan}
 use Rattle.planned_maps.specs.laws.WalkLaws.{IsFit, across_row, all_places_go, all_places_made, column_index, place_is_in, row_index, rows_go, rows_made}
 use Rattle.range_styles.specs.PlaceWalks.{MakesThere}

@@ -3,7 +3,7 @@ use Rattle.std.proofs.Common.{◌≡◌, ap, sym, ◌∙◌}
 use Rattle.std.specs.Ordering.{nat_cmp}
 use Rattle.std.specs.FinMap.{FinMap}
 use Rattle.format_rules.specs.declared.ConditionalFormatting.{ConditionalFormatting}
-use Rattle.line_trees.specs.Way.{Way, IsWay}
+use Rattle.line_routes.specs.Way.{Way, IsWay}
 use Rattle.rule_lines.specs.declared.edited_rules.EditedRules.{EditedRules}
 use Rattle.rule_lines.specs.EditedRules.{way_on, edited_carried, edited_part, edited_restored, EditedLie}
 use Rattle.rule_lines.specs.Rules.{rules_carried, rules_kept, rules_restored}

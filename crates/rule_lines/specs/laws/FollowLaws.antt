@@ -8,9 +8,9 @@ use Rattle.format_rules.specs.declared.CfRule.{CfRule}
 use Rattle.format_rules.specs.declared.ConditionalFormatting.{ConditionalFormatting}
 use Rattle.format_rules.specs.Fitting.{place_of}
 use Rattle.format_rules.specs.RuleTrees.{trees_changed}
-use Rattle.line_map.specs.MergedCells.{moved_to, merged_cell_carried}
-use Rattle.line_trees.specs.Trees.{tree_carried}
-use Rattle.line_trees.specs.Way.{Way, at, place_goes}
+use Rattle.line_routes.specs.MergedCells.{moved_to, merged_cell_carried}
+use Rattle.line_routes.specs.Trees.{tree_carried}
+use Rattle.line_routes.specs.Way.{Way, at, place_goes}
 use Rattle.rule_lines.specs.Follows.{PartFollows, PartsFollow, RuleFollows}
 use Rattle.rule_lines.specs.Rules.{way_of_trees, formatting_moved, formatting_carried}
 

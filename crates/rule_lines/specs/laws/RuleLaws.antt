@@ -1,9 +1,11 @@
 -- The law of followers for rules: what is carried along stands inside the sheet, and comes back with what is kept.
-use Rattle.std.proofs.Common.{◌≡◌, ℕ, true, false, List, [], ◌∷◌, map, Option, Some, None, refl, ap, sym, subst, ◌∙◌}
-use Rattle.std.specs.Prelude.{⊤, IfSome, IsTrue, if◌then◌else◌}
-use Rattle.std.specs.List.{All, AllByRecursion}
+use Rattle.std.proofs.Common.{◌≡◌, ℕ, zero, suc, ◌+◌, ◌<◌, true, false, List, [], ◌∷◌, length, map, get_or, Option, Some, None, refl, ap, sym, subst, ◌∙◌, arith}
+use Rattle.std.specs.Prelude.{⊤, IfSome, IsTrue, slice_get, if◌then◌else◌}
+use Rattle.std.specs.List.{All, AllByRecursion, enumerate_from}
 use Rattle.std.specs.Ordering.{nat_cmp}
 use Rattle.std.specs.FinMap.{FinMap, get}
+use Rattle.std.proofs.lemmas.Bool.{ltb-true}
+use Rattle.std.proofs.lemmas.Option.{slice_get-get_or}
 use Rattle.std.proofs.lemmas.List.Elements.{recursion_from_All, All-from_recursion, All-map, All-weaker}
 use Rattle.base_values.specs.declared.Position.{Position}
 use Rattle.base_axis.specs.declared.MergedCell.{MergedCell}
@@ -22,17 +24,19 @@ use Rattle.format_rules.specs.RuleTrees.{HasTrees, trees_changed}
 use Rattle.format_rules.specs.laws.FittingLaws.{canonical_still}
 use Rattle.format_rules.specs.laws.RuleEquals.{formatting_equals}
 use Rattle.format_rules.specs.laws.RuleTreeLaws.{changed_have}
-use Rattle.line_map.specs.MergedCells.{merged_cell_carried}
-use Rattle.line_trees.specs.Trees.{TreeLies, following, tree_carried}
-use Rattle.line_trees.specs.Trial.{part_by_trial}
-use Rattle.line_trees.specs.Way.{Way, IsWay, back}
-use Rattle.line_map.specs.laws.MergedCellLaws.{merged_cell_stays}
-use Rattle.line_trees.specs.laws.TreeLaws.{tree_placed}
-use Rattle.line_trees.specs.laws.TrialLaws.{trial_comes_back, trial_part}
-use Rattle.line_trees.specs.laws.WayLaws.{back_is_way}
+use Rattle.line_routes.specs.MergedCells.{merged_cell_carried}
+use Rattle.line_routes.specs.Trees.{TreeLies, following, tree_carried}
+use Rattle.line_routes.specs.Trial.{part_by_trial}
+use Rattle.line_routes.specs.Way.{Way, IsWay, back}
+use Rattle.line_routes.specs.laws.MergedCellLaws.{merged_cell_stays}
+use Rattle.line_routes.specs.laws.TreeLaws.{tree_placed}
+use Rattle.line_routes.specs.laws.TrialLaws.{trial_comes_back, trial_part}
+use Rattle.line_routes.specs.laws.WayLaws.{back_is_way}
 use Rattle.rule_lines.specs.Canonical.{AreCanonicalKept, KeptLie}
-use Rattle.rule_lines.specs.Rules.{at_part, way_of_trees, formatting_moved, formatting_carried, formatting_part, rules_carried, rules_kept, rules_restored, DoesNotReturn, RulesLie}
-use Rattle.base_maps.specs.laws.ByIndexLaws.{items_regained, kept_are, restored_are}
+use Rattle.rule_lines.specs.Rules.{at_part, way_of_trees, formatting_moved, formatting_carried, formatting_part, rules_carried, rules_kept, rules_restored, DoesNotReturn, KeepsRule, RulesLie}
+use Rattle.base_maps.specs.Carried.{settled}
+use Rattle.base_maps.specs.ByIndex.{restored_at}
+use Rattle.base_maps.specs.laws.ByIndexLaws.{items_regained, kept_are, kept_within, restored_are}
 
 -- ---- one rule
 
@@ -165,6 +169,49 @@ part_needed w rule None h = tt
 part_needed w rule (Some k) h = subst (DoesNotReturn w) (sym (formatting_restores w rule k h)) (kept_away w rule k h)
 
 -- so it is of each that is kept
-pub rules_needed : (w : Way) (rules : List ConditionalFormatting) (index : ℕ) → IfSome (get (rules_kept w rules) index) (DoesNotReturn w)
+rules_needed : (w : Way) (rules : List ConditionalFormatting) (index : ℕ) → IfSome (get (rules_kept w rules) index) (DoesNotReturn w)
 rules_needed w rules index =
     kept_are (formatting_part w) (λ _. ⊤) (DoesNotReturn w) (λ rule _. part_needed w rule (formatting_part w rule) refl) rules (nothing_known rules) index
+
+-- what stands at an index of a list that came back
+came_back_at : (carry home : ConditionalFormatting → ConditionalFormatting) (kept : ℕ → Option ConditionalFormatting) (at : ℕ)
+    (rules : List ConditionalFormatting) → map (restored_at home (λ _ own. own) kept) (enumerate_from at (map carry rules)) ≡ rules →
+    (index : ℕ) (rule : ConditionalFormatting) → slice_get rules index ≡ Some rule → settled home (λ _ own. own) (kept (at + index)) (carry rule) ≡ rule
+came_back_at carry home kept at [] h index rule there = absurd (cc)
+came_back_at carry home kept at (first ∷ rules) h zero rule there =
+    let one : first ≡ rule = cc in
+    let here : at + 0 ≡ at = omega arith in
+    let front : settled home (λ _ own. own) (kept at) (carry first) ≡ first = cc in
+    ap (λ n. settled home (λ _ own. own) (kept n) (carry rule)) here ∙ ap (λ r. settled home (λ _ own. own) (kept at) (carry r)) (sym one) ∙ front ∙ one
+came_back_at carry home kept at (first ∷ rules) h (suc index) rule there =
+    let on : at + suc index ≡ (at + 1) + index = omega arith in
+    let rest : map (restored_at home (λ _ own. own) kept) (enumerate_from (at + 1) (map carry rules)) ≡ rules = cc in
+    ap (λ n. settled home (λ _ own. own) (kept n) (carry rule)) on ∙ came_back_at carry home kept (at + 1) rules rest index rule there
+
+-- exactly those rules are kept that the way back does not give: the list comes back with them
+pub rules_are_kept : (w : Way) (rules : List ConditionalFormatting) (index : ℕ) (rule : ConditionalFormatting) →
+    KeepsRule w rules (rules_kept w rules) index rule
+rules_are_kept w rules index rule = (
+  λ held. (there held, subst (λ o. IfSome o (DoesNotReturn w)) held (rules_needed w rules index)),
+  λ h. needed (get (rules_kept w rules) index) refl h.0 h.1,
+)
+  where
+    back_at : (r : ConditionalFormatting) → slice_get rules index ≡ Some r →
+        settled (formatting_carried (back w)) (λ _ own. own) (get (rules_kept w rules) index) (formatting_carried w r) ≡ r
+    back_at r found =
+        let here : index ≡ 0 + index = omega arith in
+        ap (λ n. settled (formatting_carried (back w)) (λ _ own. own) (get (rules_kept w rules) n) (formatting_carried w r)) here
+        ∙ came_back_at (formatting_carried w) (formatting_carried (back w)) (get (rules_kept w rules)) 0 rules (rules_regained w rules) index r found
+
+    there : get (rules_kept w rules) index ≡ Some rule → slice_get rules index ≡ Some rule
+    there held =
+        let within : index < length rules = ltb-true index (length rules) (kept_within (formatting_part w) rules index rule held) in
+        let found = slice_get-get_or rules index rule within in
+        found ∙ ap Some (sym (back_at (get_or rules index rule) found)
+        ∙ ap (λ o. settled (formatting_carried (back w)) (λ _ own. own) o (formatting_carried w (get_or rules index rule))) held)
+
+    needed : (o : Option ConditionalFormatting) → get (rules_kept w rules) index ≡ o → slice_get rules index ≡ Some rule → DoesNotReturn w rule → o ≡ Some rule
+    needed None none found away = absurd (away (sym (ap (λ o. settled (formatting_carried (back w)) (λ _ own. own) o (formatting_carried w rule)) none)
+        ∙ back_at rule found))
+    needed (Some k) held found away = ap Some (sym (ap (λ o. settled (formatting_carried (back w)) (λ _ own. own) o (formatting_carried w rule)) held)
+        ∙ back_at rule found)

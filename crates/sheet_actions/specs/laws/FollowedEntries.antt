@@ -8,10 +8,10 @@ use Rattle.base_values.specs.Places.{position_cmp, is_place}
 use Rattle.base_values.specs.laws.Places.{position_total, exact_positions}
 use Rattle.base_maps.specs.Carried.{if_there}
 use Rattle.line_map.specs.Maps.{places_carried}
-use Rattle.line_trees.specs.Way.{Way, IsWay, at, back, place_goes}
+use Rattle.line_routes.specs.Way.{Way, IsWay, at, back, place_goes}
 use Rattle.base_maps.specs.laws.CarriedLaws.{get-carried_map}
 use Rattle.line_map.specs.laws.MapLaws.{places_stay}
-use Rattle.line_trees.specs.laws.WayLaws.{goes_inverse}
+use Rattle.line_routes.specs.laws.WayLaws.{goes_inverse}
 use Rattle.sheet_rules.specs.laws.EntryLaws.{passes_at_from_all, all_from_passes_at}
 use Rattle.sheet_rules.specs.laws.InsideLaws.{places_from_test, test_from_places}
 

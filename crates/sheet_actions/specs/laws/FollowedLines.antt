@@ -11,7 +11,7 @@ use Rattle.line_edits.specs.Edit.{amount}
 use Rattle.line_map.specs.Attributes.{line_goes_along, heir, with_line, filled, block_given, block_heirs, heirs, lines_carried}
 use Rattle.base_maps.specs.Carried.{if_there, moved_map, overlaid}
 use Rattle.line_edits.specs.Edit.{within}
-use Rattle.line_trees.specs.Way.{Way, IsWay}
+use Rattle.line_routes.specs.Way.{Way, IsWay}
 use Rattle.base_maps.specs.laws.Gathering.{get-overlaid}
 use Rattle.base_maps.specs.laws.CarriedLaws.{get-moved_map}
 use Rattle.sheet_rules.specs.laws.EntryLaws.{passes_at_from_all, all_from_passes_at}

@@ -19,10 +19,10 @@ use Rattle.format_rules.specs.declared.ConditionalFormatting.{ConditionalFormatt
 use Rattle.format_rules.specs.Fitting.{place_of, has_parts, tree_fits, has_fitting_trees}
 use Rattle.format_rules.specs.RuleTrees.{cfvo_passes, each_tree, cfvo_changed, color_changed, icon_changed, trees_changed}
 use Rattle.format_rules.specs.laws.RuleTreeLaws.{left, right, both}
-use Rattle.line_map.specs.MergedCells.{merged_cell_carried}
-use Rattle.line_trees.specs.Trees.{tree_carried}
-use Rattle.line_trees.specs.Way.{Way, IsWay}
-use Rattle.line_map.specs.laws.MergedCellLaws.{merged_cell_stays}
+use Rattle.line_routes.specs.MergedCells.{merged_cell_carried}
+use Rattle.line_routes.specs.Trees.{tree_carried}
+use Rattle.line_routes.specs.Way.{Way, IsWay}
+use Rattle.line_routes.specs.laws.MergedCellLaws.{merged_cell_stays}
 use Rattle.rule_lines.specs.Rules.{at_part, way_of_trees, formatting_moved, formatting_carried}
 use Rattle.sheet_grid.specs.Sheet.{Sheet}
 use Rattle.sheet_rules.specs.WellFormed.{have_rule_trees, have_rule_parts}

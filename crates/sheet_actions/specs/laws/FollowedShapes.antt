@@ -24,9 +24,9 @@ use Rattle.line_edits.specs.Moves.{edit_moves, place_image}
 use Rattle.line_edits.specs.Splits.{splits}
 use Rattle.line_edits.specs.laws.OneToOne.{edit_one_to_one}
 use Rattle.line_map.specs.Contents.{content_carried, cell_carried}
-use Rattle.line_map.specs.Merges.{merge_carried, merges_carried}
-use Rattle.line_trees.specs.Way.{Way, IsWay, at, back, place_goes}
-use Rattle.line_trees.specs.laws.WayLaws.{goes_inverse}
+use Rattle.line_routes.specs.Merges.{merge_carried, merges_carried}
+use Rattle.line_routes.specs.Way.{Way, IsWay, at, back, place_goes}
+use Rattle.line_routes.specs.laws.WayLaws.{goes_inverse}
 use Rattle.sheet_grid.specs.declared.Cell.{Cell}
 use Rattle.sheet_grid.specs.Arrays.{array_at, large_array_at, where_large}
 use Rattle.sheet_grid.specs.Merges.{is_empty}

@@ -17,11 +17,11 @@ use Rattle.cell_content.specs.declared.Content.{Content}
 use Rattle.cell_content.specs.declared.Content.TheVariants.{Empty, Number, Boolean, Error, Text, Formula, Dynamic, Array}
 use Rattle.line_map.specs.Attributes.{lines_carried}
 use Rattle.line_map.specs.Contents.{content_carried, cell_carried}
-use Rattle.line_trees.specs.Trees.{following, tree_carried}
-use Rattle.line_trees.specs.Way.{Way, IsWay, at}
+use Rattle.line_routes.specs.Trees.{following, tree_carried}
+use Rattle.line_routes.specs.Way.{Way, IsWay, at}
 use Rattle.line_map.specs.laws.AttributeLaws.{lines_stay}
-use Rattle.line_trees.specs.laws.TreeLaws.{tree_placed}
-use Rattle.line_trees.specs.laws.WayLaws.{at_is_way}
+use Rattle.line_routes.specs.laws.TreeLaws.{tree_placed}
+use Rattle.line_routes.specs.laws.WayLaws.{at_is_way}
 use Rattle.sheet_grid.specs.contracts.line_attr.LineAttrPartialEq.TheImpl as attribute
 use Rattle.sheet_grid.specs.declared.LineAttr.{LineAttr}
 use Rattle.sheet_grid.specs.Sheet.{Sheet}

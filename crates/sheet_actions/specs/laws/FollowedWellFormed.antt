@@ -9,7 +9,7 @@ use Rattle.sheet_grid.specs.Book.{Book}
 use Rattle.line_edits.specs.declared.EditKind.{EditKind}
 use Rattle.line_edits.specs.Edit.{IsValid}
 use Rattle.line_edits.specs.Moves.{LineMoves, edit_moves}
-use Rattle.line_trees.specs.Way.{IsWay}
+use Rattle.line_routes.specs.Way.{IsWay}
 use Rattle.line_edits.specs.laws.OneToOne.{edit_one_to_one}
 use Rattle.sheet_rules.specs.Names.{are_names}
 use Rattle.sheet_rules.specs.SheetNames.{is_sheet_name}

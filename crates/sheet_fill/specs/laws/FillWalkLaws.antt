@@ -21,7 +21,7 @@ use Rattle.sheet_grid.specs.declared.Link.{Link}
 use Rattle.sheet_grid.specs.Sheet.{Sheet}
 use Rattle.sheet_fill.specs.declared.range.FillRange.{FillRange}
 use Rattle.sheet_fill.specs.FillRanges.{counted_line, lines, target_place}
-use Rattle.sheet_fill.specs.FillWalks.{across_put, targets_put}
+use Rattle.sheet_fill.specs.laws.FillWalks.{across_put, targets_put}
 use Rattle.sheet_fill.specs.Targets.{cell_at, link_at, place_filled, place_linked, steps}
 use Rattle.sheet_fill.specs.Plans.{cells_filled, links_filled}
 use Rattle.sheet_fill.specs.laws.LineCounts.{by_axis}

@@ -41,6 +41,7 @@ fn taken(alloc: Global, sheets: &mut Items<Worksheet>) -> Vec<Worksheet>
     ensures len { vec_len result ≡ length sheets.old }
 {
     let list = mem::replace(sheets, Items::empty(alloc)).into_vec();
+    // For the proof alone: the length of the list.
     let _ = list.as_slice();
     list
 }

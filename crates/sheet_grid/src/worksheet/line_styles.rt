@@ -5,12 +5,13 @@ ghost use Rattle.std.specs.FinMap as fin;
 ghost use Rattle.base_values.specs.Answers.{Changes, Returns};
 ghost use Rattle.base_values.specs.Places.{IsLine};
 ghost use Rattle.base_values.specs.declared.EditError.TheVariants.{NoMemory};
-ghost use Rattle.sheet_grid.specs.Lines.{AllStyled, SameBut, own_line_style, style_set, with_change, with_style};
+ghost use Rattle.sheet_grid.specs.Lines.{AllStyled, SameBut, own_line_style, own_row_style, row_style_set, style_set, with_change, with_style};
 ghost use Rattle.sheet_grid.specs.Sheet.{cell_styled, column_changed, of_column, row_changed};
 
 use super::Worksheet;
 use super::sizes::attr_of;
 use super::styles::own_line_style;
+use crate::default_parts::is_default_style;
 use crate::line_attr::LineAttr;
 use base_axis::{Axis, AxisMap, ColumnAxis};
 use base_shared::Shared;
@@ -33,6 +34,18 @@ fn set_line_style<A: Axis>(
     let mut attr = attr_of(lines, line)?;
     attr.style = style;
     lines.put(line, LineAttr::kept(Some(attr)))
+}
+
+/// The style that a row has of its own once it is set to this one: none where it is the default one.
+#[tactic(auto, unfolding(crate::specs::Lines::own_row_style))]
+fn own_row_style(style: Shared<Style>) -> Option<Shared<Style>>
+    ensures { result ≡ own_row_style style }
+{
+    if is_default_style(style.get()) {
+        None
+    } else {
+        Some(style)
+    }
 }
 
 /// The column at an index counted from 0.
@@ -86,20 +99,21 @@ impl Worksheet {
         }
     }
 
-    /// Sets the style of a row. Its height stays, and it stays hidden or shown; cells keep their styles.
+    /// Sets the style of a row, which has none of its own where that is the default one. Its height
+    /// stays, and it stays hidden or shown; cells keep their styles.
     ///
     /// `InvalidRow` where the row is outside the sheet.
     pub fn set_row_style(&mut self, row: i32, style: &Shared<Style>) -> Result<(), EditError>
-        ensures set { Changes result self.old self.new (row_changed self.old row (style_set (Some style.now))) }
+        ensures set { Changes result self.old self.new (row_changed self.old row (row_style_set style.now)) }
         ensures others { SameBut row self.old.rows self.new.rows }
     {
         let line = line_of(LAST_ROW, row, EditError::InvalidRow)?;
         let style = copy_of(style)?;
-        set_line_style(&mut self.rows, line, Some(style))
+        set_line_style(&mut self.rows, line, own_row_style(style))
     }
 
-    /// Sets the style of one column. Its width stays, and it stays hidden or shown; cells keep their
-    /// styles.
+    /// Sets the style of one column, which is its own also where that is the default one. Its width
+    /// stays, and it stays hidden or shown; cells keep their styles.
     ///
     /// `InvalidColumn` where the column is outside the sheet.
     pub fn set_column_style(&mut self, column: i32, style: &Shared<Style>) -> Result<(), EditError>

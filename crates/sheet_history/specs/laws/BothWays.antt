@@ -15,9 +15,12 @@ use Rattle.sheet_lines.specs.Sheets.{HasDistinctIds}
 use Rattle.sheet_history.specs.declared.diff.Diff.{Diff}
 use Rattle.sheet_history.specs.declared.diff.Diff.TheVariants.{Cell as CellDiff, Link as LinkDiff, Merges as MergesDiff, Field as FieldDiff, Lines as LinesDiff, NewSheet as NewDiff, DuplicateSheet as CopyDiff, DeleteSheet as DeletionDiff, MoveSheet as MoveDiff, RenameSheet as RenameDiff, ChangeName as NameDiff, Rule as RuleDiff, Attributes as AttrDiff, Setting as SettingDiff}
 use Rattle.sheet_history.specs.Entries.{EntryKey, EntryValue, key_cmp, entry_at, put_entry, accepts, frame_of}
-use Rattle.sheet_history.specs.Entries.EntryKey.{CellKey, LinkKey, MergesKey, FieldKey, AttrKey}
-use Rattle.sheet_history.specs.Entries.EntryValue.{CellValue, LinkValue, MergesValue, FieldValue, AttrValue}
+use Rattle.sheet_history.specs.Entries.EntryKey.{CellKey, LinkKey, MergesKey, FieldKey, AttrKey, SettingKey}
+use Rattle.sheet_history.specs.Entries.EntryValue.{CellValue, LinkValue, MergesValue, FieldValue, AttrValue, SettingValue}
 use Rattle.sheet_history.specs.Fields.{old_of, new_of, changed_field}
+use Rattle.sheet_history.specs.declared.setting.SettingChange.{SettingChange}
+use Rattle.sheet_history.specs.declared.setting.SettingChange.TheVariants as setting_change
+use Rattle.sheet_history.specs.Settings.{with_setting, old_setting, new_setting, changed_setting}
 use Rattle.sheet_history.specs.Diffs.{put_in, step_forward, step_back, forward_from, back_from, untested_after, untested_before}
 use Rattle.sheet_history.specs.Records.{same_entry_value, changed_entry, Change, change_of, IsRecord}
 use Rattle.sheet_history.specs.laws.EntryLaws.{decide, nothing_at, entry_at-put_entry, entry_at-put_entry_other, frame_of-put_entry, accepts-frame_of, is_some-entry_at, accepts-nothing_at, same_book}
@@ -76,6 +79,21 @@ pub put_in_done : (at : ℕ) (w : Book) (k : EntryKey) (v : EntryValue) → acce
 unfolding put_in
 put_in_done at w k v h = ap (λ b. cond b (Ok (put_entry w k v)) (Err (DiffRefused 0 at))) h
 
+-- a setting is put, whichever way
+new_put : (at : ℕ) (w : Book) (one : SettingChange) → put_in at w (SettingKey (changed_setting one)) (SettingValue (new_setting one)) ≡ Ok (with_setting (new_setting one) w)
+unfolding put_in accepts put_entry
+new_put at w (setting_change.Theme old new) = refl
+new_put at w (setting_change.Name old new) = refl
+new_put at w (setting_change.Locale old new) = refl
+new_put at w (setting_change.Zone old new) = refl
+
+old_put : (at : ℕ) (w : Book) (one : SettingChange) → put_in at w (SettingKey (changed_setting one)) (SettingValue (old_setting one)) ≡ Ok (with_setting (old_setting one) w)
+unfolding put_in accepts put_entry
+old_put at w (setting_change.Theme old new) = refl
+old_put at w (setting_change.Name old new) = refl
+old_put at w (setting_change.Locale old new) = refl
+old_put at w (setting_change.Zone old new) = refl
+
 -- a diff of an entry steps by its change
 step_by_new : (at : ℕ) (w : Book) (d : Diff) (c : Change) → change_of d ≡ Some c → step_forward at w d ≡ put_in at w c.0 c.1.1
 step_by_new at w (CellDiff sheet place old new) c h =
@@ -88,6 +106,9 @@ step_by_new at w (FieldDiff sheet change) c h =
     let same : ◌≡◌ {A = Change} (FieldKey sheet (changed_field change), (FieldValue (old_of change), FieldValue (new_of change))) c = cc in ap (λ (x : Change). put_in at w x.0 x.1.1) same
 step_by_new at w (AttrDiff sheet axis line old new) c h =
     let same : ◌≡◌ {A = Change} (AttrKey sheet axis line, (AttrValue old, AttrValue new)) c = cc in ap (λ (x : Change). put_in at w x.0 x.1.1) same
+step_by_new at w (SettingDiff one) c h =
+    let same : ◌≡◌ {A = Change} (SettingKey (changed_setting one), (SettingValue (old_setting one), SettingValue (new_setting one))) c = cc in
+    sym (new_put at w one) ∙ ap (λ (x : Change). put_in at w x.0 x.1.1) same
 step_by_new at w (RuleDiff _ _) c h = absurd (cc)
 step_by_new at w (LinesDiff _ _ _ _) c h = absurd (cc)
 step_by_new at w (NewDiff _ _ _) c h = absurd (cc)
@@ -96,7 +117,6 @@ step_by_new at w (DeletionDiff _ _) c h = absurd (cc)
 step_by_new at w (MoveDiff _ _ _) c h = absurd (cc)
 step_by_new at w (RenameDiff _ _ _ _) c h = absurd (cc)
 step_by_new at w (NameDiff _ _) c h = absurd (cc)
-step_by_new at w (SettingDiff _) c h = absurd (cc)
 
 step_by_old : (at : ℕ) (w : Book) (d : Diff) (c : Change) → change_of d ≡ Some c → step_back at w d ≡ put_in at w c.0 c.1.0
 step_by_old at w (CellDiff sheet place old new) c h =
@@ -109,6 +129,9 @@ step_by_old at w (FieldDiff sheet change) c h =
     let same : ◌≡◌ {A = Change} (FieldKey sheet (changed_field change), (FieldValue (old_of change), FieldValue (new_of change))) c = cc in ap (λ (x : Change). put_in at w x.0 x.1.0) same
 step_by_old at w (AttrDiff sheet axis line old new) c h =
     let same : ◌≡◌ {A = Change} (AttrKey sheet axis line, (AttrValue old, AttrValue new)) c = cc in ap (λ (x : Change). put_in at w x.0 x.1.0) same
+step_by_old at w (SettingDiff one) c h =
+    let same : ◌≡◌ {A = Change} (SettingKey (changed_setting one), (SettingValue (old_setting one), SettingValue (new_setting one))) c = cc in
+    sym (old_put at w one) ∙ ap (λ (x : Change). put_in at w x.0 x.1.0) same
 step_by_old at w (RuleDiff _ _) c h = absurd (cc)
 step_by_old at w (LinesDiff _ _ _ _) c h = absurd (cc)
 step_by_old at w (NewDiff _ _ _) c h = absurd (cc)
@@ -117,7 +140,6 @@ step_by_old at w (DeletionDiff _ _) c h = absurd (cc)
 step_by_old at w (MoveDiff _ _ _) c h = absurd (cc)
 step_by_old at w (RenameDiff _ _ _ _) c h = absurd (cc)
 step_by_old at w (NameDiff _ _) c h = absurd (cc)
-step_by_old at w (SettingDiff _) c h = absurd (cc)
 
 forward_done : (at : ℕ) (w0 w : Book) (ds : List Diff) (cs : List Change) → map change_of ds ≡ map Some cs → frame_of w0 ≡ frame_of w → AllFit w0 cs → forward_from at w ds ≡ Ok (put_news w cs)
 forward_done at w0 w [] [] is e h = refl

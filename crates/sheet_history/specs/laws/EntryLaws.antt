@@ -17,6 +17,12 @@ use Rattle.base_values.specs.laws.Places.{position_total, exact_positions}
 use Rattle.base_axis.specs.declared.MergedCell.{MergedCell}
 use Rattle.base_styles.specs.declared.Color.{Color}
 use Rattle.base_styles.specs.declared.Color.TheVariants.{None as NoColor}
+use Rattle.base_styles.specs.declared.Theme.{Theme}
+use Rattle.base_styles.specs.Themes.{default_theme}
+use Rattle.base_tables.specs.declared.Locale.{Locale}
+use Rattle.base_tables.specs.declared.Locale.TheVariants.{En}
+use Rattle.base_tables.specs.declared.Zone.{Zone}
+use Rattle.base_tables.specs.declared.Zone.TheVariants.{Utc}
 use Rattle.sheet_grid.specs.declared.Cell.{Cell}
 use Rattle.sheet_grid.specs.declared.LineAttr.{LineAttr}
 use Rattle.sheet_grid.specs.declared.Link.{Link}
@@ -34,9 +40,13 @@ use Rattle.sheet_history.specs.declared.field.SheetField.TheVariants as value
 use Rattle.sheet_history.specs.Fields.{Field, with_field}
 use Rattle.sheet_history.specs.Fields.Field.{ColorField, StateField, GridField, FrozenRowsField, FrozenColumnsField}
 use Rattle.sheet_history.specs.laws.FieldLaws.{field_in-with_field, fields_stay, plain_field, plain_is_of}
-use Rattle.sheet_history.specs.Entries.{EntryKey, EntryValue, sheet_id_of, sheet_entry, with_sheet_entry, cell_stands_at, is_kept, value_fits, with_changed, entry_at, put_entry, accepts, bare_sheet, frame_of}
-use Rattle.sheet_history.specs.Entries.EntryKey.{CellKey, LinkKey, MergesKey, FieldKey, AttrKey}
-use Rattle.sheet_history.specs.Entries.EntryValue.{CellValue, LinkValue, MergesValue, FieldValue, AttrValue}
+use Rattle.sheet_history.specs.declared.setting.Setting.TheVariants as setting
+use Rattle.sheet_history.specs.Settings.{SettingKind, setting_in, plain_setting, without_settings}
+use Rattle.sheet_history.specs.Settings.SettingKind.{ThemeSetting, NameSetting, LocaleSetting, ZoneSetting}
+use Rattle.sheet_history.specs.laws.SettingLaws.{plain_is_of_kind, setting_in-with_kind, setting_in-with_kind_other, setting_in-with_sheets, sheets-with_kind, rest-with_kind}
+use Rattle.sheet_history.specs.Entries.{EntryKey, EntryValue, setting_of, sheet_id_of, sheet_entry, with_sheet_entry, cell_stands_at, is_kept, value_fits, with_changed, with_value, is_value_of, entry_found, entry_placed, entry_accepted, entry_at, put_entry, accepts, bare_sheet, frame_of}
+use Rattle.sheet_history.specs.Entries.EntryKey.{CellKey, LinkKey, MergesKey, FieldKey, AttrKey, SettingKey}
+use Rattle.sheet_history.specs.Entries.EntryValue.{CellValue, LinkValue, MergesValue, FieldValue, AttrValue, SettingValue}
 
 -- the value of a key that stands for nothing
 abbrev pub nothing_at : EntryKey → EntryValue
@@ -45,6 +55,7 @@ nothing_at (LinkKey id place) = LinkValue None
 nothing_at (MergesKey id) = MergesValue []
 nothing_at (FieldKey id field) = FieldValue (plain_field field)
 nothing_at (AttrKey id axis line) = AttrValue None
+nothing_at (SettingKey kind) = SettingValue (plain_setting kind)
 
 pub decide : {G : Type 0} (b : Bool) → (b ≡ true → G) → (b ≡ false → G) → G
 decide true hit miss = hit refl
@@ -218,18 +229,18 @@ frozen_columns_of (FieldValue (value.FrozenColumns v)) = v
 frozen_columns_of _ = pos 0
 
 -- a sheet is its entries and the rest
-same_sheet : (s t : Sheet) → bare_sheet s ≡ bare_sheet t → ((k : EntryKey) → sheet_id_of k ≡ s.id → sheet_entry k s ≡ sheet_entry k t) → s ≡ t
+same_sheet : (s t : Sheet) → bare_sheet s ≡ bare_sheet t → ((k : EntryKey) → setting_of k ≡ None → sheet_id_of k ≡ s.id → sheet_entry k s ≡ sheet_entry k t) → s ≡ t
 same_sheet s t e entries =
-    let cells : s.cells ≡ t.cells = fin.same_map position_total exact_positions s.cells t.cells (λ place. ap cell_of (entries (CellKey s.id place) refl)) in
-    let links : s.links ≡ t.links = fin.same_map position_total exact_positions s.links t.links (λ place. ap link_of (entries (LinkKey s.id place) refl)) in
-    let rows : s.rows ≡ t.rows = fin.same_map int_cmp_total exact_signed s.rows t.rows (λ line. ap attr_of (entries (AttrKey s.id Rows line) refl)) in
-    let columns : s.columns ≡ t.columns = fin.same_map int_cmp_total exact_signed s.columns t.columns (λ line. ap attr_of (entries (AttrKey s.id Columns line) refl)) in
-    let merges : s.merges ≡ t.merges = ap merges_of (entries (MergesKey s.id) refl) in
-    let color : s.color ≡ t.color = ap color_of (entries (FieldKey s.id ColorField) refl) in
-    let state : s.state ≡ t.state = ap state_of (entries (FieldKey s.id StateField) refl) in
-    let grid : s.show_grid_lines ≡ t.show_grid_lines = ap grid_of (entries (FieldKey s.id GridField) refl) in
-    let frozen_rows : s.frozen_rows ≡ t.frozen_rows = ap frozen_rows_of (entries (FieldKey s.id FrozenRowsField) refl) in
-    let frozen_columns : s.frozen_columns ≡ t.frozen_columns = ap frozen_columns_of (entries (FieldKey s.id FrozenColumnsField) refl) in
+    let cells : s.cells ≡ t.cells = fin.same_map position_total exact_positions s.cells t.cells (λ place. ap cell_of (entries (CellKey s.id place) refl refl)) in
+    let links : s.links ≡ t.links = fin.same_map position_total exact_positions s.links t.links (λ place. ap link_of (entries (LinkKey s.id place) refl refl)) in
+    let rows : s.rows ≡ t.rows = fin.same_map int_cmp_total exact_signed s.rows t.rows (λ line. ap attr_of (entries (AttrKey s.id Rows line) refl refl)) in
+    let columns : s.columns ≡ t.columns = fin.same_map int_cmp_total exact_signed s.columns t.columns (λ line. ap attr_of (entries (AttrKey s.id Columns line) refl refl)) in
+    let merges : s.merges ≡ t.merges = ap merges_of (entries (MergesKey s.id) refl refl) in
+    let color : s.color ≡ t.color = ap color_of (entries (FieldKey s.id ColorField) refl refl) in
+    let state : s.state ≡ t.state = ap state_of (entries (FieldKey s.id StateField) refl refl) in
+    let grid : s.show_grid_lines ≡ t.show_grid_lines = ap grid_of (entries (FieldKey s.id GridField) refl refl) in
+    let frozen_rows : s.frozen_rows ≡ t.frozen_rows = ap frozen_rows_of (entries (FieldKey s.id FrozenRowsField) refl refl) in
+    let frozen_columns : s.frozen_columns ≡ t.frozen_columns = ap frozen_columns_of (entries (FieldKey s.id FrozenColumnsField) refl refl) in
     λ i. record (e i) {
       state = state i;
       color = color i;
@@ -242,6 +253,55 @@ same_sheet s t e entries =
       columns = columns i;
       merges = merges i;
     }
+
+-- ---- the settings
+
+-- a key that names a setting is its key
+pub key_of_setting : (k : EntryKey) (kind : SettingKind) → setting_of k ≡ Some kind → k ≡ SettingKey kind
+key_of_setting (SettingKey one) kind is = let same : one ≡ kind = cc in ap SettingKey same
+key_of_setting _ kind is = absurd (let never : ◌≡◌ {A = Option SettingKind} None (Some kind) = is in cc)
+
+-- what may stand at a key of a sheet is of no setting
+pub of_sheet : (k : EntryKey) (v : EntryValue) → value_fits k v ≡ true → setting_of k ≡ None
+of_sheet (CellKey id place) v h = refl
+of_sheet (LinkKey id place) v h = refl
+of_sheet (MergesKey id) v h = refl
+of_sheet (FieldKey id field) v h = refl
+of_sheet (AttrKey id axis line) v h = refl
+of_sheet (SettingKey kind) v h = absurd (let never : false ≡ true = h in cc)
+
+setting-with_value : (kind : SettingKind) (v : EntryValue) (w : Book) → is_value_of kind v ≡ true → SettingValue (setting_in kind (with_value kind v w)) ≡ v
+setting-with_value kind (SettingValue v) w h = ap SettingValue (setting_in-with_kind kind v w h)
+setting-with_value kind _ w h = absurd (let never : false ≡ true = h in cc)
+
+setting-with_value_other : (kind : SettingKind) (v : EntryValue) (w : Book) (other : SettingKind) → (other ≢ kind)
+    → setting_in other (with_value kind v w) ≡ setting_in other w
+setting-with_value_other kind (SettingValue v) w other apart = setting_in-with_kind_other kind v w other apart
+setting-with_value_other kind _ w other apart = refl
+
+pub sheets-with_value : (kind : SettingKind) (v : EntryValue) (w : Book) → (with_value kind v w).worksheets ≡ w.worksheets
+sheets-with_value kind (SettingValue v) w = sheets-with_kind kind v w
+sheets-with_value kind _ w = refl
+
+rest-with_value : (kind : SettingKind) (v : EntryValue) (w : Book) → without_settings (with_value kind v w) ≡ without_settings w
+rest-with_value kind (SettingValue v) w = rest-with_kind kind v w
+rest-with_value kind _ w = refl
+
+abbrev theme_of : Option EntryValue → Theme
+theme_of (Some (SettingValue (setting.Theme v))) = v
+theme_of _ = default_theme
+
+abbrev title_of : Option EntryValue → List ℕ
+title_of (Some (SettingValue (setting.Name v))) = v
+title_of _ = []
+
+abbrev locale_of : Option EntryValue → Locale
+locale_of (Some (SettingValue (setting.Locale v))) = v
+locale_of _ = En
+
+abbrev zone_of : Option EntryValue → Zone
+zone_of (Some (SettingValue (setting.Zone v))) = v
+zone_of _ = Utc
 
 -- ---- sheets by their ids
 
@@ -305,20 +365,29 @@ map_constant f y e (Some x) h = ap Some (e x)
 
 -- ---- the laws
 
--- what was put is got
-pub entry_at-put_entry : (w : Book) (k : EntryKey) (v : EntryValue) → accepts w k v ≡ true → entry_at (put_entry w k v) k ≡ Some v
-unfolding entry_at put_entry accepts
-entry_at-put_entry w k v h =
+found-placed : (o : Option SettingKind) (w : Book) (k : EntryKey) (v : EntryValue) → entry_accepted o k v w ≡ true → entry_found o k (entry_placed o k v w) ≡ Some v
+found-placed (Some kind) w k v h = λ i. Some (setting-with_value kind v w h i)
+found-placed None w k v h =
     let id : ℕ = sheet_id_of k in
     let parts = both (is_some (by_id id w.worksheets)) (value_fits k v) h in
     ap (option_map (sheet_entry k)) (found-changed (with_sheet_entry k v) (id-with_sheet_entry k v) id w.worksheets)
     ∙ map_twice (with_sheet_entry k v) (sheet_entry k) (by_id id w.worksheets)
     ∙ map_constant (λ s. sheet_entry k (with_sheet_entry k v s)) v (λ s. entry-with_sheet_entry s k v parts.1) (by_id id w.worksheets) parts.0
 
--- the entry of every other key stays
-pub entry_at-put_entry_other : (w : Book) (k : EntryKey) (v : EntryValue) (q : EntryKey) → (q ≢ k) → entry_at (put_entry w k v) q ≡ entry_at w q
-unfolding entry_at put_entry
-entry_at-put_entry_other w k v q apart =
+-- what was put is got
+pub entry_at-put_entry : (w : Book) (k : EntryKey) (v : EntryValue) → accepts w k v ≡ true → entry_at (put_entry w k v) k ≡ Some v
+unfolding entry_at put_entry accepts
+entry_at-put_entry w k v h = found-placed (setting_of k) w k v h
+
+found-placed_other : (o p : Option SettingKind) (w : Book) (k : EntryKey) (v : EntryValue) (q : EntryKey) → setting_of k ≡ o → setting_of q ≡ p → (q ≢ k)
+    → entry_found p q (entry_placed o k v w) ≡ entry_found p q w
+found-placed_other (Some one) (Some two) w k v q own is apart =
+    let others : (two ≢ one) = λ same. apart (key_of_setting q two is ∙ ap SettingKey same ∙ sym (key_of_setting k one own)) in
+    λ i. Some (SettingValue (setting-with_value_other one v w two others i))
+found-placed_other (Some one) None w k v q own is apart = λ i. option_map (sheet_entry q) (by_id (sheet_id_of q) (sheets-with_value one v w i))
+found-placed_other None (Some two) w k v q own is apart =
+    λ i. Some (SettingValue (setting_in-with_sheets two w (with_changed (sheet_id_of k) (with_sheet_entry k v) w.worksheets) i))
+found-placed_other None None w k v q own is apart =
     let id : ℕ = sheet_id_of k in
     let other : ℕ = sheet_id_of q in
     let change : Sheet → Sheet = with_sheet_entry k v in
@@ -334,32 +403,65 @@ entry_at-put_entry_other w k v q apart =
     let ids : (other ≢ id) = λ e. true≢false (sym ((unsigned_Decides other id).1 e) ∙ miss) in
     ap (option_map (sheet_entry q)) (found-changed_other change (id-with_sheet_entry k v) id other ids w.worksheets))
 
+-- the entry of every other key stays
+pub entry_at-put_entry_other : (w : Book) (k : EntryKey) (v : EntryValue) (q : EntryKey) → (q ≢ k) → entry_at (put_entry w k v) q ≡ entry_at w q
+unfolding entry_at put_entry
+entry_at-put_entry_other w k v q apart = found-placed_other (setting_of k) (setting_of q) w k v q refl refl apart
+
+frame_of-placed : (o : Option SettingKind) (w : Book) (k : EntryKey) (v : EntryValue) → frame_of (entry_placed o k v w) ≡ frame_of w
+unfolding frame_of
+frame_of-placed None w k v =
+    λ i. record (without_settings w) { worksheets = map-changed (with_sheet_entry k v) (id-with_sheet_entry k v) bare_sheet (bare-with_sheet_entry k v) (sheet_id_of k) w.worksheets i }
+frame_of-placed (Some kind) w k v = λ i. record (rest-with_value kind v w i) { worksheets = map bare_sheet (sheets-with_value kind v w i) }
+
 -- what is no entry stays
 pub frame_of-put_entry : (w : Book) (k : EntryKey) (v : EntryValue) → frame_of (put_entry w k v) ≡ frame_of w
-unfolding frame_of put_entry
-frame_of-put_entry w k v = λ i. record w { worksheets = map-changed (with_sheet_entry k v) (id-with_sheet_entry k v) bare_sheet (bare-with_sheet_entry k v) (sheet_id_of k) w.worksheets i }
+unfolding put_entry
+frame_of-put_entry w k v = frame_of-placed (setting_of k) w k v
 
 is_there-frame_of : (w w2 : Book) (id : ℕ) → frame_of w ≡ frame_of w2 → is_some (by_id id w.worksheets) ≡ is_some (by_id id w2.worksheets)
 unfolding frame_of
 is_there-frame_of w w2 id e = is_some-bare id w.worksheets ∙ ap (λ (b : Book). is_some (by_id id b.worksheets)) e ∙ sym (is_some-bare id w2.worksheets)
 
+accepted-frame_of : (o : Option SettingKind) (w w2 : Book) (k : EntryKey) (v : EntryValue) → frame_of w ≡ frame_of w2 → entry_accepted o k v w ≡ entry_accepted o k v w2
+accepted-frame_of None w w2 k v e = ap (λ b. b && value_fits k v) (is_there-frame_of w w2 (sheet_id_of k) e)
+accepted-frame_of (Some kind) w w2 k v e = refl
+
 -- what can be put, and which entries are there, is a matter of the frame
 pub accepts-frame_of : (w w2 : Book) (k : EntryKey) (v : EntryValue) → frame_of w ≡ frame_of w2 → accepts w k v ≡ accepts w2 k v
 unfolding accepts
-accepts-frame_of w w2 k v e = ap (λ b. b && value_fits k v) (is_there-frame_of w w2 (sheet_id_of k) e)
+accepts-frame_of w w2 k v e = accepted-frame_of (setting_of k) w w2 k v e
+
+is_some-found : (o : Option SettingKind) (w w2 : Book) (k : EntryKey) → frame_of w ≡ frame_of w2 → is_some (entry_found o k w) ≡ is_some (entry_found o k w2)
+is_some-found None w w2 k e =
+    is_some-map (sheet_entry k) (by_id (sheet_id_of k) w.worksheets) ∙ is_there-frame_of w w2 (sheet_id_of k) e
+    ∙ sym (is_some-map (sheet_entry k) (by_id (sheet_id_of k) w2.worksheets))
+is_some-found (Some kind) w w2 k e = refl
 
 pub is_some-entry_at : (w w2 : Book) (k : EntryKey) → frame_of w ≡ frame_of w2 → is_some (entry_at w k) ≡ is_some (entry_at w2 k)
 unfolding entry_at
-is_some-entry_at w w2 k e =
-    is_some-map (sheet_entry k) (by_id (sheet_id_of k) w.worksheets) ∙ is_there-frame_of w w2 (sheet_id_of k) e
-    ∙ sym (is_some-map (sheet_entry k) (by_id (sheet_id_of k) w2.worksheets))
+is_some-entry_at w w2 k e = is_some-found (setting_of k) w w2 k e
+
+accepted-nothing_at : (o : Option SettingKind) (w : Book) (k : EntryKey) (v : EntryValue) → setting_of k ≡ o → entry_accepted o k v w ≡ true
+    → entry_accepted o k (nothing_at k) w ≡ true
+accepted-nothing_at None w k v is h =
+    let parts = both (is_some (by_id (sheet_id_of k) w.worksheets)) (value_fits k v) h in
+    λ i. parts.0 i && nothing_fits k v parts.1 i
+accepted-nothing_at (Some kind) w k v is h = (λ i. is_value_of kind (nothing_at (key_of_setting k kind is i))) ∙ plain_is_of_kind kind
 
 -- where something can be put, so can nothing
 pub accepts-nothing_at : (w : Book) (k : EntryKey) (v : EntryValue) → accepts w k v ≡ true → accepts w k (nothing_at k) ≡ true
 unfolding accepts
-accepts-nothing_at w k v h =
-    let parts = both (is_some (by_id (sheet_id_of k) w.worksheets)) (value_fits k v) h in
-    λ i. parts.0 i && nothing_fits k v parts.1 i
+accepts-nothing_at w k v h = accepted-nothing_at (setting_of k) w k v refl h
+
+-- a setting is there, and takes each value of its own
+pub entry_at-setting : (w : Book) (kind : SettingKind) → entry_at w (SettingKey kind) ≡ Some (SettingValue (setting_in kind w))
+unfolding entry_at
+entry_at-setting w kind = refl
+
+pub accepts-setting : (w : Book) (kind : SettingKind) (v : EntryValue) → is_value_of kind v ≡ true → accepts w (SettingKey kind) v ≡ true
+unfolding accepts
+accepts-setting w kind v h = h
 
 none_there : (id : ℕ) (ss ts : List Sheet) → map bare_sheet ss ≡ map bare_sheet ts → by_id id ss ≡ None → by_id id ts ≡ None
 none_there id ss ts e none = go (by_id id ts) (sym (is_some-bare id ts ∙ ap (λ l. is_some (by_id id l)) (sym e) ∙ sym (is_some-bare id ss) ∙ ap is_some none))
@@ -376,7 +478,7 @@ not_found id (s ∷ ss) others =
     (λ i. cond (missed i) (Some s) (by_id id ss)) ∙ not_found id ss others.1
 
 same_sheets : (ss ts : List Sheet) → IsDistinct ◌==◌ (map (λ (s : Sheet). s.id) ss) → map bare_sheet ss ≡ map bare_sheet ts
-    → ((k : EntryKey) → option_map (sheet_entry k) (by_id (sheet_id_of k) ss) ≡ option_map (sheet_entry k) (by_id (sheet_id_of k) ts)) → ss ≡ ts
+    → ((k : EntryKey) → setting_of k ≡ None → option_map (sheet_entry k) (by_id (sheet_id_of k) ss) ≡ option_map (sheet_entry k) (by_id (sheet_id_of k) ts)) → ss ≡ ts
 unfolding IsDistinct
 same_sheets [] [] own e entries = refl
 same_sheets [] (t ∷ ts) own e entries = absurd (cc)
@@ -387,14 +489,14 @@ same_sheets (s ∷ ss) (t ∷ ts) own e entries =
     let ids : s.id ≡ t.id = ap (λ x. x.id) heads in
     let mine : s.id == s.id ≡ true = (unsigned_Decides s.id s.id).1 refl in
     let other : t.id == s.id ≡ true = (unsigned_Decides t.id s.id).1 (sym ids) in
-    let one : s ≡ t = same_sheet s t heads (λ k own_key.
+    let one : s ≡ t = same_sheet s t heads (λ k none own_key.
     let here : Some (sheet_entry k s) ≡ Some (sheet_entry k t) =
     (λ i. option_map (sheet_entry k) (cond (sym mine i) (Some s) (by_id s.id ss)))
-    ∙ (λ i. option_map (sheet_entry k) (by_id (sym own_key i) (s ∷ ss))) ∙ entries k
+    ∙ (λ i. option_map (sheet_entry k) (by_id (sym own_key i) (s ∷ ss))) ∙ entries k none
     ∙ (λ i. option_map (sheet_entry k) (by_id (own_key i) (t ∷ ts)))
     ∙ (λ i. option_map (sheet_entry k) (cond (other i) (Some t) (by_id s.id ts))) in
     cc) in
-    let rest : ss ≡ ts = same_sheets ss ts own.1 tails (λ k.
+    let rest : ss ≡ ts = same_sheets ss ts own.1 tails (λ k of_one.
     decide (s.id == sheet_id_of k)
     (λ hit.
     let is : s.id ≡ sheet_id_of k = (unsigned_Decides s.id (sheet_id_of k)).0 hit in
@@ -402,7 +504,7 @@ same_sheets (s ∷ ss) (t ∷ ts) own e entries =
     ap (option_map (sheet_entry k)) (none ∙ sym (none_there (sheet_id_of k) ss ts tails none)))
     (λ miss.
     let missed : t.id == sheet_id_of k ≡ false = ap (λ n. n == sheet_id_of k) (sym ids) ∙ miss in
-    (λ i. option_map (sheet_entry k) (cond (sym miss i) (Some s) (by_id (sheet_id_of k) ss))) ∙ entries k
+    (λ i. option_map (sheet_entry k) (cond (sym miss i) (Some s) (by_id (sheet_id_of k) ss))) ∙ entries k of_one
     ∙ (λ i. option_map (sheet_entry k) (cond (missed i) (Some t) (by_id (sheet_id_of k) ts))))) in
     λ i. one i ∷ rest i
 
@@ -410,5 +512,10 @@ same_sheets (s ∷ ss) (t ∷ ts) own e entries =
 pub same_book : (w w2 : Book) → HasDistinctIds w → frame_of w ≡ frame_of w2 → ((k : EntryKey) → entry_at w k ≡ entry_at w2 k) → w ≡ w2
 unfolding frame_of entry_at
 same_book w w2 own e entries =
-    let sheets : w.worksheets ≡ w2.worksheets = same_sheets w.worksheets w2.worksheets own (ap (λ (b : Book). b.worksheets) e) entries in
-    λ i. record (e i) { worksheets = sheets i }
+    let sheets : w.worksheets ≡ w2.worksheets = same_sheets w.worksheets w2.worksheets own (ap (λ (b : Book). b.worksheets) e)
+    (λ k none. subst (λ o. entry_found o k w ≡ entry_found o k w2) none (entries k)) in
+    let theme : w.theme ≡ w2.theme = ap theme_of (entries (SettingKey ThemeSetting)) in
+    let name : w.name ≡ w2.name = ap title_of (entries (SettingKey NameSetting)) in
+    let locale : w.locale ≡ w2.locale = ap locale_of (entries (SettingKey LocaleSetting)) in
+    let zone : w.zone ≡ w2.zone = ap zone_of (entries (SettingKey ZoneSetting)) in
+    λ i. record (e i) { theme = theme i; name = name i; locale = locale i; zone = zone i; worksheets = sheets i }

@@ -14,11 +14,11 @@ use Rattle.cell_content.specs.laws.LensLaws.{tree_of-with_tree}
 use Rattle.base_maps.specs.Carried.{if_there}
 use Rattle.line_map.specs.Contents.{with_new_tree, content_carried, cell_carried, cell_part}
 use Rattle.line_map.specs.Maps.{places_carried}
-use Rattle.line_trees.specs.Trees.{tree_carried, tree_part}
-use Rattle.line_trees.specs.Way.{Way, IsWay, at, back, place_goes}
+use Rattle.line_routes.specs.Trees.{tree_carried, tree_part}
+use Rattle.line_routes.specs.Way.{Way, IsWay, at, back, place_goes}
 use Rattle.base_maps.specs.laws.CarriedLaws.{get-carried_map}
-use Rattle.line_trees.specs.laws.TreeLaws.{tree_restores}
-use Rattle.line_trees.specs.laws.WayLaws.{goes_inverse}
+use Rattle.line_routes.specs.laws.TreeLaws.{tree_restores}
+use Rattle.line_routes.specs.laws.WayLaws.{goes_inverse}
 use Rattle.sheet_grid.specs.declared.Cell.{Cell}
 use Rattle.sheet_grid.specs.laws.FittingCells.{entry_fits_at}
 use Rattle.sheet_history.specs.LineDiffs.{is_formula, is_formula_at}

@@ -1,5 +1,5 @@
 -- The conditions of a diff of lines hold of what is kept of a workbook: the edit is made, and taken back.
-use Rattle.std.proofs.Common.{◌≡◌, ℕ, ℤ, pos, ◌+ℤ◌, ◌⊎◌, inl, inr, Bool, true, false, cond, List, [], ◌∷◌, map, Option, Some, None, Ok, Err, refl, ap, sym, subst, ◌∙◌, arith}
+use Rattle.std.proofs.Common.{◌≡◌, ℕ, ℤ, pos, ◌+ℤ◌, ◌⊎◌, inl, inr, Bool, true, false, cond, List, map, Option, Some, None, Ok, Err, refl, ap, sym, subst, ◌∙◌, arith}
 use Rattle.std.specs.Prelude.{IsTrue, IfSome, length, not, ◌&&◌, ◌==◌, is_none, int_le, int_lt, nat_lt, if◌then◌else◌}
 use Rattle.std.specs.List.{AllByRecursion, list_all, find}
 use Rattle.std.specs.declared.cmp.Ordering.{Ordering}
@@ -34,13 +34,13 @@ use Rattle.line_edits.specs.Edit.{image_at, goes_to, within, opposite_of, IsVali
 use Rattle.base_maps.specs.Carried.{if_there, lost_map}
 use Rattle.line_map.specs.Contents.{cell_carried, cell_part}
 use Rattle.line_map.specs.Maps.{places_carried}
-use Rattle.line_map.specs.Merges.{merges_carried, merges_part}
-use Rattle.line_trees.specs.Trial.{comes_back, part_by_trial}
+use Rattle.line_routes.specs.Merges.{merges_carried, merges_part}
+use Rattle.line_routes.specs.Trial.{comes_back, part_by_trial}
 use Rattle.line_edits.specs.Moves.{at_line, edit_moves, place_image}
-use Rattle.line_trees.specs.Way.{Way, at, back, place_goes}
+use Rattle.line_routes.specs.Way.{Way, at, back, place_goes}
 use Rattle.base_maps.specs.laws.Gathering.{get-lost_map}
 use Rattle.base_maps.specs.laws.CarriedLaws.{get-carried_map}
-use Rattle.line_trees.specs.laws.WayLaws.{goes_inverse}
+use Rattle.line_routes.specs.laws.WayLaws.{goes_inverse}
 use Rattle.rule_edits.specs.RuleChanges as rule_changes
 use Rattle.rule_lines.specs.Rules.{are_there, formatting_carried, formatting_part, rules_kept}
 use Rattle.base_maps.specs.laws.ByIndexLaws.{kept_are, kept_within}
@@ -67,6 +67,7 @@ use Rattle.sheet_history.specs.laws.Depth.{AreShallowLines, is_shallow_rule}
 use Rattle.sheet_history.specs.LineDiffs.{is_pushed_past, stays_inside, is_there_inside, is_lost_place, is_lost_line, all_keys, stand_on_lost, merges_inside, parts_inside, lie_inside, tree_stands, formulas_stand, each_stands, formattings_stand, goes_on, goes_forward, goes_back, lines_forward, lines_back}
 use Rattle.book_sheets.specs.SheetDiffs.{lies_inside, cells_fit}
 use Rattle.book_names.specs.RenameDiffs.{stand_on_places}
+use Rattle.book_names.specs.laws.Entries.{found_same}
 use Rattle.sheet_history.specs.laws.Entries.{all_entries, entry_holds}
 use Rattle.sheet_history.specs.laws.RuleLaws.{KeepsSheetRules, sheet_rules}
 use Rattle.sheet_history.specs.laws.SoundEntries.{array_inside, sheet_merges_inside}
@@ -200,16 +201,7 @@ module _ (a : Along) (l : IsAxis a) (e : EditKind) (valid : IsValid a.last e) (i
   -- the sheets of the later workbook, found by their ids
   followed_found : (edited : List ℕ) (n : ℕ) (sheets : List Sheet) (sheet : Sheet) → find (λ s. s.id == n) sheets ≡ Some sheet
       → find (λ s. s.id == n) (map (λ s. sheet_followed (way_on edited s) s) sheets) ≡ Some (sheet_followed (way_on edited sheet) sheet)
-  followed_found edited n [] sheet h = absurd (cc)
-  followed_found edited n (s ∷ sheets) sheet h = go (followed_found edited n sheets sheet) (s.id == n) refl h
-    where
-      later : List Sheet
-      later = map (λ s. sheet_followed (way_on edited s) s) sheets
-
-      go : (find (λ s. s.id == n) sheets ≡ Some sheet → find (λ s. s.id == n) later ≡ Some (sheet_followed (way_on edited sheet) sheet)) → (b : Bool) → (s.id == n) ≡ b
-          → cond b (Some s) (find (λ s. s.id == n) sheets) ≡ Some sheet → cond (s.id == n) (Some (sheet_followed (way_on edited s) s)) (find (λ s. s.id == n) later) ≡ Some (sheet_followed (way_on edited sheet) sheet)
-      go rest true is it = let same : s ≡ sheet = cc in ap (λ b. cond b (Some (sheet_followed (way_on edited s) s)) (find (λ s. s.id == n) later)) is ∙ ap (λ t. Some (sheet_followed (way_on edited t) t)) same
-      go rest false is it = ap (λ b. cond b (Some (sheet_followed (way_on edited s) s)) (find (λ s. s.id == n) later)) is ∙ rest it
+  followed_found edited n sheets sheet = found_same (λ (s : Sheet). sheet_followed (way_on edited s) s) (λ (s : Sheet). s.id == n) (λ (s : Sheet). s.id == n) (λ s. refl) sheets sheet
 
   module _ (book : Book) (rules : IsWellFormed book) where
     abbrev kept : KeptLines

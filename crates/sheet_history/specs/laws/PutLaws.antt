@@ -10,7 +10,7 @@ use Rattle.base_values.specs.Answers.{Edits, map_ok, ok_or}
 use Rattle.sheet_grid.specs.Sheet.{Sheet}
 use Rattle.sheet_grid.specs.Book.{Book, index_of, sheet_at, with_sheet}
 use Rattle.sheet_lines.specs.Sheets.{sheet_of}
-use Rattle.sheet_history.specs.Entries.{EntryKey, EntryValue, sheet_id_of, sheet_entry, with_sheet_entry, value_fits, with_changed, entry_at, put_entry, accepts}
+use Rattle.sheet_history.specs.Entries.{EntryKey, EntryValue, setting_of, sheet_id_of, sheet_entry, with_sheet_entry, value_fits, with_changed, entry_found, entry_placed, entry_accepted, entry_at, put_entry, accepts}
 use Rattle.sheet_history.specs.Entries.EntryKey.{FieldKey}
 use Rattle.sheet_history.specs.Entries.EntryValue.{FieldValue}
 use Rattle.sheet_history.specs.declared.field.SheetField.{SheetField}
@@ -91,27 +91,24 @@ pub put_in-refused : (at : ℕ) (w : Book) (k : EntryKey) (v : EntryValue) → a
 unfolding put_in
 put_in-refused at w k v h = ap (λ b. cond b (Ok (put_entry w k v)) (Err (DiffRefused 0 at))) h
 
-pub accepts-missing : (w : Book) (k : EntryKey) (v : EntryValue) → index_of w (sheet_id_of k) ≡ None → accepts w k v ≡ false
+pub accepts-missing : (w : Book) (k : EntryKey) (v : EntryValue) → setting_of k ≡ None → index_of w (sheet_id_of k) ≡ None → accepts w k v ≡ false
 unfolding accepts
-accepts-missing w k v e = ap (λ o. is_some o && value_fits k v) (missing w (sheet_id_of k) e)
-
-pub accepts-found : (w : Book) (k : EntryKey) (v : EntryValue) (i : ℕ) → index_of w (sheet_id_of k) ≡ Some i → value_fits k v ≡ true → accepts w k v ≡ true
-unfolding accepts
-accepts-found w k v i e h = λ j. is_some ((found w (sheet_id_of k) i e).by j) && h j
+accepts-missing w k v none e = (λ j. entry_accepted (none j) k v w) ∙ ap (λ o. is_some o && value_fits k v) (missing w (sheet_id_of k) e)
 
 -- an entry that is put changes the sheet at the index of its sheet's id
-pub put_entry-found : (w : Book) (k : EntryKey) (v : EntryValue) (i : ℕ) (sheet : Sheet) → index_of w (sheet_id_of k) ≡ Some i → slice_get w.worksheets i ≡ Some sheet
+pub put_entry-found : (w : Book) (k : EntryKey) (v : EntryValue) → setting_of k ≡ None → (i : ℕ) (sheet : Sheet) → index_of w (sheet_id_of k) ≡ Some i → slice_get w.worksheets i ≡ Some sheet
     → put_entry w k v ≡ with_sheet w i (with_sheet_entry k v sheet)
 unfolding put_entry
-put_entry-found w k v i sheet e at =
+put_entry-found w k v none i sheet e at =
     let it = found w (sheet_id_of k) i e in
     let same : it.sheet ≡ sheet = same_Some it.sheet sheet (sym it.at ∙ at) in
-    λ j. record w { worksheets = (sym (it.put (with_sheet_entry k v)) ∙ ap (λ s. slice_set w.worksheets i (with_sheet_entry k v s)) same) j }
+    (λ j. entry_placed (none j) k v w)
+    ∙ (λ j. record w { worksheets = (sym (it.put (with_sheet_entry k v)) ∙ ap (λ s. slice_set w.worksheets i (with_sheet_entry k v s)) same) j })
 
 -- what a sheet has at a key is what its workbook has
-pub entry_at-found : (w : Book) (k : EntryKey) (sheet : Sheet) → sheet_of w (sheet_id_of k) ≡ Some sheet → entry_at w k ≡ Some (sheet_entry k sheet)
+pub entry_at-found : (w : Book) (k : EntryKey) → setting_of k ≡ None → (sheet : Sheet) → sheet_of w (sheet_id_of k) ≡ Some sheet → entry_at w k ≡ Some (sheet_entry k sheet)
 unfolding entry_at
-entry_at-found w k sheet there = ap (option_map (sheet_entry k)) there
+entry_at-found w k none sheet there = (λ j. entry_found (none j) k w) ∙ ap (option_map (sheet_entry k)) there
 
 either_put : (w : Book) (i : ℕ) (at : ℕ) (b : Bool) (next : Sheet)
     → ◌≡◌ {A = Result Book EditError} (cond b (Ok (with_sheet w i next)) (Err (DiffRefused 0 at))) (map_ok (with_sheet w i) (cond b (Ok next) (Err (DiffRefused 0 at))))
@@ -119,11 +116,12 @@ either_put w i at true next = refl
 either_put w i at false next = refl
 
 -- a value is put in the sheet at the index of its sheet's id
-pub put_in-found : (at : ℕ) (w : Book) (k : EntryKey) (v : EntryValue) (i : ℕ) (sheet : Sheet) → index_of w (sheet_id_of k) ≡ Some i → slice_get w.worksheets i ≡ Some sheet
+pub put_in-found : (at : ℕ) (w : Book) (k : EntryKey) (v : EntryValue) → setting_of k ≡ None → (i : ℕ) (sheet : Sheet) → index_of w (sheet_id_of k) ≡ Some i → slice_get w.worksheets i ≡ Some sheet
     → put_in at w k v ≡ map_ok (with_sheet w i) (sheet_put at k v sheet)
 unfolding put_in accepts
-put_in-found at w k v i sheet e is =
-    (λ j. cond (is_some (at_index w (sheet_id_of k) i sheet e is j) && value_fits k v) (Ok (put_entry-found w k v i sheet e is j)) (Err (DiffRefused 0 at)))
+put_in-found at w k v none i sheet e is =
+    (λ j. cond (entry_accepted (none j) k v w) (Ok (put_entry w k v)) (Err (DiffRefused 0 at)))
+    ∙ (λ j. cond (is_some (at_index w (sheet_id_of k) i sheet e is j) && value_fits k v) (Ok (put_entry-found w k v none i sheet e is j)) (Err (DiffRefused 0 at)))
     ∙ either_put w i at (value_fits k v) (with_sheet_entry k v sheet)
 
 -- a value goes into its field
@@ -135,17 +133,17 @@ sheet_put-field at id (value.FrozenRows count) s = refl
 sheet_put-field at id (value.FrozenColumns count) s = refl
 
 -- an edit of that sheet is one of the workbook
-pub Edits-put_in : (at : ℕ) (w : Book) (k : EntryKey) (v : EntryValue) (i : ℕ) (old new : Sheet) (result : Result (Unit {0}) EditError)
+pub Edits-put_in : (at : ℕ) (w : Book) (k : EntryKey) (v : EntryValue) → setting_of k ≡ None → (i : ℕ) (old new : Sheet) (result : Result (Unit {0}) EditError)
     → index_of w (sheet_id_of k) ≡ Some i → sheet_at w i ≡ Ok old → Edits result old new (sheet_put at k v old) → Edits result w (with_sheet w i new) (put_in at w k v)
-Edits-put_in at w k v i old new (Ok u) e is h = record {
-  done = put_in-found at w k v i old e (ok_or-some _ _ _ is) ∙ ap (map_ok (with_sheet w i)) h.done;
+Edits-put_in at w k v none i old new (Ok u) e is h = record {
+  done = put_in-found at w k v none i old e (ok_or-some _ _ _ is) ∙ ap (map_ok (with_sheet w i)) h.done;
   refused = tt;
 }
-Edits-put_in at w k v i old new (Err x) e is h = record {
+Edits-put_in at w k v none i old new (Err x) e is h = record {
   done = tt;
   refused = (
     ap (with_sheet w i) h.refused.0 ∙ (λ j. record w { worksheets = set_found w.worksheets i old (ok_or-some _ _ _ is) j }),
-    λ other. put_in-found at w k v i old e (ok_or-some _ _ _ is) ∙ ap (map_ok (with_sheet w i)) (h.refused.1 other),
+    λ other. put_in-found at w k v none i old e (ok_or-some _ _ _ is) ∙ ap (map_ok (with_sheet w i)) (h.refused.1 other),
   );
 }
 

@@ -19,11 +19,13 @@ use Rattle.sheet_grid.specs.Book.{Book}
 use Rattle.sheet_lines.specs.Sheets.{sheet_of}
 use Rattle.sheet_history.specs.declared.diff.Diff.{Diff}
 use Rattle.sheet_history.specs.declared.diff.LineAxis.TheVariants.{Rows, Columns}
-use Rattle.sheet_history.specs.Entries.{EntryKey, EntryValue, key_cmp, sheet_id_of, sheet_entry, entry_at}
-use Rattle.sheet_history.specs.Entries.EntryKey.{CellKey, LinkKey, MergesKey, FieldKey, AttrKey}
+use Rattle.sheet_history.specs.Entries.{EntryKey, EntryValue, key_cmp, setting_of, sheet_id_of, sheet_entry, entry_found, entry_at}
+use Rattle.sheet_history.specs.Entries.EntryKey.{CellKey, LinkKey, MergesKey, FieldKey, AttrKey, SettingKey}
 use Rattle.sheet_history.specs.Entries.EntryValue.{CellValue, LinkValue, AttrValue}
 use Rattle.sheet_history.specs.Fields.{Field}
 use Rattle.sheet_history.specs.Fields.Field.{ColorField, StateField, GridField, FrozenRowsField, FrozenColumnsField}
+use Rattle.sheet_history.specs.Settings.{SettingKind, all_settings}
+use Rattle.sheet_history.specs.Settings.SettingKind.{ThemeSetting, NameSetting, LocaleSetting, ZoneSetting}
 use Rattle.sheet_history.specs.Records.{changed_entry, Change, change_of, IsRecord, diff_of, attr_keys, single_keys, sheet_keys, book_keys, change_at, changes_between, record_between}
 use Rattle.sheet_history.specs.laws.EntryLaws.{decide, by_id, nothing_at}
 use Rattle.sheet_history.specs.laws.RecordLaws.{holds, key_total, exact_keys, diff_of-change_of}
@@ -108,6 +110,22 @@ not_single key id FrozenRowsField none =
 not_single key id FrozenColumnsField none =
     apart_in key (FieldKey id FrozenColumnsField) (MergesKey id ∷ map (FieldKey id) (ColorField ∷ StateField ∷ GridField ∷ FrozenRowsField ∷ [])) [] none
 
+-- nor is one that is none of the settings' keys one of them
+not_setting : (key : EntryKey) (kind : SettingKind) → has_key key (map SettingKey all_settings) ≡ false → eq_by_cmp key_cmp key (SettingKey kind) ≡ false
+not_setting key ThemeSetting none =
+    apart_in key (SettingKey ThemeSetting) [] (map SettingKey (NameSetting ∷ LocaleSetting ∷ ZoneSetting ∷ [])) none
+not_setting key NameSetting none =
+    apart_in key (SettingKey NameSetting) (SettingKey ThemeSetting ∷ []) (map SettingKey (LocaleSetting ∷ ZoneSetting ∷ [])) none
+not_setting key LocaleSetting none =
+    apart_in key (SettingKey LocaleSetting) (map SettingKey (ThemeSetting ∷ NameSetting ∷ [])) (SettingKey ZoneSetting ∷ []) none
+not_setting key ZoneSetting none =
+    apart_in key (SettingKey ZoneSetting) (map SettingKey (ThemeSetting ∷ NameSetting ∷ LocaleSetting ∷ [])) [] none
+
+-- so it names no setting
+names_none : (key : EntryKey) → has_key key (map SettingKey all_settings) ≡ false → setting_of key ≡ None
+names_none (SettingKey kind) none = absurd (true≢false (sym (own_key key_cmp key_total exact_keys (SettingKey kind)) ∙ not_setting (SettingKey kind) kind none))
+names_none _ none = refl
+
 -- the keys of the cells of a sheet, of its links, of what its columns and its rows have, and of what it has once, where they have no key
 record HasNoKey (sheet : Sheet) (key : EntryKey) : Type 0 where
   cells : has_key key (map (CellKey sheet.id) (fin.keys sheet.cells)) ≡ false
@@ -142,6 +160,7 @@ nothing_in sheet (MergesKey id) own none =
 nothing_in sheet (FieldKey id field) own none =
     absurd (true≢false (sym (own_key key_cmp key_total exact_keys (FieldKey id field)) ∙ ap (λ n. eq_by_cmp key_cmp (FieldKey id field) (FieldKey n field)) (sym own)
     ∙ not_single (FieldKey id field) sheet.id field (no_key sheet (FieldKey id field) none).singles))
+nothing_in sheet (SettingKey kind) own none = refl
 
 -- so has a workbook, if the sheet is there
 nothing_there : (key : EntryKey) (sheets : List Sheet) → has_key key (flat_map sheet_keys sheets) ≡ false
@@ -166,13 +185,23 @@ no_change value None two = refl
 no_change value (Some one) None = refl
 no_change value (Some one) (Some two) = ap (λ b. cond b None (Some (value, value))) ((same_value_decides value value).1 refl)
 
+-- a key that is none of a workbook's is none of a setting, and none of its sheets'
+of_sheets : (book : Book) (key : EntryKey) → has_key key (book_keys book) ≡ false
+    → (has_key key (map SettingKey all_settings) ≡ false) × (has_key key (flat_map sheet_keys book.worksheets) ≡ false)
+of_sheets book key none =
+    neither (has_key key (map SettingKey all_settings)) (has_key key (flat_map sheet_keys book.worksheets))
+    (sym (list_any-append (eq_by_cmp key_cmp key) (map SettingKey all_settings) (flat_map sheet_keys book.worksheets)) ∙ none)
+
 -- at a key of neither workbook nothing differs
 unchanged : (earlier later : Book) (key : EntryKey) → has_key key (book_keys earlier ++ book_keys later) ≡ false
     → changed_entry (entry_at earlier key) (entry_at later key) ≡ None
 unfolding entry_at
 unchanged earlier later key none =
     let parts = neither (has_key key (book_keys earlier)) (has_key key (book_keys later)) (sym (list_any-append (eq_by_cmp key_cmp key) (book_keys earlier) (book_keys later)) ∙ none) in
-    (λ i. changed_entry (nothing_there key earlier.worksheets parts.0 i) (nothing_there key later.worksheets parts.1 i))
+    let one = of_sheets earlier key parts.0 in
+    let two = of_sheets later key parts.1 in
+    (λ i. changed_entry (entry_found (names_none key one.0 i) key earlier) (entry_found (names_none key one.0 i) key later))
+    ∙ (λ i. changed_entry (nothing_there key earlier.worksheets one.1 i) (nothing_there key later.worksheets two.1 i))
     ∙ no_change (nothing_at key) (sheet_of earlier (sheet_id_of key)) (sheet_of later (sheet_id_of key))
 
 -- at each key there is exactly the change there

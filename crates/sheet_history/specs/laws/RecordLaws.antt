@@ -10,13 +10,17 @@ use Rattle.sheet_history.specs.declared.diff.Diff.{Diff}
 use Rattle.sheet_history.specs.declared.diff.Diff.TheVariants.{Cell as CellDiff, Link as LinkDiff, Merges as MergesDiff, Field as FieldDiff, Lines as LinesDiff, NewSheet as NewDiff, DuplicateSheet as CopyDiff, DeleteSheet as DeletionDiff, MoveSheet as MoveDiff, RenameSheet as RenameDiff, ChangeName as NameDiff, Rule as RuleDiff, Attributes as AttrDiff, Setting as SettingDiff}
 use Rattle.sheet_history.specs.declared.diff.LineAxis.TheVariants.{Rows, Columns}
 use Rattle.sheet_history.specs.Entries.{EntryKey, Rank, rank_of, rank_cmp, key_cmp}
-use Rattle.sheet_history.specs.Entries.EntryKey.{CellKey, LinkKey, MergesKey, FieldKey, AttrKey}
-use Rattle.sheet_history.specs.Entries.EntryValue.{CellValue, LinkValue, MergesValue, FieldValue, AttrValue}
+use Rattle.sheet_history.specs.Entries.EntryKey.{CellKey, LinkKey, MergesKey, FieldKey, AttrKey, SettingKey}
+use Rattle.sheet_history.specs.Entries.EntryValue.{CellValue, LinkValue, MergesValue, FieldValue, AttrValue, SettingValue}
 use Rattle.sheet_history.specs.declared.field.FieldChange.{FieldChange}
 use Rattle.sheet_history.specs.declared.field.FieldChange.TheVariants as field_change
 use Rattle.sheet_history.specs.Fields.{old_of, new_of, changed_field}
 use Rattle.sheet_history.specs.Fields.Field.{ColorField, StateField, GridField, FrozenRowsField, FrozenColumnsField}
-use Rattle.sheet_history.specs.Records.{Change, change_of, field_diff, diff_of, IsRecord}
+use Rattle.sheet_history.specs.declared.setting.SettingChange.{SettingChange}
+use Rattle.sheet_history.specs.declared.setting.SettingChange.TheVariants as setting_change
+use Rattle.sheet_history.specs.Settings.{old_setting, new_setting, changed_setting}
+use Rattle.sheet_history.specs.Settings.SettingKind.{ThemeSetting, NameSetting, LocaleSetting, ZoneSetting}
+use Rattle.sheet_history.specs.Records.{Change, change_of, field_diff, setting_diff, diff_of, IsRecord}
 
 rank_total : IsTotalOrder rank_cmp
 rank_total =
@@ -34,7 +38,11 @@ key_of r =
     (cond (r.tag == 3) (AttrKey r.sheet Columns r.row)
     (cond (r.tag == 4) (AttrKey r.sheet Rows r.row)
     (cond (r.tag == 5) (MergesKey r.sheet)
-    (FieldKey r.sheet (cond (r.tag == 13) ColorField (cond (r.tag == 14) StateField (cond (r.tag == 15) GridField (cond (r.tag == 16) FrozenRowsField FrozenColumnsField)))))))))
+    (cond (r.tag == 18) (SettingKey ThemeSetting)
+    (cond (r.tag == 19) (SettingKey NameSetting)
+    (cond (r.tag == 20) (SettingKey LocaleSetting)
+    (cond (r.tag == 21) (SettingKey ZoneSetting)
+    (FieldKey r.sheet (cond (r.tag == 13) ColorField (cond (r.tag == 14) StateField (cond (r.tag == 15) GridField (cond (r.tag == 16) FrozenRowsField FrozenColumnsField)))))))))))))
 
 key_of-rank_of : (key : EntryKey) → key_of (rank_of key) ≡ key
 key_of-rank_of (CellKey sheet place) = refl
@@ -47,6 +55,10 @@ key_of-rank_of (FieldKey sheet FrozenRowsField) = refl
 key_of-rank_of (FieldKey sheet FrozenColumnsField) = refl
 key_of-rank_of (AttrKey sheet Rows line) = refl
 key_of-rank_of (AttrKey sheet Columns line) = refl
+key_of-rank_of (SettingKey ThemeSetting) = refl
+key_of-rank_of (SettingKey NameSetting) = refl
+key_of-rank_of (SettingKey LocaleSetting) = refl
+key_of-rank_of (SettingKey ZoneSetting) = refl
 
 exact_ranks : CmpEqualImpliesEq rank_cmp
 exact_ranks a b h =
@@ -69,6 +81,12 @@ own_diff sheet (field_change.GridLines old new) = refl
 own_diff sheet (field_change.FrozenRows old new) = refl
 own_diff sheet (field_change.FrozenColumns old new) = refl
 
+own_setting_diff : (one : SettingChange) → setting_diff (old_setting one) (new_setting one) ≡ SettingDiff one ∷ []
+own_setting_diff (setting_change.Theme old new) = refl
+own_setting_diff (setting_change.Name old new) = refl
+own_setting_diff (setting_change.Locale old new) = refl
+own_setting_diff (setting_change.Zone old new) = refl
+
 -- a diff is the one of its change
 pub diff_of-change_of : (diff : Diff) (change : Change) → change_of diff ≡ Some change → diff_of change.0 change.1.0 change.1.1 ≡ diff ∷ []
 diff_of-change_of (CellDiff sheet place old new) change h =
@@ -86,6 +104,9 @@ diff_of-change_of (FieldDiff sheet one) change h =
 diff_of-change_of (AttrDiff sheet axis line old new) change h =
     let same : ◌≡◌ {A = Change} (AttrKey sheet axis line, (AttrValue old, AttrValue new)) change = cc in
     ap (λ (c : Change). diff_of c.0 c.1.0 c.1.1) (sym same)
+diff_of-change_of (SettingDiff one) change h =
+    let same : ◌≡◌ {A = Change} (SettingKey (changed_setting one), (SettingValue (old_setting one), SettingValue (new_setting one))) change = cc in
+    ap (λ (c : Change). diff_of c.0 c.1.0 c.1.1) (sym same) ∙ own_setting_diff one
 diff_of-change_of (RuleDiff _ _) change h = absurd (cc)
 diff_of-change_of (LinesDiff _ _ _ _) change h = absurd (cc)
 diff_of-change_of (NewDiff _ _ _) change h = absurd (cc)
@@ -94,7 +115,6 @@ diff_of-change_of (DeletionDiff _ _) change h = absurd (cc)
 diff_of-change_of (MoveDiff _ _ _) change h = absurd (cc)
 diff_of-change_of (RenameDiff _ _ _ _) change h = absurd (cc)
 diff_of-change_of (NameDiff _ _) change h = absurd (cc)
-diff_of-change_of (SettingDiff _) change h = absurd (cc)
 
 -- diffs of one change are equal
 same_diff : (a b : Diff) (change : Change) → change_of a ≡ Some change → change_of b ≡ Some change → a ≡ b

@@ -1,6 +1,6 @@
 -- What is put in a well-formed workbook leaves a well-formed one: a link, a field that may have its value, and a cell that has a font and may
 -- stand at its place.
-use Rattle.std.proofs.Common.{◌≡◌, ℕ, ℤ, suc, Bool, true, cond, ◌&&◌, List, [], ◌∷◌, length, Option, Some, None, refl, ap, sym, ◌∙◌}
+use Rattle.std.proofs.Common.{◌≡◌, ℕ, ℤ, suc, Bool, true, cond, ◌&&◌, List, [], ◌∷◌, length, Option, Some, None, refl, ap, sym, subst, ◌∙◌}
 use Rattle.std.specs.Prelude.{IsTrue, ◌==◌, nat_lt}
 use Rattle.std.specs.List.{list_all}
 use Rattle.std.specs.FinMap.{entries}
@@ -25,7 +25,7 @@ use Rattle.sheet_rules.specs.WellFormed.{are_distinct, ids_of, names_of, are_she
 use Rattle.sheet_rules.specs.laws.WellFormedLaws.{well_formed_parts, well_formed_from_parts, cells_fit_from_trees, have_trees_from_cells_fit}
 use Rattle.sheet_lines.specs.Sheets.{sheet_of}
 pub use Rattle.book_sheets.specs.laws.SheetRules.{KeepsSheetRules}
-use Rattle.sheet_history.specs.Entries.{EntryKey, EntryValue, cell_stands_at, value_fits, sheet_id_of, with_sheet_entry, with_changed, bare_sheet, put_entry}
+use Rattle.sheet_history.specs.Entries.{EntryKey, EntryValue, cell_stands_at, value_fits, setting_of, sheet_id_of, with_sheet_entry, with_changed, entry_placed, bare_sheet, put_entry}
 use Rattle.sheet_history.specs.Entries.EntryKey.{CellKey, LinkKey, FieldKey}
 use Rattle.sheet_history.specs.Entries.EntryValue.{CellValue, LinkValue, FieldValue}
 use Rattle.sheet_history.specs.declared.field.SheetField.{SheetField}
@@ -207,10 +207,11 @@ module _ (w : Book) (rules : IsWellFormed w) (id : ℕ) (change : Sheet → Shee
       })
 
 -- an entry that keeps the rules of its sheet keeps those of the workbook
-pub well_formed-put : (w : Book) → IsWellFormed w → (k : EntryKey) (v : EntryValue)
+pub well_formed-put : (w : Book) → IsWellFormed w → (k : EntryKey) (v : EntryValue) → setting_of k ≡ None
     → ((s : Sheet) → sheet_of w (sheet_id_of k) ≡ Some s → KeepsSheetRules s → KeepsSheetRules (with_sheet_entry k v s)) → IsWellFormed (put_entry w k v)
 unfolding put_entry
-well_formed-put w rules k v keeps = well_formed-changed w rules (sheet_id_of k) (with_sheet_entry k v) (bare-with_sheet_entry k v) keeps
+well_formed-put w rules k v none keeps =
+    subst (λ o. IsWellFormed (entry_placed o k v w)) (sym none) (well_formed-changed w rules (sheet_id_of k) (with_sheet_entry k v) (bare-with_sheet_entry k v) keeps)
 
 stands_found : (o : Option Sheet) (s : Sheet) (place : Position) (entry : Option Cell) → o ≡ Some s → may_stand_on o place entry ≡ true → may_stand s place entry ≡ true
 stands_found None s place entry is h = absurd (cc)
@@ -221,13 +222,13 @@ pub well_formed-cell : (w : Book) (id : ℕ) (place : Position) (entry : Option 
     → may_stand_on (sheet_of w id) place entry ≡ true → IsWellFormed (put_entry w (CellKey id place) (CellValue entry))
 well_formed-cell w id place entry rules fits font stands =
     let parts = both (is_place place) (cell_stands_at place entry) fits in
-    well_formed-put w rules (CellKey id place) (CellValue entry) (λ s found. cell-put s place entry parts.0 parts.1 font (stands_found (sheet_of w id) s place entry found stands))
+    well_formed-put w rules (CellKey id place) (CellValue entry) refl (λ s found. cell-put s place entry parts.0 parts.1 font (stands_found (sheet_of w id) s place entry found stands))
 
 -- a link
 pub well_formed-link : (w : Book) (id : ℕ) (place : Position) (entry : Option Link) → IsWellFormed w → value_fits (LinkKey id place) (LinkValue entry) ≡ true
     → IsWellFormed (put_entry w (LinkKey id place) (LinkValue entry))
-well_formed-link w id place entry rules inside = well_formed-put w rules (LinkKey id place) (LinkValue entry) (λ s found. link-put s place entry inside)
+well_formed-link w id place entry rules inside = well_formed-put w rules (LinkKey id place) (LinkValue entry) refl (λ s found. link-put s place entry inside)
 
 -- a field that may have its value
 pub well_formed-field : (w : Book) (id : ℕ) (field : Field) (v : SheetField) → may_have v ≡ true → IsWellFormed w → IsWellFormed (put_entry w (FieldKey id field) (FieldValue v))
-well_formed-field w id field v may rules = well_formed-put w rules (FieldKey id field) (FieldValue v) (λ s found. field-put s field v may)
+well_formed-field w id field v may rules = well_formed-put w rules (FieldKey id field) (FieldValue v) refl (λ s found. field-put s field v may)

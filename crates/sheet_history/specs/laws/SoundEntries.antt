@@ -31,15 +31,17 @@ use Rattle.sheet_history.specs.declared.diff.Diff.{Diff}
 use Rattle.sheet_history.specs.declared.diff.LineAxis.{LineAxis}
 use Rattle.sheet_history.specs.declared.diff.LineAxis.TheVariants.{Rows, Columns}
 use Rattle.sheet_history.specs.LineDiffs.{along_of}
-use Rattle.sheet_history.specs.Entries.{EntryKey, sheet_id_of, sheet_entry, lies_inside, cell_stands_at, value_fits, entry_at, accepts}
-use Rattle.sheet_history.specs.Entries.EntryKey.{CellKey, LinkKey, MergesKey, FieldKey, AttrKey}
-use Rattle.sheet_history.specs.Entries.EntryValue.{CellValue, LinkValue, AttrValue}
+use Rattle.sheet_history.specs.Entries.{EntryKey, setting_of, sheet_id_of, sheet_entry, lies_inside, cell_stands_at, value_fits, is_value_of, entry_found, entry_accepted, entry_at, accepts}
+use Rattle.sheet_history.specs.Entries.EntryKey.{CellKey, LinkKey, MergesKey, FieldKey, AttrKey, SettingKey}
+use Rattle.sheet_history.specs.Entries.EntryValue.{CellValue, LinkValue, AttrValue, SettingValue}
 use Rattle.sheet_history.specs.Diffs.{untested_after, untested_before, book_after, book_before, tested}
 use Rattle.sheet_history.specs.Records.{IsRecord}
 use Rattle.sheet_history.specs.laws.EntryLaws.{nothing_at}
 use Rattle.sheet_history.specs.laws.BothWays.{AllFit, IsSound, fit, record_forward, record_back}
 use Rattle.sheet_history.specs.laws.Entries.{entry_holds}
 use Rattle.sheet_history.specs.laws.FieldLaws.{field_is_of}
+use Rattle.sheet_history.specs.Settings.{SettingKind, setting_in}
+use Rattle.sheet_history.specs.laws.SettingLaws.{setting_is_of}
 use Rattle.sheet_history.specs.laws.RuleLaws.{KeepsSheetRules, sheet_rules}
 use Rattle.sheet_history.specs.laws.TestedLaws.{by_rule-kept}
 
@@ -123,11 +125,12 @@ entry_fits s h (MergesKey id) = inl (sheet_merges_inside s h.merges)
 entry_fits s h (FieldKey id field) = inl (field_is_of field s)
 entry_fits s h (AttrKey id Rows line) = attr_fits id Rows s.rows line (row_kept s h.inside h.attributes line)
 entry_fits s h (AttrKey id Columns line) = attr_fits id Columns s.columns line (column_kept s h.inside h.attributes line)
+entry_fits s h (SettingKey kind) = inr refl
 
 -- so it is with each entry of a well-formed workbook
 pub sound_by_rules : (w : Book) → IsWellFormed w → IsSound w
 unfolding entry_at accepts
-sound_by_rules w rules k v is = go (sheet_of w (sheet_id_of k)) refl is
+sound_by_rules w rules k v is = by_setting (setting_of k) is
   where
     on_sheet : (s : Sheet) → sheet_of w (sheet_id_of k) ≡ Some s → sheet_entry k s ≡ v → (value_fits k (sheet_entry k s) ≡ true) ⊎ (sheet_entry k s ≡ nothing_at k)
         → ((is_some (sheet_of w (sheet_id_of k)) && value_fits k v) ≡ true) ⊎ (v ≡ nothing_at k)
@@ -137,6 +140,11 @@ sound_by_rules w rules k v is = go (sheet_of w (sheet_id_of k)) refl is
     go : (o : Option Sheet) → sheet_of w (sheet_id_of k) ≡ o → option_map (sheet_entry k) o ≡ Some v → ((is_some (sheet_of w (sheet_id_of k)) && value_fits k v) ≡ true) ⊎ (v ≡ nothing_at k)
     go None found it = absurd (cc)
     go (Some s) found it = let same : sheet_entry k s ≡ v = cc in on_sheet s found same (entry_fits s (sheet_rules w rules (sheet_id_of k) s found) k)
+
+    -- a setting takes what it is
+    by_setting : (o : Option SettingKind) → entry_found o k w ≡ Some v → (entry_accepted o k v w ≡ true) ⊎ (v ≡ nothing_at k)
+    by_setting None it = go (sheet_of w (sheet_id_of k)) refl it
+    by_setting (Some kind) it = let same : SettingValue (setting_in kind w) ≡ v = cc in inl (ap (is_value_of kind) (sym same) ∙ setting_is_of kind w)
 
 -- ---- the record of two well-formed workbooks
 

@@ -10,7 +10,7 @@ use Rattle.sheet_grid.specs.Book.{Book}
 use Rattle.sheet_rules.specs.laws.EntryLaws.{both}
 use Rattle.sheet_rules.specs.WellFormed.{broken_rule, IsWellFormed}
 use Rattle.sheet_lines.specs.Sheets.{sheet_of}
-use Rattle.sheet_history.specs.Entries.{EntryKey, EntryValue, sheet_id_of, value_fits, put_entry, accepts}
+use Rattle.sheet_history.specs.Entries.{EntryKey, EntryValue, setting_of, sheet_id_of, value_fits, entry_accepted, put_entry, accepts}
 use Rattle.sheet_history.specs.Entries.EntryKey.{CellKey, LinkKey, FieldKey}
 use Rattle.sheet_history.specs.Entries.EntryValue.{CellValue, LinkValue, FieldValue}
 use Rattle.sheet_history.specs.Untested.{cell_keeps_rules, entry_has_font, may_stand_on, keeps_rules}
@@ -36,10 +36,10 @@ put_in-done at book k v next is = go (accepts book k v) refl is
     go true fits done = (fits, cc)
     go false fits done = absurd (let never : ◌≡◌ {A = Result Book EditError} (Err (DiffRefused 0 at)) (Ok next) = done in cc)
 
--- it may stand at its key
-fits_of : (book : Book) (k : EntryKey) (v : EntryValue) → accepts book k v ≡ true → value_fits k v ≡ true
+-- it may stand at its key of a sheet
+fits_of : (book : Book) (k : EntryKey) (v : EntryValue) → setting_of k ≡ None → accepts book k v ≡ true → value_fits k v ≡ true
 unfolding accepts
-fits_of book k v h = (both (is_some (sheet_of book (sheet_id_of k))) (value_fits k v) h).1
+fits_of book k v none h = (both (is_some (sheet_of book (sheet_id_of k))) (value_fits k v) ((λ i. entry_accepted (sym none i) k v book) ∙ h)).1
 
 -- a cell that is put in a well-formed workbook, and keeps the rules, leaves one
 cell_rules : (at : ℕ) (book : Book) (id : ℕ) (place : Position) (entry : Option Cell) (next : Book) → cell_keeps_rules (sheet_of book id) place entry ≡ true → IsWellFormed book
@@ -47,13 +47,13 @@ cell_rules : (at : ℕ) (book : Book) (id : ℕ) (place : Position) (entry : Opt
 cell_rules at book id place entry next keeps rules is =
     let done = put_in-done at book (CellKey id place) (CellValue entry) next is in
     let parts = both (entry_has_font entry) (may_stand_on (sheet_of book id) place entry) keeps in
-    subst IsWellFormed done.1 (well_formed-cell book id place entry rules (fits_of book (CellKey id place) (CellValue entry) done.0) parts.0 parts.1)
+    subst IsWellFormed done.1 (well_formed-cell book id place entry rules (fits_of book (CellKey id place) (CellValue entry) refl done.0) parts.0 parts.1)
 
 -- so does a link
 link_rules : (at : ℕ) (book : Book) (id : ℕ) (place : Position) (entry : Option Link) (next : Book) → IsWellFormed book → put_in at book (LinkKey id place) (LinkValue entry) ≡ Ok next → IsWellFormed next
 link_rules at book id place entry next rules is =
     let done = put_in-done at book (LinkKey id place) (LinkValue entry) next is in
-    subst IsWellFormed done.1 (well_formed-link book id place entry rules (fits_of book (LinkKey id place) (LinkValue entry) done.0))
+    subst IsWellFormed done.1 (well_formed-link book id place entry rules (fits_of book (LinkKey id place) (LinkValue entry) refl done.0))
 
 -- and a field of a sheet that may have its value
 field_rules : (at : ℕ) (book : Book) (id : ℕ) (field : Field) (v : SheetField) (next : Book) → may_have v ≡ true → IsWellFormed book → put_in at book (FieldKey id field) (FieldValue v) ≡ Ok next → IsWellFormed next

@@ -1,5 +1,5 @@
 -- Going back with what was kept gives the workbook.
-use Rattle.std.proofs.Common.{◌≡◌, ◌⊎◌, inl, inr, ℕ, Bool, true, false, List, [], ◌∷◌, map, Option, Some, None, refl, ap, sym, subst, ◌∙◌}
+use Rattle.std.proofs.Common.{◌≡◌, ◌⊎◌, inl, inr, ℕ, Bool, true, false, List, [], ◌∷◌, map, Option, Some, None, refl, ap, sym, ◌∙◌}
 use Rattle.std.specs.Prelude.{⊤, ◌==◌, if◌then◌else◌}
 use Rattle.std.specs.List.{filter_map}
 use Rattle.std.specs.Ordering.{int_cmp, nat_cmp}
@@ -31,12 +31,12 @@ use Rattle.line_edits.specs.laws.OneToOne.{edit_one_to_one}
 use Rattle.line_map.specs.Attributes.{line_goes_along, heirs, lines_carried, lines_restored}
 use Rattle.line_map.specs.Contents.{cell_carried, cell_part, cell_restored}
 use Rattle.line_map.specs.Maps.{entry_part, places_carried, places_restored}
-use Rattle.line_map.specs.Merges.{merge_carried, merges_carried, merges_part}
-use Rattle.line_trees.specs.Way.{Way, IsWay, at, back, place_goes, is_along}
+use Rattle.line_routes.specs.Merges.{merge_carried, merges_carried, merges_part}
+use Rattle.line_routes.specs.Way.{Way, IsWay, at, back, place_goes, is_along}
 use Rattle.line_map.specs.laws.AttributeLaws.{both_of, lines_restore}
 use Rattle.line_map.specs.laws.ContentLaws.{cell_comes_back, cell_restores}
 use Rattle.line_map.specs.laws.MapLaws.{part_there, places_return}
-use Rattle.line_map.specs.laws.MergeLaws.{merges_come_back, merges_restore}
+use Rattle.line_routes.specs.laws.MergeLaws.{merges_come_back, merges_restore}
 use Rattle.rule_lines.specs.Rules.{rules_carried, rules_kept, rules_restored}
 use Rattle.rule_lines.specs.laws.FollowLaws.{formatting_elsewhere}
 use Rattle.rule_lines.specs.laws.RuleLaws.{rules_regained}
@@ -56,7 +56,7 @@ laid_at to false given m returned h =
     ∙ ap (λ l. overlaid l returned) (same_map position_total exact_positions empty (lost_map Some m)
     (λ p. get-empty position_cmp p ∙ sym (get-lost_map position_cmp position_total exact_positions Some m p)))
 
--- what was lost of the edited sheet is what is lost of each sheet
+-- what was lost of the edited sheet alone is laid over each sheet like what it lost itself
 lost_laid : {X : Type 0} (w : Way) (given m returned : FinMap position_cmp X) → (w.is_edited ≡ true → given ≡ lost_map (place_image w.along w.moves.to) m) →
     with_lost w given returned ≡ overlaid (lost_map (place_goes w) m) returned
 unfolding place_goes

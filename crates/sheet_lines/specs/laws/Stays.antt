@@ -37,13 +37,13 @@ use Rattle.line_edits.specs.laws.OneToOne.{edit_one_to_one}
 use Rattle.line_map.specs.Attributes.{LinesLie}
 use Rattle.line_map.specs.Contents.{with_new_tree, cell_carried, cell_part, cell_restored}
 use Rattle.line_map.specs.Maps.{places_carried, places_parts, places_restored}
-use Rattle.line_map.specs.Merges.{merges_carried, MergesLie}
-use Rattle.line_trees.specs.Trees.{following, tree_carried, tree_part}
-use Rattle.line_trees.specs.Way.{Way, IsWay, at, back, place_goes}
+use Rattle.line_routes.specs.Merges.{merges_carried, MergesLie}
+use Rattle.line_routes.specs.Trees.{following, tree_carried, tree_part}
+use Rattle.line_routes.specs.Way.{Way, IsWay, at, back, place_goes}
 use Rattle.line_map.specs.laws.ContentLaws.{cell_stays}
-use Rattle.line_map.specs.laws.MergeLaws.{merges_stay}
-use Rattle.line_trees.specs.laws.TreeLaws.{tree_restores}
-use Rattle.line_trees.specs.laws.WayLaws.{at_is_way, back_is_way, goes_inverse}
+use Rattle.line_routes.specs.laws.MergeLaws.{merges_stay}
+use Rattle.line_routes.specs.laws.TreeLaws.{tree_restores}
+use Rattle.line_routes.specs.laws.WayLaws.{at_is_way, back_is_way, goes_inverse}
 use Rattle.rule_lines.specs.Canonical.{KeptLie}
 use Rattle.rule_lines.specs.Rules.{rules_restored, RulesLie}
 use Rattle.rule_lines.specs.laws.RuleLaws.{restored_lie, rules_stay}

@@ -2,7 +2,7 @@ use Rattle.std.proofs.Common.{◌≡◌, [], ◌++◌, rules, ap, subst, ◌∙�
 use Rattle.std.specs.List.{cons_option, filter_map}
 use Rattle.std.specs.FinMap.{entries}
 use Rattle.sheet_grid.specs.CanonicalCell.{CanonicalCells}
-use Rattle.edit_plans.specs.Blanked.{blank_diff}
+use Rattle.edit_plans.specs.laws.EditRecords.{blank_diff}
 use Rattle.edit_plans.proofs.Blanks.{adds_kept, adds_on, adds_all}
 use Rattle.edit_plans.proofs.blanked.push_blank_diffs.Goals as goal
 

@@ -1,5 +1,5 @@
 use Rattle.std.specs.Map.Iter.{deref_pair}
-use Rattle.edit_plans.specs.Blanked.{blank_diff}
+use Rattle.edit_plans.specs.laws.EditRecords.{blank_diff}
 use Rattle.edit_plans.proofs.Blanks.{Adds}
 use Rattle.edit_plans.proofs.blanked.push_blank_diffs.Given as goal
 

@@ -5,9 +5,9 @@ use Rattle.base_values.specs.laws.Places.{position_total, exact_positions}
 use Rattle.base_maps.specs.laws.Gathering.{lost_gathered, with_made}
 use Rattle.base_maps.specs.laws.Inverses.{own_inverse}
 use Rattle.base_maps.specs.laws.Loops.{made_on, made_all}
-use Rattle.line_trees.specs.Way.{place_goes, way}
+use Rattle.line_routes.specs.Way.{place_goes, way}
 use Rattle.base_maps.specs.laws.Listed.{listed_held, listed_on, listed_all}
-use Rattle.line_trees.specs.laws.WayLaws.{goes_inverse, goes_there}
+use Rattle.line_routes.specs.laws.WayLaws.{goes_inverse, goes_there}
 use Rattle.line_map.proofs.carried_places.carried_with_kept.Goals as goal
 
 pub carried_entry-requires-clause-inside : goal.carried_entry-requires-clause-inside

@@ -3,7 +3,7 @@ use Rattle.std.specs.Map.Iter.{deref_pair}
 use Rattle.base_maps.specs.Carried.{if_lost, if_there}
 use Rattle.base_maps.specs.laws.Loops.{Made}
 use Rattle.base_values.specs.Places.{IsPlace}
-use Rattle.line_trees.specs.Way.{at, place_goes, way}
+use Rattle.line_routes.specs.Way.{at, place_goes, way}
 use Rattle.base_maps.specs.laws.Listed.{Listed}
 use Rattle.line_map.proofs.carried_places.carried_with_kept.Given as goal
 

@@ -1,8 +1,8 @@
 use Rattle.std.proofs.Common.{rules, ◌≡◌, ap, sym, ◌∙◌}
 use Rattle.base_maps.specs.Carried.{if_there}
-use Rattle.line_trees.specs.Trees.{tree_carried, tree_part}
-use Rattle.line_trees.specs.Way.{way}
-use Rattle.line_trees.specs.laws.MustKeepLaws.{still_has_no_part}
+use Rattle.line_routes.specs.Trees.{tree_carried, tree_part}
+use Rattle.line_routes.specs.Way.{way}
+use Rattle.line_routes.specs.laws.MustKeepLaws.{still_has_no_part}
 use Rattle.line_map.proofs.contents.carried_cell_with_part.Goals as goal
 
 pub returns-then-stays-clause-part : goal.returns-then-stays-clause-part

@@ -1,9 +1,9 @@
 use Rattle.base_values.specs.Places.{position_cmp}
 use Rattle.base_values.specs.laws.Places.{position_total, exact_positions}
-use Rattle.line_trees.specs.Way.{at, back, place_goes, way}
+use Rattle.line_routes.specs.Way.{at, back, place_goes, way}
 use Rattle.base_maps.specs.laws.Gathering.{get-lost_map}
 use Rattle.base_maps.specs.laws.CarriedLaws.{get-carried_map, get-parts_map}
-use Rattle.line_trees.specs.laws.WayLaws.{goes_inverse}
+use Rattle.line_routes.specs.laws.WayLaws.{goes_inverse}
 use Rattle.line_map.proofs.laws.entries_of_maps.Goals as goal
 
 pub returns-clause-carried : goal.returns-clause-carried

@@ -2,9 +2,9 @@ use Rattle.std.proofs.Common.{ap, ◌++◌, [], ◌∙◌}
 use Rattle.std.proofs.lemmas.Result.{IfOk-weaker}
 use Rattle.std.specs.List.{cons_option}
 use Rattle.base_values.specs.laws.Places.{position_total, exact_positions}
-use Rattle.line_trees.specs.Way.{way}
+use Rattle.line_routes.specs.Way.{way}
 use Rattle.base_maps.specs.laws.Listed.{listed_held, listed_on, listed_all}
-use Rattle.line_trees.specs.laws.WayLaws.{goes_inverse, goes_there}
+use Rattle.line_routes.specs.laws.WayLaws.{goes_inverse, goes_there}
 use Rattle.line_map.proofs.place_map.carried_places.Goals as goal
 
 pub carried_entry-requires-clause-inside : goal.carried_entry-requires-clause-inside

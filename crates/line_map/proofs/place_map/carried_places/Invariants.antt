@@ -1,7 +1,7 @@
 use Rattle.std.proofs.Common.{Some}
 use Rattle.std.specs.Map.Iter.{deref_pair}
 use Rattle.base_values.specs.Places.{IsPlace}
-use Rattle.line_trees.specs.Way.{at, place_goes, way}
+use Rattle.line_routes.specs.Way.{at, place_goes, way}
 use Rattle.base_maps.specs.laws.Listed.{Listed}
 use Rattle.line_map.proofs.place_map.carried_places.Given as goal
 

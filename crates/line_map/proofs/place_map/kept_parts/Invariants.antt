@@ -2,7 +2,7 @@ use Rattle.std.proofs.Common.{Some}
 use Rattle.std.specs.Map.Iter.{deref_pair}
 use Rattle.base_maps.specs.Carried.{if_there}
 use Rattle.base_maps.specs.laws.Loops.{Made}
-use Rattle.line_trees.specs.Way.{at, place_goes, way}
+use Rattle.line_routes.specs.Way.{at, place_goes, way}
 use Rattle.line_map.proofs.place_map.kept_parts.Given as goal
 
 abbrev pub invariant-loop-from : goal.invariant-loop-from

@@ -7,7 +7,7 @@ use Rattle.base_maps.specs.laws.Inverses.{own_inverse}
 use Rattle.base_maps.specs.laws.Gathering.{lost_gathered}
 use Rattle.base_maps.specs.laws.Loops.{made_on, made_all}
 use Rattle.base_maps.specs.laws.Turns.{first_holds, rest_hold}
-use Rattle.line_trees.specs.Way.{place_goes, way}
+use Rattle.line_routes.specs.Way.{place_goes, way}
 use Rattle.line_map.proofs.place_map.lost_places.Goals as goal
 
 pub keep_lost-requires : goal.keep_lost-requires

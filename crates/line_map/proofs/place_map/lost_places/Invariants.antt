@@ -4,7 +4,7 @@ use Rattle.std.specs.List.{All}
 use Rattle.base_values.specs.Places.{IsPlace}
 use Rattle.base_maps.specs.Carried.{if_lost}
 use Rattle.base_maps.specs.laws.Loops.{Made}
-use Rattle.line_trees.specs.Way.{place_goes, way}
+use Rattle.line_routes.specs.Way.{place_goes, way}
 use Rattle.line_map.proofs.place_map.lost_places.Given as goal
 
 abbrev pub invariant-loop-place : goal.invariant-loop-place

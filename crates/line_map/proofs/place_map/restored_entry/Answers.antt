@@ -1,7 +1,7 @@
 use Rattle.std.proofs.Common.{◌≡◌, Some, ap, sym, subst, ◌∙◌}
 use Rattle.std.specs.Option.{option_copied}
-use Rattle.line_trees.specs.Way.{Way, place_goes, way}
-use Rattle.line_trees.specs.laws.WayLaws.{goes_inverse}
+use Rattle.line_routes.specs.Way.{Way, place_goes, way}
+use Rattle.line_routes.specs.laws.WayLaws.{goes_inverse}
 use Rattle.line_map.proofs.place_map.restored_entry.Goals as goal
 
 pub restore-requires-clause-fits : goal.restore-requires-clause-fits

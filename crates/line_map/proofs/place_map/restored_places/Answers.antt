@@ -3,9 +3,9 @@ use Rattle.std.proofs.lemmas.Result.{IfOk-weaker}
 use Rattle.std.specs.List.{cons_option}
 use Rattle.base_values.specs.laws.Places.{position_total, exact_positions}
 use Rattle.base_maps.specs.laws.Inverses.{turned_inverse}
-use Rattle.line_trees.specs.Way.{back, way}
+use Rattle.line_routes.specs.Way.{back, way}
 use Rattle.base_maps.specs.laws.Listed.{listed_held, listed_on, listed_all}
-use Rattle.line_trees.specs.laws.WayLaws.{back_is_way, goes_inverse, goes_there}
+use Rattle.line_routes.specs.laws.WayLaws.{back_is_way, goes_inverse, goes_there}
 use Rattle.line_map.proofs.place_map.restored_places.Goals as goal
 
 pub restored_entry-requires-clause-inside : goal.restored_entry-requires-clause-inside

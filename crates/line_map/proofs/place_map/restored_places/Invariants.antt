@@ -2,7 +2,7 @@ use Rattle.std.proofs.Common.{Some}
 use Rattle.std.specs.Map.Iter.{deref_pair}
 use Rattle.base_maps.specs.Carried.{settled}
 use Rattle.base_values.specs.Places.{IsPlace}
-use Rattle.line_trees.specs.Way.{at, back, place_goes, way}
+use Rattle.line_routes.specs.Way.{at, back, place_goes, way}
 use Rattle.base_maps.specs.laws.Listed.{Listed}
 use Rattle.line_map.proofs.place_map.restored_places.Given as goal
 

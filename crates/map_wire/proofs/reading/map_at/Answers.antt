@@ -1,16 +1,15 @@
-use Rattle.std.proofs.Common.{◌≡◌, Ok, ap, sym, ◌∙◌}
-use Rattle.std.specs.FinMap.{from_entries}
-use Rattle.map_wire.specs.laws.Ascending.{put_in_turn}
+use Rattle.std.proofs.Common.{arith}
+use Rattle.base_wire.specs.laws.Format.{reads}
 use Rattle.map_wire.specs.laws.KeyOrder.{order_total, order_exact}
+use Rattle.map_wire.specs.laws.MapLaws.{map_format}
 use Rattle.map_wire.proofs.reading.map_at.Goals as goal
 
-pub of_entries-requires : goal.of_entries-requires
-of_entries-requires g c = record { inside = λ k d within. g.met.X.PlainKey.plain _ }
+pub map_by_steps-requires : goal.map_by_steps-requires
+map_by_steps-requires g c = record { inside = c.requires.inside }
 
 pub returns : goal.returns
 returns g c =
     let same = g.met.X.MapKey.ordered in
-    let in_turn = put_in_turn g.X.MapKey.order (order_total same g.met.X.Key.Ord.total) (order_exact same g.met.X.Key.Exact.equals g.met.X.Key.Ord.matches_eq) c.in_ok-entries.entries c.in_ok-entries.ensures.sorted in
-    let made : g.X.MapKey.made (from_entries {R = g.X.MapKey.order} c.in_ok-entries.entries) ≡ c.in_ok-map.map =
-    ap g.X.MapKey.made (sym (c.in_ok-map.ensures.map ∙ in_turn)) ∙ g.X.MapKey.made_seen c.in_ok-map.map in
-    record { done = rw c.in_ok-entries.ensures.read.done (ap (λ map. Ok (map, c.in_ok-entries.rest.now)) made); refused = tt }
+    reads (map_format (order_total same g.met.X.Key.Ord.total) (order_exact same g.met.X.Key.Exact.equals g.met.X.Key.Ord.matches_eq) g.met.K.Part.format g.met.P.Part.format g.met.K.Part.some
+    g.X.MapKey.seen g.X.MapKey.made g.X.MapKey.seen_made g.X.MapKey.made_seen)
+    c.args.bytes.now _ (λ i. omega (arith, c.type_inv.bytes i)) c.map_by_steps.ensures

@@ -1,7 +1,7 @@
 use Rattle.std.proofs.Common.{rules, ◌≡◌, [], ◌∷◌, refl, sym, subst}
 use Rattle.std.specs.List.{AllByRecursion}
 use Rattle.base_wire.specs.Spelling.{spell_both}
-use Rattle.map_wire.specs.MapBytes.{Carried}
+use Rattle.map_wire.specs.laws.MapFits.{Carried}
 use Rattle.map_wire.proofs.Written.{written_on}
 use Rattle.map_wire.proofs.writing.put_entries.Goals as goal
 

@@ -1,7 +1,7 @@
 use Rattle.std.proofs.Common.{◌≡◌, ◌++◌}
 use Rattle.std.specs.List.{flat_map, AllByRecursion}
 use Rattle.base_wire.specs.Spelling.{spell_both}
-use Rattle.map_wire.specs.MapBytes.{Carried}
+use Rattle.map_wire.specs.laws.MapFits.{Carried}
 use Rattle.map_wire.proofs.writing.put_entries.Given as goal
 
 -- what is written, and the entries that are left; and if bytes can carry those where they are known, they can carry all

@@ -1,5 +1,6 @@
 use Rattle.std.proofs.Common.{◌≡◌, ◌+◌, suc, ◌&&◌, ◌∙◌, Bool, false, ap, sym, w32, to_z, of_z, arith}
-use Rattle.planned_maps.specs.Walks.{line_all, place_across}
+use Rattle.planned_maps.specs.Walks.{place_across}
+use Rattle.planned_maps.specs.laws.PlanWalks.{line_all}
 use Rattle.range_styles.specs.Styled.{place_accepts}
 use Rattle.range_styles.proofs.accept.accepts_line.Goals as goal
 use Rattle.range_styles.proofs.accept.accepts_line.Goals.{then-all, else-all}

@@ -1,6 +1,6 @@
 use Rattle.std.proofs.Common.{◌≡◌, ◌+◌, suc, ◌&&◌, ◌∙◌, Bool, false, ap, sym, pos, ◌+ℤ◌, w32, to_z, of_z, arith, rules}
 use Rattle.base_axis.specs.Along.{rows}
-use Rattle.planned_maps.specs.Walks.{line_passes, rows_all}
+use Rattle.planned_maps.specs.laws.PlanWalks.{line_passes, rows_all}
 use Rattle.range_styles.specs.Styled.{place_accepts}
 use Rattle.range_styles.proofs.accept.accepts_rows.Goals as goal
 use Rattle.range_styles.proofs.accept.accepts_rows.Goals.{then-all, else-all}

@@ -1,5 +1,5 @@
 use Rattle.std.proofs.Common.{◌≡◌}
-use Rattle.planned_maps.specs.Walks.{rows_all}
+use Rattle.planned_maps.specs.laws.PlanWalks.{rows_all}
 use Rattle.range_styles.specs.Styled.{place_accepts}
 use Rattle.range_styles.proofs.accept.accepts_rows.Given as goal
 

@@ -1,7 +1,7 @@
 use Rattle.std.proofs.Common.{◌≡◌, ◌&&◌}
 use Rattle.std.specs.List.{All, list_all}
 use Rattle.base_values.specs.Places.{IsLine}
-use Rattle.planned_maps.specs.Walks.{chosen_all}
+use Rattle.planned_maps.specs.laws.PlanWalks.{chosen_all}
 use Rattle.range_styles.specs.StyleRanges.{has_own_style}
 use Rattle.range_styles.specs.Styled.{place_accepts}
 use Rattle.range_styles.proofs.PlanLoops.{line_test}

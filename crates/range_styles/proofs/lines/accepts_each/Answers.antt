@@ -1,6 +1,6 @@
 use Rattle.std.proofs.Common.{◌≡◌, ◌+◌, suc, ◌&&◌, ◌∙◌, Bool, false, ap, sym, pos, ◌+ℤ◌, w32, to_z, of_z, arith, rules}
 use Rattle.base_axis.specs.Rectangles.{first_line}
-use Rattle.planned_maps.specs.Walks.{lines_all}
+use Rattle.planned_maps.specs.laws.PlanWalks.{lines_all}
 use Rattle.range_styles.specs.Styled.{line_accepts}
 use Rattle.range_styles.proofs.lines.accepts_each.Goals as goal
 use Rattle.range_styles.proofs.lines.accepts_each.Goals.{then-all, else-all}

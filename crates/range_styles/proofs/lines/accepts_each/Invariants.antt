@@ -1,6 +1,6 @@
 use Rattle.std.proofs.Common.{◌≡◌}
 use Rattle.base_axis.specs.Rectangles.{first_line}
-use Rattle.planned_maps.specs.Walks.{lines_all}
+use Rattle.planned_maps.specs.laws.PlanWalks.{lines_all}
 use Rattle.range_styles.specs.Styled.{line_accepts}
 use Rattle.range_styles.proofs.lines.accepts_each.Given as goal
 

@@ -1,7 +1,6 @@
 use Rattle.std.proofs.Common.{◌≡◌, ◌+◌, suc, ◌∙◌, ap, sym, pos, ◌+ℤ◌, w32, to_z, of_z, arith, rules}
 use Rattle.base_axis.specs.Rectangles.{first_line}
-use Rattle.planned_maps.specs.Planned.{put_one}
-use Rattle.planned_maps.specs.Walks.{lines_put}
+use Rattle.planned_maps.specs.laws.PlanWalks.{lines_put, put_one}
 use Rattle.range_styles.specs.Styled.{line_styled}
 use Rattle.range_styles.proofs.lines.put_each.Goals as goal
 

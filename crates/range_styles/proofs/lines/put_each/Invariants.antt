@@ -1,6 +1,6 @@
 use Rattle.std.proofs.Common.{◌≡◌}
 use Rattle.base_axis.specs.Rectangles.{first_line}
-use Rattle.planned_maps.specs.Walks.{lines_put}
+use Rattle.planned_maps.specs.laws.PlanWalks.{lines_put}
 use Rattle.range_styles.specs.Styled.{line_styled}
 use Rattle.range_styles.proofs.lines.put_each.Given as goal
 

@@ -8,7 +8,7 @@ use Rattle.base_values.specs.Places.{IsLine}
 use Rattle.base_maps.specs.laws.Inverses.{own_inverse}
 use Rattle.base_maps.specs.laws.Loops.{made_on, made_all}
 use Rattle.base_maps.specs.laws.Turns.{first_holds, rest_hold}
-use Rattle.planned_maps.specs.Planned.{put_one}
+use Rattle.planned_maps.specs.laws.PlanWalks.{put_one}
 use Rattle.range_styles.specs.Styled.{line_styled}
 use Rattle.range_styles.specs.laws.KeptLaws.{put_is_made}
 use Rattle.range_styles.proofs.lines.put_kept.Goals as goal

@@ -1,5 +1,5 @@
 use Rattle.std.proofs.Common.{◌∙◌, ap}
-use Rattle.planned_maps.specs.Walks.{places_put}
+use Rattle.planned_maps.specs.laws.PlanWalks.{places_put}
 use Rattle.range_styles.specs.laws.WalkedPlaces.{entries_planned}
 use Rattle.range_styles.proofs.walk.plan_entries.Goals as goal
 

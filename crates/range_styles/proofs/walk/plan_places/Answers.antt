@@ -1,6 +1,6 @@
 use Rattle.std.proofs.Common.{◌∙◌}
 use Rattle.std.specs.Prelude.{unsigned_abs}
-use Rattle.planned_maps.specs.Walks.{rows_put}
+use Rattle.planned_maps.specs.laws.PlanWalks.{rows_put}
 use Rattle.range_styles.specs.laws.WalkedPlaces.{rows_planned}
 use Rattle.range_styles.proofs.walk.plan_places.Goals as goal
 

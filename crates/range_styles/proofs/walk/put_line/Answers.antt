@@ -1,8 +1,7 @@
 use Rattle.std.proofs.Common.{◌≡◌, ◌+◌, suc, ◌∙◌, ap, sym, subst, w32, to_z, of_z, arith}
 use Rattle.std.proofs.lemmas.Int.{to_z-of_z}
 use Rattle.base_values.specs.Places.{IsLine}
-use Rattle.planned_maps.specs.Planned.{put_one}
-use Rattle.planned_maps.specs.Walks.{line_put}
+use Rattle.planned_maps.specs.laws.PlanWalks.{line_put, put_one}
 use Rattle.range_styles.proofs.walk.put_line.Goals as goal
 
 pub put_place-requires : goal.put_place-requires

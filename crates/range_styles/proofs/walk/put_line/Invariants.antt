@@ -1,5 +1,5 @@
 use Rattle.std.proofs.Common.{◌≡◌}
-use Rattle.planned_maps.specs.Walks.{line_put}
+use Rattle.planned_maps.specs.laws.PlanWalks.{line_put}
 use Rattle.range_styles.proofs.walk.put_line.Given as goal
 
 -- the places passed are planned

@@ -2,7 +2,7 @@ use Rattle.std.proofs.Common.{◌≡◌, ◌+◌, suc, ◌∙◌, ap, sym, subst
 use Rattle.std.proofs.lemmas.Int.{ints}
 use Rattle.base_values.specs.Places.{IsLine}
 use Rattle.base_axis.specs.Along.{rows}
-use Rattle.planned_maps.specs.Walks.{line_done, rows_put}
+use Rattle.planned_maps.specs.laws.PlanWalks.{line_done, rows_put}
 use Rattle.range_styles.proofs.walk.put_rows.Goals as goal
 
 pub put_line-requires-clause-line : goal.put_line-requires-clause-line

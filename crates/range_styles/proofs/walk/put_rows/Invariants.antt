@@ -1,5 +1,5 @@
 use Rattle.std.proofs.Common.{◌≡◌}
-use Rattle.planned_maps.specs.Walks.{rows_put}
+use Rattle.planned_maps.specs.laws.PlanWalks.{rows_put}
 use Rattle.range_styles.proofs.walk.put_rows.Given as goal
 
 -- the places of the rows passed are planned

@@ -1,7 +1,7 @@
 use Rattle.std.proofs.Common.{ap, sym, subst, ◌∙◌}
 use Rattle.format_rules.specs.RuleTrees.{HasTrees}
-use Rattle.line_trees.specs.Trees.{TreeLies}
-use Rattle.line_trees.specs.Way.{Way, way}
+use Rattle.line_routes.specs.Trees.{TreeLies}
+use Rattle.line_routes.specs.Way.{Way, way}
 use Rattle.rule_lines.specs.Rules.{way_of_trees}
 use Rattle.rule_lines.specs.laws.RuleLaws.{trees_lie}
 use Rattle.rule_lines.proofs.formatting.moved_formatting.Goals as goal

@@ -1,4 +1,4 @@
-use Rattle.line_trees.specs.Way.{way}
+use Rattle.line_routes.specs.Way.{way}
 use Rattle.rule_lines.specs.laws.FollowLaws.{formatting_follows, formatting_elsewhere}
 use Rattle.rule_lines.specs.laws.RuleLaws.{rules_regained}
 use Rattle.rule_lines.proofs.laws.rules_follow.Goals as goal

@@ -1,5 +1,5 @@
 use Rattle.std.proofs.Common.{◌≡◌, map, take}
-use Rattle.line_trees.specs.Way.{way}
+use Rattle.line_routes.specs.Way.{way}
 use Rattle.rule_lines.specs.Rules.{formatting_carried}
 use Rattle.rule_lines.proofs.rules.carried_items.Given as goal
 

@@ -1,6 +1,6 @@
 use Rattle.std.proofs.Common.{ap, sym, subst, ◌∙◌}
 use Rattle.format_rules.specs.Canonical.{AreCanonicalRules}
-use Rattle.line_trees.specs.Way.{way}
+use Rattle.line_routes.specs.Way.{way}
 use Rattle.rule_lines.specs.Rules.{rules_carried, RulesLie}
 use Rattle.rule_lines.specs.laws.RuleLaws.{rules_numbers, rules_stay}
 use Rattle.rule_lines.proofs.rules.carried_rules.Goals as goal

@@ -1,6 +1,6 @@
 use Rattle.std.proofs.Common.{◌<◌, length, take, ap, sym, ◌∙◌, arith}
 use Rattle.base_maps.specs.laws.Gathering.{with_made}
-use Rattle.line_trees.specs.Way.{way}
+use Rattle.line_routes.specs.Way.{way}
 use Rattle.base_maps.specs.ByIndex.{kept_at}
 use Rattle.rule_lines.specs.Rules.{formatting_part, rules_kept}
 use Rattle.base_maps.specs.laws.ByIndexLaws.{kept_more}

@@ -1,6 +1,6 @@
 use Rattle.std.proofs.Common.{sym, subst}
 use Rattle.std.proofs.lemmas.Result.{IfOk-weaker}
-use Rattle.line_trees.specs.Way.{way}
+use Rattle.line_routes.specs.Way.{way}
 use Rattle.rule_lines.specs.Canonical.{AreCanonicalKept}
 use Rattle.rule_lines.specs.laws.RuleLaws.{kept_numbers}
 use Rattle.rule_lines.proofs.rules.kept_rules.Goals as goal

@@ -3,7 +3,7 @@ use Rattle.std.specs.List.{enumerate_from}
 use Rattle.std.specs.FinMap.{get}
 use Rattle.std.proofs.lemmas.List.{map-append}
 use Rattle.format_rules.specs.declared.ConditionalFormatting.{ConditionalFormatting}
-use Rattle.line_trees.specs.Way.{back, way}
+use Rattle.line_routes.specs.Way.{back, way}
 use Rattle.base_maps.specs.ByIndex.{restored_at}
 use Rattle.rule_lines.specs.Rules.{formatting_carried}
 use Rattle.base_maps.specs.laws.ByIndexLaws.{numbered_more}

@@ -1,5 +1,5 @@
 use Rattle.std.proofs.Common.{◌≡◌, take}
-use Rattle.line_trees.specs.Way.{way}
+use Rattle.line_routes.specs.Way.{way}
 use Rattle.rule_lines.specs.Rules.{rules_restored}
 use Rattle.rule_lines.proofs.rules.restored_items.Given as goal
 

@@ -1,6 +1,6 @@
 use Rattle.std.proofs.Common.{sym, subst}
 use Rattle.format_rules.specs.Canonical.{AreCanonicalRules}
-use Rattle.line_trees.specs.Way.{way}
+use Rattle.line_routes.specs.Way.{way}
 use Rattle.rule_lines.specs.laws.RuleLaws.{restored_numbers}
 use Rattle.rule_lines.proofs.rules.restored_rules.Goals as goal
 

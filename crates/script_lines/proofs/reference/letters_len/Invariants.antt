@@ -1,6 +1,6 @@
 use Rattle.std.proofs.Common.{◌≡◌, ◌+◌, drop}
 use Rattle.std.specs.List.{prefix_len}
-use Rattle.script_lines.specs.References.{is_letter}
+use Rattle.base_tables.specs.Column.{is_letter}
 use Rattle.script_lines.proofs.reference.letters_len.Given as goal
 
 abbrev pub invariant-loop-at : goal.invariant-loop-at

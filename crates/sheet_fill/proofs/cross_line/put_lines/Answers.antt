@@ -4,7 +4,7 @@ use Rattle.base_axis.specs.Rectangles.{first_line, holds}
 use Rattle.base_axis.specs.laws.RectangleLaws.{first_inside}
 use Rattle.planned_maps.specs.Walks.{count_across, place_across}
 use Rattle.sheet_fill.specs.FillRanges.{lines}
-use Rattle.sheet_fill.specs.FillWalks.{across_put, targets_put}
+use Rattle.sheet_fill.specs.laws.FillWalks.{across_put, targets_put}
 use Rattle.sheet_fill.specs.Targets.{place_filled, place_linked}
 use Rattle.sheet_fill.specs.laws.LineCounts.{cross_held}
 use Rattle.sheet_fill.proofs.cross_line.put_lines.Goals as goal

@@ -1,5 +1,5 @@
 use Rattle.std.proofs.Common.{◌≡◌}
-use Rattle.sheet_fill.specs.FillWalks.{across_put}
+use Rattle.sheet_fill.specs.laws.FillWalks.{across_put}
 use Rattle.sheet_fill.specs.Plans.{CanonicalFill}
 use Rattle.sheet_fill.specs.Targets.{place_filled, place_linked}
 use Rattle.sheet_fill.proofs.cross_line.put_lines.Given as goal

@@ -1,6 +1,6 @@
 use Rattle.std.proofs.Common.{Some, ap, sym, subst, ◌∙◌}
 use Rattle.std.specs.FinMap.{get, insert}
-use Rattle.planned_maps.specs.Planned.{put_if}
+use Rattle.planned_maps.specs.laws.PlanWalks.{put_if}
 use Rattle.sheet_fill.specs.FillRanges.{target_place}
 use Rattle.sheet_fill.specs.Plans.{CanonicalFill}
 use Rattle.sheet_fill.specs.laws.FilledPlaces.{filled_here, linked_here}

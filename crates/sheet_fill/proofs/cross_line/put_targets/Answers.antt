@@ -1,8 +1,8 @@
 use Rattle.std.proofs.Common.{◌≡◌, ℕ, suc, ◌+◌, ◌≤◌, Bool, true, false, ap, sym, ◌∙◌, arith}
 use Rattle.std.specs.Prelude.{if◌then◌else◌}
-use Rattle.planned_maps.specs.Planned.{put_one}
+use Rattle.planned_maps.specs.laws.PlanWalks.{put_one}
 use Rattle.sheet_fill.specs.FillRanges.{target_place}
-use Rattle.sheet_fill.specs.FillWalks.{targets_put}
+use Rattle.sheet_fill.specs.laws.FillWalks.{targets_put}
 use Rattle.sheet_fill.specs.Targets.{open_count, place_filled, place_linked}
 use Rattle.sheet_fill.proofs.cross_line.put_targets.Goals as goal
 

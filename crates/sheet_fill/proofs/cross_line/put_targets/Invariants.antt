@@ -1,5 +1,5 @@
 use Rattle.std.proofs.Common.{◌≡◌, ◌≤◌}
-use Rattle.sheet_fill.specs.FillWalks.{targets_put}
+use Rattle.sheet_fill.specs.laws.FillWalks.{targets_put}
 use Rattle.sheet_fill.specs.Plans.{CanonicalFill}
 use Rattle.sheet_fill.specs.Targets.{open_count, place_filled, place_linked}
 use Rattle.sheet_fill.proofs.cross_line.put_targets.Given as goal

@@ -1,4 +1,4 @@
-use Rattle.std.proofs.Common.{◌≡◌, None, Some, Ok, Err, ap, sym, ◌∙◌, rules}
+use Rattle.std.proofs.Common.{refl, ◌≡◌, None, Some, Ok, Err, ap, sym, ◌∙◌, rules}
 use Rattle.sheet_grid.specs.Book.{index_of, sheet_at, with_sheet}
 use Rattle.sheet_history.specs.Entries.EntryKey.{FieldKey}
 use Rattle.sheet_history.specs.Entries.EntryValue.{FieldValue}
@@ -10,7 +10,7 @@ use Rattle.sheet_history.proofs.put.put_field.Goals as goal
 pub returns-in_default : goal.returns-in_default
 returns-in_default c =
     let none : index_of c.args.workbook.now c.args.id ≡ None = search rules in
-    let is = put_in-refused c.args.at c.args.workbook.now (FieldKey c.args.id (field_of c.args.value)) (FieldValue c.args.value) (accepts-missing c.args.workbook.now (FieldKey c.args.id (field_of c.args.value)) (FieldValue c.args.value) none) in
+    let is = put_in-refused c.args.at c.args.workbook.now (FieldKey c.args.id (field_of c.args.value)) (FieldValue c.args.value) (accepts-missing c.args.workbook.now (FieldKey c.args.id (field_of c.args.value)) (FieldValue c.args.value) refl none) in
     search rules
 
 pub returns-in_err-sheet : goal.returns-in_err-sheet
@@ -22,7 +22,7 @@ returns-in_err-sheet c =
 pub returns-clause-edits : goal.returns-clause-edits
 returns-clause-edits c =
     let there : index_of c.args.workbook.now c.args.id ≡ Some c.in-Some.index = search rules in
-    Edits-put_in c.args.at c.args.workbook.now (FieldKey c.args.id (field_of c.args.value)) (FieldValue c.args.value) c.in-Some.index c.in_ok-sheet.sheet.now c.put_field_in.new.sheet (Ok tt) there (sym c.in_ok-sheet.ensures.value)
+    Edits-put_in c.args.at c.args.workbook.now (FieldKey c.args.id (field_of c.args.value)) (FieldValue c.args.value) refl c.in-Some.index c.in_ok-sheet.sheet.now c.put_field_in.new.sheet (Ok tt) there (sym c.in_ok-sheet.ensures.value)
     (record { done = sheet_put-field c.args.at c.args.id c.args.value c.in_ok-sheet.sheet.now ∙ ap Ok (sym c.put_field_in.ensures); refused = tt })
 
 pub returns-clause-placed : goal.returns-clause-placed

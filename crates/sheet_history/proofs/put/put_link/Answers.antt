@@ -1,4 +1,4 @@
-use Rattle.std.proofs.Common.{◌≡◌, None, Some, Err, sym, rules}
+use Rattle.std.proofs.Common.{refl, ◌≡◌, None, Some, Err, sym, rules}
 use Rattle.sheet_grid.specs.Book.{index_of, sheet_at, with_sheet}
 use Rattle.sheet_history.specs.Entries.EntryKey.{LinkKey}
 use Rattle.sheet_history.specs.Entries.EntryValue.{LinkValue}
@@ -9,7 +9,7 @@ use Rattle.sheet_history.proofs.put.put_link.Goals as goal
 pub returns-in_default : goal.returns-in_default
 returns-in_default c =
     let none : index_of c.args.workbook.now c.args.id ≡ None = search rules in
-    let is = put_in-refused c.args.at c.args.workbook.now (LinkKey c.args.id c.args.place) (LinkValue c.args.entry.now) (accepts-missing c.args.workbook.now (LinkKey c.args.id c.args.place) (LinkValue c.args.entry.now) none) in
+    let is = put_in-refused c.args.at c.args.workbook.now (LinkKey c.args.id c.args.place) (LinkValue c.args.entry.now) (accepts-missing c.args.workbook.now (LinkKey c.args.id c.args.place) (LinkValue c.args.entry.now) refl none) in
     search rules
 
 pub returns-in_err-sheet : goal.returns-in_err-sheet
@@ -21,7 +21,7 @@ returns-in_err-sheet c =
 pub returns-clause-edits : goal.returns-clause-edits
 returns-clause-edits c =
     let there : index_of c.args.workbook.now c.args.id ≡ Some c.in-Some.index = search rules in
-    Edits-put_in c.args.at c.args.workbook.now (LinkKey c.args.id c.args.place) (LinkValue c.args.entry.now) c.in-Some.index c.in_ok-sheet.sheet.now c.put_link_in.new.sheet c.put_link_in.result there (sym c.in_ok-sheet.ensures.value) c.put_link_in.ensures
+    Edits-put_in c.args.at c.args.workbook.now (LinkKey c.args.id c.args.place) (LinkValue c.args.entry.now) refl c.in-Some.index c.in_ok-sheet.sheet.now c.put_link_in.new.sheet c.put_link_in.result there (sym c.in_ok-sheet.ensures.value) c.put_link_in.ensures
 
 pub returns-clause-placed : goal.returns-clause-placed
 returns-clause-placed c =

@@ -6,7 +6,7 @@ use Rattle.base_maps.specs.Tagged.{place_on}
 use Rattle.line_map.specs.Attributes.{lines_restored}
 use Rattle.line_map.specs.Contents.{cell_carried, cell_restored}
 use Rattle.line_map.specs.Maps.{places_carried, places_restored}
-use Rattle.line_trees.specs.Way.{back, way}
+use Rattle.line_routes.specs.Way.{back, way}
 use Rattle.sheet_grid.specs.CanonicalCell.{IsCanonicalCell, CanonicalCells}
 use Rattle.sheet_lines.specs.Back.{with_lost, merges_back, formattings_back}
 use Rattle.sheet_lines.specs.laws.Stays.{HasCanonicalNumbers, back_are, numbers_stay}

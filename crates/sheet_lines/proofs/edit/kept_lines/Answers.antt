@@ -11,9 +11,9 @@ use Rattle.base_maps.specs.laws.Each.{each_lost, holds_of, keys_lost}
 use Rattle.base_maps.specs.laws.Found.{found_holds, found_passes}
 use Rattle.line_map.specs.Maps.{KeysInside}
 use Rattle.line_edits.specs.Moves.{LineMoves, place_image}
-use Rattle.line_map.specs.Merges.{merges_part, MergesLie}
-use Rattle.line_trees.specs.Way.{place_goes, way}
-use Rattle.line_map.specs.laws.MergeLaws.{merges_part_fits}
+use Rattle.line_routes.specs.Merges.{merges_part, MergesLie}
+use Rattle.line_routes.specs.Way.{place_goes, way}
+use Rattle.line_routes.specs.laws.MergeLaws.{merges_part_fits}
 use Rattle.rule_lines.specs.Rules.{rules_kept, RulesLie}
 use Rattle.sheet_grid.specs.Book.{Book}
 use Rattle.sheet_grid.specs.declared.Cell.{Cell}

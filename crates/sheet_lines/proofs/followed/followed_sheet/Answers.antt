@@ -1,5 +1,5 @@
 use Rattle.std.proofs.Common.{subst, sym}
-use Rattle.line_trees.specs.Way.{way}
+use Rattle.line_routes.specs.Way.{way}
 use Rattle.sheet_grid.specs.CanonicalCell.{IsCanonicalCell, CanonicalCells}
 use Rattle.sheet_lines.specs.laws.Stays.{HasCanonicalNumbers, followed_are, numbers_stay}
 use Rattle.sheet_lines.proofs.followed.followed_sheet.Goals as goal

@@ -16,7 +16,7 @@ use Rattle.base_maps.specs.laws.Each.{no_entry}
 use Rattle.base_maps.specs.laws.Tagged.{put_under_are}
 use Rattle.formula_tree.specs.Numbers.{has_canonical_numbers}
 use Rattle.line_edits.specs.Moves.{LineMoves}
-use Rattle.line_trees.specs.Way.{place_goes}
+use Rattle.line_routes.specs.Way.{place_goes}
 use Rattle.sheet_grid.specs.Sheet.{Sheet}
 use Rattle.sheet_lines.specs.Followed.{way_of, way_on, sheet_followed}
 use Rattle.sheet_lines.specs.Kept.{cells_lost, first_lost, trees_kept, formulas_kept}

@@ -1,5 +1,5 @@
 use Rattle.std.proofs.Common.{◌≡◌, ℕ, Some, ap, subst, sym, ◌∙◌}
-use Rattle.std.specs.Prelude.{◌==◌, IfSome}
+use Rattle.std.specs.Prelude.{◌==◌}
 use Rattle.std.specs.Cmp.{int_cmp_total}
 use Rattle.std.specs.FinMap.{FinMap, get}
 use Rattle.std.specs.Ordering.{int_cmp}
@@ -7,24 +7,26 @@ use Rattle.std.proofs.lemmas.Map.Lookups.{exact_signed}
 use Rattle.base_values.specs.Places.{position_cmp}
 use Rattle.base_values.specs.laws.Places.{position_total, exact_positions}
 use Rattle.base_values.specs.declared.Position.{Position}
-use Rattle.base_axis.specs.Along.{Along}
+use Rattle.base_axis.specs.Along.{Along, rows, columns}
 use Rattle.base_maps.specs.Carried.{lost_map}
-use Rattle.base_maps.specs.laws.CarriedLaws.{get-carried_map}
+use Rattle.base_maps.specs.laws.CarriedLaws.{get-carried_map, get-moved_map}
 use Rattle.base_maps.specs.laws.Gathering.{get-lost_map}
 use Rattle.base_maps.specs.laws.Found.{found_passes}
 use Rattle.line_edits.specs.declared.EditKind.{EditKind}
 use Rattle.line_edits.specs.Moves.{edit_moves, place_image}
 use Rattle.line_map.specs.Contents.{cell_carried}
 use Rattle.line_map.specs.Maps.{entry_lost}
-use Rattle.line_trees.specs.Way.{at, back, place_goes}
-use Rattle.line_trees.specs.laws.WayLaws.{goes_inverse}
-use Rattle.rule_lines.specs.Rules.{DoesNotReturn}
-use Rattle.rule_lines.specs.laws.RuleLaws.{rules_needed}
+use Rattle.line_routes.specs.Way.{at, back, place_goes}
+use Rattle.line_routes.specs.laws.WayLaws.{goes_inverse}
+use Rattle.rule_lines.specs.Rules.{KeepsRule}
+use Rattle.rule_lines.specs.laws.RuleLaws.{rules_are_kept}
 use Rattle.sheet_grid.specs.Book.{Book}
 use Rattle.sheet_grid.specs.Sheet.{Sheet}
+use Rattle.sheet_grid.specs.contracts.line_attr.LineAttrPartialEq.TheImpl as attribute
 use Rattle.sheet_lines.specs.Followed.{way_of, way_of_edit}
 use Rattle.sheet_lines.specs.Kept.{lines_of, of_sheet, cells_lost, merges_kept, formattings_kept}
 use Rattle.sheet_lines.specs.Sheets.{sheet_of, name_of}
+use Rattle.sheet_lines.specs.laws.LinesAfter.{get-lines_carried}
 use Rattle.sheet_lines.specs.laws.Regained.{formulas_at}
 use Rattle.sheet_lines.specs.laws.Stays.{lost_places, way_is}
 use Rattle.sheet_lines.proofs.laws.entries_of_sheets.Goals as goal
@@ -36,6 +38,24 @@ returns-clause-cells g c edited sheet q =
     let w = way_of a (edit_moves a.last e) c.args.sheet_id edited sheet in
     get-carried_map position_cmp position_total exact_positions (place_goes w) (place_goes (back w))
     (goes_inverse w (way_is a g.met.A.Axis.lawful e c.requires.valid c.args.sheet_id edited sheet)) (λ p q x. cell_carried (at w p q) x) sheet.cells q
+
+pub returns-clause-links : goal.returns-clause-links
+returns-clause-links g c edited sheet q =
+    let a = g.A.Axis.along in
+    let e = c.args.edit.now.kind in
+    let w = way_of a (edit_moves a.last e) c.args.sheet_id edited sheet in
+    get-moved_map position_cmp position_total exact_positions (place_goes w) (place_goes (back w))
+    (goes_inverse w (way_is a g.met.A.Axis.lawful e c.requires.valid c.args.sheet_id edited sheet)) sheet.links q
+
+pub returns-clause-lines : goal.returns-clause-lines
+returns-clause-lines g c edited sheet =
+    let a = g.A.Axis.along in
+    let e = c.args.edit.now.kind in
+    let w = way_of a (edit_moves a.last e) c.args.sheet_id edited sheet in
+    let is = way_is a g.met.A.Axis.lawful e c.requires.valid c.args.sheet_id edited sheet in record {
+      rows = get-lines_carried w is rows attribute.ghosts.eq sheet.rows;
+      columns = get-lines_carried w is columns attribute.ghosts.eq sheet.columns;
+    }
 
 -- what is lost of the edited sheet by place
 lost_entries : {X : Type 0} (a : Along) (e : EditKind) (id : ℕ) (book : Book) (sheet : Sheet) (m : FinMap position_cmp X) →
@@ -74,10 +94,11 @@ pub returns-clause-formattings : goal.returns-clause-formattings
 returns-clause-formattings g c sheet found = ap (formattings_kept g.A.Axis.along (edit_moves g.A.Axis.along.last c.args.edit.now.kind) c.args.sheet_id
     (name_of (sheet_of c.args.workbook.now c.args.sheet_id))) found
 
-pub returns-clause-needed : goal.returns-clause-needed
-returns-clause-needed g c sheet found index =
+pub returns-clause-kept_rules : goal.returns-clause-kept_rules
+returns-clause-kept_rules g c sheet found index rule =
     let w = way_of_edit g.A.Axis.along c.args.edit.now.kind c.args.sheet_id c.args.workbook.now sheet in
-    subst (λ kept. IfSome (get kept index) (DoesNotReturn w)) (sym (returns-clause-formattings g c sheet found)) (rules_needed w sheet.formattings index)
+    subst (λ kept. KeepsRule w sheet.formattings kept index rule) (sym (returns-clause-formattings g c sheet found))
+    (rules_are_kept w sheet.formattings index rule)
 
 pub returns-clause-trees : goal.returns-clause-trees
 returns-clause-trees g c id p =

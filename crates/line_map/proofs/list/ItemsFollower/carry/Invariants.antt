@@ -1,5 +1,5 @@
 use Rattle.std.proofs.Common.{◌≡◌, map, take}
-use Rattle.line_trees.specs.Way.{way}
+use Rattle.line_routes.specs.Way.{way}
 use Rattle.line_map.proofs.list.ItemsFollower.carry.Given as goal
 
 abbrev pub invariant-loop-item : goal.invariant-loop-item

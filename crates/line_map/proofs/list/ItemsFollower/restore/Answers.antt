@@ -1,7 +1,7 @@
 use Rattle.std.proofs.Common.{rules, ◌≡◌, ◌+◌, [], ◌∷◌, ◌++◌, arith, take}
 use Rattle.base_maps.specs.Carried.{settled}
 use Rattle.line_map.specs.Lists.{items_restored}
-use Rattle.line_trees.specs.Way.{back, way}
+use Rattle.line_routes.specs.Way.{back, way}
 use Rattle.base_maps.specs.laws.Lists.{zip_more, zip_all}
 use Rattle.line_map.proofs.list.ItemsFollower.restore.Goals as goal
 

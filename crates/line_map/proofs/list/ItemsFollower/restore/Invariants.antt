@@ -1,6 +1,6 @@
 use Rattle.std.proofs.Common.{◌≡◌, take}
 use Rattle.line_map.specs.Lists.{items_restored}
-use Rattle.line_trees.specs.Way.{back, way}
+use Rattle.line_routes.specs.Way.{back, way}
 use Rattle.line_map.proofs.list.ItemsFollower.restore.Given as goal
 
 abbrev pub invariant-loop-i : goal.invariant-loop-i

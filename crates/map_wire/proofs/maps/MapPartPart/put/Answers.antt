@@ -1,11 +1,4 @@
-use Rattle.std.specs.FinMap.{entries}
-use Rattle.map_wire.specs.laws.KeyOrder.{order_total, order_exact}
-use Rattle.map_wire.specs.laws.MapFits.{all_keys, written_fits}
 use Rattle.map_wire.proofs.maps.MapPartPart.put.Goals as goal
 
 pub returns-clause-fits : goal.returns-clause-fits
-returns-clause-fits g c = λ known.
-    let same = g.met.X.MapKey.ordered in
-    let map = g.X.MapKey.seen c.args.value.now in
-    written_fits g.K.Part.Known g.P.Part.Known g.K.Part.Fits g.P.Part.Fits (order_total same g.met.X.Key.Ord.total) (order_exact same g.met.X.Key.Exact.equals g.met.X.Key.Ord.matches_eq) map c.iter.result c.iter.ensures.entries
-    c.in_ok-put_entries.ensures.short c.in_ok-put_entries.ensures.each (all_keys g.K.Part.Known known.keys (entries map)) known.values
+returns-clause-fits g c = λ known. c.in_ok-put_map.ensures.fits (λ key inside. known.keys key) known.values

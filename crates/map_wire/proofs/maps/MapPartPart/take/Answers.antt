@@ -1,12 +1,4 @@
-use Rattle.std.proofs.Common.{arith}
-use Rattle.base_wire.specs.laws.Format.{reads}
-use Rattle.map_wire.specs.laws.KeyOrder.{order_total, order_exact}
-use Rattle.map_wire.specs.laws.MapLaws.{map_format}
 use Rattle.map_wire.proofs.maps.MapPartPart.take.Goals as goal
 
-pub returns : goal.returns
-returns g c =
-    let same = g.met.X.MapKey.ordered in
-    reads (map_format (order_total same g.met.X.Key.Ord.total) (order_exact same g.met.X.Key.Exact.equals g.met.X.Key.Ord.matches_eq) g.met.K.Part.format g.met.P.Part.format g.met.K.Part.some
-    g.X.MapKey.seen g.X.MapKey.made g.X.MapKey.seen_made g.X.MapKey.made_seen)
-    c.args.bytes.now _ (λ i. omega (arith, c.type_inv.bytes i)) c.map_at.ensures
+pub map_at-requires : goal.map_at-requires
+map_at-requires g c = record { inside = λ key fits. g.met.X.PlainKey.plain key }

@@ -1,6 +1,10 @@
 use Rattle.std.proofs.Common.{◌∙◌, sym, Some, None}
-use Rattle.script_runs.proofs.Lines.{line_ran}
+use Rattle.script_runs.proofs.Lines.{empty_ran, line_ran}
 use Rattle.script_runs.proofs.session.Session.run_line.Goals as goal
+
+pub returns-then-is_empty : goal.returns-then-is_empty
+returns-then-is_empty c = λ state stands.
+    empty_ran c.args.self.now c.args.line.now state (sym c.is_empty.ensures ∙ c.if-is_empty.true) stands
 
 pub returns-in-Some : goal.returns-in-Some
 returns-in-Some c = λ state stands.
@@ -18,4 +22,5 @@ returns-in_ok-push_line-in-None c = λ state stands.
       out = c.in_ok-push_line-in-None.ensures;
       stands = record { model = stands.model; copy = stands.copy };
       only = tt;
+      sends = tt;
     })

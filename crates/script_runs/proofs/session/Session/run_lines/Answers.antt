@@ -3,7 +3,7 @@ use Rattle.std.specs.Option.{option_map}
 use Rattle.std.specs.declared.option.Option.{Option}
 use Rattle.std.specs.declared.option.Option.TheVariants.{Some}
 use Rattle.script_runs.specs.Script.{line_reply, line_next}
-use Rattle.script_runs.specs.Session.{SessionStands}
+use Rattle.script_runs.specs.Session.{SessionStands, LineSends}
 use Rattle.script_runs.proofs.Runs.{Reached, reached_more}
 use Rattle.script_runs.proofs.session.Session.run_lines.Goals as goal
 
@@ -18,3 +18,4 @@ lines-preserved c = λ first stands.
     reached_more out script first old c.run_line.new.self c.in-Some.bytes.now c.split_first.result.0.now _ r c.split_first.ensures.parts
     (ran.out ∙ ap (λ (l : List ℕ). old.out.items ++ line_reply l r.state) line)
     (subst (λ (l : List ℕ). SessionStands c.run_line.new.self (line_next l r.state)) line ran.stands)
+    (subst (λ (l : List ℕ). LineSends l r.state) line ran.sends)

@@ -17,3 +17,4 @@ returns c = λ state stands.
     (sent.next state stands.model).done
     (c.apply_external_diffs.ensures.led state.sent state.present fits carries)
     (c.apply_external_diffs.ensures.carried state.sent state.present fits carries)
+    fits

@@ -1,8 +1,0 @@
-use Rattle.std.proofs.Common.{◌≡◌, take}
-use Rattle.std.specs.List.{filter_map}
-use Rattle.line_map.specs.Merges.{merge_carried}
-use Rattle.line_trees.specs.Way.{way}
-use Rattle.line_map.proofs.merge_list.carried_merges.Given as goal
-
-abbrev pub invariant-loop-merge : goal.invariant-loop-merge
-invariant-loop-merge g l = l.made ≡ filter_map (merge_carried (way l.route)) (take l.merge-index l.merges)

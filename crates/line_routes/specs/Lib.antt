@@ -1,0 +1,9 @@
+pub mod Way
+pub mod EditWay
+pub mod Trial
+pub mod MergedCells
+pub mod Merges
+pub mod Trees
+pub mod TreeAt
+pub mod MustKeep
+pub mod laws

@@ -1,0 +1,11 @@
+pub mod WayLaws
+pub mod TrialLaws
+pub mod MergedCellLaws
+pub mod MergeLaws
+pub mod TreeLaws
+pub mod CornersBack
+pub mod MustKeepLaws
+pub mod MoveLaws
+pub mod TreeAtEquals
+pub mod TreeAtLaws
+pub mod KeptAloneLaws

@@ -1,0 +1,92 @@
+ghost use Rattle.std.specs.Prelude.{◌≡◌, IfSome};
+ghost use Rattle.base_values.specs.Places.{IsPlace};
+ghost use Rattle.line_edits.specs.Moves.{place_image};
+ghost use Rattle.line_routes.specs.Way.{IsWay, at, back, place_goes, way};
+
+use crate::route::Route;
+use base_axis::Axis;
+use base_values::Position;
+use line_edits::{Block, LineMap, place_image};
+use std::marker::PhantomData;
+
+impl<'a, A: Axis, M: LineMap<A>> Route<'a, A, M> {
+    /// The route of what goes from a place to a place.
+    pub fn at(&self, from: Position, to: Position) -> Route<'a, A, M>
+        requires from { IsPlace from }
+        requires to { IsPlace to }
+        ensures { way result ≡ at (way self.now) from to }
+    {
+        Route {
+            map: self.map,
+            opposite: self.opposite,
+            brings: self.brings,
+            own: self.own,
+            edited: self.edited,
+            is_own: self.is_own,
+            is_edited: self.is_edited,
+            from,
+            to,
+            axis: PhantomData,
+        }
+    }
+
+    /// The way back. It brings no lines in.
+    pub fn back(&self) -> Route<'a, A, M>
+        ensures { way result ≡ back (way self.now) }
+    {
+        Route {
+            map: self.opposite,
+            opposite: self.map,
+            brings: false,
+            own: self.own,
+            edited: self.edited,
+            is_own: self.is_own,
+            is_edited: self.is_edited,
+            from: self.to,
+            to: self.from,
+            axis: PhantomData,
+        }
+    }
+
+    /// It is a way.
+    pub fn is_way(&self)
+        ensures { IsWay (way self.now) }
+    {
+        // The promise is one of the type.
+        let _ = self.from;
+    }
+
+    /// Where a place goes along the map, whether or not this sheet is the edited one.
+    pub fn image(&self, place: Position) -> Option<Position>
+        requires { IsPlace place }
+        ensures value { result ≡ place_image A.along (M.moves self.now.map.now).to place }
+        ensures inside { IfSome result IsPlace }
+    {
+        place_image(self.map, place)
+    }
+
+    /// Where a place of the sheet goes.
+    #[tactic(auto, unfolding(crate::specs::Way::place_goes))]
+    pub fn goes(&self, place: Position) -> Option<Position>
+        requires { IsPlace place }
+        ensures value { result ≡ place_goes (way self.now) place }
+        ensures inside { IfSome result IsPlace }
+    {
+        if self.is_edited {
+            self.image(place)
+        } else {
+            Some(place)
+        }
+    }
+
+    /// The lines that are brought in.
+    pub fn inserted(&self) -> Option<Block>
+        ensures { result ≡ (way self.now).moves.inserted }
+    {
+        if self.brings {
+            self.map.inserted()
+        } else {
+            None
+        }
+    }
+}

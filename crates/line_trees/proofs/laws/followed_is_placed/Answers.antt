@@ -1,6 +1,0 @@
-use Rattle.line_trees.specs.Way.{way}
-use Rattle.line_trees.specs.laws.TreeLaws.{tree_placed}
-use Rattle.line_trees.proofs.laws.followed_is_placed.Goals as goal
-
-pub returns : goal.returns
-returns g c = tree_placed (way c.args.route.now) c.is_way.ensures c.args.tree.now

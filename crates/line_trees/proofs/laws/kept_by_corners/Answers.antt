@@ -1,9 +1,0 @@
-use Rattle.line_trees.specs.Way.{way}
-use Rattle.line_trees.specs.laws.MustKeepLaws.{kept_exactly, part_by_corners}
-use Rattle.line_trees.proofs.laws.kept_by_corners.Goals as goal
-
-pub returns-clause-exact : goal.returns-clause-exact
-returns-clause-exact g c = kept_exactly (way c.args.route.now) c.is_way.ensures c.args.tree.now c.requires
-
-pub returns-clause-part : goal.returns-clause-part
-returns-clause-part g c = part_by_corners (way c.args.route.now) c.is_way.ensures c.args.tree.now c.requires

@@ -1,9 +1,0 @@
-pub mod WayLaws
-pub mod TrialLaws
-pub mod TreeLaws
-pub mod CornersBack
-pub mod MustKeepLaws
-pub mod MoveLaws
-pub mod TreeAtEquals
-pub mod TreeAtLaws
-pub mod KeptAloneLaws

@@ -35,7 +35,7 @@ def load():
     mod.Crate.allowed = mod.handles_of(root)
     return sorted(lib.crates_below(root), key=lambda it: len(it.below()))
 running, failed = {}, {}
-CHAIN = set("base_decimal sheet_fill line_routes formula_names formula_tree formula_back cell_content format_rules sheet_grid sheet_rules line_map rule_lines sheet_lines book_sheets book_names book_laws name_edits rule_edits sheet_history cell_wire rule_wire grid_wire lines_wire range_styles sheet_wire entry_records edit_plans user_model script_runs edit_script".split())
+CHAIN = set("base_values base_tables base_decimal line_routes formula_names formula_tree formula_back cell_content format_rules sheet_grid sheet_rules line_map rule_lines sheet_lines book_sheets book_names book_laws name_edits rule_edits sheet_history rule_wire grid_wire lines_wire sheet_wire script_lines script_dump entry_records edit_plans user_model script_runs edit_script".split())
 class Adopted:
     returncode = 0
     def __init__(self, pid): self.pid = pid
@@ -118,7 +118,7 @@ while True:
     ready.sort(key=lambda r: (r[0] != 0 or r[2].name not in CHAIN, not any(r[1] == w or r[1].startswith(w) and w.endswith(":") for w in first), r[0], -weight.get(r[2].name, 0)))
     free = mod.free()
     for at, (kind, job, it, key) in enumerate(ready):
-        if len(running) >= lanes + (kind == 0 and job in CHAIN) or free < 4_000_000_000: break
+        if len(running) >= lanes + 2 * (kind == 0 and job in CHAIN) or free < 4_000_000_000: break
         path = f"/work/logs/{job.replace(':', '.')}.log"
         os.path.exists(path) and os.replace(path, path + ".1"); f = open(path, "w")
         jobs = max(1, min(4, lanes // (len(running) + len(ready) - at)))

@@ -6,6 +6,10 @@ import rtx
 mod = rtx.load()
 root, name, jobs, tests = sys.argv[1], sys.argv[2], sys.argv[3], "tests" in sys.argv[4:]
 os.chdir(root)
+import subprocess
+_st = subprocess.Popen([sys.executable, "-u", "/work/tools/stamp.py"], stdin=subprocess.PIPE)
+sys.stdout.flush(); os.dup2(_st.stdin.fileno(), 1); os.dup2(_st.stdin.fileno(), 2); 
+
 lib = mod.rtlib
 mod.Crate.cuts_libraries = True
 for it in (lib.ALLOW_C, lib.BACKEND, "RT_SECONDS"): os.environ.pop(it, None)
